@@ -1,0 +1,4 @@
+mod NameLemmas
+mod ArcOrder
+mod ArcSets
+mod Drafts

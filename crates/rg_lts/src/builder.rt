@@ -1,0 +1,201 @@
+//! Building a system call by call.
+ghost use Rattle.std.specs.Prelude.{◌≡◌, ◌↔◌, ◌⊎◌, ℕ, ◌<◌, ◌≤◌, length, Contains, Some, None, [], ◌∷◌, ◌++◌, slice_get, IfOk, IfErr, OnOk, OnErr, IfSome, IfNone, IsErrOf, map, string_bytes};
+ghost use Rattle.rg_text.specs.Byte.{IsName};
+ghost use Rattle.rg_theory.specs.declared.Arc.{Arc};
+ghost use Rattle.rg_lts.specs.WellFormed.{most_states, most_labels, IsWellFormed};
+ghost use Rattle.rg_lts.specs.Draft.{Draft, blank, finished, names_alone, IsArcNamed, AddsArc, LacksState, LacksLabel, IsArcOverLimit, IsOtherInitial};
+ghost use Rattle.rg_lts.specs.Faults.{IsStateFault, IsLabelFault, IsArcFault, IsInitialFault, IsFinishFault};
+ghost use Rattle.rg_lts.specs.declared.fault.BuildFault.TheVariants as fault;
+
+use crate::fault::BuildFault;
+use crate::lts::Lts;
+use crate::{arc_set, names};
+use indexmap::IndexSet;
+use rg_theory::Arc;
+use std::alloc::Global;
+use std::collections::BTreeSet;
+use std::marker::Model;
+
+// The most states.
+const STATE_LIMIT: usize = 4_096;
+
+// The most labels.
+const LABEL_LIMIT: usize = 256;
+
+/// A system that is being built: names in the order in which they came, arcs as a set.
+#[derive(Drop)]
+pub struct LtsBuilder {
+    alloc: Global,
+    state_names: IndexSet<String>,
+    label_names: IndexSet<String>,
+    arcs: BTreeSet<Arc>,
+    initial: Option<u32>,
+}
+
+impl Model for LtsBuilder {
+    ghost use Rattle.std.specs.Prelude.{map, string_bytes};
+    ghost use Rattle.rg_lts.specs.Draft.{Draft, IsWellFormedDraft, draft_of};
+
+    ghost Value = { Draft };
+
+    ghost view = { λ b. draft_of (map string_bytes b.state_names.keys) (map string_bytes b.label_names.keys) b.arcs.keys b.initial };
+
+    ghost invariant = { λ b. IsWellFormedDraft (draft_of (map string_bytes b.state_names.keys) (map string_bytes b.label_names.keys) b.arcs.keys b.initial) };
+}
+
+impl LtsBuilder {
+    /// A builder of a system without states.
+    pub fn new(alloc: Global) -> LtsBuilder
+        ensures { result ≡ blank }
+    {
+        LtsBuilder {
+            alloc,
+            state_names: IndexSet::new(alloc),
+            label_names: IndexSet::new(alloc),
+            arcs: BTreeSet::new(alloc),
+            initial: None,
+        }
+    }
+
+    /// Adds a state, and answers its number. `TwiceState` where the name is there already,
+    /// `TooManyStates` where it is new and there are 4,096 states.
+    pub fn state(&mut self, name: &str) -> Result<u32, BuildFault>
+        requires { IsName name.now }
+        ensures ok { IfOk result (λ s. s ≡ length self.old.state_names) }
+        ensures added { OnOk result (self.new ≡ record self.old { state_names = self.old.state_names ++ name.now ∷ [] }) }
+        ensures twice { IsErrOf result fault.TwiceState ↔ Contains self.old.state_names name.now }
+        ensures too_many { IsErrOf result fault.TooManyStates ↔ ((¬ Contains self.old.state_names name.now) × (most_states ≤ length self.old.state_names)) }
+        ensures cause { IfErr result IsStateFault }
+        ensures err { OnErr result (self.new ≡ self.old) }
+    {
+        if let Some(_) = names::number_of(&self.state_names, name) {
+            return Err(BuildFault::TwiceState);
+        }
+        let s = self.state_names.len();
+        if s >= STATE_LIMIT {
+            return Err(BuildFault::TooManyStates);
+        }
+        names::add(self.alloc, &mut self.state_names, name)?;
+        Ok(s as u32)
+    }
+
+    /// Adds a label, and answers its number. `TwiceLabel` where the name is there already,
+    /// `TooManyLabels` where it is new and there are 256 labels.
+    pub fn label(&mut self, name: &str) -> Result<u32, BuildFault>
+        requires { IsName name.now }
+        ensures ok { IfOk result (λ t. t ≡ length self.old.label_names) }
+        ensures added { OnOk result (self.new ≡ record self.old { label_names = self.old.label_names ++ name.now ∷ [] }) }
+        ensures twice { IsErrOf result fault.TwiceLabel ↔ Contains self.old.label_names name.now }
+        ensures too_many { IsErrOf result fault.TooManyLabels ↔ ((¬ Contains self.old.label_names name.now) × (most_labels ≤ length self.old.label_names)) }
+        ensures cause { IfErr result IsLabelFault }
+        ensures err { OnErr result (self.new ≡ self.old) }
+    {
+        if let Some(_) = names::number_of(&self.label_names, name) {
+            return Err(BuildFault::TwiceLabel);
+        }
+        let t = self.label_names.len();
+        if t >= LABEL_LIMIT {
+            return Err(BuildFault::TooManyLabels);
+        }
+        names::add(self.alloc, &mut self.label_names, name)?;
+        Ok(t as u32)
+    }
+
+    /// The state with the name; None where there is none.
+    pub fn state_number(&self, name: &str) -> Option<u32>
+        ensures within { IfSome result (λ s. s < length self.now.state_names) }
+        ensures found { IfSome result (λ s. slice_get self.now.state_names s ≡ Some name.now) }
+        ensures none { IfNone result (¬ Contains self.now.state_names name.now) }
+    {
+        names::number_of(&self.state_names, name)
+    }
+
+    /// The label with the name; None where there is none.
+    pub fn label_number(&self, name: &str) -> Option<u32>
+        ensures within { IfSome result (λ t. t < length self.now.label_names) }
+        ensures found { IfSome result (λ t. slice_get self.now.label_names t ≡ Some name.now) }
+        ensures none { IfNone result (¬ Contains self.now.label_names name.now) }
+    {
+        names::number_of(&self.label_names, name)
+    }
+
+    /// Adds the arc between two states that are there. An arc that is there already changes nothing.
+    /// The first of the three names that isn't there is told, as `UnknownState` or `UnknownLabel`;
+    /// `TooManyArcs` where the arc is new and there are 262,144 arcs.
+    pub fn arc(&mut self, from: &str, label: &str, to: &str) -> Result<(), BuildFault>
+        ensures ok { OnOk result ((a : Arc) × IsArcNamed self.old from.now label.now to.now a × AddsArc self.old self.new a) }
+        ensures unknown_state { IsErrOf result fault.UnknownState ↔ LacksState self.old from.now label.now to.now }
+        ensures unknown_label { IsErrOf result fault.UnknownLabel ↔ LacksLabel self.old from.now label.now }
+        ensures too_many { IsErrOf result fault.TooManyArcs ↔ IsArcOverLimit self.old from.now label.now to.now }
+        ensures cause { IfErr result IsArcFault }
+        ensures err { OnErr result (self.new ≡ self.old) }
+    {
+        let arc = named_arc(&self.state_names, &self.label_names, from, label, to)?;
+        arc_set::add(&mut self.arcs, arc)?;
+        Ok(())
+    }
+
+    /// Names the initial state. Naming the same state again changes nothing. `UnknownState` where the
+    /// name isn't there, else `TwoInitial` where another state is initial. It takes no memory.
+    pub fn initial(&mut self, name: &str) -> Result<(), BuildFault>
+        ensures ok { OnOk result ((s : ℕ) × (slice_get self.old.state_names s ≡ Some name.now) × (self.new ≡ record self.old { initial = Some s })) }
+        ensures unknown { IsErrOf result fault.UnknownState ↔ (¬ Contains self.old.state_names name.now) }
+        ensures two { IsErrOf result fault.TwoInitial ↔ IsOtherInitial self.old name.now }
+        ensures cause { IfErr result IsInitialFault }
+        ensures err { OnErr result (self.new ≡ self.old) }
+    {
+        let Some(s) = names::number_of(&self.state_names, name) else {
+            return Err(BuildFault::UnknownState);
+        };
+        match self.initial {
+            Some(other) if other != s => Err(BuildFault::TwoInitial),
+            _ => {
+                self.initial = Some(s);
+                Ok(())
+            }
+        }
+    }
+
+    /// The system of the names and arcs; `NoInitial` where no state is initial.
+    pub fn finish(self) -> Result<Lts, BuildFault>
+        ensures ok { IfOk result (λ lts. (self.initial ≡ Some lts.initial) × (lts ≡ finished self lts.initial)) }
+        ensures no_initial { IsErrOf result fault.NoInitial ↔ (self.initial ≡ None) }
+        ensures cause { IfErr result IsFinishFault }
+    {
+        let Some(initial) = self.initial else {
+            return Err(BuildFault::NoInitial);
+        };
+        let arcs = arc_set::listed(self.alloc, &self.arcs)?;
+        Ok(Lts::from_parts(self.state_names, self.label_names, arcs, initial))
+    }
+}
+
+// The arc with these names.
+fn named_arc(
+    state_names: &IndexSet<String>,
+    label_names: &IndexSet<String>,
+    from: &str,
+    label: &str,
+    to: &str,
+) -> Result<Arc, BuildFault>
+    requires states { length state_names.now.keys ≤ 4096 }
+    requires labels { length label_names.now.keys ≤ 4096 }
+    ensures ok { let d = names_alone (map string_bytes state_names.now.keys) (map string_bytes label_names.now.keys) in
+        IfOk result (IsArcNamed d from.now label.now to.now) }
+    ensures unknown_state { let d = names_alone (map string_bytes state_names.now.keys) (map string_bytes label_names.now.keys) in
+        IsErrOf result fault.UnknownState ↔ LacksState d from.now label.now to.now }
+    ensures unknown_label { let d = names_alone (map string_bytes state_names.now.keys) (map string_bytes label_names.now.keys) in
+        IsErrOf result fault.UnknownLabel ↔ LacksLabel d from.now label.now }
+    ensures cause { IfErr result (λ e. (e ≡ fault.UnknownState) ⊎ (e ≡ fault.UnknownLabel)) }
+{
+    let Some(from) = names::number_of(state_names, from) else {
+        return Err(BuildFault::UnknownState);
+    };
+    let Some(label) = names::number_of(label_names, label) else {
+        return Err(BuildFault::UnknownLabel);
+    };
+    let Some(to) = names::number_of(state_names, to) else {
+        return Err(BuildFault::UnknownState);
+    };
+    Ok(Arc { from, label, to })
+}
