@@ -3,7 +3,7 @@ ghost use Rattle.std.specs.Prelude.{◌≡◌, ◌↔◌, ◌⊎◌, ℕ, ◌<�
 ghost use Rattle.rg_text.specs.Byte.{IsName};
 ghost use Rattle.rg_theory.specs.declared.Arc.{Arc};
 ghost use Rattle.rg_lts.specs.WellFormed.{most_states, most_labels, IsWellFormed};
-ghost use Rattle.rg_lts.specs.Draft.{Draft, blank, finished, names_alone, IsArcNamed, AddsArc, LacksState, LacksLabel, IsArcOverLimit, IsOtherInitial};
+ghost use Rattle.rg_lts.specs.Draft.{Draft, IsWellFormedDraft, blank, finished, names_alone, IsArcNamed, AddsArc, LacksState, LacksLabel, IsArcOverLimit, IsOtherInitial};
 ghost use Rattle.rg_lts.specs.Faults.{IsStateFault, IsLabelFault, IsArcFault, IsInitialFault, IsFinishFault};
 ghost use Rattle.rg_lts.specs.declared.fault.BuildFault.TheVariants as fault;
 
@@ -127,6 +127,7 @@ impl LtsBuilder {
         ensures unknown_state { IsErrOf result fault.UnknownState ↔ LacksState self.old from.now label.now to.now }
         ensures unknown_label { IsErrOf result fault.UnknownLabel ↔ LacksLabel self.old from.now label.now }
         ensures too_many { IsErrOf result fault.TooManyArcs ↔ IsArcOverLimit self.old from.now label.now to.now }
+        ensures well_formed { IsWellFormedDraft self.old }
         ensures cause { IfErr result IsArcFault }
         ensures err { OnErr result (self.new ≡ self.old) }
     {
@@ -159,6 +160,7 @@ impl LtsBuilder {
     /// The system of the names and arcs; `NoInitial` where no state is initial.
     pub fn finish(self) -> Result<Lts, BuildFault>
         ensures ok { IfOk result (λ lts. (self.initial ≡ Some lts.initial) × (lts ≡ finished self lts.initial)) }
+        ensures well_formed { IfOk result IsWellFormed }
         ensures no_initial { IsErrOf result fault.NoInitial ↔ (self.initial ≡ None) }
         ensures cause { IfErr result IsFinishFault }
     {

@@ -1,0 +1,5 @@
+mod Digits
+mod Members
+mod Lines
+mod Told
+mod Free

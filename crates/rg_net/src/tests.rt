@@ -1,0 +1,24 @@
+//! Each public call once.
+use crate::{Net, Place, net_is_told, prefix_is_free};
+
+#[test]
+fn shows_its_places(rt: HostRuntime) {
+    let pre = vec![in rt.alloc(); 1, 0].expect(&rt, "memory");
+    let post = vec![in rt.alloc(); 0, 2].expect(&rt, "memory");
+    let places = vec![in rt.alloc();
+        Place {
+            start: 3,
+            pre,
+            post
+        },
+    ]
+    .expect(&rt, "memory");
+    let net = Net::new(2, places);
+    assert!(rt; net.labels() == 2);
+    assert!(rt; net.places().len() == 1);
+    assert!(rt; net.places()[0].start == 3);
+    assert!(rt; net.places()[0].pre[0] == 1);
+    assert!(rt; net.places()[0].post[1] == 2);
+    net_is_told();
+    prefix_is_free();
+}

@@ -1,0 +1,3 @@
+mod Texts
+mod Prefixes
+mod Weights

@@ -1,0 +1,10 @@
+use Rattle.std.proofs.Common.{◌≡◌, ◌++◌, drop}
+use Rattle.rg_text.specs.Line.{fed}
+use Rattle.rg_net.specs.NetText.{flow_lines}
+use Rattle.rg_netfile.proofs.print.push_flows.Given as goal
+
+-- the text so far, and the lines that are left
+abbrev pub invariant-loop-t : goal.invariant-loop-t
+invariant-loop-t l =
+    l.text.items ++ fed (flow_lines l.prefix l.net l.t (drop l.t l.lts.label_names))
+    ≡ l.fn.text.items ++ fed (flow_lines l.prefix l.net 0 l.lts.label_names)

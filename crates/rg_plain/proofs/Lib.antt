@@ -1,0 +1,12 @@
+pub mod Cuts
+pub mod Names
+pub mod Tables
+pub mod States
+pub mod Labels
+pub mod ArcLines
+pub mod ArcLists
+pub mod ArcSteps
+pub mod OneSystem
+pub mod Refusals
+pub mod AddedArcs
+pub mod Texts
