@@ -161,9 +161,11 @@ one_way lts tree ts s g leads = sym (way_along lts tree lts.initial ts s g leads
 
 -- each state that is met can be reached
 pub met_is_reachable : (lts : System) (tree : List Arc) (s : ℕ) → IsTree lts tree → Contains (tree_order lts tree) s → IsReachable lts s
-met_is_reachable lts tree s g has =
-    (way_to tree s, ways_lead lts (λ s. []) (lts.initial ∷ []) tree g (λ s' has. ⊎_elim (λ e. e) (λ has'. absurd (nothing s' has')) (Contains-cons_cases lts.initial s' [] has)) s
-    (subst (λ xs. Contains xs s) (sym (met_after_is (lts.initial ∷ []) tree)) has))
+met_is_reachable lts tree s g has = (
+  way_to tree s,
+  ways_lead lts (λ s. []) (lts.initial ∷ []) tree g (λ s' has. ⊎_elim (λ e. e) (λ has'. absurd (nothing s' has')) (Contains-cons_cases lts.initial s' [] has)) s
+      (subst (λ xs. Contains xs s) (sym (met_after_is (lts.initial ∷ []) tree)) has),
+)
   where
     nothing : (s' : ℕ) → Contains [] s' → ⊥
     nothing s' (k, lt, e) = omega arith
