@@ -1,0 +1,82 @@
+//! A run over one file in memory.
+use rg_ports::{MemoryShelf, MemorySink, NoGate};
+use rg_synth::{Status, run};
+use std::alloc::{AllocError, AllocFailed, Global};
+use std::thread::Threads;
+
+/// How a run ended, and what it wrote.
+#[derive(Drop)]
+pub struct Outcome {
+    pub status: Status,
+    pub out: MemorySink,
+    pub err: MemorySink,
+}
+
+/// There was no memory for the test itself.
+#[derive(Clone, Copy, Debug, PartialEq, Eq)]
+pub struct NoRoom;
+
+impl From<AllocError> for NoRoom {
+    fn from(_: AllocError) -> NoRoom {
+        NoRoom
+    }
+}
+
+impl<T: Drop> From<AllocFailed<T>> for NoRoom {
+    fn from(_: AllocFailed<T>) -> NoRoom {
+        NoRoom
+    }
+}
+
+impl From<rg_ports::NoMemory> for NoRoom {
+    fn from(_: rg_ports::NoMemory) -> NoRoom {
+        NoRoom
+    }
+}
+
+// The words as owned strings.
+fn owned(alloc: Global, words: &[&str]) -> Result<Vec<String>, NoRoom> {
+    let mut all = Vec::new(alloc);
+    for word in words {
+        all.push(String::from_str(alloc, word)?)?;
+    }
+    Ok(all)
+}
+
+/// A shelf with one file `f`, whose calls of these numbers fail.
+pub fn shelf(alloc: Global, text: &[u8], fail: &[u64]) -> Result<MemoryShelf, NoRoom> {
+    let name = String::from_str(alloc, "f")?;
+    let bytes = Vec::from_slice(alloc, text)?;
+    let mut files = Vec::new(alloc);
+    files.push((name, bytes))?;
+    Ok(MemoryShelf::new(files, 4096, Vec::from_slice(alloc, fail)?))
+}
+
+/// A sink with room for 4,096 bytes, which takes at most so many a call and fails at these calls.
+pub fn sink(alloc: Global, most: usize, fail: &[u64]) -> Result<MemorySink, NoRoom> {
+    if most == 0 {
+        return Err(NoRoom);
+    }
+    Ok(MemorySink::new(alloc, 4096, most, Vec::from_slice(alloc, fail)?)?)
+}
+
+/// The run of these words over the shelf, into sinks of which `out` is given.
+pub fn run_over<R: Threads + Sync>(
+    rt: &R,
+    alloc: Global,
+    words: &[&str],
+    mut shelf: MemoryShelf,
+    mut out: MemorySink,
+) -> Result<Outcome, NoRoom> {
+    let words = owned(alloc, words)?;
+    let mut err = sink(alloc, 4096, &[])?;
+    let status = run(rt, alloc, &words, &mut shelf, &mut out, &mut err, &NoGate);
+    Ok(Outcome { status, out, err })
+}
+
+/// `synthesize none f` over a file with this text.
+pub fn synthesize<R: Threads + Sync>(rt: &R, alloc: Global, text: &str) -> Result<Outcome, NoRoom> {
+    let shelf = shelf(alloc, text.as_bytes(), &[])?;
+    let out = sink(alloc, 4096, &[])?;
+    run_over(rt, alloc, &["synthesize", "none", "f"], shelf, out)
+}

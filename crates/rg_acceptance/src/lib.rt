@@ -1,0 +1,11 @@
+//! Whole runs over files in memory, each a row of what the program promises.
+#![tactic(auto)]
+
+#[cfg(test)]
+mod faults;
+#[cfg(test)]
+mod harness;
+#[cfg(test)]
+mod systems;
+#[cfg(test)]
+mod words;

@@ -1,0 +1,73 @@
+//! Words that are refused, and a file that isn't there.
+use crate::harness::{NoRoom, run_over, shelf, sink};
+use rg_synth::{Fault, FileFault, Status, Unbuilt, Usage};
+
+#[test]
+fn words_are_refused(rt: HostRuntime) -> Result<(), NoRoom> {
+    let alloc = rt.alloc();
+    let none: [&str; 0] = [];
+    let cases = [
+        (none.as_slice(), Usage::NoCommand, "usage: no command\n"),
+        (
+            ["synthesise", "none", "f"].as_slice(),
+            Usage::UnknownCommand,
+            "usage: unknown command\n",
+        ),
+        (
+            ["synthesize", "none"].as_slice(),
+            Usage::Words,
+            "usage: words refused\n",
+        ),
+    ];
+    for (words, usage, line) in cases {
+        let made = run_over(
+            &rt,
+            alloc,
+            words,
+            shelf(alloc, b"", &[])?,
+            sink(alloc, 64, &[])?,
+        )?;
+        assert_eq!(rt; made.status, Status::Usage(usage));
+        assert_eq!(rt; made.status.number(), 2);
+        assert!(rt; made.out.bytes().is_empty());
+        assert!(rt; made.err.bytes() == line.as_bytes());
+    }
+    Ok(())
+}
+
+#[test]
+fn another_class(rt: HostRuntime) -> Result<(), NoRoom> {
+    let alloc = rt.alloc();
+    let words = ["synthesize", "pure", "f"];
+    let made = run_over(
+        &rt,
+        alloc,
+        &words,
+        shelf(alloc, b"", &[])?,
+        sink(alloc, 64, &[])?,
+    )?;
+    assert_eq!(rt; made.status, Status::Unbuilt(Unbuilt::Class));
+    assert!(rt; made.err.bytes().is_empty());
+    Ok(())
+}
+
+#[test]
+fn a_file_is_missing(rt: HostRuntime) -> Result<(), NoRoom> {
+    let alloc = rt.alloc();
+    let words = ["synthesize", "none", "g"];
+    let made = run_over(
+        &rt,
+        alloc,
+        &words,
+        shelf(alloc, b"", &[])?,
+        sink(alloc, 64, &[])?,
+    )?;
+    let fault = FileFault {
+        file: 1,
+        fault: Fault::Missing,
+    };
+    assert_eq!(rt; made.status, Status::File(fault));
+    assert!(rt; made.out.bytes().is_empty());
+    assert!(rt; made.err.bytes() == b"file 1: missing\n".as_slice());
+    Ok(())
+}

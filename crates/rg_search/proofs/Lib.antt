@@ -1,0 +1,10 @@
+pub mod Regions
+pub mod Digits
+pub mod Trees
+pub mod Along
+pub mod Least
+pub mod Items
+pub mod Keep
+pub mod Making
+pub mod Order
+pub mod TwoStates

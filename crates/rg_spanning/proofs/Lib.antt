@@ -1,0 +1,3 @@
+pub mod ArcRuns
+pub mod TreeGrowth
+pub mod TreeTables

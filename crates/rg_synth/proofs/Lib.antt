@@ -1,0 +1,3 @@
+pub mod WordLists
+pub mod Statuses
+pub mod Answered

@@ -1,0 +1,20 @@
+use Rattle.std.proofs.Common.{inl, ap, ◌∙◌, map, string_bytes}
+use Rattle.rg_ports.specs.Sink.{taken_with}
+use Rattle.rg_plain.proofs.OneSystem.{one_spelled}
+use Rattle.rg_synth.proofs.Answered.{says_ends}
+use Rattle.rg_synth.proofs.Statuses.{one_status}
+use Rattle.rg_synth.proofs.run_whole.run.Goals as goal
+
+pub returns-clause-ends : goal.returns-clause-ends
+returns-clause-ends g c =
+    says_ends _ c.in-Ok.made.status (record {
+      out_bytes = c.in-Ok.made.out.items;
+      err_bytes = c.in-Ok.made.err.items;
+      due = c.in-Ok.ensures.says;
+      out = c.in-Ok-write_all.ensures.ok ∙ ap (taken_with (g.O.Sink.taken c.args.out.now)) c.deref.ensures.value;
+      err = c.in-Ok-write_all-2.ensures.ok ∙ ap (taken_with (g.E.Sink.taken c.args.err.now)) c.deref-2.ensures.value;
+    })
+
+pub returns-clause-exactly : goal.returns-clause-exactly
+returns-clause-exactly g c = λ due decided is.
+    inl (one_status one_spelled (map string_bytes c.args.words.now) (g.H.Shelf.files c.args.shelf.now) c.in-Ok.made.status due decided c.in-Ok.ensures.due is)

@@ -1,0 +1,46 @@
+//! The top call.
+ghost use Rattle.std.specs.Prelude.{map, string_bytes};
+ghost use Rattle.rg_synth.specs.Run.{Ends, AsksAtMost, ComesIfDue};
+ghost use Rattle.rg_synth.specs.declared.status.Status.{Status};
+
+use crate::answer::{Stop, make_answer};
+use crate::status::Status;
+use rg_ports::{Gate, Shelf, Sink, write_all};
+use std::alloc::Global;
+use std::thread::Threads;
+
+/// Runs the command that the words name, and writes what is due to `out` or to `err`.
+pub fn run<R: Threads + Sync, H: Shelf, O: Sink, E: Sink, G: Gate + Sync>(
+    _rt: &R,
+    alloc: Global,
+    words: &[String],
+    shelf: &mut H,
+    out: &mut O,
+    err: &mut E,
+    _gate: &G,
+) -> Status
+    ensures ends { Ends (record {
+      words = map string_bytes words.now;
+      files = H.files shelf.old;
+      shelf_faults = record { before = H.faults shelf.old; after = H.faults shelf.new };
+      out = record { before = O.taken out.old; after = O.taken out.new };
+      out_faults = record { before = O.faults out.old; after = O.faults out.new };
+      err = record { before = E.taken err.old; after = E.taken err.new };
+      err_faults = record { before = E.faults err.old; after = E.faults err.new };
+    }) result }
+    ensures exactly { (due : Status) → ComesIfDue (map string_bytes words.now) (H.files shelf.old) due result }
+    ensures asked { AsksAtMost (map string_bytes words.now) (H.asked shelf.old) (H.asked shelf.new) }
+{
+    let made = match make_answer(alloc, words, shelf) {
+        Ok(made) => made,
+        Err(Stop::ReadFault) => return Status::ReadFault,
+        Err(Stop::NoMemory) => return Status::NoMemory,
+    };
+    let Ok(()) = write_all(out, &made.out) else {
+        return Status::WriteFault;
+    };
+    let Ok(()) = write_all(err, &made.err) else {
+        return Status::WriteFault;
+    };
+    made.status
+}

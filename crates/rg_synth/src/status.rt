@@ -1,0 +1,84 @@
+//! How a run ends.
+ghost use Rattle.std.specs.Prelude.{◌≡◌};
+ghost use Rattle.rg_synth.specs.Numbers.{status_number};
+
+/// How a run ends.
+#[derive(Clone, Copy, Debug, PartialEq, Eq)]
+pub enum Status {
+    /// The net's text stands in out.
+    Done,
+    /// The words were refused.
+    Usage(Usage),
+    /// A file isn't there, is too long, or spells no system.
+    File(FileFault),
+    /// The shelf failed.
+    ReadFault,
+    /// A sink failed.
+    WriteFault,
+    /// There was no memory.
+    NoMemory,
+    /// This case isn't built yet.
+    Unbuilt(Unbuilt),
+}
+
+/// Why the words were refused.
+#[derive(Clone, Copy, Debug, PartialEq, Eq)]
+pub enum Usage {
+    /// There is no word.
+    NoCommand,
+    /// The first word is no command.
+    UnknownCommand,
+    /// The words after the command are refused.
+    Words,
+}
+
+/// A fault of one of the files that the words name.
+#[derive(Clone, Copy, Debug, PartialEq, Eq)]
+pub struct FileFault {
+    /// The file's place among the file words, from 1.
+    pub file: u8,
+    pub fault: Fault,
+}
+
+/// What is wrong with a file.
+#[derive(Clone, Copy, Debug, PartialEq, Eq)]
+pub enum Fault {
+    /// The shelf has no file of this name.
+    Missing,
+    /// It has more than 16,777,216 bytes.
+    TooLong,
+    /// It is the plain text of no system.
+    NotPlain,
+}
+
+/// What isn't built yet.
+#[derive(Clone, Copy, Debug, PartialEq, Eq)]
+pub enum Unbuilt {
+    /// A class other than `none`.
+    Class,
+    /// More than six labels: so many.
+    Labels(u32),
+    /// An unreachable state, the least.
+    Unreachable(u32),
+    /// The first problem that no region with all effects from -1 to 1 separates: to stop a label at a state.
+    Event(u32, u32),
+    /// The first such problem: to tell two states apart.
+    States(u32, u32),
+}
+
+impl Status {
+    /// The number with which the program ends.
+    pub fn number(&self) -> u8
+        ensures { result ≡ status_number self.now }
+    {
+        match self {
+            Status::Done => 0,
+            Status::Usage(_) => 2,
+            Status::File(_) => 3,
+            Status::ReadFault => 5,
+            Status::WriteFault => 6,
+            Status::NoMemory => 7,
+            Status::Unbuilt(_) => 8,
+        }
+    }
+}
