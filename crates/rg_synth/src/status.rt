@@ -37,6 +37,7 @@ pub enum Usage {
 pub struct FileFault {
     /// The file's place among the file words, from 1.
     pub file: u8,
+    /// What is wrong with it.
     pub fault: Fault,
 }
 

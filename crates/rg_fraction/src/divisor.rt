@@ -1,0 +1,76 @@
+//! Greatest common divisors, and quotients by divisors.
+
+ghost use Rattle.std.specs.Prelude.{◌≡◌, ◌≢◌, ◌*◌, ◌≤◌, max, pos, ◌*ℤ◌, ◌≤ℤ◌, ◌<ℤ◌, unsigned_abs, int_div};
+ghost use Rattle.std.specs.Int.{IsGcd, ◌∣◌};
+ghost use Rattle.rg_integers.specs.Range.{InRange};
+ghost use Rattle.rg_integers.specs.Divisor.{int_gcd};
+
+// The greatest common divisor of `a` and `b`.
+pub(crate) fn gcd_of_sizes(a: u128, b: u128) -> u128
+    ensures greatest { IsGcd a b result }
+    ensures bound { result ≤ max a b }
+{
+    let mut x = a;
+    let mut y = b;
+    while y != 0 {
+        let rest = x % y;
+        x = y;
+        y = rest;
+    }
+    x
+}
+
+/// The greatest common divisor, which is never negative; 0 exactly for two zeros.
+pub fn gcd(a: i128, b: i128) -> i128
+    requires a_in_range { InRange a }
+    requires b_in_range { InRange b }
+    ensures not_negative { pos 0 ≤ℤ result }
+    ensures value { result ≡ int_gcd a b }
+    ensures greatest { IsGcd (unsigned_abs a) (unsigned_abs b) (unsigned_abs result) }
+    ensures positive { b ≢ pos 0 → pos 0 <ℤ result }
+    ensures in_range { InRange result }
+{
+    gcd_of_sizes(a.unsigned_abs(), b.unsigned_abs()) as i128
+}
+
+// The quotient, rounded toward zero.
+pub(crate) fn quotient(z: i128, g: i128) -> i128
+    requires { pos 0 <ℤ g }
+    ensures { result ≡ int_div z g }
+{
+    z / g
+}
+
+// The quotient by a divisor.
+#[tactic(auto, using(crate::proofs::Parts::parts))]
+pub(crate) fn part(z: i128, g: i128) -> i128
+    requires positive { pos 0 <ℤ g }
+    requires divides { unsigned_abs g ∣ unsigned_abs z }
+    requires in_range { InRange z }
+    ensures value { result ≡ int_div z g }
+    ensures exact { result *ℤ g ≡ z }
+    ensures size { unsigned_abs result * unsigned_abs g ≡ unsigned_abs z }
+    ensures in_range { InRange result }
+{
+    quotient(z, g)
+}
+
+// The two numbers divided by their greatest common divisor.
+#[tactic(auto, using(rg_integers::proofs::Casts::casts))]
+pub(crate) fn split(a: i128, b: i128) -> (i128, i128)
+    requires a_in_range { InRange a }
+    requires b_in_range { InRange b }
+    requires nonzero { b ≢ pos 0 }
+    ensures first { result.0 ≡ int_div a (int_gcd a b) }
+    ensures second { result.1 ≡ int_div b (int_gcd a b) }
+    ensures exact_first { result.0 *ℤ int_gcd a b ≡ a }
+    ensures exact_second { result.1 *ℤ int_gcd a b ≡ b }
+    ensures reduced { IsGcd (unsigned_abs result.0) (unsigned_abs result.1) 1 }
+    ensures first_in_range { InRange result.0 }
+    ensures second_in_range { InRange result.1 }
+{
+    let g = gcd(a, b);
+    let x = part(a, g);
+    let y = part(b, g);
+    (x, y)
+}

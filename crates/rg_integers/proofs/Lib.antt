@@ -1,0 +1,12 @@
+pub mod Ring
+pub mod Order
+pub mod Signs
+pub mod Casts
+pub mod Divisors
+pub mod Coprime
+pub mod Ranges
+pub mod Comparing
+pub mod Values
+pub mod Sums
+pub mod ListSums
+pub mod Dots

@@ -1,0 +1,5 @@
+pub mod Range
+pub mod Sign
+pub mod Divisor
+pub mod Value
+pub mod Sum
