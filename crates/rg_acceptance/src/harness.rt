@@ -75,8 +75,12 @@ pub fn run_over<R: Threads + Sync>(
 }
 
 /// `synthesize none f` over a file with this text.
-pub fn synthesize<R: Threads + Sync>(rt: &R, alloc: Global, text: &str) -> Result<Outcome, NoRoom> {
-    let shelf = shelf(alloc, text.as_bytes(), &[])?;
+pub fn synthesize<R: Threads + Sync>(
+    rt: &R,
+    alloc: Global,
+    text: &[u8],
+) -> Result<Outcome, NoRoom> {
+    let shelf = shelf(alloc, text, &[])?;
     let out = sink(alloc, 4096, &[])?;
     run_over(rt, alloc, &["synthesize", "none", "f"], shelf, out)
 }

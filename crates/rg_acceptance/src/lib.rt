@@ -8,4 +8,6 @@ mod harness;
 #[cfg(test)]
 mod systems;
 #[cfg(test)]
+mod texts;
+#[cfg(test)]
 mod words;

@@ -1,6 +1,6 @@
-//! Files in the plain layout and the statuses that they get.
+//! Systems and the statuses that they get.
 use crate::harness::{NoRoom, synthesize};
-use rg_synth::{Fault, FileFault, Status, Unbuilt};
+use rg_synth::{Status, Unbuilt};
 
 // The first run: a loop and a step.
 const SIDE: &str = ".type LTS\n.states\ns0[initial]\ns1\n.labels\na\nb\n.arcs\ns0 a s0\ns0 b s1\n";
@@ -34,7 +34,7 @@ const STILL: &str = ".type LTS\n.states\ns0[initial]\n.labels\na\n.arcs\n";
 #[test]
 fn nets_are_written(rt: HostRuntime) -> Result<(), NoRoom> {
     for text in [SIDE, ABA, CHOICE, LOCK, STILL] {
-        let outcome = synthesize(&rt, rt.alloc(), text)?;
+        let outcome = synthesize(&rt, rt.alloc(), text.as_bytes())?;
         assert_eq!(rt; outcome.status, Status::Done);
         assert!(rt; outcome.out.bytes().starts_with(b".type PN\n.places\np0\n"));
         assert!(rt; outcome.err.bytes().is_empty());
@@ -44,7 +44,7 @@ fn nets_are_written(rt: HostRuntime) -> Result<(), NoRoom> {
 
 #[test]
 fn the_first_net(rt: HostRuntime) -> Result<(), NoRoom> {
-    let outcome = synthesize(&rt, rt.alloc(), SIDE)?;
+    let outcome = synthesize(&rt, rt.alloc(), SIDE.as_bytes())?;
     let want =
         ".type PN\n.places\np0\n.transitions\na\nb\n.flows\na: {p0} -> {p0}\nb: {p0} -> {}\n.initial_marking {p0}\n";
     assert!(rt; outcome.out.bytes() == want.as_bytes());
@@ -59,25 +59,11 @@ fn what_is_not_built(rt: HostRuntime) -> Result<(), NoRoom> {
         (APART, Unbuilt::Unreachable(1)),
         (SEVEN, Unbuilt::Labels(7)),
     ] {
-        let outcome = synthesize(&rt, rt.alloc(), text)?;
+        let outcome = synthesize(&rt, rt.alloc(), text.as_bytes())?;
         assert_eq!(rt; outcome.status, Status::Unbuilt(unbuilt));
         assert_eq!(rt; outcome.status.number(), 8);
         assert!(rt; outcome.out.bytes().is_empty());
         assert!(rt; outcome.err.bytes().is_empty());
     }
-    Ok(())
-}
-
-#[test]
-fn no_plain_text(rt: HostRuntime) -> Result<(), NoRoom> {
-    let outcome = synthesize(&rt, rt.alloc(), "")?;
-    let fault = FileFault {
-        file: 1,
-        fault: Fault::NotPlain,
-    };
-    assert_eq!(rt; outcome.status, Status::File(fault));
-    assert_eq!(rt; outcome.status.number(), 3);
-    assert!(rt; outcome.out.bytes().is_empty());
-    assert!(rt; outcome.err.bytes() == b"file 1: not plain\n".as_slice());
     Ok(())
 }

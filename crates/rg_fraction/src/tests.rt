@@ -65,3 +65,84 @@ fn rows_are_eliminated(rt: HostRuntime) -> Result<(), Fail> {
     assert_eq!(rt; row, [2, 0]);
     Ok(())
 }
+
+// 2^126
+const HALF: i128 = 85070591730234615865843651857942052864;
+
+fn whole(n: i128) -> Fraction {
+    Fraction::new(n.clamp(-i128::MAX, i128::MAX), 1)
+}
+
+fn part(d: i128) -> Fraction {
+    Fraction::new(1, d.clamp(1, i128::MAX))
+}
+
+#[test]
+fn sums_at_the_limit(rt: HostRuntime) {
+    assert!(rt; whole(HALF).add(whole(HALF - 1)) == Ok(whole(i128::MAX)));
+    let passes = whole(HALF).add(whole(HALF));
+    assert_eq!(rt;
+        passes,
+        Err(Wide {
+            a: HALF,
+            b: 1,
+            c: -HALF,
+            d: 1
+        })
+    );
+    let below = part(HALF).add(part(3));
+    assert_eq!(rt;
+        below,
+        Err(Wide {
+            a: HALF,
+            b: 3,
+            c: 0,
+            d: 0
+        })
+    );
+    let both = Fraction::new(i128::MAX, HALF).add(part(3));
+    assert_eq!(rt;
+        both,
+        Err(Wide {
+            a: i128::MAX,
+            b: 3,
+            c: -1,
+            d: HALF
+        })
+    );
+}
+
+#[test]
+fn products_at_the_limit(rt: HostRuntime) {
+    assert!(rt; whole(HALF - 1).mul(whole(2)) == Ok(whole(i128::MAX - 1)));
+    let passes = whole(HALF).mul(whole(2));
+    assert_eq!(rt;
+        passes,
+        Err(Wide {
+            a: HALF,
+            b: 2,
+            c: 0,
+            d: 0
+        })
+    );
+    let below = part(HALF).mul(part(2));
+    assert_eq!(rt;
+        below,
+        Err(Wide {
+            a: HALF,
+            b: 2,
+            c: 0,
+            d: 0
+        })
+    );
+    let most = Fraction::new(i128::MAX, HALF);
+    assert_eq!(rt;
+        most.mul(most),
+        Err(Wide {
+            a: i128::MAX,
+            b: i128::MAX,
+            c: 0,
+            d: 0
+        })
+    );
+}

@@ -1,4 +1,4 @@
-mod NameLemmas
+pub mod NameLemmas
 mod ArcOrder
 mod ArcSets
 mod Drafts

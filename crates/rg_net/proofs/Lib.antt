@@ -3,3 +3,4 @@ mod Members
 mod Lines
 mod Told
 mod Free
+mod ClassTexts

@@ -11,10 +11,6 @@ use Rattle.rg_net.specs.NetText.{place_name, set_text, taken_by, put_by, flow_li
 use Rattle.rg_net.proofs.Digits.{IsPrinted, same_rest, heads_apart}
 use Rattle.rg_net.proofs.Members.{ArePrinted, told_set}
 
-pub fed-append : (xs ys : List (List ℕ)) → fed (xs ++ ys) ≡ fed xs ++ fed ys
-fed-append [] ys = refl
-fed-append (line ∷ xs) ys = ap (λ l. line ++ 10 ∷ l) (fed-append xs ys) ∙ sym (append_assoc line (10 ∷ fed xs) (fed ys))
-
 -- lines after one line are told
 same_lines : (line x y : List ℕ) → line ++ 10 ∷ x ≡ line ++ 10 ∷ y → x ≡ y
 same_lines line x y same = same_rest 10 x y (append_cancel_left line _ _ same)

@@ -10,7 +10,8 @@ use Rattle.rg_net.specs.Range.{IsNetInRange}
 use Rattle.rg_net.specs.NetText.{blocks, candidate, first_free, place_prefix, set_text, taken_by, put_by, flow_lines, starts, net_lines, net_text}
 use Rattle.rg_net.proofs.Digits.{IsPrinted}
 use Rattle.rg_net.proofs.Members.{told_set}
-use Rattle.rg_net.proofs.Lines.{AreLike, HaveSameFlows, told_count, told_flows, fed-append, printed_starts}
+use Rattle.rg_net.proofs.Lines.{AreLike, HaveSameFlows, told_count, told_flows, printed_starts}
+use Rattle.rg_text.proofs.Grown.{fed-append}
 
 -- each prefix begins with `p`
 begins_with_p : (k : ℕ) → (q : List ℕ) × (candidate k ≡ 112 ∷ q)

@@ -1,3 +1,4 @@
 pub mod Shown
 pub mod Range
 pub mod NetText
+pub mod ClassParts

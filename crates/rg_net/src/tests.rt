@@ -1,5 +1,5 @@
 //! Each public call once.
-use crate::{Net, Place, net_is_told, prefix_is_free};
+use crate::{Class, Net, Place, class_text, net_is_told, prefix_is_free};
 
 #[test]
 fn shows_its_places(rt: HostRuntime) {
@@ -21,4 +21,30 @@ fn shows_its_places(rt: HostRuntime) {
     assert!(rt; net.places()[0].post[1] == 2);
     net_is_told();
     prefix_is_free();
+}
+
+#[test]
+fn writes_classes(rt: HostRuntime) {
+    let none = Class {
+        pure: false,
+        plain: false,
+        bound: None,
+        nonbranching: false,
+    };
+    let text = class_text(rt.alloc(), none).expect(&rt, "memory");
+    assert!(rt; text.as_slice() == b"none".as_slice());
+    let all = Class {
+        pure: true,
+        plain: true,
+        bound: Some(255),
+        nonbranching: true,
+    };
+    let text = class_text(rt.alloc(), all).expect(&rt, "memory");
+    assert!(rt; text.as_slice() == b"pure,plain,255-bounded,output-nonbranching".as_slice());
+    let safe = Class {
+        bound: Some(1),
+        ..none
+    };
+    let text = class_text(rt.alloc(), safe).expect(&rt, "memory");
+    assert!(rt; text.as_slice() == b"safe".as_slice());
 }

@@ -5,7 +5,7 @@ use Rattle.std.specs.Char.{is_ascii_digit}
 use Rattle.std.specs.Str.{bytes_eq}
 use Rattle.std.proofs.lemmas.Bool.{lt-ltb}
 use Rattle.rg_net.specs.NetText.{blocks, candidate, first_free}
-use Rattle.rg_netfile.proofs.Texts.{name_left}
+use Rattle.rg_text.proofs.Grown.{first_left}
 
 pub free_here : (names : List (List ℕ)) (k m n : ℕ) → n ≡ suc m → list_any (blocks (candidate k)) names ≡ false → first_free names k n ≡ candidate k
 free_here names k m n e free = ap (λ n. first_free names k n) e ∙ here
@@ -32,11 +32,11 @@ blocks_by prefix label number begins is long some =
 pub name_passes : (test : List ℕ → Bool) (names : List (List ℕ)) (t : ℕ) (name read : List ℕ) → slice_get names t ≡ Some name → read ≡ name
     → test read ≡ true
     → list_any test (drop t names) ≡ true
-name_passes test names t name read at same passes = ap (list_any test) (name_left names t name at)
+name_passes test names t name read at same passes = ap (list_any test) (first_left names t name at)
     ∙ ap (λ b. b || list_any test (drop (t + 1) names)) (ap test (sym same) ∙ passes)
 
 pub name_fails : (test : List ℕ → Bool) (names : List (List ℕ)) (t : ℕ) (name read : List ℕ) → slice_get names t ≡ Some name → read ≡ name
     → test read ≡ false
     → list_any test (drop t names) ≡ list_any test (drop (t + 1) names)
-name_fails test names t name read at same fails = ap (list_any test) (name_left names t name at)
+name_fails test names t name read at same fails = ap (list_any test) (first_left names t name at)
     ∙ ap (λ b. b || list_any test (drop (t + 1) names)) (ap test (sym same) ∙ fails)

@@ -1,13 +1,29 @@
 //! Net files.
 #![tactic(auto)]
 
+mod building;
+mod fault;
+mod filling;
+mod known;
+mod labels;
+mod laws;
+mod names;
 mod no_memory;
+mod numbers;
 mod prefix;
 mod print;
 mod sets;
+mod slot;
+mod sums;
+mod whole;
 
+pub use fault::NetFault;
+pub use laws::{one_answer, printed_is_spelled};
 pub use no_memory::NoMemory;
 pub use print::print_net;
+pub use whole::read_net;
 
+#[cfg(test)]
+mod read_tests;
 #[cfg(test)]
 mod tests;

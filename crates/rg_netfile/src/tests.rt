@@ -5,7 +5,7 @@ use rg_net::{Net, Place};
 use std::alloc::Global;
 
 // A system of one state with these labels.
-fn system(alloc: Global, labels: &[&str]) -> Option<Lts> {
+pub(crate) fn system(alloc: Global, labels: &[&str]) -> Option<Lts> {
     let mut builder = LtsBuilder::new(alloc);
     builder.state("s0").ok()?;
     builder.initial("s0").ok()?;

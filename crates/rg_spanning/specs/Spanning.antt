@@ -1,7 +1,8 @@
 -- Spanning trees of systems.
 use Rattle.std.specs.Prelude.{◌≡◌, ℕ, ◌<◌, List, ◌∷◌, map}
 use Rattle.rg_theory.specs.declared.Arc.{Arc}
-use Rattle.rg_theory.specs.System.{System, states, labels, IsReachable}
+use Rattle.rg_theory.specs.System.{System, states, labels}
+pub use Rattle.rg_theory.specs.System.{IsLeastUnreachable}
 use Rattle.rg_theory.specs.Tree.{IsTree, chords}
 
 -- the tree's arcs in the order in which they join, and the other arcs of the system
@@ -23,9 +24,3 @@ pub record IsTreeOf (lts : System) (grown : Spanning) : Type 0 where
   pub initial : grown.initial ≡ lts.initial
   pub tree : IsTree lts grown.arcs
   pub chords : grown.chords ≡ chords lts grown.arcs
-
--- the state is the least that can't be reached
-pub record IsLeastUnreachable (lts : System) (s : ℕ) : Type 0 where
-  pub state : s < states lts
-  pub unreachable : ¬ IsReachable lts s
-  pub least : (earlier : ℕ) → earlier < s → IsReachable lts earlier

@@ -11,7 +11,7 @@ use Rattle.rg_theory.specs.Problem.{IsSeparatedBy, SeparateAll}
 use Rattle.rg_theory.proofs.Yes.{yes}
 use Rattle.rg_net.specs.Range.{IsNetInRange}
 use Rattle.rg_net.specs.NetText.{net_text}
-use Rattle.rg_plain.specs.Spells.{Spells}
+use Rattle.rg_apt.specs.Spells.{Spells}
 use Rattle.rg_search.specs.Small.{HasSmallEffects, IsSmallSeparable}
 use Rattle.rg_synth.specs.Words.{synthesize, AskFor}
 use Rattle.rg_synth.specs.Asked.{most_bytes, MayHold, AskForSystem, AskForTooLong}
@@ -22,7 +22,7 @@ use Rattle.rg_synth.specs.declared.answer.Answer.{Answer}
 use Rattle.rg_synth.specs.declared.status.Status.{Status}
 use Rattle.rg_synth.specs.declared.status.Status.TheVariants.{Done, Usage, File, ReadFault, WriteFault, NoMemory, Unbuilt as NotBuilt}
 use Rattle.rg_synth.specs.declared.status.FileFault.{FileFault}
-use Rattle.rg_synth.specs.declared.status.Fault.TheVariants.{NotPlain, TooLong}
+use Rattle.rg_synth.specs.declared.status.Fault.TheVariants.{TooLong}
 use Rattle.rg_synth.specs.declared.status.Unbuilt.TheVariants.{Class, Labels, Unreachable, Event, States}
 
 -- what the search found
@@ -56,17 +56,6 @@ found lts net status out err is done text none =
 pub found_if : (lts : System) (net : Net) (r : Result Answer AllocError) → IsFound lts net → IfOk r (λ a. a.status ≡ Done) → IfOk r (λ a. a.out.items ≡ net_text net lts) → IfOk r (λ a. a.err.items ≡ []) → IfOk r (λ a. AnswersSystem lts a.status a.out.items a.err.items)
 found_if lts net (Ok a) is done text none = found lts net a.status a.out.items a.err.items is done text none
 found_if lts net (Err e) is done text none = tt
-
--- the fault of a file that is no plain text
-abbrev not_plain_fault : FileFault
-not_plain_fault = record { file = 1; fault = NotPlain }
-
-not_plain : (bytes : List ℕ) (status : Status) (out err : List ℕ) → ((lts : System) → Spells bytes lts → ⊥) → status ≡ File not_plain_fault → out ≡ [] → err ≡ file_line not_plain_fault → AnswersBytes bytes status out err
-not_plain bytes status out err none is empty line = subst (λ s. AnswersBytes bytes s out err) (sym is) (refl, none, empty, line)
-
-pub not_plain_if : (bytes : List ℕ) (r : Result Answer AllocError) → ((lts : System) → Spells bytes lts → ⊥) → IfOk r (λ a. a.status ≡ File not_plain_fault) → IfOk r (λ a. a.out.items ≡ []) → IfOk r (λ a. a.err.items ≡ file_line not_plain_fault) → IfOk r (λ a. AnswersBytes bytes a.status a.out.items a.err.items)
-not_plain_if bytes (Ok a) none is empty line = not_plain bytes a.status a.out.items a.err.items none is empty line
-not_plain_if bytes (Err e) none is empty line = tt
 
 -- the words of a request for any class
 pub asks_for : (words : List (List ℕ)) (class name : List ℕ) → words ≡ synthesize ∷ class ∷ name ∷ [] → class ≡ codes "none" → AskFor words name
@@ -109,9 +98,9 @@ pub bytes_due : (words : List (List ℕ)) (files : Option Files) (name bytes : L
 bytes_due words files name bytes Done out err read (lts, spelled, fact) = record { lts = lts; asked = asked_system words files name bytes lts read spelled; fact = fact.0 }
 bytes_due words files name bytes (Usage usage) out err read (lts, spelled, fact) = absurd fact
 bytes_due words files name bytes (File fault) out err read is =
-    subst (λ f. IsDue words files (File f)) (sym is.0) (record {
+    subst (λ f. IsDue words files (File f)) (sym is.0.1) (record {
       first = refl;
-      has = record { bytes = bytes; asked = record { name = name; are = read.are; file = read.file }; short = read.short; none = is.1 };
+      has = record { bytes = bytes; asked = record { name = name; are = read.are; file = read.file }; short = read.short; first = is.0.2; real = is.0.3 };
     })
 bytes_due words files name bytes ReadFault out err read (lts, spelled, fact) = fact
 bytes_due words files name bytes WriteFault out err read (lts, spelled, fact) = fact
@@ -128,7 +117,7 @@ bytes_say words files name bytes Done out err read (lts, spelled, fact) =
     (record { lts = lts; asked = asked_system words files name bytes lts read spelled; net = fact.1.0; in_range = fact.1.1; solves = fact.1.2; text = fact.1.3 }, fact.2)
 bytes_say words files name bytes (Usage usage) out err read (lts, spelled, fact) = absurd fact
 bytes_say words files name bytes (File fault) out err read answer =
-    (bytes_due words files name bytes (File fault) out err read answer, answer.2, answer.3)
+    (bytes_due words files name bytes (File fault) out err read answer, answer.1, answer.2)
 bytes_say words files name bytes ReadFault out err read (lts, spelled, fact) = fact
 bytes_say words files name bytes WriteFault out err read (lts, spelled, fact) = fact
 bytes_say words files name bytes NoMemory out err read (lts, spelled, fact) = fact

@@ -6,7 +6,8 @@ use Rattle.rg_theory.specs.System.{System, labels, IsAllReachable}
 use Rattle.rg_theory.specs.declared.Problem.{Problem}
 use Rattle.rg_theory.specs.declared.Problem.TheVariants.{Event as Stop, States as Tell}
 use Rattle.rg_theory.specs.Problem.{ComesBefore, IsFirst}
-use Rattle.rg_plain.specs.Spells.{Spells}
+use Rattle.rg_apt.specs.declared.fault.TextFault.{TextFault}
+use Rattle.rg_apt.specs.Spells.{Spells, FirstFault}
 use Rattle.rg_spanning.specs.Spanning.{IsLeastUnreachable}
 use Rattle.rg_search.specs.Small.{IsUnseparable, IsFirstUnseparable}
 use Rattle.rg_synth.specs.Words.{AskFor, AskOtherClass, BeginOtherwise, AreMiscounted, AreRefused}
@@ -18,7 +19,7 @@ use Rattle.rg_synth.specs.declared.status.Status.TheVariants.{Done, Usage as Ref
 use Rattle.rg_synth.specs.declared.status.Usage.{Usage}
 use Rattle.rg_synth.specs.declared.status.Usage.TheVariants.{NoCommand, UnknownCommand, Words}
 use Rattle.rg_synth.specs.declared.status.Fault.{Fault}
-use Rattle.rg_synth.specs.declared.status.Fault.TheVariants.{Missing, TooLong, NotPlain}
+use Rattle.rg_synth.specs.declared.status.Fault.TheVariants.{Missing, TooLong, Apt}
 use Rattle.rg_synth.specs.declared.status.FileFault.{FileFault}
 use Rattle.rg_synth.specs.declared.status.Unbuilt.{Unbuilt}
 use Rattle.rg_synth.specs.declared.status.Unbuilt.TheVariants.{Class, Labels, Unreachable, Event, States}
@@ -87,18 +88,20 @@ one_kind words (asks name) (asks other) h k =
 data Verdict : Type 0 where
   missing : Verdict
   too_long : Verdict
-  not_plain : Verdict
+  faulty : TextFault → Verdict
   spells : System → Verdict
 
 abbrev IsVerdict : Files → List ℕ → Verdict → Type 0
 IsVerdict files name missing = file_of files name ≡ None
 IsVerdict files name too_long = (bytes : List ℕ) × (file_of files name ≡ Some bytes) × (most_bytes < length bytes)
-IsVerdict files name not_plain = (bytes : List ℕ) × (file_of files name ≡ Some bytes) × (length bytes ≤ most_bytes) × ((lts : System) → Spells bytes lts → ⊥)
+IsVerdict files name (faulty fault) = (bytes : List ℕ) × (file_of files name ≡ Some bytes) × (length bytes ≤ most_bytes) × FirstFault bytes fault
 IsVerdict files name (spells lts) = (bytes : List ℕ) × (file_of files name ≡ Some bytes) × (length bytes ≤ most_bytes) × Spells bytes lts
 
--- a text spells one system
-abbrev pub OneSystem : Type 0
-OneSystem = (bytes : List ℕ) (a b : System) → Spells bytes a → Spells bytes b → a ≡ b
+-- a text spells one system or has one first fault, never both
+pub record OneAnswer : Type 0 where
+  pub one_system : (bytes : List ℕ) (a b : System) → Spells bytes a → Spells bytes b → a ≡ b
+  pub one_fault : (bytes : List ℕ) (f g : TextFault) → FirstFault bytes f → FirstFault bytes g → f ≡ g
+  pub not_both : (bytes : List ℕ) (a : System) (f : TextFault) → Spells bytes a → FirstFault bytes f → ⊥
 
 same_bytes : (files : Files) (name b c : List ℕ) → file_of files name ≡ Some b → file_of files name ≡ Some c → b ≡ c
 same_bytes files name b c p q = let e = sym p ∙ q in cc
@@ -109,24 +112,27 @@ not_there files name b p q = let e = sym p ∙ q in cc
 too_short : (b c : List ℕ) → b ≡ c → most_bytes < length b → length c ≤ most_bytes → ⊥
 too_short b c e long short = let same = ap length e in omega arith
 
-one_verdict : OneSystem → (files : Files) (name : List ℕ) (v w : Verdict) → IsVerdict files name v → IsVerdict files name w → v ≡ w
+one_verdict : OneAnswer → (files : Files) (name : List ℕ) (v w : Verdict) → IsVerdict files name v → IsVerdict files name w → v ≡ w
 one_verdict one files name missing missing h k = refl
 one_verdict one files name missing too_long h k = absurd (not_there files name k.0 h k.1)
-one_verdict one files name missing not_plain h k = absurd (not_there files name k.0 h k.1)
+one_verdict one files name missing (faulty f) h k = absurd (not_there files name k.0 h k.1)
 one_verdict one files name missing (spells lts) h k = absurd (not_there files name k.0 h k.1)
 one_verdict one files name too_long missing h k = absurd (not_there files name h.0 k h.1)
 one_verdict one files name too_long too_long h k = refl
-one_verdict one files name too_long not_plain h k = absurd (too_short h.0 k.0 (same_bytes files name _ _ h.1 k.1) h.2 k.2)
+one_verdict one files name too_long (faulty f) h k = absurd (too_short h.0 k.0 (same_bytes files name _ _ h.1 k.1) h.2 k.2)
 one_verdict one files name too_long (spells lts) h k = absurd (too_short h.0 k.0 (same_bytes files name _ _ h.1 k.1) h.2 k.2)
-one_verdict one files name not_plain missing h k = absurd (not_there files name h.0 k h.1)
-one_verdict one files name not_plain too_long h k = absurd (too_short k.0 h.0 (same_bytes files name _ _ k.1 h.1) k.2 h.2)
-one_verdict one files name not_plain not_plain h k = refl
-one_verdict one files name not_plain (spells lts) h k = absurd (h.3 lts (subst (λ b. Spells b lts) (same_bytes files name _ _ k.1 h.1) k.3))
+one_verdict one files name (faulty f) missing h k = absurd (not_there files name h.0 k h.1)
+one_verdict one files name (faulty f) too_long h k = absurd (too_short k.0 h.0 (same_bytes files name _ _ k.1 h.1) k.2 h.2)
+one_verdict one files name (faulty f) (faulty g) h k =
+    ap faulty (one.one_fault k.0 f g (subst (λ b. FirstFault b f) (same_bytes files name _ _ h.1 k.1) h.3) k.3)
+one_verdict one files name (faulty f) (spells lts) h k =
+    absurd (one.not_both h.0 lts f (subst (λ b. Spells b lts) (same_bytes files name _ _ k.1 h.1) k.3) h.3)
 one_verdict one files name (spells lts) missing h k = absurd (not_there files name h.0 k h.1)
 one_verdict one files name (spells lts) too_long h k = absurd (too_short k.0 h.0 (same_bytes files name _ _ k.1 h.1) k.2 h.2)
-one_verdict one files name (spells lts) not_plain h k = absurd (k.3 lts (subst (λ b. Spells b lts) (same_bytes files name _ _ h.1 k.1) h.3))
+one_verdict one files name (spells lts) (faulty f) h k =
+    absurd (one.not_both k.0 lts f (subst (λ b. Spells b lts) (same_bytes files name _ _ h.1 k.1) h.3) k.3)
 one_verdict one files name (spells lts) (spells other) h k =
-    ap spells (one k.0 lts other (subst (λ b. Spells b lts) (same_bytes files name _ _ h.1 k.1) h.3) k.3)
+    ap spells (one.one_system k.0 lts other (subst (λ b. Spells b lts) (same_bytes files name _ _ h.1 k.1) h.3) k.3)
 
 -- ---- how far the search reaches, in one of four ways
 
@@ -217,7 +223,7 @@ reach_status within = Done
 abbrev AtVerdict : Verdict → Status → Type 0
 AtVerdict missing s = s ≡ File (record { file = 1; fault = Missing })
 AtVerdict too_long s = s ≡ File (record { file = 1; fault = TooLong })
-AtVerdict not_plain s = s ≡ File (record { file = 1; fault = NotPlain })
+AtVerdict (faulty fault) s = s ≡ File (record { file = 1; fault = Apt fault })
 AtVerdict (spells lts) s = (reach : Reach) × IsReach lts reach × (s ≡ reach_status reach)
 
 abbrev AtFile : Option Files → List ℕ → Status → Type 0
@@ -234,16 +240,16 @@ AtKind files (asks name) s = AtFile files name s
 abbrev Placed : List (List ℕ) → Option Files → Status → Type 0
 Placed words files s = (kind : Kind) × IsOfKind words kind × AtKind files kind s
 
-verdict_same : OneSystem → (files : Files) (name : List ℕ) (v w : Verdict) (a b : Status) → IsVerdict files name v → IsVerdict files name w → AtVerdict v a → AtVerdict w b → a ≡ b
+verdict_same : OneAnswer → (files : Files) (name : List ℕ) (v w : Verdict) (a b : Status) → IsVerdict files name v → IsVerdict files name w → AtVerdict v a → AtVerdict w b → a ≡ b
 verdict_same one files name v w a b h k x y = by v x (subst (λ u. AtVerdict u b) (sym (one_verdict one files name v w h k)) y)
   where
     by : (v : Verdict) → AtVerdict v a → AtVerdict v b → a ≡ b
     by missing x y = x ∙ sym y
     by too_long x y = x ∙ sym y
-    by not_plain x y = x ∙ sym y
+    by (faulty f) x y = x ∙ sym y
     by (spells lts) x y = x.2 ∙ ap reach_status (one_reach lts x.0 y.0 x.1 y.1) ∙ sym y.2
 
-kind_same : OneSystem → (files : Option Files) (kind : Kind) (a b : Status) → IsDecided files b → AtKind files kind a → AtKind files kind b → a ≡ b
+kind_same : OneAnswer → (files : Option Files) (kind : Kind) (a b : Status) → IsDecided files b → AtKind files kind a → AtKind files kind b → a ≡ b
 kind_same one files absent a b told x y = x ∙ sym y
 kind_same one files unknown a b told x y = x ∙ sym y
 kind_same one files miscounted a b told x y = x ∙ sym y
@@ -251,7 +257,7 @@ kind_same one files other_class a b told x y = x ∙ sym y
 kind_same one None (asks name) a b told x y = absurd (y told)
 kind_same one (Some files) (asks name) a b told x y = verdict_same one files name x.0 y.0 a b x.1 y.1 x.2 y.2
 
-placed_same : OneSystem → (words : List (List ℕ)) (files : Option Files) (a b : Status) → IsDecided files b → Placed words files a → Placed words files b → a ≡ b
+placed_same : OneAnswer → (words : List (List ℕ)) (files : Option Files) (a b : Status) → IsDecided files b → Placed words files a → Placed words files b → a ≡ b
 placed_same one words files a b told x y =
     kind_same one files x.0 a b told x.2 (subst (λ k. AtKind files k b) (sym (one_kind words x.0 y.0 x.1 y.1)) y.2)
 
@@ -280,8 +286,9 @@ placed_fault words None fault Missing first is h = (asks h.name, h.are, untold_f
 placed_fault words (Some files) fault Missing first is h = (asks h.name, h.are, (missing, h.missing, same_fault fault Missing first is))
 placed_fault words None fault TooLong first is h = (asks h.asked.name, h.asked.are, untold_file fault)
 placed_fault words (Some files) fault TooLong first is h = (asks h.asked.name, h.asked.are, (too_long, (h.bytes, h.asked.file, h.long), same_fault fault TooLong first is))
-placed_fault words None fault NotPlain first is h = (asks h.asked.name, h.asked.are, untold_file fault)
-placed_fault words (Some files) fault NotPlain first is h = (asks h.asked.name, h.asked.are, (not_plain, (h.bytes, h.asked.file, h.short, h.none), same_fault fault NotPlain first is))
+placed_fault words None fault (Apt f) first is h = (asks h.asked.name, h.asked.are, untold_file fault)
+placed_fault words (Some files) fault (Apt f) first is h =
+    (asks h.asked.name, h.asked.are, (faulty f, (h.bytes, h.asked.file, h.short, h.first), same_fault fault (Apt f) first is))
 
 placed_unbuilt : (words : List (List ℕ)) (files : Option Files) (unbuilt : Unbuilt) → IsUnbuilt words files unbuilt → Placed words files (NotBuilt unbuilt)
 placed_unbuilt words files Class h = (other_class, h, refl)
@@ -300,5 +307,5 @@ placed words files WriteFault h = absurd h
 placed words files NoMemory h = absurd h
 
 -- two statuses that are due are one, where the second is decided by what is told
-pub one_status : OneSystem → (words : List (List ℕ)) (files : Option Files) (a b : Status) → IsDecided files b → IsDue words files a → IsDue words files b → a ≡ b
+pub one_status : OneAnswer → (words : List (List ℕ)) (files : Option Files) (a b : Status) → IsDecided files b → IsDue words files a → IsDue words files b → a ≡ b
 one_status one words files a b told x y = placed_same one words files a b told (placed words files a x) (placed words files b y)

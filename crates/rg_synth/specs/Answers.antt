@@ -1,5 +1,5 @@
 -- What is due to the words and the files: each status, when it is due, and what it writes.
-use Rattle.std.specs.Prelude.{◌≡◌, ℕ, ◌<◌, ◌≤◌, List, [], Option}
+use Rattle.std.specs.Prelude.{◌≡◌, ◌≢◌, ℕ, ◌<◌, ◌≤◌, List, [], Option}
 use Rattle.rg_ports.specs.Shelf.{Files}
 use Rattle.rg_theory.specs.System.{System, labels, IsAllReachable}
 use Rattle.rg_theory.specs.Net.{Net}
@@ -7,7 +7,9 @@ use Rattle.rg_theory.specs.Solves.{Solves}
 use Rattle.rg_theory.specs.declared.Problem.{Problem}
 use Rattle.rg_theory.specs.declared.Problem.TheVariants.{Event as Stop, States as Tell}
 use Rattle.rg_theory.specs.Problem.{IsProblem}
-use Rattle.rg_plain.specs.Spells.{Spells}
+use Rattle.rg_apt.specs.Spells.{Spells, FirstFault}
+use Rattle.rg_apt.specs.declared.fault.TextFault.{TextFault}
+use Rattle.rg_apt.specs.declared.fault.TextFault.TheVariants.{NoMemory as LacksMemory}
 use Rattle.rg_spanning.specs.Spanning.{IsLeastUnreachable}
 use Rattle.rg_net.specs.Range.{IsNetInRange}
 use Rattle.rg_net.specs.NetText.{net_text}
@@ -17,7 +19,7 @@ use Rattle.rg_synth.specs.Asked.{AskForSystem, HasFault}
 use Rattle.rg_synth.specs.Texts.{usage_line, file_line}
 use Rattle.rg_synth.specs.declared.status.Status.{Status}
 use Rattle.rg_synth.specs.declared.status.Status.TheVariants.{Done, Usage, File, ReadFault, WriteFault, NoMemory, Unbuilt as NotBuilt}
-use Rattle.rg_synth.specs.declared.status.Fault.TheVariants.{NotPlain}
+use Rattle.rg_synth.specs.declared.status.Fault.TheVariants.{Apt}
 use Rattle.rg_synth.specs.declared.status.FileFault.{FileFault}
 use Rattle.rg_synth.specs.declared.status.Unbuilt.{Unbuilt}
 use Rattle.rg_synth.specs.declared.status.Unbuilt.TheVariants.{Class, Labels, Unreachable, Event, States}
@@ -91,5 +93,5 @@ AnswersSystem lts _ out err = ⊥
 -- the answer to the bytes of a file that isn't too long
 abbrev pub AnswersBytes : List ℕ → Status → List ℕ → List ℕ → Type 0
 AnswersBytes bytes (File fault) out err =
-    (fault ≡ record { file = 1; fault = NotPlain }) × ((lts : System) → ¬ Spells bytes lts) × (out ≡ []) × (err ≡ file_line fault)
+    ((f : TextFault) × (fault ≡ record { file = 1; fault = Apt f }) × FirstFault bytes f × (f ≢ LacksMemory)) × (out ≡ []) × (err ≡ file_line fault)
 AnswersBytes bytes status out err = (lts : System) × Spells bytes lts × AnswersSystem lts status out err

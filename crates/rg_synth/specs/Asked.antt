@@ -1,11 +1,13 @@
 -- The file that the words name, and the system that it spells.
-use Rattle.std.specs.Prelude.{◌≡◌, ℕ, ◌<◌, ◌≤◌, List, length, Option, Some, None}
+use Rattle.std.specs.Prelude.{◌≡◌, ◌≢◌, ℕ, ◌<◌, ◌≤◌, List, length, Option, Some, None}
 use Rattle.rg_ports.specs.Shelf.{Files, file_of}
 use Rattle.rg_theory.specs.System.{System}
-use Rattle.rg_plain.specs.Spells.{Spells}
+use Rattle.rg_apt.specs.Spells.{Spells, FirstFault}
+use Rattle.rg_apt.specs.declared.fault.TextFault.{TextFault}
+use Rattle.rg_apt.specs.declared.fault.TextFault.TheVariants.{NoMemory}
 use Rattle.rg_synth.specs.Words.{AskFor}
 use Rattle.rg_synth.specs.declared.status.Fault.{Fault}
-use Rattle.rg_synth.specs.declared.status.Fault.TheVariants.{Missing, TooLong, NotPlain}
+use Rattle.rg_synth.specs.declared.status.Fault.TheVariants.{Missing, TooLong, Apt}
 
 -- the most bytes of a file
 abbrev pub most_bytes : ℕ
@@ -41,15 +43,16 @@ pub record AskForTooLong (words : List (List ℕ)) (files : Option Files) : Type
   pub asked : AskForBytes words files bytes
   pub long : most_bytes < length bytes
 
--- the words ask for a file that is the plain text of no system
-pub record AskForNotPlain (words : List (List ℕ)) (files : Option Files) : Type 0 where
+-- the words ask for a file whose text has the first fault, which isn't want of memory
+pub record AskForFaulty (words : List (List ℕ)) (files : Option Files) (fault : TextFault) : Type 0 where
   pub bytes : List ℕ
   pub asked : AskForBytes words files bytes
   pub short : length bytes ≤ most_bytes
-  pub none : (lts : System) → ¬ Spells bytes lts
+  pub first : FirstFault bytes fault
+  pub real : fault ≢ NoMemory
 
 -- the file that the words name has the fault
 abbrev pub HasFault : List (List ℕ) → Option Files → Fault → Type 0
 HasFault words files Missing = AskForMissing words files
 HasFault words files TooLong = AskForTooLong words files
-HasFault words files NotPlain = AskForNotPlain words files
+HasFault words files (Apt fault) = AskForFaulty words files fault

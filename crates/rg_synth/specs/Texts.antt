@@ -1,9 +1,13 @@
 -- The lines that a refusal writes to err.
-use Rattle.std.specs.Prelude.{ℕ, List, ◌++◌, codes, decimal}
+use Rattle.std.specs.Prelude.{ℕ, List, [], ◌++◌, Option, None, Some, codes, decimal}
+use Rattle.rg_lexer.specs.declared.token.Want.{Want}
+use Rattle.rg_lexer.specs.declared.token.Want.TheVariants as want
+use Rattle.rg_apt.specs.declared.fault.TextFault.{TextFault}
+use Rattle.rg_apt.specs.declared.fault.TextFault.TheVariants.{BadByte, OpenString, OpenComment, LongName, Expected, NoType, WrongType, TwiceState, TwiceLabel, UnknownState, UnknownLabel, TwoInitial, NoInitial, TooManyStates, TooManyLabels, TooManyArcs, NoMemory}
 use Rattle.rg_synth.specs.declared.status.Usage.{Usage}
 use Rattle.rg_synth.specs.declared.status.Usage.TheVariants.{NoCommand, UnknownCommand, Words}
 use Rattle.rg_synth.specs.declared.status.Fault.{Fault}
-use Rattle.rg_synth.specs.declared.status.Fault.TheVariants.{Missing, TooLong, NotPlain}
+use Rattle.rg_synth.specs.declared.status.Fault.TheVariants.{Missing, TooLong, Apt}
 use Rattle.rg_synth.specs.declared.status.FileFault.{FileFault}
 
 -- why the words are refused
@@ -12,11 +16,74 @@ usage_line NoCommand = codes "usage: no command\n"
 usage_line UnknownCommand = codes "usage: unknown command\n"
 usage_line Words = codes "usage: words refused\n"
 
+-- what the grammar wants
+abbrev pub wanted_words : Want → List ℕ
+wanted_words want.Section = codes "expected Section"
+wanted_words want.Name = codes "expected Name"
+wanted_words want.Text = codes "expected Text"
+wanted_words want.Key = codes "expected Key"
+wanted_words want.CloseList = codes "expected CloseList"
+wanted_words want.Value = codes "expected Value"
+wanted_words want.Colon = codes "expected Colon"
+wanted_words want.Set = codes "expected Set"
+wanted_words want.Arrow = codes "expected Arrow"
+wanted_words want.Member = codes "expected Member"
+wanted_words want.CloseSet = codes "expected CloseSet"
+wanted_words want.Number = codes "expected Number"
+
+-- the fault of a text, without its place; want of memory is never written
+abbrev pub text_fault_words : TextFault → List ℕ
+text_fault_words (BadByte at) = codes "bad byte"
+text_fault_words (OpenString at) = codes "open string"
+text_fault_words (OpenComment at) = codes "open comment"
+text_fault_words (LongName at) = codes "long name"
+text_fault_words (Expected at wants) = wanted_words wants
+text_fault_words NoType = codes "no type"
+text_fault_words (WrongType at) = codes "wrong type"
+text_fault_words (TwiceState at) = codes "state twice"
+text_fault_words (TwiceLabel at) = codes "label twice"
+text_fault_words (UnknownState at) = codes "unknown state"
+text_fault_words (UnknownLabel at) = codes "unknown label"
+text_fault_words (TwoInitial at) = codes "two initial states"
+text_fault_words NoInitial = codes "no initial state"
+text_fault_words (TooManyStates at) = codes "too many states"
+text_fault_words (TooManyLabels at) = codes "too many labels"
+text_fault_words (TooManyArcs at) = codes "too many arcs"
+text_fault_words NoMemory = codes "no memory"
+
+-- the place of the fault of a text
+abbrev pub text_fault_place : TextFault → Option ℕ
+text_fault_place (BadByte at) = Some at
+text_fault_place (OpenString at) = Some at
+text_fault_place (OpenComment at) = Some at
+text_fault_place (LongName at) = Some at
+text_fault_place (Expected at wants) = Some at
+text_fault_place NoType = None
+text_fault_place (WrongType at) = Some at
+text_fault_place (TwiceState at) = Some at
+text_fault_place (TwiceLabel at) = Some at
+text_fault_place (UnknownState at) = Some at
+text_fault_place (UnknownLabel at) = Some at
+text_fault_place (TwoInitial at) = Some at
+text_fault_place NoInitial = None
+text_fault_place (TooManyStates at) = Some at
+text_fault_place (TooManyLabels at) = Some at
+text_fault_place (TooManyArcs at) = Some at
+text_fault_place NoMemory = None
+
+abbrev pub place_text : Option ℕ → List ℕ
+place_text None = []
+place_text (Some at) = codes " at " ++ decimal at
+
+-- the fault of a text
+abbrev pub text_fault_text : TextFault → List ℕ
+text_fault_text fault = text_fault_words fault ++ place_text (text_fault_place fault)
+
 -- the fault of a file
 abbrev pub fault_text : Fault → List ℕ
 fault_text Missing = codes "missing"
 fault_text TooLong = codes "too long"
-fault_text NotPlain = codes "not plain"
+fault_text (Apt fault) = text_fault_text fault
 
 -- which of the files has which fault
 abbrev pub file_line : FileFault → List ℕ

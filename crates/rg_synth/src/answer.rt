@@ -12,10 +12,10 @@ ghost use Rattle.rg_synth.specs.declared.answer.Stop.TheVariants as stop;
 use crate::request::read_words;
 use crate::status::{Fault, FileFault, Status, Unbuilt};
 use crate::texts::{file_text, usage_text};
+use rg_apt::{TextFault, read_lts};
 use rg_lts::Lts;
 use rg_net::Net;
 use rg_netfile::print_net;
-use rg_plain::{PlainFault, read_plain};
 use rg_ports::{ReadStop, Shelf, read_all};
 use rg_search::{SearchStop, search};
 use rg_spanning::{GrowStop, Tree};
@@ -76,12 +76,15 @@ pub(crate) fn make_answer<H: Shelf>(
 
 // The answer to a file with these bytes.
 fn file_answer(alloc: Global, bytes: &[u8]) -> Result<Answer, AllocError>
+    requires { length bytes.now ≤ most_bytes }
     ensures { IfOk result (λ a. AnswersBytes bytes.now a.status a.out.items a.err.items) }
 {
-    match read_plain(alloc, bytes) {
+    match read_lts(alloc, bytes) {
         Ok(lts) => system_answer(alloc, &lts),
-        Err(PlainFault::NotPlain) => file_refusal(alloc, Fault::NotPlain),
-        Err(PlainFault::NoMemory) => Err(AllocError),
+        Err(fault) => match fault {
+            TextFault::NoMemory => Err(AllocError),
+            _ => file_refusal(alloc, Fault::Apt(fault)),
+        },
     }
 }
 

@@ -2,6 +2,8 @@
 ghost use Rattle.std.specs.Prelude.{◌≡◌};
 ghost use Rattle.rg_synth.specs.Numbers.{status_number};
 
+use rg_apt::TextFault;
+
 /// How a run ends.
 #[derive(Clone, Copy, Debug, PartialEq, Eq)]
 pub enum Status {
@@ -48,8 +50,8 @@ pub enum Fault {
     Missing,
     /// It has more than 16,777,216 bytes.
     TooLong,
-    /// It is the plain text of no system.
-    NotPlain,
+    /// It spells no system in the format of APT: its first fault, which is never `NoMemory`.
+    Apt(TextFault),
 }
 
 /// What isn't built yet.

@@ -1,9 +1,11 @@
 //! The lines that a refusal writes.
-ghost use Rattle.std.specs.Prelude.{◌≡◌, IfOk};
-ghost use Rattle.rg_synth.specs.Texts.{usage_line, fault_text, file_line};
+ghost use Rattle.std.specs.Prelude.{◌≡◌, ◌++◌, IfOk, OnOk};
+ghost use Rattle.rg_synth.specs.Texts.{usage_line, wanted_words, text_fault_words, text_fault_place, text_fault_text, fault_text, file_line};
 
 use crate::status::{Fault, FileFault, Usage};
 use itoa::Buffer;
+use rg_apt::TextFault;
+use rg_lexer::Want;
 use std::alloc::{AllocError, Global};
 
 // Why the words are refused.
@@ -17,15 +19,97 @@ pub(crate) fn usage_text(usage: Usage) -> &'static [u8]
     }
 }
 
-// The fault of a file.
-fn text_of_fault(fault: Fault) -> &'static [u8]
-    ensures { result.now ≡ fault_text fault }
+// What the grammar wants.
+fn wanted(want: Want) -> &'static [u8]
+    ensures { result.now ≡ wanted_words want }
+{
+    match want {
+        Want::Section => b"expected Section",
+        Want::Name => b"expected Name",
+        Want::Text => b"expected Text",
+        Want::Key => b"expected Key",
+        Want::CloseList => b"expected CloseList",
+        Want::Value => b"expected Value",
+        Want::Colon => b"expected Colon",
+        Want::Set => b"expected Set",
+        Want::Arrow => b"expected Arrow",
+        Want::Member => b"expected Member",
+        Want::CloseSet => b"expected CloseSet",
+        Want::Number => b"expected Number",
+    }
+}
+
+// The fault of a text, without its place.
+fn words_of(fault: TextFault) -> &'static [u8]
+    ensures { result.now ≡ text_fault_words fault }
 {
     match fault {
-        Fault::Missing => b"missing",
-        Fault::TooLong => b"too long",
-        Fault::NotPlain => b"not plain",
+        TextFault::BadByte(_) => b"bad byte",
+        TextFault::OpenString(_) => b"open string",
+        TextFault::OpenComment(_) => b"open comment",
+        TextFault::LongName(_) => b"long name",
+        TextFault::Expected(_, want) => wanted(want),
+        TextFault::NoType => b"no type",
+        TextFault::WrongType(_) => b"wrong type",
+        TextFault::TwiceState(_) => b"state twice",
+        TextFault::TwiceLabel(_) => b"label twice",
+        TextFault::UnknownState(_) => b"unknown state",
+        TextFault::UnknownLabel(_) => b"unknown label",
+        TextFault::TwoInitial(_) => b"two initial states",
+        TextFault::NoInitial => b"no initial state",
+        TextFault::TooManyStates(_) => b"too many states",
+        TextFault::TooManyLabels(_) => b"too many labels",
+        TextFault::TooManyArcs(_) => b"too many arcs",
+        TextFault::NoMemory => b"no memory",
     }
+}
+
+// The place of the fault of a text.
+fn place_of(fault: TextFault) -> Option<u32>
+    ensures { result ≡ text_fault_place fault }
+{
+    match fault {
+        TextFault::NoType | TextFault::NoInitial | TextFault::NoMemory => None,
+        TextFault::BadByte(at)
+        | TextFault::OpenString(at)
+        | TextFault::OpenComment(at)
+        | TextFault::LongName(at)
+        | TextFault::Expected(at, _)
+        | TextFault::WrongType(at)
+        | TextFault::TwiceState(at)
+        | TextFault::TwiceLabel(at)
+        | TextFault::UnknownState(at)
+        | TextFault::UnknownLabel(at)
+        | TextFault::TwoInitial(at)
+        | TextFault::TooManyStates(at)
+        | TextFault::TooManyLabels(at)
+        | TextFault::TooManyArcs(at) => Some(at),
+    }
+}
+
+// Adds the fault of a text.
+fn push_text_fault(text: &mut Vec<u8>, fault: TextFault) -> Result<(), AllocError>
+    ensures { OnOk result (text.new.items ≡ text.old.items ++ text_fault_text fault) }
+{
+    text.extend_from_slice(words_of(fault))?;
+    if let Some(at) = place_of(fault) {
+        let mut buffer = Buffer::new();
+        text.extend_from_slice(b" at ")?;
+        text.extend_from_slice(buffer.format(at).as_bytes())?;
+    }
+    Ok(())
+}
+
+// Adds the fault of a file.
+fn push_fault(text: &mut Vec<u8>, fault: Fault) -> Result<(), AllocError>
+    ensures { OnOk result (text.new.items ≡ text.old.items ++ fault_text fault) }
+{
+    match fault {
+        Fault::Missing => text.extend_from_slice(b"missing")?,
+        Fault::TooLong => text.extend_from_slice(b"too long")?,
+        Fault::Apt(fault) => push_text_fault(text, fault)?,
+    }
+    Ok(())
 }
 
 // Which of the files has which fault.
@@ -37,7 +121,7 @@ pub(crate) fn file_text(alloc: Global, fault: FileFault) -> Result<Vec<u8>, Allo
     text.extend_from_slice(b"file ")?;
     text.extend_from_slice(buffer.format(fault.file).as_bytes())?;
     text.extend_from_slice(b": ")?;
-    text.extend_from_slice(text_of_fault(fault.fault))?;
+    push_fault(&mut text, fault.fault)?;
     text.push(b'\n')?;
     Ok(text)
 }

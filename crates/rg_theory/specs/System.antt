@@ -47,6 +47,12 @@ IsReachable lts s = (ts : List ℕ) × Leads lts lts.initial ts s
 pub record IsAllReachable (lts : System) : Type 0 where
   pub each : (s : ℕ) → s < states lts → IsReachable lts s
 
+-- the state is the least that can't be reached
+pub record IsLeastUnreachable (lts : System) (s : ℕ) : Type 0 where
+  pub state : s < states lts
+  pub unreachable : ¬ IsReachable lts s
+  pub least : (earlier : ℕ) → earlier < s → IsReachable lts earlier
+
 -- label t leads from s to two different states
 abbrev pub IsFork : System → ℕ → ℕ → ℕ → ℕ → Type 0
 IsFork lts s t s₁ s₂ = HasArc lts s t s₁ × HasArc lts s t s₂ × (s₁ ≢ s₂)

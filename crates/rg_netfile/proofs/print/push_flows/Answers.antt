@@ -1,6 +1,7 @@
 use Rattle.std.proofs.Common.{◌≡◌, ◌++◌, ◌∷◌, [], ◌∙◌, ap}
 use Rattle.rg_net.specs.NetText.{flow_line}
-use Rattle.rg_netfile.proofs.Texts.{piece_step, flow_left}
+use Rattle.rg_text.proofs.Grown.{piece_step}
+use Rattle.rg_netfile.proofs.Texts.{flow_left}
 use Rattle.rg_netfile.proofs.print.push_flows.Goals as goal
 
 pub loop-t-preserved : goal.loop-t-preserved

@@ -1,6 +1,7 @@
 use Rattle.std.proofs.Common.{◌≡◌, ◌-◌, ◌+◌, ◌++◌, ◌∷◌, [], ◌∙◌, ap, append_assoc, arith}
 use Rattle.rg_net.specs.NetText.{place_name}
-use Rattle.rg_netfile.proofs.Texts.{piece_step, place_left}
+use Rattle.rg_text.proofs.Grown.{piece_step}
+use Rattle.rg_netfile.proofs.Texts.{place_left}
 use Rattle.rg_netfile.proofs.print.push_places.Goals as goal
 
 pub loop-i-preserved : goal.loop-i-preserved

@@ -1,5 +1,6 @@
 use Rattle.std.proofs.Common.{◌≡◌, ◌++◌, ◌∷◌, [], ◌∙◌, ap, append_assoc}
-use Rattle.rg_netfile.proofs.Texts.{piece_step, transition_left}
+use Rattle.rg_text.proofs.Grown.{piece_step}
+use Rattle.rg_netfile.proofs.Texts.{transition_left}
 use Rattle.rg_netfile.proofs.print.push_transitions.Goals as goal
 
 pub loop-t-preserved : goal.loop-t-preserved

@@ -1,8 +1,8 @@
 use Rattle.std.proofs.Common.{inl, ap, ◌∙◌, map, string_bytes}
 use Rattle.rg_ports.specs.Sink.{taken_with}
-use Rattle.rg_plain.proofs.OneSystem.{one_spelled}
+use Rattle.rg_apt.proofs.WholeTexts.{one_spelled, one_first_fault, spelled_or_fault}
 use Rattle.rg_synth.proofs.Answered.{says_ends}
-use Rattle.rg_synth.proofs.Statuses.{one_status}
+use Rattle.rg_synth.proofs.Statuses.{OneAnswer, one_status}
 use Rattle.rg_synth.proofs.run_whole.run.Goals as goal
 
 pub returns-clause-ends : goal.returns-clause-ends
@@ -17,4 +17,5 @@ returns-clause-ends g c =
 
 pub returns-clause-exactly : goal.returns-clause-exactly
 returns-clause-exactly g c = λ due decided is.
-    inl (one_status one_spelled (map string_bytes c.args.words.now) (g.H.Shelf.files c.args.shelf.now) c.in-Ok.made.status due decided c.in-Ok.ensures.due is)
+    let one : OneAnswer = record { one_system = one_spelled; one_fault = one_first_fault; not_both = spelled_or_fault } in
+    inl (one_status one (map string_bytes c.args.words.now) (g.H.Shelf.files c.args.shelf.now) c.in-Ok.made.status due decided c.in-Ok.ensures.due is)

@@ -1,0 +1,132 @@
+-- Tokens that are not refused are items.
+use Rattle.std.proofs.Common.{◌≡◌, ℕ, inl, inr, ⊎_elim, Bool, true, false, cond, List, [], ◌∷◌, None, Some, codes, refl, sym, ap, subst}
+use Rattle.std.specs.Str.{bytes_eq}
+use Rattle.std.proofs.lemmas.Bool.{or_cases}
+use Rattle.rg_lexer.specs.Lexeme.{Lexeme}
+use Rattle.rg_lexer.specs.declared.token.Kind.{Kind}
+use Rattle.rg_lexer.specs.declared.token.Kind.TheVariants.{Name, Word, Text, LeftBracket}
+use Rattle.rg_items.specs.Entry.{IsEntry, IsWord}
+use Rattle.rg_items.specs.ListPlace.{first_key}
+use Rattle.rg_items.specs.Grammar.{leads_all}
+use Rattle.rg_items.proofs.Complete.{Tail, tail_of_more, tail_more, After, after_of_more, after_of_list, entry_more, ListCompletes, list_token_in, same_bytes, other_bytes}
+use Rattle.rg_items.proofs.Complete as complete
+use Rattle.rg_apt.specs.Item.{Triple, Item, IsTriple, AreItems, IsOtherWord, IsTypeName}
+use Rattle.rg_apt.specs.Item as item
+use Rattle.rg_apt.specs.Table.{Section, states, labels, arcs, Place, section, type_name, passed_text, in_section, after_entry, second, third, in_list, leads_by, after_word, after_name, is_type_name, may_end}
+use Rattle.rg_apt.specs.Reading.{system_grammar}
+
+-- items, to the end
+abbrev pub Items : List Lexeme → Type 0
+Items xs = (items : List Item) × AreItems items xs
+
+-- the rest of a section, and items
+abbrev TailOf : Section → List Lexeme → Type 0
+TailOf states xs = Tail IsEntry Items xs
+TailOf labels xs = Tail IsEntry Items xs
+TailOf arcs xs = Tail IsTriple Items xs
+
+-- with what came before at the place, the tokens go on as the grammar wants
+abbrev Completes : Place → List Lexeme → Type 0
+Completes section xs = Items xs
+Completes type_name xs = (word : Lexeme) → IsWord (codes ".type") word → Items (word ∷ xs)
+Completes passed_text xs = (word : Lexeme) → IsOtherWord word → Items (word ∷ xs)
+Completes (in_section s) xs = TailOf s xs
+Completes (after_entry s) xs = After (TailOf s) xs
+Completes (second from) xs = from.kind ≡ Name → TailOf arcs (from ∷ xs)
+Completes (third from label) xs = from.kind ≡ Name → label.kind ≡ Name → TailOf arcs (from ∷ label ∷ xs)
+Completes (in_list s place) xs = ListCompletes (TailOf s) place xs
+
+tail_of_items : (s : Section) (xs : List Lexeme) → Items xs → TailOf s xs
+tail_of_items states xs items = tail_of_more IsEntry Items xs items
+tail_of_items labels xs items = tail_of_more IsEntry Items xs items
+tail_of_items arcs xs items = tail_of_more IsTriple Items xs items
+
+triple_more : (from label to : Lexeme) (xs : List Lexeme) → After (TailOf arcs) xs → from.kind ≡ Name → label.kind ≡ Name → to.kind ≡ Name → TailOf arcs (from ∷ label ∷ to ∷ xs)
+triple_more from label to xs a f l t =
+    let triple : Triple = record { from = from; label = label; to = to; settings = a.0 } in
+    tail_more IsTriple Items triple (from ∷ label ∷ to ∷ a.1) a.2 (from ∷ label ∷ to ∷ xs) (f, l, t, (a.1, a.3, refl)) (ap (λ l. from ∷ label ∷ to ∷ l) a.5) a.4
+
+name_more : (s : Section) (x : Lexeme) (xs : List Lexeme) → x.kind ≡ Name → Completes (after_name s x) xs → TailOf s (x ∷ xs)
+name_more states x xs kind go = entry_more Items x xs kind go
+name_more labels x xs kind go = entry_more Items x xs kind go
+name_more arcs x xs kind go = go kind
+
+-- words
+typed_items : (word name : Lexeme) (xs : List Lexeme) → IsWord (codes ".type") word → IsTypeName name → Items xs → Items (word ∷ name ∷ xs)
+typed_items word name xs w n items = (item.type name ∷ items.0, (word ∷ name ∷ [], xs, (word, w, n, refl), items.1, refl))
+
+other_items : (word text : Lexeme) (xs : List Lexeme) → IsOtherWord word → text.kind ≡ Text → Items xs → Items (word ∷ text ∷ xs)
+other_items word text xs w t items = (item.other ∷ items.0, (word ∷ text ∷ [], xs, (word, text, w, t, refl), items.1, refl))
+
+states_items : (word : Lexeme) (xs : List Lexeme) → IsWord (codes ".states") word → TailOf states xs → Items (word ∷ xs)
+states_items word xs w tail = (item.states tail.2.0 ∷ tail.3.0, (word ∷ tail.0, tail.1, (word, tail.0, w, tail.2.1, refl), tail.3.1, ap (λ l. word ∷ l) tail.4))
+
+labels_items : (word : Lexeme) (xs : List Lexeme) → IsWord (codes ".labels") word → TailOf labels xs → Items (word ∷ xs)
+labels_items word xs w tail = (item.labels tail.2.0 ∷ tail.3.0, (word ∷ tail.0, tail.1, (word, tail.0, w, tail.2.1, refl), tail.3.1, ap (λ l. word ∷ l) tail.4))
+
+arcs_items : (word : Lexeme) (xs : List Lexeme) → IsWord (codes ".arcs") word → TailOf arcs xs → Items (word ∷ xs)
+arcs_items word xs w tail = (item.arcs tail.2.0 ∷ tail.3.0, (word ∷ tail.0, tail.1, (word, tail.0, w, tail.2.1, refl), tail.3.1, ap (λ l. word ∷ l) tail.4))
+
+word_items : (word : Lexeme) (xs : List Lexeme) → word.kind ≡ Word → Completes (after_word word.text) xs → Items (word ∷ xs)
+word_items word xs kind = by (bytes_eq t (codes ".type")) (bytes_eq t (codes ".states")) (bytes_eq t (codes ".labels")) (bytes_eq t (codes ".arcs")) refl refl refl refl
+  where
+    t : List ℕ
+    t = word.text
+
+    by : (a b c d : Bool) → bytes_eq t (codes ".type") ≡ a → bytes_eq t (codes ".states") ≡ b → bytes_eq t (codes ".labels") ≡ c → bytes_eq t (codes ".arcs") ≡ d
+        → Completes (cond a type_name (cond b (in_section states) (cond c (in_section labels) (cond d (in_section arcs) passed_text)))) xs → Items (word ∷ xs)
+    by true b c d e f g h go = go word (kind, same_bytes t (codes ".type") e)
+    by false true c d e f g h go = states_items word xs (kind, same_bytes t (codes ".states") f) go
+    by false false true d e f g h go = labels_items word xs (kind, same_bytes t (codes ".labels") g) go
+    by false false false true e f g h go = arcs_items word xs (kind, same_bytes t (codes ".arcs") h) go
+    by false false false false e f g h go = go word (record {
+      kind = kind;
+      no_type = other_bytes t (codes ".type") e;
+      no_states = other_bytes t (codes ".states") f;
+      no_labels = other_bytes t (codes ".labels") g;
+      no_arcs = other_bytes t (codes ".arcs") h;
+    })
+
+type_name_is : (name : Lexeme) → name.kind ≡ Name → is_type_name name.text ≡ true → IsTypeName name
+type_name_is name kind e = (
+  kind,
+  ⊎_elim (λ h. inl (same_bytes name.text (codes "LTS") h)) (λ h. inr (same_bytes name.text (codes "TS") h))
+      (or_cases (bytes_eq name.text (codes "LTS")) (bytes_eq name.text (codes "TS")) e),
+)
+
+-- the place that a token leads to
+led : (to q : Place) (xs : List Lexeme) → Some to ≡ Some q → Completes q xs → Completes to xs
+led to q xs e go = let same : to ≡ q = cc in subst (λ p. Completes p xs) (sym same) go
+
+type_more : (x : Lexeme) (xs : List Lexeme) (q : Place) (b : Bool) → is_type_name x.text ≡ b → x.kind ≡ Name → cond b (Some section) None ≡ Some q → Completes q xs → Completes type_name (x ∷ xs)
+type_more x xs q true e kind lead go = λ word w. typed_items word x xs w (type_name_is x kind e) (led section q xs lead go)
+type_more x xs q false e kind lead go = absurd cc
+
+-- one token and what completes the place after it
+token_more : (p : Place) (x : Lexeme) (xs : List Lexeme) (k : Kind) (q : Place) → x.kind ≡ k → leads_by p k x ≡ Some q → Completes q xs → Completes p (x ∷ xs)
+token_more section x xs Word q kind lead go = word_items x xs kind (led (after_word x.text) q xs lead go)
+token_more type_name x xs Name q kind lead go = type_more x xs q (is_type_name x.text) refl kind lead go
+token_more passed_text x xs Text q kind lead go = λ word w. other_items word x xs w kind (led section q xs lead go)
+token_more (in_section s) x xs Name q kind lead go = name_more s x xs kind (led (after_name s x) q xs lead go)
+token_more (in_section s) x xs Word q kind lead go = tail_of_items s (x ∷ xs) (word_items x xs kind (led (after_word x.text) q xs lead go))
+token_more (after_entry s) x xs Name q kind lead go = after_of_more (TailOf s) (x ∷ xs) (name_more s x xs kind (led (after_name s x) q xs lead go))
+token_more (after_entry s) x xs Word q kind lead go =
+    after_of_more (TailOf s) (x ∷ xs) (tail_of_items s (x ∷ xs) (word_items x xs kind (led (after_word x.text) q xs lead go)))
+token_more (after_entry s) x xs LeftBracket q kind lead go = after_of_list (TailOf s) x xs kind (led (in_list s first_key) q xs lead go)
+token_more (second from) x xs Name q kind lead go = λ f. led (third from x) q xs lead go f kind
+token_more (third from label) x xs Name q kind lead go = λ f l. triple_more from label x xs (led (after_entry arcs) q xs lead go) f l kind
+token_more (in_list s place) x xs k q kind lead go =
+    list_token_in (in_list s) (in_section s) Completes (TailOf s) (λ place xs h. h) (λ xs h. h) place x xs k q kind lead go
+token_more p x xs k q kind lead go = absurd cc
+
+-- the end
+ended : (p : Place) → may_end p ≡ true → Completes p []
+ended section e = ([], refl)
+ended (in_section s) e = tail_of_items s [] ([], refl)
+ended (after_entry s) e = after_of_more (TailOf s) [] (tail_of_items s [] ([], refl))
+ended p e = absurd cc
+
+-- tokens that lead to a place where the file may end are items
+pub items_from : (q : Place) (xs : List Lexeme) → leads_all system_grammar section xs ≡ Some q → may_end q ≡ true → Items xs
+items_from q xs lead ends =
+    complete.completes system_grammar Completes (λ p x xs q lead go. token_more p x xs x.kind q refl lead go) ended section q xs lead ends

@@ -1,0 +1,16 @@
+pub mod Walk
+pub mod Items
+pub mod Grammars
+pub mod Systems
+pub mod WholeTexts
+pub mod Complete
+pub mod Existing
+pub mod FoundLemmas
+pub mod Names
+pub mod Marks
+pub mod StateSteps
+pub mod ArcSteps
+pub mod Built
+pub mod PrintSteps
+pub mod Declares
+pub mod PlainTexts

@@ -1,0 +1,45 @@
+-- How what the code has found is seen.
+use Rattle.std.specs.Prelude.{ℕ, List, map, All}
+use Rattle.rg_lexer.specs.declared.token.Token.{Token}
+use Rattle.rg_lexer.specs.Lexeme.{Lexeme, lexeme}
+use Rattle.rg_items.specs.Entry.{IsNameOf}
+use Rattle.rg_apt.specs.declared.found.FoundState.{FoundState}
+use Rattle.rg_apt.specs.declared.found.FoundArc.{FoundArc}
+use Rattle.rg_apt.specs.declared.found.Found.{Found}
+use Rattle.rg_apt.specs.Contents.{StateEntry, ArcNames, Declared}
+
+abbrev pub state_in : List ℕ → FoundState → StateEntry
+state_in bytes s = record { name = lexeme bytes s.name; initial = s.initial }
+
+abbrev pub arc_in : List ℕ → FoundArc → ArcNames
+arc_in bytes a = record { from = lexeme bytes a.from; label = lexeme bytes a.label; to = lexeme bytes a.to }
+
+abbrev pub states_in : List ℕ → List FoundState → List StateEntry
+states_in bytes states = map (state_in bytes) states
+
+abbrev pub labels_in : List ℕ → List Token → List Lexeme
+labels_in bytes labels = map (lexeme bytes) labels
+
+abbrev pub arcs_in : List ℕ → List FoundArc → List ArcNames
+arcs_in bytes arcs = map (arc_in bytes) arcs
+
+-- what is found, with its tokens as they stand in the text
+abbrev pub found_in : List ℕ → Found → Declared
+found_in bytes f = record {
+  typed = f.typed;
+  states = states_in bytes f.states.items;
+  labels = labels_in bytes f.labels.items;
+  arcs = arcs_in bytes f.arcs.items;
+}
+
+-- the names of what is found are names of the text
+abbrev pub IsStateOf : List ℕ → FoundState → Type 0
+IsStateOf bytes s = IsNameOf bytes s.name
+
+abbrev pub IsArcOf : List ℕ → FoundArc → Type 0
+IsArcOf bytes a = IsNameOf bytes a.from × IsNameOf bytes a.label × IsNameOf bytes a.to
+
+pub record HoldsNames (bytes : List ℕ) (f : Found) : Type 0 where
+  pub states : All (IsStateOf bytes) f.states.items
+  pub labels : All (IsNameOf bytes) f.labels.items
+  pub arcs : All (IsArcOf bytes) f.arcs.items

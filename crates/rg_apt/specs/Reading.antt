@@ -1,0 +1,67 @@
+-- What a reader of system files has found at each token, and the grammar of system files. The crate's laws
+-- tie it to the items of a file.
+use Rattle.std.specs.Prelude.{ℕ, Bool, true, false, List, [], ◌∷◌, ◌++◌, if◌then◌else◌}
+use Rattle.rg_lexer.specs.Lexeme.{Lexeme}
+use Rattle.rg_lexer.specs.declared.token.Kind.{Kind}
+use Rattle.rg_lexer.specs.declared.token.Kind.TheVariants.{Name}
+use Rattle.rg_items.specs.Entry.{Setting}
+use Rattle.rg_items.specs.ListPlace.{completed_by, with_completed}
+use Rattle.rg_items.specs.Grammar.{Grammar}
+use Rattle.rg_items.specs.Grammar as grammar
+use Rattle.rg_apt.specs.declared.fault.TextFault.{TextFault}
+use Rattle.rg_apt.specs.declared.fault.TextFault.TheVariants.{Expected}
+use Rattle.rg_apt.specs.Table.{Section, states, labels, arcs, Place, section, type_name, in_section, after_entry, third, in_list, wanted, may_end, leads, refusal_by}
+use Rattle.rg_apt.specs.Contents.{marks, StateEntry, Declared}
+
+-- nothing is found
+abbrev pub nothing : Declared
+nothing = record { typed = false; states = []; labels = []; arcs = [] }
+
+-- the last entry is marked
+abbrev pub mark_last : List StateEntry → List StateEntry
+mark_last [] = []
+mark_last (e ∷ []) = record { name = e.name; initial = true } ∷ []
+mark_last (e ∷ f ∷ more) = e ∷ mark_last (f ∷ more)
+
+-- an option that marks is seen in a section's list
+abbrev pub marked : Section → Bool → Declared → Declared
+marked states mark d = record d { states = if mark then mark_last d.states else d.states }
+marked labels mark d = d
+marked arcs mark d = d
+
+abbrev pub with_setting : Section → Setting → Declared → Declared
+with_setting s setting d = marked s (marks setting) d
+
+-- a name begins an entry or triple
+abbrev pub with_name : Section → Lexeme → Declared → Declared
+with_name states x d = record d { states = d.states ++ record { name = x; initial = false } ∷ [] }
+with_name labels x d = record d { labels = d.labels ++ x ∷ [] }
+with_name arcs x d = d
+
+-- what is found with a token that stands at a place
+abbrev pub adds_by : Place → Kind → Lexeme → Declared → Declared
+adds_by type_name Name x d = record d { typed = true }
+adds_by (in_section s) Name x d = with_name s x d
+adds_by (after_entry s) Name x d = with_name s x d
+adds_by (third from label) Name x d = record d { arcs = d.arcs ++ record { from = from; label = label; to = x } ∷ [] }
+adds_by (in_list s place) kind x d = with_completed (with_setting s) (completed_by place kind x) d
+adds_by _ _ _ d = d
+
+abbrev pub adds : Place → Lexeme → Declared → Declared
+adds place x d = adds_by place x.kind x d
+
+-- the grammar of system files
+abbrev pub system_grammar : Grammar Place Declared TextFault
+system_grammar = record {
+  start = section;
+  nothing = nothing;
+  leads = leads;
+  adds = adds;
+  may_end = may_end;
+  refuses = λ place x. refusal_by place x.kind x.at;
+  ends = λ place end. Expected end (wanted place);
+}
+
+-- the first token that can't continue the grammar
+abbrev pub FirstRefusal : List Lexeme → ℕ → TextFault → Type 0
+FirstRefusal xs end fault = grammar.FirstRefusal system_grammar xs end fault

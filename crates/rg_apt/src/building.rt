@@ -1,0 +1,216 @@
+//! The system of what a file declares.
+ghost use Rattle.std.specs.Prelude.{◌≡◌, ◌≢◌, ◌++◌, ◌∷◌, [], ℕ, List, All, map, string_bytes, ◌⊎◌, Contains, IsTrue, IfOk, IfErr, OnOk, Option, None, Some};
+ghost use Rattle.rg_text.specs.Byte.{IsName};
+ghost use Rattle.rg_theory.specs.declared.Arc.{Arc};
+ghost use Rattle.rg_lexer.specs.Lexeme.{Lexeme, lexeme};
+ghost use Rattle.rg_items.specs.Entry.{IsNameOf};
+ghost use Rattle.rg_lts.specs.WellFormed.{most_states, most_labels};
+ghost use Rattle.rg_lts.specs.Draft.{Draft, blank, HasNames, IsOtherInitial, IsStateNamed, AddsArc, IsWellFormedDraft};
+ghost use Rattle.rg_apt.specs.Contents.{StateEntry, ArcNames, Declared, state_fault, label_fault, arc_fault, faults, IsSystemOf};
+ghost use Rattle.rg_items.specs.Faults.{faults_after, IsFirst, AreNone};
+ghost use Rattle.rg_apt.specs.FoundView.{state_in, states_in, labels_in, arc_in, arcs_in, found_in, IsStateOf, IsArcOf, HoldsNames};
+ghost use Rattle.rg_apt.specs.Built.{label_text, HasStates, HasLabels, HasArcs, IsArcOfNames, IsNewName, IsNameFault, IsUnknown, IsUnknownOf, HasNamesOf, IsOverLimit};
+ghost use Rattle.rg_apt.specs.declared.fault.TextFault.TheVariants as fault;
+
+use crate::fault::TextFault;
+use crate::found::{Found, FoundArc, FoundState};
+use rg_items::name_of;
+use rg_lexer::Token;
+use rg_lts::{BuildFault, Lts, LtsBuilder};
+use std::alloc::Global;
+
+// Adds a state of this name, which stands at a place.
+fn add_name(builder: &mut LtsBuilder, name: &str, at: u32) -> Result<(), TextFault>
+    requires { IsName name.now }
+    ensures added { OnOk result (builder.new ≡ record builder.old { state_names = builder.old.state_names ++ name.now ∷ [] }) }
+    ensures new { OnOk result (IsNewName builder.old.state_names most_states name.now) }
+    ensures fault { IfErr result (λ f. f ≢ fault.NoMemory
+        → IsNameFault builder.old.state_names most_states name.now (fault.TwiceState at) (fault.TooManyStates at) f) }
+{
+    match builder.state(name) {
+        Ok(_) => Ok(()),
+        Err(BuildFault::TwiceState) => Err(TextFault::TwiceState(at)),
+        Err(BuildFault::TooManyStates) => Err(TextFault::TooManyStates(at)),
+        Err(_) => Err(TextFault::NoMemory),
+    }
+}
+
+// Makes the state of this name, which stands at a place, the initial one.
+fn mark(builder: &mut LtsBuilder, name: &str, at: u32) -> Result<(), TextFault>
+    ensures marked { OnOk result ((s : ℕ) × IsStateNamed builder.old s name.now × (builder.new ≡ record builder.old { initial = Some s })) }
+    ensures alone { OnOk result (¬ IsOtherInitial builder.old name.now) }
+    ensures fault { IfErr result (λ f. f ≢ fault.NoMemory → (f ≡ fault.TwoInitial at) × IsOtherInitial builder.old name.now) }
+{
+    match builder.initial(name) {
+        Ok(()) => Ok(()),
+        Err(BuildFault::TwoInitial) => Err(TextFault::TwoInitial(at)),
+        Err(_) => Err(TextFault::NoMemory),
+    }
+}
+
+// Adds a declared state.
+fn add_state(builder: &mut LtsBuilder, bytes: &[u8], state: FoundState) -> Result<(), TextFault>
+    requires { IsStateOf bytes.now state }
+    ensures ok { OnOk result ((before : List StateEntry) → HasStates before builder.old
+        → (state_fault before (state_in bytes.now state) ≡ None) × HasStates (before ++ state_in bytes.now state ∷ []) builder.new) }
+    ensures fault { IfErr result (λ f. f ≢ fault.NoMemory → (before : List StateEntry) → HasStates before builder.old
+        → state_fault before (state_in bytes.now state) ≡ Some f) }
+{
+    let name = name_of(bytes, state.name);
+    add_name(builder, name, state.name.from)?;
+    if state.initial {
+        mark(builder, name, state.name.from)?;
+    }
+    Ok(())
+}
+
+// Adds all declared states.
+fn add_states(
+    builder: &mut LtsBuilder,
+    bytes: &[u8],
+    states: &[FoundState],
+) -> Result<(), TextFault>
+    requires names { All (IsStateOf bytes.now) states.now }
+    requires blank { builder.old ≡ blank }
+    ensures none { OnOk result (AreNone (faults_after state_fault [] (states_in bytes.now states.now))) }
+    ensures has { OnOk result (HasStates (states_in bytes.now states.now) builder.new) }
+    ensures fault { IfErr result (λ f. f ≢ fault.NoMemory → IsFirst (faults_after state_fault [] (states_in bytes.now states.now)) f) }
+{
+    for state in states {
+        add_state(builder, bytes, *state)?;
+    }
+    Ok(())
+}
+
+// Adds a declared label.
+fn add_label(builder: &mut LtsBuilder, bytes: &[u8], label: Token) -> Result<(), TextFault>
+    requires { IsNameOf bytes.now label }
+    ensures added { OnOk result (builder.new ≡ record builder.old { label_names = builder.old.label_names ++ (lexeme bytes.now label).text ∷ [] }) }
+    ensures new { OnOk result (IsNewName builder.old.label_names most_labels (lexeme bytes.now label).text) }
+    ensures fault { IfErr result (λ f. f ≢ fault.NoMemory
+        → IsNameFault builder.old.label_names most_labels (lexeme bytes.now label).text (fault.TwiceLabel label.from) (fault.TooManyLabels label.from) f) }
+{
+    match builder.label(name_of(bytes, label)) {
+        Ok(_) => Ok(()),
+        Err(BuildFault::TwiceLabel) => Err(TextFault::TwiceLabel(label.from)),
+        Err(BuildFault::TooManyLabels) => Err(TextFault::TooManyLabels(label.from)),
+        Err(_) => Err(TextFault::NoMemory),
+    }
+}
+
+// Adds all declared labels.
+fn add_labels(builder: &mut LtsBuilder, bytes: &[u8], labels: &[Token]) -> Result<(), TextFault>
+    requires names { All (IsNameOf bytes.now) labels.now }
+    requires blank { builder.old.label_names ≡ [] }
+    ensures none { OnOk result (AreNone (faults_after label_fault [] (labels_in bytes.now labels.now))) }
+    ensures has { OnOk result (builder.new ≡ record builder.old { label_names = map label_text (labels_in bytes.now labels.now) }) }
+    ensures fault { IfErr result (λ f. f ≢ fault.NoMemory → IsFirst (faults_after label_fault [] (labels_in bytes.now labels.now)) f) }
+{
+    for label in labels {
+        add_label(builder, bytes, *label)?;
+    }
+    Ok(())
+}
+
+// Whether a state of this name is there.
+fn has_state(builder: &LtsBuilder, name: &str) -> bool
+    ensures yes { IsTrue result → Contains builder.now.state_names name.now }
+    ensures no { Contains builder.now.state_names name.now → IsTrue result }
+{
+    match builder.state_number(name) {
+        Some(_) => true,
+        None => false,
+    }
+}
+
+// Whether a label of this name is there.
+fn has_label(builder: &LtsBuilder, name: &str) -> bool
+    ensures yes { IsTrue result → Contains builder.now.label_names name.now }
+    ensures no { Contains builder.now.label_names name.now → IsTrue result }
+{
+    match builder.label_number(name) {
+        Some(_) => true,
+        None => false,
+    }
+}
+
+// Tells the first of an arc's names that isn't there.
+fn known(
+    builder: &LtsBuilder,
+    from: &str,
+    label: &str,
+    to: &str,
+    arc: FoundArc,
+) -> Result<(), TextFault>
+    ensures ok { OnOk result (HasNames builder.now from.now label.now to.now) }
+    ensures fault { IfErr result (λ f. IsUnknown builder.now from.now label.now to.now arc.from.from arc.label.from arc.to.from f) }
+{
+    if !has_state(builder, from) {
+        return Err(TextFault::UnknownState(arc.from.from));
+    }
+    if !has_label(builder, label) {
+        return Err(TextFault::UnknownLabel(arc.label.from));
+    }
+    if !has_state(builder, to) {
+        return Err(TextFault::UnknownState(arc.to.from));
+    }
+    Ok(())
+}
+
+// Adds a declared arc.
+fn add_arc(builder: &mut LtsBuilder, bytes: &[u8], arc: FoundArc) -> Result<(), TextFault>
+    requires { IsArcOf bytes.now arc }
+    ensures known { OnOk result (HasNamesOf builder.old (arc_in bytes.now arc)) }
+    ensures added { OnOk result ((a : Arc) × IsArcOfNames builder.old (arc_in bytes.now arc) a × AddsArc builder.old builder.new a) }
+    ensures within { OnOk result (¬ IsOverLimit builder.old (arc_in bytes.now arc)) }
+    ensures formed { OnOk result (IsWellFormedDraft builder.old) }
+    ensures fault { IfErr result (λ f. f ≢ fault.NoMemory → IsUnknownOf builder.old (arc_in bytes.now arc) f
+        ⊎ ((f ≡ fault.TooManyArcs arc.from.from) × IsOverLimit builder.old (arc_in bytes.now arc) × IsWellFormedDraft builder.old)) }
+{
+    let from = name_of(bytes, arc.from);
+    let label = name_of(bytes, arc.label);
+    let to = name_of(bytes, arc.to);
+    known(builder, from, label, to, arc)?;
+    match builder.arc(from, label, to) {
+        Ok(()) => Ok(()),
+        Err(BuildFault::TooManyArcs) => Err(TextFault::TooManyArcs(arc.from.from)),
+        Err(_) => Err(TextFault::NoMemory),
+    }
+}
+
+// Adds all declared arcs.
+fn add_arcs(builder: &mut LtsBuilder, bytes: &[u8], arcs: &[FoundArc]) -> Result<(), TextFault>
+    requires { All (IsArcOf bytes.now) arcs.now }
+    ensures ok { OnOk result ((d : Declared) → HasLabels d.states d.labels builder.old
+        → AreNone (faults_after (arc_fault d) [] (arcs_in bytes.now arcs.now)) × HasArcs d (arcs_in bytes.now arcs.now) builder.new) }
+    ensures fault { IfErr result (λ f. f ≢ fault.NoMemory → (d : Declared) → HasLabels d.states d.labels builder.old
+        → IsFirst (faults_after (arc_fault d) [] (arcs_in bytes.now arcs.now)) f) }
+{
+    for arc in arcs {
+        add_arc(builder, bytes, *arc)?;
+    }
+    Ok(())
+}
+
+/// The system of what is declared, or the first fault of it: `NoType`, then by state `TwiceState`,
+/// `TooManyStates` or `TwoInitial`, then by label `TwiceLabel` or `TooManyLabels`, then by arc
+/// `UnknownState`, `UnknownLabel` or `TooManyArcs`, then `NoInitial`.
+pub fn build(alloc: Global, bytes: &[u8], found: &Found) -> Result<Lts, TextFault>
+    requires { HoldsNames bytes.now found.now }
+    ensures none { IfOk result (λ lts. AreNone (faults (found_in bytes.now found.now))) }
+    ensures system { IfOk result (λ lts. IsSystemOf (found_in bytes.now found.now) lts) }
+    ensures fault { IfErr result (λ f. f ≢ fault.NoMemory → IsFirst (faults (found_in bytes.now found.now)) f) }
+{
+    if !found.typed {
+        return Err(TextFault::NoType);
+    }
+    let mut builder = LtsBuilder::new(alloc);
+    add_states(&mut builder, bytes, &found.states)?;
+    add_labels(&mut builder, bytes, &found.labels)?;
+    add_arcs(&mut builder, bytes, &found.arcs)?;
+    match builder.finish() {
+        Ok(lts) => Ok(lts),
+        Err(BuildFault::NoInitial) => Err(TextFault::NoInitial),
+        Err(_) => Err(TextFault::NoMemory),
+    }
+}

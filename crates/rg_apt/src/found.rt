@@ -1,0 +1,213 @@
+//! What a file declares, as far as it is read.
+ghost use Rattle.std.specs.Prelude.{◌≡◌, ◌≤◌, ◌++◌, ◌∷◌, [], ◌&&◌, ℕ, List, length, map, All, IfErr, OnOk};
+ghost use Rattle.rg_lexer.specs.Lexeme.{lexeme};
+ghost use Rattle.rg_lexer.specs.Tokens.{IsTokenOf};
+ghost use Rattle.rg_items.specs.Entry.{IsNameOf};
+ghost use Rattle.rg_apt.specs.Contents.{is_initial, is_true, marks};
+ghost use Rattle.rg_items.specs.ListView.{list_place_in, setting_in, HoldsKey, HoldsSetting};
+ghost use Rattle.rg_apt.specs.Reading.{marked, with_name, adds, nothing, mark_last};
+ghost use Rattle.rg_apt.specs.View.{section_in, place_in, HoldsTokens};
+ghost use Rattle.rg_apt.specs.Table.{type_name, in_section, after_entry, third, in_list};
+ghost use Rattle.rg_apt.specs.FoundView.{state_in, states_in, labels_in, arcs_in, found_in, IsStateOf, HoldsNames};
+ghost use Rattle.rg_apt.specs.declared.fault.TextFault.TheVariants.{NoMemory};
+
+use crate::fault::TextFault;
+use crate::place::{Place, Section};
+use rg_items::{FoundSetting, ListPlace, completed, text_of, value_of};
+use rg_lexer::{Kind, Token};
+use std::alloc::Global;
+
+/// A declared state, and whether it is marked initial.
+#[derive(Clone, Copy, Debug, PartialEq, Eq)]
+pub struct FoundState {
+    pub name: Token,
+    pub initial: bool,
+}
+
+/// The names of a declared arc.
+#[derive(Clone, Copy, Debug, PartialEq, Eq)]
+pub struct FoundArc {
+    pub from: Token,
+    pub label: Token,
+    pub to: Token,
+}
+
+/// What a file declares, each list in the order of the file.
+#[derive(Debug, Drop)]
+pub struct Found {
+    pub typed: bool,
+    pub states: Vec<FoundState>,
+    pub labels: Vec<Token>,
+    pub arcs: Vec<FoundArc>,
+}
+
+// Whether a key marks the initial state.
+fn is_initial(bytes: &[u8], key: Token) -> bool
+    requires { IsTokenOf bytes.now key }
+    ensures { result ≡ is_initial (lexeme bytes.now key) }
+{
+    text_of(bytes, key) == b"initial".as_slice()
+}
+
+// Whether a value is `true`, with quotes or without.
+fn is_true(bytes: &[u8], value: Token) -> bool
+    requires { IsTokenOf bytes.now value }
+    ensures { result ≡ is_true (lexeme bytes.now value) }
+{
+    value_of(bytes, value) == b"true".as_slice()
+}
+
+// Whether an option marks the initial state.
+fn marks(bytes: &[u8], setting: FoundSetting) -> bool
+    requires { HoldsSetting bytes.now setting }
+    ensures { result ≡ marks (setting_in bytes.now setting) }
+{
+    match setting {
+        FoundSetting::Alone(key) => is_initial(bytes, key),
+        FoundSetting::Valued(key, value) => {
+            let initial = is_initial(bytes, key);
+            let yes = is_true(bytes, value);
+            initial && yes
+        }
+    }
+}
+
+// Marks the last state.
+fn mark_last(states: &mut Vec<FoundState>)
+    ensures found { (bytes : List ℕ) → states_in bytes states.new.items ≡ mark_last (states_in bytes states.old.items) }
+    ensures names { (bytes : List ℕ) → All (IsStateOf bytes) states.old.items → All (IsStateOf bytes) states.new.items }
+{
+    let n = states.len();
+    if n > 0 {
+        states[n - 1].initial = true;
+    }
+}
+
+impl Found {
+    /// Nothing is found.
+    pub fn new(alloc: Global) -> Found
+        ensures found { (bytes : List ℕ) → found_in bytes result ≡ nothing }
+        ensures names { (bytes : List ℕ) → HoldsNames bytes result }
+    {
+        Found {
+            typed: false,
+            states: Vec::new(alloc),
+            labels: Vec::new(alloc),
+            arcs: Vec::new(alloc),
+        }
+    }
+
+    // An option is seen in a section's list.
+    fn mark(&mut self, section: Section, mark: bool)
+        ensures found { (bytes : List ℕ) → found_in bytes self.new ≡ marked (section_in section) mark (found_in bytes self.old) }
+        ensures names { (bytes : List ℕ) → HoldsNames bytes self.old → HoldsNames bytes self.new }
+    {
+        match section {
+            Section::States => {
+                if mark {
+                    mark_last(&mut self.states);
+                }
+            }
+            Section::Labels => {}
+            Section::Arcs => {}
+        }
+    }
+
+    // A name begins an entry or triple.
+    fn name(&mut self, section: Section, name: Token) -> Result<(), TextFault>
+        ensures ok { OnOk result ((bytes : List ℕ) → found_in bytes self.new ≡ with_name (section_in section) (lexeme bytes name) (found_in bytes self.old)) }
+        ensures names { OnOk result ((bytes : List ℕ) → IsNameOf bytes name → HoldsNames bytes self.old → HoldsNames bytes self.new) }
+        ensures err { IfErr result (λ e. e ≡ NoMemory) }
+    {
+        match section {
+            Section::States => self.states.push(FoundState {
+                name,
+                initial: false,
+            })?,
+            Section::Labels => self.labels.push(name)?,
+            Section::Arcs => {}
+        }
+        Ok(())
+    }
+
+    // A token stands after `.type`.
+    fn at_type(&mut self, token: Token)
+        ensures found { (bytes : List ℕ) → found_in bytes self.new ≡ adds type_name (lexeme bytes token) (found_in bytes self.old) }
+        ensures names { (bytes : List ℕ) → HoldsNames bytes self.old → HoldsNames bytes self.new }
+    {
+        match token.kind {
+            Kind::Name => self.typed = true,
+            _ => {}
+        }
+    }
+
+    // A token stands where an entry or triple may begin.
+    fn at_entry(&mut self, section: Section, token: Token) -> Result<(), TextFault>
+        ensures ok { OnOk result ((bytes : List ℕ) → found_in bytes self.new ≡ adds (in_section (section_in section)) (lexeme bytes token) (found_in bytes self.old)) }
+        ensures after { OnOk result ((bytes : List ℕ) → found_in bytes self.new ≡ adds (after_entry (section_in section)) (lexeme bytes token) (found_in bytes self.old)) }
+        ensures names { OnOk result ((bytes : List ℕ) → IsTokenOf bytes token → HoldsNames bytes self.old → HoldsNames bytes self.new) }
+        ensures err { IfErr result (λ e. e ≡ NoMemory) }
+    {
+        match token.kind {
+            Kind::Name => self.name(section, token)?,
+            _ => {}
+        }
+        Ok(())
+    }
+
+    // A token stands at the third name of a triple.
+    fn at_third(&mut self, from: Token, label: Token, token: Token) -> Result<(), TextFault>
+        ensures ok { OnOk result ((bytes : List ℕ) → found_in bytes self.new ≡ adds (third (lexeme bytes from) (lexeme bytes label)) (lexeme bytes token) (found_in bytes self.old)) }
+        ensures names { OnOk result ((bytes : List ℕ) → IsTokenOf bytes token → IsNameOf bytes from → IsNameOf bytes label
+            → HoldsNames bytes self.old → HoldsNames bytes self.new) }
+        ensures err { IfErr result (λ e. e ≡ NoMemory) }
+    {
+        match token.kind {
+            Kind::Name => self.arcs.push(FoundArc {
+                from,
+                label,
+                to: token,
+            })?,
+            _ => {}
+        }
+        Ok(())
+    }
+
+    // A token stands in an option list.
+    fn at_option(&mut self, bytes: &[u8], section: Section, place: ListPlace, token: Token)
+        requires token { IsTokenOf bytes.now token }
+        requires key { HoldsKey bytes.now place }
+        ensures found { found_in bytes.now self.new
+            ≡ adds (in_list (section_in section) (list_place_in bytes.now place)) (lexeme bytes.now token) (found_in bytes.now self.old) }
+        ensures names { HoldsNames bytes.now self.old → HoldsNames bytes.now self.new }
+    {
+        match completed(place, token) {
+            Some(setting) => {
+                let mark = marks(bytes, setting);
+                self.mark(section, mark);
+            }
+            None => {}
+        }
+    }
+
+    /// Adds what is found with a token that stands at a place.
+    pub fn add(&mut self, bytes: &[u8], place: Place, token: Token) -> Result<(), TextFault>
+        requires token { IsTokenOf bytes.now token }
+        requires held { HoldsTokens bytes.now place }
+        ensures ok { OnOk result (found_in bytes.now self.new ≡ adds (place_in bytes.now place) (lexeme bytes.now token) (found_in bytes.now self.old)) }
+        ensures names { OnOk result (HoldsNames bytes.now self.old → HoldsNames bytes.now self.new) }
+        ensures err { IfErr result (λ e. e ≡ NoMemory) }
+    {
+        match place {
+            Place::Start => {}
+            Place::TypeName => self.at_type(token),
+            Place::PassedText => {}
+            Place::InSection(section) => self.at_entry(section, token)?,
+            Place::AfterEntry(section) => self.at_entry(section, token)?,
+            Place::Second(_) => {}
+            Place::Third(from, label) => self.at_third(from, label, token)?,
+            Place::InList(section, place) => self.at_option(bytes, section, place, token),
+        }
+        Ok(())
+    }
+}

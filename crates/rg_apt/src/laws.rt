@@ -1,0 +1,37 @@
+//! A text spells one system or has one first fault.
+ghost use Rattle.std.specs.Prelude.{◌≡◌, ℕ, ◌⊎◌, List, length};
+ghost use Rattle.rg_theory.specs.System.{System};
+ghost use Rattle.rg_lexer.specs.Lexeme.{Lexeme};
+ghost use Rattle.rg_apt.specs.declared.fault.TextFault.{TextFault};
+ghost use Rattle.rg_apt.specs.Item.{Item, AreItems};
+ghost use Rattle.rg_apt.specs.Reading.{FirstRefusal};
+ghost use Rattle.rg_apt.specs.Contents.{declared};
+ghost use Rattle.rg_apt.specs.Spells.{Spells, FirstFault};
+ghost use Rattle.rg_apt.specs.Plain.{IsPlainText, lts_text};
+ghost use Rattle.rg_lts.specs.WellFormed.{IsWellFormed};
+
+/// A text spells a system or has a first fault, never both and never two.
+pub fn one_answer()
+    ensures some { (bytes : List ℕ) → ((a : System) × Spells bytes a) ⊎ ((f : TextFault) × FirstFault bytes f) }
+    ensures one_system { (bytes : List ℕ) (a b : System) → Spells bytes a → Spells bytes b → a ≡ b }
+    ensures one_fault { (bytes : List ℕ) (f g : TextFault) → FirstFault bytes f → FirstFault bytes g → f ≡ g }
+    ensures not_both { (bytes : List ℕ) (a : System) (f : TextFault) → Spells bytes a → ¬ FirstFault bytes f }
+{}
+
+/// The table and the items agree: tokens are items, or one of them is refused, never both. What they
+/// declare is one.
+pub fn items_are_read()
+    ensures some { (xs : List Lexeme) (end : ℕ) → ((items : List Item) × AreItems items xs) ⊎ ((f : TextFault) × FirstRefusal xs end f) }
+    ensures not_refused { (items : List Item) (xs : List Lexeme) (end : ℕ) (f : TextFault) → AreItems items xs → ¬ FirstRefusal xs end f }
+    ensures one_meaning { (a b : List Item) (xs : List Lexeme) → AreItems a xs → AreItems b xs → declared a ≡ declared b }
+{}
+
+/// A plain text spells the same system by the whole grammar, whatever the order of its arcs.
+pub fn plain_is_spelled()
+    ensures { (bytes : List ℕ) (lts : System) → IsPlainText bytes lts → Spells bytes lts }
+{}
+
+/// The plain text of a system, as `print_lts` writes it, spells that system.
+pub fn printed_is_spelled()
+    ensures { (lts : System) → IsWellFormed lts → Spells (lts_text lts) lts }
+{}

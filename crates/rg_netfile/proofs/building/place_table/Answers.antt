@@ -1,0 +1,82 @@
+use Rattle.std.proofs.Common.{Some, ◌≡◌, Contains, ◌<◌, ◌≤◌, ℕ, List, length, get_or, take, map, string_bytes, sym, ap, subst, ◌∙◌, arith}
+use Rattle.std.proofs.lemmas.List.{get_or_default, length-map, length-take-le}
+use Rattle.rg_lexer.specs.declared.token.Kind.TheVariants.{Name}
+use Rattle.rg_lexer.specs.declared.token.Token.{Token}
+use Rattle.rg_lexer.specs.Lexeme.{lexeme}
+use Rattle.rg_items.proofs.Left.{left_start, left_more, left_first, left_end, before_is, all_before}
+use Rattle.rg_netitems.specs.FoundView.{places_in}
+use Rattle.rg_netfile.specs.Contents.{place_fault, most_places}
+use Rattle.rg_netfile.proofs.NameTests.{there}
+use Rattle.rg_netfile.proofs.Apart.{apart_from, apart_none, apart_more}
+use Rattle.rg_netfile.proofs.EntryFaults.{text_of, place_twice, place_over, place_fine, names_more}
+use Rattle.rg_netfile.proofs.building.place_table.Goals as goal
+
+-- what a read past the end would give
+abbrev past_end : Token
+past_end = record { kind = Name; from = 0; to = 0 }
+
+same_read : (xs : List Token) (i : ℕ) → i < length xs → get_or xs i past_end ≡ get_or xs i (get_or xs i past_end)
+same_read xs i within = get_or_default xs i past_end (get_or xs i past_end) within
+
+pub loop-place-init : goal.loop-place-init
+loop-place-init c = record {
+  names = ap (map string_bytes) c.new-table.ensures.empty;
+  few = omega arith;
+  apart = apart_from (ap (map string_bytes) c.new-table.ensures.empty) apart_none;
+  left = left_start (lexeme c.args.bytes.now) place_fault c.args.places.now;
+}
+
+pub returns-in-Some-clause-fault : goal.returns-in-Some-clause-fault
+returns-in-Some-clause-fault c = λ memory.
+    let bytes = c.args.bytes.now in
+    let xs = c.args.places.now in
+    let i = c.loop-place.place-index in
+    let within : i < length xs = omega arith in
+    let x = get_or xs i past_end in
+    left_first (lexeme bytes) place_fault xs i x _ within (same_read xs i within)
+    (place_twice (places_in bytes (take i xs)) (lexeme bytes x) (map string_bytes c.loop-place.table.keys) c.loop-place.invariant.names
+    (there _ c.in-Some.field-0 _ (c.in-Some.ensures.found ∙ ap Some c.name_of-name.ensures.value))) c.loop-place.invariant.left
+
+pub loop-place-preserved : goal.loop-place-preserved
+loop-place-preserved c =
+    let bytes = c.args.bytes.now in
+    let xs = c.args.places.now in
+    let i = c.loop-place.place-index in
+    let within : i < length xs = omega arith in
+    let x = get_or xs i past_end in
+    let before = places_in bytes (take i xs) in
+    let more = before_is (lexeme bytes) xs i x within (same_read xs i within) in
+    let absent = subst (λ n. Contains (map string_bytes c.loop-place.table.keys) n → ⊥) c.name_of-name.ensures.value c.in_default.ensures.none in
+    let many : length before ≡ i = length-map (take i xs) (lexeme bytes) ∙ length-take-le i xs (omega arith) in
+    let room : i < most_places =
+    omega (arith, c.len.ensures.len, length-map c.loop-place.table.keys string_bytes, ap length c.loop-place.invariant.names, length-map before text_of) in
+    record {
+      names = c.in_ok-add.ensures.ok ∙ names_more before (lexeme bytes x) _ _ c.loop-place.invariant.names c.name_of-name.ensures.value ∙ ap (map text_of) (sym more);
+      few = omega arith;
+      apart = apart_from c.in_ok-add.ensures.ok (apart_more (map string_bytes c.loop-place.table.keys) c.name_of-name.result.now c.loop-place.invariant.apart c.in_default.ensures.none);
+      left = left_more (lexeme bytes) place_fault xs i x within (same_read xs i within)
+          (place_fine before (lexeme bytes x) (map string_bytes c.loop-place.table.keys) c.loop-place.invariant.names absent (omega arith)) c.loop-place.invariant.left;
+    }
+
+pub returns-then-len-ge-PLACE_LIMIT-clause-fault : goal.returns-then-len-ge-PLACE_LIMIT-clause-fault
+returns-then-len-ge-PLACE_LIMIT-clause-fault c = λ memory.
+    let bytes = c.args.bytes.now in
+    let xs = c.args.places.now in
+    let i = c.loop-place.place-index in
+    let within : i < length xs = omega arith in
+    let x = get_or xs i past_end in
+    let before = places_in bytes (take i xs) in
+    let absent = subst (λ n. Contains (map string_bytes c.loop-place.table.keys) n → ⊥) c.name_of-name.ensures.value c.in_default.ensures.none in
+    let many : length before ≡ i = length-map (take i xs) (lexeme bytes) ∙ length-take-le i xs (omega arith) in
+    let full : most_places ≤ i =
+    omega (arith, c.len.ensures.len, length-map c.loop-place.table.keys string_bytes, ap length c.loop-place.invariant.names, length-map before text_of) in
+    left_first (lexeme bytes) place_fault xs i x _ within (same_read xs i within)
+    (place_over before (lexeme bytes x) (map string_bytes c.loop-place.table.keys) c.loop-place.invariant.names absent (omega arith)) c.loop-place.invariant.left
+
+pub returns-clause-names : goal.returns-clause-names
+returns-clause-names c =
+    c.loop-place.invariant.names ∙ ap (map text_of) (all_before (lexeme c.args.bytes.now) c.args.places.now c.loop-place.place-index (omega arith))
+
+pub returns-clause-none : goal.returns-clause-none
+returns-clause-none c =
+    left_end (lexeme c.args.bytes.now) place_fault c.args.places.now c.loop-place.place-index (omega arith) c.loop-place.invariant.left

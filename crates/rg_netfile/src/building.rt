@@ -1,0 +1,108 @@
+//! The net of what a file declares.
+ghost use Rattle.std.specs.Prelude.{◌≡◌, ◌≢◌, ◌≤◌, ◌<◌, [], length, map, string_bytes, All, IfOk, IfErr, OnOk};
+ghost use Rattle.rg_lexer.specs.Lexeme.{Lexeme};
+ghost use Rattle.rg_theory.specs.System.{labels};
+ghost use Rattle.rg_items.specs.Entry.{IsNameOf};
+ghost use Rattle.rg_items.specs.Faults.{faults_after, IsFirst, AreNone};
+ghost use Rattle.rg_netitems.specs.Contents.{Transition};
+ghost use Rattle.rg_netitems.specs.FoundView.{places_in, transitions_in, found_in, IsTransitionOf, HoldsNames};
+ghost use Rattle.rg_netfile.specs.Contents.{most_places, place_fault, transition_fault, name_faults, faults, IsNetOf};
+ghost use Rattle.rg_netfile.specs.Built.{AreApart, IsKnownOf, IsKnown};
+ghost use Rattle.rg_netfile.specs.declared.fault.NetFault.TheVariants as fault;
+
+use crate::fault::NetFault;
+use crate::filling::fill;
+use crate::known::Known;
+use crate::labels::label_numbers;
+use crate::names::{add, number_of};
+use crate::sums::Sums;
+use indexmap::IndexSet;
+use rg_items::name_of;
+use rg_lexer::Token;
+use rg_lts::Lts;
+use rg_net::Net;
+use rg_netitems::{Found, FoundTransition};
+use std::alloc::Global;
+
+// The most places.
+const PLACE_LIMIT: usize = 16_384;
+
+// The names of the places.
+fn place_table(alloc: Global, bytes: &[u8], places: &[Token]) -> Result<IndexSet<String>, NetFault>
+    requires { All (IsNameOf bytes.now) places.now }
+    ensures names { IfOk result (λ table. map string_bytes table.keys ≡ map (λ (x : Lexeme). x.text) (places_in bytes.now places.now)) }
+    ensures apart { IfOk result (λ table. AreApart (map string_bytes table.keys)) }
+    ensures few { OnOk result (length places.now ≤ most_places) }
+    ensures none { OnOk result (AreNone (faults_after place_fault [] (places_in bytes.now places.now))) }
+    ensures fault { IfErr result (λ f. f ≢ fault.NoMemory → IsFirst (faults_after place_fault [] (places_in bytes.now places.now)) f) }
+{
+    let mut table = IndexSet::new(alloc);
+    for place in places {
+        let name = name_of(bytes, *place);
+        if let Some(_) = number_of(&table, name) {
+            return Err(NetFault::TwicePlace(place.from));
+        }
+        if table.len() >= PLACE_LIMIT {
+            return Err(NetFault::TooManyPlaces(place.from));
+        }
+        add(alloc, &mut table, name)?;
+    }
+    Ok(table)
+}
+
+// The names of the transitions.
+fn transition_table(
+    alloc: Global,
+    bytes: &[u8],
+    transitions: &[FoundTransition],
+) -> Result<IndexSet<String>, NetFault>
+    requires { All (IsTransitionOf bytes.now) transitions.now }
+    ensures names { IfOk result (λ table. map string_bytes table.keys ≡ map (λ (t : Transition). t.name.text) (transitions_in bytes.now transitions.now)) }
+    ensures apart { IfOk result (λ table. AreApart (map string_bytes table.keys)) }
+    ensures none { OnOk result (AreNone (faults_after transition_fault [] (transitions_in bytes.now transitions.now))) }
+    ensures fault { IfErr result (λ f. f ≢ fault.NoMemory → IsFirst (faults_after transition_fault [] (transitions_in bytes.now transitions.now)) f) }
+{
+    let mut table = IndexSet::new(alloc);
+    for transition in transitions {
+        let name = name_of(bytes, transition.name);
+        if let Some(_) = number_of(&table, name) {
+            return Err(NetFault::TwiceTransition(transition.name.from));
+        }
+        add(alloc, &mut table, name)?;
+    }
+    Ok(table)
+}
+
+// The names of places and transitions, and the transitions' labels.
+fn known_names(alloc: Global, bytes: &[u8], lts: &Lts, found: &Found) -> Result<Known, NetFault>
+    requires { HoldsNames bytes.now found.now }
+    ensures known { IfOk result (λ k. IsKnownOf lts.now (found_in bytes.now found.now) k) }
+    ensures is_known { IfOk result (λ k. IsKnown k) }
+    ensures within { IfOk result (λ k. All (λ t. t < labels lts.now) k.labels) }
+    ensures few { OnOk result (length found.now.places.items ≤ most_places) }
+    ensures none { OnOk result (AreNone (name_faults lts.now (found_in bytes.now found.now))) }
+    ensures fault { IfErr result (λ f. f ≢ fault.NoMemory → IsFirst (name_faults lts.now (found_in bytes.now found.now)) f) }
+{
+    let places = place_table(alloc, bytes, &found.places)?;
+    let transitions = transition_table(alloc, bytes, &found.transitions)?;
+    let labels = label_numbers(alloc, bytes, lts, &found.transitions)?;
+    Ok(Known::new(places, transitions, labels))
+}
+
+/// The net of what is declared, or the first fault of it: `NoType`, then by place `TwicePlace` or
+/// `TooManyPlaces`, then by transition `TwiceTransition`, then `TransitionsDiffer`, then by flow
+/// `UnknownTransition` and by member `NumberPasses` or `UnknownPlace`, then by member of the markings.
+pub(crate) fn build(alloc: Global, bytes: &[u8], lts: &Lts, found: &Found) -> Result<Net, NetFault>
+    requires { HoldsNames bytes.now found.now }
+    ensures none { OnOk result (AreNone (faults lts.now (found_in bytes.now found.now))) }
+    ensures net { IfOk result (IsNetOf lts.now (found_in bytes.now found.now)) }
+    ensures fault { IfErr result (λ f. f ≢ fault.NoMemory → IsFirst (faults lts.now (found_in bytes.now found.now)) f) }
+{
+    if !found.typed {
+        return Err(NetFault::NoType);
+    }
+    let known = known_names(alloc, bytes, lts, found)?;
+    let mut sums = Sums::new(alloc, lts.labels(), found.places.len())?;
+    fill(&mut sums, &known, bytes, found)?;
+    Ok(sums.finish())
+}

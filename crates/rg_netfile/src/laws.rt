@@ -1,0 +1,24 @@
+//! A text spells one net for a system or has one first fault.
+ghost use Rattle.std.specs.Prelude.{◌≡◌, ℕ, ◌⊎◌, ◌≤◌, List, length};
+ghost use Rattle.rg_theory.specs.System.{System, labels};
+ghost use Rattle.rg_theory.specs.Net.{Net};
+ghost use Rattle.rg_lts.specs.WellFormed.{IsWellFormed};
+ghost use Rattle.rg_net.specs.NetText.{net_text};
+ghost use Rattle.rg_net.specs.Range.{IsNetInRange};
+ghost use Rattle.rg_netfile.specs.Contents.{most_places};
+ghost use Rattle.rg_netfile.specs.declared.fault.NetFault.{NetFault};
+ghost use Rattle.rg_netfile.specs.Spells.{Spells, FirstFault};
+
+/// A text spells a net for a system or has a first fault, never both and never two.
+pub fn one_answer()
+    ensures some { (bytes : List ℕ) (lts : System) → ((net : Net) × Spells bytes lts net) ⊎ ((f : NetFault) × FirstFault bytes lts f) }
+    ensures one_net { (bytes : List ℕ) (lts : System) (a b : Net) → Spells bytes lts a → Spells bytes lts b → a ≡ b }
+    ensures one_fault { (bytes : List ℕ) (lts : System) (f g : NetFault) → FirstFault bytes lts f → FirstFault bytes lts g → f ≡ g }
+    ensures not_both { (bytes : List ℕ) (lts : System) (net : Net) (f : NetFault) → Spells bytes lts net → ¬ FirstFault bytes lts f }
+{}
+
+/// The text of a net with at most 16,384 places, as `print_net` writes it, spells that net.
+pub fn printed_is_spelled()
+    ensures { (net : Net) (lts : System) → IsWellFormed lts → net.labels ≡ labels lts → IsNetInRange net → length net.places ≤ most_places
+        → Spells (net_text net lts) lts net }
+{}

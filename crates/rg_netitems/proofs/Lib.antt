@@ -1,0 +1,5 @@
+pub mod Walk
+pub mod Items
+pub mod Complete
+pub mod WholeTexts
+pub mod FoundLemmas

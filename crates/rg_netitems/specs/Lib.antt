@@ -1,0 +1,7 @@
+pub mod Item
+pub mod Contents
+pub mod Table
+pub mod Reading
+pub mod Text
+pub mod FoundView
+pub mod View

@@ -1,0 +1,59 @@
+//! Why a text has no items of a net.
+ghost use Rattle.std.specs.Prelude.{◌≡◌};
+ghost use Rattle.rg_netitems.specs.declared.fault.ItemFault.TheVariants as fault;
+
+use rg_lexer::{LexFault, Want};
+use std::alloc::{AllocError, AllocFailed};
+
+/// The first fault of a text in its tokens or in the grammar of net files. Each place is the number of a
+/// byte, from 0.
+#[derive(Clone, Copy, Debug, PartialEq, Eq)]
+pub enum ItemFault {
+    /// No token, blank byte or comment begins with the byte at this place.
+    BadByte(u32),
+    /// No `"` follows the `"` at this place.
+    OpenString(u32),
+    /// No `*/` follows the `/*` at this place.
+    OpenComment(u32),
+    /// More than 255 name bytes follow each other from this place on.
+    LongName(u32),
+    /// The token at this place, or the end of the text, can't continue the grammar, which wants this.
+    Expected(u32, Want),
+    /// The name at this place is no type of nets: those are `PN` and `LPN`.
+    WrongType(u32),
+    /// There is no memory for what is read.
+    NoMemory,
+}
+
+impl From<AllocError> for ItemFault {
+    ghost from_gives = { λ _ e. e ≡ fault.NoMemory };
+
+    fn from(_: AllocError) -> ItemFault {
+        ItemFault::NoMemory
+    }
+}
+
+impl<T: Drop> From<AllocFailed<T>> for ItemFault {
+    ghost from_gives = { λ _ e. e ≡ fault.NoMemory };
+
+    fn from(_: AllocFailed<T>) -> ItemFault {
+        ItemFault::NoMemory
+    }
+}
+
+impl From<LexFault> for ItemFault {
+    ghost use Rattle.std.specs.Prelude.{◌≡◌};
+    ghost use Rattle.rg_netitems.specs.Text.{of_lexer};
+
+    ghost from_gives = { λ e t. t ≡ of_lexer e };
+
+    fn from(e: LexFault) -> ItemFault {
+        match e {
+            LexFault::BadByte(at) => ItemFault::BadByte(at),
+            LexFault::OpenString(at) => ItemFault::OpenString(at),
+            LexFault::OpenComment(at) => ItemFault::OpenComment(at),
+            LexFault::LongName(at) => ItemFault::LongName(at),
+            LexFault::NoMemory => ItemFault::NoMemory,
+        }
+    }
+}

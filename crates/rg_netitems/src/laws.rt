@@ -1,0 +1,14 @@
+//! A text has items with one meaning, or one first fault.
+ghost use Rattle.std.specs.Prelude.{◌≡◌, ℕ, ◌⊎◌, List};
+ghost use Rattle.rg_netitems.specs.declared.fault.ItemFault.{ItemFault};
+ghost use Rattle.rg_netitems.specs.Item.{Item};
+ghost use Rattle.rg_netitems.specs.Contents.{declared};
+ghost use Rattle.rg_netitems.specs.Text.{AreItemsOf, FirstItemFault};
+
+/// A text is items or has a first fault, never both. What its items declare is one, and so is its fault.
+pub fn one_answer()
+    ensures some { (bytes : List ℕ) → ((items : List Item) × AreItemsOf bytes items) ⊎ ((f : ItemFault) × FirstItemFault bytes f) }
+    ensures one_meaning { (bytes : List ℕ) (a b : List Item) → AreItemsOf bytes a → AreItemsOf bytes b → declared a ≡ declared b }
+    ensures one_fault { (bytes : List ℕ) (f g : ItemFault) → FirstItemFault bytes f → FirstItemFault bytes g → f ≡ g }
+    ensures not_both { (bytes : List ℕ) (items : List Item) (f : ItemFault) → AreItemsOf bytes items → ¬ FirstItemFault bytes f }
+{}

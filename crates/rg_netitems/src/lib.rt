@@ -1,0 +1,16 @@
+//! The grammar of net files: what a file declares, or its first fault in tokens or grammar.
+#![tactic(auto)]
+
+mod fault;
+mod found;
+mod laws;
+mod place;
+mod whole;
+
+pub use fault::ItemFault;
+pub use found::{Found, FoundFlow, FoundMember, FoundTransition};
+pub use laws::one_answer;
+pub use whole::read_items;
+
+#[cfg(test)]
+mod tests;

@@ -1,4 +1,0 @@
-pub mod Spells
-pub mod Faults
-pub mod Parts
-pub mod Progress
