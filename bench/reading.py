@@ -2,8 +2,8 @@
 """Writes a system file at the limits and measures how long the built program takes to read it.
 
 Usage: bench/reading.py [PROGRAM]
-PROGRAM is crates/regions/out/regions unless it is named. With 256 labels the program stops right after reading (status 8),
-so what is measured is reading and little else. It is run by hand and is no test.
+PROGRAM is crates/regions/out/regions unless it is named. All states can be reached, there is no fork, and with 256 labels
+the program stops there (status 8): what is measured is reading, the two checks and little else. It is run by hand and is no test.
 """
 import os
 import resource
@@ -25,7 +25,7 @@ def lines():
     yield '.arcs\n'
     for i in range(ARCS):
         s, t = i % STATES, i // STATES * 4 % LABELS + i % 4
-        yield f's{s} label_{t} s{(s * 7 + t) % STATES} [weight="{i}", kept] // {i}\n'
+        yield f's{s} label_{t} s{(s * 7 + i // STATES) % STATES} [weight="{i}", kept] // {i}\n'
 
 
 def write(path):

@@ -52,6 +52,17 @@ pub fn shelf(alloc: Global, text: &[u8], fail: &[u64]) -> Result<MemoryShelf, No
     Ok(MemoryShelf::new(files, 4096, Vec::from_slice(alloc, fail)?))
 }
 
+/// A shelf with the files `f` and `c`.
+pub fn shelf_of_two(alloc: Global, text: &[u8], certificate: &[u8]) -> Result<MemoryShelf, NoRoom> {
+    let mut files = Vec::new(alloc);
+    files.push((String::from_str(alloc, "f")?, Vec::from_slice(alloc, text)?))?;
+    files.push((
+        String::from_str(alloc, "c")?,
+        Vec::from_slice(alloc, certificate)?,
+    ))?;
+    Ok(MemoryShelf::new(files, 4096, Vec::new(alloc)))
+}
+
 /// A sink with room for 4,096 bytes, which takes at most so many a call and fails at these calls.
 pub fn sink(alloc: Global, most: usize, fail: &[u64]) -> Result<MemorySink, NoRoom> {
     if most == 0 {
@@ -72,6 +83,18 @@ pub fn run_over<R: Threads + Sync>(
     let mut err = sink(alloc, 4096, &[])?;
     let status = run(rt, alloc, &words, &mut shelf, &mut out, &mut err, &NoGate);
     Ok(Outcome { status, out, err })
+}
+
+/// `verify f c` over files with these texts.
+pub fn judge<R: Threads + Sync>(
+    rt: &R,
+    alloc: Global,
+    text: &[u8],
+    certificate: &[u8],
+) -> Result<Outcome, NoRoom> {
+    let shelf = shelf_of_two(alloc, text, certificate)?;
+    let out = sink(alloc, 4096, &[])?;
+    run_over(rt, alloc, &["verify", "f", "c"], shelf, out)
 }
 
 /// `synthesize none f` over a file with this text.

@@ -6,6 +6,8 @@ mod faults;
 #[cfg(test)]
 mod harness;
 #[cfg(test)]
+mod refutations;
+#[cfg(test)]
 mod systems;
 #[cfg(test)]
 mod texts;

@@ -21,10 +21,6 @@ const LOCK: &str =
 const ABBAA: &str =
     ".type LTS\n.states\ns0[initial]\ns1\ns2\ns3\ns4\ns5\n.labels\na\nb\n.arcs\ns0 a s1\ns1 b s2\ns2 b s3\ns3 a s4\ns4 a s5\n";
 
-const FORK: &str = ".type LTS\n.states\ns0[initial]\ns1\ns2\n.labels\na\n.arcs\ns0 a s1\ns0 a s2\n";
-
-const APART: &str = ".type LTS\n.states\ns0[initial]\ns1\n.labels\n.arcs\n";
-
 const SEVEN: &str =
     ".type LTS\n.states\ns0[initial]\n.labels\na\nb\nc\nd\ne\nf\ng\n.arcs\ns0 a s0\ns0 b s0\ns0 c s0\ns0 d s0\ns0 e s0\ns0 f s0\ns0 g s0\n";
 
@@ -53,12 +49,7 @@ fn the_first_net(rt: HostRuntime) -> Result<(), NoRoom> {
 
 #[test]
 fn what_is_not_built(rt: HostRuntime) -> Result<(), NoRoom> {
-    for (text, unbuilt) in [
-        (ABBAA, Unbuilt::Event(2, 0)),
-        (FORK, Unbuilt::States(1, 2)),
-        (APART, Unbuilt::Unreachable(1)),
-        (SEVEN, Unbuilt::Labels(7)),
-    ] {
+    for (text, unbuilt) in [(ABBAA, Unbuilt::Event(2, 0)), (SEVEN, Unbuilt::Labels(7))] {
         let outcome = synthesize(&rt, rt.alloc(), text.as_bytes())?;
         assert_eq!(rt; outcome.status, Status::Unbuilt(unbuilt));
         assert_eq!(rt; outcome.status.number(), 8);

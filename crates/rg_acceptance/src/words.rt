@@ -1,6 +1,7 @@
 //! Words that are refused, and a file that isn't there.
 use crate::harness::{NoRoom, run_over, shelf, sink};
 use rg_synth::{Fault, FileFault, Status, Unbuilt, Usage};
+use rg_theory::ClassFault;
 
 #[test]
 fn words_are_refused(rt: HostRuntime) -> Result<(), NoRoom> {
@@ -17,6 +18,26 @@ fn words_are_refused(rt: HostRuntime) -> Result<(), NoRoom> {
             ["synthesize", "none"].as_slice(),
             Usage::Words,
             "usage: words refused\n",
+        ),
+        (
+            ["verify", "f"].as_slice(),
+            Usage::Words,
+            "usage: words refused\n",
+        ),
+        (
+            ["synthesize", "safe,safe", "f"].as_slice(),
+            Usage::ClassWord(ClassFault::Repeated(1)),
+            "usage: class word 1: repeated\n",
+        ),
+        (
+            ["synthesize", "pure,none", "f"].as_slice(),
+            Usage::ClassWord(ClassFault::UnknownWord(1)),
+            "usage: class word 1: unknown\n",
+        ),
+        (
+            ["synthesize", "256-bounded", "f"].as_slice(),
+            Usage::ClassWord(ClassFault::BadNumber(0)),
+            "usage: class word 0: bad number\n",
         ),
     ];
     for (words, usage, line) in cases {
@@ -43,7 +64,7 @@ fn another_class(rt: HostRuntime) -> Result<(), NoRoom> {
         &rt,
         alloc,
         &words,
-        shelf(alloc, b"", &[])?,
+        shelf(alloc, b".type LTS .states s[initial] .labels .arcs", &[])?,
         sink(alloc, 64, &[])?,
     )?;
     assert_eq!(rt; made.status, Status::Unbuilt(Unbuilt::Class));

@@ -9,11 +9,12 @@ use Rattle.rg_theory.specs.System.{System, states, labels, IsInRange, IsAllReach
 use Rattle.rg_theory.specs.Tree.{Joins, IsTree}
 use Rattle.rg_theory.proofs.Arcs.{arc_in_range}
 use Rattle.rg_theory.proofs.Lists.{Contains-cons_cases}
+use Rattle.rg_theory.proofs.Trees.{source_met}
 use Rattle.rg_search.specs.declared.effect.Effect.{Effect}
 use Rattle.rg_search.specs.declared.effect.Effect.TheVariants.{Takes, Keeps, Gives}
 use Rattle.rg_search.specs.Effects.{taken, given, effect_at}
 use Rattle.rg_search.specs.Numbers.{Agree, IsMoved}
-use Rattle.rg_search.proofs.Trees.{met_by, tree_joins, source_met, all_met}
+use Rattle.rg_search.proofs.Trees.{met_by, tree_joins, all_met}
 
 -- the numbers once so many arcs of the tree have joined
 pub record IsAlong (lts : System) (tree : List Arc) (effects : List Effect) (i : ℕ) (numbers : List ℕ) : Type 0 where

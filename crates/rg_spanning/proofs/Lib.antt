@@ -1,3 +1,4 @@
 pub mod ArcRuns
+pub mod RowLaws
 pub mod TreeGrowth
 pub mod TreeTables

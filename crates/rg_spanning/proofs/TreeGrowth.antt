@@ -43,6 +43,20 @@ module _ (lts : System) (order : List ℕ) (tree : List Arc) (entries : List (Op
       let (to, has) = g.entered s a is in
       subst (λ xs. Contains xs s) (sym g.order_is) (later lts.initial s (targets tree) (subst (Contains (targets tree)) to (target_of tree a has)))
 
+  -- each state that is met is one of the system
+  pub met_in_range : (s : ℕ) → Contains order s → s < states lts
+  met_in_range s has = go (Contains-cons_cases lts.initial s (targets tree) (subst (λ xs. Contains xs s) g.order_is has))
+    where
+      entered : (a : Arc) → Contains tree a → (a.to < length entries) ⊎ (length entries ≤ a.to) → a.to < states lts
+      entered a there (inl l) = let e = g.one_each in omega arith
+      entered a there (inr l) = absurd (none-some a (sym (get_or_past entries a.to None l) ∙ g.enters a there))
+
+      go : (lts.initial ≡ s) ⊎ Contains (targets tree) s → s < states lts
+      go (inl e) = subst (λ k. k < states lts) e g.well_formed.in_range.initial
+      go (inr there) =
+          let (a, has, to) = arc_to tree s there in
+          subst (λ k. k < states lts) to (entered a has (cases_lt a.to (length entries)))
+
   -- a state is met where it is the initial one or an arc entered it
   pub met_entered : (s : ℕ) → (s ≡ lts.initial → ⊥) → (is_some (get_or entries s None) ≡ true) ↔ Contains order s
   met_entered s other = (

@@ -1,13 +1,12 @@
 -- What is kept beside a tree is right: its arcs by their targets, the counts of labels, and the other arcs.
-use Rattle.std.proofs.Common.{◌≡◌, ◌≢◌, ◌⊎◌, ℕ, zero, suc, ◌+◌, ◌<◌, ◌≤◌, ◌==◌, ◌&&◌, Bool, true, false, if◌then◌else◌, List, [], ◌∷◌, ◌++◌, length, take, Option, None, Some, Vec, get_or, set, slice_index, slice_index_or, slice_set, Contains, All, IfSome, replicate, inl, inr, sym, subst, ap, ◌∙◌, refl, arith, eq-eqb, ne_eqb, append_assoc, add-zero, true≢false}
-use Rattle.std.specs.declared.alloc.Global.{Global}
+use Rattle.std.proofs.Common.{◌≡◌, ◌≢◌, ◌⊎◌, ℕ, zero, suc, ◌+◌, ◌<◌, ◌≤◌, ◌==◌, ◌&&◌, Bool, true, false, if◌then◌else◌, List, [], ◌∷◌, ◌++◌, length, take, Option, None, Some, get_or, set, slice_index, slice_index_or, slice_set, Contains, All, IfSome, replicate, inl, inr, sym, subst, ap, ◌∙◌, refl, arith, eq-eqb, ne_eqb, append_assoc, add-zero, true≢false}
 use Rattle.std.proofs.lemmas.Bool.{cases_eq}
 use Rattle.std.proofs.lemmas.Bool.Decides.{Decides-eqb}
 use Rattle.std.proofs.lemmas.Option.{same_Some, none-some}
-use Rattle.std.proofs.lemmas.List.{get_or-set_same, get_or-set_other, length-set, length-replicate, get_or-replicate, take_more, take_all, map-append}
+use Rattle.std.proofs.lemmas.List.{get_or-set_same, get_or-set_other, set-set, length-set, length-replicate, get_or-replicate, take_more, take_all, map-append}
 use Rattle.std.proofs.lemmas.List.Elements.{Contains-get_or, Contains-append_left, Contains-push_cases, All-weaker, All-contains, All-cons, All-head, All-tail, All-set, All-replicate}
 use Rattle.rg_theory.specs.declared.Arc.{Arc}
-use Rattle.rg_theory.specs.System.{System, states, labels, IsArcInRange, IsReachable, IsAllReachable}
+use Rattle.rg_theory.specs.System.{System, states, labels, IsArcInRange, IsReachable, IsAllReachable, IsLeastUnreachable}
 use Rattle.rg_theory.specs.Tree.{Grows, IsTree, way_to, count, parikh, same_arc, is_among, arcs_without, chords}
 use Rattle.rg_theory.proofs.Lists.{Contains-cons_cases}
 use Rattle.rg_theory.proofs.Trees.{way_of_initial, way_joins, source_met, tree_arcs, reachable_is_met, met_is_reachable}
@@ -15,7 +14,6 @@ use Rattle.rg_lts.specs.WellFormed.{IsWellFormed, most_states}
 use Rattle.rg_spanning.specs.Growing.{IsGrowing}
 use Rattle.rg_spanning.specs.Tables.{IsRow, HasRows, AreTables}
 use Rattle.rg_spanning.proofs.TreeGrowth.{targets, met_entered}
-use Rattle.rg_spanning.specs.Spanning.{IsLeastUnreachable}
 
 both : (a b : Bool) → (a && b) ≡ true → (a ≡ true) × (b ≡ true)
 both true b e = (refl, e)
@@ -104,10 +102,10 @@ abbrev pub IsCounted : ℕ → List Arc → ℕ → ℕ → Type 0
 IsCounted initial tree i s = Contains (initial ∷ targets (take i tree)) s
 
 -- the rows are right as far as the first i arcs
-pub record IsCounting (labels initial : ℕ) (tree : List Arc) (states : ℕ) (rows : List (Vec ℕ Global)) (i : ℕ) : Type 0 where
+pub record IsCounting (labels initial : ℕ) (tree : List Arc) (states : ℕ) (rows : List (List ℕ)) (i : ℕ) : Type 0 where
   pub one_each : length rows ≡ states
-  pub right : (s : ℕ) (d : Vec ℕ Global) → IsCounted initial tree i s → IsRow labels tree s (slice_index_or rows s d).items
-  pub small : (s : ℕ) (d : Vec ℕ Global) → IsCounted initial tree i s → All (λ x. x ≤ i) (slice_index_or rows s d).items
+  pub right : (s : ℕ) (d : List ℕ) → IsCounted initial tree i s → IsRow labels tree s (slice_index_or rows s d)
+  pub small : (s : ℕ) (d : List ℕ) → IsCounted initial tree i s → All (λ x. x ≤ i) (slice_index_or rows s d)
 
 counted_more : (initial : ℕ) (tree : List Arc) (i s : ℕ) (d : Arc) → i < length tree → IsCounted initial tree (i + 1) s
     → IsCounted initial tree i s ⊎ (s ≡ (get_or tree i d).to)
@@ -149,17 +147,14 @@ row_joins lts tree a labels row g has label r = record {
             new ∙ r.counts t lt ∙ sym (joins ∙ ap (λ n. parikh tree a.from t + n) none ∙ add-zero (parikh tree a.from t))
 
 -- the rows before any arc
-pub counting_none : (lts : System) (tree : List Arc) (labels n : ℕ) (rows : List (Vec ℕ Global)) (v : Vec ℕ Global) → IsTree lts tree
-    → length rows ≡ n → lts.initial < n → v.items ≡ replicate labels 0
-    → IsCounting labels lts.initial tree n (slice_set rows lts.initial v) 0
-counting_none lts tree labels n rows v g len lt is = record {
-  one_each = length-set rows lts.initial v ∙ len;
-  right = λ s d has. subst (λ k. IsRow labels tree k (slice_index_or (slice_set rows lts.initial v) k d).items) (root s has)
-      (subst (λ (w : Vec ℕ Global). IsRow labels tree lts.initial w.items) (sym (get_or-set_same rows lts.initial v d (omega arith)))
-      (subst (IsRow labels tree lts.initial) (sym is) zeros));
-  small = λ s d has. subst (λ k. All (λ x. x ≤ 0) (slice_index_or (slice_set rows lts.initial v) k d).items) (root s has)
-      (subst (λ (w : Vec ℕ Global). All (λ x. x ≤ 0) w.items) (sym (get_or-set_same rows lts.initial v d (omega arith)))
-      (subst (All (λ x. x ≤ 0)) (sym is) (All-replicate (λ x. x ≤ 0) labels 0 (omega arith))));
+pub counting_none : (lts : System) (tree : List Arc) (labels n : ℕ) → IsTree lts tree → lts.initial < n
+    → IsCounting labels lts.initial tree n (replicate n (replicate labels 0)) 0
+counting_none lts tree labels n g lt = record {
+  one_each = length-replicate n (replicate labels 0);
+  right = λ s d has. subst (λ k. IsRow labels tree k (slice_index_or (replicate n (replicate labels 0)) k d)) (root s has)
+      (subst (IsRow labels tree lts.initial) (sym (here d)) zeros);
+  small = λ s d has. subst (λ k. All (λ x. x ≤ 0) (slice_index_or (replicate n (replicate labels 0)) k d)) (root s has)
+      (subst (All (λ x. x ≤ 0)) (sym (here d)) (All-replicate (λ x. x ≤ 0) labels 0 (omega arith)));
 }
   where
     root : (s : ℕ) → Contains (lts.initial ∷ []) s → lts.initial ≡ s
@@ -169,72 +164,91 @@ counting_none lts tree labels n rows v g len lt is = record {
         go (inl e) = e
         go (inr (k, l, _)) = absurd (omega arith)
 
+    here : (d : List ℕ) → get_or (replicate n (replicate labels 0)) lts.initial d ≡ replicate labels 0
+    here d = get_or-replicate n lts.initial (replicate labels 0) d lt
+
     zeros : IsRow labels tree lts.initial (replicate labels 0)
     zeros = record {
       one_each = length-replicate labels 0;
       counts = λ t l. get_or-replicate labels t 0 0 l ∙ sym (parikh_initial lts tree t g);
     }
 
-module _ (lts : System) (tree : List Arc) (labels n : ℕ) (rows : List (Vec ℕ Global)) (i : ℕ) (d : Arc) (g : IsTree lts tree)
+-- a row that is copied, and then has one more of a label
+pub copied_row : (rows : List (List ℕ)) (from to : ℕ) → to < length rows
+    → get_or (set rows to (get_or rows from [])) to [] ≡ get_or rows from []
+copied_row rows from to lt = get_or-set_same rows to (get_or rows from []) [] lt
+
+pub joined_row : (rows : List (List ℕ)) (from to label : ℕ) → to < length rows
+    → slice_set (set rows to (get_or rows from [])) to (slice_set (get_or (set rows to (get_or rows from [])) to []) label (slice_index (get_or (set rows to (get_or rows from [])) to []) label + 1))
+    ≡ slice_set rows to (slice_set (get_or rows from []) label (slice_index (get_or rows from []) label + 1))
+joined_row rows from to label lt =
+    ap (λ (row : List ℕ). slice_set (set rows to (get_or rows from [])) to (slice_set row label (slice_index row label + 1))) (copied_row rows from to lt)
+    ∙ set-set rows to (get_or rows from []) (slice_set (get_or rows from []) label (slice_index (get_or rows from []) label + 1))
+
+module _ (lts : System) (tree : List Arc) (labels n : ℕ) (rows : List (List ℕ)) (i : ℕ) (d : Arc) (g : IsTree lts tree)
     (c : IsCounting labels lts.initial tree n rows i) (lt : i < length tree) where
   -- the source of the next arc is counted
   pub source_counted : IsCounted lts.initial tree i (get_or tree i d).from
   source_counted = source_before lts (lts.initial ∷ []) tree i d g lt
 
+  -- the row of its source
+  abbrev pub source_row : List ℕ
+  source_row = get_or rows (get_or tree i d).from []
+
+  -- and that with one more of its label
+  abbrev pub next_row : List ℕ
+  next_row = slice_set source_row (get_or tree i d).label (slice_index source_row (get_or tree i d).label + 1)
+
+  -- the row of the source has room for one more of the label
+  pub label_within : (get_or tree i d).label < labels → (get_or tree i d).label < length source_row
+  label_within label = let e = (c.right (get_or tree i d).from [] source_counted).one_each in omega arith
+
+  pub label_small : (get_or tree i d).label < labels → slice_index source_row (get_or tree i d).label ≤ i
+  label_small label = c.small (get_or tree i d).from [] source_counted (get_or tree i d).label 0 (label_within label)
+
   -- one arc more
-  pub counting_more : (e : Vec ℕ Global) (v : Vec ℕ Global) → (get_or tree i d).to < n → (get_or tree i d).label < labels
-      → v.items ≡ slice_set (slice_index_or rows (get_or tree i d).from e).items (get_or tree i d).label
-      (slice_index (slice_index_or rows (get_or tree i d).from e).items (get_or tree i d).label + 1)
-      → IsCounting labels lts.initial tree n (slice_set rows (get_or tree i d).to v) (i + 1)
-  counting_more e v within label is = record {
-    one_each = length-set rows (get_or tree i d).to v ∙ c.one_each;
+  pub counting_more : (get_or tree i d).to < n → (get_or tree i d).label < labels
+      → IsCounting labels lts.initial tree n (slice_set rows (get_or tree i d).to next_row) (i + 1)
+  counting_more within label = record {
+    one_each = length-set rows (get_or tree i d).to next_row ∙ c.one_each;
     right = λ s f has. right s f (counted_more lts.initial tree i s d lt has) (cases_eq s (get_or tree i d).to);
     small = λ s f has. small s f (counted_more lts.initial tree i s d lt has) (cases_eq s (get_or tree i d).to);
   }
     where
-      row : List ℕ
-      row = (slice_index_or rows (get_or tree i d).from e).items
+      here : (f : List ℕ) → get_or (set rows (get_or tree i d).to next_row) (get_or tree i d).to f ≡ next_row
+      here f = get_or-set_same rows (get_or tree i d).to next_row f (let l = c.one_each in omega arith)
 
-      here : (f : Vec ℕ Global) → get_or (set rows (get_or tree i d).to v) (get_or tree i d).to f ≡ v
-      here f = get_or-set_same rows (get_or tree i d).to v f (let l = c.one_each in omega arith)
+      there : (s : ℕ) (f : List ℕ) → s ≢ (get_or tree i d).to → get_or (set rows (get_or tree i d).to next_row) s f ≡ get_or rows s f
+      there s f ne = get_or-set_other rows (get_or tree i d).to s next_row f ne
 
-      there : (s : ℕ) (f : Vec ℕ Global) → s ≢ (get_or tree i d).to → get_or (set rows (get_or tree i d).to v) s f ≡ get_or rows s f
-      there s f ne = get_or-set_other rows (get_or tree i d).to s v f ne
+      new_row : IsRow labels tree (get_or tree i d).to next_row
+      new_row = row_joins lts tree (get_or tree i d) labels source_row g (Contains-get_or tree i d lt) label (c.right (get_or tree i d).from [] source_counted)
 
-      new_row : IsRow labels tree (get_or tree i d).to v.items
-      new_row = subst (IsRow labels tree (get_or tree i d).to) (sym is)
-          (row_joins lts tree (get_or tree i d) labels (slice_index_or rows (get_or tree i d).from e).items g (Contains-get_or tree i d lt) label
-          (c.right (get_or tree i d).from e source_counted))
-
-      new_small : All (λ x. x ≤ i + 1) v.items
+      new_small : All (λ x. x ≤ i + 1) next_row
       new_small =
-          let old = c.small (get_or tree i d).from e source_counted in
-          let one_each = (c.right (get_or tree i d).from e source_counted).one_each in
-          let cell : slice_index (slice_index_or rows (get_or tree i d).from e).items (get_or tree i d).label ≤ i = old (get_or tree i d).label 0
-          (omega arith) in
-          subst (All (λ x. x ≤ i + 1)) (sym is)
-          (All-set (λ x. x ≤ i + 1) (slice_index_or rows (get_or tree i d).from e).items (get_or tree i d).label _ (omega arith)
-          (All-weaker (λ x. x ≤ i) (λ x. x ≤ i + 1) (λ x l. omega arith) (slice_index_or rows (get_or tree i d).from e).items old))
+          let cell = label_small label in
+          All-set (λ x. x ≤ i + 1) source_row (get_or tree i d).label _ (omega arith)
+          (All-weaker (λ x. x ≤ i) (λ x. x ≤ i + 1) (λ x l. omega arith) source_row (c.small (get_or tree i d).from [] source_counted))
 
-      right : (s : ℕ) (f : Vec ℕ Global) → IsCounted lts.initial tree i s ⊎ (s ≡ (get_or tree i d).to)
+      right : (s : ℕ) (f : List ℕ) → IsCounted lts.initial tree i s ⊎ (s ≡ (get_or tree i d).to)
           → (s ≡ (get_or tree i d).to) ⊎ (s ≡ (get_or tree i d).to → ⊥)
-          → IsRow labels tree s (slice_index_or (slice_set rows (get_or tree i d).to v) s f).items
-      right s f _ (inl same) = subst (λ k. IsRow labels tree k (slice_index_or (slice_set rows (get_or tree i d).to v) k f).items) (sym same)
-          (subst (λ (w : Vec ℕ Global). IsRow labels tree (get_or tree i d).to w.items) (sym (here f)) new_row)
-      right s f (inl has) (inr ne) = subst (λ (w : Vec ℕ Global). IsRow labels tree s w.items) (sym (there s f ne)) (c.right s f has)
+          → IsRow labels tree s (slice_index_or (slice_set rows (get_or tree i d).to next_row) s f)
+      right s f _ (inl same) = subst (λ k. IsRow labels tree k (slice_index_or (slice_set rows (get_or tree i d).to next_row) k f)) (sym same)
+          (subst (IsRow labels tree (get_or tree i d).to) (sym (here f)) new_row)
+      right s f (inl has) (inr ne) = subst (IsRow labels tree s) (sym (there s f ne)) (c.right s f has)
       right s f (inr same) (inr ne) = absurd (ne same)
 
-      small : (s : ℕ) (f : Vec ℕ Global) → IsCounted lts.initial tree i s ⊎ (s ≡ (get_or tree i d).to)
+      small : (s : ℕ) (f : List ℕ) → IsCounted lts.initial tree i s ⊎ (s ≡ (get_or tree i d).to)
           → (s ≡ (get_or tree i d).to) ⊎ (s ≡ (get_or tree i d).to → ⊥)
-          → All (λ x. x ≤ i + 1) (slice_index_or (slice_set rows (get_or tree i d).to v) s f).items
-      small s f _ (inl same) = subst (λ k. All (λ x. x ≤ i + 1) (slice_index_or (slice_set rows (get_or tree i d).to v) k f).items) (sym same)
-          (subst (λ (w : Vec ℕ Global). All (λ x. x ≤ i + 1) w.items) (sym (here f)) new_small)
-      small s f (inl has) (inr ne) = subst (λ (w : Vec ℕ Global). All (λ x. x ≤ i + 1) w.items) (sym (there s f ne))
+          → All (λ x. x ≤ i + 1) (slice_index_or (slice_set rows (get_or tree i d).to next_row) s f)
+      small s f _ (inl same) = subst (λ k. All (λ x. x ≤ i + 1) (slice_index_or (slice_set rows (get_or tree i d).to next_row) k f)) (sym same)
+          (subst (All (λ x. x ≤ i + 1)) (sym (here f)) new_small)
+      small s f (inl has) (inr ne) = subst (All (λ x. x ≤ i + 1)) (sym (there s f ne))
           (All-weaker (λ x. x ≤ i) (λ x. x ≤ i + 1) (λ x l. omega arith) _ (c.small s f has))
       small s f (inr same) (inr ne) = absurd (ne same)
 
 -- all rows, when all arcs are counted
-pub counting_all : (initial : ℕ) (order : List ℕ) (tree : List Arc) (label_count n : ℕ) (rows : List (Vec ℕ Global)) (i : ℕ)
+pub counting_all : (initial : ℕ) (order : List ℕ) (tree : List Arc) (label_count n : ℕ) (rows : List (List ℕ)) (i : ℕ)
     → IsCounting label_count initial tree n rows i
     → length tree ≤ i → order ≡ initial ∷ targets tree → HasRows label_count tree order rows
 counting_all initial order tree label_count n rows i c le is s d has = c.right s d
@@ -259,7 +273,7 @@ module _ (lts : System) (order : List ℕ) (tree : List Arc) (entries : List (Op
     all_reachable = record { each = λ s lt. met_reached s (all s lt) }
 
     -- the tables of the tree
-    pub tables : (rows : List (Vec ℕ Global)) → length rows ≡ length entries → HasRows (labels lts) tree order rows
+    pub tables : (rows : List (List ℕ)) → length rows ≡ length entries → HasRows (labels lts) tree order rows
         → AreTables (labels lts) lts.initial order tree entries rows (chords lts tree)
     tables rows len right = record {
       order_is = g.order_is;

@@ -1,3 +1,5 @@
-pub mod Spanning
 pub mod Growing
+pub mod Rows
+pub mod Spanning
+pub mod Starts
 pub mod Tables

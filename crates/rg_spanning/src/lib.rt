@@ -4,8 +4,13 @@
 mod chords;
 mod counts;
 mod growth;
+#[cfg(test)]
+mod samples;
+mod starts;
+mod table;
 mod tree;
 
+pub use growth::entries;
 pub use tree::{GrowStop, Tree};
 
 #[cfg(test)]

@@ -1,56 +1,94 @@
 //! That trees are grown, and what an unreachable state answers.
-use crate::{GrowStop, Tree};
-use rg_lts::{BuildFault, Lts, LtsBuilder};
-use std::alloc::Global;
+ghost use Rattle.rg_spanning.specs.Spanning.{IsTreeOf};
 
-// From s0 by a to s2 and by b to s1, from s1 by a to s2, and back by b; s3 only where it is wanted.
-fn diamond(alloc: Global, more: bool) -> Result<Lts, BuildFault> {
-    let mut builder = LtsBuilder::new(alloc);
-    builder.state("s0")?;
-    builder.state("s1")?;
-    builder.state("s2")?;
-    if more {
-        builder.state("s3")?;
+use crate::samples::{apart, arc, lock};
+use crate::{GrowStop, Tree};
+use rg_lts::Lts;
+
+#[test]
+fn tells_the_least_unreachable_state(rt: HostRuntime) {
+    let Ok(lts) = apart(rt.alloc()) else {
+        panic!(rt; "the system wasn't made");
+    };
+    match Tree::grow(rt.alloc(), &lts) {
+        Ok(_) => panic!(rt; "s1 was reached"),
+        Err(stop) => assert!(rt; stop == GrowStop::Unreachable(1)),
     }
-    builder.label("a")?;
-    builder.label("b")?;
-    builder.arc("s0", "b", "s1")?;
-    builder.arc("s0", "a", "s2")?;
-    builder.arc("s1", "a", "s2")?;
-    builder.arc("s2", "b", "s0")?;
-    builder.initial("s0")?;
-    builder.finish()
 }
 
 #[test]
 fn grows_breadth_first(rt: HostRuntime) {
-    let Ok(lts) = diamond(rt.alloc(), false) else {
+    let Ok(lts) = lock(rt.alloc()) else {
         panic!(rt; "the system wasn't made");
     };
     match Tree::grow(rt.alloc(), &lts) {
-        Ok(tree) => {
-            assert!(rt; tree.order() == [0, 2, 1].as_slice());
-            assert!(rt; tree.arcs().len() == 2);
-            assert!(rt; tree.chords().len() == 2);
-            if lts.states() == 3 && lts.labels() == 2 && tree.chords().len() == 2 {
-                let chord = tree.chords()[0];
-                assert!(rt; chord.from == 1 && chord.label == 0 && chord.to == 2);
-                assert!(rt; tree.chord_entry(0, 0) == 0 && tree.chord_entry(0, 1) == 1);
-                assert!(rt; tree.parikh(1) == [0, 1].as_slice());
-                assert!(rt; tree.parent(0) == None && tree.parent(2).is_some());
-            }
-        }
+        Ok(tree) => assert!(rt; is_right(&lts, &tree)),
         Err(_) => panic!(rt; "the tree wasn't grown"),
     }
 }
 
-#[test]
-fn tells_the_least_unreachable_state(rt: HostRuntime) {
-    let Ok(lts) = diamond(rt.alloc(), true) else {
-        panic!(rt; "the system wasn't made");
-    };
-    match Tree::grow(rt.alloc(), &lts) {
-        Ok(_) => panic!(rt; "s3 was reached"),
-        Err(stop) => assert!(rt; stop == GrowStop::Unreachable(3)),
-    }
+fn is_right(lts: &Lts, tree: &Tree) -> bool
+    requires { IsTreeOf lts.now tree.now }
+{
+    has_order(tree)
+        && has_arcs(tree)
+        && has_chords(tree)
+        && counts_labels(lts, tree)
+        && enters_states(lts, tree)
+        && writes_chords(lts, tree)
+}
+
+fn has_order(tree: &Tree) -> bool {
+    tree.order() == [0, 3, 1, 6, 4, 2, 7, 5].as_slice()
+}
+
+fn has_arcs(tree: &Tree) -> bool {
+    let arcs = [
+        arc(0, 0, 3),
+        arc(0, 3, 1),
+        arc(3, 1, 6),
+        arc(3, 3, 4),
+        arc(1, 4, 2),
+        arc(6, 3, 7),
+        arc(4, 4, 5),
+    ];
+    tree.arcs() == arcs.as_slice()
+}
+
+fn has_chords(tree: &Tree) -> bool {
+    let chords = [
+        arc(1, 0, 4),
+        arc(2, 0, 5),
+        arc(2, 5, 0),
+        arc(4, 1, 7),
+        arc(5, 5, 3),
+        arc(6, 2, 0),
+        arc(7, 2, 1),
+    ];
+    tree.chords() == chords.as_slice()
+}
+
+fn counts_labels(lts: &Lts, tree: &Tree) -> bool
+    requires { IsTreeOf lts.now tree.now }
+{
+    lts.states() == 8
+        && tree.parikh(0) == [0, 0, 0, 0, 0, 0].as_slice()
+        && tree.parikh(3) == [1, 0, 0, 0, 0, 0].as_slice()
+        && tree.parikh(7) == [1, 1, 0, 1, 0, 0].as_slice()
+        && tree.parikh(5) == [1, 0, 0, 1, 1, 0].as_slice()
+}
+
+fn enters_states(lts: &Lts, tree: &Tree) -> bool
+    requires { IsTreeOf lts.now tree.now }
+{
+    lts.states() == 8 && tree.parent(0) == None && tree.parent(7) == Some(arc(6, 3, 7))
+}
+
+fn writes_chords(lts: &Lts, tree: &Tree) -> bool
+    requires { IsTreeOf lts.now tree.now }
+{
+    let many = lts.labels() == 6 && tree.chords().len() == 7;
+    many && tree.chord_entry(2, 3) == 1
+        && tree.chord_entry(2, 5) == 1
+        && tree.chord_entry(4, 0) == 0
 }

@@ -1,14 +1,15 @@
 //! The spanning tree.
 ghost use Rattle.std.specs.Prelude.{◌≡◌, ◌↔◌, ℕ, ◌+ℤ◌, ◌-ℤ◌, ℤ, pos, if◌then◌else◌, ◌<◌, length, Contains, Some, None, IfOk, IfSome, IsErrOf, IsSome, slice_get, slice_index};
 ghost use Rattle.rg_theory.specs.declared.Arc.{Arc};
-ghost use Rattle.rg_theory.specs.System.{IsAllReachable};
+ghost use Rattle.rg_theory.specs.System.{IsAllReachable, IsLeastUnreachable};
 ghost use Rattle.rg_theory.specs.Tree.{parikh, chord_entry};
-ghost use Rattle.rg_spanning.specs.Spanning.{Spanning, IsTreeOf, IsLeastUnreachable, order_of};
+ghost use Rattle.rg_spanning.specs.Spanning.{Spanning, IsTreeOf, order_of};
 ghost use Rattle.rg_spanning.specs.declared.tree.GrowStop.TheVariants as stop;
 
 use crate::chords::beside;
 use crate::counts::counted;
 use crate::growth::{Growth, first_unmet, grown};
+use crate::table::Table;
 use rg_lts::Lts;
 use rg_theory::Arc;
 use std::alloc::{AllocError, Global};
@@ -41,7 +42,7 @@ pub struct Tree {
     order: Vec<u32>,
     arcs: Vec<Arc>,
     entries: Vec<Option<Arc>>,
-    rows: Vec<Vec<u32>>,
+    rows: Table,
     chords: Vec<Arc>,
 }
 
@@ -60,7 +61,7 @@ impl Model for Tree {
       chords = t.chords.items;
     } };
 
-    ghost invariant = { λ t. AreTables t.labels t.initial t.order.items t.arcs.items t.entries.items t.rows.items t.chords.items };
+    ghost invariant = { λ t. AreTables t.labels t.initial t.order.items t.arcs.items t.entries.items t.rows t.chords.items };
 }
 
 impl Tree {
@@ -121,7 +122,7 @@ impl Tree {
         ensures one_each { length result.now ≡ self.now.labels }
         ensures counts { (t : ℕ) → t < self.now.labels → slice_index result.now t ≡ parikh self.now.arcs s t }
     {
-        &self.rows[s as usize]
+        self.rows.row(s)
     }
 
     /// The arcs that are not in the tree, in the order of the system's arcs.
@@ -139,8 +140,8 @@ impl Tree {
         ensures { (a : Arc) → slice_get self.now.chords i ≡ Some a → result ≡ chord_entry self.now.arcs a t }
     {
         let a = self.chords[i];
-        let source = self.rows[a.from as usize][t as usize];
-        let target = self.rows[a.to as usize][t as usize];
+        let source = self.rows.row(a.from)[t as usize];
+        let target = self.rows.row(a.to)[t as usize];
         difference(source, t == a.label, target)
     }
 }

@@ -1,3 +1,6 @@
-pub mod WordLists
-pub mod Statuses
+pub mod Nets
+pub mod FileLemmas
 pub mod Answered
+pub mod WordKinds
+pub mod Reaches
+pub mod Statuses

@@ -1,97 +1,135 @@
 -- What is due to the words and the files: each status, when it is due, and what it writes.
-use Rattle.std.specs.Prelude.{◌≡◌, ◌≢◌, ℕ, ◌<◌, ◌≤◌, List, [], Option}
+use Rattle.std.specs.Prelude.{◌≡◌, ◌≢◌, ◌⊎◌, ℕ, ◌<◌, ◌≤◌, List, [], Option}
 use Rattle.rg_ports.specs.Shelf.{Files}
-use Rattle.rg_theory.specs.System.{System, labels, IsAllReachable}
+use Rattle.rg_theory.specs.System.{System, labels, IsAllReachable, IsForkFree, IsLeastUnreachable}
 use Rattle.rg_theory.specs.Net.{Net}
 use Rattle.rg_theory.specs.Solves.{Solves}
+use Rattle.rg_theory.specs.declared.Class.{Class}
+use Rattle.rg_theory.specs.Class.{InClass, NoNet}
 use Rattle.rg_theory.specs.declared.Problem.{Problem}
 use Rattle.rg_theory.specs.declared.Problem.TheVariants.{Event as Stop, States as Tell}
 use Rattle.rg_theory.specs.Problem.{IsProblem}
-use Rattle.rg_apt.specs.Spells.{Spells, FirstFault}
-use Rattle.rg_apt.specs.declared.fault.TextFault.{TextFault}
-use Rattle.rg_apt.specs.declared.fault.TextFault.TheVariants.{NoMemory as LacksMemory}
-use Rattle.rg_spanning.specs.Spanning.{IsLeastUnreachable}
+use Rattle.rg_theory.specs.ClassWords.{no_condition}
 use Rattle.rg_net.specs.Range.{IsNetInRange}
 use Rattle.rg_net.specs.NetText.{net_text}
 use Rattle.rg_search.specs.Small.{IsSmallSeparable, IsFirstUnseparable}
-use Rattle.rg_synth.specs.Words.{AreRefused, AskOtherClass}
-use Rattle.rg_synth.specs.Asked.{AskForSystem, HasFault}
+use Rattle.rg_checks.specs.First.{IsLeastFork}
+use Rattle.rg_refuting.specs.Refutes.{Accepts}
+use Rattle.rg_cert.specs.declared.certificate.Reason.{Reason}
+use Rattle.rg_cert.specs.declared.certificate.Reason.TheVariants.{Unreachable, Fork}
+use Rattle.rg_cert.specs.Certificates.{reason_of, cert_text}
+use Rattle.rg_synth.specs.Words.{Asked, net, judgement, AreRefused}
+use Rattle.rg_synth.specs.Given.{IsUnread, AskForNoSystem, AskOf}
+use Rattle.rg_synth.specs.Judged.{IsAccepted, IsNotAccepted, IsRefused}
+use Rattle.rg_synth.specs.JudgedTexts.{accepted_line}
 use Rattle.rg_synth.specs.Texts.{usage_line, file_line}
 use Rattle.rg_synth.specs.declared.status.Status.{Status}
-use Rattle.rg_synth.specs.declared.status.Status.TheVariants.{Done, Usage, File, ReadFault, WriteFault, NoMemory, Unbuilt as NotBuilt}
-use Rattle.rg_synth.specs.declared.status.Fault.TheVariants.{Apt}
+use Rattle.rg_synth.specs.declared.status.Status.TheVariants.{Done, No, Usage, File, ReadFault, WriteFault, NoMemory, Unbuilt as NotBuilt}
 use Rattle.rg_synth.specs.declared.status.FileFault.{FileFault}
 use Rattle.rg_synth.specs.declared.status.Unbuilt.{Unbuilt}
-use Rattle.rg_synth.specs.declared.status.Unbuilt.TheVariants.{Class, Labels, Unreachable, Event, States}
+use Rattle.rg_synth.specs.declared.status.Unbuilt.TheVariants.{Class as OtherClass, Labels, Event, States}
 
--- the bytes are the text of a net that solves the system of the file that the words name
-pub record IsNetText (words : List (List ℕ)) (files : Option Files) (out : List ℕ) : Type 0 where
-  pub lts : System
-  pub asked : AskForSystem words files lts
+-- ---- a net of a class for a system
+
+-- all states can be reached, and there is no fork
+pub record IsOpen (lts : System) : Type 0 where
+  pub reachable : IsAllReachable lts
+  pub fork_free : IsForkFree lts
+
+-- the reason that no net of any class solves the system: the least unreachable state, else the first fork
+abbrev pub IsReason : System → Reason → Type 0
+IsReason lts (Unreachable s) = IsLeastUnreachable lts s
+IsReason lts (Fork s t s₁ s₂) = IsAllReachable lts × IsLeastFork lts s t s₁ s₂
+
+-- what isn't built: a class that asks for something, then more than six labels, then a problem that no region with all
+-- effects from -1 to 1 separates
+abbrev pub IsBeyond : Class → System → Unbuilt → Type 0
+IsBeyond class lts OtherClass = IsOpen lts × (class ≢ no_condition)
+IsBeyond class lts (Labels n) = IsOpen lts × (class ≡ no_condition) × (n ≡ labels lts) × (6 < n)
+IsBeyond class lts (Event s t) = IsOpen lts × (class ≡ no_condition) × (labels lts ≤ 6) × IsFirstUnseparable lts (Stop s t)
+IsBeyond class lts (States s s') = IsOpen lts × (class ≡ no_condition) × (labels lts ≤ 6) × IsFirstUnseparable lts (Tell s s')
+
+-- what is built: all other systems without an unreachable state or a fork
+pub record IsWithinReach (class : Class) (lts : System) : Type 0 where
+  pub is_open : IsOpen lts
+  pub any : class ≡ no_condition
+  pub few : labels lts ≤ 6
+  pub separable : (problem : Problem) → IsProblem lts problem → IsSmallSeparable lts problem
+
+-- the bytes are the text of a net of the class that solves the system
+pub record IsNetText (class : Class) (lts : System) (out : List ℕ) : Type 0 where
   pub net : Net
   pub in_range : IsNetInRange net
   pub solves : Solves net lts
+  pub in_class : InClass net class
   pub text : out ≡ net_text net lts
 
--- the file that the words name, the first, has the fault
-pub record IsFileRefused (words : List (List ℕ)) (files : Option Files) (fault : FileFault) : Type 0 where
-  pub first : fault.file ≡ 1
-  pub has : HasFault words files fault.fault
+-- the bytes are the text of a certificate of the class that holds, and no net of the class solves the system
+pub record IsCertificateText (class : Class) (lts : System) (out : List ℕ) : Type 0 where
+  pub reason : Reason
+  pub is : IsReason lts reason
+  pub holds : Accepts lts class (reason_of reason)
+  pub none : NoNet lts class
+  pub text : out ≡ cert_text (record { class = class; reason = reason }) lts
 
--- what the search doesn't reach: more than six labels, then an unreachable state, then a problem that no region with
--- all effects from -1 to 1 separates
-abbrev pub IsBeyond : System → Unbuilt → Type 0
-IsBeyond lts Class = ⊥
-IsBeyond lts (Labels n) = (n ≡ labels lts) × (6 < n)
-IsBeyond lts (Unreachable s) = (labels lts ≤ 6) × IsLeastUnreachable lts s
-IsBeyond lts (Event s t) = (labels lts ≤ 6) × IsAllReachable lts × IsFirstUnseparable lts (Stop s t)
-IsBeyond lts (States s s') = (labels lts ≤ 6) × IsAllReachable lts × IsFirstUnseparable lts (Tell s s')
+-- ---- when a status is due
 
--- what it reaches: all other systems
-pub record IsWithinReach (lts : System) : Type 0 where
-  pub few : labels lts ≤ 6
-  pub reachable : IsAllReachable lts
-  pub separable : (problem : Problem) → IsProblem lts problem → IsSmallSeparable lts problem
+-- the command's yes: a net is found, or the certificate of the second file is accepted
+abbrev pub IsYes : Option Files → Asked → System → Type 0
+IsYes files (net class file) lts = IsWithinReach class lts
+IsYes files (judgement file cert) lts = (class : Class) × IsAccepted files cert lts class
 
--- the words ask for the net of a system for which the fact holds
-pub record AskForOne (words : List (List ℕ)) (files : Option Files) (Fact : System → Type 0) : Type 0 where
-  pub lts : System
-  pub asked : AskForSystem words files lts
-  pub fact : Fact lts
+-- the command's no: a reason that there is no net, or no certificate that is accepted
+abbrev pub IsNo : Option Files → Asked → System → Type 0
+IsNo files (net class file) lts = (reason : Reason) × IsReason lts reason
+IsNo files (judgement file cert) lts = IsNotAccepted files cert lts
 
--- the words ask for another class, or for a system that is beyond the search
-abbrev pub IsUnbuilt : List (List ℕ) → Option Files → Unbuilt → Type 0
-IsUnbuilt words files Class = AskOtherClass words
-IsUnbuilt words files unbuilt = AskForOne words files (λ lts. IsBeyond lts unbuilt)
+-- the second file isn't there or is too long
+abbrev pub IsSecondUnread : Option Files → Asked → FileFault → Type 0
+IsSecondUnread files (net class file) fault = ⊥
+IsSecondUnread files (judgement file cert) fault = (fault.file ≡ 2) × IsUnread files cert fault.fault
+
+abbrev pub IsUnbuilt : Asked → System → Unbuilt → Type 0
+IsUnbuilt (net class file) lts unbuilt = IsBeyond class lts unbuilt
+IsUnbuilt (judgement file cert) lts unbuilt = ⊥
+
+-- the first file is not that of a system; or it is, and the second is unread
+abbrev pub IsFileRefused : List (List ℕ) → Option Files → FileFault → Type 0
+IsFileRefused words files fault =
+    ((fault.file ≡ 1) × AskForNoSystem words files fault.fault)
+    ⊎ AskOf words files (λ asked lts. IsSecondUnread files asked fault)
 
 -- the status is due to the words and the files; a fault or want of memory never is
 abbrev pub IsDue : List (List ℕ) → Option Files → Status → Type 0
-IsDue words files Done = AskForOne words files IsWithinReach
+IsDue words files Done = AskOf words files (IsYes files)
+IsDue words files No = AskOf words files (IsNo files)
 IsDue words files (Usage usage) = AreRefused words usage
 IsDue words files (File fault) = IsFileRefused words files fault
-IsDue words files (NotBuilt unbuilt) = IsUnbuilt words files unbuilt
+IsDue words files (NotBuilt unbuilt) = AskOf words files (λ asked lts. IsUnbuilt asked lts unbuilt)
 IsDue words files ReadFault = ⊥
 IsDue words files WriteFault = ⊥
 IsDue words files NoMemory = ⊥
 
--- what a status says: why it came, and what it writes to out and to err
+-- ---- what a status says
+
+-- what the yes writes: a net's text, or the line of an accepted certificate, which shows that there is no net
+abbrev pub SaysYes : Option Files → List ℕ → Asked → System → Type 0
+SaysYes files out (net class file) lts = IsNetText class lts out
+SaysYes files out (judgement file cert) lts =
+    (class : Class) × IsAccepted files cert lts class × NoNet lts class × (out ≡ accepted_line class)
+
+-- what the no writes: a certificate's text, or the line of the fault or the defect
+abbrev pub SaysNo : Option Files → List ℕ → Asked → System → Type 0
+SaysNo files out (net class file) lts = IsCertificateText class lts out
+SaysNo files out (judgement file cert) lts = IsRefused files cert lts out
+
+-- why a status came, and what it writes to out and to err
 abbrev pub Answers : List (List ℕ) → Option Files → Status → List ℕ → List ℕ → Type 0
-Answers words files Done out err = IsNetText words files out × (err ≡ [])
+Answers words files Done out err = AskOf words files (SaysYes files out) × (err ≡ [])
+Answers words files No out err = AskOf words files (SaysNo files out) × (err ≡ [])
 Answers words files (Usage usage) out err = AreRefused words usage × (out ≡ []) × (err ≡ usage_line usage)
 Answers words files (File fault) out err = IsFileRefused words files fault × (out ≡ []) × (err ≡ file_line fault)
-Answers words files (NotBuilt unbuilt) out err = IsUnbuilt words files unbuilt × (out ≡ []) × (err ≡ [])
+Answers words files (NotBuilt unbuilt) out err = AskOf words files (λ asked lts. IsUnbuilt asked lts unbuilt) × (out ≡ []) × (err ≡ [])
 Answers words files ReadFault out err = ⊥
 Answers words files WriteFault out err = ⊥
 Answers words files NoMemory out err = ⊥
-
--- the answer to a system
-abbrev pub AnswersSystem : System → Status → List ℕ → List ℕ → Type 0
-AnswersSystem lts Done out err = IsWithinReach lts × ((net : Net) × IsNetInRange net × Solves net lts × (out ≡ net_text net lts)) × (err ≡ [])
-AnswersSystem lts (NotBuilt unbuilt) out err = IsBeyond lts unbuilt × (out ≡ []) × (err ≡ [])
-AnswersSystem lts _ out err = ⊥
-
--- the answer to the bytes of a file that isn't too long
-abbrev pub AnswersBytes : List ℕ → Status → List ℕ → List ℕ → Type 0
-AnswersBytes bytes (File fault) out err =
-    ((f : TextFault) × (fault ≡ record { file = 1; fault = Apt f }) × FirstFault bytes f × (f ≢ LacksMemory)) × (out ≡ []) × (err ≡ file_line fault)
-AnswersBytes bytes status out err = (lts : System) × Spells bytes lts × AnswersSystem lts status out err

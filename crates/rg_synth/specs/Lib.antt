@@ -1,6 +1,9 @@
 pub mod Numbers
 pub mod Words
-pub mod Asked
+pub mod Given
 pub mod Texts
+pub mod JudgedTexts
+pub mod Judged
 pub mod Answers
 pub mod Run
+pub mod Requests

@@ -1,10 +1,11 @@
 -- The numbers with which the program ends.
 use Rattle.std.specs.Prelude.{ℕ}
 use Rattle.rg_synth.specs.declared.status.Status.{Status}
-use Rattle.rg_synth.specs.declared.status.Status.TheVariants.{Done, Usage, File, ReadFault, WriteFault, NoMemory, Unbuilt}
+use Rattle.rg_synth.specs.declared.status.Status.TheVariants.{Done, No, Usage, File, ReadFault, WriteFault, NoMemory, Unbuilt}
 
 abbrev pub status_number : Status → ℕ
 status_number Done = 0
+status_number No = 1
 status_number (Usage usage) = 2
 status_number (File fault) = 3
 status_number ReadFault = 5

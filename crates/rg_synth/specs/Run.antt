@@ -1,13 +1,12 @@
 -- What is seen of one run, and how it may end.
-use Rattle.std.specs.Prelude.{◌≡◌, ◌⊎◌, ℕ, List, [], ◌∷◌, ◌++◌, Option, option_map, IsSome}
+use Rattle.std.specs.Prelude.{◌≡◌, ◌⊎◌, ℕ, List, ◌++◌, Option, option_map, IsSome}
 use Rattle.rg_ports.specs.Count.{HasRisen}
 use Rattle.rg_ports.specs.Shelf.{Files}
 use Rattle.rg_ports.specs.Sink.{taken_with, TakesPart}
-use Rattle.rg_synth.specs.Words.{AskFor}
+use Rattle.rg_synth.specs.Words.{Asked, Ask, file_words}
 use Rattle.rg_synth.specs.Answers.{Answers, IsDue}
 use Rattle.rg_synth.specs.declared.status.Status.{Status}
-use Rattle.rg_synth.specs.declared.status.Status.TheVariants.{Usage, ReadFault, WriteFault, NoMemory, Unbuilt}
-use Rattle.rg_synth.specs.declared.status.Unbuilt.TheVariants.{Class}
+use Rattle.rg_synth.specs.declared.status.Status.TheVariants.{Usage, ReadFault, WriteFault, NoMemory}
 
 -- a value before the run and after it
 pub record Change (A : Type 0) : Type 0 where
@@ -46,13 +45,13 @@ pub record Says (run : Run) (status : Status) : Type 0 where
   pub out : Takes run.out out_bytes
   pub err : Takes run.err err_bytes
 
--- a fault of the shelf: the words name a file, and its count of faults has risen
+-- a fault of the shelf: the words name files, and its count of faults has risen
 pub record IsReadFault (words : List (List ℕ)) (faults : Change ℕ) : Type 0 where
-  pub name : List ℕ
-  pub are : AskFor words name
+  pub asked : Asked
+  pub ask : Ask words asked
   pub risen : HasRisen faults.before faults.after
 
--- the file that the words name couldn't be read; nothing was written
+-- a file that the words name couldn't be read; nothing was written
 pub record FailsToRead (run : Run) : Type 0 where
   pub fault : IsReadFault run.words run.shelf_faults
   pub out : IsLeft run.out
@@ -78,10 +77,14 @@ Ends run WriteFault = FailsToWrite run
 Ends run NoMemory = LacksMemory run
 Ends run status = Says run status
 
--- the shelf was asked for the file that the words name, once, or for nothing
+-- the shelf was asked for some first ones of the files of what is asked, each once and in order
+abbrev pub AsksFiles : Asked → Option (List (List ℕ)) → Option (List (List ℕ)) → Type 0
+AsksFiles asked before after =
+    (names left : List (List ℕ)) × (file_words asked ≡ names ++ left) × (after ≡ option_map (λ all. all ++ names) before)
+
+-- the shelf was asked for some first ones of the files that the words name, or for nothing
 abbrev pub AsksAtMost : List (List ℕ) → Option (List (List ℕ)) → Option (List (List ℕ)) → Type 0
-AsksAtMost words before after =
-    (after ≡ before) ⊎ ((name : List ℕ) × AskFor words name × (after ≡ option_map (λ names. names ++ name ∷ []) before))
+AsksAtMost words before after = (after ≡ before) ⊎ ((asked : Asked) × Ask words asked × AsksFiles asked before after)
 
 -- a fault, or want of memory
 abbrev pub IsMishap : Status → Type 0
@@ -93,7 +96,6 @@ IsMishap _ = ⊥
 -- what the words don't decide alone is decided where the shelf tells its files
 abbrev pub IsDecided : Option Files → Status → Type 0
 IsDecided files (Usage usage) = Unit {0}
-IsDecided files (Unbuilt Class) = Unit {0}
 IsDecided files status = IsSome files
 
 -- where the status is due to the words and the files that are told it comes, unless a fault or want of memory comes in

@@ -4,17 +4,35 @@ use Rattle.rg_lexer.specs.declared.token.Want.{Want}
 use Rattle.rg_lexer.specs.declared.token.Want.TheVariants as want
 use Rattle.rg_apt.specs.declared.fault.TextFault.{TextFault}
 use Rattle.rg_apt.specs.declared.fault.TextFault.TheVariants.{BadByte, OpenString, OpenComment, LongName, Expected, NoType, WrongType, TwiceState, TwiceLabel, UnknownState, UnknownLabel, TwoInitial, NoInitial, TooManyStates, TooManyLabels, TooManyArcs, NoMemory}
+use Rattle.rg_theory.specs.declared.class_words.ClassFault.{ClassFault}
+use Rattle.rg_theory.specs.declared.class_words.ClassFault.TheVariants.{UnknownWord, BadNumber, Repeated}
 use Rattle.rg_synth.specs.declared.status.Usage.{Usage}
-use Rattle.rg_synth.specs.declared.status.Usage.TheVariants.{NoCommand, UnknownCommand, Words}
+use Rattle.rg_synth.specs.declared.status.Usage.TheVariants.{NoCommand, UnknownCommand, Words, ClassWord}
 use Rattle.rg_synth.specs.declared.status.Fault.{Fault}
 use Rattle.rg_synth.specs.declared.status.Fault.TheVariants.{Missing, TooLong, Apt}
 use Rattle.rg_synth.specs.declared.status.FileFault.{FileFault}
 
+-- the number of a refused class word
+abbrev pub refused_number : ClassFault → ℕ
+refused_number (UnknownWord i) = i
+refused_number (BadNumber i) = i
+refused_number (Repeated i) = i
+
+-- why a class word is refused
+abbrev pub class_fault_words : ClassFault → List ℕ
+class_fault_words (UnknownWord i) = codes "unknown"
+class_fault_words (BadNumber i) = codes "bad number"
+class_fault_words (Repeated i) = codes "repeated"
+
 -- why the words are refused
+abbrev pub usage_text : Usage → List ℕ
+usage_text NoCommand = codes "no command"
+usage_text UnknownCommand = codes "unknown command"
+usage_text Words = codes "words refused"
+usage_text (ClassWord fault) = codes "class word " ++ decimal (refused_number fault) ++ codes ": " ++ class_fault_words fault
+
 abbrev pub usage_line : Usage → List ℕ
-usage_line NoCommand = codes "usage: no command\n"
-usage_line UnknownCommand = codes "usage: unknown command\n"
-usage_line Words = codes "usage: words refused\n"
+usage_line usage = codes "usage: " ++ usage_text usage ++ codes "\n"
 
 -- what the grammar wants
 abbrev pub wanted_words : Want → List ℕ

@@ -1,10 +1,14 @@
-//! The top call: from words and a shelf of files to the bytes of a net.
+//! The top call: from words and a shelf of files to the bytes of a net, a certificate or a verdict.
 #![tactic(auto)]
 
 mod answer;
+mod judged_texts;
+mod judging;
+mod netting;
 mod request;
 mod run_whole;
 mod status;
+mod system_file;
 mod texts;
 
 pub use run_whole::run;

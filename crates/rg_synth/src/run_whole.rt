@@ -9,9 +9,10 @@ use rg_ports::{Gate, Shelf, Sink, write_all};
 use std::alloc::Global;
 use std::thread::Threads;
 
-/// Runs the command that the words name, `synthesize none FILE`: reads the file of that name from the shelf, and writes the
-/// text of a net that solves its system to `out`, or a line on the refusal to `err`. What is due is whole before the first
-/// write. The runtime and the gate are there for later commands, and unused. The status says how it ended; each has its
+/// Runs the command that the words name. `synthesize CLASS FILE` reads the file of that name from the shelf, and writes to
+/// `out` the text of a net of the class that solves its system, or of a certificate that there is none. `verify FILE CERT`
+/// reads both files, and writes to `out` whether the certificate is accepted for the system. A refusal of words or files is
+/// a line to `err`. What is due is whole before the first write. The runtime and the gate are there for later commands, and unused. The status says how it ended; each has its
 /// cause in `Ends`, and a status that is due comes by `ComesIfDue`.
 pub fn run<R: Threads + Sync, H: Shelf, O: Sink, E: Sink, G: Gate + Sync>(
     _rt: &R,

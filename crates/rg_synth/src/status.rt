@@ -3,15 +3,18 @@ ghost use Rattle.std.specs.Prelude.{◌≡◌};
 ghost use Rattle.rg_synth.specs.Numbers.{status_number};
 
 use rg_apt::TextFault;
+use rg_theory::ClassFault;
 
 /// How a run ends.
 #[derive(Clone, Copy, Debug, PartialEq, Eq)]
 pub enum Status {
-    /// The net's text stands in out.
+    /// The command's yes: its text stands in out, a net or that a certificate is accepted.
     Done,
+    /// The command's no: its text stands in out, a certificate or why a certificate is refused.
+    No,
     /// The words were refused.
     Usage(Usage),
-    /// A file isn't there, is too long, or spells no system.
+    /// A file isn't there or is too long, or the first spells no system.
     File(FileFault),
     /// The shelf failed.
     ReadFault,
@@ -30,8 +33,10 @@ pub enum Usage {
     NoCommand,
     /// The first word is no command.
     UnknownCommand,
-    /// The words after the command are refused.
+    /// The words after the command are not two.
     Words,
+    /// The class word is refused.
+    ClassWord(ClassFault),
 }
 
 /// A fault of one of the files that the words name.
@@ -57,12 +62,10 @@ pub enum Fault {
 /// What isn't built yet.
 #[derive(Clone, Copy, Debug, PartialEq, Eq)]
 pub enum Unbuilt {
-    /// A class other than `none`.
+    /// A class that asks for something.
     Class,
     /// More than six labels: so many.
     Labels(u32),
-    /// An unreachable state, the least.
-    Unreachable(u32),
     /// The first problem that no region with all effects from -1 to 1 separates: to stop a label at a state.
     Event(u32, u32),
     /// The first such problem: to tell two states apart.
@@ -76,6 +79,7 @@ impl Status {
     {
         match self {
             Status::Done => 0,
+            Status::No => 1,
             Status::Usage(_) => 2,
             Status::File(_) => 3,
             Status::ReadFault => 5,

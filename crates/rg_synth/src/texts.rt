@@ -1,21 +1,56 @@
 //! The lines that a refusal writes.
 ghost use Rattle.std.specs.Prelude.{◌≡◌, ◌++◌, IfOk, OnOk};
-ghost use Rattle.rg_synth.specs.Texts.{usage_line, wanted_words, text_fault_words, text_fault_place, text_fault_text, fault_text, file_line};
+ghost use Rattle.rg_synth.specs.Texts.{usage_line, refused_number, class_fault_words, wanted_words, text_fault_words, text_fault_place, text_fault_text, fault_text, file_line};
 
 use crate::status::{Fault, FileFault, Usage};
 use itoa::Buffer;
 use rg_apt::TextFault;
 use rg_lexer::Want;
+use rg_theory::ClassFault;
 use std::alloc::{AllocError, Global};
 
 // Why the words are refused.
-pub(crate) fn usage_text(usage: Usage) -> &'static [u8]
-    ensures { result.now ≡ usage_line usage }
+pub(crate) fn usage_text(alloc: Global, usage: Usage) -> Result<Vec<u8>, AllocError>
+    ensures { IfOk result (λ text. text.items ≡ usage_line usage) }
 {
     match usage {
-        Usage::NoCommand => b"usage: no command\n",
-        Usage::UnknownCommand => b"usage: unknown command\n",
-        Usage::Words => b"usage: words refused\n",
+        Usage::NoCommand => Vec::from_slice(alloc, b"usage: no command\n"),
+        Usage::UnknownCommand => Vec::from_slice(alloc, b"usage: unknown command\n"),
+        Usage::Words => Vec::from_slice(alloc, b"usage: words refused\n"),
+        Usage::ClassWord(fault) => class_fault_text(alloc, fault),
+    }
+}
+
+// Which class word is refused, and why.
+fn class_fault_text(alloc: Global, fault: ClassFault) -> Result<Vec<u8>, AllocError>
+    ensures { IfOk result (λ text. text.items ≡ usage_line (Usage.ClassWord fault)) }
+{
+    let mut buffer = Buffer::new();
+    let mut text = Vec::from_slice(alloc, b"usage: class word ")?;
+    text.extend_from_slice(buffer.format(refused_number(fault)).as_bytes())?;
+    text.extend_from_slice(b": ")?;
+    text.extend_from_slice(class_fault_words(fault))?;
+    text.push(b'\n')?;
+    Ok(text)
+}
+
+// The number of the refused class word.
+fn refused_number(fault: ClassFault) -> u32
+    ensures { result ≡ refused_number fault }
+{
+    match fault {
+        ClassFault::UnknownWord(i) | ClassFault::BadNumber(i) | ClassFault::Repeated(i) => i,
+    }
+}
+
+// Why a class word is refused.
+fn class_fault_words(fault: ClassFault) -> &'static [u8]
+    ensures { result.now ≡ class_fault_words fault }
+{
+    match fault {
+        ClassFault::UnknownWord(_) => b"unknown",
+        ClassFault::BadNumber(_) => b"bad number",
+        ClassFault::Repeated(_) => b"repeated",
     }
 }
 

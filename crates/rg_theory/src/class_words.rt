@@ -179,11 +179,12 @@ fn small_number(digits: &str) -> Option<u8>
     }
 }
 
-/// A text names one class or has one first refused word, never both, and the text with which a class is written
-/// names that class.
+/// A text names one class or has one first refused word, never both, the text with which a class is written
+/// names that class, and a class that a text names has a bound from 1 to 255 or none.
 pub fn class_is_told()
     ensures one_class { (text : List ℕ) (a b : Class) → NamesClass text a → NamesClass text b → a ≡ b }
     ensures one_fault { (text : List ℕ) (f g : ClassFault) → FirstRefusedWord text f → FirstRefusedWord text g → f ≡ g }
     ensures not_both { (text : List ℕ) (class : Class) (fault : ClassFault) → NamesClass text class → ¬ FirstRefusedWord text fault }
     ensures written { (class : Class) → HasBoundInRange class → NamesClass (class_text class) class }
+    ensures in_range { (text : List ℕ) (class : Class) → NamesClass text class → HasBoundInRange class }
 {}

@@ -1,18 +1,21 @@
 -- An arc to a state that isn't met joins, and then all leaving arcs up to it lead to states that are met.
-use Rattle.std.proofs.Common.{◌≡◌, ◌+◌, ◌↔◌, Contains, Some, subst, sym, ap, ◌∙◌, arith}
+use Rattle.std.proofs.Common.{◌+◌, Contains, Some, subst, sym, ap, ◌∙◌, arith}
 use Rattle.std.proofs.lemmas.Option.{slice_get-get_or, slice_get_within}
 use Rattle.rg_theory.specs.System.{arc}
 use Rattle.rg_spanning.specs.declared.growth.Growth.{Growth}
-use Rattle.rg_spanning.proofs.TreeGrowth.{IsLeaving, IsJoining, leaving_in_range, next_joins, over_met, over_joined, settled_more}
+use Rattle.rg_spanning.proofs.TreeGrowth.{IsLeaving, IsJoining, met_in_range, leaving_in_range, next_joins, over_met, over_joined, settled_more}
 use Rattle.rg_spanning.proofs.growth.join_arcs_of.Goals as goal
 use Rattle.rg_spanning.proofs.growth.join_arcs_of.Goals.{After-leaving-a-items, then-not-is_met+in_ok-join, else-not-is_met}
 
 leaves : (c : After-leaving-a-items) → IsLeaving c.args.lts.now c.index-s.result.now c.leaving-a-items.result.now
-leaves c = record {
-  members = λ b. subst (λ arcs. Contains c.leaving-a-items.result.now b ↔ (Contains arcs b × (b.from ≡ c.index-s.result.now)))
-      c.arcs.ensures.value (c.leaving-a-items.ensures.members b);
-  order = c.leaving-a-items.ensures.order;
-}
+leaves c = record { members = c.leaving-a-items.ensures.members; order = c.leaving-a-items.ensures.order }
+
+pub leaving-a-items-requires-clause-state : goal.leaving-a-items-requires-clause-state
+leaving-a-items-requires-clause-state c =
+    let growth = c.args.growth.now in
+    let order = growth.order.items in
+    let here : Contains order c.index-s.result.now = (c.args.place, c.requires.within, sym c.index-s.ensures) in
+    met_in_range c.args.lts.now order growth.arcs.items growth.entries.items c.requires.growing c.index-s.result.now here
 
 pub loop-a-init : goal.loop-a-init
 loop-a-init c =

@@ -1,5 +1,6 @@
 use Rattle.rg_theory.proofs.ClassTold.{one_class, one_fault, not_both}
 use Rattle.rg_theory.proofs.ClassWritten.{written}
+use Rattle.rg_theory.proofs.ClassBytes.{named_bound}
 use Rattle.rg_theory.proofs.class_words.class_is_told.Goals as goal
 
 pub returns-clause-one_class : goal.returns-clause-one_class
@@ -13,3 +14,6 @@ returns-clause-not_both c = not_both
 
 pub returns-clause-written : goal.returns-clause-written
 returns-clause-written c = written
+
+pub returns-clause-in_range : goal.returns-clause-in_range
+returns-clause-in_range c = named_bound

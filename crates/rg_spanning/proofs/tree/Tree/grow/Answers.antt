@@ -1,6 +1,6 @@
 -- The tables of the grown tree are right, and a state is met where it can be reached.
 use Rattle.std.proofs.Common.{◌≡◌, subst}
-use Rattle.rg_spanning.specs.Spanning.{IsLeastUnreachable}
+use Rattle.rg_theory.specs.System.{IsLeastUnreachable}
 use Rattle.rg_spanning.proofs.TreeTables.{least_unreachable, all_reachable, tables}
 use Rattle.rg_spanning.proofs.tree.Tree.grow.Goals as goal
 
@@ -20,7 +20,7 @@ invariant_of-result c =
     let grown = c.in_ok-growth.ensures in
     rw (c.labels.ensures.value, c.initial.ensures.value, c.in_ok-chords.ensures)
     (tables c.args.lts.now growth.order.items growth.arcs.items growth.entries.items grown.growing grown.tree c.in_default.ensures.none
-    c.in_ok-rows.rows.items
+    c.in_ok-rows.rows
     c.in_ok-rows.ensures.one_each c.in_ok-rows.ensures.rows)
 
 pub returns-clause-all_reachable : goal.returns-clause-all_reachable

@@ -1,0 +1,5 @@
+use Rattle.rg_cert.proofs.Told.{told}
+use Rattle.rg_cert.proofs.laws.certificate_is_told.Goals as goal
+
+pub returns : goal.returns
+returns c = told

@@ -1,0 +1,47 @@
+//! Lines, fields and names.
+ghost use Rattle.std.specs.Prelude.{◌≡◌, ◌≢◌, ◌≤◌, ◌++◌, ◌∷◌, length, map, All, IfOk, IfErr, IfSome, IfNone};
+ghost use Rattle.std.specs.List.{prefix_len};
+ghost use Rattle.rg_text.specs.Byte.{IsName, is_other_than};
+ghost use Rattle.rg_text.specs.Line.{fields};
+
+use rg_lts::is_name;
+use std::alloc::{AllocError, Global};
+use std::str;
+
+// The first line of a text, and what follows its line feed.
+pub(crate) fn first_line(text: &[u8]) -> Option<(&[u8], &[u8])>
+    ensures some { IfSome result (λ r. (text.entry.now ≡ r.0.now ++ 10 ∷ r.1.now) × All (λ b. b ≢ 10) r.0.now) }
+    ensures none { IfNone result (All (λ b. b ≢ 10) text.entry.now) }
+{
+    let at = line_len(text);
+    if at == text.len() {
+        return None;
+    }
+    Some((&text[..at], &text[at + 1..]))
+}
+
+// How many bytes stand before the first line feed.
+fn line_len(text: &[u8]) -> usize
+    ensures value { result ≡ prefix_len (is_other_than 10) text.now }
+    ensures within { result ≤ length text.now }
+{
+    text.iter().take_while(|b| **b != b'\n').count()
+}
+
+// What stands between the spaces of a line.
+pub(crate) fn fields<'a>(alloc: Global, line: &'a [u8]) -> Result<Vec<&'a [u8]>, AllocError>
+    ensures { IfOk result (λ v. map (λ w. w.now) v.items ≡ fields line.entry.now) }
+{
+    line.split(|b| *b == b' ').collect(alloc)
+}
+
+// A field as a name; None where it isn't 1 to 255 name bytes.
+pub(crate) fn name_of(field: &[u8]) -> Option<&str>
+    ensures some { IfSome result (λ name. (name.now ≡ field.entry.now) × IsName field.entry.now) }
+    ensures none { IfNone result (¬ IsName field.entry.now) }
+{
+    match str::from_utf8(field) {
+        Ok(name) if is_name(name) => Some(name),
+        _ => None,
+    }
+}

@@ -1,0 +1,15 @@
+//! Which states can be reached, and whether a label leads from a state to two.
+#![tactic(auto)]
+
+mod fork;
+mod laws;
+mod unreachable;
+mod walks;
+
+pub use fork::first_fork;
+pub use laws::one_least_fork;
+pub use unreachable::first_unreachable;
+pub use walks::{NoMemory, Step, reach};
+
+#[cfg(test)]
+mod tests;

@@ -1,0 +1,15 @@
+use Rattle.std.proofs.Common.{◌<◌, ap, Err, length, IsSomeAnd}
+use Rattle.rg_ports.specs.Shelf.{Files, file_of}
+use Rattle.rg_synth.specs.Given.{most_bytes}
+use Rattle.rg_synth.proofs.FileLemmas.{told, too_long}
+use Rattle.rg_synth.proofs.Answered.{second_too_long}
+use Rattle.rg_synth.proofs.judging.certificate_answer.Goals as goal
+
+pub returns-in_ok-file_refusal-in-Err-TooLong-clause-ok : goal.returns-in_ok-file_refusal-in-Err-TooLong-clause-ok
+returns-in_ok-file_refusal-in-Err-TooLong-clause-ok g c =
+    let files = g.H.Shelf.files c.args.shelf.now in
+    let name = c.args.cert.now in
+    let r = c.in_ok-file_refusal-in-Err-TooLong in
+    second_too_long files name c.args.lts.now r.field-0.status r.field-0.out.items r.field-0.err.items
+    (too_long files name (told files _ (λ (f : Files). IsSomeAnd (file_of f name) (λ b. most_bytes < length b)) (ap Err c.in-Err-TooLong.field-0-is) c.in-Err-TooLong.ensures.too_long))
+    r.ensures.status r.ensures.out r.ensures.err

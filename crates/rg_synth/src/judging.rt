@@ -1,0 +1,100 @@
+//! The answer to a request for a judgement.
+ghost use Rattle.std.specs.Prelude.{◌≡◌, ◌≢◌, ◌⊎◌, ℕ, ◌≤◌, [], length, IfOk, IfErr, IsErrOf};
+ghost use Rattle.rg_ports.specs.Count.{HasRisen};
+ghost use Rattle.rg_ports.specs.Shelf.{asked_with};
+ghost use Rattle.rg_lts.specs.WellFormed.{IsWellFormed};
+ghost use Rattle.rg_cert.specs.Certificates.{IsCertificateOf};
+ghost use Rattle.rg_cert.specs.Spells.{Spells};
+ghost use Rattle.rg_synth.specs.Given.{most_bytes};
+ghost use Rattle.rg_synth.specs.Words.{judgement};
+ghost use Rattle.rg_synth.specs.JudgedTexts.{refused_line};
+ghost use Rattle.rg_synth.specs.Requests.{AnswersBytes, AnswersCertificate, AnswersAsked};
+ghost use Rattle.rg_synth.specs.declared.answer.Stop.TheVariants as stop;
+ghost use Rattle.rg_synth.specs.declared.status.Status.TheVariants as status;
+
+use crate::answer::{Answer, Stop, file_refusal, said};
+use crate::judged_texts::{accepted_text, defect_text, fault_text};
+use crate::status::{Fault, Status};
+use crate::system_file::{MOST_BYTES, SystemStop, read_system};
+use rg_cert::{CertFault, Certificate, read};
+use rg_lts::Lts;
+use rg_ports::{ReadStop, Shelf, read_all};
+use rg_verify::{Verdict, verify};
+use std::alloc::{AllocError, Global};
+
+// Whether the certificate of the second file holds for the system of the first.
+pub(crate) fn judgement_answer<H: Shelf>(
+    alloc: Global,
+    file: &str,
+    cert: &str,
+    shelf: &mut H,
+) -> Result<Answer, Stop>
+    ensures asked { (H.asked shelf.new ≡ asked_with (H.asked shelf.old) file.now) ⊎ (H.asked shelf.new ≡ asked_with (asked_with (H.asked shelf.old) file.now) cert.now) }
+    ensures ok { IfOk result (λ a. AnswersAsked (H.files shelf.old) (judgement file.now cert.now) a.status a.out.items a.err.items) }
+    ensures fault { IsErrOf result stop.ReadFault → HasRisen (H.faults shelf.old) (H.faults shelf.new) }
+{
+    match read_system(alloc, shelf, file) {
+        Ok(lts) => certificate_answer(alloc, &lts, cert, shelf),
+        Err(SystemStop::Refused(fault)) => Ok(file_refusal(alloc, 1, fault)?),
+        Err(SystemStop::Failed) => Err(Stop::ReadFault),
+        Err(SystemStop::NoMemory) => Err(Stop::NoMemory),
+    }
+}
+
+// The answer to a certificate's file.
+fn certificate_answer<H: Shelf>(
+    alloc: Global,
+    lts: &Lts,
+    cert: &str,
+    shelf: &mut H,
+) -> Result<Answer, Stop>
+    ensures asked { H.asked shelf.new ≡ asked_with (H.asked shelf.old) cert.now }
+    ensures ok { IfOk result (λ a. AnswersCertificate (H.files shelf.old) cert.now lts.now a.status a.out.items a.err.items) }
+    ensures fault { IsErrOf result stop.ReadFault → HasRisen (H.faults shelf.old) (H.faults shelf.new) }
+{
+    // the number of labels is asked for because its contract says that the system is well formed
+    let _labels = lts.labels();
+    match read_all(alloc, shelf, cert, MOST_BYTES) {
+        Ok(bytes) => Ok(bytes_answer(alloc, lts, &bytes)?),
+        Err(ReadStop::Missing) => Ok(file_refusal(alloc, 2, Fault::Missing)?),
+        Err(ReadStop::TooLong) => Ok(file_refusal(alloc, 2, Fault::TooLong)?),
+        Err(ReadStop::Failed) => Err(Stop::ReadFault),
+        Err(ReadStop::NoMemory) => Err(Stop::NoMemory),
+    }
+}
+
+// The answer to the bytes of a certificate's file.
+fn bytes_answer(alloc: Global, lts: &Lts, bytes: &[u8]) -> Result<Answer, AllocError>
+    requires system { IsWellFormed lts.now }
+    requires short { length bytes.now ≤ most_bytes }
+    ensures { IfOk result (λ a. AnswersBytes bytes.now lts.now a.status a.out.items a.err.items) }
+{
+    match read(alloc, bytes, lts) {
+        Ok(cert) => verdict_answer(alloc, lts, bytes, &cert),
+        Err(fault) => match fault {
+            CertFault::NoMemory => Err(AllocError),
+            _ => Ok(said(alloc, Status::No, fault_text(alloc, fault)?)),
+        },
+    }
+}
+
+// The verdict on a certificate that the bytes spell.
+fn verdict_answer(
+    alloc: Global,
+    lts: &Lts,
+    bytes: &[u8],
+    cert: &Certificate,
+) -> Result<Answer, AllocError>
+    requires system { IsWellFormed lts.now }
+    requires in_range { IsCertificateOf lts.now cert.now }
+    requires spelled { Spells bytes.now lts.now cert.now }
+    ensures { IfOk result (λ a. AnswersBytes bytes.now lts.now a.status a.out.items a.err.items) }
+{
+    match verify(alloc, lts, cert) {
+        Ok(Verdict::Accepted) => Ok(said(alloc, Status::Done, accepted_text(alloc, cert.class)?)),
+        Ok(Verdict::Refused { defect, .. }) => {
+            Ok(said(alloc, Status::No, defect_text(alloc, defect)?))
+        }
+        Err(_) => Err(AllocError),
+    }
+}

@@ -1,0 +1,140 @@
+//! The answer to a request for a net.
+ghost use Rattle.std.specs.Prelude.{◌≡◌, ◌≢◌, ℕ, ◌≤◌, [], IfOk, IsErrOf, IsTrue, IsFalse};
+ghost use Rattle.rg_ports.specs.Count.{HasRisen};
+ghost use Rattle.rg_ports.specs.Shelf.{asked_with};
+ghost use Rattle.rg_theory.specs.System.{labels, IsInRange};
+ghost use Rattle.rg_theory.specs.ClassWords.{no_condition, HasBoundInRange};
+ghost use Rattle.rg_net.specs.NetText.{net_text};
+ghost use Rattle.rg_spanning.specs.Spanning.{IsTreeOf};
+ghost use Rattle.rg_refuting.specs.Refutes.{Accepts};
+ghost use Rattle.rg_cert.specs.Certificates.{reason_of, IsCertificateOf};
+ghost use Rattle.rg_synth.specs.Words.{net};
+ghost use Rattle.rg_synth.specs.Answers.{IsOpen, IsReason};
+ghost use Rattle.rg_synth.specs.Requests.{AnswersNet, AnswersAsked};
+ghost use Rattle.rg_synth.specs.declared.answer.Stop.TheVariants as stop;
+ghost use Rattle.rg_synth.specs.declared.status.Status.TheVariants as status;
+
+use crate::answer::{Answer, Stop, file_refusal, said, unbuilt};
+use crate::status::{Status, Unbuilt};
+use crate::system_file::{SystemStop, read_system};
+use rg_cert::{Certificate, Reason, print};
+use rg_checks::{first_fork, first_unreachable};
+use rg_lts::Lts;
+use rg_net::Net;
+use rg_netfile::print_net;
+use rg_ports::Shelf;
+use rg_search::{SearchStop, search};
+use rg_spanning::Tree;
+use rg_theory::{Class, Problem};
+use std::alloc::{AllocError, Global};
+
+// A net of the class for the system of the file, or why there is none.
+pub(crate) fn net_answer<H: Shelf>(
+    alloc: Global,
+    class: Class,
+    file: &str,
+    shelf: &mut H,
+) -> Result<Answer, Stop>
+    requires { HasBoundInRange class }
+    ensures asked { H.asked shelf.new ≡ asked_with (H.asked shelf.old) file.now }
+    ensures ok { IfOk result (λ a. AnswersAsked (H.files shelf.old) (net class file.now) a.status a.out.items a.err.items) }
+    ensures fault { IsErrOf result stop.ReadFault → HasRisen (H.faults shelf.old) (H.faults shelf.new) }
+{
+    match read_system(alloc, shelf, file) {
+        Ok(lts) => Ok(system_answer(alloc, class, &lts)?),
+        Err(SystemStop::Refused(fault)) => Ok(file_refusal(alloc, 1, fault)?),
+        Err(SystemStop::Failed) => Err(Stop::ReadFault),
+        Err(SystemStop::NoMemory) => Err(Stop::NoMemory),
+    }
+}
+
+// The answer to a system.
+fn system_answer(alloc: Global, class: Class, lts: &Lts) -> Result<Answer, AllocError>
+    requires { HasBoundInRange class }
+    ensures { IfOk result (λ a. AnswersNet class lts.now a.status a.out.items a.err.items) }
+{
+    // the number of labels is asked for because its contract says that the system's numbers are in range
+    let _labels = lts.labels();
+    match first_unreachable(alloc, lts) {
+        Ok(None) => match first_fork(lts) {
+            None => open_answer(alloc, class, lts),
+            Some((s, t, to, other)) => {
+                refutation(alloc, class, Reason::Fork(s, t, to, other), lts)
+            }
+        },
+        Ok(Some(s)) => refutation(alloc, class, Reason::Unreachable(s), lts),
+        Err(_) => Err(AllocError),
+    }
+}
+
+// The certificate that gives the reason.
+fn refutation(alloc: Global, class: Class, reason: Reason, lts: &Lts) -> Result<Answer, AllocError>
+    requires system { IsInRange lts.now }
+    requires is { IsReason lts.now reason }
+    requires holds { Accepts lts.now class (reason_of reason) }
+    requires in_range { IsCertificateOf lts.now (record { class = class; reason = reason }) }
+    ensures { IfOk result (λ a. AnswersNet class lts.now a.status a.out.items a.err.items) }
+{
+    match print(alloc, &Certificate { class, reason }, lts) {
+        Ok(out) => Ok(said(alloc, Status::No, out)),
+        Err(_) => Err(AllocError),
+    }
+}
+
+// Whether the class asks for nothing.
+fn is_any(class: Class) -> bool
+    ensures some { IsTrue result → class ≡ no_condition }
+    ensures none { IsFalse result → class ≢ no_condition }
+{
+    !class.pure && !class.plain && class.bound.is_none() && !class.nonbranching
+}
+
+// The answer to a system without an unreachable state or a fork.
+fn open_answer(alloc: Global, class: Class, lts: &Lts) -> Result<Answer, AllocError>
+    requires { IsOpen lts.now }
+    ensures { IfOk result (λ a. AnswersNet class lts.now a.status a.out.items a.err.items) }
+{
+    if !is_any(class) {
+        return Ok(unbuilt(alloc, Unbuilt::Class));
+    }
+    if lts.labels() > 6 {
+        return Ok(unbuilt(alloc, Unbuilt::Labels(lts.labels())));
+    }
+    match Tree::grow(alloc, lts) {
+        Ok(tree) => tree_answer(alloc, class, lts, &tree),
+        Err(_) => Err(AllocError),
+    }
+}
+
+// The answer to a system with its tree.
+fn tree_answer(alloc: Global, class: Class, lts: &Lts, tree: &Tree) -> Result<Answer, AllocError>
+    requires tree { IsTreeOf lts.now tree.now }
+    requires is_open { IsOpen lts.now }
+    requires any { class ≡ no_condition }
+    requires few { labels lts.now ≤ 6 }
+    ensures { IfOk result (λ a. AnswersNet class lts.now a.status a.out.items a.err.items) }
+{
+    match search(alloc, lts, tree.arcs()) {
+        Ok(places) => printed(alloc, lts, Net::new(lts.labels(), places)),
+        Err(SearchStop::Unseparated(Problem::Event(s, t))) => {
+            Ok(unbuilt(alloc, Unbuilt::Event(s, t)))
+        }
+        Err(SearchStop::Unseparated(Problem::States(s, other))) => {
+            Ok(unbuilt(alloc, Unbuilt::States(s, other)))
+        }
+        Err(SearchStop::NoMemory) => Err(AllocError),
+    }
+}
+
+// The net's text.
+fn printed(alloc: Global, lts: &Lts, net: Net) -> Result<Answer, AllocError>
+    requires { net.labels ≡ labels lts.now }
+    ensures status { IfOk result (λ a. a.status ≡ Status.Done) }
+    ensures out { IfOk result (λ a. a.out.items ≡ net_text net lts.now) }
+    ensures err { IfOk result (λ a. a.err.items ≡ []) }
+{
+    match print_net(alloc, &net, lts) {
+        Ok(out) => Ok(said(alloc, Status::Done, out)),
+        Err(_) => Err(AllocError),
+    }
+}
