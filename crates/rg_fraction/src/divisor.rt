@@ -13,6 +13,26 @@ pub(crate) fn gcd_of_sizes(a: u128, b: u128) -> u128
     let mut x = a;
     let mut y = b;
     while y != 0 {
+        if let Ok(p) = u64::try_from(x)
+            && let Ok(q) = u64::try_from(y)
+        {
+            return u128::from(gcd_of_words(p, q));
+        }
+        let rest = x % y;
+        x = y;
+        y = rest;
+    }
+    x
+}
+
+// The same for numbers of 64 bits.
+fn gcd_of_words(a: u64, b: u64) -> u64
+    ensures greatest { IsGcd a b result }
+    ensures bound { result ≤ max a b }
+{
+    let mut x = a;
+    let mut y = b;
+    while y != 0 {
         let rest = x % y;
         x = y;
         y = rest;
@@ -38,6 +58,11 @@ pub(crate) fn quotient(z: i128, g: i128) -> i128
     requires { pos 0 <ℤ g }
     ensures { result ≡ int_div z g }
 {
+    if let Ok(x) = i64::try_from(z)
+        && let Ok(y) = i64::try_from(g)
+    {
+        return i128::from(x / y);
+    }
     z / g
 }
 

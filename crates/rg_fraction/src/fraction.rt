@@ -8,7 +8,7 @@ ghost use Rattle.rg_fraction.specs.Terms.{term_value, ProductIsReduced};
 
 use crate::divisor::{quotient, split};
 use crate::order::compare;
-use crate::term::{Wide, term};
+use crate::term::Wide;
 use std::cmp::Ordering;
 
 /// A rational number: a numerator and a denominator in range, without a common factor, the
@@ -82,11 +82,11 @@ impl Fraction {
         requires { term_value bottom ≢ pos 0 }
         ensures { IsFormed top bottom (term_value top) (term_value bottom) result }
     {
-        let n = match term(top) {
+        let n = match top.evaluate() {
             Ok(n) => n,
             Err(w) => return Err(w),
         };
-        let d = match term(bottom) {
+        let d = match bottom.evaluate() {
             Ok(d) => d,
             Err(w) => return Err(w),
         };

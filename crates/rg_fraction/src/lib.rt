@@ -11,7 +11,7 @@ mod term;
 
 pub use divisor::gcd;
 pub use fraction::Fraction;
-pub use row::eliminate;
+pub use row::{eliminate, reduce};
 pub use term::Wide;
 
 #[cfg(test)]

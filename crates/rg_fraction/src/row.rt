@@ -7,7 +7,7 @@ ghost use Rattle.rg_integers.specs.Sum.{number_at};
 ghost use Rattle.rg_fraction.specs.Rows.{RowFits, IsFirstWide, IsCrossed, IsRowGcd, IsPrimitivePart, IsEliminated, IsRefused};
 
 use crate::divisor::{gcd_of_sizes, part};
-use crate::term::{Wide, term, value};
+use crate::term::{Wide, value};
 
 // Whether each term of the row fits; else the first that passes.
 fn check(p: &[i128], q: &[i128], b: i128, d: i128, j: usize) -> Result<(), Wide>
@@ -17,12 +17,13 @@ fn check(p: &[i128], q: &[i128], b: i128, d: i128, j: usize) -> Result<(), Wide>
     ensures { MatchResult result (λ _. RowFits p.now q.now j) (IsFirstWide p.now q.now j) }
 {
     for i in 0..q.len() {
-        match term(Wide {
+        let term = Wide {
             a: q[i],
             b,
             c: p[i],
             d,
-        }) {
+        };
+        match term.evaluate() {
             Ok(_) => {}
             Err(w) => return Err(w),
         }
@@ -57,7 +58,10 @@ fn row_gcd(q: &[i128]) -> u128
 {
     let mut g = 0u128;
     for i in 0..q.len() {
-        g = gcd_of_sizes(g, q[i].unsigned_abs());
+        g = gcd_of_sizes(q[i].unsigned_abs(), g);
+        if g == 1 {
+            return 1;
+        }
     }
     g
 }
@@ -76,14 +80,14 @@ fn divide(q: &mut [i128], g: i128)
     }
 }
 
-// Divides the row by its greatest common divisor.
-fn reduce(q: &mut [i128])
+/// Divides the row by the greatest common divisor of its numbers. A row of zeros stays.
+pub fn reduce(q: &mut [i128])
     requires { (k : ℕ) → k < length q.old → InRange (number_at q.old k) }
     ensures part { (g : ℕ) × IsPrimitivePart q.old q.new g }
     ensures in_range { (k : ℕ) → k < length q.old → InRange (number_at q.new k) }
 {
     let g = row_gcd(q);
-    if g != 0 {
+    if g > 1 {
         divide(q, g as i128);
     }
 }

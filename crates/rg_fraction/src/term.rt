@@ -15,10 +15,43 @@ pub struct Wide {
     pub d: i128,
 }
 
+impl Wide {
+    /// The term `a*b - c*d`. Refused, with its four numbers, exactly where `a*b`, `c*d` or the
+    /// difference is out of range.
+    #[inline(always)]
+    pub fn evaluate(self) -> Result<i128, Wide>
+        ensures { MatchResult result (λ z. FitsTerm self × (z ≡ term_value self)) (λ w. (FitsTerm self → ⊥) × (w ≡ self)) }
+    {
+        let Some(left) = product(self.a, self.b) else {
+            return Err(self);
+        };
+        let Some(right) = product(self.c, self.d) else {
+            return Err(self);
+        };
+        match difference(left, right) {
+            Some(z) => Ok(z),
+            None => Err(self),
+        }
+    }
+}
+
+// The product of two numbers of 64 bits, which is never out of range.
+fn short_product(a: i64, b: i64) -> i128
+    ensures value { result ≡ a *ℤ b }
+    ensures in_range { InRange result }
+{
+    i128::from(a) * i128::from(b)
+}
+
 // The product, where it is in range.
 fn product(a: i128, b: i128) -> Option<i128>
     ensures { SomeIff result (InRange (a *ℤ b)) (a *ℤ b) }
 {
+    if let Ok(x) = i64::try_from(a)
+        && let Ok(y) = i64::try_from(b)
+    {
+        return Some(short_product(x, y));
+    }
     match a.checked_mul(b) {
         Some(z) if z != i128::MIN => Some(z),
         _ => None,
@@ -32,22 +65,6 @@ fn difference(a: i128, b: i128) -> Option<i128>
     match a.checked_sub(b) {
         Some(z) if z != i128::MIN => Some(z),
         _ => None,
-    }
-}
-
-// The term, or its four numbers where it passes.
-pub(crate) fn term(t: Wide) -> Result<i128, Wide>
-    ensures { MatchResult result (λ z. FitsTerm t × (z ≡ term_value t)) (λ w. (FitsTerm t → ⊥) × (w ≡ t)) }
-{
-    let Some(left) = product(t.a, t.b) else {
-        return Err(t);
-    };
-    let Some(right) = product(t.c, t.d) else {
-        return Err(t);
-    };
-    match difference(left, right) {
-        Some(z) => Ok(z),
-        None => Err(t),
     }
 }
 

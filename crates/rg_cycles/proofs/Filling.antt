@@ -1,0 +1,31 @@
+-- The dictionary of the kept vectors, filled row by row.
+use Rattle.std.proofs.Common.{◌≡◌, ℕ, ◌+◌, ◌<◌, List, [], ◌∷◌, ◌++◌, length, map, take, Vec, slice_index_or, ap, subst, sym, ◌∙◌, arith}
+use Rattle.std.specs.Prelude.{ℤ, pos, slice_index}
+use Rattle.std.specs.declared.alloc.Global.{Global}
+use Rattle.std.proofs.lemmas.List.{take_more, map-append}
+use Rattle.rg_integers.specs.Range.{InRange}
+use Rattle.rg_integers.specs.Sum.{number_at}
+use Rattle.rg_linear.specs.System.{LinearRow}
+use Rattle.rg_linear.specs.Cycle.{vector_at, vector_system}
+use Rattle.rg_dictionary.specs.Contents.{with_row}
+use Rattle.rg_cycles.specs.Vectors.{numbers_in, AreVectors}
+use Rattle.rg_cycles.proofs.Firsts.{vector_is, below_in}
+
+abbrev pub row : List ℤ → LinearRow
+row xs = record { coeffs = xs; constant = pos 0 }
+
+-- the next row
+pub row_added : (labels : ℕ) (vectors : List (List ℤ)) (kept : List ℕ) (i : ℕ) → i < length kept → (coeffs : List ℤ) → vector_at vectors (slice_index kept i) ≡ coeffs
+    → with_row (vector_system labels vectors (take i kept)) coeffs (pos 0) ≡ vector_system labels vectors (take (i + 1) kept)
+row_added labels vectors kept i lt coeffs is = λ j. record { columns = labels; rows = rows j }
+  where
+    rows : map {B = LinearRow} (λ c. record { coeffs = vector_at vectors c; constant = pos 0 }) (take i kept) ++ row coeffs ∷ [] ≡ map {B = LinearRow} (λ c. record { coeffs = vector_at vectors c; constant = pos 0 }) (take (i + 1) kept)
+    rows = ap (λ (xs : List ℤ). map {B = LinearRow} (λ c. record { coeffs = vector_at vectors c; constant = pos 0 }) (take i kept) ++ row xs ∷ []) (sym is) ∙ sym (ap (map {B = LinearRow} (λ c. record { coeffs = vector_at vectors c; constant = pos 0 })) (take_more kept i 0 lt) ∙ map-append {B = LinearRow} (λ c. record { coeffs = vector_at vectors c; constant = pos 0 }) (take i kept) (slice_index kept i ∷ []))
+
+-- a vector of code has a number for each label, in range
+module _ (labels : ℕ) (vectors : List (Vec ℤ Global)) (are : AreVectors labels (numbers_in vectors)) (c : ℕ) (lt : c < length vectors) (v : Vec ℤ Global) (at : v ≡ slice_index_or vectors c v) where
+  pub vector_length : length v.items ≡ labels
+  vector_length = ap length (sym (vector_is vectors c v lt at)) ∙ are.one_each c (below_in vectors c lt)
+
+  pub vector_in_range : (j : ℕ) → j < length v.items → InRange (number_at v.items j)
+  vector_in_range j below = subst (λ xs. InRange (number_at xs j)) (vector_is vectors c v lt at) (are.in_range c j (below_in vectors c lt) (let e = vector_length in omega arith))

@@ -1,0 +1,9 @@
+pub mod Firsts
+pub mod Steps
+pub mod Numbers
+pub mod Labels
+pub mod Relations
+pub mod Showing
+pub mod Filling
+pub mod Equations
+pub mod Folding

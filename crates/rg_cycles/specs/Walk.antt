@@ -1,0 +1,26 @@
+-- The state of the walk over the rows.
+use Rattle.std.specs.Prelude.{◌≢◌, ℕ, ◌+◌, ◌<◌, List, length, Contains, slice_index, pos, ℤ}
+use Rattle.rg_integers.specs.Sum.{number_at}
+use Rattle.rg_linear.specs.System.{LinearSystem}
+use Rattle.rg_linear.specs.Cycle.{CycleOutcome.free_set, CycleWalk, KeepsVectors, vector_system}
+use Rattle.rg_dictionary.specs.Contents.{Contents, IsDictionary}
+
+-- the member at this place is a label that the relation with these numbers names
+pub record NamesLabel (labels : ℕ) (members : List ℕ) (numbers : List ℤ) (place : ℕ) : Type 0 where
+  pub within : place < length members
+  pub label : slice_index members place < labels
+  pub named : number_at numbers (place + 2) ≢ pos 0
+
+-- it is the dictionary of some system
+abbrev pub IsWhole : Contents → Type 0
+IsWhole d = (system : LinearSystem) × IsDictionary system d
+
+-- the row variables from row i on are no members
+abbrev pub RowsAhead : Contents → ℕ → Type 0
+RowsAhead d i = (m : ℕ) → Contains d.members m → m < d.columns + i
+
+-- it is the dictionary with which the walk over these vectors ends
+pub record IsSolved (vectors : List (List ℤ)) (kept : List ℕ) (d : Contents) : Type 0 where
+  pub keeps : KeepsVectors vectors kept
+  pub dictionary : IsDictionary (vector_system d.columns vectors kept) d
+  pub walk : CycleWalk (vector_system d.columns vectors kept) (free_set d.members)

@@ -1,0 +1,33 @@
+//! The distinct vectors that aren't 0.
+ghost use Rattle.std.specs.Prelude.{◌↔◌, ◌<◌, ◌^◌, length, IsTrue, IfOk};
+ghost use Rattle.rg_linear.specs.Cycle.{KeepsVectors, IsZeroVector};
+ghost use Rattle.rg_cycles.specs.Vectors.{numbers_in};
+
+use std::alloc::{AllocError, Global};
+use std::collections::HashSet;
+
+// The places of the vectors that aren't 0, each at its first place.
+pub(crate) fn first_places(alloc: Global, vectors: &[Vec<i128>]) -> Result<Vec<u32>, AllocError>
+    requires { length vectors.now < 2 ^ 32 }
+    ensures { IfOk result (λ kept. KeepsVectors (numbers_in vectors.now) kept.items) }
+{
+    let mut seen = HashSet::new(alloc);
+    let mut kept = Vec::new(alloc);
+    for (i, vector) in vectors.iter().enumerate() {
+        if is_zero(vector) {
+            continue;
+        }
+        let is_new = seen.insert(vector.as_slice())?;
+        if is_new {
+            kept.push(i as u32)?;
+        }
+    }
+    Ok(kept)
+}
+
+// Whether each number is 0.
+fn is_zero(vector: &[i128]) -> bool
+    ensures { IsTrue result ↔ IsZeroVector vector.now }
+{
+    vector.iter().all(|z| *z == 0)
+}

@@ -1,0 +1,24 @@
+//! The equations that the cycles of a transition system put on the effects of its labels, solved.
+//!
+//! A region gives each label an effect, and along each cycle the effects add up to 0 (Badouel,
+//! Bernardinello and Darondeau, *Petri Net Synthesis*). `reduce` finds labels whose effects are free,
+//! and for each other label how its effect follows from theirs.
+#![tactic(auto)]
+
+mod basis;
+mod distinct;
+mod reading;
+mod relation;
+mod solving;
+mod stop;
+mod substitution;
+mod walk;
+
+pub use basis::Basis;
+pub use relation::Relation;
+pub use solving::reduce;
+pub use stop::{CycleWide, Stop};
+pub use substitution::{FoldStop, FreeRow, substitute};
+
+#[cfg(test)]
+mod tests;

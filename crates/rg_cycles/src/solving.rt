@@ -1,0 +1,64 @@
+//! The walk over the chords.
+ghost use Rattle.std.specs.Prelude.{◌≡◌, ◌↔◌, ℕ, ℤ, ◌+◌, ◌<◌, ◌≤◌, ◌^◌, length, Contains, IfOk, IsErrOf};
+ghost use Rattle.rg_linear.specs.Cycle.{IsCycleBasis, vector_system};
+ghost use Rattle.rg_linear.specs.Dictionary.{numbers_from};
+ghost use Rattle.rg_dictionary.specs.Contents.{IsDictionary};
+ghost use Rattle.rg_linear.specs.Descent.{WideAt};
+ghost use Rattle.rg_cycles.specs.declared.stop.Stop.TheVariants as stop;
+ghost use Rattle.rg_cycles.specs.declared.stop.CycleWide.{CycleWide};
+ghost use Rattle.rg_cycles.specs.Vectors.{numbers_in, AreVectors, AllSumsAreZero};
+ghost use Rattle.rg_cycles.specs.Solutions.{FollowsFree, RelationsHold, AreReduced};
+ghost use Rattle.rg_cycles.specs.View.{labels_of, cycle_of};
+ghost use Rattle.rg_cycles.specs.Refusal.{PassesAt, shown_term};
+
+use crate::basis::Basis;
+use crate::distinct::first_places;
+use crate::stop::Stop;
+use crate::walk::walk;
+use rg_dictionary::Dictionary;
+use std::alloc::{AllocError, Global};
+
+/// Solves the equations that each chord has the value 0, over the effects of so many labels. A chord has
+/// one entry for each label. The distinct chords that aren't 0 are taken in order; each whose relation
+/// names a label is exchanged with the least such label. Labels that are left over are free.
+///
+/// `Stop::Wide` comes exactly where a term on this walk is out of range, with the first such term.
+/// `Stop::NoMemory` where there is no memory.
+pub fn reduce(alloc: Global, labels: u32, chords: &[Vec<i128>]) -> Result<Basis, Stop>
+    requires labels { labels ≤ 256 }
+    requires chords { length chords.now ≤ 262144 }
+    requires vectors { AreVectors labels (numbers_in chords.now) }
+    ensures labels { IfOk result (λ b. labels_of b ≡ labels) }
+    ensures basis { IfOk result (λ b. IsCycleBasis labels (numbers_in chords.now) (cycle_of b)) }
+    ensures solutions { IfOk result (λ b. (v : ℕ → ℤ) → AllSumsAreZero labels (numbers_in chords.now) v ↔ FollowsFree labels (cycle_of b) v) }
+    ensures holds { IfOk result (λ b. RelationsHold labels (cycle_of b) (numbers_in chords.now)) }
+    ensures reduced { IfOk result (λ b. AreReduced labels (cycle_of b)) }
+    ensures fits { IfOk result (λ _. (at : WideAt) → ¬ PassesAt labels (numbers_in chords.now) at) }
+    ensures wide { (w : CycleWide) → IsErrOf result (stop.Wide w) → PassesAt labels (numbers_in chords.now) (shown_term w) }
+{
+    let kept = first_places(alloc, chords)?;
+    let mut dictionary = filled(alloc, labels, chords, &kept)?;
+    walk(alloc, &mut dictionary)?;
+    let basis = Basis::read(alloc, &dictionary, kept)?;
+    Ok(basis)
+}
+
+// The dictionary of the rows that these vectors are, over so many columns.
+fn filled(
+    alloc: Global,
+    labels: u32,
+    vectors: &[Vec<i128>],
+    kept: &[u32],
+) -> Result<Dictionary, AllocError>
+    requires few { labels + length kept.now < 2 ^ 32 }
+    requires kept { (c : ℕ) → Contains kept.now c → c < length vectors.now }
+    requires vectors { AreVectors labels (numbers_in vectors.now) }
+    ensures whole { IfOk result (IsDictionary (vector_system labels (numbers_in vectors.now) kept.now)) }
+    ensures start { IfOk result (λ d. d.members ≡ numbers_from 0 d.columns) }
+{
+    let mut dictionary = Dictionary::with_columns(alloc, labels, kept.len() as u32)?;
+    for &place in kept {
+        dictionary.push_row(&vectors[place as usize], 0);
+    }
+    Ok(dictionary)
+}

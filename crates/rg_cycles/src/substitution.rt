@@ -1,0 +1,97 @@
+//! Sums of effects, written over the free labels.
+ghost use Rattle.std.specs.Prelude.{◌≡◌, ℕ, ◌<◌, map, length, slice_index, Ok, Err, IfOk, IsErrOf};
+ghost use Rattle.rg_integers.specs.Range.{InRange};
+ghost use Rattle.rg_integers.specs.Sum.{number_at};
+ghost use Rattle.rg_fraction.specs.declared.term.Wide.{Wide};
+ghost use Rattle.rg_folds.specs.Fold.{whole, ratio_of, shown_result, quotient, mul, and_then};
+ghost use Rattle.rg_folds.specs.Rewriting.{free_labels, coefficient_fold, substitute_fold};
+ghost use Rattle.rg_cycles.specs.declared.substitution.FoldStop.TheVariants as stop;
+ghost use Rattle.rg_cycles.specs.Basis.{IsRelationInRange};
+ghost use Rattle.rg_cycles.specs.View.{labels_of, cycle_of};
+
+use crate::basis::Basis;
+use crate::relation::Relation;
+use rg_fraction::{Fraction, Wide};
+use std::alloc::{AllocFailed, Global};
+
+/// Why a sum wasn't written over the free labels.
+#[derive(Clone, Copy, PartialEq, Eq, Debug)]
+pub enum FoldStop {
+    /// A step is out of range: the four numbers of the first such one.
+    Wide(Wide),
+    /// There is no memory left.
+    NoMemory,
+}
+
+impl<T: Drop> From<AllocFailed<T>> for FoldStop {
+    ghost from_gives = { λ _ e. e ≡ stop.NoMemory };
+
+    fn from(_: AllocFailed<T>) -> FoldStop {
+        FoldStop::NoMemory
+    }
+}
+
+impl From<Wide> for FoldStop {
+    ghost from_gives = { λ w e. e ≡ stop.Wide w };
+
+    fn from(w: Wide) -> FoldStop {
+        FoldStop::Wide(w)
+    }
+}
+
+/// A sum over the free labels: one coefficient for each, in order.
+#[derive(PartialEq, Debug, Drop)]
+pub struct FreeRow {
+    pub coeffs: Vec<Fraction>,
+}
+
+/// The sum of the effects of all labels, each times its count, over the free labels: where the cycle
+/// equations hold, it is the sum of the effects of the free labels, each times its coefficient. There is
+/// one count for each label.
+///
+/// The coefficient of a free label is its own count, to which each label that isn't free, in order, adds
+/// its count times the quotient of its number and its `d`. `FoldStop::Wide` comes exactly where a step of
+/// this, label by label, is out of range, with the first such step; `FoldStop::NoMemory` where there is
+/// no memory.
+pub fn substitute(alloc: Global, basis: &Basis, counts: &[i128]) -> Result<FreeRow, FoldStop>
+    requires counts { length counts.now ≡ labels_of basis.now }
+    requires in_range { (t : ℕ) → t < length counts.now → InRange (number_at counts.now t) }
+    ensures value { IfOk result (λ row. substitute_fold (labels_of basis.now) (cycle_of basis.now) (number_at counts.now) (Ok (map ratio_of row.coeffs.items))) }
+    ensures wide { (w : Wide) → IsErrOf result (stop.Wide w) → substitute_fold (labels_of basis.now) (cycle_of basis.now) (number_at counts.now) (Err w) }
+{
+    let mut coeffs = Vec::new(alloc);
+    for place in 0..basis.free().len() {
+        let sum = coefficient(basis, counts, place)?;
+        coeffs.push(sum)?;
+    }
+    Ok(FreeRow { coeffs })
+}
+
+// The coefficient of the free label at this place.
+fn coefficient(basis: &Basis, counts: &[i128], place: usize) -> Result<Fraction, Wide>
+    requires counts { length counts.now ≡ labels_of basis.now }
+    requires in_range { (t : ℕ) → t < length counts.now → InRange (number_at counts.now t) }
+    requires place { place < length (free_labels (labels_of basis.now) (cycle_of basis.now)) }
+    ensures { coefficient_fold (labels_of basis.now) (cycle_of basis.now) (number_at counts.now) (slice_index (free_labels (labels_of basis.now) (cycle_of basis.now)) place) (shown_result ratio_of result) }
+{
+    let own = basis.free()[place];
+    let mut sum = Fraction::new(counts[own as usize], 1);
+    for (t, &count) in counts.iter().enumerate() {
+        if let Some(relation) = basis.relation(t as u32) {
+            let term = term_of(relation, count, place)?;
+            sum = sum.add(term)?;
+        }
+    }
+    Ok(sum)
+}
+
+// What a label with this relation and this count adds to the coefficient of the free label at this place.
+fn term_of(relation: &Relation, count: i128, place: usize) -> Result<Fraction, Wide>
+    requires place { place < length relation.now.free.items }
+    requires count_in_range { InRange count }
+    requires relation_in_range { IsRelationInRange relation.now }
+    ensures { and_then (quotient (number_at relation.now.free.items place) relation.now.d) (mul (whole count)) (shown_result ratio_of result) }
+{
+    let share = Fraction::new(relation.free[place], relation.d);
+    Fraction::new(count, 1).mul(share)
+}

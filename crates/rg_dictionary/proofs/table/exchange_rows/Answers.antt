@@ -1,0 +1,56 @@
+use Rattle.std.proofs.Common.{◌≡◌, ◌+◌, ◌*◌, ◌-◌, length, arith, le_refl, subst, sym, ◌∙◌}
+use Rattle.std.specs.Prelude.{pos}
+use Rattle.std.proofs.lemmas.Bool.{false≢true}
+use Rattle.rg_integers.specs.Sum.{number_at}
+use Rattle.rg_dictionary.specs.Renewal.{row_at, RowInRange, FirstOfRow, IsExchangedRow, RowsExchanged, IsKept}
+use Rattle.rg_dictionary.proofs.TableRows.{part_is, length-part, in_range-put, in_range-part, row_other, rows_skipped, rows_more, first_of_rows}
+use Rattle.rg_dictionary.proofs.table.exchange_rows.Goals as goal
+use Rattle.rg_dictionary.proofs.table.exchange_rows.Goals.{then-w-pivot+then-not-is_member+in-Ok, else-w-pivot, else-w-pivot-via-then-w-pivot+else-not-is_member, else-w-pivot-via-else-w-pivot}
+
+pub exchange_row-requires-clause-in_range : goal.exchange_row-requires-clause-in_range
+exchange_row-requires-clause-in_range c = in_range-part _ _ c.loop-w.table c.loop-w.invariant.in_range
+
+pub returns-in-Err-clause-rows : goal.returns-in-Err-clause-rows
+returns-in-Err-clause-rows c =
+    let h = (c.in-Err.ensures {u = tt}).row in
+    let is = part_is (length c.args.pivot_row.now) c.args.table.now c.loop-w.table c.loop-w.w (c.loop-w.invariant.left c.loop-w.w (le_refl c.loop-w.w)) in
+    let kept : IsKept c.args.members.now c.args.pivot c.loop-w.w = ((λ has. false≢true (sym c.if-not-is_member.true ∙ c.is_member.ensures.1 has)), c.if-w-pivot.true) in (
+      c.loop-w-test.true,
+      first_of_rows c.args.members.now c.args.pivot (length c.args.pivot_row.now) c.args.pivot_row.now c.args.table.now c.loop-w.table c.args.p c.args.q c.loop-w.w c.args.variables c.in-Err.e.at c.in-Err.e.wide
+          c.loop-w.invariant.rows c.requires.size c.loop-w-test.true kept
+          (λ e. h.0 (subst (λ x. number_at x c.args.p ≡ pos 0) (sym is) e))
+          (subst (λ x. FirstOfRow c.args.pivot_row.now x c.args.p c.in-Err.e.at c.in-Err.e.wide) is h.1),
+    )
+
+pub returns-in-Err-clause-in_range : goal.returns-in-Err-clause-in_range
+returns-in-Err-clause-in_range c = in_range-put _ _ c.loop-w.table c.exchange_row.new.row c.loop-w.invariant.in_range (c.in-Err.ensures {u = tt}).in_range
+
+pub loop-w-preserved : goal.loop-w-preserved
+loop-w-preserved c = elim c.if-w-pivot.branch [
+  | then-w-pivot+then-not-is_member+in-Ok w ↦ (
+      let h = w.in-Ok.ensures {u = tt} in
+      let old : length c.loop-w.table ≡ c.args.variables * length c.args.pivot_row.now = c.loop-w.invariant.rows.same_length ∙ c.requires.size in
+      let size = length-part (length c.args.pivot_row.now) c.loop-w.table w.exchange_row.new.row c.args.variables c.loop-w.w old c.loop-w-test.true w.exchange_row.auto.row in
+      let is = part_is (length c.args.pivot_row.now) c.args.table.now c.loop-w.table c.loop-w.w (c.loop-w.invariant.left c.loop-w.w (le_refl c.loop-w.w)) in
+      let row = subst (λ x. IsExchangedRow c.args.pivot_row.now x w.exchange_row.new.row c.args.p c.args.q) is h.row in
+      let k : (c.loop-w.w * length c.args.pivot_row.now + length c.args.pivot_row.now) - c.loop-w.w * length c.args.pivot_row.now ≡ length c.args.pivot_row.now = omega arith in
+      record {
+        rows = subst (λ t. RowsExchanged c.args.members.now c.args.pivot (length c.args.pivot_row.now) c.args.pivot_row.now c.args.table.now t c.args.p c.args.q (c.loop-w.w + 1)) (sym w.table-is)
+            (rows_more c.args.members.now c.args.pivot (length c.args.pivot_row.now) c.args.pivot_row.now c.args.table.now c.loop-w.table w.exchange_row.new.row c.args.p c.args.q c.loop-w.w c.args.variables _
+            c.loop-w.invariant.rows c.requires.size c.loop-w-test.true k size row (subst (λ t. length t ≡ length c.args.table.now) w.table-is (c.if-w-pivot.auto.table ∙ c.loop-w.invariant.rows.same_length)));
+        in_range = subst RowInRange (sym w.table-is) (in_range-put _ _ c.loop-w.table w.exchange_row.new.row c.loop-w.invariant.in_range h.in_range);
+        left = λ v le. subst (λ t. row_at (length c.args.pivot_row.now) t v ≡ row_at (length c.args.pivot_row.now) c.args.table.now v) (sym w.table-is)
+            (row_other (length c.args.pivot_row.now) c.loop-w.table w.exchange_row.new.row c.args.variables c.loop-w.w _ v old c.loop-w-test.true size k (λ e. omega arith) ∙ c.loop-w.invariant.left v (omega arith));
+      })
+  | else-w-pivot w ↦ (
+      let none : IsKept c.args.members.now c.args.pivot c.loop-w.w → ⊥ = λ kept. elim w.else-w-pivot.branch [
+        | else-w-pivot-via-then-w-pivot+else-not-is_member w' ↦ kept.0 (w'.is_member.ensures.0 w'.if-not-is_member.false)
+        | else-w-pivot-via-else-w-pivot w' ↦ kept.1 w'.if-w-pivot.false
+      ] in
+      record {
+        rows = subst (λ t. RowsExchanged c.args.members.now c.args.pivot (length c.args.pivot_row.now) c.args.pivot_row.now c.args.table.now t c.args.p c.args.q (c.loop-w.w + 1)) (sym w.table-is)
+            (rows_skipped c.args.members.now c.args.pivot (length c.args.pivot_row.now) c.args.pivot_row.now c.args.table.now c.loop-w.table c.args.p c.args.q c.loop-w.w c.loop-w.invariant.rows none);
+        in_range = subst RowInRange (sym w.table-is) c.loop-w.invariant.in_range;
+        left = λ v le. subst (λ t. row_at (length c.args.pivot_row.now) t v ≡ row_at (length c.args.pivot_row.now) c.args.table.now v) (sym w.table-is) (c.loop-w.invariant.left v (omega arith));
+      })
+]

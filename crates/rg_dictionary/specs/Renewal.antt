@@ -1,0 +1,110 @@
+-- The rows of a table in an exchange, number by number.
+use Rattle.std.specs.Prelude.{◌≡◌, ◌≢◌, ℕ, suc, ◌+◌, ◌*◌, ◌<◌, ◌≤◌, ◌-◌, nat_lt, ◌==◌, if◌then◌else◌, List, length, slice_range, Contains, ℤ, pos, neg_ℤ, ◌*ℤ◌}
+use Rattle.std.specs.List.{insert, remove}
+use Rattle.rg_integers.specs.Range.{InRange}
+use Rattle.rg_integers.specs.Sign.{sign}
+use Rattle.rg_integers.specs.Sum.{number_at}
+use Rattle.rg_fraction.specs.declared.term.Wide.{Wide}
+use Rattle.rg_fraction.specs.Terms.{term_value, FitsTerm}
+use Rattle.rg_fraction.specs.Rows.{IsPrimitivePart}
+
+-- every number is in range
+abbrev pub RowInRange : List ℤ → Type 0
+RowInRange row = (n : ℕ) → n < length row → InRange (number_at row n)
+
+-- the row of the pivot, with the sign at which its number at place p is positive
+pub record IsSigned (row signed : List ℤ) (p : ℕ) : Type 0 where
+  pub same_length : length signed ≡ length row
+  pub numbers : (n : ℕ) → n < length row → number_at signed n ≡ sign (number_at row p) *ℤ number_at row n
+
+-- the term of place n, where the pivot's number for the member that leaves is size, and the row's is leaving
+abbrev pub place_term : List ℤ → List ℤ → ℤ → ℤ → ℕ → Wide
+place_term pivot row size leaving n = record { a = number_at row n; b = size; c = number_at pivot n; d = leaving }
+
+-- the places from one to before another hold the values of their terms, which fit, and the others are as they were
+pub record RenewsBetween (pivot old new : List ℤ) (size leaving : ℤ) (from to : ℕ) : Type 0 where
+  pub same_length : length new ≡ length old
+  pub fits : (n : ℕ) → from ≤ n → n < to → FitsTerm (place_term pivot old size leaving n)
+  pub values : (n : ℕ) → from ≤ n → n < to → number_at new n ≡ term_value (place_term pivot old size leaving n)
+  pub before : (n : ℕ) → n < from → number_at new n ≡ number_at old n
+  pub after : (n : ℕ) → to ≤ n → number_at new n ≡ number_at old n
+
+-- the term of place n is the first from a place on that passes
+pub record FirstBetween (pivot row : List ℤ) (size leaving : ℤ) (from to n : ℕ) (w : Wide) : Type 0 where
+  pub after : from ≤ n
+  pub below : n < to
+  pub is : w ≡ place_term pivot row size leaving n
+  pub passes : FitsTerm w → ⊥
+  pub first : (m : ℕ) → from ≤ m → m < n → FitsTerm (place_term pivot row size leaving m)
+
+-- the place of term e, where the member that leaves stands at place p: its own place comes last
+abbrev pub place_of : ℕ → ℕ → ℕ
+place_of p e = if nat_lt e p then e else suc e
+
+-- term number e of the renewal of a row of so many numbers, by the signed row of the pivot
+abbrev pub renewal_term : List ℤ → List ℤ → ℕ → ℕ → Wide
+renewal_term pivot row p e =
+    if e == 0
+    then record { a = number_at row 0; b = number_at pivot p; c = pos 0; d = pos 0 }
+    else (if suc e == length row
+    then record { a = pos 0; b = number_at pivot p; c = neg_ℤ (number_at pivot 0); d = number_at row p }
+    else place_term pivot row (number_at pivot p) (number_at row p) (place_of p e))
+
+-- every term fits, and each place holds the value of its own
+pub record IsRenewed (pivot old new : List ℤ) (p : ℕ) : Type 0 where
+  pub same_length : length new ≡ length old
+  pub fits : (e : ℕ) → e < length old → FitsTerm (renewal_term pivot old p e)
+  pub values : (e : ℕ) → suc e < length old → number_at new (place_of p e) ≡ term_value (renewal_term pivot old p e)
+  pub last : number_at new p ≡ term_value (renewal_term pivot old p (length old - 1))
+
+-- w is term number e, and the first that passes
+pub record FirstOfRow (pivot row : List ℤ) (p e : ℕ) (w : Wide) : Type 0 where
+  pub inside : e < length row
+  pub is : w ≡ renewal_term pivot row p e
+  pub passes : FitsTerm w → ⊥
+  pub first : (m : ℕ) → m < e → FitsTerm (renewal_term pivot row p m)
+
+-- the number at place p goes to place q, and those between move up
+abbrev pub moved : List ℤ → ℕ → ℕ → List ℤ
+moved row p q = insert (remove row p) q (number_at row p)
+
+-- a row that is renewed, divided by the greatest common divisor of its numbers, and moved
+pub record IsDivided (pivot old new : List ℤ) (p q : ℕ) : Type 0 where
+  pub raw : List ℤ
+  pub reduced : List ℤ
+  pub divisor : ℕ
+  pub renewed : IsRenewed pivot old raw p
+  pub part : IsPrimitivePart raw reduced divisor
+  pub is : new ≡ moved reduced p q
+
+-- the row of a variable after the exchange: it is only moved where the member that leaves isn't named
+pub record IsExchangedRow (pivot old new : List ℤ) (p q : ℕ) : Type 0 where
+  pub stays : number_at old p ≡ pos 0 → new ≡ moved old p q
+  pub changes : number_at old p ≢ pos 0 → IsDivided pivot old new p q
+
+-- the row of the member that leaves, from the signed row of the pivot, before it is moved
+pub record IsTurned (pivot turned : List ℤ) (p : ℕ) : Type 0 where
+  pub same_length : length turned ≡ length pivot
+  pub d : number_at turned 0 ≡ number_at pivot p
+  pub others : (n : ℕ) → 0 < n → n < length pivot → n ≢ p → number_at turned n ≡ neg_ℤ (number_at pivot n)
+  pub new : number_at turned p ≡ number_at pivot 0
+
+-- the row of a variable in a table with rows of so many numbers
+abbrev pub row_at : ℕ → List ℤ → ℕ → List ℤ
+row_at width table w = slice_range table (w * width) ((w + 1) * width)
+
+-- the row of this variable is renewed: it is neither a member nor the pivot
+abbrev pub IsKept : List ℕ → ℕ → ℕ → Type 0
+IsKept members i w = (Contains members w → ⊥) × (w ≢ i)
+
+-- the rows of the variables below w but the members and the pivot are exchanged
+pub record RowsExchanged (members : List ℕ) (i width : ℕ) (pivot old new : List ℤ) (p q w : ℕ) : Type 0 where
+  pub same_length : length new ≡ length old
+  pub done : (v : ℕ) → v < w → IsKept members i v → IsExchangedRow pivot (row_at width old v) (row_at width new v) p q
+
+-- the first term that passes is in the row of variable w
+pub record FirstOfRows (members : List ℕ) (i width : ℕ) (pivot table : List ℤ) (p w e : ℕ) (t : Wide) : Type 0 where
+  pub kept : IsKept members i w
+  pub named : number_at (row_at width table w) p ≢ pos 0
+  pub row : FirstOfRow pivot (row_at width table w) p e t
+  pub first : (v : ℕ) → v < w → IsKept members i v → number_at (row_at width table v) p ≢ pos 0 → (m : ℕ) → m < width → FitsTerm (renewal_term pivot (row_at width table v) p m)

@@ -1,0 +1,12 @@
+//! The table of the relations that a free set of variables fixes, changed in place by exchanges.
+#![tactic(auto)]
+
+mod dictionary;
+mod row;
+mod table;
+
+pub use dictionary::Dictionary;
+pub use table::ExchangeWide;
+
+#[cfg(test)]
+mod tests;

@@ -1,0 +1,208 @@
+//! One row of the table in an exchange.
+
+ghost use Rattle.std.specs.Prelude.{◌≡◌, ◌≢◌, ◌<◌, ◌≤◌, List, ℤ, length, pos, neg_ℤ, ◌*ℤ◌, MatchResult};
+ghost use Rattle.rg_integers.specs.Range.{InRange};
+ghost use Rattle.rg_integers.specs.Sign.{sign};
+ghost use Rattle.rg_integers.specs.Sum.{number_at};
+ghost use Rattle.rg_dictionary.specs.Renewal.{RowInRange, IsSigned, RenewsBetween, FirstBetween, IsRenewed, FirstOfRow, moved, IsExchangedRow, IsTurned};
+
+use rg_fraction::{Wide, reduce};
+
+/// A place of a row whose term is out of range, or the term's number, and its four numbers.
+#[derive(Clone, Copy, PartialEq, Eq, Debug)]
+pub(crate) struct RowWide {
+    pub(crate) at: usize,
+    pub(crate) wide: Wide,
+}
+
+// The number, or its negative where `of` is negative.
+fn signed_by(of: i128, z: i128) -> i128
+    requires { InRange z }
+    ensures value { result ≡ sign of *ℤ z }
+    ensures in_range { InRange result }
+{
+    if of < 0 { -z } else { z }
+}
+
+// The negative, which is in range too.
+fn negated(z: i128) -> i128
+    requires { InRange z }
+    ensures value { result ≡ neg_ℤ z }
+    ensures in_range { InRange result }
+{
+    -z
+}
+
+/// Copies the pivot's row, with the sign at which the number at place `p` is positive.
+pub(crate) fn copy_signed(row: &[i128], signed: &mut [i128], p: usize)
+    requires same_length { length row.now ≡ length signed.old }
+    requires place { p < length row.now }
+    requires in_range { RowInRange row.now }
+    ensures signed { IsSigned row.now signed.new p }
+    ensures in_range { RowInRange signed.new }
+{
+    for n in 0..row.len() {
+        let z = signed_by(row[p], row[n]);
+        signed[n] = z;
+    }
+}
+
+// The places from `from` to before `to` get the values of their terms; else the first place whose term passes.
+fn renew_between(
+    row: &mut [i128],
+    pivot: &[i128],
+    size: i128,
+    leaving: i128,
+    from: usize,
+    to: usize,
+) -> Result<(), RowWide>
+    requires same_length { length pivot.now ≡ length row.old }
+    requires range { from ≤ to }
+    requires inside { to ≤ length row.old }
+    requires in_range { RowInRange row.old }
+    ensures renewed { MatchResult result (λ _. RenewsBetween pivot.now row.old row.new size leaving from to) (λ e. FirstBetween pivot.now row.old size leaving from to e.at e.wide) }
+    ensures in_range { RowInRange row.new }
+{
+    for n in from..to {
+        let term = Wide {
+            a: row[n],
+            b: size,
+            c: pivot[n],
+            d: leaving,
+        };
+        match term.evaluate() {
+            Ok(z) => row[n] = z,
+            Err(wide) => return Err(RowWide { at: n, wide }),
+        }
+    }
+    Ok(())
+}
+
+/// The row gets the values of its terms, that of the new member at place `p`; else the number of the first
+/// term that passes.
+fn renew(row: &mut [i128], pivot: &[i128], p: usize) -> Result<(), RowWide>
+    requires same_length { length pivot.now ≡ length row.old }
+    requires place { p < length row.old }
+    requires after_constant { 1 < p }
+    requires pivot_in_range { RowInRange pivot.now }
+    requires in_range { RowInRange row.old }
+    ensures renewed { MatchResult result (λ _. IsRenewed pivot.now row.old row.new p) (λ e. FirstOfRow pivot.now row.old p e.at e.wide) }
+    ensures in_range { RowInRange row.new }
+{
+    let size = pivot[p];
+    let leaving = row[p];
+    let first = Wide {
+        a: row[0],
+        b: size,
+        c: 0,
+        d: 0,
+    };
+    match first.evaluate() {
+        Ok(z) => row[0] = z,
+        Err(wide) => return Err(RowWide { at: 0, wide }),
+    }
+    match renew_between(row, pivot, size, leaving, 1, p) {
+        Ok(()) => {}
+        Err(e) => return Err(e),
+    }
+    match renew_between(row, pivot, size, leaving, p + 1, row.len()) {
+        Ok(()) => {}
+        Err(e) => {
+            return Err(RowWide {
+                at: e.at - 1,
+                wide: e.wide,
+            });
+        }
+    }
+    let c = negated(pivot[0]);
+    let last = Wide {
+        a: 0,
+        b: size,
+        c,
+        d: leaving,
+    };
+    match last.evaluate() {
+        Ok(z) => {
+            row[p] = z;
+            Ok(())
+        }
+        Err(wide) => Err(RowWide {
+            at: row.len() - 1,
+            wide,
+        }),
+    }
+}
+
+// The number at place `p` goes to place `q`.
+fn move_number(row: &mut [i128], p: usize, q: usize)
+    requires from { p < length row.old }
+    requires to { q < length row.old }
+    ensures { row.new ≡ moved row.old p q }
+{
+    let number = row[p];
+    if p < q {
+        row.copy_within(p + 1..q + 1, p);
+    } else {
+        row.copy_within(q..p, q + 1);
+    }
+    row[q] = number;
+}
+
+/// The row of a variable outside the set, over the new set: the member at place `p` leaves, and the pivot's
+/// number comes to place `q`. Else the number of the first term that passes.
+pub(crate) fn exchange_row(
+    row: &mut [i128],
+    pivot: &[i128],
+    p: usize,
+    q: usize,
+) -> Result<(), RowWide>
+    requires same_length { length pivot.now ≡ length row.old }
+    requires place { p < length row.old }
+    requires after_constant { 1 < p }
+    requires new_place { q < length row.old }
+    requires pivot_in_range { RowInRange pivot.now }
+    requires in_range { RowInRange row.old }
+    ensures row { MatchResult result (λ _. IsExchangedRow pivot.now row.old row.new p q) (λ e. (number_at row.old p ≢ pos 0) × FirstOfRow pivot.now row.old p e.at e.wide) }
+    ensures in_range { RowInRange row.new }
+{
+    if row[p] != 0 {
+        match renew(row, pivot, p) {
+            Ok(()) => {}
+            Err(e) => return Err(e),
+        }
+        reduce(row);
+    }
+    move_number(row, p, q);
+    Ok(())
+}
+
+// The row of the member that leaves, at place `p`, before it is moved.
+fn turn(row: &mut [i128], pivot: &[i128], p: usize)
+    requires same_length { length pivot.now ≡ length row.old }
+    requires place { p < length row.old }
+    requires after_constant { 1 < p }
+    requires pivot_in_range { RowInRange pivot.now }
+    ensures turned { IsTurned pivot.now row.new p }
+    ensures in_range { RowInRange row.new }
+{
+    for n in 0..row.len() {
+        let z = negated(pivot[n]);
+        row[n] = z;
+    }
+    row[0] = pivot[p];
+    row[p] = pivot[0];
+}
+
+/// The row of the member that leaves: the pivot's relation, solved for it.
+pub(crate) fn write_leaving(row: &mut [i128], pivot: &[i128], p: usize, q: usize)
+    requires same_length { length pivot.now ≡ length row.old }
+    requires place { p < length row.old }
+    requires after_constant { 1 < p }
+    requires new_place { q < length row.old }
+    requires pivot_in_range { RowInRange pivot.now }
+    ensures row { (turned : List ℤ) × IsTurned pivot.now turned p × (row.new ≡ moved turned p q) }
+    ensures in_range { RowInRange row.new }
+{
+    turn(row, pivot, p);
+    move_number(row, p, q);
+}

@@ -1,0 +1,146 @@
+//! The rows of the table in an exchange.
+
+ghost use Rattle.std.specs.Prelude.{◌≡◌, ◌≢◌, ◌↔◌, ℕ, ◌+◌, ◌*◌, ◌^◌, ◌<◌, ◌≤◌, IsTrue, length, Contains, slice_index, pos, MatchResult};
+ghost use Rattle.std.specs.List.Sorted.{IsStrictlyIncreasing};
+ghost use Rattle.rg_integers.specs.Sum.{number_at};
+ghost use Rattle.rg_linear.specs.System.{LinearSystem, variables as variables_of};
+ghost use Rattle.rg_linear.specs.Dictionary.{IsFree};
+ghost use Rattle.rg_linear.specs.Exchange.{without, exchanged, AllFit, FirstWide};
+ghost use Rattle.rg_linear.specs.Table.{IsTable, place_for};
+ghost use Rattle.rg_dictionary.specs.Renewal.{RowInRange, row_at, RowsExchanged, FirstOfRows};
+
+use crate::row::{copy_signed, exchange_row, write_leaving};
+use rg_fraction::Wide;
+
+/// The first term of an exchange that is out of range: in the new relation of the variable `target`
+/// it is term number `entry`, counted from 0, and has the four numbers of `wide`.
+#[derive(Clone, Copy, PartialEq, Eq, Debug)]
+pub struct ExchangeWide {
+    pub target: u32,
+    pub entry: u32,
+    pub wide: Wide,
+}
+
+// How many members are below the variable.
+fn members_below(members: &[u32], variable: u32) -> usize
+    requires { IsStrictlyIncreasing members.now }
+    ensures bound { result ≤ length members.now }
+    ensures below { (k : ℕ) → k < result → slice_index members.now k < variable }
+    ensures others { (k : ℕ) → result ≤ k → k < length members.now → variable ≤ slice_index members.now k }
+{
+    members.partition_point(|member| *member < variable)
+}
+
+/// Whether the variable is a member.
+pub(crate) fn is_member(members: &[u32], variable: u32) -> bool
+    requires { IsStrictlyIncreasing members.now }
+    ensures { IsTrue result ↔ Contains members.now variable }
+{
+    let below = members_below(members, variable);
+    below < members.len() && members[below] == variable
+}
+
+/// The place of the pivot among the members, where the one at this place has left.
+pub(crate) fn new_place(members: &[u32], place: usize, pivot: u32) -> usize
+    requires ordered { IsStrictlyIncreasing members.now }
+    requires place { place < length members.now }
+    requires outside { Contains members.now pivot → ⊥ }
+    ensures value { result ≡ place_for pivot (without (slice_index members.now place) members.now) }
+    ensures bound { result < length members.now }
+{
+    let below = members_below(members, pivot);
+    if place < below { below - 1 } else { below }
+}
+
+/// The rows of all variables but the members and the pivot, over the new set: the member at place `p` of a
+/// row leaves, and the pivot's number comes to place `q`. Else the first term that passes.
+pub(crate) fn exchange_rows(
+    table: &mut [i128],
+    members: &[u32],
+    pivot: u32,
+    pivot_row: &[i128],
+    p: usize,
+    q: usize,
+    variables: u32,
+) -> Result<(), ExchangeWide>
+    requires size { length table.old ≡ variables * length pivot_row.now }
+    requires ordered { IsStrictlyIncreasing members.now }
+    requires place { p < length pivot_row.now }
+    requires after_constant { 1 < p }
+    requires new_place { q < length pivot_row.now }
+    requires short { length pivot_row.now ≤ 2 ^ 32 }
+    requires pivot_in_range { RowInRange pivot_row.now }
+    requires in_range { RowInRange table.old }
+    ensures rows { MatchResult result (λ _. RowsExchanged members.now pivot (length pivot_row.now) pivot_row.now table.old table.new p q variables) (λ e. (e.target < variables) × FirstOfRows members.now pivot (length pivot_row.now) pivot_row.now table.old p e.target e.entry e.wide) }
+    ensures in_range { RowInRange table.new }
+{
+    let width = pivot_row.len();
+    for w in 0..variables {
+        if w != pivot && !is_member(members, w) {
+            let start = w as usize * width;
+            match exchange_row(&mut table[start..start + width], pivot_row, p, q) {
+                Ok(()) => {}
+                Err(e) => {
+                    return Err(ExchangeWide {
+                        target: w,
+                        entry: e.at as u32,
+                        wide: e.wide,
+                    });
+                }
+            }
+        }
+    }
+    Ok(())
+}
+
+/// The table over the set in which the pivot stands in place of the member at `place`, at place `to` of
+/// the new members; else the first term that passes. `pivot_row` is a place to work in.
+pub(crate) fn exchange_table(
+    table: &mut [i128],
+    members: &[u32],
+    pivot_row: &mut [i128],
+    pivot: u32,
+    place: usize,
+    to: usize,
+    variables: u32,
+) -> Result<(), ExchangeWide>
+    requires size { length table.old ≡ variables * (length members.now + 2) }
+    requires width { length pivot_row.old ≡ length members.now + 2 }
+    requires ordered { IsStrictlyIncreasing members.now }
+    requires within { (k : ℕ) → k < length members.now → slice_index members.now k < variables }
+    requires pivot { pivot < variables }
+    requires outside { Contains members.now pivot → ⊥ }
+    requires place { place < length members.now }
+    requires new_place { to ≡ place_for pivot (without (slice_index members.now place) members.now) }
+    requires to_inside { to < length members.now }
+    requires in_range { RowInRange table.old }
+    ensures exact { (system : LinearSystem) → variables_of system ≡ variables → IsFree system members.now → IsTable system members.now table.old
+        → number_at (row_at (length members.now + 2) table.old pivot) (place + 2) ≢ pos 0 → MatchResult result
+        (λ _. AllFit system members.now pivot (slice_index members.now place) × IsTable system (exchanged members.now pivot (slice_index members.now place)) table.new)
+        (λ e. FirstWide system members.now pivot (slice_index members.now place) e.target e.entry e.wide) }
+    ensures in_range { RowInRange table.new }
+{
+    let width = pivot_row.len();
+    let start = pivot as usize * width;
+    copy_signed(&table[start..start + width], pivot_row, place + 2);
+    match exchange_rows(
+        table,
+        members,
+        pivot,
+        pivot_row,
+        place + 2,
+        to + 2,
+        variables,
+    ) {
+        Ok(()) => {}
+        Err(wide) => return Err(wide),
+    }
+    let start = members[place] as usize * width;
+    write_leaving(
+        &mut table[start..start + width],
+        pivot_row,
+        place + 2,
+        to + 2,
+    );
+    Ok(())
+}

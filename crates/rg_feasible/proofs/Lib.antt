@@ -1,0 +1,7 @@
+pub mod Fixed
+pub mod Choosing
+pub mod Descending
+pub mod Shown
+pub mod Filling
+pub mod Ends
+pub mod Testing

@@ -1,0 +1,3 @@
+pub mod View
+pub mod Settling
+pub mod Steps

@@ -1,0 +1,152 @@
+//! The dictionary of a system, and the descent on it.
+
+ghost use Rattle.std.specs.Prelude.{◌≡◌, ◌↔◌, ℕ, ◌+◌, ◌<◌, ℤ, pos, ◌≤ℤ◌, length, Contains, slice_index, IfOk, IfSome, IfNone};
+ghost use Rattle.rg_linear.specs.System.{LinearSystem, AreFarkasMultipliers};
+ghost use Rattle.rg_linear.specs.Dictionary.{numbers_from, IsFree};
+ghost use Rattle.rg_dictionary.specs.Contents.{IsDictionary, SameShape};
+ghost use Rattle.rg_fraction.specs.Fractions.{IsValue};
+ghost use Rattle.rg_feasible.specs.declared.settled.Settled.TheVariants as ends;
+ghost use Rattle.rg_feasible.specs.Settling.{IsDictionaryOf, IsWhole, IsFresh, IsOutcome, IsLeftBy, IsBasicPoint, IsFeasibleAt, IsRefutation, multiplier_with};
+
+use crate::descent::descend;
+use crate::no_memory::NoMemory;
+use crate::settled::Settled;
+use crate::system::System;
+use rg_dictionary::Dictionary as Table;
+use rg_fraction::Fraction;
+use std::alloc::{AllocError, Global};
+use std::marker::Model;
+
+/// The dictionary of a system, on which its descent is made: a set of as many variables as there are
+/// columns, and the relation of each other variable over it (Chvátal, *Linear Programming*). Variables are
+/// columns and rows, numbered columns first.
+///
+/// The contracts speak of the systems of which it is the dictionary, by `IsDictionaryOf system d`.
+#[derive(Drop)]
+pub struct Dictionary {
+    table: Table,
+    stack: Vec<u32>,
+    failing: Option<u32>,
+}
+
+impl Model for Dictionary {
+    ghost use Rattle.std.specs.Prelude.{vec_capacity};
+    ghost use Rattle.rg_feasible.specs.View.{DescentState, IsStored};
+
+    ghost Value = { DescentState };
+
+    ghost view = { λ a. record { table = a.table; failing = a.failing } };
+
+    ghost invariant = { λ a. IsStored (record { table = a.table; failing = a.failing }) (vec_capacity a.stack) };
+}
+
+impl Dictionary {
+    /// The dictionary of the system over its columns. It takes all memory that the descent needs.
+    /// `NoMemory` where there is none.
+    pub fn new(alloc: Global, system: &System) -> Result<Dictionary, NoMemory>
+        ensures dictionary { IfOk result (IsDictionaryOf system.now) }
+        ensures fresh { IfOk result IsFresh }
+    {
+        let table = filled(alloc, system)?;
+        let stack = Vec::with_capacity(alloc, system.columns() as usize + 1)?;
+        Ok(Dictionary {
+            table,
+            stack,
+            failing: None,
+        })
+    }
+
+    /// Makes the descent, once. Rows are taken in order. One that fails is exchanged with the least variable of the
+    /// set that its relation names and that isn't fixed; it is fixed, and the rows before it are taken again from
+    /// the first one, before the rows behind it are taken. It takes no memory.
+    ///
+    /// `Settled::Point` comes exactly where this ends behind the last row, `Settled::Refuted` exactly where it
+    /// reaches a row that fails and names fixed variables alone, and `Settled::Wide` exactly where it reaches an
+    /// exchange with a term out of range, with the first such term. A system has one outcome.
+    pub fn settle(&mut self) -> Settled
+        requires fresh { IsFresh self.old }
+        ensures outcome { (system : LinearSystem) → IsDictionaryOf system self.old → IsOutcome system self.new.table.members result }
+        ensures free { (system : LinearSystem) → IsDictionaryOf system self.old → IsFree system self.new.table.members }
+        ensures left { (system : LinearSystem) → IsDictionaryOf system self.old → IsLeftBy system self.new result }
+        ensures point { result ≡ ends.Point → (system : LinearSystem) → IsDictionaryOf system self.old → IsFeasibleAt system self.new.table.members }
+        ensures refutes { (i : ℕ) → result ≡ ends.Refuted i → (system : LinearSystem) → IsDictionaryOf system self.old → AreFarkasMultipliers system (multiplier_with self.new.table i) }
+        ensures shape { SameShape self.old.table self.new.table }
+    {
+        self.stack.clear();
+        let settled = descend(&mut self.table, &mut self.stack);
+        if let Settled::Refuted(row) = settled {
+            self.failing = Some(row);
+        }
+        settled
+    }
+
+    /// Member number `i` of the set, in order. After `Settled::Wide` it is the set before the exchange.
+    pub fn member(&self, i: u32) -> u32
+        requires { i < length self.now.table.members }
+        ensures { result ≡ slice_index self.now.table.members i }
+    {
+        self.table.members()[i as usize]
+    }
+
+    /// The value of variable `j`, a column or a row, at the point at which every member is 0.
+    pub fn point(&self, j: u32) -> Fraction
+        requires whole { IsWhole self.now }
+        requires variable { j < self.now.table.columns + self.now.table.rows }
+        ensures { (system : LinearSystem) → IsDictionaryOf system self.now → (scale : ℤ) (v : ℕ → ℤ) → IsBasicPoint system self.now.table.members scale v → IsValue result (v j) scale }
+    {
+        if self.table.contains(j) {
+            return Fraction::new(0, 1);
+        }
+        let numbers = self.table.numbers(j);
+        Fraction::new(numbers[1], numbers[0])
+    }
+
+    /// The multiplier of a row, after `Settled::Refuted`. The sum of the rows, each times its multiplier, has no
+    /// column and a negative constant.
+    pub fn multiplier(&self, row: u32) -> i128
+        requires refuted { (i : ℕ) × IsRefutation self.now i }
+        requires row { row < self.now.table.rows }
+        ensures value { (i : ℕ) → IsRefutation self.now i → result ≡ multiplier_with self.now.table i row }
+        ensures not_negative { pos 0 ≤ℤ result }
+    {
+        let Some(failing) = self.failing else {
+            unreachable!()
+        };
+        let columns = self.table.columns();
+        let numbers = self.table.numbers(columns + failing);
+        if row == failing {
+            return numbers[0];
+        }
+        match place_of(self.table.members(), columns + row) {
+            Some(place) => -numbers[place + 2],
+            None => 0,
+        }
+    }
+}
+
+// The rows of the system as a table over its columns.
+fn filled(alloc: Global, system: &System) -> Result<Table, AllocError>
+    ensures dictionary { IfOk result (IsDictionary system.now) }
+    ensures start { IfOk result (λ d. d.members ≡ numbers_from 0 d.columns) }
+{
+    let rows = system.rows();
+    let mut table = Table::with_columns(alloc, system.columns(), rows.len() as u32)?;
+    for row in rows {
+        table.push_row(&row.coeffs, row.constant);
+    }
+    Ok(table)
+}
+
+// The place of the variable among the members.
+fn place_of(members: &[u32], variable: u32) -> Option<usize>
+    ensures found { IfSome result (λ p. (p < length members.now) × (slice_index members.now p ≡ variable)) }
+    ensures first { IfSome result (λ p. (q : ℕ) → q < p → slice_index members.now q ≡ variable → ⊥) }
+    ensures none { IfNone result (Contains members.now variable → ⊥) }
+{
+    for (place, &member) in members.iter().enumerate() {
+        if member == variable {
+            return Some(place);
+        }
+    }
+    None
+}

@@ -1,0 +1,24 @@
+//! Systems of linear rows, decided exactly: a point that meets every row, multipliers that show that none
+//! does, or the first term out of range.
+//!
+//! Each row in turn is made to hold by exchanges that keep the rows before it, and always the least
+//! variable leaves, as in Bland's rule (Chvátal, *Linear Programming*). The multipliers are those of Farkas'
+//! lemma (Schrijver, *Theory of Linear and Integer Programming*).
+#![tactic(auto)]
+
+mod descent;
+mod dictionary;
+mod no_memory;
+mod settled;
+mod step;
+mod system;
+
+pub use dictionary::Dictionary;
+pub use no_memory::NoMemory;
+pub use settled::{PivotWide, Settled};
+pub use system::{Row, System};
+
+#[cfg(test)]
+mod plain;
+#[cfg(test)]
+mod tests;

@@ -1,0 +1,10 @@
+pub mod Potentials
+pub mod ChordRows
+pub mod FoldLemmas
+pub mod OneResult
+pub mod RowValues
+pub mod Scaling
+pub mod ExactRows
+pub mod Signs
+pub mod SystemRows
+pub mod ShownLemmas

@@ -1,0 +1,42 @@
+//! Each fold has one result, so a call whose value or shown numbers are a result of its fold answers
+//! exactly.
+
+ghost use Rattle.std.specs.Prelude.{◌≡◌, ◌≢◌, ℕ, ℤ, List, Ok, Result, pos};
+ghost use Rattle.rg_theory.specs.System.{System};
+ghost use Rattle.rg_refuting.specs.Expression.{Expression};
+ghost use Rattle.rg_refuting.specs.Row.{RowName, Side};
+ghost use Rattle.rg_linear.specs.Branching.{Weight, SplitSide};
+ghost use Rattle.rg_fraction.specs.Fractions.{numerator_of, denominator_of, IsValue, IsSum, IsProduct};
+ghost use Rattle.rg_folds.specs.Fold.{IsOne, Ratio, ratio_of, shown_result, quotient, term, add, mul, multiple_of_all};
+ghost use Rattle.rg_linear.specs.Cycle.{CycleBasis};
+ghost use Rattle.rg_folds.specs.Rewriting.{substitute_fold, row_fold, CaseSystem, system_fold};
+ghost use Rattle.rg_folds.specs.Placing.{place_fold};
+ghost use Rattle.rg_folds.specs.Spreading.{spread_fold};
+
+use rg_fraction::{Fraction, Wide};
+use rg_theory::{Arc, Class, Problem};
+
+/// Each step has one result at most.
+pub fn steps_are_one()
+    ensures quotient { (n d : ℤ) → IsOne (quotient n d) }
+    ensures term { (t : Wide) → IsOne (term t) }
+    ensures sum { (f g : Ratio) → IsOne (add f g) }
+    ensures product { (f g : Ratio) → IsOne (mul f g) }
+    ensures multiple { (numbers : List ℤ) → IsOne (multiple_of_all numbers) }
+{}
+
+/// What a call of `Fraction` answers is the result of its step.
+pub fn calls_are_steps()
+    ensures new { (f : Fraction) (n d : ℤ) → d ≢ pos 0 → IsValue f n d → quotient n d (Ok (ratio_of f)) }
+    ensures add { (f g : Fraction) (r : Result Fraction Wide) → IsSum (numerator_of f) (denominator_of f) (numerator_of g) (denominator_of g) r → add (ratio_of f) (ratio_of g) (shown_result ratio_of r) }
+    ensures mul { (f g : Fraction) (r : Result Fraction Wide) → IsProduct (numerator_of f) (denominator_of f) (numerator_of g) (denominator_of g) r → mul (ratio_of f) (ratio_of g) (shown_result ratio_of r) }
+{}
+
+/// The folds of rows, of a case's system, of a place and of a leaf have one result at most each.
+pub fn folds_are_one()
+    ensures substitute { (labels : ℕ) (basis : CycleBasis) (counts : ℕ → ℤ) → IsOne (substitute_fold labels basis counts) }
+    ensures row { (lts : System) (tree : List Arc) (basis : CycleBasis) (class : Class) (name : RowName) (e : Expression) → IsOne (row_fold lts tree basis class name e) }
+    ensures system { (lts : System) (tree : List Arc) (basis : CycleBasis) (class : Class) (problem : Problem) (number : ℕ) → IsOne (system_fold lts tree basis class problem number) }
+    ensures place { (lts : System) (tree : List Arc) (basis : CycleBasis) (class : Class) (problem : Problem) (start : Ratio) (value : ℕ → Ratio) → IsOne (place_fold lts tree basis class problem start value) }
+    ensures spread { (lts : System) (tree : List Arc) (basis : CycleBasis) (class : Class) (problem : Problem) (number : ℕ) (case : CaseSystem) (sides : List SplitSide) (above : List Side) (weights : List Weight) → IsOne (spread_fold lts tree basis class problem number case sides above weights) }
+{}

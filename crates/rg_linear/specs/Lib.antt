@@ -1,0 +1,11 @@
+pub mod System
+pub mod Dictionary
+pub mod Exchange
+pub mod Descent
+pub mod Firsts
+pub mod Cycle
+pub mod Branching
+pub mod Width
+pub mod Stack
+pub mod Table
+pub mod Samples

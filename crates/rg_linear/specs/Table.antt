@@ -1,0 +1,32 @@
+-- The relations of a free set as one flat list of numbers.
+use Rattle.std.specs.Prelude.{◌≡◌, ℕ, ◌+◌, ◌*◌, ◌<◌, nat_lt, if◌then◌else◌, List, [], ◌∷◌, length, map, slice_range, Contains, ℤ}
+use Rattle.rg_linear.specs.System.{LinearSystem, variables}
+use Rattle.rg_linear.specs.Dictionary.{Relation, DictionaryRow}
+
+-- d, the constant, and the coefficients of the members in order
+abbrev pub numbers_of : List ℕ → Relation → List ℤ
+numbers_of members k = k.d ∷ k.constant ∷ map k.coefficient members
+
+-- the numbers are those of the relation of variable w
+pub record ShowsRow (system : LinearSystem) (members : List ℕ) (w : ℕ) (numbers : List ℤ) : Type 0 where
+  pub k : Relation
+  pub row : DictionaryRow system members w k
+  pub shown : numbers ≡ numbers_of members k
+
+-- how many numbers a row of the table has
+abbrev pub row_width : LinearSystem → ℕ
+row_width system = system.columns + 2
+
+-- the numbers of the row of variable w
+abbrev pub row_numbers : LinearSystem → List ℤ → ℕ → List ℤ
+row_numbers system table w = slice_range table (w * row_width system) ((w + 1) * row_width system)
+
+-- the table has a row for each variable, and that of a variable outside the set shows its relation
+pub record IsTable (system : LinearSystem) (members : List ℕ) (table : List ℤ) : Type 0 where
+  pub size : length table ≡ variables system * row_width system
+  pub rows : (w : ℕ) → w < variables system → ¬ Contains members w → ShowsRow system members w (row_numbers system table w)
+
+-- how many of the first members are not above i: the place of i among them
+abbrev pub place_for : ℕ → List ℕ → ℕ
+place_for i [] = 0
+place_for i (m ∷ members) = if nat_lt i m then 0 else (1 + place_for i members)

@@ -1,0 +1,14 @@
+pub mod Lists
+pub mod Names
+pub mod LeftOut
+pub mod Along
+pub mod Shifts
+pub mod CaseRows
+pub mod CaseMeaning
+pub mod Given
+pub mod Kept
+pub mod ColumnValues
+pub mod PointEffects
+pub mod Points
+pub mod Whole
+pub mod OneChoice
