@@ -2,6 +2,8 @@
 #![tactic(auto)]
 
 #[cfg(test)]
+mod certificates;
+#[cfg(test)]
 mod faults;
 #[cfg(test)]
 mod harness;
@@ -13,3 +15,5 @@ mod systems;
 mod texts;
 #[cfg(test)]
 mod words;
+#[cfg(test)]
+mod worked;

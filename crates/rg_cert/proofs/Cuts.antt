@@ -8,7 +8,7 @@ use Rattle.std.proofs.lemmas.List.Elements.{All-head, All-tail, All-weaker}
 use Rattle.std.proofs.lemmas.List.Splits.{slice_split_none, slice_split_at, join_with_byte-slice_split}
 use Rattle.rg_text.specs.Byte.{IsName, is_name_byte, is_other_than}
 use Rattle.rg_text.specs.Line.{fields}
-use Rattle.rg_cert.specs.Certificates.{spaced}
+use Rattle.rg_cert.specs.Text.{spaced}
 
 -- the byte doesn't stand in the list
 abbrev pub Lacks : ℕ → List ℕ → Type 0
@@ -87,3 +87,6 @@ name_lacks c name few is = All-weaker (λ b. is_name_byte b ≡ true) (λ b. b �
 
 pub name_ascii : (name : List ℕ) → IsName name → All (λ b. b < 128) name
 name_ascii name is = All-weaker (λ b. is_name_byte b ≡ true) (λ b. b < 128) (λ b h. (name_byte b h).1) name is.bytes
+
+pub name_above : (name : List ℕ) → IsName name → All (λ b. 32 < b) name
+name_above name is = All-weaker (λ b. is_name_byte b ≡ true) (λ b. 32 < b) (λ b h. (name_byte b h).0) name is.bytes

@@ -1,9 +1,24 @@
-mod Cuts
-mod Printed
-mod Reasons
-mod Names
-mod Broken
-mod OneAnswer
-mod OneAnswerClass
-mod OneAnswerSome
-pub mod Told
+pub mod Trees
+pub mod Digits
+pub mod Cuts
+pub mod Forms
+pub mod Decimal
+pub mod Parsed
+pub mod Known
+pub mod LineTexts
+pub mod FormKeys
+pub mod NextLines
+pub mod Good
+pub mod ClassLines
+pub mod Walks
+pub mod Opened
+pub mod DraftSteps
+pub mod CaseReading
+pub mod WholeReasons
+pub mod Canonical
+pub mod HeadLines
+pub mod Printed
+pub mod OneFault
+pub mod OneClaim
+pub mod Deciding
+pub mod SomeAnswer

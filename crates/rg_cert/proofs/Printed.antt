@@ -1,41 +1,85 @@
 -- The text of a certificate, piece by piece.
-use Rattle.std.proofs.Common.{◌≡◌, ℕ, List, [], ◌∷◌, ◌++◌, codes, refl, sym, ap, ◌∙◌, append_assoc}
+use Rattle.std.proofs.Common.{◌≡◌, ℕ, ◌+◌, ◌<◌, List, [], ◌∷◌, ◌++◌, length, map, drop, get_or, codes, All, sym, ap, ap₂, subst, ◌∙◌, append_assoc, arith}
+use Rattle.std.specs.List.{flat_map}
+use Rattle.std.proofs.Math.ListN.{get_or-map}
+use Rattle.std.proofs.lemmas.List.{drop_more, map-append, length-map}
+use Rattle.std.proofs.lemmas.List.Elements.{All-nil, All-cons, All-head, All-tail}
 use Rattle.rg_text.specs.Line.{fed}
 use Rattle.rg_theory.specs.System.{System}
-use Rattle.rg_cert.specs.declared.certificate.Certificate.{Certificate}
-use Rattle.rg_cert.specs.Certificates.{IsCertificateOf, reason_fields, spaced, cert_lines, cert_text}
-use Rattle.rg_cert.specs.Spells.{Spells}
 use Rattle.rg_theory.specs.ClassWords.{class_text}
 use Rattle.rg_theory.proofs.ClassWritten.{written}
+use Rattle.rg_cert.specs.declared.certificate.Case.{Case}
+use Rattle.rg_cert.specs.declared.certificate.Reason.{Reason}
+use Rattle.rg_cert.specs.declared.certificate.Reason.TheVariants.{Unreachable, Fork, Event, States}
+use Rattle.rg_cert.specs.Trees.{nodes_of}
+use Rattle.rg_cert.specs.Certificates.{Claim, reason_of, case_tree, IsWhole, HasWholeCases, IsNodeOf, IsTreeOf, IsReasonOf, IsClaimOf}
+use Rattle.rg_cert.specs.Text.{reason_lines, spaced, cert_lines, text_with, cert_text}
+use Rattle.rg_cert.specs.Spells.{Spells}
+use Rattle.rg_cert.specs.Drafts.{head_fields, IsHeadOf, nodes_lines, IsCase}
+use Rattle.rg_cert.specs.View.{reason_head, reason_cases}
+use Rattle.rg_cert.proofs.Walks.{fed_append}
+use Rattle.rg_cert.proofs.WholeReasons.{lines_of_reason}
 
-pub four_fields : (text word a b c d : List ℕ) → ((((text ++ word) ++ 32 ∷ a) ++ 32 ∷ b) ++ 32 ∷ c) ++ 32 ∷ d
-    ≡ text ++ (word ++ 32 ∷ (a ++ 32 ∷ (b ++ 32 ∷ (c ++ 32 ∷ d))))
-four_fields text word a b c d = simp append_assoc
+-- what holds of each, of the one at a place
+pub all_at : {X Y : Type 0} (P : Y → Type 0) (g : X → Y) (xs : List X) (i : ℕ) (x : X) → All P (map g xs) → i < length xs → x ≡ get_or xs i x → P (g x)
+all_at P g xs i x each less is =
+    subst P (get_or-map g xs i x ∙ ap g (sym is)) (each i (g x) (omega (arith, less, length-map xs g)))
 
--- the lines of a certificate in a row
-pub line_parts : (class : List ℕ) (fields : List (List ℕ))
-    → fed (cert_lines class fields) ≡ codes "certificate 1" ++ 10 ∷ ((codes "class " ++ class) ++ 10 ∷ (spaced fields ++ 10 ∷ codes "end\n"))
-unfolding cert_lines
-line_parts class fields = refl
+pub row_at : {X Y : Type 0} (P : Y → Type 0) (g : X → Y) (xs : List X) (i : ℕ) (d : X) → All P (map g xs) → i < length xs → P (g (get_or xs i d))
+row_at P g xs i d each less = subst P (get_or-map g xs i d) (each i (g d) (omega (arith, less, length-map xs g)))
 
--- a text that grows by these pieces is that of the certificate
-pub grown_text : (class line t₀ t₁ t₂ t₃ t₄ t₅ : List ℕ) → t₀ ≡ [] → t₁ ≡ t₀ ++ codes "certificate 1\nclass " → t₂ ≡ t₁ ++ class → t₃ ≡ t₂ ++ 10 ∷ []
-    → t₄ ≡ t₃ ++ line → t₅ ≡ t₄ ++ codes "\nend\n"
-    → t₅ ≡ codes "certificate 1" ++ 10 ∷ ((codes "class " ++ class) ++ 10 ∷ (line ++ 10 ∷ codes "end\n"))
-grown_text class line t₀ t₁ t₂ t₃ t₄ t₅ e₀ e₁ e₂ e₃ e₄ e₅ =
-    e₅ ∙ ap (λ t. t ++ codes "\nend\n") (e₄ ∙ ap (λ t. t ++ line) (e₃ ∙ ap (λ t. t ++ 10 ∷ []) (e₂ ∙ ap (λ t. t ++ class) (e₁ ∙ ap (λ t. t ++ codes "certificate 1\nclass ") e₀))))
-    ∙ parts (codes "certificate 1\nclass ") class line
+-- the lines of one more thing
+pub more_lines : {X Y : Type 0} (g : X → Y) (f : Y → List (List (List ℕ))) (xs : List X) (i : ℕ) (x : X) (t t' w : List ℕ) → i < length xs → x ≡ get_or xs i x
+    → t' ≡ t ++ fed (map spaced (f (g x))) → t ++ fed (map spaced (flat_map f (map g (drop i xs)))) ≡ w → t' ++ fed (map spaced (flat_map f (map g (drop (i + 1) xs)))) ≡ w
+more_lines g f xs i x t t' w less is grown whole =
+    let rest = flat_map f (map g (drop (i + 1) xs)) in
+    let first : drop i xs ≡ x ∷ drop (i + 1) xs = drop_more xs i x less ∙ ap (λ y. y ∷ drop (i + 1) xs) (sym is) in
+    ap (λ l. l ++ fed (map spaced rest)) grown ∙ append_assoc t (fed (map spaced (f (g x)))) (fed (map spaced rest))
+    ∙ ap (λ l. t ++ l) (sym (fed_append (map spaced (f (g x))) (map spaced rest)) ∙ ap fed (sym (map-append spaced (f (g x)) rest)))
+    ∙ ap (λ l. t ++ fed (map spaced (flat_map f (map g l)))) (sym first) ∙ whole
+
+-- the line of one more row
+pub more_rows : {X Y : Type 0} (g : X → Y) (f : Y → List (List ℕ)) (xs : List X) (i : ℕ) (d : X) (t t' w : List ℕ) → i < length xs
+    → t' ≡ t ++ (spaced (f (g (get_or xs i d))) ++ 10 ∷ []) → t ++ fed (map spaced (map f (map g (drop i xs)))) ≡ w → t' ++ fed (map spaced (map f (map g (drop (i + 1) xs)))) ≡ w
+more_rows g f xs i d t t' w less grown whole =
+    let x = get_or xs i d in
+    let rest = fed (map spaced (map f (map g (drop (i + 1) xs)))) in
+    ap (λ l. l ++ rest) grown ∙ append_assoc t (spaced (f (g x)) ++ 10 ∷ []) rest ∙ ap (λ l. t ++ l) (append_assoc (spaced (f (g x))) (10 ∷ []) rest)
+    ∙ ap (λ l. t ++ fed (map spaced (map f (map g l)))) (sym (drop_more xs i d less)) ∙ whole
+
+case_is : (lts : System) (case : Case) → IsWhole case → IsTreeOf lts (case_tree case) → IsCase lts (nodes_of case)
+case_is lts case whole tree = record { tree = case_tree case; whole = whole; each = subst (All (IsNodeOf lts)) (sym whole) tree }
+
+cases_are : (lts : System) (cases : List Case) → All IsWhole cases → All (IsTreeOf lts) (map case_tree cases) → All (IsCase lts) (map nodes_of cases)
+cases_are lts [] whole trees = All-nil (IsCase lts)
+cases_are lts (case ∷ cases) whole trees =
+    All-cons (IsCase lts) (nodes_of case) (map nodes_of cases)
+    (case_is lts case (All-head IsWhole case cases whole) (All-head (IsTreeOf lts) (case_tree case) (map case_tree cases) trees))
+    (cases_are lts cases (All-tail IsWhole case cases whole) (All-tail (IsTreeOf lts) (case_tree case) (map case_tree cases) trees))
+
+-- the head and the cases of a reason whose numbers are in range
+pub reason_parts : (lts : System) (reason : Reason) → HasWholeCases reason → IsReasonOf lts (reason_of reason) → IsHeadOf lts (reason_head reason) × All (IsCase lts) (reason_cases reason)
+reason_parts lts (Unreachable s) whole is = (is, All-nil (IsCase lts))
+reason_parts lts (Fork s t s₁ s₂) whole is = (is, All-nil (IsCase lts))
+reason_parts lts (Event s t case) whole is =
+    ((is.0, is.1), All-cons (IsCase lts) (nodes_of case) [] (case_is lts case whole (All-head (IsTreeOf lts) (case_tree case) [] is.3)) (All-nil (IsCase lts)))
+reason_parts lts (States s s' cases) whole is = ((is.0, is.1), cases_are lts cases.items whole is.2)
+
+-- the text that grows by these pieces
+pub grown_text : (lts : System) (class : List ℕ) (reason : Reason) (t₀ t₁ t₂ t₃ t₄ t₅ : List ℕ) → All (IsCase lts) (reason_cases reason) → t₀ ≡ [] → t₁ ≡ t₀ ++ codes "certificate 1\nclass "
+    → t₂ ≡ t₁ ++ class → t₃ ≡ t₂ ++ 10 ∷ [] → t₄ ≡ t₃ ++ fed (map spaced (head_fields lts (reason_head reason) ∷ flat_map (nodes_lines lts) (reason_cases reason)))
+    → t₅ ≡ t₄ ++ codes "end\n" → t₅ ≡ text_with class lts (reason_of reason)
+unfolding text_with cert_lines
+grown_text lts class reason t₀ t₁ t₂ t₃ t₄ t₅ each e₀ e₁ e₂ e₃ e₄ e₅ =
+    let lines = reason_lines lts (reason_of reason) in
+    e₅ ∙ ap (λ t. t ++ codes "end\n") (e₄ ∙ ap₂ (λ t l. t ++ fed (map spaced l)) (e₃ ∙ ap (λ t. t ++ 10 ∷ []) (e₂ ∙ ap (λ t. t ++ class) (e₁ ∙ ap (λ t. t ++ codes "certificate 1\nclass ") e₀))) (sym (lines_of_reason lts reason each)))
+    ∙ parts (codes "certificate 1\nclass ") class (fed (map spaced lines))
+    ∙ ap (λ l. codes "certificate 1\nclass " ++ (class ++ 10 ∷ l)) (sym (fed_append (map spaced lines) (codes "end" ∷ [])) ∙ ap fed (sym (map-append spaced lines ((codes "end" ∷ []) ∷ []))))
+    ∙ ap (λ l. codes "certificate 1\nclass " ++ l) (sym (append_assoc class (10 ∷ []) (fed (map spaced (lines ++ (codes "end" ∷ []) ∷ [])))) ∙ append_assoc class (10 ∷ []) (fed (map spaced (lines ++ (codes "end" ∷ []) ∷ []))))
   where
-    parts : (a b c : List ℕ) → (((a ++ b) ++ 10 ∷ []) ++ c) ++ codes "\nend\n" ≡ a ++ (b ++ 10 ∷ (c ++ 10 ∷ codes "end\n"))
-    parts a b c = simp append_assoc
+    parts : (a b l : List ℕ) → (((a ++ b) ++ 10 ∷ []) ++ l) ++ codes "end\n" ≡ a ++ (b ++ 10 ∷ (l ++ codes "end\n"))
+    parts a b l = simp append_assoc
 
-pub printed_text : (cert : Certificate) (lts : System) (text : List ℕ)
-    → text ≡ codes "certificate 1" ++ 10 ∷ ((codes "class " ++ class_text cert.class) ++ 10 ∷ (spaced (reason_fields lts cert.reason) ++ 10 ∷ codes "end\n"))
-    → text ≡ cert_text cert lts
-unfolding cert_text
-printed_text cert lts text is = is ∙ sym (line_parts (class_text cert.class) (reason_fields lts cert.reason))
-
--- the text of a certificate spells it
-pub text_spells : (cert : Certificate) (lts : System) (text : List ℕ) → IsCertificateOf lts cert → text ≡ cert_text cert lts → Spells text lts cert
-unfolding cert_text
-text_spells cert lts text given is = record { in_range = given; class = class_text cert.class; named = written cert.class given.bound; text = is }
+-- the text of a claim spells it
+pub text_spells : (claim : Claim) (lts : System) (text : List ℕ) → IsClaimOf lts claim → text ≡ cert_text claim lts → Spells text lts claim
+text_spells claim lts text given is = record { in_range = given; class = class_text claim.class; named = written claim.class given.bound; text = is }

@@ -1,48 +1,102 @@
--- What certificates are, and the texts with which they are written.
-use Rattle.std.specs.Prelude.{ℕ, ◌<◌, List, [], ◌∷◌, ◌++◌, codes, slice_index_or}
-use Rattle.rg_text.specs.Line.{fed}
+-- What certificates claim, and which numbers they may have.
+use Rattle.std.specs.Prelude.{◌≡◌, ◌^◌, ◌<◌, ◌≤◌, [], ◌∷◌, map, length, All, ℤ, nat_abs}
 use Rattle.rg_theory.specs.System.{System, states, labels}
-use Rattle.rg_theory.specs.ClassWords.{class_text, HasBoundInRange}
+use Rattle.rg_theory.specs.declared.Class.{Class}
+use Rattle.rg_theory.specs.declared.Problem.TheVariants as problem
+use Rattle.rg_theory.specs.ClassWords.{HasBoundInRange}
+use Rattle.rg_refuting.specs.Expression.{Variable, Variable.tokens_at, Variable.effect_of}
+use Rattle.rg_refuting.specs.Row as row
 use Rattle.rg_refuting.specs.Refutes as refutes
+use Rattle.rg_refuting.specs.Refutes.{NamedRow, Tree, max_number}
+use Rattle.rg_cert.specs.declared.certificate.Case.{Case}
 use Rattle.rg_cert.specs.declared.certificate.Reason.{Reason}
-use Rattle.rg_cert.specs.declared.certificate.Reason.TheVariants.{Unreachable, Fork}
+use Rattle.rg_cert.specs.declared.certificate.Reason.TheVariants.{Unreachable, Fork, Event, States}
 use Rattle.rg_cert.specs.declared.certificate.Certificate.{Certificate}
+use Rattle.rg_cert.specs.Trees.{TreeNode, TreeNode.leaf_node, TreeNode.split_node, preorder, IsWholeTree, tree_of, nodes_of}
 
--- the reason in the words of the definitions of certificates
+-- a class, and why no net of it solves a system, in the words of the definitions
+pub record Claim : Type 0 where
+  pub class : Class
+  pub reason : refutes.Reason
+
+abbrev pub case_tree : Case → Tree
+case_tree case = tree_of (nodes_of case)
+
+-- the reason in the words of the definitions
 abbrev pub reason_of : Reason → refutes.Reason
 reason_of (Unreachable s) = refutes.unreachable s
 reason_of (Fork s t s₁ s₂) = refutes.fork s t s₁ s₂
+reason_of (Event s t case) = refutes.refuted (problem.Event s t) (case_tree case ∷ [])
+reason_of (States s s' cases) = refutes.refuted (problem.States s s') (map case_tree cases.items)
 
-abbrev pub IsReasonOf : System → Reason → Type 0
-IsReasonOf lts (Unreachable s) = s < states lts
-IsReasonOf lts (Fork s t s₁ s₂) = (s < states lts) × (t < labels lts) × (s₁ < states lts) × (s₂ < states lts)
+-- what a certificate claims
+abbrev pub claim_of : Certificate → Claim
+claim_of cert = record { class = cert.class; reason = reason_of cert.reason }
 
--- the numbers are those of states and labels of the system, and the class has a bound from 1 to 255 or none
+-- the nodes of the case are those of one whole tree
+abbrev pub IsWhole : Case → Type 0
+IsWhole case = IsWholeTree (nodes_of case) (case_tree case)
+
+abbrev pub HasWholeCases : Reason → Type 0
+HasWholeCases (Unreachable s) = Unit {0}
+HasWholeCases (Fork s t s₁ s₂) = Unit {0}
+HasWholeCases (Event s t case) = IsWhole case
+HasWholeCases (States s s' cases) = All IsWhole cases.items
+
+-- the states and labels of a row are those of the system
+abbrev pub IsRowNameOf : System → row.RowName → Type 0
+IsRowNameOf lts (row.arc_row q t q') = (q < states lts) × (t < labels lts) × (q' < states lts)
+IsRowNameOf lts (row.tokens_row q) = q < states lts
+IsRowNameOf lts (row.cap_row q) = q < states lts
+IsRowNameOf lts (row.up_row t) = t < labels lts
+IsRowNameOf lts (row.down_row t) = t < labels lts
+IsRowNameOf lts (row.makes_row t) = t < labels lts
+IsRowNameOf lts (row.stop_row q) = q < states lts
+IsRowNameOf lts row.block_row = Unit {0}
+IsRowNameOf lts row.empty_row = Unit {0}
+IsRowNameOf lts (row.full_row q) = q < states lts
+IsRowNameOf lts row.keep_row = Unit {0}
+IsRowNameOf lts row.apart_row = Unit {0}
+IsRowNameOf lts (row.above_row d) = d < 2 ^ 32
+
+-- a multiplier is from -(2^127 - 1) to 2^127 - 1
+abbrev pub IsMultiplierInRange : ℤ → Type 0
+IsMultiplierInRange z = nat_abs z ≤ max_number
+
+-- the number of a split is from -(2^63 - 1) to 2^63 - 1
+abbrev pub IsSplitInRange : ℤ → Type 0
+IsSplitInRange z = nat_abs z < 2 ^ 63
+
+pub record IsRowOf (lts : System) (r : NamedRow) : Type 0 where
+  pub multiplier : IsMultiplierInRange r.multiplier
+  pub name : IsRowNameOf lts r.name
+
+abbrev pub IsVariableOf : System → Variable → Type 0
+IsVariableOf lts (tokens_at q) = q < states lts
+IsVariableOf lts (effect_of t) = t < labels lts
+
+-- the numbers of a node are in range
+abbrev pub IsNodeOf : System → TreeNode → Type 0
+IsNodeOf lts (leaf_node rows) = All (IsRowOf lts) rows
+IsNodeOf lts (split_node form at) = IsVariableOf lts form × IsSplitInRange at
+
+-- the numbers of all nodes of a tree are in range
+abbrev pub IsTreeOf : System → Tree → Type 0
+IsTreeOf lts tree = All (IsNodeOf lts) (preorder tree)
+
+-- the numbers of a reason are in range, and an event has one tree
+abbrev pub IsReasonOf : System → refutes.Reason → Type 0
+IsReasonOf lts (refutes.unreachable s) = s < states lts
+IsReasonOf lts (refutes.fork s t s₁ s₂) = (s < states lts) × (t < labels lts) × (s₁ < states lts) × (s₂ < states lts)
+IsReasonOf lts (refutes.refuted (problem.Event s t) trees) = (s < states lts) × (t < labels lts) × (length trees ≡ 1) × All (IsTreeOf lts) trees
+IsReasonOf lts (refutes.refuted (problem.States s s') trees) = (s < states lts) × (s' < states lts) × All (IsTreeOf lts) trees
+
+-- the numbers are in range of the system, and the class has a bound from 1 to 255 or none
+pub record IsClaimOf (lts : System) (claim : Claim) : Type 0 where
+  pub reason : IsReasonOf lts claim.reason
+  pub bound : HasBoundInRange claim.class
+
+-- the certificate's trees are whole, and its numbers are in range of the system
 pub record IsCertificateOf (lts : System) (cert : Certificate) : Type 0 where
-  pub reason : IsReasonOf lts cert.reason
-  pub bound : HasBoundInRange cert.class
-
-abbrev pub state_name : System → ℕ → List ℕ
-state_name lts s = slice_index_or lts.state_names s []
-
-abbrev pub label_name : System → ℕ → List ℕ
-label_name lts t = slice_index_or lts.label_names t []
-
--- the fields of a reason: its word, and the names of its states and labels
-abbrev pub reason_fields : System → Reason → List (List ℕ)
-reason_fields lts (Unreachable s) = codes "unreachable" ∷ state_name lts s ∷ []
-reason_fields lts (Fork s t s₁ s₂) = codes "fork" ∷ state_name lts s ∷ label_name lts t ∷ state_name lts s₁ ∷ state_name lts s₂ ∷ []
-
--- fields with one space between
-abbrev pub spaced : List (List ℕ) → List ℕ
-spaced [] = []
-spaced (field ∷ []) = field
-spaced (field ∷ next ∷ more) = field ++ 32 ∷ spaced (next ∷ more)
-
--- the lines of a certificate, with this text of its class and these fields of its reason
-unfoldable pub cert_lines : List ℕ → List (List ℕ) → List (List ℕ)
-cert_lines class fields = codes "certificate 1" ∷ (codes "class " ++ class) ∷ spaced fields ∷ codes "end" ∷ []
-
--- the text of a certificate
-unfoldable pub cert_text : Certificate → System → List ℕ
-cert_text cert lts = fed (cert_lines (class_text cert.class) (reason_fields lts cert.reason))
+  pub whole : HasWholeCases cert.reason
+  pub claim : IsClaimOf lts (claim_of cert)

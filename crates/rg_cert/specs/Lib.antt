@@ -1,3 +1,9 @@
+pub mod Trees
 pub mod Certificates
+pub mod Text
 pub mod Spells
-pub mod Reading
+pub mod Numerals
+pub mod Lines
+pub mod Faults
+pub mod Drafts
+pub mod View

@@ -2,17 +2,26 @@
 #![tactic(auto)]
 
 mod certificate;
+mod decode;
+mod draft;
+mod fault;
+mod good_line;
 mod laws;
 mod lines;
+mod names;
+mod numerals;
+mod place;
 mod printing;
 mod reading;
-mod reason_line;
+mod table;
 
-pub use certificate::{CertFault, Certificate, Reason};
+pub use certificate::{Case, Certificate, Form, Node, Reason, RowName};
+pub use fault::CertFault;
 pub use laws::{certificate_is_told, one_answer};
 pub use printing::print;
 pub use reading::read;
 pub use rg_net::NoMemory;
+pub use rg_theory::Problem;
 
 #[cfg(test)]
 mod tests;

@@ -1,12 +1,10 @@
-//! Lines, fields and names.
-ghost use Rattle.std.specs.Prelude.{◌≡◌, ◌≢◌, ◌≤◌, ◌++◌, ◌∷◌, length, map, All, IfOk, IfErr, IfSome, IfNone};
+//! Lines and their fields.
+ghost use Rattle.std.specs.Prelude.{◌≡◌, ◌≢◌, ◌≤◌, ◌++◌, ◌∷◌, length, map, All, IfOk, IfSome, IfNone};
 ghost use Rattle.std.specs.List.{prefix_len};
-ghost use Rattle.rg_text.specs.Byte.{IsName, is_other_than};
+ghost use Rattle.rg_text.specs.Byte.{is_other_than};
 ghost use Rattle.rg_text.specs.Line.{fields};
 
-use rg_lts::is_name;
 use std::alloc::{AllocError, Global};
-use std::str;
 
 // The first line of a text, and what follows its line feed.
 pub(crate) fn first_line(text: &[u8]) -> Option<(&[u8], &[u8])>
@@ -33,15 +31,4 @@ pub(crate) fn fields<'a>(alloc: Global, line: &'a [u8]) -> Result<Vec<&'a [u8]>,
     ensures { IfOk result (λ v. map (λ w. w.now) v.items ≡ fields line.entry.now) }
 {
     line.split(|b| *b == b' ').collect(alloc)
-}
-
-// A field as a name; None where it isn't 1 to 255 name bytes.
-pub(crate) fn name_of(field: &[u8]) -> Option<&str>
-    ensures some { IfSome result (λ name. (name.now ≡ field.entry.now) × IsName field.entry.now) }
-    ensures none { IfNone result (¬ IsName field.entry.now) }
-{
-    match str::from_utf8(field) {
-        Ok(name) if is_name(name) => Some(name),
-        _ => None,
-    }
 }

@@ -1,25 +1,33 @@
 //! The certificate that a text spells.
-ghost use Rattle.std.specs.Prelude.{◌≡◌, ◌≢◌, ◌⊎◌, ◌≤◌, ℕ, List, [], ◌∷◌, ◌++◌, length, IfOk, IfErr, IfSome, IfNone, OnOk, codes};
+ghost use Rattle.std.specs.Prelude.{◌≡◌, ◌≢◌, ◌⊎◌, ◌≤◌, ℕ, List, [], ◌∷◌, ◌++◌, length, map, IfOk, IfErr, IfSome, IfNone, OnOk, codes};
 ghost use Rattle.rg_theory.specs.declared.Class.{Class};
 ghost use Rattle.rg_theory.specs.ClassWords.{NamesClass};
-ghost use Rattle.rg_cert.specs.Certificates.{IsCertificateOf, IsReasonOf, reason_fields, spaced};
-ghost use Rattle.rg_cert.specs.Spells.{Spells, IsClassLine, BeginsAt, FirstFault};
-ghost use Rattle.rg_cert.specs.Reading.{RefusesText};
-ghost use Rattle.rg_cert.specs.declared.certificate.CertFault.TheVariants as fault;
+ghost use Rattle.rg_cert.specs.Trees.{nodes_of};
+ghost use Rattle.rg_cert.specs.Certificates.{claim_of, IsCertificateOf};
+ghost use Rattle.rg_cert.specs.Spells.{Spells};
+ghost use Rattle.rg_cert.specs.Lines.{Place.at_heading, Place.at_class, Place.at_reason};
+ghost use Rattle.rg_cert.specs.Faults.{BreaksAt, FaultFrom, FirstFault};
+ghost use Rattle.rg_cert.specs.Drafts.{IsHeadOf, HasCases, AreCasesOf, after_head, head_fields, IsHeadLine};
+ghost use Rattle.rg_cert.specs.View.{head_in, reason_head, reason_cases};
+ghost use Rattle.rg_cert.specs.declared.fault.CertFault.TheVariants as fault;
 
-use crate::certificate::{CertFault, Certificate, Reason};
+use crate::certificate::{Case, Certificate, Reason};
+use crate::decode::head_of;
+use crate::draft::{Draft, Head};
+use crate::fault::CertFault;
+use crate::good_line::good_line;
 use crate::lines::first_line;
-use crate::reason_line::reason_in;
+use crate::place::Place;
 use rg_lts::Lts;
 use rg_theory::Class;
 use std::alloc::Global;
 use std::str;
 
 /// The certificate that the bytes spell for the system. The class may be named by any text that `Class::read`
-/// takes. Errors: the first line with a fault, as `CertFault` says; of a line that has both faults, `Expected`.
+/// takes. Errors: the first fault, as `CertFault` says, or want of memory.
 pub fn read(alloc: Global, bytes: &[u8], lts: &Lts) -> Result<Certificate, CertFault>
     requires { length bytes.now ≤ 16777216 }
-    ensures spelled { IfOk result (λ cert. Spells bytes.now lts.now cert) }
+    ensures spelled { IfOk result (λ cert. Spells bytes.now lts.now (claim_of cert)) }
     ensures in_range { IfOk result (λ cert. IsCertificateOf lts.now cert) }
     ensures fault { IfErr result (λ e. e ≢ fault.NoMemory → FirstFault bytes.now lts.now e) }
 {
@@ -27,15 +35,18 @@ pub fn read(alloc: Global, bytes: &[u8], lts: &Lts) -> Result<Certificate, CertF
     let _states = lts.states();
     let rest = after_heading(bytes)?;
     let (class, rest) = class_line(rest)?;
-    let (reason, rest) = reason_line(alloc, rest, lts)?;
-    end_line(rest)?;
-    Ok(Certificate { class, reason })
+    let (head, rest) = head_line(alloc, rest, lts)?;
+    let cases = cases(alloc, rest, head, lts)?;
+    Ok(Certificate {
+        class,
+        reason: reason_of(head, cases),
+    })
 }
 
 // What follows the first line.
 fn after_heading(text: &[u8]) -> Result<&[u8], CertFault>
     ensures ok { IfOk result (λ rest. text.entry.now ≡ codes "certificate 1" ++ 10 ∷ rest.now) }
-    ensures err { IfErr result (λ e. (e ≡ fault.Expected 1) × ¬ BeginsAt 0 text.entry.now) }
+    ensures err { IfErr result (λ e. (e ≡ fault.Expected 1) × BreaksAt at_heading text.entry.now) }
 {
     text.strip_prefix(b"certificate 1\n")
         .ok_or(CertFault::Expected(1))
@@ -44,7 +55,7 @@ fn after_heading(text: &[u8]) -> Result<&[u8], CertFault>
 // The class of the second line, and what follows.
 fn class_line(text: &[u8]) -> Result<(Class, &[u8]), CertFault>
     ensures ok { IfOk result (λ r. (name : List ℕ) × NamesClass name r.0 × (text.entry.now ≡ (codes "class " ++ name) ++ 10 ∷ r.1.now)) }
-    ensures err { IfErr result (λ e. (e ≡ fault.Expected 2) × ¬ BeginsAt 1 text.entry.now) }
+    ensures err { IfErr result (λ e. (e ≡ fault.Expected 2) × BreaksAt at_class text.entry.now) }
 {
     match first_line(text) {
         Some((line, rest)) => match class_in(line) {
@@ -58,7 +69,7 @@ fn class_line(text: &[u8]) -> Result<(Class, &[u8]), CertFault>
 // The class that a line gives.
 fn class_in(line: &[u8]) -> Option<Class>
     ensures some { IfSome result (λ class. (name : List ℕ) × NamesClass name class × (line.now ≡ codes "class " ++ name)) }
-    ensures none { IfNone result (¬ IsClassLine line.now) }
+    ensures none { IfNone result ((name : List ℕ) (class : Class) → NamesClass name class → line.now ≢ codes "class " ++ name) }
 {
     match line.strip_prefix(b"class ") {
         Some(name) => class_of(name),
@@ -80,29 +91,48 @@ fn class_of(name: &[u8]) -> Option<Class>
     }
 }
 
-// The reason of the third line, and what follows.
-fn reason_line<'a>(
-    alloc: Global,
-    text: &'a [u8],
-    lts: &Lts,
-) -> Result<(Reason, &'a [u8]), CertFault>
-    ensures ok { IfOk result (λ r. IsReasonOf lts.now r.0 × (text.entry.now ≡ spaced (reason_fields lts.now r.0) ++ 10 ∷ r.1.now)) }
-    ensures err { IfErr result (λ e. e ≢ fault.NoMemory → RefusesText lts.now text.entry.now e) }
+// The head of the third line, and what follows.
+fn head_line<'a>(alloc: Global, text: &'a [u8], lts: &Lts) -> Result<(Head, &'a [u8]), CertFault>
+    ensures ok { IfOk result (λ r. IsHeadLine lts.now text.entry.now (head_in r.0) r.1.now) }
+    ensures err { IfErr result (λ e. e ≢ fault.NoMemory → FaultFrom lts.now at_reason text.entry.now 3 e) }
 {
-    match first_line(text) {
-        Some((line, rest)) => Ok((reason_in(alloc, line, lts)?, rest)),
-        None => Err(CertFault::Expected(3)),
-    }
+    let line = good_line(alloc, text, 3, Place::Reason, lts)?;
+    Ok((head_of(line.form, &line.texts, lts), line.rest))
 }
 
-// The last line, and nothing after it.
-fn end_line(text: &[u8]) -> Result<(), CertFault>
-    ensures ok { OnOk result (text.now ≡ codes "end" ++ 10 ∷ []) }
-    ensures err { IfErr result (λ e. ((e ≡ fault.Expected 4) × ¬ BeginsAt 3 text.now) ⊎ ((e ≡ fault.Expected 5) × ((rest : List ℕ) × (rest ≢ []) × (text.now ≡ codes "end" ++ 10 ∷ rest)))) }
+// The cases that follow a head, from the fourth line on.
+fn cases(alloc: Global, text: &[u8], head: Head, lts: &Lts) -> Result<Vec<Case>, CertFault>
+    requires { length text.now ≤ 16777216 }
+    ensures ok { IfOk result (λ cases. AreCasesOf lts.now (head_in head) text.now (map nodes_of cases.items)) }
+    ensures err { IfErr result (λ e. e ≢ fault.NoMemory → FaultFrom lts.now (after_head (head_in head)) text.now 4 e) }
 {
-    match text.strip_prefix(b"end\n") {
-        None => Err(CertFault::Expected(4)),
-        Some(rest) if rest.is_empty() => Ok(()),
-        Some(_) => Err(CertFault::Expected(5)),
+    let mut draft = Draft::new(alloc);
+    let mut place = head.after();
+    let mut rest = text;
+    let mut number = 4;
+    'lines: while place != Place::End {
+        let line = good_line(alloc, rest, number, place, lts)?;
+        draft.take(alloc, place, line.form, &line.texts, lts)?;
+        place = line.to;
+        rest = line.rest;
+        number += 1;
+    }
+    if !rest.is_empty() {
+        return Err(CertFault::Expected(number));
+    }
+    Ok(draft.cases)
+}
+
+// The reason with a head and cases.
+fn reason_of(head: Head, mut cases: Vec<Case>) -> Reason
+    requires { HasCases (head_in head) (map nodes_of cases.items) }
+    ensures head { reason_head result ≡ head_in head }
+    ensures cases { reason_cases result ≡ map nodes_of cases.items }
+{
+    match head {
+        Head::Unreachable(s) => Reason::Unreachable(s),
+        Head::Fork(s, t, first, second) => Reason::Fork(s, t, first, second),
+        Head::Event(s, t) => Reason::Event(s, t, cases.pop().unwrap()),
+        Head::States(s, other) => Reason::States(s, other, cases),
     }
 }

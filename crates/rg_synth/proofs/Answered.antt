@@ -5,18 +5,21 @@ use Rattle.rg_theory.specs.System.{System}
 use Rattle.rg_lts.specs.WellFormed.{IsWellFormed}
 use Rattle.rg_theory.specs.declared.Class.{Class}
 use Rattle.rg_theory.proofs.ClassBytes.{named_bound}
-use Rattle.rg_cert.specs.declared.certificate.CertFault.{CertFault}
-use Rattle.rg_cert.specs.declared.certificate.CertFault.TheVariants.{NoMemory as LacksMemory}
-use Rattle.rg_cert.specs.declared.certificate.Certificate.{Certificate}
-use Rattle.rg_cert.specs.Spells.{Spells, FirstFault}
-use Rattle.rg_cert.proofs.Told.{one_certificate, not_both}
+use Rattle.rg_cert.specs.declared.fault.CertFault.{CertFault}
+use Rattle.rg_cert.specs.declared.fault.CertFault.TheVariants.{NoMemory as LacksMemory}
+use Rattle.rg_cert.specs.Certificates.{Claim}
+use Rattle.rg_cert.specs.Spells.{Spells}
+use Rattle.rg_cert.specs.Faults.{FirstFault}
+use Rattle.rg_cert.proofs.OneClaim.{one_claim, not_both}
 use Rattle.rg_verify.specs.declared.verdict.Defect.{Defect}
+use Rattle.rg_verify.specs.declared.verdict.Defect.TheVariants.{WrongRow, NotPositive, LeftOver, NoContradiction, SumPasses, CaseMissing, NotSo}
 use Rattle.rg_verify.specs.declared.verdict.Verdict.TheVariants.{Refused}
 use Rattle.rg_verify.specs.Judged.{Holds, Judges}
+use Rattle.rg_verify.proofs.OneVerdict.{refused_fails, left_in_range}
 use Rattle.rg_synth.specs.Words.{Asked, net, judgement, Ask, system_file}
-use Rattle.rg_synth.specs.Given.{IsTooLong, IsSystemFile}
+use Rattle.rg_synth.specs.Given.{IsFile, IsTooLong, IsSystemFile}
 use Rattle.rg_synth.specs.Texts.{file_line}
-use Rattle.rg_synth.specs.JudgedTexts.{cert_fault_text, defect_text, refused_line}
+use Rattle.rg_synth.specs.JudgedTexts.{cert_fault_text, defect_text, refused_line, HasName}
 use Rattle.rg_synth.specs.Judged.{no_text, no_proof}
 use Rattle.rg_synth.specs.Answers.{IsDue, Answers}
 use Rattle.rg_synth.specs.Requests.{HasBounds, AnswersBytes, AnswersCertificate, AnswersSystem, RefusesSystem, AnswersAsked}
@@ -28,23 +31,46 @@ use Rattle.rg_synth.specs.declared.status.Fault.TheVariants.{TooLong}
 
 -- ---- certificates
 
+-- the variable that is left over in a refused claim is the system's
+pub has_name : (lts : System) (claim : Claim) (case node : ℕ) (defect : Defect) → Judges lts claim (Refused case node defect) → HasName lts defect
+has_name lts claim case node (LeftOver v) judged = left_in_range lts claim case node v judged
+has_name lts claim case node WrongRow judged = tt
+has_name lts claim case node NotPositive judged = tt
+has_name lts claim case node SumPasses judged = tt
+has_name lts claim case node NoContradiction judged = tt
+has_name lts claim case node CaseMissing judged = tt
+has_name lts claim case node NotSo judged = tt
+
 -- bytes that spell no certificate
 pub no_certificate : (bytes : List ℕ) (lts : System) (fault : CertFault) (status : Status) (out err : List ℕ) → IsWellFormed lts → FirstFault bytes lts fault → fault ≢ LacksMemory → status ≡ No → out ≡ refused_line (cert_fault_text fault) → err ≡ [] → AnswersBytes bytes lts status out err
 no_certificate bytes lts fault status out err fine first real is_no line none =
     subst (λ s. AnswersBytes bytes lts s out err) (sym is_no) (
-      (λ certificate spelled holds. not_both bytes lts certificate fault fine spelled first),
+      (λ claim spelled holds. not_both bytes lts claim fault fine spelled first),
       (cert_fault_text fault, no_text fault first real, line),
       none,
     )
 
 -- bytes that spell a certificate that doesn't hold
-pub not_held : (bytes : List ℕ) (lts : System) (certificate : Certificate) (case node : ℕ) (defect : Defect) (status : Status) (out err : List ℕ) → IsWellFormed lts → Spells bytes lts certificate → Judges lts certificate (Refused case node defect) → status ≡ No → out ≡ refused_line (defect_text defect) → err ≡ [] → AnswersBytes bytes lts status out err
-not_held bytes lts certificate case node defect status out err fine spelled judged is_no line none =
+pub not_held : (bytes : List ℕ) (lts : System) (claim : Claim) (case node : ℕ) (defect : Defect) (status : Status) (out err : List ℕ) → IsWellFormed lts → Spells bytes lts claim → Judges lts claim (Refused case node defect) → status ≡ No → out ≡ refused_line (defect_text lts case node defect) → err ≡ [] → AnswersBytes bytes lts status out err
+not_held bytes lts claim case node defect status out err fine spelled judged is_no line none =
     subst (λ s. AnswersBytes bytes lts s out err) (sym is_no) (
-      (λ other also holds. judged.3 (subst (Holds lts) (one_certificate bytes lts other certificate fine also spelled) holds)),
-      (defect_text defect, no_proof certificate case node defect spelled judged, line),
+      (λ other also holds. refused_fails lts claim case node defect judged (subst (Holds lts) (one_claim bytes lts other claim fine also spelled) holds)),
+      (defect_text lts case node defect, no_proof claim case node defect spelled judged, line),
       none,
     )
+
+-- what is answered to the bytes of the file is answered to the file
+pub bytes_answered : (files : Option Files) (cert : List ℕ) (lts : System) (bytes : List ℕ) (status : Status) (out err : List ℕ) → IsFile files cert bytes → AnswersBytes bytes lts status out err → AnswersCertificate files cert lts status out err
+bytes_answered files cert lts bytes Done out err file ((claim, spelled, holds, none, line), nothing) =
+    ((claim.class, record { claim = claim; of_class = refl; given = record { bytes = bytes; file = file; spelled = spelled }; holds = holds }, none, line), nothing)
+bytes_answered files cert lts bytes No out err file (none, (why, reason, line), nothing) =
+    (record { bytes = bytes; file = file; none = none }, record { bytes = bytes; file = file; why = why; reason = reason; line = line }, nothing)
+bytes_answered files cert lts bytes (Usage usage) out err file is = absurd is
+bytes_answered files cert lts bytes (File fault) out err file is = absurd is
+bytes_answered files cert lts bytes (NotBuilt unbuilt) out err file is = absurd is
+bytes_answered files cert lts bytes ReadFault out err file is = is
+bytes_answered files cert lts bytes WriteFault out err file is = is
+bytes_answered files cert lts bytes NoMemory out err file is = is
 
 abbrev second_long : FileFault
 second_long = record { file = 2; fault = TooLong }

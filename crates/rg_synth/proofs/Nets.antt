@@ -14,9 +14,8 @@ use Rattle.rg_net.specs.Range.{IsNetInRange}
 use Rattle.rg_net.specs.NetText.{net_text}
 use Rattle.rg_search.specs.Small.{HasSmallEffects, IsSmallSeparable}
 use Rattle.rg_refuting.proofs.Accepted.{accepted}
-use Rattle.rg_refuting.specs.Refutes.{Accepts}
-use Rattle.rg_cert.specs.declared.certificate.Reason.{Reason}
-use Rattle.rg_cert.specs.Certificates.{reason_of, cert_text}
+use Rattle.rg_refuting.specs.Refutes.{Reason, Accepts}
+use Rattle.rg_cert.specs.Text.{cert_text}
 use Rattle.rg_synth.specs.Answers.{IsOpen, IsReason}
 use Rattle.rg_synth.specs.Requests.{AnswersNet}
 use Rattle.rg_synth.specs.declared.answer.Answer.{Answer}
@@ -71,9 +70,9 @@ found_if class lts net (Ok a) is done text none = found class lts net a.status a
 found_if class lts net (Err e) is done text none = tt
 
 -- a reason is an answer
-pub refuted : (class : Class) (lts : System) (reason : Reason) (status : Status) (out err : List ℕ) → IsInRange lts → IsReason lts reason → Accepts lts class (reason_of reason) → status ≡ No → out ≡ cert_text (record { class = class; reason = reason }) lts → err ≡ [] → AnswersNet class lts status out err
+pub refuted : (class : Class) (lts : System) (reason : Reason) (status : Status) (out err : List ℕ) → IsInRange lts → IsReason lts reason → Accepts lts class reason → status ≡ No → out ≡ cert_text (record { class = class; reason = reason }) lts → err ≡ [] → AnswersNet class lts status out err
 refuted class lts reason status out err fine is holds is_no text none =
     subst (λ s. AnswersNet class lts s out err) (sym is_no) (
-      record { reason = reason; is = is; holds = holds; none = accepted lts class (reason_of reason) fine holds; text = text },
+      record { reason = reason; is = is; holds = holds; none = accepted lts class reason fine holds; text = text },
       none,
     )

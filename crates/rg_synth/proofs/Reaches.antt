@@ -9,8 +9,8 @@ use Rattle.rg_theory.specs.declared.Problem.TheVariants.{Event as Stop, States a
 use Rattle.rg_theory.specs.Problem.{ComesBefore, IsFirst}
 use Rattle.rg_theory.specs.ClassWords.{no_condition}
 use Rattle.rg_search.specs.Small.{IsUnseparable, IsFirstUnseparable}
-use Rattle.rg_cert.specs.declared.certificate.Reason.{Reason}
-use Rattle.rg_cert.specs.declared.certificate.Reason.TheVariants.{Unreachable, Fork}
+use Rattle.rg_refuting.specs.Refutes as refutes
+use Rattle.rg_refuting.specs.Refutes.{Reason}
 use Rattle.rg_cert.specs.Spells.{Spells}
 use Rattle.rg_synth.specs.Given.{most_bytes, IsUnread}
 use Rattle.rg_synth.specs.Judged.{IsAccepted, IsNotAccepted}
@@ -69,8 +69,9 @@ first_same P p q h k =
 
 -- a system with a reason isn't open
 closed : (lts : System) (reason : Reason) → IsReason lts reason → IsOpen lts → ⊥
-closed lts (Unreachable s) h open_system = h.unreachable (open_system.reachable.each s h.state)
-closed lts (Fork s t s₁ s₂) h open_system = h.1.fork.2 (open_system.fork_free.one_target s t s₁ s₂ h.1.fork.0 h.1.fork.1)
+closed lts (refutes.unreachable s) h open_system = h.unreachable (open_system.reachable.each s h.state)
+closed lts (refutes.fork s t s₁ s₂) h open_system = h.1.fork.2 (open_system.fork_free.one_target s t s₁ s₂ h.1.fork.0 h.1.fork.1)
+closed lts (refutes.refuted problem trees) h open_system = h
 
 pub one_reach : (class : Class) (lts : System) (v w : Reach) → IsReach class lts v → IsReach class lts w → v ≡ w
 one_reach class lts refuted refuted h k = refl
@@ -140,7 +141,7 @@ one_unread files name (Apt f) g h k = absurd h
 accepted_or_not : (files : Files) (name : List ℕ) (lts : System) (class : Class) → IsAccepted (Some files) name lts class → IsNotAccepted (Some files) name lts → ⊥
 accepted_or_not files name lts class h k =
     let same = same_bytes files name _ _ h.given.file.file k.file.file in
-    k.none h.certificate (subst (λ b. Spells b lts h.certificate) same h.given.spelled) h.holds
+    k.none h.claim (subst (λ b. Spells b lts h.claim) same h.given.spelled) h.holds
 
 pub one_cert : (files : Files) (name : List ℕ) (lts : System) (v w : Cert) → IsCert files name lts v → IsCert files name lts w → v ≡ w
 one_cert files name lts (unread f) (unread g) h k = ap unread (one_unread files name f g h k)

@@ -14,10 +14,8 @@ use Rattle.rg_net.specs.Range.{IsNetInRange}
 use Rattle.rg_net.specs.NetText.{net_text}
 use Rattle.rg_search.specs.Small.{IsSmallSeparable, IsFirstUnseparable}
 use Rattle.rg_checks.specs.First.{IsLeastFork}
-use Rattle.rg_refuting.specs.Refutes.{Accepts}
-use Rattle.rg_cert.specs.declared.certificate.Reason.{Reason}
-use Rattle.rg_cert.specs.declared.certificate.Reason.TheVariants.{Unreachable, Fork}
-use Rattle.rg_cert.specs.Certificates.{reason_of, cert_text}
+use Rattle.rg_refuting.specs.Refutes.{Reason, Reason.unreachable, Reason.fork, Accepts}
+use Rattle.rg_cert.specs.Text.{cert_text}
 use Rattle.rg_synth.specs.Words.{Asked, net, judgement, AreRefused}
 use Rattle.rg_synth.specs.Given.{IsUnread, AskForNoSystem, AskOf}
 use Rattle.rg_synth.specs.Judged.{IsAccepted, IsNotAccepted, IsRefused}
@@ -38,8 +36,9 @@ pub record IsOpen (lts : System) : Type 0 where
 
 -- the reason that no net of any class solves the system: the least unreachable state, else the first fork
 abbrev pub IsReason : System → Reason → Type 0
-IsReason lts (Unreachable s) = IsLeastUnreachable lts s
-IsReason lts (Fork s t s₁ s₂) = IsAllReachable lts × IsLeastFork lts s t s₁ s₂
+IsReason lts (unreachable s) = IsLeastUnreachable lts s
+IsReason lts (fork s t s₁ s₂) = IsAllReachable lts × IsLeastFork lts s t s₁ s₂
+IsReason lts reason = ⊥
 
 -- what isn't built: a class that asks for something, then more than six labels, then a problem that no region with all
 -- effects from -1 to 1 separates
@@ -68,7 +67,7 @@ pub record IsNetText (class : Class) (lts : System) (out : List ℕ) : Type 0 wh
 pub record IsCertificateText (class : Class) (lts : System) (out : List ℕ) : Type 0 where
   pub reason : Reason
   pub is : IsReason lts reason
-  pub holds : Accepts lts class (reason_of reason)
+  pub holds : Accepts lts class reason
   pub none : NoNet lts class
   pub text : out ≡ cert_text (record { class = class; reason = reason }) lts
 

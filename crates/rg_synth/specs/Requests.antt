@@ -5,7 +5,7 @@ use Rattle.rg_theory.specs.System.{System}
 use Rattle.rg_theory.specs.declared.Class.{Class}
 use Rattle.rg_theory.specs.Class.{NoNet}
 use Rattle.rg_theory.specs.ClassWords.{HasBoundInRange}
-use Rattle.rg_cert.specs.declared.certificate.Certificate.{Certificate}
+use Rattle.rg_cert.specs.Certificates.{Claim}
 use Rattle.rg_cert.specs.Spells.{Spells}
 use Rattle.rg_synth.specs.Words.{Asked, net, judgement, system_file}
 use Rattle.rg_synth.specs.Given.{IsUnread, IsNoSystem, IsSystemFile}
@@ -40,9 +40,9 @@ AnswersNet class lts _ out err = ⊥
 -- the answer to the bytes of a certificate's file
 abbrev pub AnswersBytes : List ℕ → System → Status → List ℕ → List ℕ → Type 0
 AnswersBytes bytes lts Done out err =
-    ((certificate : Certificate) × Spells bytes lts certificate × Holds lts certificate × NoNet lts certificate.class × (out ≡ accepted_line certificate.class)) × (err ≡ [])
+    ((claim : Claim) × Spells bytes lts claim × Holds lts claim × NoNet lts claim.class × (out ≡ accepted_line claim.class)) × (err ≡ [])
 AnswersBytes bytes lts No out err =
-    ((certificate : Certificate) → Spells bytes lts certificate → ¬ Holds lts certificate) × ((why : List ℕ) × IsRefusedFor bytes lts why × (out ≡ refused_line why)) × (err ≡ [])
+    ((claim : Claim) → Spells bytes lts claim → ¬ Holds lts claim) × ((why : List ℕ) × IsRefusedFor bytes lts why × (out ≡ refused_line why)) × (err ≡ [])
 AnswersBytes bytes lts _ out err = ⊥
 
 -- the answer to a certificate's file

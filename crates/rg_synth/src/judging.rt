@@ -3,7 +3,7 @@ ghost use Rattle.std.specs.Prelude.{◌≡◌, ◌≢◌, ◌⊎◌, ℕ, ◌≤
 ghost use Rattle.rg_ports.specs.Count.{HasRisen};
 ghost use Rattle.rg_ports.specs.Shelf.{asked_with};
 ghost use Rattle.rg_lts.specs.WellFormed.{IsWellFormed};
-ghost use Rattle.rg_cert.specs.Certificates.{IsCertificateOf};
+ghost use Rattle.rg_cert.specs.Certificates.{claim_of, IsCertificateOf};
 ghost use Rattle.rg_cert.specs.Spells.{Spells};
 ghost use Rattle.rg_synth.specs.Given.{most_bytes};
 ghost use Rattle.rg_synth.specs.Words.{judgement};
@@ -87,13 +87,17 @@ fn verdict_answer(
 ) -> Result<Answer, AllocError>
     requires system { IsWellFormed lts.now }
     requires in_range { IsCertificateOf lts.now cert.now }
-    requires spelled { Spells bytes.now lts.now cert.now }
+    requires spelled { Spells bytes.now lts.now (claim_of cert.now) }
     ensures { IfOk result (λ a. AnswersBytes bytes.now lts.now a.status a.out.items a.err.items) }
 {
     match verify(alloc, lts, cert) {
         Ok(Verdict::Accepted) => Ok(said(alloc, Status::Done, accepted_text(alloc, cert.class)?)),
-        Ok(Verdict::Refused { defect, .. }) => {
-            Ok(said(alloc, Status::No, defect_text(alloc, defect)?))
+        Ok(Verdict::Refused { case, node, defect }) => {
+            Ok(said(
+                alloc,
+                Status::No,
+                defect_text(alloc, lts, case, node, defect)?,
+            ))
         }
         Err(_) => Err(AllocError),
     }

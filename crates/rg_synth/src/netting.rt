@@ -70,7 +70,7 @@ fn system_answer(alloc: Global, class: Class, lts: &Lts) -> Result<Answer, Alloc
 // The certificate that gives the reason.
 fn refutation(alloc: Global, class: Class, reason: Reason, lts: &Lts) -> Result<Answer, AllocError>
     requires system { IsInRange lts.now }
-    requires is { IsReason lts.now reason }
+    requires is { IsReason lts.now (reason_of reason) }
     requires holds { Accepts lts.now class (reason_of reason) }
     requires in_range { IsCertificateOf lts.now (record { class = class; reason = reason }) }
     ensures { IfOk result (λ a. AnswersNet class lts.now a.status a.out.items a.err.items) }

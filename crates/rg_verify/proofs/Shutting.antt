@@ -1,5 +1,5 @@
 -- The states that can be reached are a closed set.
-use Rattle.std.proofs.Common.{◌≡◌, ◌≢◌, ◌↔◌, ℕ, ◌<◌, ◌==◌, Bool, true, false, not, cond, List, [], ◌∷◌, ◌++◌, Option, Some, None, is_some, length, get_or, slice_get, Result, Ok, Err, IfOk, IsTrue, true≢false, refl, sym, ap, subst, ◌∙◌, arith}
+use Rattle.std.proofs.Common.{◌≡◌, ◌≢◌, ◌↔◌, ℕ, ◌<◌, ◌==◌, Bool, true, false, not, cond, List, [], ◌∷◌, ◌++◌, Option, Some, None, is_some, length, get_or, slice_get, IsTrue, true≢false, refl, sym, ap, subst, ◌∙◌, arith}
 use Rattle.std.proofs.lemmas.List.Elements.{All-contains}
 use Rattle.std.proofs.lemmas.Option.{slice_get-get_or, slice_get_read, get_or_from_slice_get}
 use Rattle.std.proofs.lemmas.Bool.{eqb-true, eqb-false}
@@ -9,9 +9,6 @@ use Rattle.rg_theory.proofs.Trees.{leads_more}
 use Rattle.rg_checks.specs.declared.walks.Step.{Step}
 use Rattle.rg_checks.specs.Met.{AreSteps}
 use Rattle.rg_refuting.specs.Refutes.{IsClosedWithout}
-use Rattle.rg_cert.specs.declared.certificate.Certificate.{Certificate}
-use Rattle.rg_cert.specs.declared.certificate.Reason.TheVariants.{Unreachable}
-use Rattle.rg_verify.specs.Judged.{Holds}
 
 -- exactly the states outside can't be reached
 pub record TellsReachable (lts : System) (inside : ℕ → Bool) : Type 0 where
@@ -81,9 +78,3 @@ no_step lts steps s entry b fine are lt other at is =
     let turned = not_false b (is_some entry) is in
     let out = shut_out lts (is_met lts steps) s fine (told lts steps are) lt in
     ((λ t. out.0 (met ∙ turned.0 t)), λ h. turned.1 (sym met ∙ out.1 h))
-
--- the reason of the certificate is that a state can't be reached
-pub holds_shut : {E : Type 0} (lts : System) (cert : Certificate) (s : ℕ) (r : Result Bool E) → cert.reason ≡ Unreachable s → s < states lts
-    → IfOk r (λ b. IsTrue b ↔ ((inside : ℕ → Bool) × IsClosedWithout lts s inside)) → IfOk r (λ b. IsTrue b ↔ Holds lts cert)
-holds_shut lts cert s (Ok b) is lt told = rw is (λ t. (lt, told.0 t), λ h. told.1 h.1)
-holds_shut lts cert s (Err e) is lt told = tt

@@ -1,18 +1,121 @@
--- What a verdict on a certificate says.
-use Rattle.std.specs.Prelude.{◌≡◌}
+-- What a verdict on a certificate says: that it holds, or its first defect.
+use Rattle.std.specs.Prelude.{◌≡◌, ◌≢◌, ℕ, ◌+◌, ◌<◌, true, false, List, [], ◌∷◌, ◌++◌, length, take, All, pos, ◌<ℤ◌, slice_get, Some}
 use Rattle.rg_theory.specs.System.{System}
-use Rattle.rg_refuting.specs.Refutes.{Accepts}
-use Rattle.rg_cert.specs.declared.certificate.Certificate.{Certificate}
-use Rattle.rg_cert.specs.Certificates.{reason_of}
+use Rattle.rg_theory.specs.declared.Class.{Class}
+use Rattle.rg_theory.specs.declared.Problem.{Problem}
+use Rattle.rg_refuting.specs.Expression.{Variable.tokens_at, Variable.effect_of, Expression}
+use Rattle.rg_refuting.specs.Expression as linear
+use Rattle.rg_refuting.specs.Row.{Side, RowName, RowStands, row_expression, cases_of}
+use Rattle.rg_refuting.specs.Refutes.{NamedRow, IsMultiplier, IsSmall, coefficient_sum, constant_sum, LeafRefutes, Tree, Tree.leaf, Tree.split, TreeRefutes, IsAsked, IsRefuted, Accepts}
+use Rattle.rg_refuting.specs.Refutes as refutes
+use Rattle.rg_cert.specs.Trees.{preorder}
+use Rattle.rg_cert.specs.Certificates.{Claim, IsVariableOf}
+use Rattle.rg_verify.specs.declared.verdict.Variable.{Variable}
+use Rattle.rg_verify.specs.declared.verdict.Variable.TheVariants.{Tokens, Effect}
+use Rattle.rg_verify.specs.declared.verdict.Defect.{Defect}
+use Rattle.rg_verify.specs.declared.verdict.Defect.TheVariants.{WrongRow, NotPositive, LeftOver, NoContradiction, SumPasses, CaseMissing, NotSo}
 use Rattle.rg_verify.specs.declared.verdict.Verdict.{Verdict}
 use Rattle.rg_verify.specs.declared.verdict.Verdict.TheVariants.{Accepted, Refused}
-use Rattle.rg_verify.specs.declared.verdict.Defect.TheVariants.{NotSo}
 
--- the reason of the certificate holds of the system
-abbrev pub Holds : System → Certificate → Type 0
-Holds lts cert = Accepts lts cert.class (reason_of cert.reason)
+-- the reason of a claim holds of the system
+abbrev pub Holds : System → Claim → Type 0
+Holds lts claim = Accepts lts claim.class claim.reason
 
--- the verdict on the certificate
-abbrev pub Judges : System → Certificate → Verdict → Type 0
-Judges lts cert Accepted = Holds lts cert
-Judges lts cert (Refused case node defect) = (case ≡ 0) × (node ≡ 0) × (defect ≡ NotSo) × (¬ Holds lts cert)
+-- the item at a place of a list, where the fact holds of all items before
+pub record IsReached {X : Type 0} (P : X → Type 0) (xs : List X) (place : ℕ) (x : X) : Type 0 where
+  pub here : slice_get xs place ≡ Some x
+  pub before : All P (take place xs)
+
+-- a variable of the verdict, in the words of the definitions
+abbrev pub variable_of : Variable → linear.Variable
+variable_of (Tokens q) = tokens_at q
+variable_of (Effect t) = effect_of t
+
+-- tokens come before effects, tokens by state and effects by label
+abbrev pub ComesBefore : linear.Variable → linear.Variable → Type 0
+ComesBefore (tokens_at q) (tokens_at r) = q < r
+ComesBefore (tokens_at q) (effect_of t) = Unit {0}
+ComesBefore (effect_of t) (tokens_at q) = ⊥
+ComesBefore (effect_of t) (effect_of u) = t < u
+
+-- the row stands, and has a positive multiplier where it owes one
+abbrev pub IsRight : (RowName → Type 0) → NamedRow → Type 0
+IsRight stands r = stands r.name × IsMultiplier r.multiplier r.name
+
+-- the rows stand with their multipliers, and no sum of absolute values passes
+pub record AreSummed (stands : RowName → Type 0) (expression : RowName → Expression) (rows : List NamedRow) : Type 0 where
+  pub right : All (IsRight stands) rows
+  pub small : IsSmall expression rows
+
+-- the first variable whose coefficients don't add up to 0
+pub record IsFirstLeft (lts : System) (expression : RowName → Expression) (rows : List NamedRow) (v : linear.Variable) : Type 0 where
+  pub in_range : IsVariableOf lts v
+  pub left : coefficient_sum expression rows v ≢ pos 0
+  pub first : (w : linear.Variable) → ComesBefore w v → coefficient_sum expression rows w ≡ pos 0
+
+-- what is wrong with the first row that isn't right, or else with the sums of the rows
+abbrev pub IsDefectOf : System → (RowName → Type 0) → (RowName → Expression) → List NamedRow → Defect → Type 0
+IsDefectOf lts stands expression rows WrongRow = (place : ℕ) × (r : NamedRow) × IsReached (IsRight stands) rows place r × (¬ stands r.name)
+IsDefectOf lts stands expression rows NotPositive = (place : ℕ) × (r : NamedRow) × IsReached (IsRight stands) rows place r × stands r.name × (¬ IsMultiplier r.multiplier r.name)
+IsDefectOf lts stands expression rows SumPasses = All (IsRight stands) rows × (¬ IsSmall expression rows)
+IsDefectOf lts stands expression rows (LeftOver v) = AreSummed stands expression rows × IsFirstLeft lts expression rows (variable_of v)
+IsDefectOf lts stands expression rows NoContradiction = AreSummed stands expression rows × ((v : linear.Variable) → coefficient_sum expression rows v ≡ pos 0) × (¬ (constant_sum expression rows <ℤ pos 0))
+IsDefectOf lts stands expression rows CaseMissing = ⊥
+IsDefectOf lts stands expression rows NotSo = ⊥
+
+-- a leaf of a tree: its place among the nodes in preorder, the sides above it, outermost first, and its rows
+pub record PlacedLeaf : Type 0 where
+  pub node : ℕ
+  pub above : List Side
+  pub rows : List NamedRow
+
+-- the leaves of a tree in preorder, where the tree's first node has the number and stands below the sides
+abbrev pub leaves_of : ℕ → List Side → Tree → List PlacedLeaf
+leaves_of node above (leaf rows) = record { node = node; above = above; rows = rows } ∷ []
+leaves_of node above (split form at low high) =
+    leaves_of (node + 1) (above ++ record { form = form; at = at; high = false } ∷ []) low
+    ++ leaves_of (node + 1 + length (preorder low)) (above ++ record { form = form; at = at; high = true } ∷ []) high
+
+-- the leaf refutes in one case of a problem
+abbrev pub Refutes : System → Class → Problem → ℕ → PlacedLeaf → Type 0
+Refutes lts class problem number l = LeafRefutes (RowStands lts class problem number l.above) (row_expression lts class problem number l.above) l.rows
+
+-- the first leaf that doesn't refute is the node, and has the defect
+abbrev pub IsDefectIn : System → Class → Problem → ℕ → Tree → ℕ → Defect → Type 0
+IsDefectIn lts class problem number tree node defect =
+    (place : ℕ) × (l : PlacedLeaf) × IsReached (Refutes lts class problem number) (leaves_of 0 [] tree) place l × (node ≡ l.node)
+    × IsDefectOf lts (RowStands lts class problem number l.above) (row_expression lts class problem number l.above) l.rows defect
+
+-- there is a tree for each case, and there is a case
+abbrev pub HasAllCases : System → Class → Problem → List Tree → Type 0
+HasAllCases lts class problem trees = (length trees ≡ cases_of lts class problem) × (0 < length trees)
+
+-- the problem is asked, there are all cases, and the first tree that doesn't refute is the case, with the defect at the node
+pub record IsDefectAmong (lts : System) (class : Class) (problem : Problem) (trees : List Tree) (case node : ℕ) (defect : Defect) : Type 0 where
+  pub asked : IsAsked lts problem
+  pub cases : HasAllCases lts class problem trees
+  pub tree : Tree
+  pub here : slice_get trees case ≡ Some tree
+  pub before : (number : ℕ) (earlier : Tree) → number < case → slice_get trees number ≡ Some earlier → TreeRefutes lts class problem number [] earlier
+  pub found : IsDefectIn lts class problem case tree node defect
+
+-- the first defect of trees for a problem
+abbrev pub IsDefectFor : System → Class → Problem → List Tree → ℕ → ℕ → Defect → Type 0
+IsDefectFor lts class problem trees case node NotSo = (case ≡ 0) × (node ≡ 0) × (¬ IsAsked lts problem)
+IsDefectFor lts class problem trees case node CaseMissing = (case ≡ 0) × (node ≡ 0) × IsAsked lts problem × (¬ HasAllCases lts class problem trees)
+IsDefectFor lts class problem trees case node defect = IsDefectAmong lts class problem trees case node defect
+
+-- the verdict on trees for a problem
+abbrev pub JudgesTrees : System → Class → Problem → List Tree → Verdict → Type 0
+JudgesTrees lts class problem trees Accepted = IsRefuted lts class problem trees
+JudgesTrees lts class problem trees (Refused case node defect) = IsDefectFor lts class problem trees case node defect
+
+-- the first defect of a reason; one without cases can only be not so
+abbrev pub IsFirstDefect : System → Class → refutes.Reason → ℕ → ℕ → Defect → Type 0
+IsFirstDefect lts class (refutes.refuted problem trees) case node defect = IsDefectFor lts class problem trees case node defect
+IsFirstDefect lts class reason case node defect = (case ≡ 0) × (node ≡ 0) × (defect ≡ NotSo) × (¬ Accepts lts class reason)
+
+-- the verdict on the claim of a certificate
+abbrev pub Judges : System → Claim → Verdict → Type 0
+Judges lts claim Accepted = Holds lts claim
+Judges lts claim (Refused case node defect) = IsFirstDefect lts claim.class claim.reason case node defect

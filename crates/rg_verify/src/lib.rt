@@ -1,10 +1,19 @@
 //! Certificates judged.
 #![tactic(auto)]
 
+mod cases;
+mod expression;
 mod judging;
+mod laws;
+mod leaves;
+mod setting;
+mod side;
+mod standing;
+mod sums;
 #[cfg(test)]
 mod tests;
 mod verdict;
 
 pub use judging::verify;
-pub use verdict::{Defect, NoMemory, Verdict};
+pub use laws::one_verdict;
+pub use verdict::{Defect, NoMemory, Variable, Verdict};

@@ -1,9 +1,66 @@
 //! What is said of a certificate.
+ghost use Rattle.std.specs.Prelude.{◌↔◌, IsTrue};
+ghost use Rattle.rg_verify.specs.Judged.{variable_of, ComesBefore};
 
-/// What is wrong with a certificate.
+use rg_cert::Form;
+use std::alloc::{AllocError, AllocFailed};
+
+/// An unknown of the rows: the tokens at a state, or the effect of a label. Tokens come first, by state, then effects, by
+/// label.
+#[derive(Clone, Copy, Debug, PartialEq, Eq)]
+pub enum Variable {
+    Tokens(u32),
+    Effect(u32),
+}
+
+impl Variable {
+    // Whether it comes before the other.
+    pub(crate) fn comes_before(self, other: Variable) -> bool
+        ensures { IsTrue result ↔ ComesBefore (variable_of self) (variable_of other) }
+    {
+        match (self, other) {
+            (Variable::Tokens(q), Variable::Tokens(r)) => q < r,
+            (Variable::Tokens(_), Variable::Effect(_)) => true,
+            (Variable::Effect(_), Variable::Tokens(_)) => false,
+            (Variable::Effect(t), Variable::Effect(u)) => t < u,
+        }
+    }
+}
+
+impl From<Form> for Variable {
+    ghost use Rattle.std.specs.Prelude.{◌≡◌};
+    ghost use Rattle.rg_cert.specs.Trees as cert;
+    ghost use Rattle.rg_verify.specs.Judged.{variable_of};
+
+    ghost from_gives = { λ form v. variable_of v ≡ cert.variable_of form };
+
+    fn from(form: Form) -> Variable {
+        match form {
+            Form::Tokens(q) => Variable::Tokens(q),
+            Form::Effect(t) => Variable::Effect(t),
+        }
+    }
+}
+
+/// What is wrong with a certificate. The first defect is told: `NotSo`, then `CaseMissing`, then by case and by leaf, in preorder,
+/// that of the first wrong row, `SumPasses`, `LeftOver` and `NoContradiction`.
 #[derive(Clone, Copy, Debug, PartialEq, Eq)]
 pub enum Defect {
-    /// The reason doesn't hold of the system: the state can be reached, an arc is missing, or the targets are equal.
+    /// A row doesn't stand: the class, the problem or its case hasn't it, there is no such arc, or no split so deep above.
+    WrongRow,
+    /// A row other than an arc's has a multiplier below 1.
+    NotPositive,
+    /// The multiplied coefficients of the variable don't add up to 0, and it is the first such variable.
+    LeftOver(Variable),
+    /// The multiplied constants add up to 0 or more.
+    NoContradiction,
+    /// The absolute values of a variable's multiplied coefficients, or of the multiplied constants, add up to more than
+    /// 2^127 - 1.
+    SumPasses,
+    /// The number of cases isn't that of the problem, or is 0.
+    CaseMissing,
+    /// The reason doesn't hold of the system: the state can be reached, the two arcs aren't a fork, the label has an arc
+    /// at the state, or the two states are one.
     NotSo,
 }
 
@@ -12,7 +69,7 @@ pub enum Defect {
 pub enum Verdict {
     /// The reason holds, so no net of the class solves the system.
     Accepted,
-    /// The first defect, with the case and the node at which it stands; both are 0 where the reason has no cases.
+    /// The first defect, with the case and the node of its tree, in preorder and from 0; both are 0 for `NotSo` and `CaseMissing`.
     Refused {
         case: u32,
         node: u64,
@@ -26,6 +83,18 @@ pub struct NoMemory;
 
 impl From<rg_checks::NoMemory> for NoMemory {
     fn from(_: rg_checks::NoMemory) -> NoMemory {
+        NoMemory
+    }
+}
+
+impl From<AllocError> for NoMemory {
+    fn from(_: AllocError) -> NoMemory {
+        NoMemory
+    }
+}
+
+impl<T: Drop> From<AllocFailed<T>> for NoMemory {
+    fn from(_: AllocFailed<T>) -> NoMemory {
         NoMemory
     }
 }

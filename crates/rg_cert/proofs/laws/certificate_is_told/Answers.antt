@@ -1,4 +1,4 @@
-use Rattle.rg_cert.proofs.Told.{told}
+use Rattle.rg_cert.proofs.OneClaim.{told}
 use Rattle.rg_cert.proofs.laws.certificate_is_told.Goals as goal
 
 pub returns : goal.returns

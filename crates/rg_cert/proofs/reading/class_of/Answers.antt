@@ -3,7 +3,7 @@ use Rattle.std.proofs.lemmas.Str.{IsUtf8-from_ascii}
 use Rattle.std.proofs.lemmas.Str.Ascii.{IsAscii-from_all}
 use Rattle.rg_theory.specs.ClassWords.{NamesClass}
 use Rattle.rg_theory.proofs.ClassTold.{not_both}
-use Rattle.rg_cert.proofs.Broken.{class_ascii}
+use Rattle.rg_cert.proofs.ClassLines.{class_ascii}
 use Rattle.rg_cert.proofs.reading.class_of.Goals as goal
 
 pub returns-in-Err-clause-none : goal.returns-in-Err-clause-none

@@ -1,7 +1,5 @@
-use Rattle.rg_refuting.proofs.Accepted.{accepted}
-use Rattle.rg_cert.specs.Certificates.{reason_of}
+use Rattle.rg_verify.proofs.Verdicts.{no_net}
 use Rattle.rg_verify.proofs.judging.verify.Goals as goal
 
-pub returns-then-branch-clause-no_net : goal.returns-then-branch-clause-no_net
-returns-then-branch-clause-no_net c = λ _.
-    accepted c.args.lts.now c.args.cert.now.class (reason_of c.args.cert.now.reason) c.in_ok-holds.ensures.in_range (c.in_ok-holds.ensures.exact.0 c.if-branch.true)
+pub returns-clause-no_net : goal.returns-clause-no_net
+returns-clause-no_net c = no_net c.args.lts.now c.args.cert.now c.judge.result c.judge.ensures.in_range c.judge.ensures.judged

@@ -1,0 +1,45 @@
+//! Worked systems, and certificates that they have no net.
+
+/// A loop and a step.
+pub const SIDE: &str =
+    ".type LTS\n.states\ns0[initial]\ns1\n.labels\na\nb\n.arcs\ns0 a s0\ns0 b s1\n";
+
+/// No region of a pure net stops a after the step.
+pub const OF_SIDE: &str =
+    "certificate 1\nclass pure\nevent s1 a\ncase\nleaf\n1 block\n1 tokens s1\n1 arc s0 a s0\nend\n";
+
+/// The word a b b a a.
+pub const ABBAA: &str =
+    ".type LTS\n.states\ns0[initial]\ns1\ns2\ns3\ns4\ns5\n.labels\na\nb\n.arcs\ns0 a s1\ns1 b s2\ns2 b s3\ns3 a s4\ns4 a s5\n";
+
+/// No region stops a in the middle.
+pub const OF_ABBAA: &str =
+    "certificate 1\nclass none\nevent s2 a\ncase\nleaf\n1 stop s0\n1 stop s4\n-1 arc s0 a s1\n-1 arc s1 b s2\n1 arc s2 b s3\n1 arc s3 a s4\nend\n";
+
+/// Two states, and a label from each to the other.
+pub const CYCLE: &str =
+    ".type LTS\n.states\ns0[initial]\ns1\n.labels\na\n.arcs\ns0 a s1\ns1 a s0\n";
+
+/// No region tells the two apart.
+pub const OF_CYCLE: &str =
+    "certificate 1\nclass none\nstates s0 s1\ncase\nleaf\n2 apart\n1 arc s0 a s1\n-1 arc s1 a s0\ncase\nleaf\n2 apart\n-1 arc s0 a s1\n1 arc s1 a s0\nend\n";
+
+/// Two labels in choice.
+pub const CHOICE: &str =
+    ".type LTS\n.states\ns0[initial]\ns1\ns2\n.labels\na\nb\n.arcs\ns0 a s1\ns0 b s2\n";
+
+/// No region from which b alone takes stops b after a.
+pub const OF_CHOICE: &str =
+    "certificate 1\nclass output-nonbranching\nevent s1 b\ncase\nleaf\n1 stop s0\n1 makes a\n-1 arc s0 a s1\nend\n";
+
+/// The cycle of a, a and b.
+pub const RING: &str =
+    ".type LTS\n.states\ns0[initial]\ns1\ns2\n.labels\na\nb\n.arcs\ns0 a s1\ns1 a s2\ns2 b s0\n";
+
+/// No region of a plain net stops b at the beginning.
+pub const OF_RING_PLAIN: &str =
+    "certificate 1\nclass plain\nevent s0 b\ncase\nsplit effect a 0\nleaf\n1 empty\n1 full s2\n2 above 0\n1 arc s0 a s1\n1 arc s1 a s2\nleaf\n1 down b\n2 above 0\n-1 arc s0 a s1\n-1 arc s1 a s2\n-1 arc s2 b s0\nend\n";
+
+/// No region of a safe net stops b at the beginning.
+pub const OF_RING_SAFE: &str =
+    "certificate 1\nclass safe\nevent s0 b\ncase\nsplit tokens s1 0\nleaf\n1 stop s2\n2 tokens s0\n2 above 0\n-1 arc s0 a s1\n1 arc s1 a s2\nleaf\n1 stop s2\n2 cap s2\n2 above 0\n1 arc s0 a s1\n-1 arc s1 a s2\nend\n";

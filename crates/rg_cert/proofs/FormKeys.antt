@@ -1,0 +1,117 @@
+-- A line has one form: the key of its fields.
+use Rattle.std.proofs.Common.{◌≡◌, inl, inr, ℤ, ◌&&◌, ℕ, nat_lt, Bool, true, false, List, [], ◌∷◌, Option, None, Some, codes, cond, refl, sym, ap, ◌∙◌, arith}
+use Rattle.std.specs.List.{list_all}
+use Rattle.std.specs.Char.{is_ascii_digit}
+use Rattle.std.specs.Str.{bytes_eq}
+use Rattle.std.proofs.lemmas.Bool.Decides.{nat_tests}
+use Rattle.rg_cert.specs.Numerals.{IsPlain, IsNumeral}
+use Rattle.rg_cert.specs.Lines.{HasFieldForm, AreAsked, RowForm.arc_form, RowForm.tokens_form, RowForm.cap_form, RowForm.up_form, RowForm.down_form, RowForm.makes_form, RowForm.stop_form, RowForm.block_form, RowForm.empty_form, RowForm.full_form, RowForm.keep_form, RowForm.apart_form, RowForm.above_form, LineForm, LineForm.heading_line, LineForm.class_line, LineForm.unreachable_line, LineForm.fork_line, LineForm.event_line, LineForm.states_line, LineForm.case_line, LineForm.split_tokens_line, LineForm.split_effect_line, LineForm.leaf_line, LineForm.row_line, LineForm.end_line, fields_of}
+
+-- a word begins above the digits
+abbrev pub begins_word : List ℕ → Bool
+begins_word [] = false
+begins_word (c ∷ cs) = nat_lt 64 c
+
+abbrev split_key : List (List ℕ) → Option LineForm
+split_key [] = None
+split_key (w ∷ more) = cond (bytes_eq w (codes "tokens")) (Some split_tokens_line) (cond (bytes_eq w (codes "effect")) (Some split_effect_line) (None))
+
+abbrev word_key : List ℕ → List (List ℕ) → Option LineForm
+word_key w more = cond (bytes_eq w (codes "split")) (split_key more) (cond (bytes_eq w (codes "certificate")) (Some heading_line) (cond (bytes_eq w (codes "class")) (Some class_line) (cond (bytes_eq w (codes "unreachable")) (Some unreachable_line) (cond (bytes_eq w (codes "fork")) (Some fork_line) (cond (bytes_eq w (codes "event")) (Some event_line) (cond (bytes_eq w (codes "states")) (Some states_line) (cond (bytes_eq w (codes "case")) (Some case_line) (cond (bytes_eq w (codes "leaf")) (Some leaf_line) (cond (bytes_eq w (codes "end")) (Some end_line) (None))))))))))
+
+abbrev row_key : List (List ℕ) → Option LineForm
+row_key [] = None
+row_key (w ∷ more) = cond (bytes_eq w (codes "arc")) (Some (row_line arc_form)) (cond (bytes_eq w (codes "tokens")) (Some (row_line tokens_form)) (cond (bytes_eq w (codes "cap")) (Some (row_line cap_form)) (cond (bytes_eq w (codes "up")) (Some (row_line up_form)) (cond (bytes_eq w (codes "down")) (Some (row_line down_form)) (cond (bytes_eq w (codes "makes")) (Some (row_line makes_form)) (cond (bytes_eq w (codes "stop")) (Some (row_line stop_form)) (cond (bytes_eq w (codes "block")) (Some (row_line block_form)) (cond (bytes_eq w (codes "empty")) (Some (row_line empty_form)) (cond (bytes_eq w (codes "full")) (Some (row_line full_form)) (cond (bytes_eq w (codes "keep")) (Some (row_line keep_form)) (cond (bytes_eq w (codes "apart")) (Some (row_line apart_form)) (cond (bytes_eq w (codes "above")) (Some (row_line above_form)) (None)))))))))))))
+
+-- the one form that fields may have
+abbrev pub form_key : List (List ℕ) → Option LineForm
+form_key [] = None
+form_key (w ∷ more) = cond (begins_word w) (word_key w more) (row_key more)
+
+digit_low : (c : ℕ) → is_ascii_digit c ≡ true → nat_lt 64 c ≡ false
+digit_low c is = grind (arith, nat_tests)
+
+both : (a b : Bool) → (a && b) ≡ true → a ≡ true
+both true b h = refl
+both false b h = absurd cc
+
+plain_low : (digits : List ℕ) → IsPlain digits → begins_word digits ≡ false
+plain_low [] is = refl
+plain_low (c ∷ cs) is = digit_low c (both (is_ascii_digit c) (list_all is_ascii_digit cs) is.each)
+
+pub numeral_low : (text : List ℕ) (z : ℤ) → IsNumeral text z → begins_word text ≡ false
+numeral_low text z (inl (plain, value)) = plain_low text plain
+numeral_low text z (inr (ds, is, plain, other, value)) = ap begins_word is
+
+-- a row is told by its word
+row_keyed : (m w : List ℕ) (more : List (List ℕ)) (v : List ℕ) → ((z : ℤ) × IsNumeral m z) → w ≡ v → form_key (m ∷ w ∷ more) ≡ row_key (v ∷ more)
+row_keyed m w more v (z, is) same = ap (λ b. cond b (word_key m (w ∷ more)) (row_key (w ∷ more))) (numeral_low m z is) ∙ ap (λ t. row_key (t ∷ more)) same
+
+pub keyed : (form : LineForm) (texts : List (List ℕ)) → AreAsked HasFieldForm (fields_of form) texts → form_key texts ≡ Some form
+keyed heading_line (w ∷ more) are = ap (λ t. form_key (t ∷ more)) are.0
+keyed class_line (w ∷ more) are = ap (λ t. form_key (t ∷ more)) are.0
+keyed unreachable_line (w ∷ more) are = ap (λ t. form_key (t ∷ more)) are.0
+keyed fork_line (w ∷ more) are = ap (λ t. form_key (t ∷ more)) are.0
+keyed event_line (w ∷ more) are = ap (λ t. form_key (t ∷ more)) are.0
+keyed states_line (w ∷ more) are = ap (λ t. form_key (t ∷ more)) are.0
+keyed case_line (w ∷ more) are = ap (λ t. form_key (t ∷ more)) are.0
+keyed leaf_line (w ∷ more) are = ap (λ t. form_key (t ∷ more)) are.0
+keyed end_line (w ∷ more) are = ap (λ t. form_key (t ∷ more)) are.0
+keyed split_tokens_line (w ∷ []) are = absurd are.1
+keyed split_tokens_line (w ∷ v ∷ more) are = ap (λ t. form_key (t ∷ v ∷ more)) are.0 ∙ ap (λ t. form_key (codes "split" ∷ t ∷ more)) are.1.0
+keyed split_effect_line (w ∷ []) are = absurd are.1
+keyed split_effect_line (w ∷ v ∷ more) are = ap (λ t. form_key (t ∷ v ∷ more)) are.0 ∙ ap (λ t. form_key (codes "split" ∷ t ∷ more)) are.1.0
+keyed (row_line arc_form) (m ∷ []) are = absurd are.1
+keyed (row_line arc_form) (m ∷ w ∷ more) are = row_keyed m w more (codes "arc") are.0 are.1.0
+keyed (row_line tokens_form) (m ∷ []) are = absurd are.1
+keyed (row_line tokens_form) (m ∷ w ∷ more) are = row_keyed m w more (codes "tokens") are.0 are.1.0
+keyed (row_line cap_form) (m ∷ []) are = absurd are.1
+keyed (row_line cap_form) (m ∷ w ∷ more) are = row_keyed m w more (codes "cap") are.0 are.1.0
+keyed (row_line up_form) (m ∷ []) are = absurd are.1
+keyed (row_line up_form) (m ∷ w ∷ more) are = row_keyed m w more (codes "up") are.0 are.1.0
+keyed (row_line down_form) (m ∷ []) are = absurd are.1
+keyed (row_line down_form) (m ∷ w ∷ more) are = row_keyed m w more (codes "down") are.0 are.1.0
+keyed (row_line makes_form) (m ∷ []) are = absurd are.1
+keyed (row_line makes_form) (m ∷ w ∷ more) are = row_keyed m w more (codes "makes") are.0 are.1.0
+keyed (row_line stop_form) (m ∷ []) are = absurd are.1
+keyed (row_line stop_form) (m ∷ w ∷ more) are = row_keyed m w more (codes "stop") are.0 are.1.0
+keyed (row_line block_form) (m ∷ []) are = absurd are.1
+keyed (row_line block_form) (m ∷ w ∷ more) are = row_keyed m w more (codes "block") are.0 are.1.0
+keyed (row_line empty_form) (m ∷ []) are = absurd are.1
+keyed (row_line empty_form) (m ∷ w ∷ more) are = row_keyed m w more (codes "empty") are.0 are.1.0
+keyed (row_line full_form) (m ∷ []) are = absurd are.1
+keyed (row_line full_form) (m ∷ w ∷ more) are = row_keyed m w more (codes "full") are.0 are.1.0
+keyed (row_line keep_form) (m ∷ []) are = absurd are.1
+keyed (row_line keep_form) (m ∷ w ∷ more) are = row_keyed m w more (codes "keep") are.0 are.1.0
+keyed (row_line apart_form) (m ∷ []) are = absurd are.1
+keyed (row_line apart_form) (m ∷ w ∷ more) are = row_keyed m w more (codes "apart") are.0 are.1.0
+keyed (row_line above_form) (m ∷ []) are = absurd are.1
+keyed (row_line above_form) (m ∷ w ∷ more) are = row_keyed m w more (codes "above") are.0 are.1.0
+keyed heading_line [] are = absurd are
+keyed class_line [] are = absurd are
+keyed unreachable_line [] are = absurd are
+keyed fork_line [] are = absurd are
+keyed event_line [] are = absurd are
+keyed states_line [] are = absurd are
+keyed case_line [] are = absurd are
+keyed split_tokens_line [] are = absurd are
+keyed split_effect_line [] are = absurd are
+keyed leaf_line [] are = absurd are
+keyed end_line [] are = absurd are
+keyed (row_line arc_form) [] are = absurd are
+keyed (row_line tokens_form) [] are = absurd are
+keyed (row_line cap_form) [] are = absurd are
+keyed (row_line up_form) [] are = absurd are
+keyed (row_line down_form) [] are = absurd are
+keyed (row_line makes_form) [] are = absurd are
+keyed (row_line stop_form) [] are = absurd are
+keyed (row_line block_form) [] are = absurd are
+keyed (row_line empty_form) [] are = absurd are
+keyed (row_line full_form) [] are = absurd are
+keyed (row_line keep_form) [] are = absurd are
+keyed (row_line apart_form) [] are = absurd are
+keyed (row_line above_form) [] are = absurd are
+
+-- fields have one form
+pub one_form : (f g : LineForm) (texts : List (List ℕ)) → AreAsked HasFieldForm (fields_of f) texts → AreAsked HasFieldForm (fields_of g) texts → f ≡ g
+one_form f g texts x y = let same = sym (keyed f texts x) ∙ keyed g texts y in cc

@@ -1,0 +1,450 @@
+-- What right lines say, and the claim that they make.
+use Rattle.std.proofs.Common.{◌≡◌, ◌≢◌, ◌⊎◌, inl, inr, ℕ, zero, suc, ◌+◌, ◌<◌, ◌^◌, List, [], ◌∷◌, ◌++◌, length, get_or, codes, map, decimal, All, Contains, Option, None, Some, ℤ, nat_abs, append-nil, append_assoc, refl, sym, ap, ap₂, subst, ◌∙◌, arith, length-append}
+use Rattle.std.specs.List.{flat_map}
+use Rattle.std.specs.Fmt.{signed_decimal}
+use Rattle.std.proofs.lemmas.List.Elements.{All-head, All-tail, All-nil, All-cons}
+use Rattle.rg_text.specs.Line.{fed, fields}
+use Rattle.rg_theory.specs.System.{System}
+use Rattle.rg_theory.specs.declared.Class.{Class}
+use Rattle.rg_theory.specs.declared.Problem.TheVariants.{Event, States}
+use Rattle.rg_theory.specs.ClassWords.{NamesClass}
+use Rattle.rg_theory.proofs.ClassBytes.{named_bound}
+use Rattle.rg_theory.proofs.ClassDecided.{Decided}
+use Rattle.rg_refuting.specs.Expression.{Variable, Variable.tokens_at, Variable.effect_of}
+use Rattle.rg_refuting.specs.Row.{RowName.arc_row, RowName.tokens_row, RowName.cap_row, RowName.up_row, RowName.down_row, RowName.makes_row, RowName.stop_row, RowName.block_row, RowName.empty_row, RowName.full_row, RowName.keep_row, RowName.apart_row, RowName.above_row}
+use Rattle.rg_refuting.specs.Refutes as refutes
+use Rattle.rg_refuting.specs.Refutes.{NamedRow, Tree}
+use Rattle.rg_cert.specs.declared.fault.CertFault.{CertFault}
+use Rattle.rg_cert.specs.declared.fault.CertFault.TheVariants.{Expected, UnknownName, NumberPasses, TreeShort, TreeLong}
+use Rattle.rg_cert.specs.Trees.{TreeNode}
+use Rattle.rg_cert.specs.Certificates.{Claim, IsMultiplierInRange, IsSplitInRange, IsRowOf, IsNodeOf, IsTreeOf, IsReasonOf}
+use Rattle.rg_cert.specs.Text.{named_fields, node_lines, case_lines, reason_lines, spaced, cert_lines, text_with}
+use Rattle.rg_cert.specs.Spells.{Spells}
+use Rattle.rg_cert.specs.Lines.{multiplier, split_value, depth, word, state, label, number, HasFieldForm, IsFieldInRange, IsFieldKnown, AreAsked, RowForm, arc_form, tokens_form, cap_form, up_form, down_form, makes_form, stop_form, block_form, empty_form, full_form, keep_form, apart_form, above_form, LineForm, heading_line, class_line, unreachable_line, fork_line, event_line, states_line, case_line, split_tokens_line, split_effect_line, leaf_line, row_line, end_line, fields_of, HasForm, Place, at_heading, at_class, at_reason, at_last, at_one_case, at_cases, at_node, at_row, at_end, Next, to, short, long, refused, follows}
+use Rattle.rg_cert.specs.Faults.{Leads, LeadAll, BeginsWith, IsFaultAt, FaultFrom}
+use Rattle.rg_cert.specs.Drafts.{Head, of_unreachable, of_fork, of_event, of_states, head_fields, IsHeadOf, after_head, Draft, blank, leaf_closed, case_closed, with_split, IsSplitLine, Adds, nodes_lines, draft_lines, IsCase, HasCases, IsDraftAt, IsGood}
+use Rattle.rg_cert.proofs.Decimal.{numeral_text}
+use Rattle.rg_cert.proofs.LineTexts.{fields_are, from_fields}
+use Rattle.rg_cert.proofs.FormKeys.{form_key, keyed}
+use Rattle.rg_cert.proofs.NextLines.{breaks, no_line, same_line, refused_form, begins_with}
+use Rattle.rg_cert.proofs.Good.{good_at, two_texts, three_texts, four_texts, five_texts}
+use Rattle.rg_cert.proofs.ClassLines.{class_texts}
+use Rattle.rg_cert.proofs.Walks.{start, fault_before}
+use Rattle.rg_cert.proofs.DraftSteps.{drafted}
+use Rattle.rg_cert.proofs.Deciding.{forms_decided, ranges_decided, names_decided, IsCut, cut_or_not}
+
+other_default : (xs : List (List ℕ)) (k : ℕ) (d e : List ℕ) → k < length xs → get_or xs k d ≡ get_or xs k e
+other_default [] k d e less = absurd (omega arith)
+other_default (x ∷ xs) zero d e less = refl
+other_default (x ∷ xs) (suc k) d e less = other_default xs k d e (omega arith)
+
+-- the number of a name
+name_there : (names : List (List ℕ)) (text : List ℕ) → Contains names text → (s : ℕ) × (s < length names) × (text ≡ get_or names s [])
+name_there names text (k, less, is) = (k, less, sym is ∙ other_default names k text [] less)
+
+multiplier_there : (text : List ℕ) → IsFieldInRange (number multiplier) text → (z : ℤ) × IsMultiplierInRange z × (text ≡ signed_decimal z)
+multiplier_there text (z, is, within) = (z, within, numeral_text text z is (omega (arith, within)))
+
+split_there : (text : List ℕ) → IsFieldInRange (number split_value) text → (z : ℤ) × IsSplitInRange z × (text ≡ signed_decimal z)
+split_there text (z, is, within) = (z, within, numeral_text text z is (omega (arith, within)))
+
+depth_there : (text : List ℕ) → IsFieldInRange (number depth) text → (d : ℕ) × (d < 2 ^ 32) × (text ≡ decimal d)
+depth_there text (z, is, within) =
+    let size = ap nat_abs within.1 in
+    (within.0, within.2, numeral_text text z is (omega (arith, size, within.2)) ∙ ap signed_decimal within.1)
+
+-- the row of a right line
+row_there : (lts : System) (row : RowForm) (texts : List (List ℕ)) → IsGood lts (row_line row) texts → (r : NamedRow) × IsRowOf lts r × (texts ≡ named_fields lts r)
+row_there lts arc_form texts good =
+    let m = multiplier_there (get_or texts 0 []) (good_at lts (row_line arc_form) texts 0 (number multiplier) good refl).in_range in
+    let v = (good_at lts (row_line arc_form) texts 1 (word (codes "arc")) good refl).form in
+    let a = name_there lts.state_names (get_or texts 2 []) (good_at lts (row_line arc_form) texts 2 state good refl).known in
+    let b = name_there lts.label_names (get_or texts 3 []) (good_at lts (row_line arc_form) texts 3 label good refl).known in
+    let c = name_there lts.state_names (get_or texts 4 []) (good_at lts (row_line arc_form) texts 4 state good refl).known in (
+      record { multiplier = m.0; name = arc_row a.0 b.0 c.0 },
+      record { multiplier = m.1; name = (a.1, b.1, c.1) },
+      five_texts HasFieldForm (number multiplier) (word (codes "arc")) state label state texts good.fields ∙ (λ i. m.2 i ∷ v i ∷ a.2 i ∷ b.2 i ∷ c.2 i ∷ []),
+    )
+row_there lts tokens_form texts good =
+    let m = multiplier_there (get_or texts 0 []) (good_at lts (row_line tokens_form) texts 0 (number multiplier) good refl).in_range in
+    let v = (good_at lts (row_line tokens_form) texts 1 (word (codes "tokens")) good refl).form in
+    let n = name_there lts.state_names (get_or texts 2 []) (good_at lts (row_line tokens_form) texts 2 state good refl).known in
+    (record { multiplier = m.0; name = tokens_row n.0 }, record { multiplier = m.1; name = n.1 }, three_texts HasFieldForm (number multiplier) (word (codes "tokens")) state texts good.fields ∙ (λ i. m.2 i ∷ v i ∷ n.2 i ∷ []))
+row_there lts cap_form texts good =
+    let m = multiplier_there (get_or texts 0 []) (good_at lts (row_line cap_form) texts 0 (number multiplier) good refl).in_range in
+    let v = (good_at lts (row_line cap_form) texts 1 (word (codes "cap")) good refl).form in
+    let n = name_there lts.state_names (get_or texts 2 []) (good_at lts (row_line cap_form) texts 2 state good refl).known in
+    (record { multiplier = m.0; name = cap_row n.0 }, record { multiplier = m.1; name = n.1 }, three_texts HasFieldForm (number multiplier) (word (codes "cap")) state texts good.fields ∙ (λ i. m.2 i ∷ v i ∷ n.2 i ∷ []))
+row_there lts up_form texts good =
+    let m = multiplier_there (get_or texts 0 []) (good_at lts (row_line up_form) texts 0 (number multiplier) good refl).in_range in
+    let v = (good_at lts (row_line up_form) texts 1 (word (codes "up")) good refl).form in
+    let n = name_there lts.label_names (get_or texts 2 []) (good_at lts (row_line up_form) texts 2 label good refl).known in
+    (record { multiplier = m.0; name = up_row n.0 }, record { multiplier = m.1; name = n.1 }, three_texts HasFieldForm (number multiplier) (word (codes "up")) label texts good.fields ∙ (λ i. m.2 i ∷ v i ∷ n.2 i ∷ []))
+row_there lts down_form texts good =
+    let m = multiplier_there (get_or texts 0 []) (good_at lts (row_line down_form) texts 0 (number multiplier) good refl).in_range in
+    let v = (good_at lts (row_line down_form) texts 1 (word (codes "down")) good refl).form in
+    let n = name_there lts.label_names (get_or texts 2 []) (good_at lts (row_line down_form) texts 2 label good refl).known in
+    (record { multiplier = m.0; name = down_row n.0 }, record { multiplier = m.1; name = n.1 }, three_texts HasFieldForm (number multiplier) (word (codes "down")) label texts good.fields ∙ (λ i. m.2 i ∷ v i ∷ n.2 i ∷ []))
+row_there lts makes_form texts good =
+    let m = multiplier_there (get_or texts 0 []) (good_at lts (row_line makes_form) texts 0 (number multiplier) good refl).in_range in
+    let v = (good_at lts (row_line makes_form) texts 1 (word (codes "makes")) good refl).form in
+    let n = name_there lts.label_names (get_or texts 2 []) (good_at lts (row_line makes_form) texts 2 label good refl).known in
+    (record { multiplier = m.0; name = makes_row n.0 }, record { multiplier = m.1; name = n.1 }, three_texts HasFieldForm (number multiplier) (word (codes "makes")) label texts good.fields ∙ (λ i. m.2 i ∷ v i ∷ n.2 i ∷ []))
+row_there lts stop_form texts good =
+    let m = multiplier_there (get_or texts 0 []) (good_at lts (row_line stop_form) texts 0 (number multiplier) good refl).in_range in
+    let v = (good_at lts (row_line stop_form) texts 1 (word (codes "stop")) good refl).form in
+    let n = name_there lts.state_names (get_or texts 2 []) (good_at lts (row_line stop_form) texts 2 state good refl).known in
+    (record { multiplier = m.0; name = stop_row n.0 }, record { multiplier = m.1; name = n.1 }, three_texts HasFieldForm (number multiplier) (word (codes "stop")) state texts good.fields ∙ (λ i. m.2 i ∷ v i ∷ n.2 i ∷ []))
+row_there lts block_form texts good =
+    let m = multiplier_there (get_or texts 0 []) (good_at lts (row_line block_form) texts 0 (number multiplier) good refl).in_range in
+    let v = (good_at lts (row_line block_form) texts 1 (word (codes "block")) good refl).form in
+    (record { multiplier = m.0; name = block_row }, record { multiplier = m.1; name = tt }, two_texts HasFieldForm (number multiplier) (word (codes "block")) texts good.fields ∙ (λ i. m.2 i ∷ v i ∷ []))
+row_there lts empty_form texts good =
+    let m = multiplier_there (get_or texts 0 []) (good_at lts (row_line empty_form) texts 0 (number multiplier) good refl).in_range in
+    let v = (good_at lts (row_line empty_form) texts 1 (word (codes "empty")) good refl).form in
+    (record { multiplier = m.0; name = empty_row }, record { multiplier = m.1; name = tt }, two_texts HasFieldForm (number multiplier) (word (codes "empty")) texts good.fields ∙ (λ i. m.2 i ∷ v i ∷ []))
+row_there lts full_form texts good =
+    let m = multiplier_there (get_or texts 0 []) (good_at lts (row_line full_form) texts 0 (number multiplier) good refl).in_range in
+    let v = (good_at lts (row_line full_form) texts 1 (word (codes "full")) good refl).form in
+    let n = name_there lts.state_names (get_or texts 2 []) (good_at lts (row_line full_form) texts 2 state good refl).known in
+    (record { multiplier = m.0; name = full_row n.0 }, record { multiplier = m.1; name = n.1 }, three_texts HasFieldForm (number multiplier) (word (codes "full")) state texts good.fields ∙ (λ i. m.2 i ∷ v i ∷ n.2 i ∷ []))
+row_there lts keep_form texts good =
+    let m = multiplier_there (get_or texts 0 []) (good_at lts (row_line keep_form) texts 0 (number multiplier) good refl).in_range in
+    let v = (good_at lts (row_line keep_form) texts 1 (word (codes "keep")) good refl).form in
+    (record { multiplier = m.0; name = keep_row }, record { multiplier = m.1; name = tt }, two_texts HasFieldForm (number multiplier) (word (codes "keep")) texts good.fields ∙ (λ i. m.2 i ∷ v i ∷ []))
+row_there lts apart_form texts good =
+    let m = multiplier_there (get_or texts 0 []) (good_at lts (row_line apart_form) texts 0 (number multiplier) good refl).in_range in
+    let v = (good_at lts (row_line apart_form) texts 1 (word (codes "apart")) good refl).form in
+    (record { multiplier = m.0; name = apart_row }, record { multiplier = m.1; name = tt }, two_texts HasFieldForm (number multiplier) (word (codes "apart")) texts good.fields ∙ (λ i. m.2 i ∷ v i ∷ []))
+row_there lts above_form texts good =
+    let m = multiplier_there (get_or texts 0 []) (good_at lts (row_line above_form) texts 0 (number multiplier) good refl).in_range in
+    let v = (good_at lts (row_line above_form) texts 1 (word (codes "above")) good refl).form in
+    let d = depth_there (get_or texts 2 []) (good_at lts (row_line above_form) texts 2 (number depth) good refl).in_range in
+    (record { multiplier = m.0; name = above_row d.0 }, record { multiplier = m.1; name = d.1 }, three_texts HasFieldForm (number multiplier) (word (codes "above")) (number depth) texts good.fields ∙ (λ i. m.2 i ∷ v i ∷ d.2 i ∷ []))
+
+split_tokens_there : (lts : System) (texts : List (List ℕ)) → IsGood lts split_tokens_line texts → (form : Variable) × (at : ℤ) × IsSplitLine lts texts form at
+split_tokens_there lts texts good =
+    let u = (good_at lts split_tokens_line texts 0 (word (codes "split")) good refl).form in
+    let v = (good_at lts split_tokens_line texts 1 (word (codes "tokens")) good refl).form in
+    let n = name_there lts.state_names (get_or texts 2 []) (good_at lts split_tokens_line texts 2 state good refl).known in
+    let z = split_there (get_or texts 3 []) (good_at lts split_tokens_line texts 3 (number split_value) good refl).in_range in (
+      tokens_at n.0,
+      z.0,
+      record {
+        variable = n.1;
+        in_range = z.1;
+        are = four_texts HasFieldForm (word (codes "split")) (word (codes "tokens")) state (number split_value) texts good.fields ∙ (λ i. u i ∷ v i ∷ n.2 i ∷ z.2 i ∷ []);
+      },
+    )
+
+split_effect_there : (lts : System) (texts : List (List ℕ)) → IsGood lts split_effect_line texts → (form : Variable) × (at : ℤ) × IsSplitLine lts texts form at
+split_effect_there lts texts good =
+    let u = (good_at lts split_effect_line texts 0 (word (codes "split")) good refl).form in
+    let v = (good_at lts split_effect_line texts 1 (word (codes "effect")) good refl).form in
+    let n = name_there lts.label_names (get_or texts 2 []) (good_at lts split_effect_line texts 2 label good refl).known in
+    let z = split_there (get_or texts 3 []) (good_at lts split_effect_line texts 3 (number split_value) good refl).in_range in (
+      effect_of n.0,
+      z.0,
+      record {
+        variable = n.1;
+        in_range = z.1;
+        are = four_texts HasFieldForm (word (codes "split")) (word (codes "effect")) label (number split_value) texts good.fields ∙ (λ i. u i ∷ v i ∷ n.2 i ∷ z.2 i ∷ []);
+      },
+    )
+
+-- the head of a right line
+head_there : (lts : System) (form : LineForm) (texts : List (List ℕ)) (next : Place) → IsGood lts form texts → follows at_reason form ≡ to next
+    → (head : Head) × IsHeadOf lts head × (texts ≡ head_fields lts head) × (next ≡ after_head head)
+head_there lts unreachable_line texts next good leads =
+    let v = (good_at lts unreachable_line texts 0 (word (codes "unreachable")) good refl).form in
+    let a = name_there lts.state_names (get_or texts 1 []) (good_at lts unreachable_line texts 1 state good refl).known in
+    (of_unreachable a.0, a.1, two_texts HasFieldForm (word (codes "unreachable")) state texts good.fields ∙ (λ i. v i ∷ a.2 i ∷ []), cc)
+head_there lts fork_line texts next good leads =
+    let v = (good_at lts fork_line texts 0 (word (codes "fork")) good refl).form in
+    let a = name_there lts.state_names (get_or texts 1 []) (good_at lts fork_line texts 1 state good refl).known in
+    let b = name_there lts.label_names (get_or texts 2 []) (good_at lts fork_line texts 2 label good refl).known in
+    let c = name_there lts.state_names (get_or texts 3 []) (good_at lts fork_line texts 3 state good refl).known in
+    let d = name_there lts.state_names (get_or texts 4 []) (good_at lts fork_line texts 4 state good refl).known in
+    (of_fork a.0 b.0 c.0 d.0, (a.1, b.1, c.1, d.1), five_texts HasFieldForm (word (codes "fork")) state label state state texts good.fields ∙ (λ i. v i ∷ a.2 i ∷ b.2 i ∷ c.2 i ∷ d.2 i ∷ []), cc)
+head_there lts event_line texts next good leads =
+    let v = (good_at lts event_line texts 0 (word (codes "event")) good refl).form in
+    let a = name_there lts.state_names (get_or texts 1 []) (good_at lts event_line texts 1 state good refl).known in
+    let b = name_there lts.label_names (get_or texts 2 []) (good_at lts event_line texts 2 label good refl).known in
+    (of_event a.0 b.0, (a.1, b.1), three_texts HasFieldForm (word (codes "event")) state label texts good.fields ∙ (λ i. v i ∷ a.2 i ∷ b.2 i ∷ []), cc)
+head_there lts states_line texts next good leads =
+    let v = (good_at lts states_line texts 0 (word (codes "states")) good refl).form in
+    let a = name_there lts.state_names (get_or texts 1 []) (good_at lts states_line texts 1 state good refl).known in
+    let b = name_there lts.state_names (get_or texts 2 []) (good_at lts states_line texts 2 state good refl).known in
+    (of_states a.0 b.0, (a.1, b.1), three_texts HasFieldForm (word (codes "states")) state state texts good.fields ∙ (λ i. v i ∷ a.2 i ∷ b.2 i ∷ []), cc)
+head_there lts heading_line texts next good leads = absurd cc
+head_there lts class_line texts next good leads = absurd cc
+head_there lts case_line texts next good leads = absurd cc
+head_there lts split_tokens_line texts next good leads = absurd cc
+head_there lts split_effect_line texts next good leads = absurd cc
+head_there lts leaf_line texts next good leads = absurd cc
+head_there lts (row_line row) texts next good leads = absurd cc
+head_there lts end_line texts next good leads = absurd cc
+
+-- each right line adds something
+adds_there : (lts : System) (place : Place) (form : LineForm) (texts : List (List ℕ)) (d : Draft) → IsGood lts form texts → (new : Draft) × Adds lts place form texts d new
+adds_there lts place split_tokens_line texts d good =
+    let is = split_tokens_there lts texts good in (with_split (leaf_closed place d) is.0 is.1, (is.0, is.1, is.2, refl))
+adds_there lts place split_effect_line texts d good =
+    let is = split_effect_there lts texts good in (with_split (leaf_closed place d) is.0 is.1, (is.0, is.1, is.2, refl))
+adds_there lts place leaf_line texts d good = (leaf_closed place d, refl)
+adds_there lts place (row_line row) texts d good =
+    let is = row_there lts row texts good in (record { cases = d.cases; nodes = d.nodes; rows = d.rows ++ is.0 ∷ [] }, (is.0, is.1, is.2, refl))
+adds_there lts place case_line texts d good = (case_closed place d, refl)
+adds_there lts place end_line texts d good = (case_closed place d, refl)
+adds_there lts place heading_line texts d good = (d, refl)
+adds_there lts place class_line texts d good = (d, refl)
+adds_there lts place unreachable_line texts d good = (d, refl)
+adds_there lts place fork_line texts d good = (d, refl)
+adds_there lts place event_line texts d good = (d, refl)
+adds_there lts place states_line texts d good = (d, refl)
+
+-- the draft of lines
+record IsRead (lts : System) (head : Head) (place : Place) (d : Draft) (lines : List (List ℕ)) : Type 0 where
+  pub last : Draft
+  pub texts : List (List (List ℕ))
+  pub ended : IsDraftAt lts head at_end last
+  pub grown : draft_lines lts at_end last ≡ draft_lines lts place d ++ texts
+  pub are : lines ≡ map spaced texts
+
+lines_read : (lts : System) (head : Head) (place : Place) (d : Draft) (lines : List (List ℕ)) → IsDraftAt lts head place d → LeadAll lts place lines at_end → IsRead lts head place d lines
+lines_read lts head place d [] is same = record {
+  last = d;
+  texts = [];
+  ended = subst (λ p. IsDraftAt lts head p d) same is;
+  grown = ap (λ p. draft_lines lts p d) (sym same) ∙ sym (append-nil (draft_lines lts place d));
+  are = refl;
+}
+lines_read lts head place d (line ∷ lines) is (next, leads, more) =
+    let adds = adds_there lts place leads.form leads.texts d (record { fields = leads.has.fields; right = leads.right }) in
+    let one = drafted lts head place leads.form leads.texts next d adds.0 is leads.has.fields leads.leads adds.1 in
+    let rest = lines_read lts head next adds.0 lines one.0 more in
+    record {
+      last = rest.last;
+      texts = leads.texts ∷ rest.texts;
+      ended = rest.ended;
+      grown = rest.grown ∙ ap (λ l. l ++ rest.texts) one.1 ∙ append_assoc (draft_lines lts place d) (leads.texts ∷ []) rest.texts;
+      are = ap₂ ◌∷◌ leads.has.spelled rest.are;
+    }
+
+-- the trees of whole cases
+record AreTrees (lts : System) (cases : List (List TreeNode)) : Type 0 where
+  pub trees : List Tree
+  pub count : length trees ≡ length cases
+  pub each : All (IsTreeOf lts) trees
+  pub lines : flat_map (case_lines lts) trees ≡ flat_map (nodes_lines lts) cases
+
+trees_there : (lts : System) (cases : List (List TreeNode)) → All (IsCase lts) cases → AreTrees lts cases
+trees_there lts [] each = record { trees = []; count = refl; each = All-nil (IsTreeOf lts); lines = refl }
+trees_there lts (nodes ∷ cases) each =
+    let first = All-head (IsCase lts) nodes cases each in
+    let more = trees_there lts cases (All-tail (IsCase lts) nodes cases each) in
+    record {
+      trees = first.tree ∷ more.trees;
+      count = ap suc more.count;
+      each = All-cons (IsTreeOf lts) first.tree more.trees (subst (All (IsNodeOf lts)) first.whole first.each) more.each;
+      lines = ap₂ ◌++◌ (ap (λ l. (codes "case" ∷ []) ∷ flat_map (node_lines lts) l) (sym first.whole)) more.lines;
+    }
+
+-- the reason of a head and cases
+reason_there : (lts : System) (head : Head) (cases : List (List TreeNode)) → IsHeadOf lts head → All (IsCase lts) cases → HasCases head cases
+    → (reason : refutes.Reason) × IsReasonOf lts reason × (reason_lines lts reason ≡ head_fields lts head ∷ flat_map (nodes_lines lts) cases)
+reason_there lts (of_unreachable s) cases is each none =
+    (refutes.unreachable s, is, ap (λ l. head_fields lts (of_unreachable s) ∷ flat_map (nodes_lines lts) l) (sym none))
+reason_there lts (of_fork s t s₁ s₂) cases is each none =
+    (refutes.fork s t s₁ s₂, is, ap (λ l. head_fields lts (of_fork s t s₁ s₂) ∷ flat_map (nodes_lines lts) l) (sym none))
+reason_there lts (of_event s t) cases is each one =
+    let trees = trees_there lts cases each in
+    (refutes.refuted (Event s t) trees.trees, (is.0, is.1, trees.count ∙ one, trees.each), ap (λ l. head_fields lts (of_event s t) ∷ l) trees.lines)
+reason_there lts (of_states s s') cases is each any =
+    let trees = trees_there lts cases each in
+    (refutes.refuted (States s s') trees.trees, (is.0, is.1, trees.each), ap (λ l. head_fields lts (of_states s s') ∷ l) trees.lines)
+
+heading_there : (form : LineForm) (line : List ℕ) (texts : List (List ℕ)) (next : Place) → HasForm form line texts → follows at_heading form ≡ to next → (line ≡ codes "certificate 1") × (next ≡ at_class)
+heading_there heading_line line [] next has leads = absurd has.fields
+heading_there heading_line line (v ∷ []) next has leads = absurd has.fields.1
+heading_there heading_line line (v ∷ w ∷ []) next has leads = (has.spelled ∙ ap₂ (λ a b. a ++ 32 ∷ b) has.fields.0 has.fields.1.0, cc)
+heading_there heading_line line (v ∷ w ∷ t ∷ more) next has leads = absurd has.fields.1.1
+heading_there class_line line texts next has leads = absurd cc
+heading_there unreachable_line line texts next has leads = absurd cc
+heading_there fork_line line texts next has leads = absurd cc
+heading_there event_line line texts next has leads = absurd cc
+heading_there states_line line texts next has leads = absurd cc
+heading_there case_line line texts next has leads = absurd cc
+heading_there split_tokens_line line texts next has leads = absurd cc
+heading_there split_effect_line line texts next has leads = absurd cc
+heading_there leaf_line line texts next has leads = absurd cc
+heading_there (row_line row) line texts next has leads = absurd cc
+heading_there end_line line texts next has leads = absurd cc
+
+class_there : (form : LineForm) (line : List ℕ) (texts : List (List ℕ)) (next : Place) → HasForm form line texts → follows at_class form ≡ to next
+    → (name : List ℕ) × (class : Class) × NamesClass name class × (line ≡ codes "class " ++ name) × (next ≡ at_reason)
+class_there class_line line texts next has leads = let is = class_texts line texts has in (is.0, is.1, is.2, is.3, cc)
+class_there heading_line line texts next has leads = absurd cc
+class_there unreachable_line line texts next has leads = absurd cc
+class_there fork_line line texts next has leads = absurd cc
+class_there event_line line texts next has leads = absurd cc
+class_there states_line line texts next has leads = absurd cc
+class_there case_line line texts next has leads = absurd cc
+class_there split_tokens_line line texts next has leads = absurd cc
+class_there split_effect_line line texts next has leads = absurd cc
+class_there leaf_line line texts next has leads = absurd cc
+class_there (row_line row) line texts next has leads = absurd cc
+class_there end_line line texts next has leads = absurd cc
+
+blank_at : (lts : System) (head : Head) → IsDraftAt lts head (after_head head) blank × (draft_lines lts (after_head head) blank ≡ [])
+blank_at lts (of_unreachable s) = ((refl, refl), refl)
+blank_at lts (of_fork s t s₁ s₂) = ((refl, refl), refl)
+blank_at lts (of_event s t) = ((refl, refl), refl)
+blank_at lts (of_states s s') = ((refl, refl), refl)
+
+-- the claim of a whole text
+from_head : (lts : System) (name : List ℕ) (class : Class) (line : List ℕ) (lines : List (List ℕ)) (bytes : List ℕ) → NamesClass name class
+    → bytes ≡ fed (codes "certificate 1" ∷ (codes "class " ++ name) ∷ line ∷ lines) → LeadAll lts at_reason (line ∷ lines) at_end → (claim : Claim) × Spells bytes lts claim
+unfolding text_with cert_lines
+from_head lts name class line lines bytes named is (next, leads, more) =
+    let head = head_there lts leads.form leads.texts next (record { fields = leads.has.fields; right = leads.right }) leads.leads in
+    let start = blank_at lts head.0 in
+    let read = lines_read lts head.0 (after_head head.0) blank lines start.0 (subst (λ p. LeadAll lts p lines at_end) head.3 more) in
+    let reason = reason_there lts head.0 read.last.cases head.1 read.ended.0 read.ended.1 in
+    let ends : flat_map (nodes_lines lts) read.last.cases ++ (codes "end" ∷ []) ∷ [] ≡ read.texts = read.grown ∙ ap (λ l. l ++ read.texts) start.1 in
+    let whole : line ∷ lines ≡ map spaced (reason_lines lts reason.0 ++ (codes "end" ∷ []) ∷ []) =
+    ap₂ ◌∷◌ (leads.has.spelled ∙ ap spaced head.2) (read.are ∙ ap (map spaced) (sym ends))
+    ∙ ap (λ l. map spaced (l ++ (codes "end" ∷ []) ∷ [])) (sym reason.2) in (
+      record { class = class; reason = reason.0 },
+      record {
+        in_range = record { reason = reason.1; bound = named_bound name class named };
+        class = name;
+        named = named;
+        text = is ∙ ap (λ l. fed (codes "certificate 1" ∷ (codes "class " ++ name) ∷ l)) whole;
+      },
+    )
+
+from_class : (lts : System) (line : List ℕ) (lines : List (List ℕ)) (bytes : List ℕ) → bytes ≡ fed (codes "certificate 1" ∷ line ∷ lines) → LeadAll lts at_class (line ∷ lines) at_end
+    → (claim : Claim) × Spells bytes lts claim
+from_class lts line [] bytes is (next, leads, same) =
+    let class = class_there leads.form line leads.texts next leads.has leads.leads in
+    let both : at_reason ≡ at_end = sym class.4 ∙ same in
+    absurd cc
+from_class lts line (third ∷ lines) bytes is (next, leads, more) =
+    let class = class_there leads.form line leads.texts next leads.has leads.leads in
+    from_head lts class.0 class.1 third lines bytes class.2 (is ∙ ap (λ l. fed (codes "certificate 1" ∷ l ∷ third ∷ lines)) class.3)
+    (subst (λ p. LeadAll lts p (third ∷ lines) at_end) class.4 more)
+
+from_lines : (lts : System) (lines : List (List ℕ)) (bytes : List ℕ) → bytes ≡ fed lines → LeadAll lts at_heading lines at_end → (claim : Claim) × Spells bytes lts claim
+from_lines lts [] bytes is same = absurd cc
+from_lines lts (line ∷ []) bytes is (next, leads, same) =
+    let heading = heading_there leads.form line leads.texts next leads.has leads.leads in
+    let both : at_class ≡ at_end = sym heading.1 ∙ same in
+    absurd cc
+from_lines lts (line ∷ second ∷ lines) bytes is (next, leads, more) =
+    let heading = heading_there leads.form line leads.texts next leads.has leads.leads in
+    from_class lts second lines bytes (is ∙ ap (λ l. fed (l ∷ second ∷ lines)) heading.0) (subst (λ p. LeadAll lts p (second ∷ lines) at_end) heading.1 more)
+
+-- the text goes on with a right line, or with a fault
+abbrev GoesOnOrFails : System → Place → List ℕ → ℕ → Type 0
+GoesOnOrFails lts place text n =
+    ((line : List ℕ) × (next : Place) × (rest : List ℕ) × (text ≡ line ++ 10 ∷ rest) × Leads lts place line next) ⊎ ((fault : CertFault) × IsFaultAt lts place text n fault)
+
+next_or_fault : (lts : System) (place : Place) (text : List ℕ) (n : ℕ) → (place ≡ at_end → ⊥) → GoesOnOrFails lts place text n
+next_or_fault lts place text n going = by (cut_or_not 10 text)
+  where
+    none_fits : (cut : IsCut 10 text) → ((form : LineForm) → form_key (fields cut.line) ≡ Some form → AreAsked HasFieldForm (fields_of form) (fields cut.line) → ⊥)
+        → (form : LineForm) (texts : List (List ℕ)) → ¬ BeginsWith place text form texts
+    none_fits cut none form texts b =
+        let has = same_line place text cut.line cut.rest cut.cut cut.lacks form texts b in
+        let are = fields_are form cut.line texts has in
+        none form (ap form_key are ∙ keyed form texts has.fields) (subst (AreAsked HasFieldForm (fields_of form)) (sym are) has.fields)
+
+    unexpected : ((form : LineForm) (texts : List (List ℕ)) → ¬ BeginsWith place text form texts) → GoesOnOrFails lts place text n
+    unexpected none = inr (Expected n, (refl, breaks place text going none))
+
+    leads_on : (cut : IsCut 10 text) (f : LineForm) → AreAsked HasFieldForm (fields_of f) (fields cut.line) → (next : Next) → follows place f ≡ next
+        → Decided (AreAsked IsFieldInRange (fields_of f) (fields cut.line)) → Decided (AreAsked (IsFieldKnown lts) (fields_of f) (fields cut.line)) → GoesOnOrFails lts place text n
+    leads_on cut f asked refused leads ranges names =
+        unexpected (refused_form place text cut.line cut.rest f (fields cut.line) cut.cut cut.lacks refl asked leads)
+    leads_on cut f asked (to next) leads (inr out) names =
+        inr (NumberPasses n, (refl, (f, fields cut.line, begins_with place text cut.line cut.rest f (fields cut.line) cut.cut refl asked (λ e. let both = sym leads ∙ e in absurd cc), out)))
+    leads_on cut f asked (to next) leads (inl within) (inr unknown) =
+        inr (UnknownName n, (refl, (f, fields cut.line, begins_with place text cut.line cut.rest f (fields cut.line) cut.cut refl asked (λ e. let both = sym leads ∙ e in absurd cc), (within, unknown))))
+    leads_on cut f asked (to next) leads (inl within) (inl known) =
+        inl (cut.line, next, cut.rest, cut.cut, record { form = f; texts = fields cut.line; has = record { fields = asked; spelled = from_fields cut.line (fields cut.line) refl }; right = (within, known); leads = leads })
+    leads_on cut f asked short leads (inr out) names =
+        inr (NumberPasses n, (refl, (f, fields cut.line, begins_with place text cut.line cut.rest f (fields cut.line) cut.cut refl asked (λ e. let both = sym leads ∙ e in absurd cc), out)))
+    leads_on cut f asked short leads (inl within) (inr unknown) =
+        inr (UnknownName n, (refl, (f, fields cut.line, begins_with place text cut.line cut.rest f (fields cut.line) cut.cut refl asked (λ e. let both = sym leads ∙ e in absurd cc), (within, unknown))))
+    leads_on cut f asked short leads (inl within) (inl known) =
+        inr (TreeShort, (f, fields cut.line, begins_with place text cut.line cut.rest f (fields cut.line) cut.cut refl asked (λ e. let both = sym leads ∙ e in absurd cc), ((within, known), leads)))
+    leads_on cut f asked long leads (inr out) names =
+        inr (NumberPasses n, (refl, (f, fields cut.line, begins_with place text cut.line cut.rest f (fields cut.line) cut.cut refl asked (λ e. let both = sym leads ∙ e in absurd cc), out)))
+    leads_on cut f asked long leads (inl within) (inr unknown) =
+        inr (UnknownName n, (refl, (f, fields cut.line, begins_with place text cut.line cut.rest f (fields cut.line) cut.cut refl asked (λ e. let both = sym leads ∙ e in absurd cc), (within, unknown))))
+    leads_on cut f asked long leads (inl within) (inl known) =
+        inr (TreeLong, (f, fields cut.line, begins_with place text cut.line cut.rest f (fields cut.line) cut.cut refl asked (λ e. let both = sym leads ∙ e in absurd cc), ((within, known), leads)))
+
+    of_form : (cut : IsCut 10 text) (f : LineForm) → form_key (fields cut.line) ≡ Some f → Decided (AreAsked HasFieldForm (fields_of f) (fields cut.line)) → GoesOnOrFails lts place text n
+    of_form cut f key (inl asked) =
+        leads_on cut f asked (follows place f) refl (ranges_decided (fields_of f) (fields cut.line)) (names_decided lts (fields_of f) (fields cut.line))
+    of_form cut f key (inr none) =
+        unexpected (none_fits cut (λ form k are. let same : f ≡ form = let both = sym key ∙ k in cc in none (subst (λ g. AreAsked HasFieldForm (fields_of g) (fields cut.line)) (sym same) are)))
+
+    by_key : (cut : IsCut 10 text) (key : Option LineForm) → form_key (fields cut.line) ≡ key → GoesOnOrFails lts place text n
+    by_key cut None key = unexpected (none_fits cut (λ form k are. let both = sym key ∙ k in absurd cc))
+    by_key cut (Some f) key = of_form cut f key (forms_decided (fields_of f) (fields cut.line))
+
+    by : IsCut 10 text ⊎ ((k : ℕ) (d : ℕ) → k < length text → get_or text k d ≢ 10) → GoesOnOrFails lts place text n
+    by (inl cut) = by_key cut (form_key (fields cut.line)) refl
+    by (inr none) = unexpected (no_line place text none)
+
+end_or_not : (place : Place) → (place ≡ at_end) ⊎ (place ≡ at_end → ⊥)
+end_or_not at_heading = inr (λ e. absurd cc)
+end_or_not at_class = inr (λ e. absurd cc)
+end_or_not at_reason = inr (λ e. absurd cc)
+end_or_not at_last = inr (λ e. absurd cc)
+end_or_not at_one_case = inr (λ e. absurd cc)
+end_or_not at_cases = inr (λ e. absurd cc)
+end_or_not (at_node c due) = inr (λ e. absurd cc)
+end_or_not (at_row c due) = inr (λ e. absurd cc)
+end_or_not at_end = inl refl
+
+-- the text is whole from a place on, or has a first fault
+abbrev EndsOrFails : System → Place → List ℕ → ℕ → Type 0
+EndsOrFails lts place text n = ((lines : List (List ℕ)) × LeadAll lts place lines at_end × (text ≡ fed lines)) ⊎ ((fault : CertFault) × FaultFrom lts place text n fault)
+
+fails_here : (lts : System) (place : Place) (text : List ℕ) (n : ℕ) (fault : CertFault) → IsFaultAt lts place text (0 + n) fault → FaultFrom lts place text n fault
+fails_here lts place text n fault is = record { before = []; place = place; rest = text; goes_on = start lts place text; is = is }
+
+at_the_end : (lts : System) (place : Place) (text : List ℕ) (n : ℕ) → place ≡ at_end → EndsOrFails lts place text n
+at_the_end lts place [] n same = inl ([], same, refl)
+at_the_end lts place (b ∷ text) n same =
+    inr (Expected (0 + n), fails_here lts place (b ∷ text) n (Expected (0 + n)) (subst (λ p. IsFaultAt lts p (b ∷ text) (0 + n) (Expected (0 + n))) (sym same) (refl, (λ e. absurd cc))))
+
+walk : (fuel : ℕ) (lts : System) (place : Place) (text : List ℕ) (n : ℕ) → length text < fuel → EndsOrFails lts place text n
+walk zero lts place text n few = absurd (omega arith)
+walk (suc fuel) lts place text n few = by (end_or_not place) (λ next rest short. walk fuel lts next rest (n + 1) short)
+  where
+    on : (line : List ℕ) (next : Place) (rest : List ℕ) → text ≡ line ++ 10 ∷ rest → Leads lts place line next → EndsOrFails lts next rest (n + 1) → EndsOrFails lts place text n
+    on line next rest cut leads (inl (lines, more, is)) = inl (line ∷ lines, (next, leads, more), cut ∙ ap (λ l. line ++ 10 ∷ l) is)
+    on line next rest cut leads (inr (fault, f)) = inr (fault, fault_before lts place line next text rest n fault cut leads f)
+
+    goes : GoesOnOrFails lts place text (0 + n) → ((next : Place) (rest : List ℕ) → length rest < fuel → EndsOrFails lts next rest (n + 1)) → EndsOrFails lts place text n
+    goes (inl (line, next, rest, cut, leads)) more =
+        let long = ap length cut ∙ length-append line (10 ∷ rest) in
+        on line next rest cut leads (more next rest (omega arith))
+    goes (inr (fault, is)) more = inr (fault, fails_here lts place text n fault is)
+
+    by : (place ≡ at_end) ⊎ (place ≡ at_end → ⊥) → ((next : Place) (rest : List ℕ) → length rest < fuel → EndsOrFails lts next rest (n + 1)) → EndsOrFails lts place text n
+    by (inl same) more = at_the_end lts place text n same
+    by (inr going) more = goes (next_or_fault lts place text (0 + n) going) more
+
+-- a text spells a claim or has a first fault
+pub some_answer : (bytes : List ℕ) (lts : System) → ((claim : Claim) × Spells bytes lts claim) ⊎ ((fault : CertFault) × FaultFrom lts at_heading bytes 1 fault)
+some_answer bytes lts = by (walk (suc (length bytes)) lts at_heading bytes 1 (omega arith))
+  where
+    by : EndsOrFails lts at_heading bytes 1 → ((claim : Claim) × Spells bytes lts claim) ⊎ ((fault : CertFault) × FaultFrom lts at_heading bytes 1 fault)
+    by (inl (lines, leads, is)) = inl (from_lines lts lines bytes is leads)
+    by (inr (fault, f)) = inr (fault, f)

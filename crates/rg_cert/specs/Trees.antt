@@ -1,0 +1,76 @@
+-- The trees of certificates, and the lists of nodes that stand for them.
+use Rattle.std.specs.Prelude.{◌≡◌, List, [], ◌∷◌, ◌++◌, map, ℤ}
+use Rattle.rg_refuting.specs.Expression.{Variable, Variable.tokens_at, Variable.effect_of}
+use Rattle.rg_refuting.specs.Row as row
+use Rattle.rg_refuting.specs.Refutes.{NamedRow, Tree, Tree.leaf, Tree.split}
+use Rattle.rg_cert.specs.declared.certificate.RowName.{RowName}
+use Rattle.rg_cert.specs.declared.certificate.RowName.TheVariants as of_code
+use Rattle.rg_cert.specs.declared.certificate.Form.{Form}
+use Rattle.rg_cert.specs.declared.certificate.Form.TheVariants as form
+use Rattle.rg_cert.specs.declared.certificate.Node.{Node}
+use Rattle.rg_cert.specs.declared.certificate.Node.TheVariants.{Leaf, Split}
+use Rattle.rg_cert.specs.declared.certificate.Case.{Case}
+
+-- a node of a tree, without what is below it
+pub data TreeNode : Type 0 where
+  leaf_node : List NamedRow → TreeNode
+  split_node : Variable → ℤ → TreeNode
+
+-- the nodes of a tree: each split, then its low side, then its high side
+abbrev pub preorder : Tree → List TreeNode
+preorder (leaf rows) = leaf_node rows ∷ []
+preorder (split form at low high) = split_node form at ∷ (preorder low ++ preorder high)
+
+-- the nodes are those of one whole tree
+abbrev pub IsWholeTree : List TreeNode → Tree → Type 0
+IsWholeTree nodes tree = nodes ≡ preorder tree
+
+-- the first two trees become the sides of a split
+abbrev pub joined : Variable → ℤ → List Tree → List Tree
+joined form at (low ∷ high ∷ more) = split form at low high ∷ more
+joined form at trees = trees
+
+-- the trees whose nodes stand one after the other
+abbrev pub trees_of : List TreeNode → List Tree
+trees_of [] = []
+trees_of (leaf_node rows ∷ more) = leaf rows ∷ trees_of more
+trees_of (split_node form at ∷ more) = joined form at (trees_of more)
+
+abbrev pub first_tree : List Tree → Tree
+first_tree [] = leaf []
+first_tree (tree ∷ more) = tree
+
+-- the tree that nodes are, where they are those of one whole tree
+abbrev pub tree_of : List TreeNode → Tree
+tree_of nodes = first_tree (trees_of nodes)
+
+-- rows, forms and nodes of the code in the words of the definitions
+abbrev pub row_name_of : RowName → row.RowName
+row_name_of (of_code.Arc a) = row.arc_row a.from a.label a.to
+row_name_of (of_code.Tokens q) = row.tokens_row q
+row_name_of (of_code.Cap q) = row.cap_row q
+row_name_of (of_code.Up t) = row.up_row t
+row_name_of (of_code.Down t) = row.down_row t
+row_name_of (of_code.Makes t) = row.makes_row t
+row_name_of (of_code.Stop q) = row.stop_row q
+row_name_of of_code.Block = row.block_row
+row_name_of of_code.Empty = row.empty_row
+row_name_of (of_code.Full q) = row.full_row q
+row_name_of of_code.Keep = row.keep_row
+row_name_of of_code.Apart = row.apart_row
+row_name_of (of_code.Above d) = row.above_row d
+
+abbrev pub variable_of : Form → Variable
+variable_of (form.Tokens q) = tokens_at q
+variable_of (form.Effect t) = effect_of t
+
+abbrev pub named_row : RowName × ℤ → NamedRow
+named_row r = record { multiplier = r.1; name = row_name_of r.0 }
+
+abbrev pub node_of : Node → TreeNode
+node_of (Leaf rows) = leaf_node (map named_row rows.items)
+node_of (Split form at) = split_node (variable_of form) at
+
+-- the nodes of a case
+abbrev pub nodes_of : Case → List TreeNode
+nodes_of case = map node_of case.nodes.items

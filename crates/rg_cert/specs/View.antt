@@ -1,0 +1,112 @@
+-- How the code's forms and places are seen.
+use Rattle.std.specs.Prelude.{ℕ, ◌≤◌, List, [], ◌∷◌, map}
+use denote.Bor.{Bor}
+use Rattle.rg_cert.specs.declared.table.Range.{Range}
+use Rattle.rg_cert.specs.declared.table.Range.TheVariants as range
+use Rattle.rg_cert.specs.declared.table.Field.{Field}
+use Rattle.rg_cert.specs.declared.table.Field.TheVariants as field
+use Rattle.rg_cert.specs.declared.table.RowForm.{RowForm}
+use Rattle.rg_cert.specs.declared.table.RowForm.TheVariants as of_row
+use Rattle.rg_cert.specs.declared.table.LineForm.{LineForm}
+use Rattle.rg_cert.specs.declared.table.LineForm.TheVariants as of_line
+use Rattle.rg_cert.specs.declared.place.Count.{Count}
+use Rattle.rg_cert.specs.declared.place.Count.TheVariants as count
+use Rattle.rg_cert.specs.declared.place.Place.{Place}
+use Rattle.rg_cert.specs.declared.place.Place.TheVariants as place
+use Rattle.rg_cert.specs.declared.place.Next.{Next}
+use Rattle.rg_cert.specs.declared.place.Next.TheVariants as next
+use Rattle.rg_cert.specs.declared.draft.Head.{Head}
+use Rattle.rg_cert.specs.declared.draft.Head.TheVariants as head
+use Rattle.rg_cert.specs.declared.draft.Draft.{Draft}
+use Rattle.rg_cert.specs.declared.certificate.Reason.{Reason}
+use Rattle.rg_cert.specs.declared.certificate.Reason.TheVariants as reason
+use Rattle.rg_cert.specs.Trees.{TreeNode, named_row, node_of, nodes_of}
+use Rattle.rg_cert.specs.Lines as line
+use Rattle.rg_cert.specs.Drafts as draft
+
+abbrev pub range_in : Range → line.Range
+range_in range.Multiplier = line.multiplier
+range_in range.Split = line.split_value
+range_in range.Depth = line.depth
+
+abbrev pub field_in : Field → line.Field
+field_in (field.Word w) = line.word w.now
+field_in field.State = line.state
+field_in field.Label = line.label
+field_in (field.Number range) = line.number (range_in range)
+
+abbrev pub row_form_in : RowForm → line.RowForm
+row_form_in of_row.Arc = line.arc_form
+row_form_in of_row.Tokens = line.tokens_form
+row_form_in of_row.Cap = line.cap_form
+row_form_in of_row.Up = line.up_form
+row_form_in of_row.Down = line.down_form
+row_form_in of_row.Makes = line.makes_form
+row_form_in of_row.Stop = line.stop_form
+row_form_in of_row.Block = line.block_form
+row_form_in of_row.Empty = line.empty_form
+row_form_in of_row.Full = line.full_form
+row_form_in of_row.Keep = line.keep_form
+row_form_in of_row.Apart = line.apart_form
+row_form_in of_row.Above = line.above_form
+
+abbrev pub line_form_in : LineForm → line.LineForm
+line_form_in of_line.Unreachable = line.unreachable_line
+line_form_in of_line.Fork = line.fork_line
+line_form_in of_line.Event = line.event_line
+line_form_in of_line.States = line.states_line
+line_form_in of_line.Case = line.case_line
+line_form_in of_line.SplitTokens = line.split_tokens_line
+line_form_in of_line.SplitEffect = line.split_effect_line
+line_form_in of_line.Leaf = line.leaf_line
+line_form_in (of_line.Row row) = line.row_line (row_form_in row)
+line_form_in of_line.End = line.end_line
+
+abbrev pub count_in : Count → line.Count
+count_in count.One = line.one
+count_in count.Several = line.several
+
+abbrev pub place_in : Place → line.Place
+place_in place.Reason = line.at_reason
+place_in place.Last = line.at_last
+place_in place.OneCase = line.at_one_case
+place_in place.Cases = line.at_cases
+place_in (place.Node count due) = line.at_node (count_in count) due
+place_in (place.Row count due) = line.at_row (count_in count) due
+place_in place.End = line.at_end
+
+abbrev pub next_in : Next → line.Next
+next_in (next.To place) = line.to (place_in place)
+next_in next.Short = line.short
+next_in next.Long = line.long
+next_in next.Refused = line.refused
+
+-- at most so many nodes are due at the place
+abbrev pub IsSmall : Place → ℕ → Type 0
+IsSmall place n = draft.due_at (place_in place) ≤ n
+
+abbrev pub head_in : Head → draft.Head
+head_in (head.Unreachable s) = draft.of_unreachable s
+head_in (head.Fork s t s₁ s₂) = draft.of_fork s t s₁ s₂
+head_in (head.Event s t) = draft.of_event s t
+head_in (head.States s s') = draft.of_states s s'
+
+abbrev pub draft_in : Draft → draft.Draft
+draft_in d = record { cases = map nodes_of d.cases.items; nodes = map node_of d.nodes.items; rows = map named_row d.rows.items }
+
+-- texts that are borrowed
+abbrev pub texts_in : List (Bor (List ℕ)) → List (List ℕ)
+texts_in items = map (λ w. w.now) items
+
+-- the head and the cases of a reason
+abbrev pub reason_head : Reason → draft.Head
+reason_head (reason.Unreachable s) = draft.of_unreachable s
+reason_head (reason.Fork s t s₁ s₂) = draft.of_fork s t s₁ s₂
+reason_head (reason.Event s t case) = draft.of_event s t
+reason_head (reason.States s s' cases) = draft.of_states s s'
+
+abbrev pub reason_cases : Reason → List (List TreeNode)
+reason_cases (reason.Unreachable s) = []
+reason_cases (reason.Fork s t s₁ s₂) = []
+reason_cases (reason.Event s t case) = nodes_of case ∷ []
+reason_cases (reason.States s s' cases) = map nodes_of cases.items

@@ -1,0 +1,136 @@
+//! What is read of a certificate so far.
+ghost use Rattle.std.specs.Prelude.{◌≡◌, OnOk};
+ghost use Rattle.rg_cert.specs.Drafts.{after_head, blank, leaf_closed, case_closed, with_split, IsGood, AddsRow, Adds};
+ghost use Rattle.rg_cert.specs.View.{texts_in, line_form_in, place_in, IsSmall, head_in, draft_in};
+ghost use Rattle.rg_cert.specs.Trees.{variable_of};
+ghost use Rattle.rg_cert.specs.declared.table.LineForm.TheVariants as of_line;
+
+use crate::certificate::{Case, Form, Node, RowName};
+use crate::decode::{effect_split, row_of, tokens_split};
+use crate::place::Place;
+use crate::table::{LineForm, RowForm};
+use rg_lts::Lts;
+use rg_net::NoMemory;
+use std::alloc::Global;
+use std::mem;
+
+/// The line of a reason.
+#[derive(Clone, Copy, Debug, PartialEq, Eq)]
+pub(crate) enum Head {
+    Unreachable(u32),
+    Fork(u32, u32, u32, u32),
+    Event(u32, u32),
+    States(u32, u32),
+}
+
+impl Head {
+    // Where the next line stands.
+    pub(crate) fn after(self) -> Place
+        ensures place { place_in result ≡ after_head (head_in self) }
+        ensures small { IsSmall result 0 }
+    {
+        match self {
+            Head::Unreachable(..) | Head::Fork(..) => Place::Last,
+            Head::Event(..) => Place::OneCase,
+            Head::States(..) => Place::Cases,
+        }
+    }
+}
+
+/// The cases that are read so far.
+#[derive(Debug, Drop)]
+pub(crate) struct Draft {
+    /// The whole cases.
+    pub(crate) cases: Vec<Case>,
+    /// The nodes of the case that is read.
+    pub(crate) nodes: Vec<Node>,
+    /// The rows of its last leaf, where that is read.
+    pub(crate) rows: Vec<(RowName, i128)>,
+}
+
+impl Draft {
+    // Nothing yet.
+    pub(crate) fn new(alloc: Global) -> Draft
+        ensures { draft_in result ≡ blank }
+    {
+        Draft {
+            cases: Vec::new(alloc),
+            nodes: Vec::new(alloc),
+            rows: Vec::new(alloc),
+        }
+    }
+
+    // What a line of this form adds.
+    pub(crate) fn take(
+        &mut self,
+        alloc: Global,
+        place: Place,
+        form: LineForm,
+        texts: &[&[u8]],
+        lts: &Lts,
+    ) -> Result<(), NoMemory>
+        requires { IsGood lts.now (line_form_in form) (texts_in texts.now) }
+        ensures { OnOk result (Adds lts.now (place_in place) (line_form_in form) (texts_in texts.now) (draft_in self.old) (draft_in self.new)) }
+    {
+        match form {
+            LineForm::Row(row) => self.take_row(row, texts, lts),
+            LineForm::SplitTokens => {
+                self.close_leaf(alloc, place)?;
+                self.push_split(tokens_split(texts, lts))
+            }
+            LineForm::SplitEffect => {
+                self.close_leaf(alloc, place)?;
+                self.push_split(effect_split(texts, lts))
+            }
+            LineForm::Leaf => self.close_leaf(alloc, place),
+            LineForm::Case | LineForm::End => self.close_case(alloc, place),
+            _ => Ok(()),
+        }
+    }
+
+    // A row of the leaf that is read.
+    fn take_row(&mut self, row: RowForm, texts: &[&[u8]], lts: &Lts) -> Result<(), NoMemory>
+        requires { IsGood lts.now (line_form_in (of_line.Row row)) (texts_in texts.now) }
+        ensures { OnOk result (AddsRow lts.now (texts_in texts.now) (draft_in self.old) (draft_in self.new)) }
+    {
+        self.rows.push(row_of(row, texts, lts))?;
+        Ok(())
+    }
+
+    // One more node.
+    fn push_split(&mut self, split: (Form, i64)) -> Result<(), NoMemory>
+        ensures { OnOk result (draft_in self.new ≡ with_split (draft_in self.old) (variable_of split.0) split.1) }
+    {
+        self.nodes.push(Node::Split(split.0, split.1))?;
+        Ok(())
+    }
+
+    // The leaf that is read is whole, if one is read at the place.
+    fn close_leaf(&mut self, alloc: Global, place: Place) -> Result<(), NoMemory>
+        ensures { OnOk result (draft_in self.new ≡ leaf_closed (place_in place) (draft_in self.old)) }
+    {
+        match place {
+            Place::Row(..) => {
+                let rows = mem::replace(&mut self.rows, Vec::new(alloc));
+                self.nodes.push(Node::Leaf(rows))?;
+                Ok(())
+            }
+            _ => Ok(()),
+        }
+    }
+
+    // The case that is read is whole, if the place is after a leaf.
+    fn close_case(&mut self, alloc: Global, place: Place) -> Result<(), NoMemory>
+        ensures { OnOk result (draft_in self.new ≡ case_closed (place_in place) (draft_in self.old)) }
+    {
+        match place {
+            Place::Row(..) => {
+                self.close_leaf(alloc, place)?;
+                let nodes = mem::replace(&mut self.nodes, Vec::new(alloc));
+                self.cases.push(Case { nodes })?;
+                Ok(())
+            }
+            _ => Ok(()),
+        }
+    }
+}

@@ -1,0 +1,58 @@
+//! Names, and the states and labels that they name.
+ghost use Rattle.std.specs.Prelude.{◌≡◌, ◌<◌, IsTrue, ◌↔◌, IfSome, IfNone, Contains};
+ghost use Rattle.rg_text.specs.Byte.{IsName};
+ghost use Rattle.rg_theory.specs.System.{states, labels};
+ghost use Rattle.rg_cert.specs.Text.{state_name, label_name};
+
+use rg_lts::Lts;
+use rg_text::is_name_byte;
+use std::str;
+
+// Whether the text is 1 to 255 name bytes.
+pub(crate) fn is_name(text: &[u8]) -> bool
+    ensures { IsTrue result ↔ IsName text.now }
+{
+    !text.is_empty() && text.len() <= 255 && text.iter().all(|b| is_name_byte(*b))
+}
+
+// The state of this name; None where there is none.
+pub(crate) fn state_in(name: &[u8], lts: &Lts) -> Option<u32>
+    requires { IsName name.now }
+    ensures some { IfSome result (λ s. (s < states lts.now) × (name.now ≡ state_name lts.now s)) }
+    ensures none { IfNone result (¬ Contains lts.now.state_names name.now) }
+{
+    match str::from_utf8(name) {
+        Ok(text) => lts.state_number(text),
+        Err(_) => unreachable!(),
+    }
+}
+
+// The label of this name; None where there is none.
+pub(crate) fn label_in(name: &[u8], lts: &Lts) -> Option<u32>
+    requires { IsName name.now }
+    ensures some { IfSome result (λ t. (t < labels lts.now) × (name.now ≡ label_name lts.now t)) }
+    ensures none { IfNone result (¬ Contains lts.now.label_names name.now) }
+{
+    match str::from_utf8(name) {
+        Ok(text) => lts.label_number(text),
+        Err(_) => unreachable!(),
+    }
+}
+
+// The state of a name that the system has.
+pub(crate) fn state_of(name: &[u8], lts: &Lts) -> u32
+    requires name { IsName name.now }
+    requires known { Contains lts.now.state_names name.now }
+    ensures { (result < states lts.now) × (name.now ≡ state_name lts.now result) }
+{
+    state_in(name, lts).unwrap()
+}
+
+// The label of a name that the system has.
+pub(crate) fn label_of(name: &[u8], lts: &Lts) -> u32
+    requires name { IsName name.now }
+    requires known { Contains lts.now.label_names name.now }
+    ensures { (result < labels lts.now) × (name.now ≡ label_name lts.now result) }
+{
+    label_in(name, lts).unwrap()
+}

@@ -1,0 +1,34 @@
+-- Items of lists at their places.
+use Rattle.std.proofs.Common.{◌≡◌, ◌⊎◌, ℕ, ◌<◌, ◌≤◌, ◌+◌, List, ◌∷◌, drop, Option, Some, None, IfSome, map, length, slice_get, get_or, All, Bor, refl, sym, subst, ap, ◌∙◌, inl, inr, option_copied}
+use Rattle.std.specs.Slice.{IsGetResult}
+use Rattle.std.proofs.lemmas.Option.{slice_get_past, slice_get_read, slice_get_cases}
+use Rattle.std.proofs.lemmas.List.{length-map, get_or-map, drop_more}
+
+-- what `get` of a slice tells
+pub get_is : {X : Type 0} (xs : List X) (i : ℕ) (r : Option (Bor X)) → IsGetResult xs i i r → option_copied r ≡ slice_get xs i
+get_is xs i None told = sym (slice_get_past xs i told.3)
+get_is xs i (Some x) told = sym (slice_get_read xs (length xs) i x.now refl told.3.0 told.1)
+
+-- what holds of all items holds of the one at a place
+pub some_item : {X : Type 0} (P : X → Type 0) (xs : List X) (i : ℕ) → All P xs → IfSome (slice_get xs i) P
+some_item P xs i each = by (slice_get_cases xs i).1
+  where
+    by : ((x : _) × (i < length xs) × (slice_get xs i ≡ Some x) × (get_or xs i x ≡ x)) ⊎ ((length xs ≤ i) × (slice_get xs i ≡ None)) → IfSome (slice_get xs i) P
+    by (inl (x, lt, at, is)) = rw at (subst P is (each i x lt))
+    by (inr (past, none)) = rw none tt
+
+-- what holds of all images holds of the image of the item at a place
+pub some_image : {X Y : Type 0} (P : Y → Type 0) (f : X → Y) (xs : List X) (i : ℕ) → All P (map f xs) → IfSome (slice_get xs i) (λ x. P (f x))
+some_image P f xs i each = by (slice_get_cases xs i).1
+  where
+    by : ((x : _) × (i < length xs) × (slice_get xs i ≡ Some x) × (get_or xs i x ≡ x)) ⊎ ((length xs ≤ i) × (slice_get xs i ≡ None)) → IfSome (slice_get xs i) (λ x. P (f x))
+    by (inl (x, lt, at, is)) = rw at (subst P (get_or-map f xs i x (f x) lt ∙ ap f is) (each i (f x) (rw length-map lt)))
+    by (inr (past, none)) = rw none tt
+
+-- what holds of all images holds of the image of the item read at a place
+pub image_at : {X Y : Type 0} (P : Y → Type 0) (f : X → Y) (xs : List X) (i : ℕ) (d : X) → All P (map f xs) → i < length xs → P (f (get_or xs i d))
+image_at P f xs i d each lt = subst P (get_or-map f xs i d (f d) lt) (each i (f d) (rw length-map lt))
+
+-- the images from a place on
+pub drop_image : {X Y : Type 0} (f : X → Y) (xs : List X) (i : ℕ) (x : X) → i < length xs → x ≡ get_or xs i x → drop i (map f xs) ≡ f x ∷ drop (i + 1) (map f xs)
+drop_image f xs i x lt is = drop_more (map f xs) i (f x) (rw length-map lt) ∙ ap (λ y. y ∷ drop (i + 1) (map f xs)) (get_or-map f xs i x (f x) lt ∙ ap f (sym is))

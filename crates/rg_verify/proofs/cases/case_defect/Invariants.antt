@@ -1,0 +1,14 @@
+use Rattle.std.proofs.Common.{◌≡◌}
+use Rattle.rg_cert.specs.Certificates.{case_tree}
+use Rattle.rg_cert.specs.Trees.{nodes_of}
+use Rattle.rg_verify.specs.Sides.{sides_of}
+use Rattle.rg_verify.specs.Sums.{IsClear}
+use Rattle.rg_verify.proofs.Walking.{IsAtNode}
+use Rattle.rg_verify.proofs.cases.case_defect.Given as goal
+
+abbrev pub invariant-loop-node : goal.invariant-loop-node
+invariant-loop-node l = record {
+  items : l.content-items ≡ l.case.nodes.items;
+  clear : IsClear l.lts l.sums;
+  at_node : IsAtNode l.lts l.setting.class l.setting.problem l.setting.number (case_tree l.case) (nodes_of l.case) l.node (sides_of l.above.items);
+}

@@ -1,0 +1,8 @@
+use Rattle.std.proofs.Common.{map, take, All}
+use Rattle.rg_cert.specs.Trees.{named_row}
+use Rattle.rg_verify.specs.Judged.{IsRight}
+use Rattle.rg_verify.specs.Settings.{StandsIn}
+use Rattle.rg_verify.proofs.leaves.row_defect.Given as goal
+
+abbrev pub invariant-loop-name : goal.invariant-loop-name
+invariant-loop-name l = All (IsRight (StandsIn l.lts l.setting l.above)) (map named_row (take l.name-index l.rows))

@@ -1,0 +1,31 @@
+-- The splits above a leaf, and which numbers they may have.
+use Rattle.std.specs.Prelude.{true, List, [], ◌∷◌, map, reverse, All, if◌then◌else◌}
+use Rattle.rg_theory.specs.System.{System}
+use Rattle.rg_refuting.specs.Row as row
+use Rattle.rg_cert.specs.Certificates.{IsVariableOf, IsSplitInRange}
+use Rattle.rg_cert.specs.Trees.{variable_of}
+use Rattle.rg_verify.specs.declared.side.Side.{Side}
+
+-- a side of the code in the words of the definitions
+abbrev pub side_of : Side → row.Side
+side_of side = record { form = variable_of side.form; at = side.at; high = side.high }
+
+abbrev pub sides_of : List Side → List row.Side
+sides_of above = map side_of above
+
+-- the form is of a state or label of the system, and the number is in range
+abbrev pub IsSideOf : System → row.Side → Type 0
+IsSideOf lts side = IsVariableOf lts side.form × IsSplitInRange side.at
+
+-- the sides are splits of the system
+abbrev pub AreSidesOf : System → List Side → Type 0
+AreSidesOf lts above = All (IsSideOf lts) (sides_of above)
+
+-- the sides above the next node where a tree is done, innermost first: the innermost low side becomes the high one
+abbrev pub turned_back : List row.Side → List row.Side
+turned_back [] = []
+turned_back (side ∷ outer) = if side.high then turned_back outer else (record side { high = true } ∷ outer)
+
+-- the same, outermost first
+abbrev pub turned : List row.Side → List row.Side
+turned above = reverse (turned_back (reverse above))

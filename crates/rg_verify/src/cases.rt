@@ -1,0 +1,91 @@
+//! What is wrong with a case.
+ghost use Rattle.std.specs.Prelude.{◌≡◌, [], IfOk, MatchOption};
+ghost use Rattle.rg_refuting.specs.Refutes.{TreeRefutes, IsAsked};
+ghost use Rattle.rg_cert.specs.Certificates.{case_tree, IsWhole, IsTreeOf};
+ghost use Rattle.rg_verify.specs.Judged.{IsDefectIn};
+ghost use Rattle.rg_verify.specs.Sides.{sides_of, AreSidesOf, turned};
+ghost use Rattle.rg_verify.specs.Sums.{IsClear};
+ghost use Rattle.rg_verify.specs.declared.verdict.Verdict.TheVariants as verdict;
+
+use crate::leaves::leaf_defect;
+use crate::setting::Setting;
+use crate::side::Side;
+use crate::sums::Sums;
+use crate::verdict::{Defect, NoMemory, Verdict};
+use rg_cert::{Case, Node};
+use rg_lts::Lts;
+use std::alloc::Global;
+
+/// A defect and the node that has it.
+#[derive(Clone, Copy, Debug)]
+pub(crate) struct Found {
+    pub node: u64,
+    pub defect: Defect,
+}
+
+impl Found {
+    /// The verdict where the case has the number.
+    pub(crate) fn refused(self, case: u32) -> Verdict
+        ensures { result ≡ verdict.Refused case self.node self.defect }
+    {
+        Verdict::Refused {
+            case,
+            node: self.node,
+            defect: self.defect,
+        }
+    }
+}
+
+/// The first leaf that doesn't refute, with its defect; None where all leaves refute.
+pub(crate) fn case_defect(
+    alloc: Global,
+    sums: &mut Sums,
+    lts: &Lts,
+    setting: &Setting,
+    case: &Case,
+) -> Result<Option<Found>, NoMemory>
+    requires asked { IsAsked lts.now setting.now.problem }
+    requires whole { IsWhole case.now }
+    requires in_range { IsTreeOf lts.now (case_tree case.now) }
+    requires clear { IsClear lts.now sums.old }
+    ensures clear { IfOk result (λ _. IsClear lts.now sums.new) }
+    ensures judged { IfOk result (λ o. MatchOption o (TreeRefutes lts.now setting.now.class setting.now.problem setting.now.number [] (case_tree case.now)) (λ f. IsDefectIn lts.now setting.now.class setting.now.problem setting.now.number (case_tree case.now) f.node f.defect)) }
+{
+    let mut above = Vec::new(alloc);
+    for (node, content) in case.nodes.iter().enumerate() {
+        match content {
+            Node::Split(form, at) => above.push(Side {
+                form: *form,
+                at: *at,
+                high: false,
+            })?,
+            Node::Leaf(rows) => {
+                if let Some(defect) = leaf_defect(sums, lts, setting, &above, rows)? {
+                    return Ok(Some(Found {
+                        node: node as u64,
+                        defect,
+                    }));
+                }
+                turn(&mut above);
+            }
+        }
+    }
+    Ok(None)
+}
+
+// Goes to the sides above the next node, past a tree that is done: the innermost low side becomes the high one, and
+// the high sides within it end.
+fn turn(above: &mut Vec<Side>)
+    ensures { sides_of above.new.items ≡ turned (sides_of above.old.items) }
+{
+    let mut depth = above.len();
+    while depth > 0 {
+        depth -= 1;
+        if !above[depth].high {
+            above[depth].high = true;
+            above.truncate(depth + 1);
+            return;
+        }
+    }
+    above.clear();
+}

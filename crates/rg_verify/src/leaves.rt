@@ -1,0 +1,76 @@
+//! What is wrong with a leaf.
+ghost use Rattle.std.specs.Prelude.{◌↔◌, IfOk, IsTrue, MatchOption, map, All};
+ghost use Rattle.rg_refuting.specs.Refutes.{IsMultiplier, LeafRefutes, IsAsked};
+ghost use Rattle.rg_cert.specs.Certificates.{IsRowOf};
+ghost use Rattle.rg_cert.specs.Trees.{named_row, row_name_of};
+ghost use Rattle.rg_verify.specs.Judged.{IsRight, IsDefectOf};
+ghost use Rattle.rg_verify.specs.Settings.{StandsIn, expression_in};
+ghost use Rattle.rg_verify.specs.Sides.{AreSidesOf};
+ghost use Rattle.rg_verify.specs.Sums.{IsClear};
+
+use crate::setting::Setting;
+use crate::side::Side;
+use crate::standing::stands;
+use crate::sums::{Stop, Sums};
+use crate::verdict::{Defect, NoMemory};
+use rg_cert::RowName;
+use rg_lts::Lts;
+
+/// What is wrong with the rows of a leaf; None where they refute. The sums are the table for the leaf, and are 0 before and after.
+pub(crate) fn leaf_defect(
+    sums: &mut Sums,
+    lts: &Lts,
+    setting: &Setting,
+    above: &[Side],
+    rows: &[(RowName, i128)],
+) -> Result<Option<Defect>, NoMemory>
+    requires asked { IsAsked lts.now setting.now.problem }
+    requires sides { AreSidesOf lts.now above.now }
+    requires rows { All (IsRowOf lts.now) (map named_row rows.now) }
+    requires clear { IsClear lts.now sums.old }
+    ensures clear { IfOk result (λ _. IsClear lts.now sums.new) }
+    ensures judged { IfOk result (λ o. MatchOption o (LeafRefutes (StandsIn lts.now setting.now above.now) (expression_in lts.now setting.now above.now) (map named_row rows.now)) (IsDefectOf lts.now (StandsIn lts.now setting.now above.now) (expression_in lts.now setting.now above.now) (map named_row rows.now))) }
+{
+    if let Some(defect) = row_defect(lts, setting, above, rows) {
+        return Ok(Some(defect));
+    }
+    let defect = match sums.add_rows(lts, setting, above, rows) {
+        Ok(()) => sums.defect(),
+        Err(Stop::Passes) => Some(Defect::SumPasses),
+        Err(Stop::NoMemory) => return Err(NoMemory),
+    };
+    sums.clear();
+    Ok(defect)
+}
+
+// What is wrong with the first row that doesn't stand or owes a positive multiplier.
+fn row_defect(
+    lts: &Lts,
+    setting: &Setting,
+    above: &[Side],
+    rows: &[(RowName, i128)],
+) -> Option<Defect>
+    requires asked { IsAsked lts.now setting.now.problem }
+    requires rows { All (IsRowOf lts.now) (map named_row rows.now) }
+    ensures { MatchOption result (All (IsRight (StandsIn lts.now setting.now above.now)) (map named_row rows.now)) (IsDefectOf lts.now (StandsIn lts.now setting.now above.now) (expression_in lts.now setting.now above.now) (map named_row rows.now)) }
+{
+    for (name, multiplier) in rows {
+        if !stands(lts, setting, above, *name) {
+            return Some(Defect::WrongRow);
+        }
+        if !is_multiplier(*name, *multiplier) {
+            return Some(Defect::NotPositive);
+        }
+    }
+    None
+}
+
+// Whether the number may be the multiplier of the row: any number of an arc's, and of others one that is at least 1.
+fn is_multiplier(name: RowName, multiplier: i128) -> bool
+    ensures { IsTrue result ↔ IsMultiplier multiplier (row_name_of name) }
+{
+    match name {
+        RowName::Arc(_) => true,
+        _ => multiplier >= 1,
+    }
+}

@@ -1,0 +1,78 @@
+//! Where a row stands.
+ghost use Rattle.std.specs.Prelude.{◌≡◌, ◌<◌, ◌↔◌, AllPairs, Contains, IsTrue};
+ghost use Rattle.rg_theory.specs.System.{arc, states, labels, IsArcBefore};
+ghost use Rattle.rg_refuting.specs.Row.{HasArcAt, SharedStands, EventStands};
+ghost use Rattle.rg_refuting.specs.Refutes.{IsAsked};
+ghost use Rattle.rg_cert.specs.Certificates.{IsRowNameOf};
+ghost use Rattle.rg_cert.specs.Trees.{row_name_of};
+ghost use Rattle.rg_verify.specs.Settings.{StandsIn};
+ghost use Rattle.rg_verify.specs.Sides.{sides_of};
+
+use crate::setting::Setting;
+use crate::side::Side;
+use rg_cert::RowName;
+use rg_lts::Lts;
+use rg_theory::{Arc, Class, Problem};
+
+/// Whether the row stands in a case of a problem, below the sides above it.
+pub(crate) fn stands(lts: &Lts, setting: &Setting, above: &[Side], name: RowName) -> bool
+    requires asked { IsAsked lts.now setting.now.problem }
+    requires name { IsRowNameOf lts.now (row_name_of name) }
+    ensures { IsTrue result ↔ StandsIn lts.now setting.now above.now (row_name_of name) }
+{
+    match setting.problem {
+        Problem::Event(_, t) => event_stands(lts, setting.class, t, above, name),
+        Problem::States(_, _) => match name {
+            RowName::Apart => true,
+            _ => shared_stands(lts, setting.class, setting.consumer(lts), above, name),
+        },
+    }
+}
+
+// Whether the row stands in a problem of the label, at whatever state.
+fn event_stands(lts: &Lts, class: Class, t: u32, above: &[Side], name: RowName) -> bool
+    requires label { t < labels lts.now }
+    requires name { IsRowNameOf lts.now (row_name_of name) }
+    ensures { IsTrue result ↔ EventStands lts.now class 0 t (sides_of above.now) (row_name_of name) }
+{
+    match name {
+        RowName::Stop(q) => !class.pure && !class.plain && has_arc_at(lts, q, t),
+        RowName::Block => class.pure,
+        RowName::Empty | RowName::Keep => class.plain && !class.pure,
+        RowName::Full(q) => class.plain && !class.pure && has_arc_at(lts, q, t),
+        _ => shared_stands(lts, class, t, above, name),
+    }
+}
+
+// Whether the row speaks of no problem and stands, where the consumer alone may take from the place.
+fn shared_stands(lts: &Lts, class: Class, consumer: u32, above: &[Side], name: RowName) -> bool
+    requires name { IsRowNameOf lts.now (row_name_of name) }
+    ensures { IsTrue result ↔ SharedStands lts.now class consumer (sides_of above.now) (row_name_of name) }
+{
+    match name {
+        RowName::Arc(arc) => has_arc(lts.arcs(), &arc),
+        RowName::Tokens(_) => true,
+        RowName::Cap(_) => class.bound.is_some(),
+        RowName::Up(_) | RowName::Down(_) => class.plain,
+        RowName::Makes(t) => class.nonbranching && t != consumer,
+        RowName::Above(depth) => above.get(depth as usize).is_some(),
+        _ => false,
+    }
+}
+
+/// Whether some arc of the label begins at the state.
+pub(crate) fn has_arc_at(lts: &Lts, q: u32, t: u32) -> bool
+    requires state { q < states lts.now }
+    requires label { t < labels lts.now }
+    ensures { IsTrue result ↔ HasArcAt lts.now q t }
+{
+    lts.arc_at(q, t).is_some()
+}
+
+/// Whether the arc is among arcs in order.
+pub(crate) fn has_arc(arcs: &[Arc], arc: &Arc) -> bool
+    requires { AllPairs IsArcBefore arcs.now }
+    ensures { IsTrue result ↔ Contains arcs.now arc.now }
+{
+    arcs.binary_search(arc).is_ok()
+}
