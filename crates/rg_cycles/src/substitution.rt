@@ -12,7 +12,7 @@ ghost use Rattle.rg_cycles.specs.View.{labels_of, cycle_of};
 use crate::basis::Basis;
 use crate::relation::Relation;
 use rg_fraction::{Fraction, Wide};
-use std::alloc::{AllocFailed, Global};
+use std::alloc::{AllocError, AllocFailed, Global};
 
 /// Why a sum wasn't written over the free labels.
 #[derive(Clone, Copy, PartialEq, Eq, Debug)]
@@ -27,6 +27,14 @@ impl<T: Drop> From<AllocFailed<T>> for FoldStop {
     ghost from_gives = { λ _ e. e ≡ stop.NoMemory };
 
     fn from(_: AllocFailed<T>) -> FoldStop {
+        FoldStop::NoMemory
+    }
+}
+
+impl From<AllocError> for FoldStop {
+    ghost from_gives = { λ _ e. e ≡ stop.NoMemory };
+
+    fn from(_: AllocError) -> FoldStop {
         FoldStop::NoMemory
     }
 }

@@ -28,7 +28,7 @@ use Rattle.rg_integers.proofs.ListSums.{sum_over-same, sum_over-plus, sum_over-t
 
 -- ---- lists of labels
 
-not_in : (xs : List ℕ) (m : ℕ) → is_in xs m ≡ false → Contains xs m → ⊥
+pub not_in : (xs : List ℕ) (m : ℕ) → is_in xs m ≡ false → Contains xs m → ⊥
 not_in [] m e (k, lt, at) = omega arith
 not_in (x ∷ xs) m e has = ⊎_elim (λ is. absurd (true≢false (sym (ap (λ b. if b then true else is_in xs m) (eq-eqb x m is)) ∙ e))) (λ there. not_in xs m (rest (x == m) e) there) (Contains-cons_cases x m xs has)
   where
@@ -39,7 +39,7 @@ not_in (x ∷ xs) m e has = ⊎_elim (λ is. absurd (true≢false (sym (ap (λ b
     rest true p = absurd (true≢false p)
     rest false p = p
 
-where_contains : (test : ℕ → Bool) (a n t : ℕ) → Contains (numbers_where test a n) t → (test t ≡ true) × (t < a + n)
+pub where_contains : (test : ℕ → Bool) (a n t : ℕ) → Contains (numbers_where test a n) t → (test t ≡ true) × (t < a + n)
 where_contains test a zero t (k, lt, e) = absurd (omega arith)
 where_contains test a (suc n) t has = go (test a) refl has (λ h. where_contains test (suc a) n t h)
   where
@@ -61,7 +61,7 @@ dependent lts basis t has =
 
 -- ---- one bottom for all relations
 
-common_bottom : (d : ℕ → ℤ) (ts : List ℕ) → ((t : ℕ) → Contains ts t → pos 0 <ℤ d t) → (b : ℤ) × (pos 0 <ℤ b) × ((t : ℕ) → Contains ts t → Divides (d t) b)
+pub common_bottom : (d : ℕ → ℤ) (ts : List ℕ) → ((t : ℕ) → Contains ts t → pos 0 <ℤ d t) → (b : ℤ) × (pos 0 <ℤ b) × ((t : ℕ) → Contains ts t → Divides (d t) b)
 common_bottom d [] each_positive = (pos 1, omega (arith, ints), λ t (k, lt, e). absurd (omega arith))
 common_bottom d (t ∷ ts) each_positive =
     let (b, positive, divides) = common_bottom d ts (λ u (k, lt, e). each_positive u (suc k, omega arith, e)) in (

@@ -19,7 +19,7 @@ use Rattle.rg_folds.specs.Fold.{either, IsOne, Ratio, whole, IsRatio, add, mul, 
 use Rattle.rg_linear.specs.Cycle.{CycleBasis}
 use Rattle.rg_folds.specs.Rewriting.{dependent_term, coefficient_fold, substitute_fold, dependent_labels, free_labels, Scaled, scaled_fold, terms_fold, KeptRow, divided, row_fold, IsIdle, form_fold, CaseSystem, kept_of, system_fold, has_label, is_in, names_of, form_variables}
 use Rattle.rg_folds.specs.Placing.{effect_fold, made_whole, along_tree, shift_fold, is_shifted, place_fold}
-use Rattle.rg_folds.specs.Spreading.{Share, share_fold, Pair, pair_fold, chord_fold, ArcTimes, Addend, Addend.number, Addend.product, addend_fold, tree_fold, parts_of, sizes_fold, checked_leaf, used_chords, chord_arcs, named_from, arc_name, multiplier_among, not_zero, spread_fold}
+use Rattle.rg_folds.specs.Spreading.{Share, share_fold, Pair, pair_fold, chord_fold, ArcTimes, Addend, Addend.number, Addend.product, addend_fold, tree_fold, parts_of, sizes_fold, checked_leaf, used_chords, chord_arcs, named_from, arc_name, multiplier_among, not_zero, leaf_fold, spread_fold}
 use Rattle.rg_linear.proofs.Firsts.{same_kept}
 use Rattle.rg_folds.proofs.FoldLemmas.{Same, gives_one, and_then_one, each_one, further_one, joined_one, term_one, ratio_one, quotient_one, two_terms_one, add_one, multiple_one}
 
@@ -166,11 +166,15 @@ sizes_one coefficient rows = joined_one whole_sum _ (λ x y. term_one _) (λ r. 
 pub leaf_one : (lts : System) (expression : RowName → Expression) (rows : List NamedRow) → IsOne (checked_leaf lts expression rows)
 leaf_one lts expression rows = and_then_one _ _ (each_one _ (λ v. sizes_one _ rows) _) (λ sums. and_then_one _ _ (sizes_one _ rows) (λ sum. gives_one rows))
 
+pub leaf_of_shares_one : (lts : System) (tree : List Arc) (basis : CycleBasis) (expression : RowName → Expression) (shares : List Share) → IsOne (leaf_fold lts tree basis expression shares)
+leaf_of_shares_one lts tree basis expression shares =
+    and_then_one _ _ (each_one _ (chord_one lts tree basis expression shares) (used_chords lts basis))
+    (λ chord_shares. and_then_one _ _ (scaled_one (map (λ r. r.multiplier) shares ++ chord_shares))
+    (λ scaled. and_then_one _ _ (tree_one expression (named_from (map (λ r. r.name) shares ++ map arc_name (chord_arcs lts tree basis)) scaled.numbers) [] (reverse tree))
+    (λ arcs. and_then_one _ _ (parts_one (scaled.numbers ++ map (λ x. x.multiplier) arcs))
+    (λ parts. leaf_one lts expression (not_zero (named_from (map (λ r. r.name) shares) parts ++ map (λ a. record { multiplier = multiplier_among (chord_arcs lts tree basis ++ map (λ x. x.arc) arcs) (drop (length shares) parts) a; name = arc_name a }) lts.arcs))))))
+
 pub spread_one : (lts : System) (tree : List Arc) (basis : CycleBasis) (class : Class) (problem : Problem) (number : ℕ) (case : CaseSystem) (sides : List SplitSide) (above : List Side) (weights : List Weight) → IsOne (spread_fold lts tree basis class problem number case sides above weights)
 spread_one lts tree basis class problem n case sides above weights =
     and_then_one _ _ (each_one _ (share_one case sides) weights)
-    (λ shares. and_then_one _ _ (each_one _ (chord_one lts tree basis (row_expression lts class problem n above) shares) (used_chords lts basis))
-    (λ chord_shares. and_then_one _ _ (scaled_one (map (λ r. r.multiplier) shares ++ chord_shares))
-    (λ scaled. and_then_one _ _ (tree_one (row_expression lts class problem n above) (named_from (map (λ r. r.name) shares ++ map arc_name (chord_arcs lts tree basis)) scaled.numbers) [] (reverse tree))
-    (λ arcs. and_then_one _ _ (parts_one (scaled.numbers ++ map (λ x. x.multiplier) arcs))
-    (λ parts. leaf_one lts (row_expression lts class problem n above) (not_zero (named_from (map (λ r. r.name) shares) parts ++ map (λ a. record { multiplier = multiplier_among (chord_arcs lts tree basis ++ map (λ x. x.arc) arcs) (drop (length shares) parts) a; name = arc_name a }) lts.arcs)))))))
+    (λ shares. leaf_of_shares_one lts tree basis (row_expression lts class problem n above) shares)

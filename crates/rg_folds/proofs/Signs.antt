@@ -24,7 +24,7 @@ abbrev pub AllPositive : List ℤ → Type 0
 AllPositive [] = Unit {0}
 AllPositive (d ∷ ds) = (pos 0 <ℤ d) × AllPositive ds
 
-multiple_positive : (x y z : ℤ) → pos 0 <ℤ x → pos 0 <ℤ y → common_multiple x y (Ok z) → pos 0 <ℤ z
+pub multiple_positive : (x y z : ℤ) → pos 0 <ℤ x → pos 0 <ℤ y → common_multiple x y (Ok z) → pos 0 <ℤ z
 multiple_positive x y z h k (_, is) =
     let gcd = gcd_of-is (unsigned_abs x) (unsigned_abs y) in
     let part = quotient_positive (int_div x (int_gcd x y)) (int_gcd x y) x (not_negative (gcd_of (unsigned_abs x) (unsigned_abs y))) (exact x (int_gcd x y) gcd.0) h in
@@ -36,11 +36,11 @@ multiple_positive x y z h k (_, is) =
     drop : (a y : ℤ) → (a *ℤ y) -ℤ (pos 0 *ℤ pos 0) ≡ a *ℤ y
     drop a y = omega (arith, ints)
 
-further_multiple : (sum m : ℤ) (ds : List ℤ) → pos 0 <ℤ sum → AllPositive ds → further common_multiple gives sum ds (Ok m) → pos 0 <ℤ m
+pub further_multiple : (sum m : ℤ) (ds : List ℤ) → pos 0 <ℤ sum → AllPositive ds → further common_multiple gives sum ds (Ok m) → pos 0 <ℤ m
 further_multiple sum m [] h all e = subst (λ w. pos 0 <ℤ w) (sym e) h
 further_multiple sum m (d ∷ ds) h (first, all) (x, is, (more, multiple, rest)) = further_multiple more m ds (multiple_positive sum x more h (subst (λ w. pos 0 <ℤ w) (sym is) first) multiple) all rest
 
-all_multiple : (ds : List ℤ) (m : ℤ) → AllPositive ds → multiple_of_all ds (Ok m) → pos 0 <ℤ m
+pub all_multiple : (ds : List ℤ) (m : ℤ) → AllPositive ds → multiple_of_all ds (Ok m) → pos 0 <ℤ m
 all_multiple [] m all e = subst (λ w. pos 0 <ℤ w) (sym e) (omega (arith, ints))
 all_multiple (d ∷ ds) m (first, all) (x, is, rest) = further_multiple x m ds (subst (λ w. pos 0 <ℤ w) (sym is) first) all rest
 

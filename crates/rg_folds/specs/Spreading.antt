@@ -139,13 +139,18 @@ checked_leaf lts expression rows =
 abbrev pub chord_arcs : System → List Arc → CycleBasis → List Arc
 chord_arcs lts tree basis = map (λ c. chord_at lts tree (slice_index_or basis.kept c 0)) (used_chords lts basis)
 
+-- the leaf of the shares: the chords get their multipliers, then the arcs of the tree from its last to its first
+abbrev pub leaf_fold : System → List Arc → CycleBasis → (RowName → Expression) → List Share → Result (List NamedRow) Wide → Type 0
+leaf_fold lts tree basis expression shares =
+    and_then (each (chord_fold lts tree basis expression shares) (used_chords lts basis))
+    (λ chord_shares. and_then (scaled_fold (map (λ r. r.multiplier) shares ++ chord_shares))
+    (λ scaled. and_then (tree_fold expression (named_from (map (λ r. r.name) shares ++ map arc_name (chord_arcs lts tree basis)) scaled.numbers) [] (reverse tree))
+    (λ arcs. and_then (parts_of (scaled.numbers ++ map (λ x. x.multiplier) arcs))
+    (λ parts. checked_leaf lts expression
+    (not_zero (named_from (map (λ r. r.name) shares) parts ++ map (λ a. record { multiplier = multiplier_among (chord_arcs lts tree basis ++ map (λ x. x.arc) arcs) (drop (length shares) parts) a; name = arc_name a }) lts.arcs))))))
+
 -- the leaf of the weights of a node's rows
 abbrev pub spread_fold : System → List Arc → CycleBasis → Class → Problem → ℕ → CaseSystem → List SplitSide → List Side → List Weight → Result (List NamedRow) Wide → Type 0
 spread_fold lts tree basis class problem case_number case form_sides above weights =
     and_then (each (share_fold case form_sides) weights)
-    (λ shares. and_then (each (chord_fold lts tree basis (row_expression lts class problem case_number above) shares) (used_chords lts basis))
-    (λ chord_shares. and_then (scaled_fold (map (λ r. r.multiplier) shares ++ chord_shares))
-    (λ scaled. and_then (tree_fold (row_expression lts class problem case_number above) (named_from (map (λ r. r.name) shares ++ map arc_name (chord_arcs lts tree basis)) scaled.numbers) [] (reverse tree))
-    (λ arcs. and_then (parts_of (scaled.numbers ++ map (λ x. x.multiplier) arcs))
-    (λ parts. checked_leaf lts (row_expression lts class problem case_number above)
-    (not_zero (named_from (map (λ r. r.name) shares) parts ++ map (λ a. record { multiplier = multiplier_among (chord_arcs lts tree basis ++ map (λ x. x.arc) arcs) (drop (length shares) parts) a; name = arc_name a }) lts.arcs)))))))
+    (λ shares. leaf_fold lts tree basis (row_expression lts class problem case_number above) shares)

@@ -11,7 +11,7 @@ ghost use Rattle.rg_folds.specs.Fold.{IsOne, Ratio, ratio_of, shown_result, quot
 ghost use Rattle.rg_linear.specs.Cycle.{CycleBasis};
 ghost use Rattle.rg_folds.specs.Rewriting.{substitute_fold, row_fold, CaseSystem, system_fold};
 ghost use Rattle.rg_folds.specs.Placing.{place_fold};
-ghost use Rattle.rg_folds.specs.Spreading.{spread_fold};
+ghost use Rattle.rg_folds.specs.Spreading.{Share, leaf_fold, spread_fold};
 
 use rg_fraction::{Fraction, Wide};
 use rg_theory::{Arc, Class, Problem};
@@ -38,5 +38,6 @@ pub fn folds_are_one()
     ensures row { (lts : System) (tree : List Arc) (basis : CycleBasis) (class : Class) (name : RowName) (e : Expression) → IsOne (row_fold lts tree basis class name e) }
     ensures system { (lts : System) (tree : List Arc) (basis : CycleBasis) (class : Class) (problem : Problem) (number : ℕ) → IsOne (system_fold lts tree basis class problem number) }
     ensures place { (lts : System) (tree : List Arc) (basis : CycleBasis) (class : Class) (problem : Problem) (start : Ratio) (value : ℕ → Ratio) → IsOne (place_fold lts tree basis class problem start value) }
+    ensures leaf { (lts : System) (tree : List Arc) (basis : CycleBasis) (expression : RowName → Expression) (shares : List Share) → IsOne (leaf_fold lts tree basis expression shares) }
     ensures spread { (lts : System) (tree : List Arc) (basis : CycleBasis) (class : Class) (problem : Problem) (number : ℕ) (case : CaseSystem) (sides : List SplitSide) (above : List Side) (weights : List Weight) → IsOne (spread_fold lts tree basis class problem number case sides above weights) }
 {}

@@ -192,7 +192,7 @@ FoundWell system forms (found members above) = IsWholePoint system forms members
 FoundWell system forms (tree t) = Unit {0}
 FoundWell system forms (stopped above w) = Unit {0}
 
-found_well : (system : LinearSystem) (forms : List Form) (above : List SplitSide) (o : BranchOutcome) → BranchFrom system forms above o → FoundWell system forms o
+pub found_well : (system : LinearSystem) (forms : List Form) (above : List SplitSide) (o : BranchOutcome) → BranchFrom system forms above o → FoundWell system forms o
 found_well system forms above o (passes w d) = tt
 found_well system forms above o (refutes members fixed i k d row) = tt
 found_well system forms above o (whole members d all) = record { descent = d; all = all }

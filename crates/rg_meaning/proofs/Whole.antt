@@ -87,20 +87,20 @@ other_at_one lts class problem number scale x name not_arc plain bound positive 
     says name (value_over (pos 1) x (row_expression lts class problem number [] name)) not_arc
     (not_negative_row (value_in x (row_expression lts class problem number [] name).terms) (row_expression lts class problem number [] name).constant scale (low lts class problem number name plain bound stands) positive (said name (value_over scale x (row_expression lts class problem number [] name)) h))
 
-at_one : (lts : System) (class : Class) (problem : Problem) (number : ℕ) (scale : ℤ) (x : Variable → ℤ) → class.plain ≡ false → IsNone class.bound → pos 0 <ℤ scale → KeepsRowsOver lts class problem number scale x → KeepsRowsOver lts class problem number (pos 1) x
+pub at_one : (lts : System) (class : Class) (problem : Problem) (number : ℕ) (scale : ℤ) (x : Variable → ℤ) → class.plain ≡ false → IsNone class.bound → pos 0 <ℤ scale → KeepsRowsOver lts class problem number scale x → KeepsRowsOver lts class problem number (pos 1) x
 at_one lts class problem number scale x plain bound positive keeps (arc_row q t q') stands = arc_at_one lts class problem number scale x q t q' (keeps (arc_row q t q') stands)
 at_one lts class problem number scale x plain bound positive keeps name stands = other_at_one lts class problem number scale x name (λ h. h) plain bound positive stands (keeps name stands)
 
 -- ---- tokens that are not negative
 
-same_numbers : (lts : System) (class : Class) (problem : Problem) (number : ℕ) (x y : Variable → ℤ) → ((v : Variable) → x v ≡ y v) → KeepsRowsOver lts class problem number (pos 1) x → KeepsRowsOver lts class problem number (pos 1) y
+pub same_numbers : (lts : System) (class : Class) (problem : Problem) (number : ℕ) (x y : Variable → ℤ) → ((v : Variable) → x v ≡ y v) → KeepsRowsOver lts class problem number (pos 1) x → KeepsRowsOver lts class problem number (pos 1) y
 same_numbers lts class problem number x y same keeps name stands = subst (Says name) (ap (λ z. z +ℤ ((row_expression lts class problem number [] name).constant *ℤ pos 1)) (sum_over-same (λ (t : Term). t.coefficient *ℤ x t.variable) (λ (t : Term). t.coefficient *ℤ y t.variable) (row_expression lts class problem number [] name).terms (λ t has. ap (λ z. t.coefficient *ℤ z) (same t.variable)))) (keeps name stands)
 
 tokens_stand : (lts : System) (class : Class) (problem : Problem) (number q : ℕ) → RowStands lts class problem number [] (tokens_row q)
 tokens_stand lts class (Event s t) number q = tt
 tokens_stand lts class (States s s') number q = tt
 
-absolute : (z : ℤ) → pos 0 ≤ℤ z → z ≡ pos (unsigned_abs z)
+pub absolute : (z : ℤ) → pos 0 ≤ℤ z → z ≡ pos (unsigned_abs z)
 absolute (pos n) h = refl
 absolute (negsuc n) h = absurd (omega (arith, ints))
 

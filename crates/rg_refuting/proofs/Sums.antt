@@ -11,13 +11,13 @@ use Rattle.rg_refuting.specs.Refutes.{NamedRow, coefficient_sum, constant_sum}
 -- ---- terms without one variable
 
 -- a test of two variables says whether they are one
-same_variable_is : (v w : Variable) → same_variable v w ≡ true → v ≡ w
+pub same_variable_is : (v w : Variable) → same_variable v w ≡ true → v ≡ w
 same_variable_is (tokens_at q) (tokens_at r) e = ap tokens_at (eqb-true q r e)
 same_variable_is (effect_of t) (effect_of u) e = ap effect_of (eqb-true t u e)
 same_variable_is (tokens_at q) (effect_of t) e = cc
 same_variable_is (effect_of t) (tokens_at q) e = cc
 
-same_variable_refl : (v : Variable) → same_variable v v ≡ true
+pub same_variable_refl : (v : Variable) → same_variable v v ≡ true
 same_variable_refl (tokens_at q) = eq-eqb q q refl
 same_variable_refl (effect_of t) = eq-eqb t t refl
 
