@@ -98,6 +98,21 @@ fn certificates_with_a_change(rt: HostRuntime) -> Result<(), NoRoom> {
             "certificate 1\nclass plain\nevent s0 b\ncase\nsplit effect a 0\nleaf\n1 empty\n1 full s2\n2 above 0\n1 arc s0 a s1\n1 arc s1 a s2\nend\n",
             "refused: tree short\n",
         ),
+        (
+            RING,
+            "certificate 1\nclass plain\nevent s0 b\ncase\nsplit effect a 0\nleaf\n1 empty\n1 full s2\n2 above 0\n1 arc s0 a s1\n1 arc s1 a s2\nleaf\n1 down b\n2 above 1\n-1 arc s0 a s1\n-1 arc s1 a s2\n-1 arc s2 b s0\nend\n",
+            "refused: case 0 node 2: wrong row\n",
+        ),
+        (
+            ABBAA,
+            "certificate 1\nclass none\nevent s2 a\ncase\nleaf\n1 stop s9\nend\n",
+            "refused: line 6: unknown name\n",
+        ),
+        (
+            ABBAA,
+            "certificate 1\nclass none\nevent s2 a\ncase\nleaf\nleaf\nend\n",
+            "refused: tree long\n",
+        ),
     ] {
         let outcome = judge(&rt, rt.alloc(), text.as_bytes(), certificate.as_bytes())?;
         assert_eq!(rt; outcome.status, Status::No);

@@ -1,0 +1,142 @@
+//! The descent made a second time, over a table, with its exchanges counted.
+
+ghost use Rattle.std.specs.Prelude.{◌≡◌, ◌≢◌, ◌+◌, ◌<◌, ◌≤◌, length, slice_index, Contains, pos, IfSome};
+ghost use Rattle.rg_integers.specs.Sum.{number_at};
+ghost use Rattle.rg_dictionary.specs.Contents.{IsOutside, row_of, SameShape};
+
+use rg_dictionary::Dictionary as Table;
+use rg_feasible::System;
+use std::alloc::{AllocError, Global};
+
+// What came of a row.
+#[derive(Clone, Copy)]
+enum Step {
+    Passed,
+    Stuck,
+    Exchanged { renewed: u32 },
+    Wide,
+}
+
+/// How a descent ends.
+#[derive(Clone, Copy, PartialEq, Eq, Debug)]
+pub(crate) enum Ending {
+    Point,
+    Refuted,
+    Wide,
+    /// It took as many rows as it may.
+    CutOff,
+}
+
+/// How a descent ended, its exchanges, and the rows of the table that they renewed.
+#[derive(Clone, Copy)]
+pub(crate) struct Counted {
+    pub(crate) ending: Ending,
+    pub(crate) exchanges: u64,
+    pub(crate) renewed: u64,
+}
+
+/// The rows of the system as a table over its columns.
+pub(crate) fn table_of(alloc: Global, system: &System) -> Result<Table, AllocError> {
+    let rows = system.rows();
+    let mut table = Table::with_columns(alloc, system.columns(), rows.len() as u32)?;
+    for row in rows {
+        table.push_row(&row.coeffs, row.constant);
+    }
+    Ok(table)
+}
+
+/// Makes the descent, as long as it takes at most so many rows. Each row goes by its variable: the columns come first.
+pub(crate) fn descend(alloc: Global, mut table: Table, most: u64) -> Result<Counted, AllocError> {
+    let mut counted = Counted {
+        ending: Ending::CutOff,
+        exchanges: 0,
+        renewed: 0,
+    };
+    let mut stack = Vec::new(alloc);
+    let mut below = table.variables();
+    let mut row = table.columns();
+    for _ in 0..most {
+        if row >= below {
+            match stack.pop() {
+                None => {
+                    counted.ending = Ending::Point;
+                    break;
+                }
+                Some(fixed) => {
+                    below = stack.last().copied().unwrap_or(table.variables());
+                    row = fixed.saturating_add(1);
+                }
+            }
+        } else {
+            match take_row(&mut table, &stack, row) {
+                Step::Passed => row += 1,
+                Step::Stuck => {
+                    counted.ending = Ending::Refuted;
+                    break;
+                }
+                Step::Wide => {
+                    counted.ending = Ending::Wide;
+                    break;
+                }
+                Step::Exchanged { renewed } => {
+                    counted.exchanges = counted.exchanges.saturating_add(1);
+                    counted.renewed = counted.renewed.saturating_add(u64::from(renewed));
+                    stack.push(row)?;
+                    below = row;
+                    row = table.columns();
+                }
+            }
+        }
+    }
+    Ok(counted)
+}
+
+// Takes the row of this variable, where the variables of the stack are fixed.
+fn take_row(table: &mut Table, stack: &[u32], pivot: u32) -> Step {
+    if pivot >= table.variables() || table.contains(pivot) {
+        return Step::Passed;
+    }
+    let numbers = table.numbers(pivot);
+    if numbers[1] >= 0 {
+        return Step::Passed;
+    }
+    let Some(place) = least_free(table.members(), stack, numbers) else {
+        return Step::Stuck;
+    };
+    let renewed = rows_renewed(table, pivot, place);
+    match table.exchange(pivot, place) {
+        Ok(()) => Step::Exchanged { renewed },
+        Err(_) => Step::Wide,
+    }
+}
+
+// The place of the first member that isn't fixed and that the relation with these numbers names.
+fn least_free(members: &[u32], stack: &[u32], numbers: &[i128]) -> Option<usize>
+    requires { 2 ≤ length numbers.now }
+    ensures member { IfSome result (λ place. place < length members.now) }
+    ensures within { IfSome result (λ place. place + 2 < length numbers.now) }
+    ensures named { IfSome result (λ place. number_at numbers.now (place + 2) ≢ pos 0) }
+{
+    for (place, member) in members.iter().enumerate() {
+        if place < numbers.len() - 2 && numbers[place + 2] != 0 && !stack.contains(member) {
+            return Some(place);
+        }
+    }
+    None
+}
+
+// How many rows the exchange renews: those of the other variables outside the set that name the member at this place.
+fn rows_renewed(table: &Table, pivot: u32, place: usize) -> u32
+    requires { place < table.now.columns }
+{
+    let mut renewed = 0;
+    for variable in 0..table.variables() {
+        if variable != pivot
+            && !table.contains(variable)
+            && table.numbers(variable)[place + 2] != 0
+        {
+            renewed += 1;
+        }
+    }
+    renewed
+}

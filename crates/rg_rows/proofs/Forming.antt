@@ -1,0 +1,82 @@
+-- The kept rows make a system.
+use Rattle.std.proofs.Common.{◌≡◌, ℕ, zero, suc, ◌+◌, ◌*◌, ◌^◌, ◌<◌, ◌≤◌, ◌==◌, ◌&&◌, not, is_some, Bool, true, false, if◌then◌else◌, Option, None, List, [], ◌∷◌, ◌++◌, map, length, All, Contains, ap, refl, subst, sym, ◌∙◌, inl, inr, arith}
+use Rattle.std.specs.Prelude.{ℤ, pos, slice_index_or}
+use Rattle.std.proofs.lemmas.List.{length-map, length-append, get_or-map}
+use Rattle.std.proofs.lemmas.List.Elements.{Contains-get_or}
+use Rattle.rg_integers.specs.Range.{InRange}
+use Rattle.rg_theory.specs.declared.Class.{Class}
+use Rattle.rg_theory.specs.declared.Problem.{Problem}
+use Rattle.rg_theory.specs.declared.Problem.TheVariants.{Event, States}
+use Rattle.rg_theory.specs.System.{System, states, labels}
+use Rattle.rg_refuting.specs.Row.{RowName, RowName.tokens_row, RowName.makes_row, RowName.stop_row, RowName.block_row, RowName.empty_row, RowName.full_row, RowName.keep_row, RowName.cap_row, RowName.up_row, RowName.down_row}
+use Rattle.rg_linear.specs.System.{LinearRow, row_at}
+use Rattle.rg_linear.specs.Firsts.{KeepsFirsts}
+use Rattle.rg_linear.proofs.Firsts.{kept_is}
+use Rattle.rg_folds.specs.Rewriting.{numbers_where, used_labels, has_label, has_label_at, states_with, has_start, all_numbers, problem_rows, case_consumer, names_of, KeptRow, IsIdle}
+use Rattle.rg_feasible.specs.declared.system.Row.{Row}
+use Rattle.rg_feasible.specs.View.{linear_row, linear_system, IsWellFormed}
+use Rattle.rg_rows.specs.declared.named_row.NamedRow.{NamedRow}
+use Rattle.rg_rows.specs.View.{kept_row}
+use Rattle.rg_rows.proofs.Picking.{where_few}
+
+-- ---- how many rows are named
+
+few_if : (b : Bool) (make : ℕ → RowName) (test : ℕ → Bool) (n : ℕ) → length (if b then map make (numbers_where test 0 n) else []) ≤ n
+few_if true make test n = let h = where_few test 0 n in let e = length-map (numbers_where test 0 n) make in omega arith
+few_if false make test n = omega arith
+
+problem_few : (lts : System) (class : Class) (problem : Problem) → class.plain ≡ false → length (problem_rows lts class problem) ≤ states lts + 1
+problem_few lts class (Event s t) not_plain = go class.pure class.plain not_plain
+  where
+    go : (pure plain : Bool) → plain ≡ false → length (if pure then (block_row ∷ []) else (if plain then (empty_row ∷ map full_row (states_with lts t) ++ keep_row ∷ []) else map stop_row (states_with lts t))) ≤ states lts + 1
+    go true plain e = omega arith
+    go false true e = cc
+    go false false e = let h = few_if true stop_row (λ q. has_label_at q t lts.arcs) (states lts) in omega arith
+problem_few lts class (States s s') not_plain = omega arith
+
+pub names_few : (lts : System) (class : Class) (problem : Problem) (number : ℕ) → class.plain ≡ false → class.bound ≡ None → length (names_of lts class problem number) ≤ 2 * states lts + labels lts + 1
+names_few lts class problem number not_plain unbounded =
+    let own = problem_few lts class problem not_plain in
+    let tokens = few_if (has_start class) tokens_row (λ q. true) (states lts) in
+    let makes = few_if class.nonbranching makes_row (λ u. has_label u lts.arcs && not (u == case_consumer lts problem number)) (labels lts) in
+    let caps : length (if is_some class.bound then map cap_row (all_numbers (states lts)) else []) ≡ 0 = ap (λ (o : Option ℕ). length (if is_some o then map cap_row (all_numbers (states lts)) else [])) unbounded in
+    let sides : length (if class.plain then (map up_row (used_labels lts) ++ map down_row (used_labels lts)) else []) ≡ 0 = ap (λ b. length (if b then (map up_row (used_labels lts) ++ map down_row (used_labels lts)) else [])) not_plain in
+    simp length-append (omega arith)
+
+-- ---- the rows are over the columns, and in range
+
+record Fits (columns : ℕ) (r : LinearRow) : Type 0 where
+  pub one_each : length r.coeffs ≡ columns
+  pub coeffs : All InRange r.coeffs
+  pub constant : InRange r.constant
+
+from_map : {A B : Type 0} (f : A → B) (xs : List A) (y : B) → Contains (map f xs) y → (x : A) × Contains xs x × (f x ≡ y)
+from_map f [] y (k, lt, e) = absurd (omega arith)
+from_map f (x ∷ xs) y (zero, lt, e) = (x, (0, omega arith, refl), e)
+from_map f (x ∷ xs) y (suc k, lt, e) = let (z, (j, below, is), same) = from_map f xs y (k, omega arith, e) in (z, (suc j, omega arith, is), same)
+
+kept_count : {X K : Type 0} (key : X → K) (Drops : X → Type 0) (seen : List K) (xs kept : List X) → KeepsFirsts key Drops seen xs kept → length kept ≤ length xs
+kept_count key Drops seen [] kept is = let e = ap length is in omega arith
+kept_count key Drops seen (x ∷ xs) kept (inl (gone, k)) = let h = kept_count key Drops seen xs kept k in omega arith
+kept_count key Drops seen (x ∷ xs) kept (inr (stays, fresh, (rest, is, k))) = let h = kept_count key Drops (key x ∷ seen) xs rest k in let e = ap length is in omega arith
+
+module _ (columns : ℕ) (all : List NamedRow) (rows : List Row) (kept : List KeptRow) (shown : map linear_row rows ≡ map (λ k. k.row) kept) (firsts : KeepsFirsts (λ k. k.row) IsIdle [] (map kept_row all) kept) (lengths : All (λ r. length r.coeffs.items ≡ columns) all) where
+  named_fits : (r : NamedRow) → Contains all r → Fits columns (kept_row r).row
+  named_fits r (k, lt, is) = record { one_each = subst (λ (x : NamedRow). length x.coeffs.items ≡ columns) is (lengths k r lt); coeffs = r.coeffs_in_range; constant = r.constant_in_range }
+
+  row_fits : (r : LinearRow) → Contains (map linear_row rows) r → Fits columns r
+  row_fits r has =
+      let (k, in_kept, same) = from_map (λ (x : KeptRow). x.row) kept r (subst (λ l. Contains l r) shown has) in
+      let (n, in_all, is) = from_map kept_row all k (kept_is (λ (x : KeptRow). x.row) IsIdle [] (map kept_row all) kept k firsts in_kept) in
+      subst (Fits columns) (ap (λ (x : KeptRow). x.row) is ∙ same) (named_fits n in_all)
+
+  pub well_formed : columns + length all < 2 ^ 32 → IsWellFormed (linear_system columns rows)
+  well_formed few = record {
+    few = let h = kept_count (λ (x : KeptRow). x.row) IsIdle [] (map kept_row all) kept firsts in let e = ap length shown in let f = length-map kept (λ (x : KeptRow). x.row) in let g = length-map all kept_row in omega arith;
+    one_each = λ i lt. (each i lt).one_each;
+    coeffs = λ i j lt lt'. (each i lt).coeffs j (pos 0) (subst (λ n. j < n) (sym (each i lt).one_each) lt');
+    constants = λ i lt. (each i lt).constant;
+  }
+    where
+      each : (i : ℕ) → i < length (map linear_row rows) → Fits columns (row_at (linear_system columns rows) i)
+      each i lt = row_fits (row_at (linear_system columns rows) i) (Contains-get_or (map linear_row rows) i _ lt)

@@ -1,0 +1,122 @@
+-- The steps of a row's fold.
+use Rattle.std.proofs.Common.{◌≡◌, ℕ, suc, ◌+◌, ◌<◌, ◌≤◌, false, is_some, if◌then◌else◌, Option, None, List, [], ◌∷◌, ◌++◌, map, drop, length, Result, Ok, Err, ap, refl, subst, sym, ◌∙◌, inl, inr, arith, add-one}
+use Rattle.std.specs.Prelude.{ℤ, pos, slice_index_or, IfOk}
+use Rattle.std.proofs.lemmas.List.{drop_all, get_or-map}
+use Rattle.std.proofs.Math.Seq.{drop-cons}
+use Rattle.rg_theory.specs.declared.Arc.{Arc}
+use Rattle.rg_theory.specs.declared.Class.{Class}
+use Rattle.rg_theory.specs.declared.Problem.{Problem}
+use Rattle.rg_theory.specs.System.{System, states, labels}
+use Rattle.rg_fraction.specs.declared.term.Wide.{Wide}
+use Rattle.rg_linear.specs.Cycle.{CycleBasis}
+use Rattle.rg_refuting.specs.Expression.{Term, Expression, Variable.tokens_at, Variable.effect_of}
+use Rattle.rg_refuting.specs.Row.{RowName, row_expression}
+use Rattle.rg_cert.specs.declared.certificate.RowName.{RowName as CodeName}
+use Rattle.rg_cert.specs.Trees.{row_name_of}
+use Rattle.rg_fraction.specs.declared.fraction.Fraction.{Fraction}
+use Rattle.rg_fraction.specs.Fractions.{numerator_of, denominator_of, IsValue, IsProduct}
+use Rattle.rg_folds.proofs.FoldLemmas.{mul_step}
+use Rattle.rg_folds.specs.Fold.{shown_result, ratio_of, gives, and_then, each, further, joined, Ratio, whole, mul, common_multiple, multiple_of_all}
+use Rattle.rg_folds.specs.Rewriting.{start_of, count_of, substitute_fold, columns_of, Scaled, scaled_fold, terms_fold, KeptRow, IsDivided, divided, row_fold, used_labels, all_numbers, names_of, form_variables, form_fold, column_count, CaseSystem, IsIdle, system_fold}
+use Rattle.rg_linear.specs.Firsts.{KeepsFirsts}
+use Rattle.rg_rows.specs.View.{fold_of}
+use Rattle.rg_rows.proofs.Counted.{substitute_same}
+use Rattle.rg_rows.proofs.Picking.{columns_length}
+use Rattle.rg_cycles.proofs.Folding.{whole_is, behind, each_start, each_next, each_fails, each_ends, further_next, further_unjoined}
+
+-- ---- from the numbers of the columns to whole ones
+
+module _ (numbers : List Ratio) where
+  pub scaled_unmultiplied : (w : Wide) → multiple_of_all (map (λ r. r.bottom) numbers) (Err w) → scaled_fold numbers (Err w)
+  scaled_unmultiplied w h = inl h
+
+  module _ (m : ℤ) (multiple : multiple_of_all (map (λ r. r.bottom) numbers) (Ok m)) where
+    pub scaled_unmade : (w : Wide) → each (λ r. mul r (whole m)) numbers (Err w) → scaled_fold numbers (Err w)
+    scaled_unmade w h = inr (m, multiple, inl h)
+
+    pub scaled_made : (products : List Ratio) → each (λ r. mul r (whole m)) numbers (Ok products) → scaled_fold numbers (Ok (record { multiple = m; numbers = map (λ r. r.top) products }))
+    scaled_made products h = (m, multiple, (products, h, refl))
+
+-- ---- from the counts of labels to the columns
+
+module _ (lts : System) (tree : List Arc) (basis : CycleBasis) (class : Class) (terms : List Term) where
+  pub terms_unsubstituted : (w : Wide) → substitute_fold (labels lts) basis (count_of tree terms) (Err w) → terms_fold lts tree basis class terms (Err w)
+  terms_unsubstituted w h = inl h
+
+  pub terms_scaled : (free : List Ratio) → substitute_fold (labels lts) basis (count_of tree terms) (Ok free) → (r : Result Scaled Wide) → scaled_fold (columns_of lts basis class (start_of terms) free) r → terms_fold lts tree basis class terms r
+  terms_scaled free h (Ok s) k = (free, h, k)
+  terms_scaled free h (Err w) k = inr (free, h, k)
+
+-- a product of whole numbers in code
+pub whole_step : (f g : Fraction) (x y : ℤ) (r : Result Fraction Wide) → IsValue f x (pos 1) → IsValue g y (pos 1) → IsProduct (numerator_of f) (denominator_of f) (numerator_of g) (denominator_of g) r → mul (whole x) (whole y) (shown_result ratio_of r)
+whole_step f g x y r v w p = subst (λ z. mul z (whole y) (shown_result ratio_of r)) (whole_is f x v) (subst (λ z. mul (ratio_of f) z (shown_result ratio_of r)) (whole_is g y w) (mul_step f g r p))
+
+-- a result's value keeps what each value keeps
+pub if_ok_more : {T E : Type 0} (r : Result T E) (P Q : T → Type 0) → ((t : T) → P t → Q t) → IfOk r P → IfOk r Q
+if_ok_more (Ok t) P Q more h = more t h
+if_ok_more (Err e) P Q more h = h
+
+-- the columns of the code, where its counts are those of the terms
+module _ (lts : System) (tree : List Arc) (basis : CycleBasis) (class : Class) (terms : List Term) (n : ℕ) (same : labels lts ≡ n) (counts : ℕ → ℤ) (equal : (t : ℕ) → t < n → counts t ≡ count_of tree terms t) where
+  substituted : (r : Result (List Ratio) Wide) → substitute_fold n basis counts r → substitute_fold (labels lts) basis (count_of tree terms) r
+  substituted r h = subst (λ k. substitute_fold k basis (count_of tree terms) r) (sym same) (substitute_same n basis counts (count_of tree terms) equal r h)
+
+  pub columns_unsubstituted : (w : Wide) → substitute_fold n basis counts (Err w) → terms_fold lts tree basis class terms (Err w)
+  columns_unsubstituted w h = terms_unsubstituted lts tree basis class terms w (substituted (Err w) h)
+
+  module _ (free : List Ratio) (found : substitute_fold n basis counts (Ok free)) (numbers : List Ratio) (start : ℤ) (starts : start ≡ start_of terms) (picked : numbers ≡ columns_of lts basis class start free) where
+    pub columns_scaled : (r : Result Scaled Wide) → scaled_fold numbers r → terms_fold lts tree basis class terms r
+    columns_scaled r h = terms_scaled lts tree basis class terms free (substituted (Ok free) found) r (subst (λ l. scaled_fold l r) (picked ∙ ap (λ z. columns_of lts basis class z free) starts) h)
+
+    pub columns_many : length numbers ≡ column_count lts basis class
+    columns_many = ap length picked ∙ columns_length lts basis class start (count_of tree terms) free (substituted (Ok free) found)
+
+-- ---- from the columns to the row
+
+module _ (lts : System) (tree : List Arc) (basis : CycleBasis) (class : Class) (name : RowName) (e : Expression) where
+  pub row_unscaled : (w : Wide) → terms_fold lts tree basis class e.terms (Err w) → row_fold lts tree basis class name e (Err w)
+  row_unscaled w h = inl h
+
+  module _ (scaled : Scaled) (terms : terms_fold lts tree basis class e.terms (Ok scaled)) where
+    pub row_unmade : (w : Wide) → mul (whole e.constant) (whole scaled.multiple) (Err w) → row_fold lts tree basis class name e (Err w)
+    row_unmade w h = inr (scaled, terms, inl h)
+
+    pub row_made : (constant : Ratio) (out : KeptRow) → mul (whole e.constant) (whole scaled.multiple) (Ok constant) → out.name ≡ name → IsDivided scaled constant.top out → row_fold lts tree basis class name e (Ok out)
+    row_made constant out h same is = (scaled, terms, (constant, h, (same, is)))
+
+-- ---- item by item
+
+-- what is made of the items from i on stands behind what is made so far
+module _ {A X : Type 0} (make : A → Result X Wide → Type 0) (all : List A) (i : ℕ) (d : A) (xs : List X) (so_far : (r : Result (List X) Wide) → each make (drop i all) r → each make all (behind xs r)) where
+  at : i < length all → (r : Result (List X) Wide) → each make (slice_index_or all i d ∷ drop (i + 1) all) r → each make all (behind xs r)
+  at lt r h = so_far r (subst (λ l. each make l r) (sym (drop-cons all i d lt ∙ ap (λ n. slice_index_or all i d ∷ drop n all) (sym (add-one i)))) h)
+
+  pub item_next : i < length all → (x : X) → make (slice_index_or all i d) (Ok x) → (r : Result (List X) Wide) → each make (drop (i + 1) all) r → each make all (behind (xs ++ x ∷ []) r)
+  item_next lt x made = each_next make all (slice_index_or all i d) (drop (i + 1) all) xs (at lt) x made
+
+  pub item_fails : i < length all → (w : Wide) → make (slice_index_or all i d) (Err w) → each make all (Err w)
+  item_fails lt w made = each_fails make all (slice_index_or all i d) (drop (i + 1) all) xs (at lt) w made
+
+  pub items_end : length all ≤ i → each make all (Ok xs)
+  items_end past = each_ends make all xs (λ r h. so_far r (subst (λ l. each make l r) (sym (drop_all i all past)) h))
+
+-- ---- the rows of the code
+
+-- the row of the name at place i
+pub fold_told : (lts : System) (tree : List Arc) (basis : CycleBasis) (class : Class) (problem : Problem) (number : ℕ) (names : List CodeName) (i : ℕ) (d : CodeName) (e : Expression) → i < length names → e ≡ row_expression lts class problem number [] (row_name_of (slice_index_or names i d)) → (r : Result KeptRow Wide) → row_fold lts tree basis class (row_name_of (slice_index_or names i d)) e r → fold_of lts tree basis class problem number (slice_index_or (map row_name_of names) i (row_name_of d)) r
+fold_told lts tree basis class problem number names i d e lt is r h =
+    subst (λ name. fold_of lts tree basis class problem number name r) (sym (get_or-map row_name_of names i d (row_name_of d) lt))
+    (subst (λ x. row_fold lts tree basis class (row_name_of (slice_index_or names i d)) x r) is h)
+
+-- ---- from the rows to the case
+
+module _ (lts : System) (tree : List Arc) (basis : CycleBasis) (class : Class) (problem : Problem) (number : ℕ) (names : List RowName) (named : names ≡ names_of lts class problem number) where
+  pub case_fails : (w : Wide) → each (fold_of lts tree basis class problem number) names (Err w) → system_fold lts tree basis class problem number (Err w)
+  case_fails w h = inl (subst (λ l. each (fold_of lts tree basis class problem number) l (Err w)) named h)
+
+  module _ (not_plain : class.plain ≡ false) (unbounded : class.bound ≡ None) where
+    no_variables : form_variables lts class ≡ []
+    no_variables = ap (λ (o : Option ℕ). if is_some o then map tokens_at (all_numbers (states lts)) else (if class.plain then map effect_of (used_labels lts) else [])) unbounded ∙ ap (λ b. if b then map effect_of (used_labels lts) else []) not_plain
+
+    pub case_made : (all : List KeptRow) (shown : CaseSystem) → each (fold_of lts tree basis class problem number) names (Ok all) → shown.columns ≡ column_count lts basis class → KeepsFirsts (λ k. k.row) IsIdle [] all shown.kept → shown.forms ≡ [] → system_fold lts tree basis class problem number (Ok shown)
+    case_made all shown made columns firsts none = (all, subst (λ l. each (fold_of lts tree basis class problem number) l (Ok all)) named made, ([], subst (λ l. each (form_fold lts tree basis class) l (Ok [])) (sym no_variables) refl, (columns, firsts, none)))

@@ -1,0 +1,143 @@
+-- Lists of named rows, state by state and label by label.
+use Rattle.std.proofs.Common.{◌≡◌, ◌⊎◌, ⊎_elim, ℕ, zero, suc, ◌+◌, ◌-◌, ◌<◌, ◌≤◌, ◌==◌, ◌&&◌, not, is_some, Bool, true, false, if◌then◌else◌, Option, Some, None, List, [], ◌∷◌, ◌++◌, map, take, length, Contains, ap, refl, sym, subst, ◌∙◌, arith, append_assoc, eq-eqb}
+use Rattle.std.specs.Prelude.{slice_index_or, IfSome, IfNone}
+use Rattle.std.proofs.lemmas.List.{append-nil, map-append, take_more, get_or-set_other}
+use Rattle.std.proofs.lemmas.Grind.{get_or-set_at}
+use Rattle.std.proofs.Math.ListN.{set}
+use Rattle.std.proofs.lemmas.Bool.{false≢true, and_from, and_parts, eqb-true}
+use Rattle.rg_theory.specs.declared.Arc.{Arc}
+use Rattle.rg_theory.specs.declared.Class.{Class}
+use Rattle.rg_theory.specs.declared.Problem.{Problem}
+use Rattle.rg_theory.specs.System.{System, states, labels, HasArc, arc}
+use Rattle.rg_theory.proofs.Lists.{Contains-cons_cases}
+use Rattle.rg_refuting.specs.Row.{RowName, RowName.tokens_row, RowName.cap_row, RowName.up_row, RowName.down_row, RowName.makes_row}
+use Rattle.rg_folds.specs.Rewriting.{numbers_where, has_label, has_label_at, used_labels, has_start, all_numbers, problem_rows, case_consumer, names_of}
+use Rattle.rg_cycles.proofs.Folding.{where_taken, where_left, where_ends}
+use Rattle.rg_rows.specs.declared.columns.Columns.{Columns}
+use Rattle.rg_rows.specs.View.{TellsUsed, AreColumns, makers}
+
+-- one item more
+pub map_push : {A B : Type 0} (f : A → B) (xs ys : List A) (x : A) → ys ≡ xs ++ x ∷ [] → map f ys ≡ map f xs ++ f x ∷ []
+map_push f xs ys x e = ap (map f) e ∙ map-append f xs (x ∷ [])
+
+-- so far the rows of the numbers before i that pass the test are named
+module _ (make : ℕ → RowName) (test : ℕ → Bool) (i n : ℕ) (done all : List RowName) (so_far : done ++ map make (numbers_where test i (n - i)) ≡ all) where
+  pub name_taken : i < n → test i ≡ true → (done ++ make i ∷ []) ++ map make (numbers_where test (i + 1) (n - (i + 1))) ≡ all
+  name_taken lt e = append_assoc done (make i ∷ []) (map make (numbers_where test (i + 1) (n - (i + 1)))) ∙ ap (λ l. done ++ map make l) (sym (where_taken test i n lt e)) ∙ so_far
+
+  pub name_left : i < n → test i ≡ false → done ++ map make (numbers_where test (i + 1) (n - (i + 1))) ≡ all
+  name_left lt e = ap (λ l. done ++ map make l) (sym (where_left test i n lt e)) ∙ so_far
+
+  pub names_end : n ≤ i → done ≡ all
+  names_end past = sym (append-nil done) ∙ ap (λ l. done ++ map make l) (sym (where_ends test i n past)) ∙ so_far
+
+pub names_start : (make : ℕ → RowName) (test : ℕ → Bool) (n : ℕ) (done : List RowName) → done ++ map make (numbers_where test 0 (n - 0)) ≡ done ++ map make (numbers_where test 0 n)
+names_start make test n done = ap (λ k. done ++ map make (numbers_where test 0 k)) (same n)
+  where
+    same : (k : ℕ) → k - 0 ≡ k
+    same k = omega arith
+
+-- ---- a label at a state
+
+later : (b : Bool) (x : Bool) → x ≡ true → (if b then true else x) ≡ true
+later true x e = refl
+later false x e = e
+
+pub finds_label_at : (q t q' : ℕ) (arcs : List Arc) → Contains arcs (arc q t q') → has_label_at q t arcs ≡ true
+finds_label_at q t q' [] (k, lt, e) = absurd (omega arith)
+finds_label_at q t q' (a ∷ arcs) has = ⊎_elim here (λ there. later ((a.from == q) && (a.label == t)) (has_label_at q t arcs) (finds_label_at q t q' arcs there)) (Contains-cons_cases a (arc q t q') arcs has)
+  where
+    here : a ≡ arc q t q' → has_label_at q t (a ∷ arcs) ≡ true
+    here is = ap (λ b. if b then true else has_label_at q t arcs) (and_from (a.from == q) (a.label == t) (eq-eqb a.from q (ap (λ (x : Arc). x.from) is)) (eq-eqb a.label t (ap (λ (x : Arc). x.label) is)))
+
+pub misses_label_at : (q t : ℕ) (arcs : List Arc) → ((q' : ℕ) → ¬ Contains arcs (arc q t q')) → has_label_at q t arcs ≡ false
+misses_label_at q t [] none = refl
+misses_label_at q t (a ∷ arcs) none = go ((a.from == q) && (a.label == t)) refl (misses_label_at q t arcs (λ q' (k, lt, e). none q' (suc k, omega arith, e)))
+  where
+    same : (a.from == q) ≡ true → (a.label == t) ≡ true → a ≡ arc q t a.to
+    same f l = λ i. record { from = eqb-true a.from q f i; label = eqb-true a.label t l i; to = a.to }
+
+    go : (b : Bool) → ((a.from == q) && (a.label == t)) ≡ b → has_label_at q t arcs ≡ false → (if b then true else has_label_at q t arcs) ≡ false
+    go true is e = absurd (none a.to (let (f, l) = and_parts (a.from == q) (a.label == t) is in (0, omega arith, same f l)))
+    go false is e = e
+
+-- whether a search finds an arc
+pub label_at_is : (lts : System) (q t : ℕ) (o : Option ℕ) → IfSome o (λ to. HasArc lts q t to) → IfNone o ((to : ℕ) → ¬ HasArc lts q t to) → has_label_at q t lts.arcs ≡ is_some o
+label_at_is lts q t (Some to) found none = finds_label_at q t to lts.arcs found
+label_at_is lts q t None found none = misses_label_at q t lts.arcs none
+
+-- ---- a label among arcs
+
+-- one arc more
+pub label_more : (t : ℕ) (arcs : List Arc) (a : Arc) → has_label t (arcs ++ a ∷ []) ≡ (if a.label == t then true else has_label t arcs)
+label_more t [] a = refl
+label_more t (b ∷ arcs) a = ap (λ x. if b.label == t then true else x) (label_more t arcs a) ∙ swap (b.label == t) (a.label == t) (has_label t arcs)
+  where
+    swap : (x y z : Bool) → (if x then true else (if y then true else z)) ≡ (if y then true else (if x then true else z))
+    swap true true z = refl
+    swap true false z = refl
+    swap false true z = refl
+    swap false false z = refl
+
+-- the label of an arc more is used
+module _ (used : List Bool) (arcs : List Arc) (i : ℕ) (a d : Arc) (lt : i < length arcs) (is : slice_index_or arcs i d ≡ a) (below : a.label < length used) where
+  pub used_more : (t : ℕ) → slice_index_or used t false ≡ has_label t (take i arcs) → slice_index_or (set used a.label true) t false ≡ has_label t (take (i + 1) arcs)
+  used_more t e = go (a.label == t) refl ∙ sym (ap (has_label t) (take_more arcs i d lt ∙ ap (λ x. take i arcs ++ x ∷ []) is) ∙ label_more t (take i arcs) a)
+    where
+      go : (b : Bool) → (a.label == t) ≡ b → slice_index_or (set used a.label true) t false ≡ (if b then true else has_label t (take i arcs))
+      go true same = get_or-set_at used a.label t true false (sym (eqb-true a.label t same)) below
+      go false same = get_or-set_other used a.label t true false (λ f. false≢true (sym same ∙ eq-eqb a.label t (sym f))) ∙ e
+
+-- ---- a label that makes tokens
+
+pub makes_test : (has : Bool) (u consumer : ℕ) → has ≡ true → (u ≡ consumer → ⊥) → (has && not (u == consumer)) ≡ true
+makes_test has u consumer is differs = and_from has (not (u == consumer)) is (go (u == consumer) refl)
+  where
+    go : (b : Bool) → (u == consumer) ≡ b → not b ≡ true
+    go true e = absurd (differs (eqb-true u consumer e))
+    go false e = refl
+
+pub consumer_test : (has : Bool) (u consumer : ℕ) → u ≡ consumer → (has && not (u == consumer)) ≡ false
+consumer_test has u consumer is = ap (λ b. has && not b) (eq-eqb u consumer is) ∙ go has
+  where
+    go : (b : Bool) → (b && false) ≡ false
+    go true = refl
+    go false = refl
+
+-- ---- the whole list
+
+where_same : (p q : ℕ → Bool) (a n : ℕ) → ((t : ℕ) → t < a + n → p t ≡ q t) → numbers_where p a n ≡ numbers_where q a n
+where_same p q a zero h = refl
+where_same p q a (suc n) h = ap (λ b. if b then (a ∷ numbers_where p (suc a) n) else numbers_where p (suc a) n) (h a (omega arith)) ∙ ap (λ l. if q a then (a ∷ l) else l) (where_same p q (suc a) n (λ t lt. h t (omega arith)))
+
+makers_are : (lts : System) (used : List Bool) (consumer : ℕ) → TellsUsed (labels lts) lts.arcs used → makers used consumer ≡ numbers_where (λ u. has_label u lts.arcs && not (u == consumer)) 0 (labels lts)
+makers_are lts used consumer tells = ap (λ n. numbers_where (λ u. slice_index_or used u false && not (u == consumer)) 0 n) tells.one_each ∙ where_same (λ u. slice_index_or used u false && not (u == consumer)) (λ u. has_label u lts.arcs && not (u == consumer)) 0 (labels lts) (λ t lt. ap (λ b. b && not (t == consumer)) (tells.each t (omega arith)))
+
+-- rows that are named where the test holds
+pub named_if : (b : Bool) (done more all : List RowName) → b ≡ true → all ≡ done ++ more → all ≡ done ++ (if b then more else [])
+named_if b done more all e h = h ∙ ap (λ x. done ++ (if x then more else [])) (sym e)
+
+pub named_unless : (b : Bool) (done more all : List RowName) → b ≡ false → all ≡ done → all ≡ done ++ (if b then more else [])
+named_unless b done more all e h = h ∙ sym (append-nil done) ∙ ap (λ x. done ++ (if x then more else [])) (sym e)
+
+module _ (lts : System) (class : Class) (problem : Problem) (number : ℕ) (columns : Columns) (are : AreColumns lts class columns) (not_plain : class.plain ≡ false) (unbounded : class.bound ≡ None) where
+  pub names_told : (own start all : List RowName) → own ≡ problem_rows lts class problem → start ≡ own ++ (if columns.start then map tokens_row (all_numbers (states lts)) else []) → all ≡ start ++ (if class.nonbranching then map makes_row (makers columns.used.items (case_consumer lts problem number)) else []) → all ≡ names_of lts class problem number
+  names_told own start all e f g =
+      g ∙ ap (λ l. l ++ (if class.nonbranching then map makes_row (makers columns.used.items (case_consumer lts problem number)) else [])) (f ∙ ap (λ l. l ++ (if columns.start then tokens else [])) e ∙ ap (λ b. problem_rows lts class problem ++ (if b then tokens else [])) are.start)
+      ∙ ap (λ l. (problem_rows lts class problem ++ (if has_start class then tokens else [])) ++ (if class.nonbranching then map makes_row l else [])) (makers_are lts columns.used.items (case_consumer lts problem number) are.used)
+      ∙ ap (λ l. l ++ makes) (sym (append-nil (problem_rows lts class problem ++ (if has_start class then tokens else [])))
+          ∙ ap (λ (o : Option ℕ). problem_rows lts class problem ++ (if has_start class then tokens else []) ++ (if is_some o then caps else [])) (sym unbounded)
+          ∙ sym (append-nil (problem_rows lts class problem ++ (if has_start class then tokens else []) ++ (if is_some class.bound then caps else [])))
+          ∙ ap (λ b. problem_rows lts class problem ++ (if has_start class then tokens else []) ++ (if is_some class.bound then caps else []) ++ (if b then sides else [])) (sym not_plain))
+    where
+      tokens : List RowName
+      tokens = map tokens_row (all_numbers (states lts))
+
+      caps : List RowName
+      caps = map cap_row (all_numbers (states lts))
+
+      sides : List RowName
+      sides = map up_row (used_labels lts) ++ map down_row (used_labels lts)
+
+      makes : List RowName
+      makes = if class.nonbranching then map makes_row (numbers_where (λ u. has_label u lts.arcs && not (u == case_consumer lts problem number)) 0 (labels lts)) else []

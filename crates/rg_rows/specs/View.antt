@@ -1,0 +1,79 @@
+-- How what the code keeps is seen.
+use Rattle.std.specs.Prelude.{◌≡◌, ℕ, ◌<◌, ◌==◌, ◌&&◌, not, Bool, false, List, [], ◌∷◌, ◌++◌, ℤ, length, map, All, Result, slice_index_or}
+use Rattle.rg_theory.specs.declared.Arc.{Arc}
+use Rattle.rg_theory.specs.declared.Class.{Class}
+use Rattle.rg_theory.specs.System.{System, states, labels}
+use Rattle.rg_refuting.specs.Expression.{Term as SumTerm, Expression as Sum, Variable, Variable.tokens_at, Variable.effect_of, plus, minus}
+use Rattle.rg_linear.specs.System.{LinearRow}
+use Rattle.rg_linear.specs.Cycle.{CycleBasis}
+use Rattle.rg_fraction.specs.declared.term.Wide.{Wide}
+use Rattle.rg_theory.specs.declared.Problem.{Problem}
+use Rattle.rg_refuting.specs.Row.{RowName, row_expression}
+use Rattle.rg_folds.specs.Fold.{ratio_of}
+use Rattle.rg_folds.specs.Rewriting.{has_label, has_start, numbers_where, Scaled as ScaledNumbers, KeptRow, row_fold}
+use Rattle.rg_cert.specs.Trees.{row_name_of, variable_of}
+use Rattle.rg_feasible.specs.View.{linear_row}
+use Rattle.rg_rows.specs.declared.term.Term.{Term}
+use Rattle.rg_rows.specs.declared.term.Term.TheVariants.{Plus, Minus}
+use Rattle.rg_rows.specs.declared.term.Expression.{Expression}
+use Rattle.rg_rows.specs.declared.columns.Columns.{Columns}
+use Rattle.rg_rows.specs.declared.scaled.Scaled.{Scaled}
+use Rattle.rg_rows.specs.declared.named_row.NamedRow.{NamedRow}
+use Rattle.rg_rows.specs.declared.kept.NamedRows.{NamedRows}
+
+-- a variable that is added or taken away
+abbrev pub term_of : Term → SumTerm
+term_of (Plus f) = plus (variable_of f)
+term_of (Minus f) = minus (variable_of f)
+
+-- a sum of terms and a constant
+abbrev pub expression_of : Expression → Sum
+expression_of e = record { terms = map term_of e.terms.items; constant = e.constant }
+
+-- a state that it names is one of so many
+abbrev pub IsVariableWithin : ℕ → Variable → Type 0
+IsVariableWithin states (tokens_at q) = q < states
+IsVariableWithin states (effect_of t) = Unit {0}
+
+abbrev pub IsTermWithin : ℕ → SumTerm → Type 0
+IsTermWithin states t = IsVariableWithin states t.variable
+
+-- of each label whether an arc has it
+pub record TellsUsed (labels : ℕ) (arcs : List Arc) (used : List Bool) : Type 0 where
+  pub one_each : length used ≡ labels
+  pub each : (t : ℕ) → t < labels → slice_index_or used t false ≡ has_label t arcs
+
+-- the columns are those of the system in the class
+pub record AreColumns (lts : System) (class : Class) (columns : Columns) : Type 0 where
+  pub start : columns.start ≡ has_start class
+  pub used : TellsUsed (labels lts) lts.arcs columns.used.items
+
+-- the labels with an arc, but this one
+abbrev pub makers : List Bool → ℕ → List ℕ
+makers used consumer = numbers_where (λ u. slice_index_or used u false && not (u == consumer)) 0 (length used)
+
+-- numbers without denominators
+abbrev pub scaled_of : Scaled → ScaledNumbers
+scaled_of s = record { multiple = s.multiple; numbers = s.numbers.items }
+
+-- the numbers of a row: its coefficients, then its constant
+abbrev pub numbers_of : LinearRow → List ℤ
+numbers_of row = row.coeffs ++ row.constant ∷ []
+
+-- a row with its name and its factor
+abbrev pub kept_row : NamedRow → KeptRow
+kept_row r = record { name = row_name_of r.name; row = record { coeffs = r.coeffs.items; constant = r.constant }; factor = ratio_of r.factor }
+
+-- the rows with their names and factors
+pub record ShowsRows (r : NamedRows) (kept : List KeptRow) : Type 0 where
+  pub rows : map linear_row r.rows.items ≡ map (λ k. k.row) kept
+  pub names : map row_name_of r.names.items ≡ map (λ k. k.name) kept
+  pub factors : map ratio_of r.factors.items ≡ map (λ k. k.factor) kept
+
+-- the row's terms name states of the system
+abbrev pub AreNamesWithin : System → Class → Problem → ℕ → List RowName → Type 0
+AreNamesWithin lts class problem number names = All (λ name. All (IsTermWithin (states lts)) (row_expression lts class problem number [] name).terms) names
+
+-- the named row over the columns
+abbrev pub fold_of : System → List Arc → CycleBasis → Class → Problem → ℕ → RowName → Result KeptRow Wide → Type 0
+fold_of lts tree basis class problem number name = row_fold lts tree basis class name (row_expression lts class problem number [] name)

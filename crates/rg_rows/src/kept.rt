@@ -1,0 +1,79 @@
+//! Which rows are kept.
+ghost use Rattle.std.specs.Prelude.{◌↔◌, ◌≡◌, ◌++◌, ◌∷◌, [], List, IsTrue, map, IfOk, OnOk};
+ghost use Rattle.rg_linear.specs.Firsts.{KeepsFirsts};
+ghost use Rattle.rg_folds.specs.Rewriting.{KeptRow, IsIdle};
+ghost use Rattle.rg_rows.specs.View.{numbers_of, kept_row, ShowsRows};
+
+use crate::named_row::NamedRow;
+use rg_cert::RowName;
+use rg_feasible::Row;
+use rg_fraction::Fraction;
+use std::alloc::{AllocError, Global};
+use std::collections::HashSet;
+
+/// Rows, each with its name and its factor.
+#[derive(Drop)]
+pub(crate) struct NamedRows {
+    pub(crate) rows: Vec<Row>,
+    pub(crate) names: Vec<RowName>,
+    pub(crate) factors: Vec<Fraction>,
+}
+
+// Leaves out the rows without coefficients that always hold, and of equal rows all but the first.
+pub(crate) fn firsts(alloc: Global, all: &[NamedRow]) -> Result<NamedRows, AllocError>
+    ensures { IfOk result (λ r. (kept : List KeptRow) × ShowsRows r kept × KeepsFirsts (λ k. k.row) IsIdle [] (map kept_row all.now) kept) }
+{
+    let keys = keys(alloc, all)?;
+    let mut seen = HashSet::new(alloc);
+    let mut kept = NamedRows {
+        rows: Vec::new(alloc),
+        names: Vec::new(alloc),
+        factors: Vec::new(alloc),
+    };
+    for (i, row) in all.iter().enumerate() {
+        if is_idle(row) {
+            continue;
+        }
+        let is_new = seen.insert(keys[i].as_slice())?;
+        if is_new {
+            kept.push(alloc, row)?;
+        }
+    }
+    Ok(kept)
+}
+
+impl NamedRows {
+    // Adds a row.
+    fn push(&mut self, alloc: Global, row: &NamedRow) -> Result<(), AllocError>
+        ensures { OnOk result ((kept : List KeptRow) → ShowsRows self.old kept → ShowsRows self.new (kept ++ kept_row row.now ∷ [])) }
+    {
+        let coeffs = row.coeffs.to_vec(alloc)?;
+        self.rows.push(Row {
+            coeffs,
+            constant: row.constant,
+        })?;
+        self.names.push(row.name)?;
+        self.factors.push(row.factor)?;
+        Ok(())
+    }
+}
+
+// The numbers of each row: its coefficients, then its constant.
+fn keys(alloc: Global, rows: &[NamedRow]) -> Result<Vec<Vec<i128>>, AllocError>
+    ensures { IfOk result (λ v. map (λ key. key.items) v.items ≡ map (λ r. numbers_of (kept_row r).row) rows.now) }
+{
+    let mut keys = Vec::new(alloc);
+    for row in rows {
+        let mut key = row.coeffs.to_vec(alloc)?;
+        key.push(row.constant)?;
+        keys.push(key)?;
+    }
+    Ok(keys)
+}
+
+// Whether the row has no coefficients and always holds.
+fn is_idle(row: &NamedRow) -> bool
+    ensures { IsTrue result ↔ IsIdle (kept_row row.now) }
+{
+    row.constant >= 0 && row.coeffs.iter().all(|z| *z == 0)
+}

@@ -1,0 +1,25 @@
+//! Separation problems as systems of linear rows.
+//!
+//! A region that separates a problem is a solution of linear inequalities over the tokens of states and the
+//! effects of labels (Badouel, Bernardinello and Darondeau, *Petri Net Synthesis*). Here they are written over
+//! the tokens of the initial state and the effects that the cycle equations leave free.
+#![tactic(auto)]
+
+mod case;
+mod columns;
+mod counts;
+mod denominators;
+mod expression;
+mod kept;
+mod named_row;
+mod named_system;
+mod names;
+mod rewriting;
+mod scaled;
+mod term;
+
+pub use case::cases;
+pub use named_system::{NamedSystem, system};
+
+#[cfg(test)]
+mod tests;

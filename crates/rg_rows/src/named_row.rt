@@ -1,0 +1,17 @@
+//! A row with its name and its factor.
+ghost use Rattle.std.specs.Prelude.{All};
+ghost use Rattle.rg_integers.specs.Range.{InRange};
+
+use rg_cert::RowName;
+use rg_fraction::Fraction;
+
+/// A row over the columns: it is the named row times the factor, which is positive.
+#[derive(Drop)]
+pub(crate) struct NamedRow {
+    pub(crate) name: RowName,
+    pub(crate) coeffs: Vec<i128>,
+    pub(crate) constant: i128,
+    pub(crate) factor: Fraction,
+    pub ghost coeffs_in_range: { All InRange coeffs.items },
+    pub ghost constant_in_range: { InRange constant },
+}

@@ -1,0 +1,117 @@
+//! The system of a case.
+ghost use Rattle.std.specs.Prelude.{◌≡◌, ◌<◌, false, length, All, IsTrue, map, None, Ok, Err, IfOk, IsErrOf};
+ghost use Rattle.rg_theory.specs.System.{labels};
+ghost use Rattle.rg_fraction.specs.declared.term.Wide.{Wide};
+ghost use Rattle.rg_refuting.specs.Refutes.{IsAsked};
+ghost use Rattle.rg_refuting.specs.Row.{cases_of};
+ghost use Rattle.rg_spanning.specs.Spanning.{IsTreeOf};
+ghost use Rattle.rg_folds.specs.Rewriting.{CaseSystem, column_count, system_fold};
+ghost use Rattle.rg_folds.specs.Fold.{each};
+ghost use Rattle.rg_cycles.specs.View.{labels_of, cycle_of};
+ghost use Rattle.rg_cycles.specs.declared.substitution.FoldStop.TheVariants as stop;
+ghost use Rattle.rg_cert.specs.Trees.{row_name_of};
+ghost use Rattle.rg_rows.specs.View.{kept_row, AreColumns, AreNamesWithin, fold_of};
+ghost use Rattle.rg_rows.specs.Shown.{ShowsCase};
+
+use crate::case::ProblemCase;
+use crate::columns::Columns;
+use crate::expression::expression;
+use crate::kept::{NamedRows, firsts};
+use crate::named_row::NamedRow;
+use crate::names::names;
+use crate::rewriting::row;
+use rg_cert::RowName;
+use rg_cycles::{Basis, FoldStop};
+use rg_feasible::System;
+use rg_fraction::Fraction;
+use rg_lts::Lts;
+use rg_spanning::Tree;
+use rg_theory::{Class, Problem};
+use std::alloc::Global;
+
+/// A system of linear rows. Each row is a named row times a factor, which is positive: `names` and `factors`
+/// have one entry for each row, in order.
+#[derive(Drop)]
+pub struct NamedSystem {
+    pub system: System,
+    pub names: Vec<RowName>,
+    pub factors: Vec<Fraction>,
+}
+
+/// The system of a case of a problem, in a class neither plain nor bounded.
+///
+/// The columns are Start, the tokens of the initial state, where the class is pure, and the free labels with
+/// an arc, in order. The rows are those of the problem, `tokens` by state where Start is a column, and in an
+/// output-nonbranching class `makes` by label with an arc, but the consumer. Each is written over the columns by
+/// the way in the tree to each state and the relations of the basis, multiplied by the least common multiple of
+/// its denominators, and divided by the greatest common divisor of its numbers. A row without coefficients whose
+/// constant isn't negative is left out, and of equal rows the first stays.
+///
+/// `FoldStop::Wide` comes exactly where a step of this, row by row, is out of range, with the first such step;
+/// `FoldStop::NoMemory` where there is no memory. The steps have one result, so that a system that is given is
+/// the only one.
+pub fn system(
+    alloc: Global,
+    lts: &Lts,
+    tree: &Tree,
+    basis: &Basis,
+    class: Class,
+    problem: Problem,
+    case: u32,
+) -> Result<NamedSystem, FoldStop>
+    requires asked { IsAsked lts.now problem }
+    requires case { case < cases_of lts.now class problem }
+    requires not_plain { class.plain ≡ false }
+    requires unbounded { class.bound ≡ None }
+    requires tree { IsTreeOf lts.now tree.now }
+    requires labels { labels_of basis.now ≡ labels lts.now }
+    ensures system { IfOk result (λ named. (shown : CaseSystem) × system_fold lts.now tree.now.arcs (cycle_of basis.now) class problem case (Ok shown) × ShowsCase named shown) }
+    ensures wide { (w : Wide) → IsErrOf result (stop.Wide w) → system_fold lts.now tree.now.arcs (cycle_of basis.now) class problem case (Err w) }
+{
+    let case = ProblemCase {
+        class,
+        problem,
+        number: case,
+    };
+    let columns = Columns::new(alloc, lts, class)?;
+    let names = names(alloc, lts, case, &columns)?;
+    let all = rows(alloc, lts, tree, basis, &columns, case, &names)?;
+    let NamedRows {
+        rows,
+        names,
+        factors,
+    } = firsts(alloc, &all)?;
+    Ok(NamedSystem {
+        system: System::new(columns.count(basis), rows),
+        names,
+        factors,
+    })
+}
+
+// The named rows over the columns.
+fn rows(
+    alloc: Global,
+    lts: &Lts,
+    tree: &Tree,
+    basis: &Basis,
+    columns: &Columns,
+    case: ProblemCase,
+    names: &[RowName],
+) -> Result<Vec<NamedRow>, FoldStop>
+    requires tree { IsTreeOf lts.now tree.now }
+    requires labels { labels_of basis.now ≡ labels lts.now }
+    requires columns { AreColumns lts.now case.class columns.now }
+    requires consumer { IsTrue case.class.nonbranching → 0 < labels lts.now }
+    requires names { AreNamesWithin lts.now case.class case.problem case.number (map row_name_of names.now) }
+    ensures value { IfOk result (λ v. each (fold_of lts.now tree.now.arcs (cycle_of basis.now) case.class case.problem case.number) (map row_name_of names.now) (Ok (map kept_row v.items))) }
+    ensures one_each { IfOk result (λ v. All (λ r. length r.coeffs.items ≡ column_count lts.now (cycle_of basis.now) case.class) v.items) }
+    ensures few { IfOk result (λ v. length v.items ≡ length names.now) }
+    ensures wide { (w : Wide) → IsErrOf result (stop.Wide w) → each (fold_of lts.now tree.now.arcs (cycle_of basis.now) case.class case.problem case.number) (map row_name_of names.now) (Err w) }
+{
+    let mut rows = Vec::new(alloc);
+    for &name in names {
+        let expression = expression(alloc, lts, case, name)?;
+        rows.push(row(alloc, tree, basis, columns, name, &expression)?)?;
+    }
+    Ok(rows)
+}

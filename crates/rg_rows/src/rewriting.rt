@@ -1,0 +1,115 @@
+//! A named row, written over the columns.
+ghost use Rattle.std.specs.Prelude.{◌≡◌, ◌≤◌, ℕ, ◌<◌, ◌<ℤ◌, pos, ◌≤ℤ◌, map, length, All, ◌++◌, ◌∷◌, [], Ok, Err, IfOk, IsErrOf, unsigned_abs};
+ghost use Rattle.rg_integers.specs.Range.{InRange};
+ghost use Rattle.rg_theory.specs.declared.Class.{Class};
+ghost use Rattle.rg_theory.specs.System.{System, labels};
+ghost use Rattle.rg_fraction.specs.declared.term.Wide.{Wide};
+ghost use Rattle.rg_fraction.specs.Rows.{IsRowGcd};
+ghost use Rattle.rg_spanning.specs.Spanning.{IsTreeOf};
+ghost use Rattle.rg_folds.specs.Rewriting.{terms_fold, row_fold, IsDivided, column_count};
+ghost use Rattle.rg_cert.specs.Trees.{row_name_of};
+ghost use Rattle.rg_cycles.specs.View.{labels_of, cycle_of};
+ghost use Rattle.rg_cycles.specs.declared.substitution.FoldStop.TheVariants as stop;
+ghost use Rattle.rg_rows.specs.View.{AreColumns, IsTermWithin, term_of, expression_of, scaled_of, kept_row};
+
+use crate::columns::Columns;
+use crate::counts::{counts, start};
+use crate::denominators::without_denominators;
+use crate::named_row::NamedRow;
+use crate::scaled::Scaled;
+use crate::term::{Expression, Term};
+use rg_cert::RowName;
+use rg_cycles::{Basis, FoldStop, substitute};
+use rg_fraction::{Fraction, gcd, reduce};
+use rg_spanning::Tree;
+use std::alloc::Global;
+
+// The named row, whose expression this is.
+pub(crate) fn row(
+    alloc: Global,
+    tree: &Tree,
+    basis: &Basis,
+    columns: &Columns,
+    name: RowName,
+    expression: &Expression,
+) -> Result<NamedRow, FoldStop>
+    requires labels { tree.now.labels ≡ labels_of basis.now }
+    requires columns { length columns.now.used.items ≡ labels_of basis.now }
+    requires within { All (IsTermWithin tree.now.states) (expression_of expression.now).terms }
+    ensures value { IfOk result (λ r. (lts : System) (class : Class) → labels lts ≡ labels_of basis.now → AreColumns lts class columns.now → row_fold lts tree.now.arcs (cycle_of basis.now) class (row_name_of name) (expression_of expression.now) (Ok (kept_row r))) }
+    ensures one_each { IfOk result (λ r. (lts : System) (class : Class) → labels lts ≡ labels_of basis.now → AreColumns lts class columns.now → length r.coeffs.items ≡ column_count lts (cycle_of basis.now) class) }
+    ensures wide { (w : Wide) → IsErrOf result (stop.Wide w) → (lts : System) (class : Class) → labels lts ≡ labels_of basis.now → AreColumns lts class columns.now → row_fold lts tree.now.arcs (cycle_of basis.now) class (row_name_of name) (expression_of expression.now) (Err w) }
+{
+    let scaled = over_columns(alloc, tree, basis, columns, &expression.terms)?;
+    let multiple = Fraction::new(scaled.multiple, 1);
+    let constant = Fraction::new(expression.constant, 1).mul(multiple)?;
+    divided(name, scaled, constant.numerator())
+}
+
+// The terms over the columns, without denominators.
+fn over_columns(
+    alloc: Global,
+    tree: &Tree,
+    basis: &Basis,
+    columns: &Columns,
+    terms: &[Term],
+) -> Result<Scaled, FoldStop>
+    requires labels { tree.now.labels ≡ labels_of basis.now }
+    requires columns { length columns.now.used.items ≡ labels_of basis.now }
+    requires few { length terms.now ≤ 3 }
+    requires within { All (IsTermWithin tree.now.states) (map term_of terms.now) }
+    ensures value { IfOk result (λ s. (lts : System) (class : Class) → labels lts ≡ labels_of basis.now → AreColumns lts class columns.now → terms_fold lts tree.now.arcs (cycle_of basis.now) class (map term_of terms.now) (Ok (scaled_of s))) }
+    ensures one_each { IfOk result (λ s. (lts : System) (class : Class) → labels lts ≡ labels_of basis.now → AreColumns lts class columns.now → length s.numbers.items ≡ column_count lts (cycle_of basis.now) class) }
+    ensures wide { (w : Wide) → IsErrOf result (stop.Wide w) → (lts : System) (class : Class) → labels lts ≡ labels_of basis.now → AreColumns lts class columns.now → terms_fold lts tree.now.arcs (cycle_of basis.now) class (map term_of terms.now) (Err w) }
+{
+    let labels = columns.used.len() as u32;
+    let counts = counts(alloc, tree, labels, terms)?;
+    let free = substitute(alloc, basis, &counts)?;
+    let numbers = columns.pick(alloc, basis, start(terms), &free.coeffs)?;
+    without_denominators(alloc, &numbers)
+}
+
+// The numbers and the constant, divided by their greatest common divisor; zeros are not divided.
+fn divided(name: RowName, scaled: Scaled, constant: i128) -> Result<NamedRow, FoldStop>
+    requires { InRange constant }
+    ensures value { IfOk result (λ r. (r.name ≡ name) × IsDivided (scaled_of scaled) constant (kept_row r)) }
+    ensures one_each { IfOk result (λ r. length r.coeffs.items ≡ length scaled.numbers.items) }
+    ensures wide { (w : Wide) → IsErrOf result (stop.Wide w) → ⊥ }
+{
+    let multiple = scaled.multiple;
+    let mut numbers = scaled.numbers;
+    numbers.push(constant)?;
+    let divisor = row_divisor(&numbers);
+    reduce(&mut numbers);
+    let (coeffs, constant) = parted(numbers);
+    Ok(NamedRow {
+        name,
+        coeffs,
+        constant,
+        factor: Fraction::new(multiple, divisor.max(1)),
+    })
+}
+
+// The greatest common divisor of the numbers.
+fn row_divisor(numbers: &[i128]) -> i128
+    requires { All InRange numbers.now }
+    ensures value { IsRowGcd numbers.now (unsigned_abs result) }
+    ensures not_negative { pos 0 ≤ℤ result }
+    ensures in_range { InRange result }
+{
+    let mut divisor = 0;
+    for &number in numbers {
+        divisor = gcd(number, divisor);
+    }
+    divisor
+}
+
+// All numbers but the last, and the last.
+fn parted(numbers: Vec<i128>) -> (Vec<i128>, i128)
+    requires { 0 < length numbers.items }
+    ensures { result.0.items ++ result.1 ∷ [] ≡ numbers.items }
+{
+    let mut numbers = numbers;
+    let last = numbers.pop().unwrap_or(0);
+    (numbers, last)
+}
