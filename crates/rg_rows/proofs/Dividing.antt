@@ -55,9 +55,10 @@ written_back new old n same size = ap (λ l. take n (new ++ l)) (drop_all (lengt
 
 -- the numbers of a row and its constant are in range
 pub parts_in_range : (coeffs : List ℤ) (constant : ℤ) (new : List ℤ) (n : ℕ) → coeffs ++ constant ∷ [] ≡ new → length new ≡ n → ((k : ℕ) → k < n → InRange (number_at new k)) → All InRange coeffs × InRange constant
-parts_in_range coeffs constant new n parted size h =
-    ( (λ k d lt. subst InRange (get_or_append_left coeffs (constant ∷ []) d k lt) (all k d (let e = length-append coeffs (constant ∷ []) in omega arith)))
-    , subst InRange (get_or_push coeffs constant (pos 0) (length coeffs) refl) (all (length coeffs) (pos 0) (let e = length-append coeffs (constant ∷ []) in omega arith)))
+parts_in_range coeffs constant new n parted size h = (
+  (λ k d lt. subst InRange (get_or_append_left coeffs (constant ∷ []) d k lt) (all k d (let e = length-append coeffs (constant ∷ []) in omega arith))),
+  subst InRange (get_or_push coeffs constant (pos 0) (length coeffs) refl) (all (length coeffs) (pos 0) (let e = length-append coeffs (constant ∷ []) in omega arith)),
+)
   where
     all : All InRange (coeffs ++ constant ∷ [])
     all = subst (All InRange) (sym parted) (λ k d lt. subst InRange (get_or_default new k (pos 0) d lt) (h k (subst (λ m. k < m) size lt)))

@@ -126,9 +126,9 @@ module _ (lts : System) (class : Class) (problem : Problem) (number : ℕ) (colu
       g ∙ ap (λ l. l ++ (if class.nonbranching then map makes_row (makers columns.used.items (case_consumer lts problem number)) else [])) (f ∙ ap (λ l. l ++ (if columns.start then tokens else [])) e ∙ ap (λ b. problem_rows lts class problem ++ (if b then tokens else [])) are.start)
       ∙ ap (λ l. (problem_rows lts class problem ++ (if has_start class then tokens else [])) ++ (if class.nonbranching then map makes_row l else [])) (makers_are lts columns.used.items (case_consumer lts problem number) are.used)
       ∙ ap (λ l. l ++ makes) (sym (append-nil (problem_rows lts class problem ++ (if has_start class then tokens else [])))
-          ∙ ap (λ (o : Option ℕ). problem_rows lts class problem ++ (if has_start class then tokens else []) ++ (if is_some o then caps else [])) (sym unbounded)
-          ∙ sym (append-nil (problem_rows lts class problem ++ (if has_start class then tokens else []) ++ (if is_some class.bound then caps else [])))
-          ∙ ap (λ b. problem_rows lts class problem ++ (if has_start class then tokens else []) ++ (if is_some class.bound then caps else []) ++ (if b then sides else [])) (sym not_plain))
+      ∙ ap (λ (o : Option ℕ). problem_rows lts class problem ++ (if has_start class then tokens else []) ++ (if is_some o then caps else [])) (sym unbounded)
+      ∙ sym (append-nil (problem_rows lts class problem ++ (if has_start class then tokens else []) ++ (if is_some class.bound then caps else [])))
+      ∙ ap (λ b. problem_rows lts class problem ++ (if has_start class then tokens else []) ++ (if is_some class.bound then caps else []) ++ (if b then sides else [])) (sym not_plain))
     where
       tokens : List RowName
       tokens = map tokens_row (all_numbers (states lts))

@@ -34,7 +34,8 @@ const PURE_NONBRANCHING: Class = Class {
 };
 
 // Each of two users is idle, asks for the lock, gets it and puts it back.
-const LOCK: &str = "ii ask1 wi, ii ask2 iw, iw ask1 ww, iw get2 ic, ic ask1 wc, ic put2 ii, wi get1 ci, wi ask2 ww, ww get1 cw, ww get2 wc, wc put2 wi, ci put1 ii, ci ask2 cw, cw put1 iw";
+const LOCK: &str =
+    "ii ask1 wi, ii ask2 iw, iw ask1 ww, iw get2 ic, ic ask1 wc, ic put2 ii, wi get1 ci, wi ask2 ww, ww get1 cw, ww get2 wc, wc put2 wi, ci put1 ii, ci ask2 cw, cw put1 iw";
 
 // The system with these arcs, each as two states with a label between. States and labels are numbered in
 // the order in which they come; the first state is the initial one.
@@ -146,7 +147,11 @@ fn text_of(alloc: Global, cases: u32, named: &NamedSystem) -> Result<String, All
         let constant = row.constant;
         let top = factor.numerator();
         let bottom = factor.denominator();
-        write!(text, "; {:?} {:?} {constant} {top}/{bottom}", name, row.coeffs)?;
+        write!(
+            text,
+            "; {:?} {:?} {constant} {top}/{bottom}",
+            name, row.coeffs
+        )?;
     }
     Ok(text)
 }
@@ -184,7 +189,16 @@ fn states_in_the_class_pure(rt: HostRuntime) -> Result<(), Fail> {
 #[test]
 fn event_in_the_class_none(rt: HostRuntime) -> Result<(), Fail> {
     let rows = "1 2; Stop(0) [-1, 0] -1 1/1; Stop(2) [0, 1] -1 1/1";
-    assert!(rt; agrees(rt.alloc(), "s0 a s1, s1 b s2, s2 a s3", NONE, Event(1, 0), 0, rows)?);
+    assert!(rt;
+        agrees(
+            rt.alloc(),
+            "s0 a s1, s1 b s2, s2 a s3",
+            NONE,
+            Event(1, 0),
+            0,
+            rows
+        )?
+    );
     Ok(())
 }
 
@@ -199,14 +213,33 @@ fn states_in_the_class_none(rt: HostRuntime) -> Result<(), Fail> {
 #[test]
 fn states_output_nonbranching(rt: HostRuntime) -> Result<(), Fail> {
     let rows = "4 2; Apart [1, -1] -1 1/1; Makes(0) [1, 0] 0 1/1";
-    assert!(rt; agrees(rt.alloc(), "s0 a s1, s0 b s2", NONBRANCHING, States(1, 2), 3, rows)?);
+    assert!(rt;
+        agrees(
+            rt.alloc(),
+            "s0 a s1, s0 b s2",
+            NONBRANCHING,
+            States(1, 2),
+            3,
+            rows
+        )?
+    );
     Ok(())
 }
 
 #[test]
 fn event_pure_and_output_nonbranching(rt: HostRuntime) -> Result<(), Fail> {
-    let rows = "1 3; Block [-1, -2, 0] -1 1/1; Tokens(0) [1, 0, 0] 0 1/1; Tokens(1) [1, 1, 0] 0 1/1; Tokens(2) [1, 0, 1] 0 1/1; Makes(1) [0, 0, 1] 0 1/1";
-    assert!(rt; agrees(rt.alloc(), "s0 a s1, s0 b s2", PURE_NONBRANCHING, Event(1, 0), 0, rows)?);
+    let rows =
+        "1 3; Block [-1, -2, 0] -1 1/1; Tokens(0) [1, 0, 0] 0 1/1; Tokens(1) [1, 1, 0] 0 1/1; Tokens(2) [1, 0, 1] 0 1/1; Makes(1) [0, 0, 1] 0 1/1";
+    assert!(rt;
+        agrees(
+            rt.alloc(),
+            "s0 a s1, s0 b s2",
+            PURE_NONBRANCHING,
+            Event(1, 0),
+            0,
+            rows
+        )?
+    );
     Ok(())
 }
 
@@ -214,7 +247,16 @@ fn event_pure_and_output_nonbranching(rt: HostRuntime) -> Result<(), Fail> {
 #[test]
 fn a_row_is_divided(rt: HostRuntime) -> Result<(), Fail> {
     let rows = "4 1; Apart [2] -1 1/1; Makes(0) [1] 0 1/2";
-    assert!(rt; agrees(rt.alloc(), "s0 a s1, s0 b s2, s2 b s1", NONBRANCHING, States(0, 1), 1, rows)?);
+    assert!(rt;
+        agrees(
+            rt.alloc(),
+            "s0 a s1, s0 b s2, s2 b s1",
+            NONBRANCHING,
+            States(0, 1),
+            1,
+            rows
+        )?
+    );
     Ok(())
 }
 
@@ -222,7 +264,16 @@ fn a_row_is_divided(rt: HostRuntime) -> Result<(), Fail> {
 #[test]
 fn a_row_is_multiplied(rt: HostRuntime) -> Result<(), Fail> {
     let rows = "2 1; Apart [-1] -2 2/1";
-    assert!(rt; agrees(rt.alloc(), "s0 a s1, s1 a s2, s2 b s0", NONE, States(0, 1), 0, rows)?);
+    assert!(rt;
+        agrees(
+            rt.alloc(),
+            "s0 a s1, s1 a s2, s2 b s0",
+            NONE,
+            States(0, 1),
+            0,
+            rows
+        )?
+    );
     Ok(())
 }
 
@@ -230,7 +281,16 @@ fn a_row_is_multiplied(rt: HostRuntime) -> Result<(), Fail> {
 #[test]
 fn idle_and_equal_rows_are_left_out(rt: HostRuntime) -> Result<(), Fail> {
     let rows = "4 2; Apart [0, 0] -1 1/1; Tokens(0) [1, 0] 0 1/1; Tokens(1) [1, 1] 0 1/1";
-    assert!(rt; agrees(rt.alloc(), "s0 a s0, s0 b s1, s1 a s2", PURE_NONBRANCHING, States(1, 2), 1, rows)?);
+    assert!(rt;
+        agrees(
+            rt.alloc(),
+            "s0 a s0, s0 b s1, s1 a s2",
+            PURE_NONBRANCHING,
+            States(1, 2),
+            1,
+            rows
+        )?
+    );
     Ok(())
 }
 

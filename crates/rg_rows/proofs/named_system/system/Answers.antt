@@ -31,9 +31,9 @@ new-requires-2 c =
     let high : labels lts ≤ 256 = c.in_ok-columns.ensures.well_formed.few_labels in
     let few : c.count.result + length all < 2 ^ 32 = omega arith in
     well_formed c.count.result all c.in_ok-rows.field-0.rows.items kept shows.rows
-        (subst (λ l. KeepsFirsts (λ k. k.row) IsIdle [] (map kept_row l) kept) c.deref-2.ensures.value firsts)
-        (subst (λ n. All (λ r. length r.coeffs.items ≡ n) all) (sym columns) c.in_ok-all.ensures.one_each)
-        few
+    (subst (λ l. KeepsFirsts (λ k. k.row) IsIdle [] (map kept_row l) kept) c.deref-2.ensures.value firsts)
+    (subst (λ n. All (λ r. length r.coeffs.items ≡ n) all) (sym columns) c.in_ok-all.ensures.one_each)
+    few
 
 pub returns-clause-system : goal.returns-clause-system
 returns-clause-system c =
@@ -42,7 +42,8 @@ returns-clause-system c =
     let (kept, shows, firsts) = c.in_ok-rows.ensures in
     let shown : CaseSystem = record { columns = c.count.result; kept = kept; forms = [] } in
     let columns = c.count.ensures lts c.args.class (sym c.requires.labels) c.in_ok-columns.ensures.columns in
-    let named = ap (map row_name_of) c.deref.ensures.value ∙ c.in_ok-names.ensures in
-    ( shown
-    , case_made lts c.args.tree.now.arcs (cycle_of c.args.basis.now) c.args.class c.args.problem c.args.case (map row_name_of c.deref.result.now) named c.requires.not_plain c.requires.unbounded (map kept_row all) shown c.in_ok-all.ensures.value columns (subst (λ l. KeepsFirsts (λ k. k.row) IsIdle [] (map kept_row l) kept) c.deref-2.ensures.value firsts) refl
-    , record { system = c.new-2.ensures ∙ (λ i. record { columns = c.count.result; rows = shows.rows i }); names = shows.names; factors = shows.factors; forms = refl })
+    let named = ap (map row_name_of) c.deref.ensures.value ∙ c.in_ok-names.ensures in (
+      shown,
+      case_made lts c.args.tree.now.arcs (cycle_of c.args.basis.now) c.args.class c.args.problem c.args.case (map row_name_of c.deref.result.now) named c.requires.not_plain c.requires.unbounded (map kept_row all) shown c.in_ok-all.ensures.value columns (subst (λ l. KeepsFirsts (λ k. k.row) IsIdle [] (map kept_row l) kept) c.deref-2.ensures.value firsts) refl,
+      record { system = c.new-2.ensures ∙ (λ i. record { columns = c.count.result; rows = shows.rows i }); names = shows.names; factors = shows.factors; forms = refl },
+    )

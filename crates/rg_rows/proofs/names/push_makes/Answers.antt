@@ -12,7 +12,7 @@ loop-u-preserved c =
     elim c.if-used-u.branch [
       | then-used-u+then-u-consumer+in_ok-push w ↦ rw (w.names-is, map_push row_name_of c.loop-u.names.items w.push.new.self.items _ w.in_ok-push.ensures.items) (name_taken makes_row (λ u. slice_index_or c.args.used.now u false && not (u == c.args.consumer)) c.loop-u.u (length c.args.used.now) (map row_name_of c.loop-u.names.items) _ c.loop-u.invariant lt (makes_test _ c.loop-u.u c.args.consumer w.if-used-u.true w.if-u-consumer.true))
       | else-used-u w ↦ rw w.names-is (name_left makes_row (λ u. slice_index_or c.args.used.now u false && not (u == c.args.consumer)) c.loop-u.u (length c.args.used.now) (map row_name_of c.loop-u.names.items) _ c.loop-u.invariant lt (elim w.else-used-u.branch [
-          | else-used-u-via-then-used-u+else-u-consumer w' ↦ consumer_test _ c.loop-u.u c.args.consumer w'.if-u-consumer.false
-          | else-used-u-via-else-used-u w' ↦ ap (λ b. b && not (c.loop-u.u == c.args.consumer)) w'.if-used-u.false
-        ]))
+        | else-used-u-via-then-used-u+else-u-consumer w' ↦ consumer_test _ c.loop-u.u c.args.consumer w'.if-u-consumer.false
+        | else-used-u-via-else-used-u w' ↦ ap (λ b. b && not (c.loop-u.u == c.args.consumer)) w'.if-used-u.false
+      ]))
     ]

@@ -41,9 +41,11 @@ returns-clause-value c =
     let fits : InRange (pos (max g 1)) = let s : g < 2 ^ 127 = small in omega (arith, ints) in
     let most = back c.max.result (subst InRange (sym size) fits) ∙ size in
     let value = subst (λ z. IsValue c.new.result z (pos (max g 1))) (back c.args.scaled.multiple c.args.scaled.multiple_in_range) (subst (λ z. IsValue c.new.result (cast_signed w128 (cast_unsigned w128 c.args.scaled.multiple)) z) most c.new.ensures) in
-    let positive : pos 0 <ℤ pos (max g 1) = omega (arith, ints) in
-    (refl, row_divided (scaled_of c.args.scaled) c.args.constant new g h _
-        (subst (λ l. IsRowGcd l g) (c.deref.ensures.value ∙ items) c.row_divisor-divisor.ensures.value)
-        (subst (λ l. IsPrimitivePart l new h) (given ∙ items) part)
-        (ap (λ z. c.parted-coeffs.result.0.items ++ z ∷ []) (back c.parted-coeffs.result.1 constant) ∙ parted)
-        (new_step c.new.result c.args.scaled.multiple (pos (max g 1)) (positive_differs (pos (max g 1)) positive) value))
+    let positive : pos 0 <ℤ pos (max g 1) = omega (arith, ints) in (
+      refl,
+      row_divided (scaled_of c.args.scaled) c.args.constant new g h _
+          (subst (λ l. IsRowGcd l g) (c.deref.ensures.value ∙ items) c.row_divisor-divisor.ensures.value)
+          (subst (λ l. IsPrimitivePart l new h) (given ∙ items) part)
+          (ap (λ z. c.parted-coeffs.result.0.items ++ z ∷ []) (back c.parted-coeffs.result.1 constant) ∙ parted)
+          (new_step c.new.result c.args.scaled.multiple (pos (max g 1)) (positive_differs (pos (max g 1)) positive) value),
+    )

@@ -43,11 +43,11 @@ loop-label-preserved c =
     let below = free_below (labels_of c.args.basis.now) (cycle_of c.args.basis.now) c.loop-label.label-index lt in
     elim c.if-index.branch [
       | then-index w ↦ rw w.count-is (record {
-          total = λ lts class same are. count_taken (λ t. has_label t lts.arcs) free c.loop-label.label-index c.loop-label.count _ (c.loop-label.invariant.total lts class same are) lt (used_is lts class c.args.self.now are label c.index.result.now (subst (λ n. label < n) (sym same) below) read ∙ w.if-index.true);
-          few = omega arith;
-        })
+        total = λ lts class same are. count_taken (λ t. has_label t lts.arcs) free c.loop-label.label-index c.loop-label.count _ (c.loop-label.invariant.total lts class same are) lt (used_is lts class c.args.self.now are label c.index.result.now (subst (λ n. label < n) (sym same) below) read ∙ w.if-index.true);
+        few = omega arith;
+      })
       | else-index w ↦ rw w.count-is (record {
-          total = λ lts class same are. count_left (λ t. has_label t lts.arcs) free c.loop-label.label-index c.loop-label.count _ (c.loop-label.invariant.total lts class same are) lt (used_is lts class c.args.self.now are label c.index.result.now (subst (λ n. label < n) (sym same) below) read ∙ w.if-index.false);
-          few = omega arith;
-        })
+        total = λ lts class same are. count_left (λ t. has_label t lts.arcs) free c.loop-label.label-index c.loop-label.count _ (c.loop-label.invariant.total lts class same are) lt (used_is lts class c.args.self.now are label c.index.result.now (subst (λ n. label < n) (sym same) below) read ∙ w.if-index.false);
+        few = omega arith;
+      })
     ]
