@@ -1,0 +1,79 @@
+-- The numbers of the states that a label leaves, state by state; and which labels have an arc.
+use Rattle.std.proofs.Common.{◌≡◌, ⊎_elim, Option, Some, None, is_some, IfSome, IfNone, ℕ, ◌+◌, ◌-◌, ◌<◌, ◌≤◌, ◌==◌, Bool, set, eq-eqb, eqb-true, true, false, if◌then◌else◌, List, [], ◌∷◌, ◌++◌, length, map, take, slice_index_or, ap, refl, sym, ◌∙◌, arith, append_assoc}
+use Rattle.std.proofs.lemmas.Bool.{cases_Bool, true≢false}
+use Rattle.std.proofs.lemmas.List.{append-nil, take_more, get_or-set_other}
+use Rattle.std.proofs.lemmas.Grind.{get_or-set_at}
+use Rattle.rg_theory.specs.declared.Arc.{Arc}
+use Rattle.rg_theory.specs.System.{System, HasArc}
+use Rattle.rg_folds.specs.Fold.{Ratio}
+use Rattle.rg_folds.specs.Rewriting.{numbers_where, has_label, has_label_at}
+use Rattle.rg_cycles.proofs.Folding.{where_taken, where_left, where_ends}
+use Rattle.rg_meaning.proofs.Names.{found_at}
+use Rattle.rg_meaning.proofs.LeftOut.{finds_at}
+
+-- ---- the numbers that pass a test
+
+-- the values of those that pass from s on, behind these, are the values of all
+abbrev pub LeftFrom : (ℕ → Bool) → (ℕ → Ratio) → ℕ → ℕ → List Ratio → Type 0
+LeftFrom test f n s xs = xs ++ map f (numbers_where test s (n - s)) ≡ map f (numbers_where test 0 n)
+
+module _ (test : ℕ → Bool) (f : ℕ → Ratio) (n : ℕ) where
+  pub left_start : LeftFrom test f n 0 []
+  left_start = ap (λ k. map f (numbers_where test 0 k)) (same n)
+    where
+      same : (k : ℕ) → k - 0 ≡ k
+      same k = omega arith
+
+  module _ (s : ℕ) (xs : List Ratio) (left : LeftFrom test f n s xs) where
+    pub left_taken : s < n → test s ≡ true → LeftFrom test f n (s + 1) (xs ++ f s ∷ [])
+    left_taken lt e = append_assoc xs (f s ∷ []) (map f (numbers_where test (s + 1) (n - (s + 1)))) ∙ ap (λ l. xs ++ map f l) (sym (where_taken test s n lt e)) ∙ left
+
+    pub left_passed : s < n → test s ≡ false → LeftFrom test f n (s + 1) xs
+    left_passed lt e = ap (λ l. xs ++ map f l) (sym (where_left test s n lt e)) ∙ left
+
+    pub left_end : n ≤ s → xs ≡ map f (numbers_where test 0 n)
+    left_end past = sym (append-nil xs) ∙ ap (λ l. xs ++ map f l) (sym (where_ends test s n past)) ∙ left
+
+-- where no arc of the label leaves the state
+pub none_at : (lts : System) (q t : ℕ) → ((q' : ℕ) → ¬ HasArc lts q t q') → has_label_at q t lts.arcs ≡ false
+none_at lts q t none = go (has_label_at q t lts.arcs) refl
+  where
+    go : (b : Bool) → has_label_at q t lts.arcs ≡ b → b ≡ false
+    go true e = let (q', has) = found_at q t lts.arcs e in absurd (none q' has)
+    go false e = refl
+
+-- ---- labels with an arc
+
+-- one arc more
+label_more : (t : ℕ) (arcs : List Arc) (a : Arc) → has_label t (arcs ++ a ∷ []) ≡ (if a.label == t then true else has_label t arcs)
+label_more t [] a = refl
+label_more t (b ∷ arcs) a = ap (λ x. if b.label == t then true else x) (label_more t arcs a) ∙ swap (b.label == t) (a.label == t) (has_label t arcs)
+  where
+    swap : (x y z : Bool) → (if x then true else (if y then true else z)) ≡ (if y then true else (if x then true else z))
+    swap true true z = refl
+    swap true false z = refl
+    swap false true z = refl
+    swap false false z = refl
+
+-- the next arc, whose label is then marked
+pub label_next : (t i : ℕ) (arcs : List Arc) (a : Arc) → i < length arcs → a ≡ slice_index_or arcs i a → has_label t (take (i + 1) arcs) ≡ (if a.label == t then true else has_label t (take i arcs))
+label_next t i arcs a lt at = ap (has_label t) (take_more arcs i a lt) ∙ ap (λ b. has_label t (take i arcs ++ b ∷ [])) (sym at) ∙ label_more t (take i arcs) a
+
+-- the marks of the labels of the arcs so far
+pub marked_next : (used : List Bool) (arcs : List Arc) (i n : ℕ) (a : Arc) → i < length arcs → a ≡ slice_index_or arcs i a → a.label < length used → ((t : ℕ) → t < n → slice_index_or used t false ≡ has_label t (take i arcs)) → (t : ℕ) → t < n → slice_index_or (set used a.label true) t false ≡ has_label t (take (i + 1) arcs)
+marked_next used arcs i n a lt at within so_far t below = ⊎_elim here other (cases_Bool (a.label == t)) ∙ sym (label_next t i arcs a lt at)
+  where
+    here : (a.label == t) ≡ true → slice_index_or (set used a.label true) t false ≡ (if a.label == t then true else has_label t (take i arcs))
+    here e = get_or-set_at used a.label t true false (sym (eqb-true a.label t e)) within ∙ sym (ap (λ b. if b then true else has_label t (take i arcs)) e)
+
+    other : (a.label == t) ≡ false → slice_index_or (set used a.label true) t false ≡ (if a.label == t then true else has_label t (take i arcs))
+    other e = get_or-set_other used a.label t true false (λ same. true≢false (sym (eq-eqb a.label t (sym same)) ∙ e)) ∙ so_far t below ∙ sym (ap (λ b. if b then true else has_label t (take i arcs)) e)
+
+-- what the first target of the label at a state tells
+pub some_at : (lts : System) (q t : ℕ) (o : Option ℕ) → is_some o ≡ true → IfSome o (λ to. HasArc lts q t to) → has_label_at q t lts.arcs ≡ true
+some_at lts q t None e has = absurd (true≢false (sym e))
+some_at lts q t (Some to) e has = finds_at q t lts.arcs to has
+
+pub nothing_at : (lts : System) (q t : ℕ) (o : Option ℕ) → is_some o ≡ false → IfNone o ((to : ℕ) → ¬ HasArc lts q t to) → has_label_at q t lts.arcs ≡ false
+nothing_at lts q t None e none = none_at lts q t none
+nothing_at lts q t (Some to) e none = absurd (true≢false e)

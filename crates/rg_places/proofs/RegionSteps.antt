@@ -1,0 +1,66 @@
+-- The place of a point that solves a case, as code keeps it.
+use Rattle.std.proofs.Common.{◌≡◌, ℕ, zero, suc, ◌≤◌, IsNone, List, [], ◌∷◌, length, map, All, unsigned_abs, Result, Ok, Err, ap, refl, sym, subst, ◌∙◌}
+use Rattle.std.specs.Prelude.{false, slice_index, IfOk}
+use Rattle.std.proofs.Math.Path.{fun_ext}
+use Rattle.std.proofs.lemmas.List.{length-map, get_or_default}
+use Rattle.rg_theory.specs.declared.Arc.{Arc}
+use Rattle.rg_theory.specs.declared.Class.{Class}
+use Rattle.rg_theory.specs.declared.Problem.{Problem}
+use Rattle.rg_theory.specs.System.{System, states, labels}
+use Rattle.rg_theory.specs.Region.{RegionIn}
+use Rattle.rg_theory.specs.Problem.{Separates}
+use Rattle.rg_fraction.specs.declared.fraction.Fraction.{Fraction}
+use Rattle.rg_linear.specs.Cycle.{CycleBasis}
+use Rattle.rg_net.specs.Range.{largest}
+use Rattle.rg_net.specs.Shown.{shown_place}
+use Rattle.rg_folds.specs.Fold.{Ratio}
+use Rattle.rg_folds.specs.Rewriting.{column_count}
+use Rattle.rg_folds.specs.Placing.{place_fold}
+use Rattle.rg_folds.specs.Shown.{IsLive}
+use Rattle.rg_folds.proofs.FoldLemmas.{ok_is}
+use Rattle.rg_places.specs.Places.{numbers_fold, tokens_of, PlaceIsMade}
+use Rattle.rg_places.specs.PointValues.{point_start, point_value, SolvesCase}
+use Rattle.rg_places.specs.RegionPlaces.{region_tokens, IsRegionPlace, PlaceSeparates}
+use Rattle.rg_places.specs.declared.region_place.RegionPlace.{RegionPlace}
+use Rattle.rg_places.proofs.Points.{point_makes}
+use Rattle.rg_places.proofs.PointPlaces.{at_point}
+use Rattle.rg_places.proofs.PlaceSteps.{numbers_one, weights_of_all}
+
+tokens_in : (numbers : List Ratio) (s : ℕ) → slice_index (map (λ n. unsigned_abs n.top) numbers) s ≡ tokens_of numbers s
+tokens_in [] s = refl
+tokens_in (n ∷ numbers) zero = refl
+tokens_in (n ∷ numbers) (suc s) = tokens_in numbers s
+
+module _ (lts : System) (tree : List Arc) (basis : CycleBasis) (class : Class) (problem : Problem) (point : List Fraction) (r : RegionPlace) (numbers : List Ratio) where
+  region_of : numbers_fold lts tree basis class (point_start class point) (point_value lts basis class point) (Ok numbers) → r.tokens.items ≡ map (λ n. unsigned_abs n.top) numbers → length numbers ≡ states lts → (length r.place.pre.items ≡ labels lts) × (length r.place.post.items ≡ labels lts) → PlaceIsMade lts tree basis class problem (point_start class point) (point_value lts basis class point) (shown_place r.place) → IsRegionPlace lts class r × PlaceSeparates problem r
+  region_of made tokens count (pre, post) m = (
+    record {
+      states = ap length tokens ∙ length-map numbers (λ n. unsigned_abs n.top) ∙ count;
+      pre = pre;
+      post = post;
+      region = subst (RegionIn lts class (shown_place r.place)) (sym same) m.region;
+      in_range = record { start = m.fit.start; pre = m.fit.pre; post = m.fit.post };
+      few_tokens = few;
+    },
+    subst (λ f. Separates (shown_place r.place) f problem) (sym same) m.separates,
+  )
+    where
+      one_list : m.numbers ≡ numbers
+      one_list = ok_is m.numbers numbers ((numbers_one lts tree basis class (point_start class point) (point_value lts basis class point)).one (Ok m.numbers) (Ok numbers) m.made made)
+
+      at : (s : ℕ) → region_tokens r s ≡ tokens_of m.numbers s
+      at s = ap (λ l. slice_index l s) tokens ∙ tokens_in numbers s ∙ ap (λ l. tokens_of l s) (sym one_list)
+
+      same : region_tokens r ≡ tokens_of m.numbers
+      same = fun_ext at
+
+      few : All (λ n. n ≤ largest) r.tokens.items
+      few k d lt = subst (λ n. n ≤ largest) (sym (get_or_default r.tokens.items k d 0 lt ∙ at k)) (m.fit.tokens k)
+
+  pub region_made : length point ≡ column_count lts basis class → class.plain ≡ false → IsNone class.bound → IsLive lts problem → SolvesCase lts tree basis class problem point → numbers_fold lts tree basis class (point_start class point) (point_value lts basis class point) (Ok numbers) → place_fold lts tree basis class problem (point_start class point) (point_value lts basis class point) (Ok (shown_place r.place)) → r.tokens.items ≡ map (λ n. unsigned_abs n.top) numbers → length numbers ≡ states lts → IsRegionPlace lts class r × PlaceSeparates problem r
+  region_made columns plain bound live s made fold tokens count = region_of made tokens count (weights_of_all lts tree basis class problem (point_start class point) (point_value lts basis class point) (shown_place r.place) fold)
+      (point_makes lts tree basis class problem s.number s.case s.scale s.v (point_start class point) (point_value lts basis class point) (shown_place r.place) plain bound s.of_case live s.is_point s.meets (at_point lts basis class point columns s.scale s.v s.values) fold)
+
+pub if_both : {X E : Type 0} (P Q R : X → Type 0) (r : Result X E) → ((x : X) → P x → Q x → R x) → IfOk r P → IfOk r Q → IfOk r R
+if_both P Q R (Ok x) f p q = f x p q
+if_both P Q R (Err e) f p q = tt

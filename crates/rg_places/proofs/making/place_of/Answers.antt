@@ -1,0 +1,36 @@
+use Rattle.std.proofs.Common.{rules, ◌≡◌, ◌<◌, ◌≤◌, Err, ap, length, unsigned_abs, refl, sym, subst, ◌∙◌, arith}
+use Rattle.std.proofs.lemmas.List.{length-map, get_or_read}
+use Rattle.rg_fraction.specs.Fractions.{numerator_of}
+use Rattle.rg_cycles.specs.declared.substitution.FoldStop.TheVariants as stop
+use Rattle.rg_net.specs.Shown.{shown_place}
+use Rattle.rg_places.specs.PointValues.{ratios_of}
+use Rattle.rg_places.proofs.WeightSteps.{tokens_at, tokens_are, pre_length, put_fails, place_done}
+use Rattle.rg_places.proofs.making.place_of.Goals as goal
+
+pub put-requires-clause-lengths : goal.put-requires-clause-lengths
+put-requires-clause-lengths c =
+    let pre = pre_length c.args.lts.now c.args.class c.args.problem (ratios_of c.args.found.now) (ratios_of c.args.numbers.now) c.in_ok-taken.taken.items c.in_ok-taken.ensures.value in
+    let found = c.requires.found in
+    let le : length c.in_ok-taken.taken.items ≤ length c.args.found.now = omega arith in
+    rw c.deref.ensures.value le
+
+pub returns-in_err-put-clause-wide : goal.returns-in_err-put-clause-wide
+returns-in_err-put-clause-wide c = λ w e.
+    let same : c.from_residual-in_err-put.result ≡ Err c.in_err-put.field-0.0 = search rules in
+    let is : c.in_err-put.field-0.0 ≡ stop.Wide w = cc in
+    let made = rw c.deref.ensures.value at (c.put.ensures.wide w (rw (c.in_err-put.was, is) refl)) in
+    put_fails c.args.lts.now c.args.class c.args.problem (ratios_of c.args.found.now) (ratios_of c.args.numbers.now) c.in_ok-taken.taken.items c.in_ok-taken.ensures.value w made
+
+pub returns-clause-place : goal.returns-clause-place
+returns-clause-place c =
+    let made = rw c.deref.ensures.value at c.in_ok-put.ensures.value in
+    let pre = rw c.deref-2.ensures.value at c.in_ok-pre.ensures in
+    let post = rw c.deref-3.ensures.value at c.in_ok-post.ensures in
+    let count = ap length c.in_ok-tokens.ensures ∙ length-map c.args.numbers.now (λ n. unsigned_abs (numerator_of n)) ∙ c.requires.numbers in
+    let lt = subst (λ n. c.initial.result < n) (sym count) c.initial.ensures.in_range in
+    let start = get_or_read c.in_ok-tokens.tokens.items c.initial.result _ lt c.index-start.ensures 0 in
+    let at = rw (c.in_ok-tokens.ensures, c.initial.ensures.value) at start in
+    place_done c.args.lts.now c.args.class c.args.problem (ratios_of c.args.found.now) (ratios_of c.args.numbers.now) c.in_ok-taken.taken.items c.in_ok-taken.ensures.value c.in_ok-put.put.items (shown_place (record { start = c.index-start.result.now; pre = c.in_ok-pre.pre; post = c.in_ok-post.post })) made (at ∙ tokens_at c.args.numbers.now c.args.lts.now.initial) pre post
+
+pub returns-clause-tokens : goal.returns-clause-tokens
+returns-clause-tokens c = c.in_ok-tokens.ensures ∙ tokens_are c.args.numbers.now

@@ -1,0 +1,4 @@
+pub mod Places
+pub mod PointValues
+pub mod RegionPlaces
+pub mod Steps

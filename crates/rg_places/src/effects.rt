@@ -1,0 +1,95 @@
+//! The effects of all labels, from those of the columns.
+ghost use Rattle.std.specs.Prelude.{◌≡◌, ◌<◌, pos, length, All, Ok, Err, IfOk, IsErrOf};
+ghost use Rattle.rg_theory.specs.System.{System, labels};
+ghost use Rattle.rg_fraction.specs.declared.term.Wide.{Wide};
+ghost use Rattle.rg_folds.specs.Fold.{each, joined, add, whole, ratio_of, shown_result};
+ghost use Rattle.rg_folds.specs.Rewriting.{all_numbers};
+ghost use Rattle.rg_folds.specs.Placing.{effect_fold};
+ghost use Rattle.rg_cycles.specs.declared.substitution.FoldStop.TheVariants as stop;
+ghost use Rattle.rg_cycles.specs.Basis.{IsRelationInRange};
+ghost use Rattle.rg_cycles.specs.View.{labels_of, cycle_of};
+ghost use Rattle.rg_places.specs.PointValues.{ratios_of};
+ghost use Rattle.rg_places.specs.Steps.{AreUsed, AreColumns, value_by, column_share, used_effect_fold};
+
+use crate::columns::Column;
+use rg_cycles::{Basis, FoldStop, Relation};
+use rg_fraction::{Fraction, Wide};
+use rg_lts::Lts;
+use std::alloc::Global;
+
+// The effects of the labels, in order. A label without an arc has the effect 0.
+pub(crate) fn effects(
+    alloc: Global,
+    lts: &Lts,
+    basis: &Basis,
+    used: &[bool],
+    columns: &[Column],
+) -> Result<Vec<Fraction>, FoldStop>
+    requires labels { labels_of basis.now ≡ labels lts.now }
+    requires used { AreUsed lts.now used.now }
+    requires columns { AreColumns lts.now (cycle_of basis.now) columns.now }
+    ensures value { IfOk result (λ effects. each (effect_fold lts.now (cycle_of basis.now) (value_by columns.now)) (all_numbers (labels lts.now)) (Ok (ratios_of effects.items))) }
+    ensures wide { (w : Wide) → IsErrOf result (stop.Wide w) → each (effect_fold lts.now (cycle_of basis.now) (value_by columns.now)) (all_numbers (labels lts.now)) (Err w) }
+{
+    let mut effects = Vec::new(alloc);
+    for t in 0..lts.labels() {
+        let effect = if used[t as usize] {
+            effect(basis, columns, t)?
+        } else {
+            Fraction::new(0, 1)
+        };
+        effects.push(effect)?;
+    }
+    Ok(effects)
+}
+
+// The effect of label t, which has an arc.
+fn effect(basis: &Basis, columns: &[Column], t: u32) -> Result<Fraction, Wide>
+    requires label { t < labels_of basis.now }
+    requires columns { (lts : System) × (labels lts ≡ labels_of basis.now) × AreColumns lts (cycle_of basis.now) columns.now }
+    ensures { (lts : System) → labels lts ≡ labels_of basis.now → AreColumns lts (cycle_of basis.now) columns.now → used_effect_fold lts (cycle_of basis.now) (value_by columns.now) t (shown_result ratio_of result) }
+{
+    match basis.relation(t) {
+        Some(relation) => sum_of_shares(relation, columns),
+        None => Ok(value_of(columns, t)),
+    }
+}
+
+// The value of a free label, 0 where it is no column.
+fn value_of(columns: &[Column], t: u32) -> Fraction
+    ensures { ratio_of result ≡ value_by columns.now t }
+{
+    for column in columns {
+        if column.label == t {
+            return column.value;
+        }
+    }
+    Fraction::new(0, 1)
+}
+
+// The effect of a label with this relation: what the free labels add to it.
+fn sum_of_shares(relation: &Relation, columns: &[Column]) -> Result<Fraction, Wide>
+    requires in_range { IsRelationInRange relation.now }
+    requires places { All (λ c. c.place < length relation.now.free.items) columns.now }
+    ensures { joined add (column_share relation.now) (whole (pos 0)) columns.now (shown_result ratio_of result) }
+{
+    let Some((first, rest)) = columns.split_first() else {
+        return Ok(Fraction::new(0, 1));
+    };
+    let mut sum = share_of(relation, first)?;
+    for column in rest {
+        let share = share_of(relation, column)?;
+        sum = sum.add(share)?;
+    }
+    Ok(sum)
+}
+
+// What a free label adds to the effect of a label with this relation.
+fn share_of(relation: &Relation, column: &Column) -> Result<Fraction, Wide>
+    requires in_range { IsRelationInRange relation.now }
+    requires place { column.now.place < length relation.now.free.items }
+    ensures { column_share relation.now column.now (shown_result ratio_of result) }
+{
+    let number = Fraction::new(relation.free[column.place], relation.d);
+    column.value.mul(number)
+}

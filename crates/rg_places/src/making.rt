@@ -1,0 +1,139 @@
+//! From a point to its place.
+ghost use Rattle.std.specs.Prelude.{◌≡◌, ℕ, ◌+◌, ◌<◌, length, map, drop, unsigned_abs, Ok, Err, IfOk, IsErrOf, IsTrue, IsFalse, IsNone};
+ghost use Rattle.rg_refuting.specs.Refutes.{IsAsked};
+ghost use Rattle.rg_theory.specs.System.{states, labels};
+ghost use Rattle.rg_fraction.specs.declared.term.Wide.{Wide};
+ghost use Rattle.rg_spanning.specs.Spanning.{IsTreeOf};
+ghost use Rattle.rg_cycles.specs.declared.substitution.FoldStop.TheVariants as stop;
+ghost use Rattle.rg_cycles.specs.View.{labels_of, cycle_of};
+ghost use Rattle.rg_folds.specs.Rewriting.{has_start, column_count};
+ghost use Rattle.rg_folds.specs.Placing.{place_fold};
+ghost use Rattle.rg_folds.specs.Shown.{IsLive};
+ghost use Rattle.rg_folds.specs.Fold.{ratio_of};
+ghost use Rattle.rg_meaning.specs.Meaning.{first_column};
+ghost use Rattle.rg_net.specs.Shown.{shown_place};
+ghost use Rattle.rg_places.specs.PointValues.{ratios_of, point_start, point_value, SolvesCase};
+ghost use Rattle.rg_places.specs.Steps.{found_fold, weights_fold};
+ghost use Rattle.rg_places.specs.RegionPlaces.{IsRegionPlace, PlaceSeparates, AreTokensMade};
+
+use crate::columns::{columns_with, used_labels};
+use crate::effects::effects;
+use crate::numbers::{along_tree, shifted};
+use crate::region_place::RegionPlace;
+use crate::weights::{put, sizes, taken, whole_sizes};
+use crate::whole::made_whole;
+use rg_cycles::{Basis, FoldStop};
+use rg_fraction::Fraction;
+use rg_lts::Lts;
+use rg_net::Place;
+use rg_spanning::Tree;
+use rg_theory::{Class, Problem};
+use std::alloc::Global;
+
+/// The place that a point of a case's system makes, with its tokens at the states.
+///
+/// The point has one fraction for each column: Start, the tokens of the initial state, where the class is
+/// pure, plain or bounded, and then the effects of the free labels with an arc, in order. The effects of the
+/// other labels follow by the basis. In a class that is neither plain nor bounded, Start and all effects are
+/// multiplied by their least common denominator. The tokens of the states follow along the tree; in a class
+/// that isn't bounded, and is plain or not pure, the least of them is taken from all. Then each label takes
+/// as much as its effect takes away, and the event's label as much as stops it: its effect taken away in a
+/// pure class, else 1 in a plain one, and in others the least tokens of the states that it leaves.
+///
+/// Where the class is neither plain nor bounded, and the point meets every row of the system of a case of
+/// the problem, the place is a region of the class that separates the problem. `FoldStop::Wide` comes
+/// exactly where a step of the computation is out of range, with the first such step; `FoldStop::NoMemory`
+/// where there is no memory.
+pub fn make_place(
+    alloc: Global,
+    lts: &Lts,
+    tree: &Tree,
+    basis: &Basis,
+    class: Class,
+    problem: Problem,
+    point: &[Fraction],
+) -> Result<RegionPlace, FoldStop>
+    requires tree { IsTreeOf lts.now tree.now }
+    requires labels { labels_of basis.now ≡ labels lts.now }
+    requires asked { IsAsked lts.now problem }
+    requires columns { length point.now ≡ column_count lts.now (cycle_of basis.now) class }
+    ensures place { IfOk result (λ r. place_fold lts.now tree.now.arcs (cycle_of basis.now) class problem (point_start class point.now) (point_value lts.now (cycle_of basis.now) class point.now) (Ok (shown_place r.place))) }
+    ensures tokens { IfOk result (λ r. AreTokensMade lts.now tree.now.arcs (cycle_of basis.now) class (point_start class point.now) (point_value lts.now (cycle_of basis.now) class point.now) r.tokens.items) }
+    ensures region { IfOk result (λ r. IsFalse class.plain → IsNone class.bound → IsLive lts.now problem → SolvesCase lts.now tree.now.arcs (cycle_of basis.now) class problem point.now → IsRegionPlace lts.now class r × PlaceSeparates problem r) }
+    ensures wide { (w : Wide) → IsErrOf result (stop.Wide w) → place_fold lts.now tree.now.arcs (cycle_of basis.now) class problem (point_start class point.now) (point_value lts.now (cycle_of basis.now) class point.now) (Err w) }
+{
+    let found = found_numbers(alloc, lts, basis, class, point)?;
+    let numbers = along_tree(alloc, lts, tree.arcs(), &found)?;
+    let numbers = shifted(alloc, class, numbers)?;
+    place_of(alloc, lts, class, problem, &found, &numbers)
+}
+
+// The effects of the labels at the point, and Start behind them, made whole where the class asks.
+fn found_numbers(
+    alloc: Global,
+    lts: &Lts,
+    basis: &Basis,
+    class: Class,
+    point: &[Fraction],
+) -> Result<Vec<Fraction>, FoldStop>
+    requires labels { labels_of basis.now ≡ labels lts.now }
+    requires columns { length point.now ≡ column_count lts.now (cycle_of basis.now) class }
+    ensures length { IfOk result (λ found. length found.items ≡ labels lts.now + 1) }
+    ensures value { IfOk result (λ found. found_fold lts.now (cycle_of basis.now) class (point_start class point.now) (point_value lts.now (cycle_of basis.now) class point.now) (Ok (ratios_of found.items))) }
+    ensures wide { (w : Wide) → IsErrOf result (stop.Wide w) → found_fold lts.now (cycle_of basis.now) class (point_start class point.now) (point_value lts.now (cycle_of basis.now) class point.now) (Err w) }
+{
+    let (start, values) = parted(class, point);
+    let used = used_labels(alloc, lts)?;
+    let columns = columns_with(alloc, lts, basis, &used, values)?;
+    let mut numbers = effects(alloc, lts, basis, &used, &columns)?;
+    numbers.push(start)?;
+    made_whole(alloc, class, numbers)
+}
+
+// Start, and the values of the free labels.
+fn parted(class: Class, point: &[Fraction]) -> (Fraction, &[Fraction])
+    requires { IsTrue (has_start class) → 0 < length point.now }
+    ensures start { ratio_of result.0 ≡ point_start class point.now }
+    ensures values { result.1.now ≡ drop (first_column class) point.now }
+{
+    if has_start(class) {
+        (point[0], &point[1..])
+    } else {
+        (Fraction::new(0, 1), point)
+    }
+}
+
+// Whether Start is a column.
+pub(crate) fn has_start(class: Class) -> bool
+    ensures { result ≡ has_start class }
+{
+    class.pure || class.plain || class.bound.is_some()
+}
+
+// The place with these numbers of the states and these effects.
+fn place_of(
+    alloc: Global,
+    lts: &Lts,
+    class: Class,
+    problem: Problem,
+    found: &[Fraction],
+    numbers: &[Fraction],
+) -> Result<RegionPlace, FoldStop>
+    requires asked { IsAsked lts.now problem }
+    requires found { length found.now ≡ labels lts.now + 1 }
+    requires numbers { length numbers.now ≡ states lts.now }
+    ensures place { IfOk result (λ r. weights_fold lts.now class problem (ratios_of found.now) (ratios_of numbers.now) (Ok (shown_place r.place))) }
+    ensures tokens { IfOk result (λ r. r.tokens.items ≡ map (λ n. unsigned_abs n.top) (ratios_of numbers.now)) }
+    ensures wide { (w : Wide) → IsErrOf result (stop.Wide w) → weights_fold lts.now class problem (ratios_of found.now) (ratios_of numbers.now) (Err w) }
+{
+    let taken = taken(alloc, lts, class, problem, numbers, found)?;
+    let put = put(alloc, &taken, found)?;
+    let pre = sizes(alloc, &taken)?;
+    let post = sizes(alloc, &put)?;
+    let tokens = whole_sizes(alloc, numbers)?;
+    let start = tokens[lts.initial() as usize];
+    Ok(RegionPlace {
+        place: Place { start, pre, post },
+        tokens,
+    })
+}
