@@ -1,0 +1,60 @@
+-- The counts of all rows, row by row.
+use Rattle.std.proofs.Common.{◌≡◌, ℕ, zero, suc, ◌+◌, ◌<◌, ◌≤◌, not, true, List, [], ◌∷◌, ◌++◌, map, drop, length, Contains, All, ap, ap₂, refl, subst, sym, ◌∙◌, arith, append_assoc}
+use Rattle.std.specs.Prelude.{slice_index_or}
+use Rattle.std.proofs.lemmas.List.{length-map, map-append, get_or-map, append-nil}
+use Rattle.std.proofs.lemmas.List.Elements.{All-from_get_or, Contains-get_or}
+use Rattle.rg_theory.specs.declared.Arc.{Arc}
+use Rattle.rg_theory.specs.System.{System, states, labels}
+use Rattle.rg_linear.specs.Cycle.{CycleBasis}
+use Rattle.rg_meaning.proofs.Lists.{where_is}
+use Rattle.rg_fraction.specs.declared.fraction.Fraction.{Fraction}
+use Rattle.rg_refuting.specs.Expression.{Expression, Term}
+use Rattle.rg_refuting.specs.Row.{RowName}
+use Rattle.rg_cert.specs.declared.certificate.RowName.{RowName as CodeName}
+use Rattle.rg_cert.specs.Trees.{row_name_of}
+use Rattle.rg_folds.specs.Fold.{ratio_of}
+use Rattle.rg_folds.specs.Rewriting.{is_in, dependent_labels}
+use Rattle.rg_folds.specs.Spreading.{Share, pairs_of}
+use Rattle.rg_farkas.specs.Leaves.{share_of}
+use Rattle.rg_farkas.specs.declared.term.Expression.{Expression as CodeExpression}
+use Rattle.rg_farkas.specs.declared.term.Term.{Term as CodeTerm}
+use Rattle.rg_farkas.specs.View.{LabelCount, expression_of, term_of, pair_count, label_count, IsTermWithin, AreRowsWithin}
+use Rattle.rg_farkas.proofs.Steps.{from_place}
+
+-- labels that aren't free are labels, and no members
+pub dependent_at : (n : ℕ) (basis : CycleBasis) (ts : List ℕ) (i : ℕ) → ts ≡ dependent_labels n basis → i < length ts → (not (is_in basis.members (slice_index_or ts i 0)) ≡ true) × (slice_index_or ts i 0 < n)
+dependent_at n basis ts i e lt =
+    let (test, _, below) = where_is (λ t. not (is_in basis.members t)) 0 n (slice_index_or ts i 0) (subst (λ l. Contains l (slice_index_or ts i 0)) e (Contains-get_or ts i 0 lt)) in
+    (test, omega arith)
+
+pub all_below : (n m : ℕ) (basis : CycleBasis) (seen ts : List ℕ) → seen ≡ ts → ts ≡ dependent_labels n basis → m ≡ n → All (λ t. t < m) seen
+all_below n m basis seen ts e e' same = All-from_get_or (λ t. t < m) seen 0 (λ i lt. (let h = (dependent_at n basis seen i (e ∙ e') lt).1 in omega arith))
+
+-- a named row's terms are within the system
+module _ (lts : System) (expression : RowName → Expression) (named : List (CodeName × Fraction)) (i : ℕ) (d : CodeName × Fraction) (lt : i < length named) (is : d ≡ slice_index_or named i d) where
+  pub row_within : (n m : ℕ) (e : CodeExpression) (seen : List CodeTerm) → AreRowsWithin lts expression (map share_of named) → n ≡ states lts → m ≡ labels lts → expression_of e ≡ expression (row_name_of d.0) → seen ≡ e.terms.items → All (IsTermWithin n m) (map term_of seen)
+  row_within n m e seen within same_n same_m told same =
+      subst (λ l. All (IsTermWithin n m) (map term_of l)) (sym same)
+      (subst (λ (x : Expression). All (IsTermWithin n m) x.terms) (sym told)
+      (subst (λ k. All (IsTermWithin k m) (expression (row_name_of d.0)).terms) (sym same_n)
+      (subst (λ k. All (IsTermWithin (states lts) k) (expression (row_name_of d.0)).terms) (sym same_m)
+      (subst (λ x. All (IsTermWithin (states lts) (labels lts)) (expression (row_name_of x.0)).terms) (sym is)
+      (subst (λ s. All (IsTermWithin (states lts) (labels lts)) (expression s.name).terms) (get_or-map share_of named i d (share_of d) lt) (within i (share_of d) (simp length-map lt)))))))
+
+  -- the counts of one row
+  row_pairs : (tree : List Arc) (ts : List ℕ) → map (pair_count tree expression) (pairs_of (map share_of (drop i named)) ts) ≡ map (label_count tree (expression (row_name_of d.0)).terms (ratio_of d.1)) ts ++ map (pair_count tree expression) (pairs_of (map share_of (drop (i + 1) named)) ts)
+  row_pairs tree ts =
+      ap (λ l. map (pair_count tree expression) (pairs_of (map share_of l) ts)) (from_place named i d lt ∙ ap (λ x. x ∷ drop (i + 1) named) (sym is))
+      ∙ map-append (pair_count tree expression) (map (λ t. record { share = share_of d; label = t }) ts) (pairs_of (map share_of (drop (i + 1) named)) ts)
+      ∙ ap (λ l. l ++ map (pair_count tree expression) (pairs_of (map share_of (drop (i + 1) named)) ts)) (pair_counts tree ts)
+    where
+      pair_counts : (tree : List Arc) (ts : List ℕ) → map (pair_count tree expression) (map (λ t. record { share = share_of d; label = t }) ts) ≡ map (label_count tree (expression (row_name_of d.0)).terms (ratio_of d.1)) ts
+      pair_counts tree [] = refl
+      pair_counts tree (t ∷ ts) = ap (λ l. label_count tree (expression (row_name_of d.0)).terms (ratio_of d.1) t ∷ l) (pair_counts tree ts)
+
+  pub counts_next : (tree : List Arc) (ts seen : List ℕ) (e : CodeExpression) (terms : List CodeTerm) (out out' whole : List LabelCount) → seen ≡ ts → terms ≡ e.terms.items → expression_of e ≡ expression (row_name_of d.0) → out' ≡ out ++ map (label_count tree (map term_of terms) (ratio_of d.1)) seen → out ++ map (pair_count tree expression) (pairs_of (map share_of (drop i named)) ts) ≡ whole → out' ++ map (pair_count tree expression) (pairs_of (map share_of (drop (i + 1) named)) ts) ≡ whole
+  counts_next tree ts seen e terms out out' whole same same_terms told pushed so_far =
+      ap (λ l. l ++ map (pair_count tree expression) (pairs_of (map share_of (drop (i + 1) named)) ts)) (pushed ∙ ap (λ l. out ++ map (label_count tree (map term_of terms) (ratio_of d.1)) l) same ∙ ap (λ l. out ++ map (label_count tree (map term_of l) (ratio_of d.1)) ts) same_terms ∙ ap (λ (x : Expression). out ++ map (label_count tree x.terms (ratio_of d.1)) ts) told)
+      ∙ append_assoc out (map (label_count tree (expression (row_name_of d.0)).terms (ratio_of d.1)) ts) (map (pair_count tree expression) (pairs_of (map share_of (drop (i + 1) named)) ts))
+      ∙ ap (λ l. out ++ l) (sym (row_pairs tree ts))
+      ∙ so_far

@@ -1,0 +1,135 @@
+-- The steps of loops.
+use Rattle.std.proofs.Common.{◌≡◌, ◌≢◌, ℕ, zero, suc, ◌+◌, ◌-◌, ◌<◌, ◌≤◌, Bool, true, false, if◌then◌else◌, List, [], ◌∷◌, ◌++◌, map, drop, length, Result, Ok, Err, Contains, ap, refl, subst, sym, ◌∙◌, inl, inr, arith, add-one, append_assoc}
+use Rattle.std.specs.Prelude.{slice_index_or}
+use Rattle.std.proofs.lemmas.List.{drop_all, append-nil, map-append}
+use Rattle.std.proofs.Math.Seq.{drop-cons}
+use Rattle.rg_fraction.specs.declared.term.Wide.{Wide}
+use Rattle.rg_folds.specs.Fold.{gives, and_then, each, further, joined}
+use Rattle.rg_folds.specs.Rewriting.{numbers_where}
+use Rattle.rg_cycles.proofs.Folding.{behind, each_next, each_fails, each_ends, further_next, further_unmade, further_unjoined}
+
+-- the list from place i on
+pub from_place : {A : Type 0} (all : List A) (i : ℕ) (d : A) → i < length all → drop i all ≡ slice_index_or all i d ∷ drop (i + 1) all
+from_place all i d lt = drop-cons all i d lt ∙ ap (λ n. slice_index_or all i d ∷ drop n all) (sym (add-one i))
+
+-- ---- a sum, item by item
+
+module _ {A X : Type 0} (join : X → X → Result X Wide → Type 0) (make : A → Result X Wide → Type 0) (all : List A) (i : ℕ) (d : A) (lt : i < length all) (sum : X) (target : Result X Wide → Type 0) (so_far : (r : Result X Wide) → further join make sum (drop i all) r → target r) where
+  here : (r : Result X Wide) → further join make sum (slice_index_or all i d ∷ drop (i + 1) all) r → target r
+  here r h = so_far r (subst (λ l. further join make sum l r) (sym (from_place all i d lt)) h)
+
+  pub sum_next : (x more : X) → make (slice_index_or all i d) (Ok x) → join sum x (Ok more) → (r : Result X Wide) → further join make more (drop (i + 1) all) r → target r
+  sum_next x more made joins r h = here r (further_next join make (slice_index_or all i d) (drop (i + 1) all) sum x more made joins r h)
+
+  pub sum_unmade : (w : Wide) → make (slice_index_or all i d) (Err w) → target (Err w)
+  sum_unmade w made = here (Err w) (further_unmade join make (slice_index_or all i d) (drop (i + 1) all) sum w made)
+
+  pub sum_unjoined : (x : X) (w : Wide) → make (slice_index_or all i d) (Ok x) → join sum x (Err w) → target (Err w)
+  sum_unjoined x w made joins = here (Err w) (further_unjoined join make (slice_index_or all i d) (drop (i + 1) all) sum x w made joins)
+
+pub sum_ends : {A X : Type 0} (join : X → X → Result X Wide → Type 0) (make : A → Result X Wide → Type 0) (all : List A) (i : ℕ) (sum : X) (target : Result X Wide → Type 0) → ((r : Result X Wide) → further join make sum (drop i all) r → target r) → length all ≤ i → target (Ok sum)
+sum_ends join make all i sum target so_far past = so_far (Ok sum) (subst (λ l. further join make sum l (Ok sum)) (sym (drop_all i all past)) refl)
+
+-- a sum over both lists
+pub further-append : {A X : Type 0} (join : X → X → Result X Wide → Type 0) (make : A → Result X Wide → Type 0) (sum mid : X) (xs ys : List A) (r : Result X Wide) → further join make sum xs (Ok mid) → further join make mid ys r → further join make sum (xs ++ ys) r
+further-append join make sum mid [] ys r e h = subst (λ z. further join make z ys r) e h
+further-append join make sum mid (x ∷ xs) ys (Ok y) (a, made, (more, joins, rest)) h = (a, made, (more, joins, further-append join make more mid xs ys (Ok y) rest h))
+further-append join make sum mid (x ∷ xs) ys (Err w) (a, made, (more, joins, rest)) h = inr (a, made, inr (more, joins, further-append join make more mid xs ys (Err w) rest h))
+
+pub further-fails : {A X : Type 0} (join : X → X → Result X Wide → Type 0) (make : A → Result X Wide → Type 0) (sum : X) (xs ys : List A) (w : Wide) → further join make sum xs (Err w) → further join make sum (xs ++ ys) (Err w)
+further-fails join make sum [] ys w h = absurd h
+further-fails join make sum (x ∷ xs) ys w (inl made) = inl made
+further-fails join make sum (x ∷ xs) ys w (inr (a, made, inl joins)) = inr (a, made, inl joins)
+further-fails join make sum (x ∷ xs) ys w (inr (a, made, inr (more, joins, rest))) = inr (a, made, inr (more, joins, further-fails join make more xs ys w rest))
+
+abbrev same_result : {X : Type 0} → Result X Wide → Result X Wide → Type 0
+same_result r r' = r ≡ r'
+
+-- a sum that begins with a neutral number is one that begins with its first term
+pub from_neutral : {A X : Type 0} (join : X → X → Result X Wide → Type 0) (make : A → Result X Wide → Type 0) (none : X) (items : List A) → ((a : A) (x : X) → Contains items a → make a (Ok x) → (r : Result X Wide) → join none x r → r ≡ Ok x) → (r : Result X Wide) → further join make none items r → joined join make none items r
+from_neutral join make none [] neutral r h = h
+from_neutral {X = X} join make none (a ∷ items) neutral (Ok y) (x, made, (more, joins, rest)) = (x, made, subst (λ z. further join make z items (Ok y)) (ok_same more x (neutral a x (0, omega arith, refl) made (Ok more) joins)) rest)
+  where
+    ok_same : (x y : X) → same_result (Ok x) (Ok y) → x ≡ y
+    ok_same x y p = cc
+from_neutral {X = X} join make none (a ∷ items) neutral (Err w) (inl made) = inl made
+from_neutral {X = X} join make none (a ∷ items) neutral (Err w) (inr (x, made, inl joins)) = absurd (different (neutral a x (0, omega arith, refl) made (Err w) joins))
+  where
+    different : same_result (Err w) (Ok x) → ⊥
+    different p = cc
+from_neutral {X = X} join make none (a ∷ items) neutral (Err w) (inr (x, made, inr (more, joins, rest))) = inr (x, made, subst (λ z. further join make z items (Err w)) (ok_same more x (neutral a x (0, omega arith, refl) made (Ok more) joins)) rest)
+  where
+    ok_same : (x y : X) → same_result (Ok x) (Ok y) → x ≡ y
+    ok_same x y p = cc
+
+-- sums over a list that is made from another
+pub further-map : {A B X : Type 0} (join : X → X → Result X Wide → Type 0) (make : B → Result X Wide → Type 0) (f : A → B) (sum : X) (items : List A) (r : Result X Wide) → further join make sum (map f items) r → further join (λ a. make (f a)) sum items r
+further-map join make f sum [] r h = h
+further-map join make f sum (a ∷ items) (Ok y) (x, made, (more, joins, rest)) = (x, made, (more, joins, further-map join make f more items (Ok y) rest))
+further-map join make f sum (a ∷ items) (Err w) (inl made) = inl made
+further-map join make f sum (a ∷ items) (Err w) (inr (x, made, inl joins)) = inr (x, made, inl joins)
+further-map join make f sum (a ∷ items) (Err w) (inr (x, made, inr (more, joins, rest))) = inr (x, made, inr (more, joins, further-map join make f more items (Err w) rest))
+
+pub joined-map : {A B X : Type 0} (join : X → X → Result X Wide → Type 0) (make : B → Result X Wide → Type 0) (f : A → B) (none : X) (items : List A) (r : Result X Wide) → joined join make none (map f items) r → joined join (λ a. make (f a)) none items r
+joined-map join make f none [] r h = h
+joined-map join make f none (a ∷ items) (Ok y) (x, made, rest) = (x, made, further-map join make f x items (Ok y) rest)
+joined-map join make f none (a ∷ items) (Err w) (inl made) = inl made
+joined-map join make f none (a ∷ items) (Err w) (inr (x, made, rest)) = inr (x, made, further-map join make f x items (Err w) rest)
+
+-- ---- a list, item by item
+
+module _ {A X : Type 0} (make : A → Result X Wide → Type 0) (all : List A) (i : ℕ) (d : A) (xs : List X) (so_far : (r : Result (List X) Wide) → each make (drop i all) r → each make all (behind xs r)) where
+  here_each : i < length all → (r : Result (List X) Wide) → each make (slice_index_or all i d ∷ drop (i + 1) all) r → each make all (behind xs r)
+  here_each lt r h = so_far r (subst (λ l. each make l r) (sym (from_place all i d lt)) h)
+
+  pub item_next : i < length all → (x : X) → make (slice_index_or all i d) (Ok x) → (r : Result (List X) Wide) → each make (drop (i + 1) all) r → each make all (behind (xs ++ x ∷ []) r)
+  item_next lt x made = each_next make all (slice_index_or all i d) (drop (i + 1) all) xs (here_each lt) x made
+
+  pub item_fails : i < length all → (w : Wide) → make (slice_index_or all i d) (Err w) → each make all (Err w)
+  item_fails lt w made = each_fails make all (slice_index_or all i d) (drop (i + 1) all) xs (here_each lt) w made
+
+  pub items_end : length all ≤ i → each make all (Ok xs)
+  items_end past = each_ends make all xs (λ r h. so_far r (subst (λ l. each make l r) (sym (drop_all i all past)) h))
+
+-- ---- lists that grow towards a whole one
+
+-- what is made of the items from i on stands behind what is made so far
+module _ {A X : Type 0} (f : A → X) (all : List A) (i : ℕ) (d : A) (out whole : List X) (so_far : out ++ map f (drop i all) ≡ whole) where
+  pub mapped_next : i < length all → (x : X) → x ≡ f (slice_index_or all i d) → (out ++ x ∷ []) ++ map f (drop (i + 1) all) ≡ whole
+  mapped_next lt x e = append_assoc out (x ∷ []) (map f (drop (i + 1) all)) ∙ ap (λ z. out ++ z ∷ map f (drop (i + 1) all)) e ∙ ap (λ l. out ++ map f l) (sym (from_place all i d lt)) ∙ so_far
+
+  pub mapped_ends : length all ≤ i → out ≡ whole
+  mapped_ends past = sym (append-nil out) ∙ ap (λ l. out ++ map f l) (sym (drop_all i all past)) ∙ so_far
+
+-- the numbers that pass a test
+module _ (test : ℕ → Bool) (n i : ℕ) (out whole : List ℕ) (so_far : out ++ numbers_where test i (n - i) ≡ whole) where
+  pub where_is_next : i < n → (b : Bool) → test i ≡ b → numbers_where test i (n - i) ≡ (if b then (i ∷ numbers_where test (i + 1) (n - (i + 1))) else numbers_where test (i + 1) (n - (i + 1)))
+  where_is_next lt b e = ap (numbers_where test i) more ∙ ap (λ c. if c then (i ∷ numbers_where test (suc i) (n - (i + 1))) else numbers_where test (suc i) (n - (i + 1))) e ∙ ap (λ k. if b then (i ∷ numbers_where test k (n - (i + 1))) else numbers_where test k (n - (i + 1))) (sym (add-one i))
+    where
+      more : n - i ≡ suc (n - (i + 1))
+      more = omega arith
+
+  pub number_taken : i < n → test i ≡ true → (out ++ i ∷ []) ++ numbers_where test (i + 1) (n - (i + 1)) ≡ whole
+  number_taken lt e = append_assoc out (i ∷ []) (numbers_where test (i + 1) (n - (i + 1))) ∙ ap (λ l. out ++ l) (sym (where_is_next lt true e)) ∙ so_far
+
+  pub number_left : i < n → test i ≡ false → out ++ numbers_where test (i + 1) (n - (i + 1)) ≡ whole
+  number_left lt e = ap (λ l. out ++ l) (sym (where_is_next lt false e)) ∙ so_far
+
+  pub numbers_end : n ≤ i → out ≡ whole
+  numbers_end past = sym (append-nil out) ∙ ap (λ k. out ++ numbers_where test i k) (none past) ∙ so_far
+    where
+      none : n ≤ i → 0 ≡ n - i
+      none past = omega arith
+
+-- all numbers, each made into something
+pub all_next : {X : Type 0} (f : ℕ → X) (n i : ℕ) (out whole : List X) → out ++ map f (numbers_where (λ k. true) i (n - i)) ≡ whole → i < n → (out ++ f i ∷ []) ++ map f (numbers_where (λ k. true) (i + 1) (n - (i + 1))) ≡ whole
+all_next f n i out whole so_far lt = append_assoc out (f i ∷ []) (map f (numbers_where (λ k. true) (i + 1) (n - (i + 1)))) ∙ ap (λ l. out ++ map f l) (sym (where_is_next (λ k. true) n i [] (numbers_where (λ k. true) i (n - i)) refl lt true refl)) ∙ so_far
+
+-- ---- lengths and maps
+
+pub each_length : {A X : Type 0} (make : A → Result X Wide → Type 0) (items : List A) (xs : List X) → each make items (Ok xs) → length xs ≡ length items
+each_length make [] xs e = ap length e
+each_length make (a ∷ items) xs (x, made, (ys, rest, e)) = ap length e ∙ ap suc (each_length make items ys rest)
+
+pub map_push : {A B : Type 0} (f : A → B) (xs ys : List A) (x : A) → ys ≡ xs ++ x ∷ [] → map f ys ≡ map f xs ++ f x ∷ []
+map_push f xs ys x e = ap (map f) e ∙ map-append f xs (x ∷ [])

@@ -1,0 +1,62 @@
+//! Named rows with their multipliers, and what they say.
+ghost use Rattle.std.specs.Prelude.{◌≡◌, ◌<◌, ◌+◌, ◌++◌, length, map, All, IfOk, IsTrue};
+ghost use Rattle.rg_theory.specs.System.{labels};
+ghost use Rattle.rg_integers.specs.Range.{InRange};
+ghost use Rattle.rg_refuting.specs.Row.{row_expression};
+ghost use Rattle.rg_cert.specs.Trees.{row_name_of, named_row};
+ghost use Rattle.rg_folds.specs.Spreading.{named_from, arc_name};
+ghost use Rattle.rg_farkas.specs.Leaves.{share_of, side_of};
+ghost use Rattle.rg_farkas.specs.View.{named_of, Tells};
+
+use crate::expression::expression;
+use crate::term::{Row, Setting};
+use rg_cert::{Form, RowName};
+use rg_fraction::Fraction;
+use rg_lts::Lts;
+use rg_theory::Arc;
+use std::alloc::{AllocError, Global};
+
+// The rows of the shares and the arcs of the chords, with these numbers in order.
+pub(crate) fn numbered(
+    alloc: Global,
+    named: &[(RowName, Fraction)],
+    chords: &[Arc],
+    numbers: &[i128],
+) -> Result<Vec<(RowName, i128)>, AllocError>
+    requires { length numbers.now ≡ length named.now + length chords.now }
+    ensures { IfOk result (λ v. map named_row v.items ≡ named_from (map (λ s. s.name) (map share_of named.now) ++ map arc_name chords.now) numbers.now) }
+{
+    let mut rows = Vec::new(alloc);
+    for (k, (name, _)) in named.iter().enumerate() {
+        rows.push((*name, numbers[k]))?;
+    }
+    for (k, arc) in chords.iter().enumerate() {
+        rows.push((RowName::Arc(*arc), numbers[named.len() + k]))?;
+    }
+    Ok(rows)
+}
+
+// The rows with what they say.
+pub(crate) fn with_expressions(
+    alloc: Global,
+    lts: &Lts,
+    setting: Setting,
+    above: &[(Form, i64, bool)],
+    listed: &[(RowName, i128)],
+) -> Result<Vec<Row>, AllocError>
+    requires consumer { IsTrue setting.class.nonbranching → 0 < labels lts.now }
+    requires in_range { All (λ r. InRange r.1) listed.now }
+    ensures rows { IfOk result (λ v. map named_of v.items ≡ map named_row listed.now) }
+    ensures told { IfOk result (λ v. All (Tells (row_expression lts.now setting.class setting.problem setting.number (map side_of above.now))) v.items) }
+{
+    let mut rows = Vec::new(alloc);
+    for &(name, multiplier) in listed {
+        let expression = expression(alloc, lts, setting, above, name)?;
+        rows.push(Row {
+            name,
+            multiplier,
+            expression,
+        })?;
+    }
+    Ok(rows)
+}

@@ -1,0 +1,71 @@
+//! The sums of absolute values.
+ghost use Rattle.std.specs.Prelude.{◌≡◌, pos, map, All, Ok, Err, IfOk, IsErrOf};
+ghost use Rattle.rg_fraction.specs.declared.term.Wide.{Wide};
+ghost use Rattle.rg_refuting.specs.Expression.{Expression};
+ghost use Rattle.rg_refuting.specs.Row.{RowName};
+ghost use Rattle.rg_cert.specs.Trees.{variable_of};
+ghost use Rattle.rg_folds.specs.Fold.{further, whole_sum};
+ghost use Rattle.rg_folds.specs.Spreading.{variables_of, checked_leaf};
+ghost use Rattle.rg_cycles.specs.declared.substitution.FoldStop.TheVariants as stop;
+ghost use Rattle.rg_farkas.specs.View.{named_of, Tells, size_fold, coefficient_at};
+
+use crate::sums::{coefficient, plus, size_times};
+use crate::term::Row;
+use rg_cert::Form;
+use rg_cycles::FoldStop;
+use rg_fraction::Wide;
+use rg_lts::Lts;
+use std::alloc::{AllocError, Global};
+
+// Refused where for some state or label, or for the constants, the sum of the absolute values of the rows'
+// multiplied numbers is out of range.
+pub(crate) fn check_sizes(alloc: Global, lts: &Lts, rows: &[Row]) -> Result<(), FoldStop>
+    ensures value { IfOk result (λ _. (expression : RowName → Expression) → All (Tells expression) rows.now → checked_leaf lts.now expression (map named_of rows.now) (Ok (map named_of rows.now))) }
+    ensures wide { (w : Wide) → IsErrOf result (stop.Wide w) → (expression : RowName → Expression) → All (Tells expression) rows.now → checked_leaf lts.now expression (map named_of rows.now) (Err w) }
+{
+    let variables = variables(alloc, lts)?;
+    for variable in &variables {
+        coefficient_sizes(rows, *variable)?;
+    }
+    constant_sizes(rows)?;
+    Ok(())
+}
+
+// The states and the labels.
+fn variables(alloc: Global, lts: &Lts) -> Result<Vec<Form>, AllocError>
+    ensures { IfOk result (λ v. map variable_of v.items ≡ variables_of lts.now) }
+{
+    let mut variables = Vec::new(alloc);
+    for q in 0..lts.states() {
+        variables.push(Form::Tokens(q))?;
+    }
+    for t in 0..lts.labels() {
+        variables.push(Form::Effect(t))?;
+    }
+    Ok(variables)
+}
+
+// The sum of the absolute values of the variable's multiplied coefficients.
+fn coefficient_sizes(rows: &[Row], variable: Form) -> Result<i128, Wide>
+    ensures { further whole_sum (size_fold (coefficient_at (variable_of variable))) (pos 0) rows.now result }
+{
+    let mut sum = 0;
+    for row in rows {
+        let number = coefficient(&row.expression.terms, variable);
+        let size = size_times(row.multiplier, number)?;
+        sum = plus(sum, size)?;
+    }
+    Ok(sum)
+}
+
+// The sum of the absolute values of the multiplied constants.
+fn constant_sizes(rows: &[Row]) -> Result<i128, Wide>
+    ensures { further whole_sum (size_fold (λ r. r.expression.constant)) (pos 0) rows.now result }
+{
+    let mut sum = 0;
+    for row in rows {
+        let size = size_times(row.multiplier, row.expression.constant)?;
+        sum = plus(sum, size)?;
+    }
+    Ok(sum)
+}

@@ -1,0 +1,156 @@
+//! The multipliers of the arcs of the tree.
+ghost use Rattle.std.specs.Prelude.{◌≡◌, ◌≤◌, [], ◌++◌, ◌≤ℤ◌, neg_ℤ, if◌then◌else◌, pos, length, map, reverse, All, Ok, Err, IfOk, IsErrOf};
+ghost use Rattle.rg_integers.specs.Range.{InRange};
+ghost use Rattle.rg_integers.specs.Sign.{size};
+ghost use Rattle.rg_fraction.specs.declared.term.Wide.{Wide};
+ghost use Rattle.rg_refuting.specs.Expression.{Expression, same_variable, coefficient_in};
+ghost use Rattle.rg_refuting.specs.Row.{RowName};
+ghost use Rattle.rg_cert.specs.Trees.{variable_of};
+ghost use Rattle.rg_cycles.specs.declared.substitution.FoldStop.TheVariants as stop;
+ghost use Rattle.rg_folds.specs.Fold.{gives, and_then, further, whole_sum, whole_product};
+ghost use Rattle.rg_folds.specs.Spreading.{tree_fold, addend_fold, leaving};
+ghost use Rattle.rg_farkas.specs.View.{term_of, named_of, Tells, arc_times, row_addend};
+
+use crate::term::Row;
+use crate::term::Term::{self, Minus, Plus};
+use rg_cert::Form;
+use rg_cycles::FoldStop;
+use rg_fraction::Wide;
+use rg_theory::Arc;
+use std::alloc::Global;
+
+// The multipliers of the arcs of the tree, formed from the last arc to the first: each is the one by which the
+// tokens of the arc's target cancel.
+pub(crate) fn tree_multipliers(
+    alloc: Global,
+    tree: &[Arc],
+    rows: &[Row],
+) -> Result<Vec<i128>, FoldStop>
+    ensures value { IfOk result (λ v. (expression : RowName → Expression) → All (Tells expression) rows.now → tree_fold expression (map named_of rows.now) [] (reverse tree.now) (Ok (arc_times tree.now v.items))) }
+    ensures one_each { IfOk result (λ v. length v.items ≡ length tree.now) }
+    ensures in_range { IfOk result (λ v. All InRange v.items) }
+    ensures wide { (w : Wide) → IsErrOf result (stop.Wide w) → (expression : RowName → Expression) → All (Tells expression) rows.now → tree_fold expression (map named_of rows.now) [] (reverse tree.now) (Err w) }
+{
+    let mut multipliers = vec![in alloc; 0i128; tree.len()]?;
+    for i in (0..tree.len()).rev() {
+        let state = tree[i].to;
+        let sum = sum_at(rows, &tree[i + 1..], &multipliers[i + 1..], state)?;
+        multipliers[i] = sum;
+    }
+    Ok(multipliers)
+}
+
+// What the rows give the tokens at the state, and after it the multipliers of the arcs that leave the state.
+fn sum_at(rows: &[Row], arcs: &[Arc], multipliers: &[i128], state: u32) -> Result<i128, Wide>
+    requires one_each { length multipliers.now ≡ length arcs.now }
+    requires in_range { All InRange multipliers.now }
+    ensures value { further whole_sum addend_fold (pos 0) (map (row_addend state) rows.now ++ leaving state (arc_times arcs.now multipliers.now)) result }
+    ensures in_range { IfOk result InRange }
+{
+    let sum = rows_sum(rows, state)?;
+    leaving_sum(sum, arcs, multipliers, state)
+}
+
+// What the rows give the tokens at the state.
+fn rows_sum(rows: &[Row], state: u32) -> Result<i128, Wide>
+    ensures value { further whole_sum addend_fold (pos 0) (map (row_addend state) rows.now) result }
+    ensures in_range { IfOk result InRange }
+{
+    let mut sum = 0;
+    for row in rows {
+        let number = coefficient(&row.expression.terms, Form::Tokens(state));
+        let product = times(row.multiplier, number)?;
+        sum = plus(sum, product)?;
+    }
+    Ok(sum)
+}
+
+// The sum and the multipliers of the arcs that leave the state.
+fn leaving_sum(start: i128, arcs: &[Arc], multipliers: &[i128], state: u32) -> Result<i128, Wide>
+    requires one_each { length multipliers.now ≡ length arcs.now }
+    requires in_range { All InRange multipliers.now }
+    requires start_in_range { InRange start }
+    ensures value { further whole_sum addend_fold start (leaving state (arc_times arcs.now multipliers.now)) result }
+    ensures in_range { IfOk result InRange }
+{
+    let mut sum = start;
+    for (k, arc) in arcs.iter().enumerate() {
+        if arc.from == state {
+            sum = plus(sum, multipliers[k])?;
+        }
+    }
+    Ok(sum)
+}
+
+// The coefficient of the variable in the terms.
+pub(crate) fn coefficient(terms: &[Term], form: Form) -> i128
+    requires { length terms.now ≤ 3 }
+    ensures value { result ≡ coefficient_in (map term_of terms.now) (variable_of form) }
+    ensures in_range { InRange result }
+{
+    let mut sum = 0;
+    for term in terms {
+        sum += coefficient_of(*term, form);
+    }
+    sum
+}
+
+// The coefficient of the variable in the term.
+fn coefficient_of(term: Term, form: Form) -> i128
+    ensures value { result ≡ (if same_variable (term_of term).variable (variable_of form) then (term_of term).coefficient else pos 0) }
+    ensures low { neg_ℤ (pos 1) ≤ℤ result }
+    ensures high { result ≤ℤ pos 1 }
+{
+    match term {
+        Plus(f) if f == form => 1,
+        Minus(f) if f == form => -1,
+        _ => 0,
+    }
+}
+
+// The sum, where it is in range.
+pub(crate) fn plus(x: i128, y: i128) -> Result<i128, Wide>
+    requires { InRange y }
+    ensures value { whole_sum x y result }
+    ensures in_range { IfOk result InRange }
+{
+    Wide {
+        a: x,
+        b: 1,
+        c: -y,
+        d: 1,
+    }
+    .evaluate()
+}
+
+// The product, where it is in range.
+pub(crate) fn times(x: i128, y: i128) -> Result<i128, Wide>
+    ensures value { whole_product x y result }
+    ensures in_range { IfOk result InRange }
+{
+    Wide {
+        a: x,
+        b: y,
+        c: 0,
+        d: 0,
+    }
+    .evaluate()
+}
+
+// The absolute value of the product, where the product is in range.
+pub(crate) fn size_times(x: i128, y: i128) -> Result<i128, Wide>
+    ensures value { and_then (whole_product x y) (λ z. gives (size z)) result }
+    ensures in_range { IfOk result InRange }
+{
+    let product = times(x, y)?;
+    Ok(absolute(product))
+}
+
+// The absolute value.
+fn absolute(z: i128) -> i128
+    requires { InRange z }
+    ensures value { result ≡ size z }
+    ensures in_range { InRange result }
+{
+    z.abs()
+}
