@@ -1,8 +1,7 @@
 //! The descent made a second time, over a table, with its exchanges counted.
 
-ghost use Rattle.std.specs.Prelude.{◌≡◌, ◌≢◌, ◌+◌, ◌<◌, ◌≤◌, length, slice_index, Contains, pos, IfSome};
+ghost use Rattle.std.specs.Prelude.{◌≢◌, ◌+◌, ◌<◌, ◌≤◌, length, pos, IfSome};
 ghost use Rattle.rg_integers.specs.Sum.{number_at};
-ghost use Rattle.rg_dictionary.specs.Contents.{IsOutside, row_of, SameShape};
 
 use rg_dictionary::Dictionary as Table;
 use rg_feasible::System;
@@ -45,7 +44,7 @@ pub(crate) fn table_of(alloc: Global, system: &System) -> Result<Table, AllocErr
     Ok(table)
 }
 
-/// Makes the descent, as long as it takes at most so many rows. Each row goes by its variable: the columns come first.
+/// Makes the descent, and cuts it off once it has taken so many rows. Each row goes by its variable: the columns come first.
 pub(crate) fn descend(alloc: Global, mut table: Table, most: u64) -> Result<Counted, AllocError> {
     let mut counted = Counted {
         ending: Ending::CutOff,
