@@ -1,0 +1,13 @@
+pub mod Order
+pub mod Items
+pub mod Branches
+pub mod DeadLabels
+pub mod ChordVectors
+pub mod Reasons
+pub mod Passing
+pub mod PointValues
+pub mod PlaceOfPoint
+pub mod Leaves
+pub mod Shares
+pub mod Trying
+pub mod Separating

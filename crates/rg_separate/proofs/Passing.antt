@@ -1,0 +1,73 @@
+-- What a descent and a fold show where a number passes.
+use Rattle.std.proofs.Common.{◌≡◌, ℕ, List, [], Err, refl, subst}
+use Rattle.std.specs.Prelude.{ℤ}
+use Rattle.rg_fraction.specs.declared.term.Wide.{Wide}
+use Rattle.rg_linear.specs.Descent.{Outcome.wide, DescentFromStart}
+use Rattle.rg_folds.specs.Rewriting.{rows_of, system_fold}
+use Rattle.rg_folds.specs.Shown.{CycleShown, RowShown, PivotShown}
+use Rattle.rg_folds.specs.Chords.{chord_vectors}
+use Rattle.rg_theory.specs.declared.Arc.{Arc}
+use Rattle.rg_theory.specs.System.{System, labels}
+use Rattle.rg_theory.specs.Tree.{IsTree}
+use Rattle.rg_cycles.specs.declared.stop.CycleWide.{CycleWide}
+use Rattle.rg_cycles.specs.Refusal.{PassesAt, shown_term}
+use Rattle.rg_cycles.specs.View.{cycle_of}
+use Rattle.rg_feasible.specs.declared.settled.PivotWide.{PivotWide}
+use Rattle.rg_feasible.specs.Settling.{wide_at}
+use Rattle.rg_rows.specs.declared.named_system.NamedSystem.{NamedSystem}
+use Rattle.rg_separate.specs.declared.wide_at.Stage.TheVariants.{Row}
+use Rattle.rg_separate.specs.declared.setting.ProblemCase.{ProblemCase}
+use Rattle.rg_separate.specs.Casing.{IsCase, IsNamedSystem}
+use Rattle.rg_separate.specs.Passing.{passed_at, pivot_at, cycle_passed}
+use Rattle.rg_separate.proofs.Branches.{stopped_alone}
+
+-- the term that an exchange of the case's descent shows
+pub pivot_shown : (c : ProblemCase) (named : NamedSystem) (members : List ℕ) (at : PivotWide) → IsCase c → IsNamedSystem c named → DescentFromStart named.system (wide (wide_at members at)) → PivotShown c.setting.lts.now c.setting.class (pivot_at c members at)
+pivot_shown c named members at is system stops = record {
+  case = system.case;
+  of_case = record {
+    arcs = c.setting.tree.now.arcs;
+    basis = cycle_of c.setting.basis.now;
+    problem = c.problem;
+    is_tree = is.setting.tree.tree;
+    is_basis = is.setting.basis;
+    stands = record { problem_is = refl; has = is.has; live = is.live; case_below = is.below };
+    is_case = system.made;
+  };
+  sides = [];
+  at = wide_at members at;
+  stops = stopped_alone (rows_of system.case) system.case.forms (wide_at members at) system.shows.forms (subst (λ s. DescentFromStart s (wide (wide_at members at))) system.shows.system stops);
+  above_is = refl;
+  stands = record { members = refl; pivot = refl; leaves = refl; target = refl; entry = refl; wide = refl };
+}
+
+-- the step that the rows of the case show
+pub row_shown : (c : ProblemCase) (w : Wide) → IsCase c → system_fold c.setting.lts.now c.setting.tree.now.arcs (cycle_of c.setting.basis.now) c.setting.class c.problem c.number (Err w) → RowShown c.setting.lts.now c.setting.class (passed_at Row c w)
+row_shown c w is passes = record {
+  arcs = c.setting.tree.now.arcs;
+  basis = cycle_of c.setting.basis.now;
+  problem = c.problem;
+  is_tree = is.setting.tree.tree;
+  is_basis = is.setting.basis;
+  stands = record { problem_is = refl; has = is.has; live = is.live; case_below = is.below };
+  nowhere = record { members = refl; pivot = refl; leaves = refl; target = refl; entry = refl };
+  no_split = refl;
+  passes = passes;
+}
+
+-- the term that the walk over the chords shows
+pub cycle_shown : (lts : System) (tree : List Arc) (vectors : List (List ℤ)) (n : ℕ) (w : CycleWide) → IsTree lts tree → vectors ≡ chord_vectors lts tree → n ≡ labels lts → PassesAt n vectors (shown_term w) → CycleShown lts (cycle_passed w)
+cycle_shown lts tree vectors n w is are count passes =
+    let at : PassesAt (labels lts) (chord_vectors lts tree) (shown_term w) = subst (λ k. PassesAt k (chord_vectors lts tree) (shown_term w)) count (subst (λ vs. PassesAt n vs (shown_term w)) are passes) in
+    record {
+      arcs = tree;
+      kept = at.kept;
+      at = shown_term w;
+      is_tree = is;
+      chords = at.keeps;
+      stops = at.walk;
+      stands = record { members = refl; pivot = refl; leaves = refl; target = refl; entry = refl; wide = refl };
+      no_problem = refl;
+      no_case = refl;
+      no_split = refl;
+    }

@@ -1,0 +1,141 @@
+-- The point of a case's descent, as the place asks for it and as the term that it shows.
+use Rattle.std.proofs.Common.{◌≡◌, ℕ, ◌+◌, ◌<◌, ◌≤◌, ◌&&◌, Bool, true, false, if◌then◌else◌, List, [], ◌∷◌, ◌++◌, length, map, get_or, drop, IsTrue, Err, refl, sym, ap, subst, ◌∙◌, arith}
+use Rattle.std.specs.Prelude.{ℤ, pos}
+use Rattle.std.proofs.lemmas.List.{get_or-map, get_or-drop, length-map, length-drop}
+use Rattle.rg_theory.specs.System.{System, labels}
+use Rattle.rg_theory.specs.declared.Class.{Class}
+use Rattle.rg_theory.specs.declared.Problem.{Problem}
+use Rattle.rg_theory.specs.declared.Problem.TheVariants.{Event, States}
+use Rattle.rg_theory.specs.Problem.{IsProblem}
+use Rattle.rg_refuting.specs.Refutes.{IsAsked}
+use Rattle.rg_integers.specs.Value.{SameValue}
+use Rattle.rg_fraction.specs.declared.term.Wide.{Wide}
+use Rattle.rg_fraction.specs.declared.fraction.Fraction.{Fraction}
+use Rattle.rg_linear.specs.System.{LinearSystem, IsPoint, MeetsRows}
+use Rattle.rg_linear.specs.Descent as descent
+use Rattle.rg_linear.specs.Descent.{DescentFromStart}
+use Rattle.rg_linear.specs.Cycle.{CycleBasis}
+use Rattle.rg_folds.specs.Fold.{Ratio, whole, ratio_of}
+use Rattle.rg_folds.specs.Rewriting.{is_in, has_label, free_columns, has_start, column_count, rows_of}
+use Rattle.rg_folds.specs.Placing.{ratio_at, place_fold}
+use Rattle.rg_folds.specs.Shown.{IsValueAt, PointOf, PlaceShown}
+use Rattle.rg_meaning.specs.Meaning.{IsCaseOver, first_column}
+use Rattle.rg_meaning.proofs.ColumnValues.{columns_of_case}
+use Rattle.rg_cycles.specs.View.{cycle_of}
+use Rattle.rg_feasible.specs.View.{DescentState}
+use Rattle.rg_feasible.specs.Settling.{IsBasicPoint}
+use Rattle.rg_rows.specs.declared.named_system.NamedSystem.{NamedSystem}
+use Rattle.rg_places.specs.PointValues.{ratios_of, point_start, point_value, HasValues, SolvesCase}
+use Rattle.rg_separate.specs.declared.wide_at.Stage.TheVariants.{Place}
+use Rattle.rg_separate.specs.declared.setting.ProblemCase.{ProblemCase}
+use Rattle.rg_separate.specs.Casing.{IsCase, IsNamedSystem, IsAtPoint, AreColumnValues}
+use Rattle.rg_separate.specs.Passing.{passed_at}
+use Rattle.rg_separate.proofs.Branches.{found_alone, root_is}
+use Rattle.rg_separate.proofs.PointValues.{value_at, beside_at}
+
+-- a problem of the system is asked
+pub asked : (lts : System) (problem : Problem) → IsProblem lts problem → IsAsked lts problem
+asked lts (Event s t) h = h
+asked lts (States s s') (less, lt) = ((let l = less in omega arith), lt, λ e. (omega arith))
+
+pub case_over : (c : ProblemCase) (named : NamedSystem) → IsCase c → (system : IsNamedSystem c named) → IsCaseOver c.setting.lts.now c.setting.tree.now.arcs (cycle_of c.setting.basis.now) c.setting.class c.problem c.number system.case
+case_over c named is system = record {
+  in_range = is.setting.in_range;
+  reachable = is.setting.reachable;
+  is_tree = is.setting.tree.tree;
+  is_basis = is.setting.basis;
+  asked = asked c.setting.lts.now c.problem is.has;
+  is_case = system.made;
+}
+
+-- the system has as many columns as the class and the basis say
+pub case_columns : (c : ProblemCase) (named : NamedSystem) → (system : IsNamedSystem c named) → named.system.columns ≡ column_count c.setting.lts.now (cycle_of c.setting.basis.now) c.setting.class
+case_columns c named system = ap (λ s. s.columns) system.shows.system ∙ columns_of_case c.setting.lts.now c.setting.tree.now.arcs (cycle_of c.setting.basis.now) c.setting.class c.problem c.number system.case system.made
+
+-- the ratio of a column
+ratio_is : (point : List Fraction) (j : ℕ) (P : Ratio → Type 0) → j < length point → ((f : Fraction) → P (ratio_of (get_or point j f))) → P (ratio_at (ratios_of point) j)
+ratio_is [] j P lt each = absurd (omega arith)
+ratio_is (f ∷ point) j P lt each = subst P (sym (get_or-map ratio_of (f ∷ point) j f (whole (pos 0)) lt)) (each f)
+
+has_values : (system : LinearSystem) (d : DescentState) (point : List Fraction) (scale : ℤ) (v : ℕ → ℤ) → AreColumnValues system d point → IsBasicPoint system d.table.members scale v → HasValues scale v point
+has_values system d point scale v are basic j lt = ratio_is point j (λ r. SameValue r.top r.bottom (v j) scale) lt (λ f. are.values j f lt scale v basic)
+
+-- the point solves the case
+pub solves : (c : ProblemCase) (named : NamedSystem) (d : DescentState) (point : List Fraction) → IsCase c → IsNamedSystem c named → IsAtPoint named.system d → AreColumnValues named.system d point → SolvesCase c.setting.lts.now c.setting.tree.now.arcs (cycle_of c.setting.basis.now) c.setting.class c.problem point
+solves c named d point is system at are = record {
+  number = c.number;
+  case = system.case;
+  of_case = case_over c named is system;
+  scale = at.feasible.scale;
+  v = at.feasible.v;
+  is_point = subst (λ s. IsPoint s at.feasible.scale at.feasible.v) system.shows.system at.feasible.basic.point;
+  meets = subst (λ s. MeetsRows s at.feasible.v) system.shows.system at.feasible.meets;
+  values = has_values named.system d point at.feasible.scale at.feasible.v are at.feasible.basic;
+}
+
+-- each column's ratio is its value at the set
+column_value : (system : LinearSystem) (d : DescentState) (point : List Fraction) → IsAtPoint system d → AreColumnValues system d point → (j : ℕ) → j < system.columns → IsValueAt system d.table.members j (ratio_at (ratios_of point) j)
+column_value system d point at are j lt =
+    let below : j < length point = (let e = are.one_each in omega arith) in
+    ratio_is point j (IsValueAt system d.table.members j) below (λ f. value_at system d.table at.dictionary j (get_or point j f) (omega arith) (λ scale v basic. are.values j f below scale v basic))
+
+-- how many columns there are
+counted : (fs : List ℕ) (b : Bool) → length ((if b then (pos 0 ∷ []) else []) ++ map pos fs) ≡ (if b then 1 else 0) + length fs
+counted fs true = let e = length-map fs pos in omega arith
+counted fs false = let e = length-map fs pos in omega arith
+
+module _ (lts : System) (basis : CycleBasis) (class : Class) (system : LinearSystem) (d : DescentState) (point : List Fraction) (at : IsAtPoint system d) (are : AreColumnValues system d point) (count : system.columns ≡ column_count lts basis class) where
+  columns_are : system.columns ≡ first_column class + length (free_columns lts basis)
+  columns_are = count ∙ counted (free_columns lts basis) (has_start class)
+
+  start_value : IsTrue (has_start class) → IsValueAt system d.table.members 0 (point_start class point)
+  start_value h =
+      let e = h in
+      let lt : 0 < system.columns = subst (λ (n : ℕ). 0 < n) (sym (columns_are ∙ ap (λ b. (if b then 1 else 0) + length (free_columns lts basis)) e)) (omega arith) in
+      subst (λ b. IsValueAt system d.table.members 0 (if b then ratio_at (ratios_of point) 0 else whole (pos 0))) (sym e) (column_value system d point at are 0 lt)
+
+  long_enough : length (free_columns lts basis) ≤ length (drop (first_column class) (ratios_of point))
+  long_enough = let a = columns_are in let b = are.one_each in let l = length-drop (first_column class) (ratios_of point) in let m = length-map point ratio_of in omega arith
+
+  free_is : (i : ℕ) → i < length (free_columns lts basis) → point_value lts basis class point (get_or (free_columns lts basis) i 0) ≡ ratio_at (ratios_of point) (first_column class + i)
+  free_is i lt = beside_at (λ t. is_in basis.members t && has_label t lts.arcs) 0 (labels lts) (drop (first_column class) (ratios_of point)) i lt long_enough ∙ get_or-drop (first_column class) (ratios_of point) i (whole (pos 0))
+
+  free_value : (i f : ℕ) → i < length (free_columns lts basis) → get_or (free_columns lts basis) i 0 ≡ f → IsValueAt system d.table.members (first_column class + i) (point_value lts basis class point f)
+  free_value i f lt e =
+      subst (λ t. IsValueAt system d.table.members (first_column class + i) (point_value lts basis class point t)) e
+      (subst (IsValueAt system d.table.members (first_column class + i)) (sym (free_is i lt)) (column_value system d point at are (first_column class + i) (let a = columns_are in omega arith)))
+
+  pub point_of : PointOf lts basis class system d.table.members (point_start class point) (point_value lts basis class point)
+  point_of = record {
+    start_is = start_value;
+    no_start = λ h. ap (λ b. if b then ratio_at (ratios_of point) 0 else whole (pos 0)) h;
+    values = free_value;
+  }
+
+-- the step that the place of the point shows
+pub place_shown : (c : ProblemCase) (named : NamedSystem) (d : DescentState) (fractions : List Fraction) (w : Wide) → IsCase c → IsNamedSystem c named → IsAtPoint named.system d → AreColumnValues named.system d fractions → named.system.columns ≡ column_count c.setting.lts.now (cycle_of c.setting.basis.now) c.setting.class → place_fold c.setting.lts.now c.setting.tree.now.arcs (cycle_of c.setting.basis.now) c.setting.class c.problem (point_start c.setting.class fractions) (point_value c.setting.lts.now (cycle_of c.setting.basis.now) c.setting.class fractions) (Err w) → PlaceShown c.setting.lts.now c.setting.class (passed_at Place c w)
+place_shown c named d fractions w is system at are count passes = record {
+  case = system.case;
+  of_case = record {
+    arcs = c.setting.tree.now.arcs;
+    basis = cycle_of c.setting.basis.now;
+    problem = c.problem;
+    is_tree = is.setting.tree.tree;
+    is_basis = is.setting.basis;
+    stands = record { problem_is = refl; has = is.has; live = is.live; case_below = is.below };
+    is_case = system.made;
+  };
+  sides = [];
+  set = d.table.members;
+  start = point_start c.setting.class fractions;
+  value = point_value c.setting.lts.now (cycle_of c.setting.basis.now) c.setting.class fractions;
+  finds = found_alone (rows_of system.case) system.case.forms d.table.members at.feasible.scale at.feasible.v system.shows.forms
+      (subst (λ s. DescentFromStart s (descent.Outcome.point d.table.members)) system.shows.system at.outcome)
+      (subst (λ s. IsPoint s at.feasible.scale at.feasible.v) system.shows.system at.feasible.basic.point) at.feasible.basic.zero;
+  above_is = refl;
+  nowhere = record { members = refl; pivot = refl; leaves = refl; target = refl; entry = refl };
+  point = subst (λ s. PointOf c.setting.lts.now (cycle_of c.setting.basis.now) c.setting.class s d.table.members (point_start c.setting.class fractions) (point_value c.setting.lts.now (cycle_of c.setting.basis.now) c.setting.class fractions))
+      (system.shows.system ∙ sym (root_is (rows_of system.case) system.case.forms system.shows.forms))
+      (point_of c.setting.lts.now (cycle_of c.setting.basis.now) c.setting.class named.system d fractions at are count);
+  passes = passes;
+}

@@ -1,0 +1,90 @@
+-- The values of the columns at the point of a descent.
+use Rattle.std.proofs.Common.{◌≡◌, ◌⊎◌, inl, inr, ⊎_elim, ℕ, zero, suc, ◌<◌, ◌≤◌, Bool, true, false, if◌then◌else◌, List, [], ◌∷◌, ◌++◌, length, length-append, get_or, Contains, refl, sym, ap, subst, ◌∙◌, arith, eq-eqb}
+use Rattle.std.specs.Prelude.{ℤ, pos}
+use Rattle.std.proofs.Math.IntN.{*ℤ_comm, zero-*ℤ}
+use Rattle.std.proofs.lemmas.Bool.{cases_lt}
+use Rattle.std.proofs.lemmas.List.{get_or_append_left, get_or_push}
+use Rattle.rg_integers.proofs.Order.{positive_differs}
+use Rattle.rg_integers.proofs.Values.{SameValue-trans}
+use Rattle.rg_fraction.specs.declared.fraction.Fraction.{Fraction}
+use Rattle.rg_fraction.specs.Fractions.{IsValue, numerator_of, denominator_of}
+use Rattle.rg_linear.specs.System.{LinearSystem, variables}
+use Rattle.rg_linear.specs.Dictionary.{Relation, DictionaryRow}
+use Rattle.rg_linear.proofs.Members.{differs, is_member}
+use Rattle.rg_linear.proofs.Points.{constant_left, zero_point_of}
+use Rattle.rg_dictionary.specs.Contents.{Contents, IsDictionary}
+use Rattle.rg_feasible.specs.Settling.{IsBasicPoint}
+use Rattle.rg_feasible.proofs.Shown.{row_shows}
+use Rattle.rg_folds.specs.Fold.{Ratio, whole, ratio_of, IsRatio}
+use Rattle.rg_folds.specs.Shown.{IsValueAt}
+use Rattle.rg_folds.specs.Rewriting.{numbers_where}
+use Rattle.rg_folds.specs.Placing.{ratio_at}
+use Rattle.rg_folds.proofs.FoldLemmas.{ratio_one, new_step}
+use Rattle.rg_folds.proofs.Scaling.{whole_ratio}
+use Rattle.rg_places.specs.PointValues.{ratio_beside}
+
+-- the numbers that pass the test are not below the first
+where_from : (test : ℕ → Bool) (a n i : ℕ) → i < length (numbers_where test a n) → a ≤ get_or (numbers_where test a n) i 0
+where_from test a zero i lt = absurd (omega arith)
+where_from test a (suc n) i lt = go (test a) i lt (where_from test (suc a) n)
+  where
+    go : (b : Bool) (i : ℕ) → i < length (if b then (a ∷ numbers_where test (suc a) n) else numbers_where test (suc a) n) → ((i : ℕ) → i < length (numbers_where test (suc a) n) → suc a ≤ get_or (numbers_where test (suc a) n) i 0) → a ≤ get_or (if b then (a ∷ numbers_where test (suc a) n) else numbers_where test (suc a) n) i 0
+    go false i lt more = let h = more i lt in omega arith
+    go true zero lt more = omega arith
+    go true (suc i) lt more = let h = more i (omega arith) in omega arith
+
+-- one value more
+pub value_more : (P : ℕ → Fraction → Type 0) (xs : List Fraction) (x : Fraction) → ((j : ℕ) (f : Fraction) → j < length xs → P j (get_or xs j f)) → P (length xs) x → (j : ℕ) (f : Fraction) → j < length (xs ++ x ∷ []) → P j (get_or (xs ++ x ∷ []) j f)
+value_more P xs x each here j f lt = go (cases_lt j (length xs))
+  where
+    go : (j < length xs) ⊎ (length xs ≤ j) → P j (get_or (xs ++ x ∷ []) j f)
+    go (inl less) = subst (P j) (sym (get_or_append_left xs (x ∷ []) f j less)) (each j f less)
+    go (inr more) =
+        let e : length xs ≡ j = (let l = length-append xs (x ∷ []) in omega arith) in
+        subst (λ y. P j y) (sym (get_or_push xs x f j e)) (subst (λ k. P k x) e here)
+
+-- ---- the values at a set
+
+module _ (system : LinearSystem) (d : Contents) (whole_one : IsDictionary system d) where
+  value_member : (j : ℕ) (f : Fraction) (scale : ℤ) (v : ℕ → ℤ) → IsBasicPoint system d.members scale v → IsValue f (v j) scale → Contains d.members j → ratio_of f ≡ whole (pos 0)
+  value_member j f scale v basic at has =
+      let ne = positive_differs scale basic.point.positive in
+      let zero_is : IsValue f (pos 0) scale = subst (λ z. IsValue f z scale) (basic.zero j has) at in
+      ratio_one (ratio_of f) (whole (pos 0)) (pos 0) scale (new_step f (pos 0) scale ne zero_is) (whole_ratio (pos 0) (pos 0) scale ne (zero-*ℤ scale))
+
+  value_relation : (j : ℕ) (f : Fraction) (k : Relation) (scale : ℤ) (v : ℕ → ℤ) → IsBasicPoint system d.members scale v → IsValue f (v j) scale → DictionaryRow system d.members j k → IsRatio (ratio_of f) k.constant k.d
+  value_relation j f k scale v basic at row =
+      let ne = positive_differs scale basic.point.positive in
+      new_step f k.constant k.d (positive_differs k.d row.positive)
+      (SameValue-trans (numerator_of f) (denominator_of f) (v j) scale k.constant k.d ne at (*ℤ_comm (v j) k.d ∙ constant_left system d.members j k row scale v basic.point basic.zero))
+
+  -- the fraction is the value of variable j where every member is 0
+  pub value_at : (j : ℕ) (f : Fraction) → j < variables system → ((scale : ℤ) (v : ℕ → ℤ) → IsBasicPoint system d.members scale v → IsValue f (v j) scale) → IsValueAt system d.members j (ratio_of f)
+  value_at j f lt is =
+      let (scale, v, point, at_zero) = zero_point_of system d.members whole_one.free in
+      let basic : IsBasicPoint system d.members scale v = record { point = point; zero = at_zero } in
+      ⊎_elim
+      (λ has. inl (has, value_member j f scale v basic (is scale v basic) has))
+      (λ out. (let row = row_shows d system whole_one j lt out in inr (row.k, row.row, value_relation j f row.k scale v basic (is scale v basic) row.row)))
+      (is_member d.members j)
+
+-- ---- Start and the free labels
+
+-- the number beside a label is that of its place
+pub beside_at : (test : ℕ → Bool) (a n : ℕ) (rs : List Ratio) (i : ℕ) → i < length (numbers_where test a n) → length (numbers_where test a n) ≤ length rs → ratio_beside (numbers_where test a n) rs (get_or (numbers_where test a n) i 0) ≡ ratio_at rs i
+beside_at test a zero rs i lt long = absurd (omega arith)
+beside_at test a (suc n) rs i lt long = go (test a) lt long (beside_at test (suc a) n)
+  where
+    go : (b : Bool) → i < length (if b then (a ∷ numbers_where test (suc a) n) else numbers_where test (suc a) n) → length (if b then (a ∷ numbers_where test (suc a) n) else numbers_where test (suc a) n) ≤ length rs
+        → ((rs : List Ratio) (i : ℕ) → i < length (numbers_where test (suc a) n) → length (numbers_where test (suc a) n) ≤ length rs → ratio_beside (numbers_where test (suc a) n) rs (get_or (numbers_where test (suc a) n) i 0) ≡ ratio_at rs i)
+        → ratio_beside (if b then (a ∷ numbers_where test (suc a) n) else numbers_where test (suc a) n) rs (get_or (if b then (a ∷ numbers_where test (suc a) n) else numbers_where test (suc a) n) i 0) ≡ ratio_at rs i
+    go false lt long more = more rs i lt long
+    go true lt long more = by rs i lt long
+      where
+        by : (rs : List Ratio) (i : ℕ) → i < length (a ∷ numbers_where test (suc a) n) → length (a ∷ numbers_where test (suc a) n) ≤ length rs → ratio_beside (a ∷ numbers_where test (suc a) n) rs (get_or (a ∷ numbers_where test (suc a) n) i 0) ≡ ratio_at rs i
+        by [] i lt long = absurd (omega arith)
+        by (r ∷ rs) zero lt long = ap (λ b. if b then r else ratio_beside (numbers_where test (suc a) n) rs a) (eq-eqb a a refl)
+        by (r ∷ rs) (suc i) lt long =
+            let f = get_or (numbers_where test (suc a) n) i 0 in
+            let above : suc a ≤ f = where_from test (suc a) n i (omega arith) in
+            ap (λ b. if b then r else ratio_beside (numbers_where test (suc a) n) rs f) (differs a f (λ e. (omega arith))) ∙ more rs i (omega arith) (omega arith)

@@ -1,0 +1,12 @@
+use Rattle.std.proofs.Common.{◌+◌, ◌*◌, ◌≤◌, length}
+use Rattle.rg_theory.specs.declared.Problem.TheVariants.{States}
+use Rattle.rg_separate.specs.Keeping.{IsFound, StaySettled, SettledBefore}
+use Rattle.rg_separate.proofs.states.all_states.Given as goal
+
+abbrev pub invariant-loop-s : goal.invariant-loop-s
+invariant-loop-s l = record {
+  found : IsFound l.setting.lts.now l.setting.class l.found;
+  stays : StaySettled l.fn.found l.found;
+  before : SettledBefore l.setting.lts.now (States l.s 0) l.found;
+  few : length l.found.kept.items ≤ length l.fn.found.kept.items + l.s * 4096;
+}

@@ -1,0 +1,60 @@
+-- What the answer says.
+use Rattle.std.specs.Prelude.{◌≡◌, ℕ, ◌<◌, ◌≤◌, List, map, false, None, All}
+use Rattle.rg_theory.specs.System.{System, states, labels}
+use Rattle.rg_theory.specs.Net.{Place}
+use Rattle.rg_theory.specs.declared.Class.{Class}
+use Rattle.rg_theory.specs.Region.{RegionIn}
+use Rattle.rg_theory.specs.Problem.{SeparateAll}
+use Rattle.rg_net.specs.Range.{largest, IsNetInRange}
+use Rattle.rg_net.specs.declared.net.Place.{Place as PlaceOfCode}
+use Rattle.rg_cert.specs.declared.certificate.Certificate.{Certificate}
+use Rattle.rg_net.specs.Shown.{shown_place}
+use Rattle.rg_refuting.specs.Refutes.{Accepts}
+use Rattle.rg_cert.specs.Certificates.{reason_of, IsCertificateOf}
+use Rattle.rg_folds.specs.Shown.{ShownWide}
+use Rattle.rg_separate.specs.View.{shown_of}
+use Rattle.rg_separate.specs.declared.wide_at.WideAt.{WideAt}
+use Rattle.rg_separate.specs.declared.separation.Separation.{Separation}
+use Rattle.rg_separate.specs.declared.separation.Separation.TheVariants.{Places, Unsolvable, TooWide}
+
+-- a class neither plain nor bounded
+pub record IsUnbranched (class : Class) : Type 0 where
+  pub plain : class.plain ≡ false
+  pub bound : class.bound ≡ None
+
+-- the place is a region of the class with numbers of at most 2^127 - 1 at every state
+pub record IsNarrowRegion (lts : System) (class : Class) (p : Place) : Type 0 where
+  pub m : ℕ → ℕ
+  pub region : RegionIn lts class p m
+  pub narrow : (s : ℕ) → s < states lts → m s ≤ largest
+
+-- the places are such regions, their numbers are in range, and they separate all problems
+pub record AreSeparating (lts : System) (class : Class) (places : List Place) : Type 0 where
+  pub regions : All (IsNarrowRegion lts class) places
+  pub in_range : IsNetInRange (record { labels = labels lts; places = places })
+  pub separate : SeparateAll places lts
+
+-- the fact holds of the places, of the certificate, of the term
+abbrev pub IfPlaces : Separation → (List PlaceOfCode → Type 0) → Type 0
+IfPlaces (Places places) P = P places.items
+IfPlaces _ P = Unit {0}
+
+abbrev pub IfUnsolvable : Separation → (Certificate → Type 0) → Type 0
+IfUnsolvable (Unsolvable cert) P = P cert
+IfUnsolvable _ P = Unit {0}
+
+abbrev pub IfTooWide : Separation → (WideAt → Type 0) → Type 0
+IfTooWide (TooWide w) P = P w
+IfTooWide _ P = Unit {0}
+
+-- the certificate is of the class, is accepted, and its numbers are in range
+pub record IsGoodCertificate (lts : System) (class : Class) (cert : Certificate) : Type 0 where
+  pub of_class : cert.class ≡ class
+  pub in_range : IsCertificateOf lts cert
+  pub holds : Accepts lts class (reason_of cert.reason)
+
+-- what a separation says
+abbrev pub SeparationTells : System → Class → Separation → Type 0
+SeparationTells lts class (Places places) = AreSeparating lts class (map shown_place places.items)
+SeparationTells lts class (Unsolvable cert) = IsGoodCertificate lts class cert
+SeparationTells lts class (TooWide w) = ShownWide lts class (shown_of w)

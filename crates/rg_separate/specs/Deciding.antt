@@ -1,0 +1,53 @@
+-- What a case and a problem come to.
+use Rattle.std.specs.Prelude.{◌≡◌, ℕ, [], length, None, Some, IfSome, slice_get}
+use Rattle.rg_theory.specs.System.{System}
+use Rattle.rg_theory.specs.declared.Class.{Class}
+use Rattle.rg_theory.specs.declared.Problem.{Problem}
+use Rattle.rg_refuting.specs.Refutes.{TreeRefutes, Accepts}
+use Rattle.rg_folds.specs.Shown.{ShownWide}
+use Rattle.rg_cert.specs.declared.certificate.Case.{Case}
+use Rattle.rg_cert.specs.declared.certificate.Reason.{Reason}
+use Rattle.rg_cert.specs.Certificates.{case_tree, reason_of, IsWhole, IsTreeOf, IsCertificateOf}
+use Rattle.rg_places.specs.RegionPlaces.{IsRegionPlace, PlaceSeparates}
+use Rattle.rg_separate.specs.declared.case.CaseAnswer.{CaseAnswer}
+use Rattle.rg_separate.specs.declared.case.CaseAnswer.TheVariants as answer
+use Rattle.rg_separate.specs.declared.problem.ProblemAnswer.{ProblemAnswer}
+use Rattle.rg_separate.specs.declared.problem.ProblemAnswer.TheVariants as problem_answer
+use Rattle.rg_separate.specs.declared.problem.Tried.{Tried}
+use Rattle.rg_separate.specs.declared.found.Ending.{Ending}
+use Rattle.rg_separate.specs.declared.found.Ending.TheVariants as ending
+use Rattle.rg_separate.specs.View.{shown_of}
+
+-- the nodes are those of one whole tree, which refutes the case, and its numbers are in range
+pub record RefutesCase (lts : System) (class : Class) (problem : Problem) (number : ℕ) (case : Case) : Type 0 where
+  pub whole : IsWhole case
+  pub refutes : TreeRefutes lts class problem number [] (case_tree case)
+  pub in_range : IsTreeOf lts (case_tree case)
+
+-- what a case comes to
+abbrev pub CaseTells : System → Class → Problem → ℕ → CaseAnswer → Type 0
+CaseTells lts class problem number (answer.Place r) = IsRegionPlace lts class r × PlaceSeparates problem r
+CaseTells lts class problem number (answer.Refuted case) = RefutesCase lts class problem number case
+CaseTells lts class problem number (answer.Wide w) = ShownWide lts class (shown_of w)
+
+-- the first cases, so many, were tried: each is refuted, or the first term that passes is kept
+pub record AreTried (lts : System) (class : Class) (problem : Problem) (number : ℕ) (tried : Tried) : Type 0 where
+  pub all : tried.passed ≡ None → length tried.refuted.items ≡ number
+  pub refuted : tried.passed ≡ None → (i : ℕ) (case : Case) → slice_get tried.refuted.items i ≡ Some case → RefutesCase lts class problem i case
+  pub passed : IfSome tried.passed (λ w. ShownWide lts class (shown_of w))
+
+-- the reason holds, and its numbers are in range
+pub record IsGoodReason (lts : System) (class : Class) (reason : Reason) : Type 0 where
+  pub holds : Accepts lts class (reason_of reason)
+  pub in_range : IsCertificateOf lts (record { class = class; reason = reason })
+
+-- what a problem comes to
+abbrev pub ProblemTells : System → Class → Problem → ProblemAnswer → Type 0
+ProblemTells lts class problem (problem_answer.Place r) = IsRegionPlace lts class r × PlaceSeparates problem r
+ProblemTells lts class problem (problem_answer.Refuted reason) = IsGoodReason lts class reason
+ProblemTells lts class problem (problem_answer.Wide w) = ShownWide lts class (shown_of w)
+
+-- what ends the work early
+abbrev pub EndingTells : System → Class → Ending → Type 0
+EndingTells lts class (ending.Refuted reason) = IsGoodReason lts class reason
+EndingTells lts class ending.NoMemory = Unit {0}

@@ -1,0 +1,6 @@
+pub mod View
+pub mod Answer
+pub mod Passing
+pub mod Keeping
+pub mod Casing
+pub mod Deciding

@@ -1,0 +1,22 @@
+//! Places that separate all problems of a system, or why there are none.
+#![tactic(auto)]
+
+mod case;
+mod dead;
+mod events;
+mod found;
+mod kept;
+mod placing;
+mod problem;
+mod refuting;
+mod separation;
+mod setting;
+mod states;
+mod vectors;
+mod wide_at;
+
+pub use separation::{Separation, separate};
+pub use wide_at::{Stage, WideAt};
+
+#[cfg(test)]
+mod tests;

@@ -1,0 +1,111 @@
+//! One problem, by its cases.
+ghost use Rattle.std.specs.Prelude.{◌≡◌, ℕ, length, Some, None, unwrap_or, slice_get, IfOk};
+ghost use Rattle.rg_refuting.specs.Row.{cases_of};
+ghost use Rattle.rg_cert.specs.declared.certificate.Case.{Case};
+ghost use Rattle.rg_theory.specs.System.{IsAllReachable};
+ghost use Rattle.rg_theory.specs.Problem.{IsProblem};
+ghost use Rattle.rg_folds.specs.Shown.{IsLive};
+ghost use Rattle.rg_separate.specs.Keeping.{IsSetting};
+ghost use Rattle.rg_separate.specs.Deciding.{RefutesCase, AreTried, IsGoodReason, ProblemTells};
+
+use crate::case::{CaseAnswer, solve_case};
+use crate::setting::{ProblemCase, Setting};
+use crate::wide_at::WideAt;
+use rg_cert::{Case, Reason};
+use rg_lts::Lts;
+use rg_places::RegionPlace;
+use rg_rows::cases;
+use rg_theory::{Class, Problem};
+use std::alloc::{AllocError, Global};
+
+// What a problem comes to.
+#[derive(Drop)]
+pub(crate) enum ProblemAnswer {
+    Place(RegionPlace),
+    Refuted(Reason),
+    Wide(WideAt),
+}
+
+// What the cases come to that were tried and gave no place.
+#[derive(Drop)]
+struct Tried {
+    refuted: Vec<Case>,
+    passed: Option<WideAt>,
+}
+
+// The place of the first case that gives one; else, where no number passes, what refutes all cases; else the first
+// term that passes.
+pub(crate) fn solve_problem(
+    alloc: Global,
+    setting: Setting<'_>,
+    problem: Problem,
+) -> Result<ProblemAnswer, AllocError>
+    requires setting { IsSetting setting }
+    requires has { IsProblem setting.lts.now problem }
+    requires live { IsLive setting.lts.now problem }
+    ensures { IfOk result (ProblemTells setting.entry.lts.now setting.entry.class problem) }
+{
+    let mut tried = Tried {
+        refuted: Vec::new(alloc),
+        passed: None,
+    };
+    for case in 0..cases(setting.lts, setting.class, problem) {
+        let c = ProblemCase {
+            setting,
+            problem,
+            number: case,
+        };
+        match solve_case(alloc, c)? {
+            CaseAnswer::Place(region) => return Ok(ProblemAnswer::Place(region)),
+            CaseAnswer::Refuted(case) => tried.refuted.push(case)?,
+            CaseAnswer::Wide(at) => tried.note(at),
+        }
+    }
+    Ok(without_place(setting.lts, setting.class, problem, tried))
+}
+
+impl Tried {
+    // Keeps the first term that passes.
+    fn note(&mut self, at: WideAt)
+        ensures passed { self.new.passed ≡ Some (unwrap_or self.old.passed at) }
+    {
+        if self.passed.is_none() {
+            self.passed = Some(at);
+        }
+    }
+}
+
+// What the problem comes to where no case gives a place.
+fn without_place(lts: &Lts, class: Class, problem: Problem, tried: Tried) -> ProblemAnswer
+    requires bound { class.bound ≡ None }
+    requires reachable { IsAllReachable lts.now }
+    requires has { IsProblem lts.now problem }
+    requires tried { AreTried lts.now class problem (cases_of lts.now class problem) tried }
+    ensures { ProblemTells lts.now class problem result }
+{
+    let Tried { refuted, passed } = tried;
+    match passed {
+        Some(at) => ProblemAnswer::Wide(at),
+        None => ProblemAnswer::Refuted(reason(lts, class, problem, refuted)),
+    }
+}
+
+// The reason that these trees give.
+fn reason(lts: &Lts, class: Class, problem: Problem, cases: Vec<Case>) -> Reason
+    requires bound { class.bound ≡ None }
+    requires reachable { IsAllReachable lts.now }
+    requires has { IsProblem lts.now problem }
+    requires all { length cases.items ≡ cases_of lts.now class problem }
+    requires refuted { (i : ℕ) (case : Case) → slice_get cases.items i ≡ Some case → RefutesCase lts.now class problem i case }
+    ensures { IsGoodReason lts.now class result }
+{
+    // the number of labels is asked for because its contract says that the system's numbers are in range
+    let _labels = lts.labels();
+    match problem {
+        Problem::States(s, other) => Reason::States(s, other, cases),
+        Problem::Event(s, t) => match cases.into_iter().next() {
+            Some(case) => Reason::Event(s, t, case),
+            None => unreachable!(),
+        },
+    }
+}

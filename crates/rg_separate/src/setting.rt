@@ -1,0 +1,23 @@
+//! What all problems of a system share, and one case of a problem.
+
+use rg_cycles::Basis;
+use rg_lts::Lts;
+use rg_spanning::Tree;
+use rg_theory::{Class, Problem};
+
+// A system with its tree, the basis of its chords, and the class of places that are asked for.
+#[derive(Clone, Copy)]
+pub(crate) struct Setting<'a> {
+    pub(crate) lts: &'a Lts,
+    pub(crate) tree: &'a Tree,
+    pub(crate) basis: &'a Basis,
+    pub(crate) class: Class,
+}
+
+// A problem of the system, and the number of one of its cases.
+#[derive(Clone, Copy)]
+pub(crate) struct ProblemCase<'a> {
+    pub(crate) setting: Setting<'a>,
+    pub(crate) problem: Problem,
+    pub(crate) number: u32,
+}

@@ -1,0 +1,59 @@
+//! The vectors of the chords.
+ghost use Rattle.std.specs.Prelude.{◌≡◌, ◌<◌, ◌≤◌, length, map, All, IfOk, if◌then◌else◌, pos, ◌+ℤ◌, ◌-ℤ◌};
+ghost use Rattle.rg_theory.specs.System.{labels};
+ghost use Rattle.rg_theory.specs.Tree.{chord_entry};
+ghost use Rattle.rg_integers.specs.Range.{InRange};
+ghost use Rattle.rg_linear.specs.Dictionary.{numbers_from};
+ghost use Rattle.rg_spanning.specs.Spanning.{IsTreeOf};
+ghost use Rattle.rg_folds.specs.Chords.{chord_vectors};
+ghost use Rattle.rg_cycles.specs.Vectors.{numbers_in, AreVectors};
+
+use rg_lts::{Arc, Lts};
+use rg_spanning::Tree;
+use std::alloc::{AllocError, Global};
+
+// The vectors of all chords, in order, with one entry for each label.
+pub(crate) fn chord_vectors(
+    alloc: Global,
+    lts: &Lts,
+    tree: &Tree,
+) -> Result<Vec<Vec<i128>>, AllocError>
+    requires { IsTreeOf lts.now tree.now }
+    ensures vectors { IfOk result (λ v. numbers_in v.items ≡ chord_vectors lts.now tree.now.arcs) }
+    ensures few { IfOk result (λ v. length v.items ≤ 262144) }
+    ensures in_range { IfOk result (λ v. AreVectors (labels lts.now) (numbers_in v.items)) }
+{
+    let labels = lts.labels();
+    let mut vectors = Vec::new(alloc);
+    for a in tree.chords() {
+        vectors.push(chord_vector(alloc, tree, labels, *a)?)?;
+    }
+    Ok(vectors)
+}
+
+// The vector of one chord: how often each label stands on the way to its source and on it, less how often it
+// stands on the way to its target.
+fn chord_vector(alloc: Global, tree: &Tree, labels: u32, a: Arc) -> Result<Vec<i128>, AllocError>
+    requires labels { labels ≡ tree.now.labels }
+    requires from { a.from < tree.now.states }
+    requires to { a.to < tree.now.states }
+    ensures vector { IfOk result (λ v. v.items ≡ map (chord_entry tree.now.arcs a) (numbers_from 0 labels)) }
+    ensures in_range { IfOk result (λ v. All InRange v.items) }
+{
+    let source = tree.parikh(a.from);
+    let target = tree.parikh(a.to);
+    let mut vector = Vec::new(alloc);
+    for t in 0..labels {
+        let place = t as usize;
+        vector.push(difference(source[place], t == a.label, target[place]))?;
+    }
+    Ok(vector)
+}
+
+// The source's count, and one where the chord has the label, less the target's.
+fn difference(source: u32, own: bool, target: u32) -> i128
+    ensures value { result ≡ (pos source +ℤ (if own then pos 1 else pos 0)) -ℤ pos target }
+    ensures in_range { InRange result }
+{
+    i128::from(source) + i128::from(own) - i128::from(target)
+}
