@@ -2,7 +2,8 @@
 ghost use Rattle.rg_separate.specs.Answer.{IsUnbranched};
 
 use crate::{Separation, separate};
-use rg_cert::Reason;
+use rg_cert::RowName::{self, Apart, Block, Makes, Stop, Tokens};
+use rg_cert::{Case, Node, Reason};
 use rg_lts::{BuildFault, Lts, LtsBuilder, is_name};
 use rg_spanning::Tree;
 use rg_theory::Class;
@@ -15,6 +16,8 @@ const NONE: Class = Class {
     bound: None,
     nonbranching: false,
 };
+
+const PURE: Class = Class { pure: true, ..NONE };
 
 const NONBRANCHING: Class = Class {
     nonbranching: true,
@@ -58,6 +61,39 @@ fn separation(alloc: Global, lts: &Lts, class: Class) -> Option<Separation>
     }
 }
 
+fn arc(from: u32, label: u32, to: u32) -> RowName {
+    RowName::Arc(rg_theory::Arc { from, label, to })
+}
+
+// Whether the tree begins with a leaf of these rows.
+fn is_leaf(case: &Case, rows: &[(RowName, i128)]) -> bool {
+    match case.nodes.first() {
+        Some(Node::Leaf(found)) => found.as_slice() == rows,
+        _ => false,
+    }
+}
+
+#[test]
+fn a_loop_and_a_step(rt: HostRuntime) -> Result<(), Fail> {
+    let side = built(
+        rt.alloc(),
+        &["s0", "s1"],
+        &["a", "b"],
+        &[("s0", "a", "s0"), ("s0", "b", "s1")],
+    )?;
+    let Some(Separation::Unsolvable(cert)) = separation(rt.alloc(), &side, PURE) else {
+        panic!(rt; "no certificate")
+    };
+    match &cert.reason {
+        Reason::Event(1, 0, case) => {
+            let rows = [(Block, 1), (Tokens(1), 1), (arc(0, 0, 0), 1)];
+            assert!(rt; is_leaf(case, &rows));
+        }
+        _ => panic!(rt; "another problem"),
+    }
+    Ok(())
+}
+
 #[test]
 fn a_choice(rt: HostRuntime) -> Result<(), Fail> {
     let lts = built(
@@ -70,11 +106,15 @@ fn a_choice(rt: HostRuntime) -> Result<(), Fail> {
         Some(Separation::Places(places)) => assert_eq!(rt; places.len(), 3),
         _ => panic!(rt; "no places"),
     }
-    match separation(rt.alloc(), &lts, NONBRANCHING) {
-        Some(Separation::Unsolvable(cert)) => {
-            assert!(rt; matches!(cert.reason, Reason::Event(1, 1, _)));
+    let Some(Separation::Unsolvable(cert)) = separation(rt.alloc(), &lts, NONBRANCHING) else {
+        panic!(rt; "no certificate")
+    };
+    match &cert.reason {
+        Reason::Event(1, 1, case) => {
+            let rows = [(Stop(0), 1), (Makes(0), 1), (arc(0, 0, 1), -1)];
+            assert!(rt; is_leaf(case, &rows));
         }
-        _ => panic!(rt; "no certificate"),
+        _ => panic!(rt; "another problem"),
     }
     Ok(())
 }
@@ -87,11 +127,18 @@ fn a_cycle_and_a_dead_label(rt: HostRuntime) -> Result<(), Fail> {
         &["a"],
         &[("s0", "a", "s1"), ("s1", "a", "s0")],
     )?;
-    match separation(rt.alloc(), &cycle, NONE) {
-        Some(Separation::Unsolvable(cert)) => {
-            assert!(rt; matches!(cert.reason, Reason::States(0, 1, _)));
+    let Some(Separation::Unsolvable(cert)) = separation(rt.alloc(), &cycle, NONE) else {
+        panic!(rt; "no certificate")
+    };
+    match &cert.reason {
+        Reason::States(0, 1, cases) => {
+            assert_eq!(rt; cases.len(), 2);
+            let lower = [(Apart, 2), (arc(0, 0, 1), 1), (arc(1, 0, 0), -1)];
+            assert!(rt; is_leaf(&cases[0], &lower));
+            let higher = [(Apart, 2), (arc(0, 0, 1), -1), (arc(1, 0, 0), 1)];
+            assert!(rt; is_leaf(&cases[1], &higher));
         }
-        _ => panic!(rt; "no certificate"),
+        _ => panic!(rt; "another problem"),
     }
     let still = built(rt.alloc(), &["s0"], &["a"], &[])?;
     match separation(rt.alloc(), &still, NONE) {
@@ -115,11 +162,22 @@ fn a_word(rt: HostRuntime) -> Result<(), Fail> {
             ("s4", "a", "s5"),
         ],
     )?;
-    match separation(rt.alloc(), &word, NONE) {
-        Some(Separation::Unsolvable(cert)) => {
-            assert!(rt; matches!(cert.reason, Reason::Event(2, 0, _)));
+    let Some(Separation::Unsolvable(cert)) = separation(rt.alloc(), &word, NONE) else {
+        panic!(rt; "no certificate")
+    };
+    match &cert.reason {
+        Reason::Event(2, 0, case) => {
+            let rows = [
+                (Stop(0), 1),
+                (Stop(4), 1),
+                (arc(0, 0, 1), -1),
+                (arc(1, 1, 2), -1),
+                (arc(2, 1, 3), 1),
+                (arc(3, 0, 4), 1),
+            ];
+            assert!(rt; is_leaf(case, &rows));
         }
-        _ => panic!(rt; "no certificate"),
+        _ => panic!(rt; "another problem"),
     }
     Ok(())
 }
