@@ -2,8 +2,8 @@
 """Writes a system file at the limits and measures how long the built program takes to read it.
 
 Usage: bench/reading.py [PROGRAM]
-PROGRAM is crates/regions/out/regions unless it is named. All states can be reached, there is no fork, and with 256 labels
-the program stops there (status 8): what is measured is reading, the two checks and little else. It is run by hand and is no test.
+PROGRAM is crates/regions/out/regions unless it is named. All states can be reached, there is no fork, and nets of a plain
+class aren't built (status 8): what is measured is reading, the two checks and little else. It is run by hand and is no test.
 """
 import os
 import resource
@@ -43,7 +43,7 @@ def main():
         path = os.path.join(folder, 'limits.apt')
         write(path)
         begin = time.monotonic()
-        status = subprocess.run([program, 'synthesize', 'none', path]).returncode
+        status = subprocess.run([program, 'synthesize', 'plain', path]).returncode
         seconds = time.monotonic() - begin
         peak = resource.getrusage(resource.RUSAGE_CHILDREN).ru_maxrss / 1024
         print(f'{os.path.getsize(path):,} bytes, {STATES} states, {LABELS} labels, {ARCS} arcs: '

@@ -97,13 +97,14 @@ pub fn judge<R: Threads + Sync>(
     run_over(rt, alloc, &["verify", "f", "c"], shelf, out)
 }
 
-/// `synthesize none f` over a file with this text.
+/// `synthesize CLASS f` over a file with this text.
 pub fn synthesize<R: Threads + Sync>(
     rt: &R,
     alloc: Global,
+    class: &str,
     text: &[u8],
 ) -> Result<Outcome, NoRoom> {
     let shelf = shelf(alloc, text, &[])?;
     let out = sink(alloc, 4096, &[])?;
-    run_over(rt, alloc, &["synthesize", "none", "f"], shelf, out)
+    run_over(rt, alloc, &["synthesize", class, "f"], shelf, out)
 }

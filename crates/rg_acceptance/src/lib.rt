@@ -8,6 +8,8 @@ mod faults;
 #[cfg(test)]
 mod harness;
 #[cfg(test)]
+mod inseparable;
+#[cfg(test)]
 mod refutations;
 #[cfg(test)]
 mod systems;

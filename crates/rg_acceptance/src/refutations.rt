@@ -15,7 +15,7 @@ const OF_FORK: &str = "certificate 1\nclass none\nfork s0 a s1 s2\nend\n";
 #[test]
 fn certificates_are_written(rt: HostRuntime) -> Result<(), NoRoom> {
     for (text, certificate) in [(APART, OF_APART), (FORK, OF_FORK)] {
-        let outcome = synthesize(&rt, rt.alloc(), text.as_bytes())?;
+        let outcome = synthesize(&rt, rt.alloc(), "none", text.as_bytes())?;
         assert_eq!(rt; outcome.status, Status::No);
         assert_eq!(rt; outcome.status.number(), 1);
         assert!(rt; outcome.out.bytes() == certificate.as_bytes());
@@ -26,17 +26,10 @@ fn certificates_are_written(rt: HostRuntime) -> Result<(), NoRoom> {
 
 #[test]
 fn certificates_of_a_class(rt: HostRuntime) -> Result<(), NoRoom> {
-    let alloc = rt.alloc();
-    let made = run_over(
-        &rt,
-        alloc,
-        &["synthesize", "safe,pure", "f"],
-        shelf(alloc, FORK.as_bytes(), &[])?,
-        sink(alloc, 4096, &[])?,
-    )?;
-    assert_eq!(rt; made.status, Status::No);
+    let outcome = synthesize(&rt, rt.alloc(), "safe,pure", FORK.as_bytes())?;
+    assert_eq!(rt; outcome.status, Status::No);
     assert!(rt;
-        made.out.bytes() == b"certificate 1\nclass pure,safe\nfork s0 a s1 s2\nend\n".as_slice()
+        outcome.out.bytes() == b"certificate 1\nclass pure,safe\nfork s0 a s1 s2\nend\n".as_slice()
     );
     Ok(())
 }

@@ -35,7 +35,7 @@ fn nets_byte_for_byte(rt: HostRuntime) -> Result<(), NoRoom> {
         (TWICE, LOOP_NET),
         (SIDE, SIDE_NET),
     ] {
-        let outcome = synthesize(&rt, rt.alloc(), text.as_bytes())?;
+        let outcome = synthesize(&rt, rt.alloc(), "none", text.as_bytes())?;
         assert_eq!(rt; outcome.status, Status::Done);
         assert!(rt; outcome.out.bytes() == net.as_bytes());
         assert!(rt; outcome.err.bytes().is_empty());
@@ -86,7 +86,7 @@ fn faults_of_texts(rt: HostRuntime) -> Result<(), NoRoom> {
             "file 1: no initial state\n",
         ),
     ] {
-        let outcome = synthesize(&rt, rt.alloc(), text)?;
+        let outcome = synthesize(&rt, rt.alloc(), "none", text)?;
         assert_eq!(rt; outcome.status, refused(fault));
         assert_eq!(rt; outcome.status.number(), 3);
         assert!(rt; outcome.out.bytes().is_empty());
@@ -110,7 +110,7 @@ fn too_many_states(alloc: Global) -> Result<Vec<u8>, NoRoom> {
 #[test]
 fn a_state_too_many(rt: HostRuntime) -> Result<(), NoRoom> {
     let text = too_many_states(rt.alloc())?;
-    let outcome = synthesize(&rt, rt.alloc(), &text)?;
+    let outcome = synthesize(&rt, rt.alloc(), "none", &text)?;
     assert_eq!(rt; outcome.status, refused(TextFault::TooManyStates(23493)));
     assert!(rt; outcome.err.bytes() == b"file 1: too many states at 23493\n".as_slice());
     Ok(())

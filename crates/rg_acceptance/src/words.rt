@@ -1,6 +1,6 @@
 //! Words that are refused, and a file that isn't there.
 use crate::harness::{NoRoom, run_over, shelf, sink};
-use rg_synth::{Fault, FileFault, Status, Unbuilt, Usage};
+use rg_synth::{Fault, FileFault, Status, Usage};
 use rg_theory::ClassFault;
 
 #[test]
@@ -53,22 +53,6 @@ fn words_are_refused(rt: HostRuntime) -> Result<(), NoRoom> {
         assert!(rt; made.out.bytes().is_empty());
         assert!(rt; made.err.bytes() == line.as_bytes());
     }
-    Ok(())
-}
-
-#[test]
-fn another_class(rt: HostRuntime) -> Result<(), NoRoom> {
-    let alloc = rt.alloc();
-    let words = ["synthesize", "pure", "f"];
-    let made = run_over(
-        &rt,
-        alloc,
-        &words,
-        shelf(alloc, b".type LTS .states s[initial] .labels .arcs", &[])?,
-        sink(alloc, 64, &[])?,
-    )?;
-    assert_eq!(rt; made.status, Status::Unbuilt(Unbuilt::Class));
-    assert!(rt; made.err.bytes().is_empty());
     Ok(())
 }
 

@@ -32,6 +32,14 @@ pub const CHOICE: &str =
 pub const OF_CHOICE: &str =
     "certificate 1\nclass output-nonbranching\nevent s1 b\ncase\nleaf\n1 stop s0\n1 makes a\n-1 arc s0 a s1\nend\n";
 
+/// No region of a pure net from which b alone takes stops b after a.
+pub const OF_PURE_CHOICE: &str =
+    "certificate 1\nclass pure,output-nonbranching\nevent s1 b\ncase\nleaf\n1 block\n1 tokens s2\n1 makes a\n-1 arc s0 a s1\n1 arc s0 b s2\nend\n";
+
+/// The word a b a.
+pub const ABA: &str =
+    ".type LTS\n.states\ns0[initial]\ns1\ns2\ns3\n.labels\na\nb\n.arcs\ns0 a s1\ns1 b s2\ns2 a s3\n";
+
 /// The cycle of a, a and b.
 pub const RING: &str =
     ".type LTS\n.states\ns0[initial]\ns1\ns2\n.labels\na\nb\n.arcs\ns0 a s1\ns1 a s2\ns2 b s0\n";

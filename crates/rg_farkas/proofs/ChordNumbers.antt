@@ -1,26 +1,24 @@
 -- The numbers of chords, as code finds them.
-use Rattle.std.proofs.Common.{drop, zero, ◌≡◌, ◌≢◌, ◌⊎◌, ⊎_elim, inl, inr, ℕ, suc, ◌+◌, ◌-◌, ◌<◌, ◌≤◌, ◌==◌, ◌&&◌, not, nat_lt, Bool, true, false, if◌then◌else◌, List, [], ◌∷◌, map, filter, length, Contains, All, Result, Ok, Err, ap, ap₂, refl, subst, sym, ◌∙◌, arith, eq-eqb, ne_eqb}
-use Rattle.std.specs.Prelude.{ℤ, pos, neg_ℤ, ◌*ℤ◌, ◌<ℤ◌, slice_index, slice_index_or}
+use Rattle.std.proofs.Common.{drop, ◌≡◌, ◌≢◌, ⊎_elim, inl, inr, ℕ, suc, ◌+◌, ◌-◌, ◌<◌, ◌≤◌, ◌==◌, ◌&&◌, not, nat_lt, Bool, true, false, if◌then◌else◌, List, [], ◌∷◌, map, filter, length, Contains, All, Result, Ok, Err, ap, ap₂, refl, subst, sym, ◌∙◌, arith, eq-eqb, ne_eqb}
+use Rattle.std.specs.Prelude.{ℤ, pos, neg_ℤ, slice_index, slice_index_or}
 use Rattle.std.specs.Ordering.{int_eq}
 use Rattle.std.proofs.lemmas.Int.{ints}
-use Rattle.std.proofs.lemmas.Bool.{cases_Bool, cases_eq, cases_lt, false≢true, true≢false}
+use Rattle.std.proofs.lemmas.Bool.{cases_Bool, cases_eq, cases_lt, false≢true}
 use Rattle.std.proofs.lemmas.Bool.Decides.{Decides-int_eq}
-use Rattle.rg_linear.specs.Dictionary.{Relation as LinearRelation, numbers_from}
+use Rattle.rg_linear.specs.Dictionary.{Relation as LinearRelation}
 use Rattle.rg_linear.specs.Cycle.{vector_at, IsZeroVector, vector_system, CycleBasis, IsCycleBasis}
-use Rattle.rg_linear.proofs.Members.{is_member}
 use Rattle.rg_linear.proofs.Columns.{below_test, past_test}
 use Rattle.rg_linear.proofs.Cycles.{cycle_set_knows}
-use Rattle.rg_integers.specs.Range.{InRange}
 use Rattle.rg_integers.proofs.Order.{positive_differs}
 use Rattle.rg_integers.proofs.Divisors.{IsGcd-neg_first}
 use Rattle.rg_fraction.specs.declared.term.Wide.{Wide}
 use Rattle.rg_fraction.specs.declared.fraction.Fraction.{Fraction}
 use Rattle.rg_fraction.specs.Fractions.{numerator_of, denominator_of, IsValue, IsProduct}
-use Rattle.rg_folds.specs.Fold.{and_then, gives, further, joined, Ratio, whole, ratio_of, shown_result, IsRatio, quotient, add, mul}
+use Rattle.rg_folds.specs.Fold.{further, joined, Ratio, whole, ratio_of, shown_result, quotient, add, mul}
 use Rattle.rg_folds.specs.Placing.{negated}
 use Rattle.rg_folds.proofs.FoldLemmas.{ratio_one, new_step, mul_step}
 use Rattle.rg_cycles.specs.declared.relation.Relation.{Relation}
-use Rattle.rg_cycles.specs.Basis.{vector_numbers, ShowsRelation, number_with}
+use Rattle.rg_cycles.specs.Basis.{ShowsRelation, number_with}
 use Rattle.rg_cycles.proofs.Labels.{filter_has, filter_from}
 use Rattle.rg_farkas.specs.View.{LabelCount, counted_of, count_fold, counts_fold}
 use Rattle.rg_farkas.specs.declared.term.Counted.{Counted}

@@ -1,6 +1,6 @@
 -- With the chords' multipliers, the named rows cancel at all numbers along the tree.
-use Rattle.std.proofs.Common.{◌≡◌, ◌≢◌, ⊎_elim, ℕ, suc, ◌+◌, ◌<◌, List, [], ◌∷◌, ◌++◌, map, length, Result, Ok, Contains, All, ap, ap₂, refl, subst, sym, ◌∙◌, arith}
-use Rattle.std.specs.Prelude.{ℤ, pos, neg_ℤ, ◌+ℤ◌, ◌*ℤ◌, ◌<ℤ◌, int_div}
+use Rattle.std.proofs.Common.{◌≡◌, ◌≢◌, ⊎_elim, ℕ, suc, ◌+◌, List, [], ◌∷◌, map, Result, Ok, Contains, All, ap, ap₂, refl, subst, sym, ◌∙◌, arith}
+use Rattle.std.specs.Prelude.{ℤ, pos, neg_ℤ, ◌+ℤ◌, ◌*ℤ◌, ◌<ℤ◌}
 use Rattle.std.proofs.lemmas.Int.{ints}
 use Rattle.std.proofs.lemmas.List.Elements.{All-contains, Contains-append_cases}
 use Rattle.rg_theory.proofs.Lists.{Contains-cons_cases}
@@ -8,7 +8,7 @@ use Rattle.rg_meaning.proofs.Lists.{Contains-of_map}
 use Rattle.rg_theory.specs.declared.Arc.{Arc}
 use Rattle.rg_theory.specs.System.{System, IsInRange, states, labels}
 use Rattle.rg_theory.specs.Tree.{IsTree}
-use Rattle.rg_integers.specs.Sum.{sum_below, sum_over}
+use Rattle.rg_integers.specs.Sum.{sum_over}
 use Rattle.rg_integers.proofs.Ring.{ring, mul-add, add-mul, mul-neg, mul_assoc, mul_left_comm}
 use Rattle.rg_integers.proofs.Order.{mul-cancel, mul-cancel_left, mul_positive, positive_differs}
 use Rattle.rg_integers.proofs.ListSums.{sum_over-same, sum_over-append, sum_over-map, sum_over-plus, sum_over-times, sum_over-swap}
@@ -17,8 +17,8 @@ use Rattle.rg_refuting.specs.Expression.{Variable, Expression, value_in}
 use Rattle.rg_refuting.specs.Row.{RowName}
 use Rattle.rg_refuting.specs.Refutes.{NamedRow}
 use Rattle.rg_linear.specs.Cycle.{CycleBasis}
-use Rattle.rg_folds.specs.Fold.{each, further, joined, Ratio, whole, add, mul, quotient}
-use Rattle.rg_folds.specs.Potentials.{chord_sum, potential}
+use Rattle.rg_folds.specs.Fold.{each, further, joined, Ratio, whole, add}
+use Rattle.rg_folds.specs.Potentials.{chord_sum}
 use Rattle.rg_folds.specs.Chords.{IsBasis}
 use Rattle.rg_folds.specs.Rewriting.{start_of, count_of, dependent_labels}
 use Rattle.rg_folds.specs.Values.{NamesLabels, numbers_along}
@@ -26,11 +26,10 @@ use Rattle.rg_folds.specs.Spreading.{Share, Pair, pairs_of, pair_fold, used_chor
 use Rattle.rg_folds.proofs.RowValues.{IsOver, rewritten, quotient_over}
 use Rattle.rg_folds.proofs.Scaling.{Divides, AllDivide}
 use Rattle.rg_folds.proofs.ChordRows.{effects_exact}
-use Rattle.rg_folds.proofs.ExactRows.{common_bottom}
-use Rattle.rg_farkas.specs.Refuting.{KeepsEachArc, terms_sum, RefuteOnArcs, AreShares, SharesRefute}
+use Rattle.rg_farkas.specs.Refuting.{KeepsEachArc, terms_sum, RefuteOnArcs, AreShares}
 use Rattle.rg_farkas.specs.View.{AreRowsWithin, IsTermWithin, arc_times}
-use Rattle.rg_farkas.proofs.Fractions.{product_over, whole_over_one, joined_sum, negated_over, part_is, whole_in, whole_in_over}
-use Rattle.rg_farkas.proofs.Relations.{dependent, used_chord, relation_row, taken, taken_follows, chords_at, counts_away}
+use Rattle.rg_farkas.proofs.Fractions.{product_over, whole_over_one, joined_sum, negated_over, whole_in, whole_in_over}
+use Rattle.rg_farkas.proofs.Relations.{used_chord, taken, taken_follows, chords_at, counts_away}
 use Rattle.rg_farkas.proofs.Variables.{within_names}
 
 -- ---- the shares as rows, over a scale

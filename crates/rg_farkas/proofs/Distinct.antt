@@ -1,7 +1,6 @@
 -- The arcs that get multipliers are different arcs of the system.
-use Rattle.std.proofs.Common.{◌≡◌, ◌≢◌, ◌⊎◌, ⊎_elim, ℕ, zero, suc, ◌+◌, ◌<◌, ◌≤◌, Bool, true, false, if◌then◌else◌, List, [], ◌∷◌, ◌++◌, map, length, slice_index_or, Contains, inl, inr, ap, refl, subst, sym, ◌∙◌, arith}
-use Rattle.std.specs.Prelude.{ℤ}
-use Rattle.std.proofs.lemmas.Bool.{cases_lt, true≢false}
+use Rattle.std.proofs.Common.{◌≡◌, ◌≢◌, ⊎_elim, ℕ, zero, suc, ◌+◌, ◌<◌, ◌≤◌, Bool, true, false, if◌then◌else◌, List, [], ◌∷◌, ◌++◌, map, length, slice_index_or, Contains, inl, inr, refl, subst, sym, ◌∙◌, arith}
+use Rattle.std.proofs.lemmas.Bool.{true≢false}
 use Rattle.std.proofs.lemmas.List.Elements.{Contains-push, Contains-append_left, Contains-append_cases, Contains-get_or}
 use Rattle.rg_theory.specs.declared.Arc.{Arc}
 use Rattle.rg_theory.specs.System.{System, labels}
@@ -13,7 +12,7 @@ use Rattle.rg_linear.specs.Firsts.{KeepsFirsts}
 use Rattle.rg_linear.specs.Cycle.{vector_at, IsZeroVector, CycleBasis}
 use Rattle.rg_linear.proofs.Firsts.{kept_is}
 use Rattle.rg_linear.proofs.Members.{numbers_from-Contains}
-use Rattle.rg_folds.specs.Chords.{chord_vectors, chord_at, IsBasis}
+use Rattle.rg_folds.specs.Chords.{chord_vectors, IsBasis}
 use Rattle.rg_folds.specs.Rewriting.{is_in, numbers_where}
 use Rattle.rg_folds.specs.Spreading.{used_chords, chord_arcs}
 use Rattle.rg_folds.proofs.Potentials.{chord_is_arc}

@@ -1,5 +1,5 @@
 -- Sums and products of fractions over common bottoms, and what a common multiple makes of fractions.
-use Rattle.std.proofs.Common.{◌≡◌, ◌≢◌, ℕ, suc, List, [], ◌∷◌, ◌++◌, map, Result, Ok, Contains, ap, ap₂, refl, subst, sym, ◌∙◌, arith}
+use Rattle.std.proofs.Common.{◌≡◌, ◌≢◌, suc, List, [], ◌∷◌, ◌++◌, map, Result, Ok, Contains, ap, ap₂, refl, subst, sym, ◌∙◌, arith}
 use Rattle.std.specs.Prelude.{ℤ, pos, neg_ℤ, ◌+ℤ◌, ◌*ℤ◌, ◌<ℤ◌, int_div, unsigned_abs}
 use Rattle.std.specs.Int.{◌∣◌}
 use Rattle.std.proofs.Math.IntN.{*ℤ_comm}
@@ -7,10 +7,10 @@ use Rattle.std.proofs.Math.Nat.{dvd-mul_right}
 use Rattle.std.proofs.lemmas.Int.{ints, unsigned_abs-mul}
 use Rattle.rg_integers.specs.Sum.{sum_over}
 use Rattle.rg_integers.proofs.Ring.{ring}
-use Rattle.rg_integers.proofs.Order.{mul-cancel, positive_differs}
+use Rattle.rg_integers.proofs.Order.{mul-cancel}
 use Rattle.rg_integers.proofs.Divisors.{exact}
 use Rattle.rg_fraction.specs.declared.term.Wide.{Wide}
-use Rattle.rg_folds.specs.Fold.{each, further, joined, Ratio, whole, add, mul, multiple_of_all}
+use Rattle.rg_folds.specs.Fold.{each, further, joined, Ratio, whole, add, mul}
 use Rattle.rg_folds.specs.Placing.{negated}
 use Rattle.rg_folds.specs.Rewriting.{Scaled, scaled_fold}
 use Rattle.rg_folds.proofs.RowValues.{IsOver, add_over}

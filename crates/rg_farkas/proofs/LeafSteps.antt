@@ -1,9 +1,9 @@
 -- The steps of the leaf's fold.
-use Rattle.std.proofs.Common.{◌≡◌, ◌⊎◌, inl, inr, ⊎_elim, ℕ, zero, suc, max, ◌+◌, ◌-◌, ◌<◌, ◌≤◌, ◌^◌, ◌||◌, not, Bool, true, false, if◌then◌else◌, List, [], ◌∷◌, ◌++◌, map, take, drop, reverse, length, Result, Ok, Err, Contains, All, ap, ap₂, refl, subst, sym, ◌∙◌, arith}
+use Rattle.std.proofs.Common.{◌≡◌, inl, inr, ℕ, suc, max, ◌+◌, ◌-◌, ◌<◌, ◌≤◌, ◌^◌, ◌||◌, not, Bool, true, false, if◌then◌else◌, List, [], ◌∷◌, ◌++◌, map, take, drop, reverse, length, Result, Ok, Err, Contains, All, ap, ap₂, refl, subst, sym, ◌∙◌, arith}
 use Rattle.std.specs.Prelude.{ℤ, pos, ◌*ℤ◌, int_lt, slice_index_or}
 use Rattle.std.proofs.lemmas.Bool.{true≢false}
 use Rattle.std.proofs.lemmas.List.{length-map, length-append, length-drop, length-take, map-append, take_all}
-use Rattle.std.proofs.lemmas.List.Elements.{All-nil, All-cons, All-head, All-tail, All-map, All-append, All-drop, All-from_get_or, Contains-get_or}
+use Rattle.std.proofs.lemmas.List.Elements.{All-nil, All-cons, All-head, All-tail, All-append, All-drop}
 use Rattle.rg_theory.specs.declared.Arc.{Arc}
 use Rattle.rg_theory.specs.System.{System, labels}
 use Rattle.rg_theory.specs.Tree.{arcs_without, is_among, chords, same_arc}
@@ -17,8 +17,8 @@ use Rattle.rg_refuting.specs.Expression.{Expression}
 use Rattle.rg_refuting.specs.Row.{RowName}
 use Rattle.rg_refuting.specs.Refutes.{NamedRow}
 use Rattle.rg_cert.specs.declared.certificate.RowName.{RowName as CodeName}
-use Rattle.rg_cert.specs.Trees.{row_name_of, named_row}
-use Rattle.rg_folds.specs.Fold.{gives, and_then, each, joined, add, whole, Ratio, ratio_of}
+use Rattle.rg_cert.specs.Trees.{named_row}
+use Rattle.rg_folds.specs.Fold.{each, joined, add, whole, Ratio, ratio_of}
 use Rattle.rg_folds.specs.Chords.{IsBasis, chord_vectors, chord_at}
 use Rattle.rg_folds.specs.Rewriting.{is_in, dependent_labels, scaled_fold, Scaled as ScaledNumbers}
 use Rattle.rg_folds.specs.Spreading.{Share, Pair, pairs_of, used_chords, chord_fold, chord_arcs, named_from, arc_name, ArcTimes, tree_fold, IsParts, multiplier_among, not_zero, checked_leaf, leaf_fold}

@@ -1,20 +1,19 @@
 -- What rows add up to, as they are listed in a leaf.
-use Rattle.std.proofs.Common.{◌≡◌, ◌≢◌, ⊎_elim, ℕ, zero, suc, max, ◌+◌, ◌<◌, ◌≤◌, ◌||◌, Bool, true, false, if◌then◌else◌, List, [], ◌∷◌, ◌++◌, map, length, drop, slice_index_or, Contains, ap, ap₂, refl, subst, sym, ◌∙◌, arith, eq-eqb}
-use Rattle.std.specs.Prelude.{ℤ, pos, negsuc, ◌+ℤ◌, ◌*ℤ◌, int_lt, AllPairs}
+use Rattle.std.proofs.Common.{◌≡◌, ⊎_elim, ℕ, zero, suc, ◌+◌, ◌<◌, ◌≤◌, ◌||◌, Bool, true, false, if◌then◌else◌, List, [], ◌∷◌, ◌++◌, map, length, drop, slice_index_or, Contains, ap, ap₂, refl, subst, sym, ◌∙◌, arith, eq-eqb}
+use Rattle.std.specs.Prelude.{ℤ, pos, ◌+ℤ◌, ◌*ℤ◌, int_lt, AllPairs}
 use Rattle.std.proofs.Math.IntN.{zero-*ℤ}
 use Rattle.std.proofs.lemmas.Int.{ints}
 use Rattle.std.proofs.lemmas.Bool.{cases_Bool, true≢false}
-use Rattle.std.proofs.lemmas.List.{length-map, map-append}
 use Rattle.rg_theory.specs.declared.Arc.{Arc}
 use Rattle.rg_theory.specs.System.{IsArcBefore}
 use Rattle.rg_theory.specs.Tree.{same_arc}
 use Rattle.rg_theory.proofs.Lists.{Contains-cons_cases}
 use Rattle.rg_integers.specs.Sum.{sum_over}
 use Rattle.rg_integers.proofs.Ring.{ring}
-use Rattle.rg_integers.proofs.ListSums.{sum_over-same, sum_over-zero, sum_over-append, sum_over-map, sum_over-plus, sum_over-times}
+use Rattle.rg_integers.proofs.ListSums.{sum_over-same, sum_over-zero, sum_over-append, sum_over-map, sum_over-plus}
 use Rattle.rg_refuting.specs.Row.{RowName}
 use Rattle.rg_refuting.specs.Refutes.{NamedRow}
-use Rattle.rg_folds.specs.Spreading.{named_from, not_zero, multiplier_among, arc_name, ArcTimes}
+use Rattle.rg_folds.specs.Spreading.{named_from, not_zero, multiplier_among, arc_name}
 use Rattle.rg_folds.proofs.Potentials.{among_is}
 use Rattle.rg_farkas.specs.View.{arc_times}
 use Rattle.rg_farkas.proofs.Steps.{from_place}

@@ -1,13 +1,8 @@
 -- Least common multiples of positive numbers.
-use Rattle.std.proofs.Common.{◌≡◌, ℕ, suc, ◌+◌, ◌<◌, ◌≤◌, List, [], ◌∷◌, map, drop, length, Result, Ok, Err, ap, refl, subst, sym, ◌∙◌, inl, inr, arith, add-one}
-use Rattle.std.specs.Prelude.{ℤ, pos, ◌*ℤ◌, ◌-ℤ◌, ◌≤ℤ◌, ◌<ℤ◌, int_div, slice_index_or, IfOk, unsigned_abs}
-use Rattle.std.specs.Int.{◌∣◌}
-use Rattle.std.proofs.lemmas.Int.{ints}
+use Rattle.std.proofs.Common.{◌≡◌, ℕ, ◌+◌, ◌<◌, ◌≤◌, List, [], ◌∷◌, map, drop, length, Result, Ok, Err, ap, refl, subst, sym, ◌∙◌, inl, inr, add-one}
+use Rattle.std.specs.Prelude.{ℤ, slice_index_or}
 use Rattle.std.proofs.lemmas.List.{drop_all}
 use Rattle.std.proofs.Math.Seq.{drop-cons}
-use Rattle.rg_integers.specs.Divisor.{int_gcd, gcd_of}
-use Rattle.rg_integers.proofs.Divisors.{exact, gcd_of-is, int_gcd_positive}
-use Rattle.rg_integers.proofs.Order.{positive_differs, mul_positive, quotient_positive}
 use Rattle.rg_fraction.specs.declared.term.Wide.{Wide}
 use Rattle.rg_fraction.specs.declared.fraction.Fraction.{Fraction}
 use Rattle.rg_fraction.specs.Fractions.{numerator_of, denominator_of}

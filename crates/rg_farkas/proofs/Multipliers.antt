@@ -1,32 +1,30 @@
 -- Multipliers that refute a case's system, as shares of its named rows.
-use Rattle.std.proofs.Common.{◌≡◌, ◌≢◌, ◌⊎◌, ⊎_elim, ℕ, zero, suc, ◌+◌, ◌-◌, ◌<◌, ◌≤◌, ◌||◌, nat_lt, Bool, true, false, if◌then◌else◌, List, [], ◌∷◌, ◌++◌, map, length, slice_index_or, Result, Ok, Contains, All, inl, inr, ap, ap₂, refl, subst, sym, ◌∙◌, arith}
+use Rattle.std.proofs.Common.{◌≡◌, ◌≢◌, ◌⊎◌, ⊎_elim, ℕ, zero, suc, ◌+◌, ◌-◌, ◌<◌, ◌≤◌, ◌||◌, Bool, true, false, if◌then◌else◌, List, [], ◌∷◌, length, Ok, Contains, All, inl, inr, ap, ap₂, refl, subst, sym, ◌∙◌, arith}
 use Rattle.std.specs.Prelude.{ℤ, pos, negsuc, ◌+ℤ◌, ◌*ℤ◌, ◌<ℤ◌, ◌≤ℤ◌, int_lt}
 use Rattle.std.proofs.Math.IntN.{zero-*ℤ, *ℤ-zero}
 use Rattle.std.proofs.lemmas.Int.{ints}
-use Rattle.std.proofs.lemmas.Bool.{cases_Bool, true≢false}
+use Rattle.std.proofs.lemmas.Bool.{true≢false}
 use Rattle.std.proofs.lemmas.List.{length-map, get_or-map}
 use Rattle.std.proofs.lemmas.List.Elements.{All-nil, All-cons, All-head, All-tail, Contains-get_or}
 use Rattle.rg_theory.specs.declared.Arc.{Arc}
 use Rattle.rg_theory.specs.declared.Class.{Class}
 use Rattle.rg_theory.specs.declared.Problem.{Problem}
-use Rattle.rg_theory.specs.System.{System, IsInRange, IsAllReachable, states, labels}
-use Rattle.rg_theory.specs.Tree.{IsTree, KeepsArcs, parikh}
-use Rattle.rg_integers.specs.Sum.{sum_below, sum_over, number_at, dot}
-use Rattle.rg_integers.proofs.Ring.{ring, mul-add, mul_left_comm}
-use Rattle.rg_integers.proofs.Order.{mul-cancel, mul-cancel_left, mul_positive, mul_negative, positive_differs, factor_positive}
+use Rattle.rg_theory.specs.System.{System, labels}
+use Rattle.rg_theory.specs.Tree.{KeepsArcs, parikh}
+use Rattle.rg_integers.specs.Sum.{sum_below, number_at, dot}
+use Rattle.rg_integers.proofs.Ring.{ring, mul-add}
+use Rattle.rg_integers.proofs.Order.{mul-cancel, mul_positive, mul_negative, positive_differs, factor_positive}
 use Rattle.rg_integers.proofs.Sums.{sum_below-same, sum_below-zero, sum_below-times, sum_below-swap, sum_below-first}
 use Rattle.rg_linear.specs.System.{LinearRow, row_at, entry, AreFarkasMultipliers}
 use Rattle.rg_linear.specs.Cycle.{FollowsRelations, CycleBasis}
 use Rattle.rg_linear.specs.Branching.{weights_from, form_at}
 use Rattle.rg_linear.proofs.Columns.{below_test}
 use Rattle.rg_linear.proofs.Firsts.{kept_is}
-use Rattle.rg_fraction.specs.declared.term.Wide.{Wide}
-use Rattle.rg_refuting.specs.Expression.{Variable, Variable.tokens_at, Variable.effect_of, Term, Expression, value_in}
+use Rattle.rg_refuting.specs.Expression.{Variable, Variable.tokens_at, Variable.effect_of, Term, value_in}
 use Rattle.rg_refuting.specs.Row.{RowName, RowName.above_row, RowStands, row_expression}
 use Rattle.rg_refuting.specs.Refutes.{NamedRow, constant_sum}
-use Rattle.rg_folds.specs.Fold.{each, Ratio, whole, mul}
-use Rattle.rg_folds.specs.Potentials.{potential}
-use Rattle.rg_folds.specs.Chords.{chord_system, IsBasis}
+use Rattle.rg_folds.specs.Fold.{each, whole, mul}
+use Rattle.rg_folds.specs.Chords.{chord_system}
 use Rattle.rg_folds.specs.Rewriting.{has_label, has_start, names_of, KeptRow, IsIdle, row_fold, CaseSystem, rows_of, system_fold}
 use Rattle.rg_folds.specs.Values.{numbers_along, column_values, UnusedAreZero}
 use Rattle.rg_folds.specs.Shown.{IsLive}
@@ -42,7 +40,7 @@ use Rattle.rg_meaning.proofs.CaseRows.{name_no_tokens}
 use Rattle.rg_meaning.proofs.Shifts.{same_value}
 use Rattle.rg_meaning.proofs.ColumnValues.{row_sum}
 use Rattle.rg_cert.specs.Certificates.{IsRowNameOf}
-use Rattle.rg_farkas.specs.Refuting.{KeepsEachArc, terms_sum, RefuteOnArcs, AreShares, SharesRefute}
+use Rattle.rg_farkas.specs.Refuting.{KeepsEachArc, AreShares, SharesRefute}
 use Rattle.rg_farkas.proofs.Listed.{rows_sum, zero_of}
 use Rattle.rg_farkas.proofs.Names.{IsUsed, NamesUsed, names_in_range, names_used}
 

@@ -1,5 +1,5 @@
 -- The named rows of a case name states of the system and labels with an arc.
-use Rattle.std.proofs.Common.{◌≡◌, ◌≢◌, ◌⊎◌, ⊎_elim, ℕ, zero, suc, ◌+◌, ◌<◌, ◌==◌, ◌&&◌, not, is_some, Bool, true, false, if◌then◌else◌, List, [], ◌∷◌, ◌++◌, map, Contains, All, inl, inr, refl, sym, subst, ap, ◌∙◌, arith}
+use Rattle.std.proofs.Common.{◌≡◌, ◌⊎◌, ⊎_elim, ℕ, zero, suc, ◌<◌, ◌==◌, ◌&&◌, not, is_some, Bool, true, if◌then◌else◌, List, [], ◌∷◌, ◌++◌, map, Contains, All, inl, inr, sym, subst, ◌∙◌, arith}
 use Rattle.std.proofs.lemmas.Bool.{and_parts, true≢false, cases_Bool}
 use Rattle.std.proofs.lemmas.List.Elements.{All-nil, All-cons, Contains-append_cases}
 use Rattle.rg_theory.specs.declared.Class.{Class}
@@ -8,7 +8,7 @@ use Rattle.rg_theory.specs.declared.Problem.TheVariants.{Event, States}
 use Rattle.rg_theory.specs.System.{System, HasArc, states, labels}
 use Rattle.rg_theory.proofs.Lists.{Contains-cons_cases}
 use Rattle.rg_refuting.specs.Expression.{Variable, Variable.tokens_at, Variable.effect_of, Term, plus, minus}
-use Rattle.rg_refuting.specs.Row.{RowName, RowName.tokens_row, RowName.cap_row, RowName.up_row, RowName.down_row, RowName.makes_row, RowName.stop_row, RowName.block_row, RowName.empty_row, RowName.full_row, RowName.keep_row, RowName.apart_row, row_expression, apart_expression, order_of}
+use Rattle.rg_refuting.specs.Row.{RowName, RowName.tokens_row, RowName.cap_row, RowName.up_row, RowName.down_row, RowName.makes_row, RowName.apart_row, row_expression, apart_expression, order_of}
 use Rattle.rg_refuting.specs.Refutes.{IsAsked}
 use Rattle.rg_folds.specs.Rewriting.{has_label, has_label_at, numbers_where, has_start, used_labels, all_numbers, states_with, problem_rows, case_consumer, names_of}
 use Rattle.rg_folds.specs.Shown.{IsLive}

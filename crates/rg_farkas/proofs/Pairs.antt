@@ -1,20 +1,20 @@
 -- The counts of all rows, row by row.
-use Rattle.std.proofs.Common.{◌≡◌, ℕ, zero, suc, ◌+◌, ◌<◌, ◌≤◌, not, true, List, [], ◌∷◌, ◌++◌, map, drop, length, Contains, All, ap, ap₂, refl, subst, sym, ◌∙◌, arith, append_assoc}
+use Rattle.std.proofs.Common.{◌≡◌, ℕ, ◌+◌, ◌<◌, not, true, List, [], ◌∷◌, ◌++◌, map, drop, length, Contains, All, ap, refl, subst, sym, ◌∙◌, arith, append_assoc}
 use Rattle.std.specs.Prelude.{slice_index_or}
-use Rattle.std.proofs.lemmas.List.{length-map, map-append, get_or-map, append-nil}
+use Rattle.std.proofs.lemmas.List.{length-map, map-append, get_or-map}
 use Rattle.std.proofs.lemmas.List.Elements.{All-from_get_or, Contains-get_or}
 use Rattle.rg_theory.specs.declared.Arc.{Arc}
 use Rattle.rg_theory.specs.System.{System, states, labels}
 use Rattle.rg_linear.specs.Cycle.{CycleBasis}
 use Rattle.rg_meaning.proofs.Lists.{where_is}
 use Rattle.rg_fraction.specs.declared.fraction.Fraction.{Fraction}
-use Rattle.rg_refuting.specs.Expression.{Expression, Term}
+use Rattle.rg_refuting.specs.Expression.{Expression}
 use Rattle.rg_refuting.specs.Row.{RowName}
 use Rattle.rg_cert.specs.declared.certificate.RowName.{RowName as CodeName}
 use Rattle.rg_cert.specs.Trees.{row_name_of}
 use Rattle.rg_folds.specs.Fold.{ratio_of}
 use Rattle.rg_folds.specs.Rewriting.{is_in, dependent_labels}
-use Rattle.rg_folds.specs.Spreading.{Share, pairs_of}
+use Rattle.rg_folds.specs.Spreading.{pairs_of}
 use Rattle.rg_farkas.specs.Leaves.{share_of}
 use Rattle.rg_farkas.specs.declared.term.Expression.{Expression as CodeExpression}
 use Rattle.rg_farkas.specs.declared.term.Term.{Term as CodeTerm}

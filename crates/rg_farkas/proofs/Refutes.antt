@@ -1,36 +1,35 @@
 -- The leaf of shares that refute refutes.
-use Rattle.std.proofs.Common.{◌≡◌, ◌≢◌, ◌⊎◌, ⊎_elim, inl, inr, ℕ, zero, suc, max, ◌+◌, ◌<◌, ◌≤◌, ◌==◌, ◌||◌, Bool, true, false, if◌then◌else◌, List, [], ◌∷◌, ◌++◌, map, length, drop, reverse, Result, Ok, Contains, All, ap, ap₂, refl, subst, sym, ◌∙◌, arith, append_assoc}
+use Rattle.std.proofs.Common.{◌≡◌, ◌≢◌, ◌⊎◌, ⊎_elim, inl, inr, ℕ, suc, max, ◌+◌, ◌<◌, ◌≤◌, ◌||◌, Bool, true, false, if◌then◌else◌, List, [], ◌∷◌, ◌++◌, map, length, drop, reverse, Ok, Contains, All, ap, ap₂, refl, subst, sym, ◌∙◌, arith, append_assoc}
 use Rattle.std.specs.Prelude.{ℤ, pos, negsuc, ◌+ℤ◌, ◌-ℤ◌, ◌*ℤ◌, ◌<ℤ◌, ◌≤ℤ◌, int_lt, int_div}
 use Rattle.std.proofs.Math.IntN.{zero-*ℤ, *ℤ-zero}
 use Rattle.std.proofs.lemmas.Int.{ints}
 use Rattle.std.proofs.lemmas.Bool.{cases_eq, cases_lt}
 use Rattle.std.proofs.lemmas.List.{length-map, map-append, length-append}
-use Rattle.std.proofs.lemmas.List.Elements.{All-nil, All-cons, All-head, All-tail, All-append, All-map, All-contains, All-same, Contains-append_left, Contains-append_right}
+use Rattle.std.proofs.lemmas.List.Elements.{All-nil, All-cons, All-head, All-tail, All-append, All-map, All-contains, Contains-append_left, Contains-append_right}
 use Rattle.rg_theory.specs.declared.Arc.{Arc}
 use Rattle.rg_theory.specs.System.{System, IsInRange, IsAllReachable, states, labels}
-use Rattle.rg_theory.specs.Tree.{Grows, IsTree, parikh, tree_order}
+use Rattle.rg_theory.specs.Tree.{Grows, IsTree, parikh}
 use Rattle.rg_theory.proofs.Arcs.{arc_in_range}
 use Rattle.rg_theory.proofs.Lists.{Contains-cons_cases}
 use Rattle.rg_meaning.proofs.Lists.{Contains-map}
-use Rattle.rg_theory.proofs.Trees.{reachable_is_met, tree_arcs}
+use Rattle.rg_theory.proofs.Trees.{reachable_is_met}
 use Rattle.rg_lts.specs.WellFormed.{IsWellFormed}
 use Rattle.rg_integers.specs.Range.{InRange}
 use Rattle.rg_integers.specs.Sum.{sum_below, sum_over, only}
 use Rattle.rg_integers.proofs.Ring.{ring}
 use Rattle.rg_integers.proofs.Order.{mul_is_zero, mul_not_negative, positive_differs, factor_positive, mul_positive}
-use Rattle.rg_integers.proofs.Sums.{sum_below-same, sum_below-zero, sum_below-only}
+use Rattle.rg_integers.proofs.Sums.{sum_below-zero, sum_below-only}
 use Rattle.rg_integers.proofs.ListSums.{sum_over-same, sum_over-zero, sum_over-append, sum_over-map}
 use Rattle.rg_linear.specs.Cycle.{CycleBasis}
 use Rattle.rg_linear.proofs.Unique.{sum_one}
-use Rattle.rg_fraction.specs.declared.term.Wide.{Wide}
-use Rattle.rg_refuting.specs.Expression.{Variable, Variable.tokens_at, Variable.effect_of, Term as SumTerm, Expression, plus, minus, coefficient_in, value_in}
+use Rattle.rg_refuting.specs.Expression.{Variable, Variable.tokens_at, Variable.effect_of, Expression, plus, minus, coefficient_in, value_in}
 use Rattle.rg_refuting.specs.Row.{RowName}
 use Rattle.rg_refuting.specs.Row.RowName.{arc_row, tokens_row, cap_row, up_row, down_row, makes_row, stop_row, block_row, empty_row, full_row, keep_row, apart_row, above_row}
 use Rattle.rg_refuting.specs.Refutes.{NamedRow, IsMultiplier, LeafRefutes, coefficient_sum, constant_sum}
 use Rattle.rg_folds.specs.Fold.{each, Ratio}
 use Rattle.rg_folds.specs.Potentials.{chord_sum, potential}
 use Rattle.rg_folds.specs.Chords.{IsBasis}
-use Rattle.rg_folds.specs.Rewriting.{Scaled, scaled_fold, dependent_labels}
+use Rattle.rg_folds.specs.Rewriting.{dependent_labels}
 use Rattle.rg_folds.specs.Values.{numbers_along}
 use Rattle.rg_folds.specs.Spreading.{tree_fold, checked_leaf, Share, ArcTimes, arc_name, named_from, not_zero, multiplier_among, chord_fold, chord_arcs, used_chords, leaf_fold}
 use Rattle.rg_folds.proofs.Potentials.{arc_sum, tree_sum, arc_label}
@@ -38,11 +37,11 @@ use Rattle.rg_folds.proofs.Scaling.{Divides, AllDivide}
 use Rattle.rg_folds.proofs.Signs.{AllPositive}
 use Rattle.rg_folds.proofs.ExactRows.{common_bottom}
 use Rattle.rg_farkas.specs.Refuting.{terms_sum, RefuteOnArcs, SharesRefute}
-use Rattle.rg_farkas.specs.View.{AreRowsWithin, IsVariableWithin, IsTermWithin, arc_times}
+use Rattle.rg_farkas.specs.View.{AreRowsWithin, IsTermWithin, arc_times}
 use Rattle.rg_farkas.proofs.Fractions.{part_is, whole_in, scaled_are, scaled_divide, scaled_positive, divide_both}
-use Rattle.rg_farkas.proofs.Relations.{dependent, used_chord, relation_row}
+use Rattle.rg_farkas.proofs.Relations.{used_chord, relation_row}
 use Rattle.rg_farkas.proofs.ChordSums.{weighted, are_shares, divides_share, chord_bottom, rows_cancel}
-use Rattle.rg_farkas.proofs.Listed.{Differ, rows_sum, ordered_differ, named-scaled, arcs_named, leaf_sum, zeros-append}
+use Rattle.rg_farkas.proofs.Listed.{Differ, rows_sum, ordered_differ, named-scaled, arcs_named, leaf_sum}
 use Rattle.rg_farkas.proofs.TreeSums.{SaysArcs, Runs, tree_runs, arc_at, arc_coefficient, state_sum}
 use Rattle.rg_farkas.proofs.Variables.{RowsWithin, by_variable, terms_split, outside_sum}
 use Rattle.rg_farkas.proofs.Distinct.{given_differ, given_inside}

@@ -1,9 +1,8 @@
 -- What relations say of any effects, with the sums of the chords that the basis uses.
-use Rattle.std.proofs.Common.{◌≡◌, ◌⊎◌, ⊎_elim, ℕ, zero, suc, ◌+◌, ◌<◌, ◌≤◌, Bool, true, false, not, nat_lt, if◌then◌else◌, List, [], ◌∷◌, map, length, slice_index_or, Contains, inl, inr, ap, ap₂, refl, subst, sym, ◌∙◌, arith}
-use Rattle.std.specs.Prelude.{ℤ, pos, ◌+ℤ◌, ◌*ℤ◌, ◌<ℤ◌}
+use Rattle.std.proofs.Common.{◌≡◌, ⊎_elim, ℕ, zero, suc, ◌+◌, ◌<◌, Bool, true, false, not, nat_lt, if◌then◌else◌, List, [], map, length, slice_index_or, Contains, ap, ap₂, refl, subst, sym, ◌∙◌, arith}
+use Rattle.std.specs.Prelude.{ℤ, pos, ◌+ℤ◌, ◌*ℤ◌}
 use Rattle.std.proofs.Math.IntN.{zero-*ℤ, *ℤ-zero}
 use Rattle.std.proofs.lemmas.Int.{ints}
-use Rattle.std.proofs.lemmas.Bool.{cases_lt}
 use Rattle.std.proofs.lemmas.List.{length-map, get_or-map}
 use Rattle.std.proofs.lemmas.List.Elements.{Contains-get_or}
 use Rattle.rg_theory.specs.declared.Arc.{Arc}
@@ -11,12 +10,12 @@ use Rattle.rg_theory.specs.System.{System, labels}
 use Rattle.rg_theory.specs.Tree.{chords, chord_entry}
 use Rattle.rg_integers.specs.Sum.{sum_below, sum_over}
 use Rattle.rg_integers.proofs.Ring.{ring, mul-add, mul_left_comm}
-use Rattle.rg_integers.proofs.Sums.{sum_below-same, sum_below-zero, sum_below-split, sum_below-times}
+use Rattle.rg_integers.proofs.Sums.{sum_below-same, sum_below-zero, sum_below-split}
 use Rattle.rg_integers.proofs.ListSums.{sum_over-zero, sum_over-same, sum_over-plus, sum_over-times}
-use Rattle.rg_linear.specs.System.{LinearRow, LinearSystem, row_variable, row_at, entry, variables}
-use Rattle.rg_linear.specs.Dictionary.{Relation, DictionaryRow, Takes, IsFree, numbers_from}
+use Rattle.rg_linear.specs.System.{LinearRow, row_at, entry}
+use Rattle.rg_linear.specs.Dictionary.{Relation, DictionaryRow, Takes, numbers_from}
 use Rattle.rg_linear.specs.Cycle.{IsHomogeneous, FollowsRelations, vector_at, IsZeroVector, CycleBasis}
-use Rattle.rg_linear.proofs.Members.{Contains-numbers_from, numbers_from-Contains, is_member}
+use Rattle.rg_linear.proofs.Members.{numbers_from-Contains, is_member}
 use Rattle.rg_linear.proofs.Columns.{values_of, values_of-column, values_of-point, below_test, past_test}
 use Rattle.rg_linear.proofs.Cycles.{no_constant, cycle_set_knows}
 use Rattle.rg_linear.proofs.Firsts.{kept_is}

@@ -1,15 +1,12 @@
 -- The steps of sums over rows and over the arcs that leave a state.
-use Rattle.std.proofs.Common.{◌≡◌, ◌≢◌, ⊎_elim, ℕ, zero, suc, ◌+◌, ◌<◌, ◌≤◌, ◌==◌, Bool, true, false, if◌then◌else◌, List, [], ◌∷◌, map, drop, length, Result, Ok, Err, All, ap, ap₂, refl, subst, sym, ◌∙◌, inl, inr, arith, eq-eqb, ne_eqb}
-use Rattle.std.specs.Prelude.{ℤ, pos, neg_ℤ, ◌+ℤ◌, ◌-ℤ◌, ◌*ℤ◌, slice_index_or}
-use Rattle.std.proofs.lemmas.Int.{ints}
+use Rattle.std.proofs.Common.{◌≡◌, ◌≢◌, ℕ, ◌+◌, ◌<◌, ◌≤◌, ◌==◌, Bool, true, false, if◌then◌else◌, List, ◌∷◌, map, drop, length, Result, Ok, Err, ap, ap₂, refl, subst, sym, ◌∙◌, inl, inr, arith, eq-eqb, ne_eqb}
+use Rattle.std.specs.Prelude.{ℤ, pos, slice_index_or}
 use Rattle.std.proofs.lemmas.List.{length-map, get_or-map, drop_all}
 use Rattle.rg_theory.specs.declared.Arc.{Arc}
-use Rattle.rg_integers.specs.Range.{InRange}
-use Rattle.rg_integers.specs.Sign.{size}
 use Rattle.rg_fraction.specs.declared.term.Wide.{Wide}
-use Rattle.rg_refuting.specs.Expression.{Variable, Variable.tokens_at, coefficient_in}
-use Rattle.rg_folds.specs.Fold.{and_then, gives, further, whole_sum, whole_product}
-use Rattle.rg_folds.specs.Spreading.{Addend, Addend.number, addend_fold, leaving}
+use Rattle.rg_refuting.specs.Expression.{Variable.tokens_at}
+use Rattle.rg_folds.specs.Fold.{further, whole_sum, whole_product}
+use Rattle.rg_folds.specs.Spreading.{Addend.number, addend_fold, leaving}
 use Rattle.rg_farkas.specs.declared.term.Row.{Row}
 use Rattle.rg_farkas.specs.View.{row_addend, size_fold, coefficient_at, arc_times}
 use Rattle.rg_farkas.proofs.Steps.{from_place, sum_next, sum_unmade, sum_unjoined, sum_ends}

@@ -1,6 +1,6 @@
 -- No sum of absolute values of a leaf that was checked is out of range.
-use Rattle.std.proofs.Common.{◌≡◌, ◌⊎◌, ⊎_elim, inl, inr, true, ℕ, zero, suc, ◌+◌, ◌-◌, ◌^◌, ◌<◌, ◌≤◌, List, [], ◌∷◌, map, Result, Ok, Contains, All, ap, ap₂, refl, subst, sym, ◌∙◌, arith}
-use Rattle.std.specs.Prelude.{ℤ, pos, neg_ℤ, ◌+ℤ◌, ◌-ℤ◌, ◌*ℤ◌, nat_abs, unsigned_abs, sum_by}
+use Rattle.std.proofs.Common.{◌≡◌, ◌⊎◌, ⊎_elim, inl, inr, true, ℕ, ◌+◌, ◌-◌, ◌^◌, ◌<◌, ◌≤◌, List, [], ◌∷◌, map, Result, Ok, Contains, All, ap, ap₂, refl, subst, sym, ◌∙◌, arith}
+use Rattle.std.specs.Prelude.{ℤ, pos, ◌+ℤ◌, ◌*ℤ◌, nat_abs, sum_by}
 use Rattle.std.proofs.lemmas.Int.{ints}
 use Rattle.std.proofs.lemmas.Bool.{cases_lt}
 use Rattle.std.proofs.lemmas.List.Sums.{sum_by-cons}
@@ -15,7 +15,7 @@ use Rattle.rg_refuting.specs.Expression.{Variable, Variable.tokens_at, Variable.
 use Rattle.rg_refuting.specs.Row.{RowName}
 use Rattle.rg_refuting.specs.Refutes.{NamedRow, IsSmall, max_number}
 use Rattle.rg_folds.specs.Fold.{and_then, gives, each, further, whole_sum, whole_product}
-use Rattle.rg_folds.specs.Rewriting.{numbers_where, all_numbers}
+use Rattle.rg_folds.specs.Rewriting.{all_numbers}
 use Rattle.rg_folds.specs.Spreading.{sizes_fold, variables_of, checked_leaf}
 use Rattle.rg_meaning.proofs.Lists.{Contains-map, where_has}
 use Rattle.rg_farkas.specs.View.{IsVariableWithin, IsTermWithin}

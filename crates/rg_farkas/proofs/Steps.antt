@@ -1,10 +1,10 @@
 -- The steps of loops.
-use Rattle.std.proofs.Common.{◌≡◌, ◌≢◌, ℕ, zero, suc, ◌+◌, ◌-◌, ◌<◌, ◌≤◌, Bool, true, false, if◌then◌else◌, List, [], ◌∷◌, ◌++◌, map, drop, length, Result, Ok, Err, Contains, ap, refl, subst, sym, ◌∙◌, inl, inr, arith, add-one, append_assoc}
+use Rattle.std.proofs.Common.{◌≡◌, ℕ, suc, ◌+◌, ◌-◌, ◌<◌, ◌≤◌, Bool, true, false, if◌then◌else◌, List, [], ◌∷◌, ◌++◌, map, drop, length, Result, Ok, Err, Contains, ap, refl, subst, sym, ◌∙◌, inl, inr, arith, add-one, append_assoc}
 use Rattle.std.specs.Prelude.{slice_index_or}
 use Rattle.std.proofs.lemmas.List.{drop_all, append-nil, map-append}
 use Rattle.std.proofs.Math.Seq.{drop-cons}
 use Rattle.rg_fraction.specs.declared.term.Wide.{Wide}
-use Rattle.rg_folds.specs.Fold.{gives, and_then, each, further, joined}
+use Rattle.rg_folds.specs.Fold.{each, further, joined}
 use Rattle.rg_folds.specs.Rewriting.{numbers_where}
 use Rattle.rg_cycles.proofs.Folding.{behind, each_next, each_fails, each_ends, further_next, further_unmade, further_unjoined}
 

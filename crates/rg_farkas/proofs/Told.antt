@@ -1,6 +1,6 @@
 -- From sums over rows that tell what their names say to the sums of the leaf's fold.
-use Rattle.std.proofs.Common.{◌≡◌, ◌≢◌, ◌⊎◌, ⊎_elim, ℕ, zero, suc, ◌+◌, ◌-◌, ◌<◌, ◌≤◌, ◌==◌, Bool, true, false, if◌then◌else◌, List, [], ◌∷◌, ◌++◌, map, take, drop, reverse, set, length, Result, Ok, Err, Contains, All, ap, ap₂, refl, subst, sym, ◌∙◌, inl, inr, arith, add-one}
-use Rattle.std.specs.Prelude.{ℤ, pos, neg_ℤ, ◌+ℤ◌, ◌-ℤ◌, ◌*ℤ◌, slice_index_or}
+use Rattle.std.proofs.Common.{◌≡◌, ⊎_elim, ℕ, suc, ◌+◌, ◌-◌, ◌<◌, ◌≤◌, ◌==◌, Bool, true, false, if◌then◌else◌, List, [], ◌∷◌, ◌++◌, map, take, drop, reverse, set, length, Result, Ok, Err, Contains, All, ap, ap₂, refl, subst, sym, ◌∙◌, inl, inr, arith, add-one}
+use Rattle.std.specs.Prelude.{ℤ, pos, neg_ℤ, ◌-ℤ◌, ◌*ℤ◌, slice_index_or}
 use Rattle.std.proofs.lemmas.Int.{ints}
 use Rattle.std.proofs.lemmas.List.{length-map, length-drop, get_or-map, reverse-append, take_all, drop_all, drop-set}
 use Rattle.std.proofs.Math.Seq.{take-suc}

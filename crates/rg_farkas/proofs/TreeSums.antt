@@ -1,19 +1,17 @@
 -- The multipliers of the tree's arcs make the tokens of every state but the initial one cancel.
-use Rattle.std.proofs.Common.{◌≡◌, ◌≢◌, ◌⊎◌, ⊎_elim, ℕ, suc, ◌+◌, ◌<◌, ◌==◌, Bool, true, false, if◌then◌else◌, List, [], ◌∷◌, ◌++◌, map, reverse, Result, Ok, Contains, ap, ap₂, refl, subst, sym, ◌∙◌, arith, eq-eqb, ne_eqb, append_assoc, inl, inr}
+use Rattle.std.proofs.Common.{◌≡◌, ◌≢◌, ⊎_elim, ℕ, ◌==◌, Bool, true, false, if◌then◌else◌, List, [], ◌∷◌, ◌++◌, map, reverse, Result, Ok, Contains, ap, ap₂, refl, subst, sym, ◌∙◌, arith, eq-eqb, ne_eqb, append_assoc}
 use Rattle.std.specs.Prelude.{ℤ, pos, negsuc, neg_ℤ, ◌+ℤ◌, ◌-ℤ◌, ◌*ℤ◌}
-use Rattle.std.proofs.Math.IntN.{zero-*ℤ, *ℤ-zero}
 use Rattle.std.proofs.lemmas.Int.{ints}
 use Rattle.std.proofs.lemmas.Bool.{cases_eq}
 use Rattle.std.proofs.lemmas.List.{append-nil, reverse-append, reverse-reverse}
 use Rattle.std.proofs.lemmas.List.Elements.{Contains-push, Contains-push_cases, Contains-append_left}
 use Rattle.rg_theory.specs.declared.Arc.{Arc}
 use Rattle.rg_theory.specs.System.{System}
-use Rattle.rg_theory.specs.Tree.{Joins, Grows, IsTree}
+use Rattle.rg_theory.specs.Tree.{Grows}
 use Rattle.rg_theory.proofs.Lists.{Contains-cons_cases}
 use Rattle.rg_theory.proofs.Trees.{source_met}
 use Rattle.rg_integers.specs.Sum.{sum_over}
-use Rattle.rg_integers.proofs.Ring.{ring}
-use Rattle.rg_integers.proofs.ListSums.{sum_over-same, sum_over-append, sum_over-map}
+use Rattle.rg_integers.proofs.ListSums.{sum_over-append, sum_over-map}
 use Rattle.rg_fraction.specs.declared.term.Wide.{Wide}
 use Rattle.rg_refuting.specs.Expression.{Variable.tokens_at, Variable.effect_of, Expression, plus, minus, sum_of, coefficient_in}
 use Rattle.rg_refuting.specs.Row.{RowName}

@@ -1,12 +1,11 @@
 -- The value of rows, variable by variable.
-use Rattle.std.proofs.Common.{◌≡◌, ◌≢◌, ℕ, suc, ◌<◌, ◌==◌, Bool, true, false, if◌then◌else◌, List, [], ◌∷◌, All, ap, ap₂, refl, sym, ◌∙◌, arith, eq-eqb, ne_eqb}
+use Rattle.std.proofs.Common.{◌≡◌, ℕ, ◌==◌, false, if◌then◌else◌, List, [], ◌∷◌, All, ap, ap₂, refl, sym, ◌∙◌, arith, eq-eqb, ne_eqb}
 use Rattle.std.specs.Prelude.{ℤ, pos, ◌+ℤ◌, ◌*ℤ◌}
 use Rattle.std.proofs.Math.IntN.{zero-*ℤ}
 use Rattle.std.proofs.lemmas.Int.{ints}
 use Rattle.std.proofs.lemmas.List.Elements.{All-head, All-tail}
-use Rattle.rg_theory.specs.System.{System, states, labels}
-use Rattle.rg_integers.specs.Sum.{sum_below, sum_over}
-use Rattle.rg_integers.proofs.Ring.{ring, add-mul, mul-add, mul_assoc}
+use Rattle.rg_integers.specs.Sum.{sum_below}
+use Rattle.rg_integers.proofs.Ring.{add-mul, mul-add, mul_assoc}
 use Rattle.rg_integers.proofs.Sums.{sum_below-same, sum_below-zero, sum_below-plus, sum_below-times, sum_below-only}
 use Rattle.rg_refuting.specs.Expression.{Variable, Variable.tokens_at, Variable.effect_of, Term, Expression, same_variable, coefficient_in, value_in}
 use Rattle.rg_refuting.specs.Row.{RowName}

@@ -3,7 +3,6 @@ use Rattle.std.specs.Prelude.{◌≡◌, ℕ, ◌<◌, List, [], ◌∷◌, map,
 use Rattle.rg_theory.specs.declared.Arc.{Arc}
 use Rattle.rg_theory.specs.System.{System, states, labels}
 use Rattle.rg_fraction.specs.declared.term.Wide.{Wide}
-use Rattle.rg_fraction.specs.declared.fraction.Fraction.{Fraction}
 use Rattle.rg_linear.specs.Cycle.{CycleBasis}
 use Rattle.rg_refuting.specs.Expression.{Variable, Variable.tokens_at, Variable.effect_of, Term as SumTerm, Expression as Sum, plus, minus, coefficient_in}
 use Rattle.rg_refuting.specs.Row.{RowName}

@@ -1,5 +1,5 @@
 -- A fold over labels reads the counts of labels alone.
-use Rattle.std.proofs.Common.{◌≡◌, ℕ, suc, ◌+◌, ◌<◌, not, Bool, List, [], ◌∷◌, Contains, Result, Ok, Err, subst, refl, inl, inr, arith}
+use Rattle.std.proofs.Common.{◌≡◌, ℕ, suc, ◌<◌, not, Bool, List, [], ◌∷◌, Contains, Result, Ok, Err, subst, refl, inl, inr, arith}
 use Rattle.std.specs.Prelude.{ℤ}
 use Rattle.rg_fraction.specs.declared.term.Wide.{Wide}
 use Rattle.rg_linear.specs.Cycle.{CycleBasis}

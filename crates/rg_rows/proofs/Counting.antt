@@ -1,13 +1,12 @@
 -- Counts of labels and of Start in a sum of terms, term by term.
-use Rattle.std.proofs.Common.{◌≡◌, ℕ, zero, suc, ◌+◌, ◌*◌, ◌^◌, ◌<◌, ◌≤◌, List, [], ◌∷◌, map, drop, length, All, ap, refl, sym, subst, ◌∙◌, arith, add-one}
-use Rattle.std.specs.Prelude.{ℤ, pos, negsuc, neg_ℤ, ◌+ℤ◌, ◌-ℤ◌, ◌*ℤ◌, ◌≤ℤ◌, ◌<ℤ◌, slice_index_or, unsigned_abs}
+use Rattle.std.proofs.Common.{◌≡◌, ℕ, ◌+◌, ◌^◌, ◌<◌, List, ◌∷◌, map, drop, length, All, ap, sym, subst, ◌∙◌, arith, add-one}
+use Rattle.std.specs.Prelude.{ℤ, pos, negsuc, neg_ℤ, ◌+ℤ◌, ◌-ℤ◌, ◌*ℤ◌, ◌≤ℤ◌, slice_index_or}
 use Rattle.std.proofs.lemmas.Int.{ints}
 use Rattle.std.proofs.lemmas.List.{length-map, get_or-map}
 use Rattle.std.proofs.Math.Seq.{drop-cons}
 use Rattle.rg_theory.specs.declared.Arc.{Arc}
 use Rattle.rg_integers.specs.Range.{InRange}
 use Rattle.rg_integers.proofs.Ring.{one-mul}
-use Rattle.rg_refuting.specs.Expression.{Variable, Term as SumTerm}
 use Rattle.rg_folds.specs.Rewriting.{variable_start, variable_count, start_of, count_of}
 use Rattle.rg_cert.specs.Trees.{variable_of}
 use Rattle.rg_cert.specs.declared.certificate.Form.{Form}

@@ -1,5 +1,5 @@
 -- A row divided by the greatest common divisor of its numbers.
-use Rattle.std.proofs.Common.{◌≡◌, ℕ, zero, suc, ◌+◌, ◌<◌, ◌≤◌, max, List, [], ◌∷◌, ◌++◌, map, length, take, drop, All, ap, refl, subst, sym, ◌∙◌, arith}
+use Rattle.std.proofs.Common.{◌≡◌, ℕ, zero, suc, ◌<◌, ◌≤◌, max, List, [], ◌∷◌, ◌++◌, map, length, take, drop, All, ap, refl, subst, sym, ◌∙◌, arith}
 use Rattle.std.specs.Prelude.{ℤ, pos, negsuc, ◌*ℤ◌, ◌≤ℤ◌, unsigned_abs}
 use Rattle.std.specs.Int.{int_max}
 use Rattle.std.proofs.Math.Nat.{le_refl}
@@ -10,7 +10,7 @@ use Rattle.rg_integers.specs.Sum.{number_at}
 use Rattle.rg_integers.proofs.Divisors.{gcd_below_is_one}
 use Rattle.rg_integers.proofs.Ring.{one-mul}
 use Rattle.rg_fraction.specs.Rows.{IsRowGcd, IsPrimitivePart}
-use Rattle.rg_folds.specs.Fold.{Ratio, IsRatio}
+use Rattle.rg_folds.specs.Fold.{IsRatio}
 use Rattle.rg_folds.specs.Rewriting.{Scaled, KeptRow, IsDivided}
 use Rattle.rg_rows.proofs.Keeping.{ends}
 

@@ -1,5 +1,5 @@
 -- The steps of a row's fold.
-use Rattle.std.proofs.Common.{◌≡◌, ℕ, suc, ◌+◌, ◌<◌, ◌≤◌, false, is_some, if◌then◌else◌, Option, None, List, [], ◌∷◌, ◌++◌, map, drop, length, Result, Ok, Err, ap, refl, subst, sym, ◌∙◌, inl, inr, arith, add-one}
+use Rattle.std.proofs.Common.{◌≡◌, ℕ, ◌+◌, ◌<◌, ◌≤◌, false, is_some, if◌then◌else◌, Option, None, List, [], ◌∷◌, ◌++◌, map, drop, length, Result, Ok, Err, ap, refl, subst, sym, ◌∙◌, inl, inr, add-one}
 use Rattle.std.specs.Prelude.{ℤ, pos, slice_index_or, IfOk}
 use Rattle.std.proofs.lemmas.List.{drop_all, get_or-map}
 use Rattle.std.proofs.Math.Seq.{drop-cons}
@@ -16,13 +16,13 @@ use Rattle.rg_cert.specs.Trees.{row_name_of}
 use Rattle.rg_fraction.specs.declared.fraction.Fraction.{Fraction}
 use Rattle.rg_fraction.specs.Fractions.{numerator_of, denominator_of, IsValue, IsProduct}
 use Rattle.rg_folds.proofs.FoldLemmas.{mul_step}
-use Rattle.rg_folds.specs.Fold.{shown_result, ratio_of, gives, and_then, each, further, joined, Ratio, whole, mul, common_multiple, multiple_of_all}
-use Rattle.rg_folds.specs.Rewriting.{start_of, count_of, substitute_fold, columns_of, Scaled, scaled_fold, terms_fold, KeptRow, IsDivided, divided, row_fold, used_labels, all_numbers, names_of, form_variables, form_fold, column_count, CaseSystem, IsIdle, system_fold}
+use Rattle.rg_folds.specs.Fold.{shown_result, ratio_of, each, Ratio, whole, mul, multiple_of_all}
+use Rattle.rg_folds.specs.Rewriting.{start_of, count_of, substitute_fold, columns_of, Scaled, scaled_fold, terms_fold, KeptRow, IsDivided, row_fold, used_labels, all_numbers, names_of, form_variables, form_fold, column_count, CaseSystem, IsIdle, system_fold}
 use Rattle.rg_linear.specs.Firsts.{KeepsFirsts}
 use Rattle.rg_rows.specs.View.{fold_of}
 use Rattle.rg_rows.proofs.Counted.{substitute_same}
 use Rattle.rg_rows.proofs.Picking.{columns_length}
-use Rattle.rg_cycles.proofs.Folding.{whole_is, behind, each_start, each_next, each_fails, each_ends, further_next, further_unjoined}
+use Rattle.rg_cycles.proofs.Folding.{whole_is, behind, each_next, each_fails, each_ends}
 
 -- ---- from the numbers of the columns to whole ones
 

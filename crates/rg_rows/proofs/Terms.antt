@@ -1,5 +1,5 @@
 -- The rows of a case name states of the system.
-use Rattle.std.proofs.Common.{◌≡◌, ℕ, zero, suc, ◌+◌, ◌<◌, ◌==◌, ◌&&◌, ◌||◌, not, is_some, Bool, true, false, if◌then◌else◌, List, [], ◌∷◌, ◌++◌, map, length, All, Option, None, Contains, ap, refl, sym, subst, ◌∙◌, arith}
+use Rattle.std.proofs.Common.{◌≡◌, ℕ, zero, suc, ◌<◌, ◌==◌, ◌&&◌, not, is_some, Bool, true, false, if◌then◌else◌, List, [], ◌∷◌, ◌++◌, map, length, All, Option, None, sym, subst, arith}
 use Rattle.std.specs.Prelude.{slice_index_or}
 use Rattle.std.proofs.lemmas.List.{length-map, get_or-map}
 use Rattle.std.proofs.lemmas.List.Elements.{Contains-get_or, All-nil, All-cons, All-append, All-map}
@@ -7,7 +7,7 @@ use Rattle.rg_theory.specs.declared.Class.{Class}
 use Rattle.rg_theory.specs.declared.Problem.{Problem}
 use Rattle.rg_theory.specs.declared.Problem.TheVariants.{Event, States}
 use Rattle.rg_theory.specs.System.{System, states, labels}
-use Rattle.rg_refuting.specs.Expression.{Term as SumTerm, Variable, Variable.tokens_at, Variable.effect_of, plus, minus}
+use Rattle.rg_refuting.specs.Expression.{Term as SumTerm, Variable.tokens_at, Variable.effect_of, plus, minus}
 use Rattle.rg_refuting.specs.Row.{RowName, RowName.tokens_row, RowName.makes_row, RowName.stop_row, RowName.block_row, RowName.apart_row, RowName.empty_row, RowName.full_row, RowName.keep_row, RowName.cap_row, RowName.up_row, RowName.down_row, row_expression, apart_expression, order_of}
 use Rattle.rg_refuting.specs.Refutes.{IsAsked}
 use Rattle.rg_folds.specs.Rewriting.{numbers_where, used_labels, has_label, has_label_at, states_with, has_start, all_numbers, problem_rows, case_consumer, names_of}

@@ -1,5 +1,5 @@
 -- What the parts of an answer say together.
-use Rattle.std.proofs.Common.{◌≡◌, ◌≢◌, ◌⊎◌, inl, inr, ℕ, List, [], ◌∷◌, ◌++◌, Option, Some, None, option_map, append_assoc, refl, sym, ap, subst, ◌∙◌}
+use Rattle.std.proofs.Common.{◌≡◌, ◌≢◌, ◌⊎◌, inl, inr, ℕ, List, [], ◌∷◌, ◌++◌, Option, Some, None, option_map, Result, Ok, Err, IfOk, append_assoc, refl, sym, ap, subst, ◌∙◌}
 use Rattle.rg_ports.specs.Shelf.{Files, asked_with}
 use Rattle.rg_theory.specs.System.{System}
 use Rattle.rg_lts.specs.WellFormed.{IsWellFormed}
@@ -21,11 +21,15 @@ use Rattle.rg_synth.specs.Given.{IsFile, IsTooLong, IsSystemFile}
 use Rattle.rg_synth.specs.Texts.{file_line}
 use Rattle.rg_synth.specs.JudgedTexts.{cert_fault_text, defect_text, refused_line, HasName}
 use Rattle.rg_synth.specs.Judged.{no_text, no_proof}
-use Rattle.rg_synth.specs.Answers.{IsDue, Answers}
+use Rattle.rg_synth.specs.Answers.{IsObstructed, IsWithinReach, IsShownFor, MayCome, Answers}
 use Rattle.rg_synth.specs.Requests.{HasBounds, AnswersBytes, AnswersCertificate, AnswersSystem, RefusesSystem, AnswersAsked}
 use Rattle.rg_synth.specs.Run.{Run, Says, Ends, AsksFiles}
+use Rattle.rg_synth.specs.declared.answer.Answer.{Answer}
+use Rattle.rg_synth.specs.declared.answer.Stop.{Stop}
 use Rattle.rg_synth.specs.declared.status.Status.{Status}
-use Rattle.rg_synth.specs.declared.status.Status.TheVariants.{Done, No, Usage, File, ReadFault, WriteFault, NoMemory, Unbuilt as NotBuilt}
+use Rattle.rg_synth.specs.declared.status.Status.TheVariants.{Done, No, Usage, File, ReadFault, WriteFault, NoMemory, TooWide, Unbuilt}
+use Rattle.rg_synth.specs.declared.status.WideCause.{WideCause}
+use Rattle.rg_synth.specs.declared.status.WideCause.TheVariants.{Synthesis}
 use Rattle.rg_synth.specs.declared.status.FileFault.{FileFault}
 use Rattle.rg_synth.specs.declared.status.Fault.TheVariants.{TooLong}
 
@@ -67,7 +71,8 @@ bytes_answered files cert lts bytes No out err file (none, (why, reason, line), 
     (record { bytes = bytes; file = file; none = none }, record { bytes = bytes; file = file; why = why; reason = reason; line = line }, nothing)
 bytes_answered files cert lts bytes (Usage usage) out err file is = absurd is
 bytes_answered files cert lts bytes (File fault) out err file is = absurd is
-bytes_answered files cert lts bytes (NotBuilt unbuilt) out err file is = absurd is
+bytes_answered files cert lts bytes Unbuilt out err file is = absurd is
+bytes_answered files cert lts bytes (TooWide cause) out err file is = absurd is
 bytes_answered files cert lts bytes ReadFault out err file is = is
 bytes_answered files cert lts bytes WriteFault out err file is = is
 bytes_answered files cert lts bytes NoMemory out err file is = is
@@ -104,39 +109,51 @@ pub bounds : (words : List (List ℕ)) (asked : Asked) → Ask words asked → H
 bounds words (net class file) ask = named_bound ask.0 class ask.2
 bounds words (judgement file cert) ask = tt
 
-refused_due : (words : List (List ℕ)) (files : Option Files) (asked : Asked) (status : Status) (out err : List ℕ) → Ask words asked → RefusesSystem files (system_file asked) status out err → IsDue words files status
+refused_due : (words : List (List ℕ)) (files : Option Files) (asked : Asked) (status : Status) (out err : List ℕ) → Ask words asked → RefusesSystem files (system_file asked) status out err → MayCome words files status
 refused_due words files asked status out err ask is =
-    subst (IsDue words files) (sym is.says) (inl (refl, record { asked = asked; ask = ask; is = is.is }))
+    subst (MayCome words files) (sym is.says) (inl (inl (refl, record { asked = asked; ask = ask; is = is.is })))
 
 refused_says : (words : List (List ℕ)) (files : Option Files) (asked : Asked) (status : Status) (out err : List ℕ) → Ask words asked → RefusesSystem files (system_file asked) status out err → Answers words files status out err
 refused_says words files asked status out err ask is =
     subst (λ s. Answers words files s out err) (sym is.says)
     (inl (refl, record { asked = asked; ask = ask; is = is.is }), is.nothing, is.line)
 
--- what is answered to a system is due to the words
-system_due : (words : List (List ℕ)) (files : Option Files) (asked : Asked) (lts : System) (status : Status) (out err : List ℕ) → Ask words asked → IsSystemFile files (system_file asked) lts → AnswersSystem files asked lts status out err → IsDue words files status
-system_due words files (net class file) lts Done out err ask at is = record { asked = net class file; ask = ask; lts = lts; file = at; fact = is.0 }
-system_due words files (net class file) lts No out err ask at is = record { asked = net class file; ask = ask; lts = lts; file = at; fact = (is.0.reason, is.0.is) }
-system_due words files (net class file) lts (NotBuilt unbuilt) out err ask at is = record { asked = net class file; ask = ask; lts = lts; file = at; fact = is.0 }
+-- a certificate is due where there is an unreachable state or a fork, else it is an end of the search
+no_due : (words : List (List ℕ)) (files : Option Files) (class : Class) (file : List ℕ) (lts : System) → Ask words (net class file) → IsSystemFile files file lts → IsObstructed lts ⊎ IsWithinReach class lts → MayCome words files No
+no_due words files class file lts ask at (inl is) = inl (record { asked = net class file; ask = ask; lts = lts; file = at; fact = is })
+no_due words files class file lts ask at (inr is) = inr (record { asked = net class file; ask = ask; lts = lts; file = at; fact = is }, tt)
+
+wide_due : (words : List (List ℕ)) (files : Option Files) (class : Class) (file : List ℕ) (lts : System) (cause : WideCause) → Ask words (net class file) → IsSystemFile files file lts → IsShownFor class lts cause → MayCome words files (TooWide cause)
+wide_due words files class file lts (Synthesis w) ask at is = inr (record { asked = net class file; ask = ask; lts = lts; file = at; fact = is.0 }, tt)
+
+-- what is answered to a system may come for the words
+system_due : (words : List (List ℕ)) (files : Option Files) (asked : Asked) (lts : System) (status : Status) (out err : List ℕ) → Ask words asked → IsSystemFile files (system_file asked) lts → AnswersSystem files asked lts status out err → MayCome words files status
+system_due words files (net class file) lts Done out err ask at is = inr (record { asked = net class file; ask = ask; lts = lts; file = at; fact = is.0 }, tt)
+system_due words files (net class file) lts No out err ask at is = no_due words files class file lts ask at is.0
+system_due words files (net class file) lts (TooWide cause) out err ask at is = wide_due words files class file lts cause ask at is.0
+system_due words files (net class file) lts Unbuilt out err ask at is = inl (record { asked = net class file; ask = ask; lts = lts; file = at; fact = is.0 })
 system_due words files (net class file) lts (Usage usage) out err ask at is = absurd is
 system_due words files (net class file) lts (File fault) out err ask at is = absurd is
-system_due words files (net class file) lts ReadFault out err ask at is = is
-system_due words files (net class file) lts WriteFault out err ask at is = is
-system_due words files (net class file) lts NoMemory out err ask at is = is
-system_due words files (judgement file cert) lts Done out err ask at is = record { asked = judgement file cert; ask = ask; lts = lts; file = at; fact = (is.0.0, is.0.1) }
-system_due words files (judgement file cert) lts No out err ask at is = record { asked = judgement file cert; ask = ask; lts = lts; file = at; fact = is.0 }
-system_due words files (judgement file cert) lts (File fault) out err ask at is = inr (record { asked = judgement file cert; ask = ask; lts = lts; file = at; fact = (is.0, is.1) })
+system_due words files (net class file) lts ReadFault out err ask at is = absurd is
+system_due words files (net class file) lts WriteFault out err ask at is = absurd is
+system_due words files (net class file) lts NoMemory out err ask at is = absurd is
+system_due words files (judgement file cert) lts Done out err ask at is = inl (record { asked = judgement file cert; ask = ask; lts = lts; file = at; fact = (is.0.0, is.0.1) })
+system_due words files (judgement file cert) lts No out err ask at is = inl (record { asked = judgement file cert; ask = ask; lts = lts; file = at; fact = is.0 })
+system_due words files (judgement file cert) lts (File fault) out err ask at is = inl (inr (record { asked = judgement file cert; ask = ask; lts = lts; file = at; fact = (is.0, is.1) }))
 system_due words files (judgement file cert) lts (Usage usage) out err ask at is = absurd is
-system_due words files (judgement file cert) lts (NotBuilt unbuilt) out err ask at is = absurd is
-system_due words files (judgement file cert) lts ReadFault out err ask at is = is
-system_due words files (judgement file cert) lts WriteFault out err ask at is = is
-system_due words files (judgement file cert) lts NoMemory out err ask at is = is
+system_due words files (judgement file cert) lts (TooWide cause) out err ask at is = absurd is
+system_due words files (judgement file cert) lts Unbuilt out err ask at is = absurd is
+system_due words files (judgement file cert) lts ReadFault out err ask at is = absurd is
+system_due words files (judgement file cert) lts WriteFault out err ask at is = absurd is
+system_due words files (judgement file cert) lts NoMemory out err ask at is = absurd is
 
 -- and so is what it writes
 system_says : (words : List (List ℕ)) (files : Option Files) (asked : Asked) (lts : System) (status : Status) (out err : List ℕ) → Ask words asked → IsSystemFile files (system_file asked) lts → AnswersSystem files asked lts status out err → Answers words files status out err
 system_says words files (net class file) lts Done out err ask at is = (record { asked = net class file; ask = ask; lts = lts; file = at; fact = is.1 }, is.2)
-system_says words files (net class file) lts No out err ask at is = (record { asked = net class file; ask = ask; lts = lts; file = at; fact = is.0 }, is.1)
-system_says words files (net class file) lts (NotBuilt unbuilt) out err ask at is = (record { asked = net class file; ask = ask; lts = lts; file = at; fact = is.0 }, is.1, is.2)
+system_says words files (net class file) lts No out err ask at is = (record { asked = net class file; ask = ask; lts = lts; file = at; fact = is.1 }, is.2)
+system_says words files (net class file) lts (TooWide cause) out err ask at is = (record { asked = net class file; ask = ask; lts = lts; file = at; fact = is.0 }, is.1, is.2)
+system_says words files (judgement file cert) lts (TooWide cause) out err ask at is = absurd is
+system_says words files (net class file) lts Unbuilt out err ask at is = (record { asked = net class file; ask = ask; lts = lts; file = at; fact = is.0 }, is.1, is.2)
 system_says words files (net class file) lts (Usage usage) out err ask at is = absurd is
 system_says words files (net class file) lts (File fault) out err ask at is = absurd is
 system_says words files (net class file) lts ReadFault out err ask at is = is
@@ -146,14 +163,19 @@ system_says words files (judgement file cert) lts Done out err ask at is = (reco
 system_says words files (judgement file cert) lts No out err ask at is = (record { asked = judgement file cert; ask = ask; lts = lts; file = at; fact = is.1 }, is.2)
 system_says words files (judgement file cert) lts (File fault) out err ask at is = (inr (record { asked = judgement file cert; ask = ask; lts = lts; file = at; fact = (is.0, is.1) }), is.2, is.3)
 system_says words files (judgement file cert) lts (Usage usage) out err ask at is = absurd is
-system_says words files (judgement file cert) lts (NotBuilt unbuilt) out err ask at is = absurd is
+system_says words files (judgement file cert) lts Unbuilt out err ask at is = absurd is
 system_says words files (judgement file cert) lts ReadFault out err ask at is = is
 system_says words files (judgement file cert) lts WriteFault out err ask at is = is
 system_says words files (judgement file cert) lts NoMemory out err ask at is = is
 
-pub asked_due : (words : List (List ℕ)) (files : Option Files) (asked : Asked) (status : Status) (out err : List ℕ) → Ask words asked → AnswersAsked files asked status out err → IsDue words files status
+pub asked_due : (words : List (List ℕ)) (files : Option Files) (asked : Asked) (status : Status) (out err : List ℕ) → Ask words asked → AnswersAsked files asked status out err → MayCome words files status
 asked_due words files asked status out err ask (inl is) = refused_due words files asked status out err ask is
 asked_due words files asked status out err ask (inr is) = system_due words files asked is.0 status out err ask is.1 is.2
+
+-- where there is an answer
+pub asked_due_if : (words : List (List ℕ)) (files : Option Files) (asked : Asked) (r : Result Answer Stop) → Ask words asked → IfOk r (λ a. AnswersAsked files asked a.status a.out.items a.err.items) → IfOk r (λ a. MayCome words files a.status)
+asked_due_if words files asked (Ok a) ask is = asked_due words files asked a.status a.out.items a.err.items ask is
+asked_due_if words files asked (Err e) ask is = tt
 
 pub asked_says : (words : List (List ℕ)) (files : Option Files) (asked : Asked) (status : Status) (out err : List ℕ) → Ask words asked → AnswersAsked files asked status out err → Answers words files status out err
 asked_says words files asked status out err ask (inl is) = refused_says words files asked status out err ask is
@@ -168,4 +190,5 @@ says_ends run (File fault) h = h
 says_ends run ReadFault h = absurd h.due
 says_ends run WriteFault h = absurd h.due
 says_ends run NoMemory h = absurd h.due
-says_ends run (NotBuilt unbuilt) h = h
+says_ends run (TooWide cause) h = h
+says_ends run Unbuilt h = h

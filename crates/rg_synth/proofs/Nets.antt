@@ -1,67 +1,58 @@
 -- What is found for a system is an answer.
-use Rattle.std.proofs.Common.{◌≡◌, ℕ, ◌≤◌, List, [], All, Any, Result, Ok, Err, IfOk, sym, subst}
+use Rattle.std.proofs.Common.{◌≡◌, ◌⊎◌, ℕ, ◌≤◌, List, [], All, Result, Ok, Err, IfOk, true≢false, sym, ap, subst, ◌∙◌}
+use Rattle.std.proofs.lemmas.Option.{get_or_from_slice_get, slice_get_within}
 use Rattle.std.specs.declared.alloc.AllocError.{AllocError}
 use Rattle.rg_theory.specs.System.{System, labels, IsInRange}
-use Rattle.rg_theory.specs.Net.{Place, Net}
+use Rattle.rg_theory.specs.Net.{Place, Net, tokens}
+use Rattle.rg_theory.specs.Solves.{Solves, marking_of}
+use Rattle.rg_theory.specs.Class.{IsBounded}
 use Rattle.rg_theory.specs.declared.Class.{Class}
-use Rattle.rg_theory.specs.Class.{InClass}
-use Rattle.rg_theory.specs.Region.{IsRegion}
-use Rattle.rg_theory.specs.declared.Problem.{Problem}
-use Rattle.rg_theory.specs.Problem.{IsSeparatedBy, SeparateAll}
-use Rattle.rg_theory.proofs.Yes.{yes}
-use Rattle.rg_theory.specs.ClassWords.{no_condition}
-use Rattle.rg_net.specs.Range.{IsNetInRange}
+use Rattle.rg_theory.specs.Region.{IsRegionIn}
+use Rattle.rg_theory.proofs.Classes.{yes_in_class}
+use Rattle.rg_theory.proofs.Solution.{solution_of, places_are_regions, solved_reachable}
+use Rattle.rg_theory.proofs.Yes.{region_unique}
+use Rattle.rg_net.specs.Range.{largest, IsNetInRange}
 use Rattle.rg_net.specs.NetText.{net_text}
-use Rattle.rg_search.specs.Small.{HasSmallEffects, IsSmallSeparable}
-use Rattle.rg_refuting.proofs.Accepted.{accepted}
-use Rattle.rg_refuting.specs.Refutes.{Reason, Accepts}
+use Rattle.rg_refuting.proofs.Accepted.{accepted, stays_inside}
+use Rattle.rg_refuting.specs.Refutes.{Reason, Reason.unreachable, Reason.fork, Reason.refuted, Accepts}
 use Rattle.rg_cert.specs.Text.{cert_text}
-use Rattle.rg_synth.specs.Answers.{IsOpen, IsReason}
+use Rattle.rg_separate.specs.Answer.{IsNarrowRegion, AreSeparating}
+use Rattle.rg_synth.specs.Answers.{IsOpen, IsObstructed, IsWithinReach, IsReason, IsShownFor}
+use Rattle.rg_synth.specs.Texts.{wide_line}
 use Rattle.rg_synth.specs.Requests.{AnswersNet}
 use Rattle.rg_synth.specs.declared.answer.Answer.{Answer}
 use Rattle.rg_synth.specs.declared.status.Status.{Status}
-use Rattle.rg_synth.specs.declared.status.Status.TheVariants.{Done, No}
+use Rattle.rg_synth.specs.declared.status.Status.TheVariants.{Done, No, TooWide}
+use Rattle.rg_synth.specs.declared.status.WideCause.{WideCause}
 
--- what the search found
+-- what the work has found
 pub record IsFound (class : Class) (lts : System) (net : Net) : Type 0 where
   pub in_range : IsInRange lts
-  pub is_open : IsOpen lts
-  pub any : class ≡ no_condition
-  pub few : labels lts ≤ 6
+  pub within : IsWithinReach class lts
   pub transitions : net.labels ≡ labels lts
-  pub regions : All (IsRegion lts) net.places
-  pub small : All (HasSmallEffects (labels lts)) net.places
-  pub separate : SeparateAll net.places lts
   pub numbers : IsNetInRange net
+  pub separating : AreSeparating lts class net.places
 
-small_separable : (lts : System) (places : List Place) (problem : Problem) → All (HasSmallEffects (labels lts)) places → Any (IsSeparatedBy lts problem) places → IsSmallSeparable lts problem
-small_separable lts places problem small (k, p, lt, same, separates) =
-    record { place = p; small = subst (HasSmallEffects (labels lts)) same (small k p lt); separates = separates }
+regions_of : (lts : System) (class : Class) (places : List Place) → All (IsNarrowRegion lts class) places → All (IsRegionIn lts class) places
+regions_of lts class places all i p lt = let narrow = all i p lt in (narrow.m, narrow.region)
 
--- every net is of the class that asks for nothing
-in_any : (net : Net) → InClass net no_condition
-in_any net = record {
-  weights = λ i p at. record { pure = λ e. absurd cc; plain = λ e. absurd cc; nonbranching = λ e. absurd cc };
-  bounded = tt;
-}
+-- a reachable marking has no more tokens on a place than its region has at some state
+narrow_markings : (lts : System) (class : Class) (net : Net) → IsInRange lts → Solves net lts → All (IsNarrowRegion lts class) net.places → IsBounded net largest
+narrow_markings lts class net fine sol each m reached i p at =
+    let is = solution_of lts net fine sol in
+    let (s, lt, e) = is.only m reached in
+    let narrow = subst (IsNarrowRegion lts class) (get_or_from_slice_get net.places i p p at) (each i p (slice_get_within net.places i p at)) in
+    let reach = solved_reachable lts net (marking_of sol.markings) fine sol.transitions is in
+    let same : tokens (marking_of sol.markings s) i ≡ narrow.m s = region_unique lts p _ narrow.m (places_are_regions lts net (marking_of sol.markings) is i p at) narrow.region.region s (reach.each s lt) in
+    subst (λ n. n ≤ largest) (sym same ∙ ap (λ m. tokens m i) e) (narrow.narrow s lt)
 
 -- a net of what was found is an answer
 found : (class : Class) (lts : System) (net : Net) (status : Status) (out err : List ℕ) → IsFound class lts net → status ≡ Done → out ≡ net_text net lts → err ≡ [] → AnswersNet class lts status out err
 found class lts net status out err is done text none =
+    let (solves, in_class) = yes_in_class lts net class is.in_range is.within.is_open.reachable is.transitions (regions_of lts class net.places is.separating.regions) is.separating.separate in
     subst (λ s. AnswersNet class lts s out err) (sym done) (
-      record {
-        is_open = is.is_open;
-        any = is.any;
-        few = is.few;
-        separable = λ problem asked. small_separable lts net.places problem is.small (is.separate problem asked);
-      },
-      record {
-        net = net;
-        in_range = is.numbers;
-        solves = yes lts net is.in_range is.is_open.reachable is.transitions is.regions is.separate;
-        in_class = subst (InClass net) (sym is.any) (in_any net);
-        text = text;
-      },
+      is.within,
+      record { net = net; in_range = is.numbers; solves = solves; in_class = in_class; narrow = narrow_markings lts class net is.in_range solves is.separating.regions; text = text },
       none,
     )
 
@@ -69,10 +60,28 @@ pub found_if : (class : Class) (lts : System) (net : Net) (r : Result Answer All
 found_if class lts net (Ok a) is done text none = found class lts net a.status a.out.items a.err.items is done text none
 found_if class lts net (Err e) is done text none = tt
 
+-- what holds of an open system is refuted problems
+pub reason_is : (lts : System) (class : Class) (reason : Reason) → IsOpen lts → Accepts lts class reason → IsReason lts reason
+reason_is lts class (unreachable s) opened (lt, (inside, closed)) =
+    let (ts, path) = opened.reachable.each s lt in
+    absurd (true≢false (sym (stays_inside lts inside closed.closed lts.initial ts s path closed.initial) ∙ closed.without))
+reason_is lts class (fork s t s₁ s₂) opened is = absurd (is.2 (opened.fork_free.one_target s t s₁ s₂ is.0 is.1))
+reason_is lts class (refuted problem trees) opened is = opened
+
 -- a reason is an answer
-pub refuted : (class : Class) (lts : System) (reason : Reason) (status : Status) (out err : List ℕ) → IsInRange lts → IsReason lts reason → Accepts lts class reason → status ≡ No → out ≡ cert_text (record { class = class; reason = reason }) lts → err ≡ [] → AnswersNet class lts status out err
-refuted class lts reason status out err fine is holds is_no text none =
+pub refutes : (class : Class) (lts : System) (reason : Reason) (status : Status) (out err : List ℕ) → IsInRange lts → IsObstructed lts ⊎ IsWithinReach class lts → IsReason lts reason → Accepts lts class reason → status ≡ No → out ≡ cert_text (record { class = class; reason = reason }) lts → err ≡ [] → AnswersNet class lts status out err
+refutes class lts reason status out err fine reached is holds is_no text none =
     subst (λ s. AnswersNet class lts s out err) (sym is_no) (
+      reached,
       record { reason = reason; is = is; holds = holds; none = accepted lts class reason fine holds; text = text },
       none,
     )
+
+-- a number that passes is an answer
+wide : (class : Class) (lts : System) (cause : WideCause) (status : Status) (out err : List ℕ) → IsShownFor class lts cause → status ≡ TooWide cause → out ≡ [] → err ≡ wide_line cause → AnswersNet class lts status out err
+wide class lts cause status out err is says nothing line = subst (λ s. AnswersNet class lts s out err) (sym says) (is, nothing, line)
+
+-- a number that passes is an answer, where there is memory for its line
+pub wide_if : (class : Class) (lts : System) (cause : WideCause) (r : Result Answer AllocError) → IsShownFor class lts cause → IfOk r (λ a. a.status ≡ TooWide cause) → IfOk r (λ a. a.out.items ≡ []) → IfOk r (λ a. a.err.items ≡ wide_line cause) → IfOk r (λ a. AnswersNet class lts a.status a.out.items a.err.items)
+wide_if class lts cause (Ok a) is says nothing line = wide class lts cause a.status a.out.items a.err.items is says nothing line
+wide_if class lts cause (Err e) is says nothing line = tt

@@ -1,24 +1,20 @@
 -- One status is due to words and files.
-use Rattle.std.proofs.Common.{◌≡◌, inl, inr, ℕ, List, Option, Some, None, refl, sym, ap, subst, ◌∙◌}
+use Rattle.std.proofs.Common.{◌≡◌, inl, inr, ℕ, List, Option, Some, None, IsSome, refl, sym, ap, subst, ◌∙◌}
 use Rattle.rg_ports.specs.Shelf.{Files}
 use Rattle.rg_theory.specs.System.{System}
-use Rattle.rg_theory.specs.declared.Problem.{Problem}
-use Rattle.rg_theory.specs.declared.Problem.TheVariants.{Event as Stop, States as Tell}
 use Rattle.rg_apt.specs.declared.fault.TextFault.{TextFault}
 use Rattle.rg_apt.specs.Spells.{Spells, FirstFault}
 use Rattle.rg_synth.specs.Words.{Asked, net, judgement, system_file}
-use Rattle.rg_synth.specs.Given.{IsNoSystem, IsSystemFile}
-use Rattle.rg_synth.specs.Answers.{IsYes, IsNo, IsSecondUnread, IsUnbuilt, IsFileRefused, IsDue}
+use Rattle.rg_synth.specs.Given.{IsNoSystem, IsSystemFile, AskOf}
+use Rattle.rg_synth.specs.Answers.{IsYes, IsNo, IsSecondUnread, IsUnbuilt, IsSearched, IsFileRefused, IsDue}
 use Rattle.rg_synth.specs.Run.{IsDecided}
 use Rattle.rg_synth.specs.declared.status.Status.{Status}
-use Rattle.rg_synth.specs.declared.status.Status.TheVariants.{Done, No, Usage as Refuses, File, ReadFault, WriteFault, NoMemory, Unbuilt as NotBuilt}
+use Rattle.rg_synth.specs.declared.status.Status.TheVariants.{Done, No, Usage as Refuses, File, ReadFault, WriteFault, NoMemory, TooWide, Unbuilt}
 use Rattle.rg_synth.specs.declared.status.Fault.{Fault}
 use Rattle.rg_synth.specs.declared.status.Fault.TheVariants.{Missing, TooLong, Apt}
 use Rattle.rg_synth.specs.declared.status.FileFault.{FileFault}
-use Rattle.rg_synth.specs.declared.status.Unbuilt.{Unbuilt}
-use Rattle.rg_synth.specs.declared.status.Unbuilt.TheVariants.{Class, Labels, Event, States}
 use Rattle.rg_synth.proofs.WordKinds.{Kind, refused, asks, IsOfKind, one_kind}
-use Rattle.rg_synth.proofs.Reaches.{Reach, refuted, class_is_other, labels_are, problem_is, within, IsReach, one_reach, Cert, unread, accepted, not_accepted, IsCert, one_cert, same_bytes, not_there, too_short}
+use Rattle.rg_synth.proofs.Reaches.{Reach, obstructed, beyond, within, IsReach, one_reach, Cert, unread, accepted, not_accepted, IsCert, one_cert, same_bytes, not_there, too_short}
 
 -- ---- what the file of a name is
 
@@ -61,110 +57,131 @@ one_verdict one files name (spells lts) (no_system f) h k = absurd (system_or_no
 one_verdict one files name (spells lts) (spells other) h k =
     ap spells (one.one_system k.bytes lts other (subst (λ b. Spells b lts) (same_bytes files name _ _ h.file.file k.file.file) h.spelled) k.spelled)
 
--- ---- the one status of all that
+-- ---- the one end of all that
 
-abbrev problem_status : Problem → Status
-problem_status (Stop s t) = NotBuilt (Event s t)
-problem_status (Tell s s') = NotBuilt (States s s')
+-- one status, or one of those to which a search comes
+data End : Type 0 where
+  one : Status → End
+  search : End
 
-abbrev reach_status : Reach → Status
-reach_status refuted = No
-reach_status class_is_other = NotBuilt Class
-reach_status (labels_are n) = NotBuilt (Labels n)
-reach_status (problem_is problem) = problem_status problem
-reach_status within = Done
+abbrev reach_end : Reach → End
+reach_end obstructed = one No
+reach_end beyond = one Unbuilt
+reach_end within = search
 
 abbrev cert_status : Cert → Status
 cert_status (unread fault) = File (record { file = 2; fault = fault })
 cert_status accepted = Done
 cert_status not_accepted = No
 
-abbrev AtSystem : Files → Asked → System → Status → Type 0
-AtSystem files (net class file) lts s = (reach : Reach) × IsReach class lts reach × (s ≡ reach_status reach)
-AtSystem files (judgement file cert) lts s = (v : Cert) × IsCert files cert lts v × (s ≡ cert_status v)
+-- what is decided by what is told
+abbrev IsDecidedEnd : Option Files → End → Type 0
+IsDecidedEnd files (one s) = IsDecided files s
+IsDecidedEnd files search = IsSome files
 
-abbrev AtVerdict : Files → Asked → Verdict → Status → Type 0
-AtVerdict files asked (no_system fault) s = s ≡ File (record { file = 1; fault = fault })
-AtVerdict files asked (spells lts) s = AtSystem files asked lts s
+abbrev AtSystem : Files → Asked → System → End → Type 0
+AtSystem files (net class file) lts e = (reach : Reach) × IsReach class lts reach × (e ≡ reach_end reach)
+AtSystem files (judgement file cert) lts e = (v : Cert) × IsCert files cert lts v × (e ≡ one (cert_status v))
 
-abbrev AtAsked : Option Files → Asked → Status → Type 0
-AtAsked None asked s = IsDecided None s → ⊥
-AtAsked (Some files) asked s = (v : Verdict) × IsVerdict files (system_file asked) v × AtVerdict files asked v s
+abbrev AtVerdict : Files → Asked → Verdict → End → Type 0
+AtVerdict files asked (no_system fault) e = e ≡ one (File (record { file = 1; fault = fault }))
+AtVerdict files asked (spells lts) e = AtSystem files asked lts e
 
-abbrev AtKind : Option Files → Kind → Status → Type 0
-AtKind files (refused usage) s = s ≡ Refuses usage
-AtKind files (asks asked) s = AtAsked files asked s
+abbrev AtAsked : Option Files → Asked → End → Type 0
+AtAsked None asked e = IsDecidedEnd None e → ⊥
+AtAsked (Some files) asked e = (v : Verdict) × IsVerdict files (system_file asked) v × AtVerdict files asked v e
 
-abbrev Placed : List (List ℕ) → Option Files → Status → Type 0
-Placed words files s = (kind : Kind) × IsOfKind words kind × AtKind files kind s
+abbrev AtKind : Option Files → Kind → End → Type 0
+AtKind files (refused usage) e = e ≡ one (Refuses usage)
+AtKind files (asks asked) e = AtAsked files asked e
 
-system_same : (files : Files) (asked : Asked) (lts : System) (a b : Status) → AtSystem files asked lts a → AtSystem files asked lts b → a ≡ b
-system_same files (net class file) lts a b x y = x.2 ∙ ap reach_status (one_reach class lts x.0 y.0 x.1 y.1) ∙ sym y.2
-system_same files (judgement file cert) lts a b x y = x.2 ∙ ap cert_status (one_cert files cert lts x.0 y.0 x.1 y.1) ∙ sym y.2
+abbrev Placed : List (List ℕ) → Option Files → End → Type 0
+Placed words files e = (kind : Kind) × IsOfKind words kind × AtKind files kind e
 
-verdict_same : OneAnswer → (files : Files) (asked : Asked) (v w : Verdict) (a b : Status) → IsVerdict files (system_file asked) v → IsVerdict files (system_file asked) w → AtVerdict files asked v a → AtVerdict files asked w b → a ≡ b
-verdict_same one files asked v w a b h k x y =
-    by v x (subst (λ u. AtVerdict files asked u b) (sym (one_verdict one files (system_file asked) v w h k)) y)
+system_same : (files : Files) (asked : Asked) (lts : System) (a b : End) → AtSystem files asked lts a → AtSystem files asked lts b → a ≡ b
+system_same files (net class file) lts a b x y = x.2 ∙ ap reach_end (one_reach class lts x.0 y.0 x.1 y.1) ∙ sym y.2
+system_same files (judgement file cert) lts a b x y = x.2 ∙ ap (λ v. one (cert_status v)) (one_cert files cert lts x.0 y.0 x.1 y.1) ∙ sym y.2
+
+verdict_same : OneAnswer → (files : Files) (asked : Asked) (v w : Verdict) (a b : End) → IsVerdict files (system_file asked) v → IsVerdict files (system_file asked) w → AtVerdict files asked v a → AtVerdict files asked w b → a ≡ b
+verdict_same answers files asked v w a b h k x y =
+    by v x (subst (λ u. AtVerdict files asked u b) (sym (one_verdict answers files (system_file asked) v w h k)) y)
   where
     by : (v : Verdict) → AtVerdict files asked v a → AtVerdict files asked v b → a ≡ b
     by (no_system f) x y = x ∙ sym y
     by (spells lts) x y = system_same files asked lts a b x y
 
-kind_same : OneAnswer → (files : Option Files) (kind : Kind) (a b : Status) → IsDecided files b → AtKind files kind a → AtKind files kind b → a ≡ b
-kind_same one files (refused usage) a b told x y = x ∙ sym y
-kind_same one None (asks asked) a b told x y = absurd (y told)
-kind_same one (Some files) (asks asked) a b told x y = verdict_same one files asked x.0 y.0 a b x.1 y.1 x.2 y.2
+kind_same : OneAnswer → (files : Option Files) (kind : Kind) (a b : End) → IsDecidedEnd files b → AtKind files kind a → AtKind files kind b → a ≡ b
+kind_same answers files (refused usage) a b told x y = x ∙ sym y
+kind_same answers None (asks asked) a b told x y = absurd (y told)
+kind_same answers (Some files) (asks asked) a b told x y = verdict_same answers files asked x.0 y.0 a b x.1 y.1 x.2 y.2
 
-placed_same : OneAnswer → (words : List (List ℕ)) (files : Option Files) (a b : Status) → IsDecided files b → Placed words files a → Placed words files b → a ≡ b
-placed_same one words files a b told x y =
-    kind_same one files x.0 a b told x.2 (subst (λ k. AtKind files k b) (sym (one_kind words x.0 y.0 x.1 y.1)) y.2)
+placed_same : OneAnswer → (words : List (List ℕ)) (files : Option Files) (a b : End) → IsDecidedEnd files b → Placed words files a → Placed words files b → a ≡ b
+placed_same answers words files a b told x y =
+    kind_same answers files x.0 a b told x.2 (subst (λ k. AtKind files k b) (sym (one_kind words x.0 y.0 x.1 y.1)) y.2)
 
 -- ---- what is due has its place
 
-at_yes : (files : Option Files) (asked : Asked) (lts : System) → IsSystemFile files (system_file asked) lts → IsYes files asked lts → AtAsked files asked Done
+at_yes : (files : Option Files) (asked : Asked) (lts : System) → IsSystemFile files (system_file asked) lts → IsYes files asked lts → AtAsked files asked (one Done)
 at_yes None asked lts file is = λ told. cc
-at_yes (Some files) (net class name) lts file is = (spells lts, file, (within, is, refl))
+at_yes (Some files) (net class name) lts file is = absurd is
 at_yes (Some files) (judgement name cert) lts file is = (spells lts, file, (accepted, is, refl))
 
-at_no : (files : Option Files) (asked : Asked) (lts : System) → IsSystemFile files (system_file asked) lts → IsNo files asked lts → AtAsked files asked No
+at_no : (files : Option Files) (asked : Asked) (lts : System) → IsSystemFile files (system_file asked) lts → IsNo files asked lts → AtAsked files asked (one No)
 at_no None asked lts file is = λ told. cc
-at_no (Some files) (net class name) lts file is = (spells lts, file, (refuted, is, refl))
+at_no (Some files) (net class name) lts file is = (spells lts, file, (obstructed, is, refl))
 at_no (Some files) (judgement name cert) lts file is = (spells lts, file, (not_accepted, is, refl))
 
-at_unbuilt : (files : Option Files) (asked : Asked) (lts : System) (unbuilt : Unbuilt) → IsSystemFile files (system_file asked) lts → IsUnbuilt asked lts unbuilt → AtAsked files asked (NotBuilt unbuilt)
-at_unbuilt None asked lts unbuilt file is = λ told. cc
-at_unbuilt (Some files) (judgement name cert) lts unbuilt file is = absurd is
-at_unbuilt (Some files) (net class name) lts Class file is = (spells lts, file, (class_is_other, is, refl))
-at_unbuilt (Some files) (net class name) lts (Labels n) file is = (spells lts, file, (labels_are n, is, refl))
-at_unbuilt (Some files) (net class name) lts (Event s t) file is = (spells lts, file, (problem_is (Stop s t), is, refl))
-at_unbuilt (Some files) (net class name) lts (States s s') file is = (spells lts, file, (problem_is (Tell s s'), is, refl))
+at_unbuilt : (files : Option Files) (asked : Asked) (lts : System) → IsSystemFile files (system_file asked) lts → IsUnbuilt asked lts → AtAsked files asked (one Unbuilt)
+at_unbuilt None asked lts file is = λ told. cc
+at_unbuilt (Some files) (judgement name cert) lts file is = absurd is
+at_unbuilt (Some files) (net class name) lts file is = (spells lts, file, (beyond, is, refl))
 
-same_fault : (fault : FileFault) (n : ℕ) → fault.file ≡ n → File fault ≡ File (record { file = n; fault = fault.fault })
-same_fault fault n p = ap File (λ i. record { file = p i; fault = fault.fault })
+at_search : (files : Option Files) (asked : Asked) (lts : System) → IsSystemFile files (system_file asked) lts → IsSearched asked lts → AtAsked files asked search
+at_search None asked lts file is = λ told. cc
+at_search (Some files) (judgement name cert) lts file is = absurd is
+at_search (Some files) (net class name) lts file is = (spells lts, file, (within, is, refl))
 
-at_first : (files : Option Files) (asked : Asked) (fault : FileFault) → fault.file ≡ 1 → IsNoSystem files (system_file asked) fault.fault → AtAsked files asked (File fault)
+same_fault : (fault : FileFault) (n : ℕ) → fault.file ≡ n → one (File fault) ≡ one (File (record { file = n; fault = fault.fault }))
+same_fault fault n p = ap (λ f. one (File f)) (λ i. record { file = p i; fault = fault.fault })
+
+at_first : (files : Option Files) (asked : Asked) (fault : FileFault) → fault.file ≡ 1 → IsNoSystem files (system_file asked) fault.fault → AtAsked files asked (one (File fault))
 at_first None asked fault first is = λ told. cc
 at_first (Some files) asked fault first is = (no_system fault.fault, is, same_fault fault 1 first)
 
-at_second : (files : Option Files) (asked : Asked) (lts : System) (fault : FileFault) → IsSystemFile files (system_file asked) lts → IsSecondUnread files asked fault → AtAsked files asked (File fault)
+at_second : (files : Option Files) (asked : Asked) (lts : System) (fault : FileFault) → IsSystemFile files (system_file asked) lts → IsSecondUnread files asked fault → AtAsked files asked (one (File fault))
 at_second None asked lts fault file is = λ told. cc
 at_second (Some files) (net class name) lts fault file is = absurd is
 at_second (Some files) (judgement name cert) lts fault file is = (spells lts, file, (unread fault.fault, is.1, same_fault fault 2 is.0))
 
-placed_file : (words : List (List ℕ)) (files : Option Files) (fault : FileFault) → IsFileRefused words files fault → Placed words files (File fault)
+placed_file : (words : List (List ℕ)) (files : Option Files) (fault : FileFault) → IsFileRefused words files fault → Placed words files (one (File fault))
 placed_file words files fault (inl (first, h)) = (asks h.asked, h.ask, at_first files h.asked fault first h.is)
 placed_file words files fault (inr h) = (asks h.asked, h.ask, at_second files h.asked h.lts fault h.file h.fact)
 
-placed : (words : List (List ℕ)) (files : Option Files) (s : Status) → IsDue words files s → Placed words files s
+placed : (words : List (List ℕ)) (files : Option Files) (s : Status) → IsDue words files s → Placed words files (one s)
 placed words files Done h = (asks h.asked, h.ask, at_yes files h.asked h.lts h.file h.fact)
 placed words files No h = (asks h.asked, h.ask, at_no files h.asked h.lts h.file h.fact)
 placed words files (Refuses usage) h = (refused usage, h, refl)
 placed words files (File fault) h = placed_file words files fault h
-placed words files (NotBuilt unbuilt) h = (asks h.asked, h.ask, at_unbuilt files h.asked h.lts unbuilt h.file h.fact)
+placed words files Unbuilt h = (asks h.asked, h.ask, at_unbuilt files h.asked h.lts h.file h.fact)
+placed words files (TooWide cause) h = absurd h
 placed words files ReadFault h = absurd h
 placed words files WriteFault h = absurd h
 placed words files NoMemory h = absurd h
 
+placed_search : (words : List (List ℕ)) (files : Option Files) → AskOf words files IsSearched → Placed words files search
+placed_search words files h = (asks h.asked, h.ask, at_search files h.asked h.lts h.file h.fact)
+
+same_one : (a b : Status) → one a ≡ one b → a ≡ b
+same_one a b e = cc
+
 -- two statuses that are due are one, where the second is decided by what is told
 pub one_status : OneAnswer → (words : List (List ℕ)) (files : Option Files) (a b : Status) → IsDecided files b → IsDue words files a → IsDue words files b → a ≡ b
-one_status one words files a b told x y = placed_same one words files a b told (placed words files a x) (placed words files b y)
+one_status answers words files a b told x y = same_one a b (placed_same answers words files (one a) (one b) told (placed words files a x) (placed words files b y))
+
+-- where a search is asked for no status is due, where it is decided by what is told
+pub none_due : OneAnswer → (words : List (List ℕ)) (files : Option Files) (b : Status) → IsDecided files b → AskOf words files IsSearched → IsDue words files b → ⊥
+none_due answers words files b told x y = let e = placed_same answers words files search (one b) told (placed_search words files x) (placed words files b y) in cc
+
+-- nor is one due then, where the files are told
+pub no_search : OneAnswer → (words : List (List ℕ)) (files : Option Files) (a : Status) → IsSome files → IsDue words files a → AskOf words files IsSearched → ⊥
+no_search answers words files a told x y = let e = placed_same answers words files (one a) search told (placed words files a x) (placed_search words files y) in cc

@@ -1,31 +1,29 @@
 -- What is due to the words and the files: each status, when it is due, and what it writes.
-use Rattle.std.specs.Prelude.{◌≡◌, ◌≢◌, ◌⊎◌, ℕ, ◌<◌, ◌≤◌, List, [], Option}
+use Rattle.std.specs.Prelude.{◌≡◌, ◌⊎◌, ℕ, List, [], Option, IsTrue, IsSome}
 use Rattle.rg_ports.specs.Shelf.{Files}
-use Rattle.rg_theory.specs.System.{System, labels, IsAllReachable, IsForkFree, IsLeastUnreachable}
+use Rattle.rg_theory.specs.System.{System, IsAllReachable, IsForkFree, IsLeastUnreachable}
 use Rattle.rg_theory.specs.Net.{Net}
 use Rattle.rg_theory.specs.Solves.{Solves}
 use Rattle.rg_theory.specs.declared.Class.{Class}
-use Rattle.rg_theory.specs.Class.{InClass, NoNet}
-use Rattle.rg_theory.specs.declared.Problem.{Problem}
-use Rattle.rg_theory.specs.declared.Problem.TheVariants.{Event as Stop, States as Tell}
-use Rattle.rg_theory.specs.Problem.{IsProblem}
-use Rattle.rg_theory.specs.ClassWords.{no_condition}
-use Rattle.rg_net.specs.Range.{IsNetInRange}
+use Rattle.rg_theory.specs.Class.{IsBounded, InClass, NoNet}
+use Rattle.rg_net.specs.Range.{largest, IsNetInRange}
 use Rattle.rg_net.specs.NetText.{net_text}
-use Rattle.rg_search.specs.Small.{IsSmallSeparable, IsFirstUnseparable}
 use Rattle.rg_checks.specs.First.{IsLeastFork}
-use Rattle.rg_refuting.specs.Refutes.{Reason, Reason.unreachable, Reason.fork, Accepts}
+use Rattle.rg_refuting.specs.Refutes.{Reason, Reason.unreachable, Reason.fork, Reason.refuted, Accepts}
+use Rattle.rg_folds.specs.Shown.{ShownWide}
+use Rattle.rg_separate.specs.View.{shown_of}
+use Rattle.rg_separate.specs.Answer.{IsUnbranched}
 use Rattle.rg_cert.specs.Text.{cert_text}
 use Rattle.rg_synth.specs.Words.{Asked, net, judgement, AreRefused}
 use Rattle.rg_synth.specs.Given.{IsUnread, AskForNoSystem, AskOf}
 use Rattle.rg_synth.specs.Judged.{IsAccepted, IsNotAccepted, IsRefused}
 use Rattle.rg_synth.specs.JudgedTexts.{accepted_line}
-use Rattle.rg_synth.specs.Texts.{usage_line, file_line}
+use Rattle.rg_synth.specs.Texts.{usage_line, file_line, wide_line}
 use Rattle.rg_synth.specs.declared.status.Status.{Status}
-use Rattle.rg_synth.specs.declared.status.Status.TheVariants.{Done, No, Usage, File, ReadFault, WriteFault, NoMemory, Unbuilt as NotBuilt}
+use Rattle.rg_synth.specs.declared.status.Status.TheVariants.{Done, No, Usage, File, TooWide, ReadFault, WriteFault, NoMemory, Unbuilt}
 use Rattle.rg_synth.specs.declared.status.FileFault.{FileFault}
-use Rattle.rg_synth.specs.declared.status.Unbuilt.{Unbuilt}
-use Rattle.rg_synth.specs.declared.status.Unbuilt.TheVariants.{Class as OtherClass, Labels, Event, States}
+use Rattle.rg_synth.specs.declared.status.WideCause.{WideCause}
+use Rattle.rg_synth.specs.declared.status.WideCause.TheVariants.{Synthesis}
 
 -- ---- a net of a class for a system
 
@@ -34,33 +32,33 @@ pub record IsOpen (lts : System) : Type 0 where
   pub reachable : IsAllReachable lts
   pub fork_free : IsForkFree lts
 
--- the reason that no net of any class solves the system: the least unreachable state, else the first fork
+-- some state can't be reached, or there is a fork
+abbrev pub IsObstructed : System → Type 0
+IsObstructed lts = ((s : ℕ) × IsLeastUnreachable lts s) ⊎ ((s t s₁ s₂ : ℕ) × IsAllReachable lts × IsLeastFork lts s t s₁ s₂)
+
+-- why no net of the class solves the system: the least unreachable state, else the first fork, else a problem
 abbrev pub IsReason : System → Reason → Type 0
 IsReason lts (unreachable s) = IsLeastUnreachable lts s
 IsReason lts (fork s t s₁ s₂) = IsAllReachable lts × IsLeastFork lts s t s₁ s₂
-IsReason lts reason = ⊥
+IsReason lts (refuted problem trees) = IsOpen lts
 
--- what isn't built: a class that asks for something, then more than six labels, then a problem that no region with all
--- effects from -1 to 1 separates
-abbrev pub IsBeyond : Class → System → Unbuilt → Type 0
-IsBeyond class lts OtherClass = IsOpen lts × (class ≢ no_condition)
-IsBeyond class lts (Labels n) = IsOpen lts × (class ≡ no_condition) × (n ≡ labels lts) × (6 < n)
-IsBeyond class lts (Event s t) = IsOpen lts × (class ≡ no_condition) × (labels lts ≤ 6) × IsFirstUnseparable lts (Stop s t)
-IsBeyond class lts (States s s') = IsOpen lts × (class ≡ no_condition) × (labels lts ≤ 6) × IsFirstUnseparable lts (Tell s s')
+-- what isn't built: a class that is plain or has a bound, for a system without an unreachable state or a fork
+abbrev pub IsBeyond : Class → System → Type 0
+IsBeyond class lts = IsOpen lts × (IsTrue class.plain ⊎ IsSome class.bound)
 
--- what is built: all other systems without an unreachable state or a fork
+-- what is built: each other class, for such a system
 pub record IsWithinReach (class : Class) (lts : System) : Type 0 where
   pub is_open : IsOpen lts
-  pub any : class ≡ no_condition
-  pub few : labels lts ≤ 6
-  pub separable : (problem : Problem) → IsProblem lts problem → IsSmallSeparable lts problem
+  pub class_is : IsUnbranched class
 
--- the bytes are the text of a net of the class that solves the system
+-- the bytes are the text of a net of the class that solves the system; no number of the net or of a reachable marking is
+-- above 2^127 - 1
 pub record IsNetText (class : Class) (lts : System) (out : List ℕ) : Type 0 where
   pub net : Net
   pub in_range : IsNetInRange net
   pub solves : Solves net lts
   pub in_class : InClass net class
+  pub narrow : IsBounded net largest
   pub text : out ≡ net_text net lts
 
 -- the bytes are the text of a certificate of the class that holds, and no net of the class solves the system
@@ -71,26 +69,41 @@ pub record IsCertificateText (class : Class) (lts : System) (out : List ℕ) : T
   pub none : NoNet lts class
   pub text : out ≡ cert_text (record { class = class; reason = reason }) lts
 
+-- a number that passes in the work on the system for the class, in its stated order
+abbrev pub IsShownFor : Class → System → WideCause → Type 0
+IsShownFor class lts (Synthesis w) = IsWithinReach class lts × ShownWide lts class (shown_of w)
+
 -- ---- when a status is due
 
--- the command's yes: a net is found, or the certificate of the second file is accepted
+-- the command's yes: the certificate of the second file is accepted
 abbrev pub IsYes : Option Files → Asked → System → Type 0
-IsYes files (net class file) lts = IsWithinReach class lts
+IsYes files (net class file) lts = ⊥
 IsYes files (judgement file cert) lts = (class : Class) × IsAccepted files cert lts class
 
--- the command's no: a reason that there is no net, or no certificate that is accepted
+-- the command's no: an unreachable state or a fork, or no certificate that is accepted
 abbrev pub IsNo : Option Files → Asked → System → Type 0
-IsNo files (net class file) lts = (reason : Reason) × IsReason lts reason
+IsNo files (net class file) lts = IsObstructed lts
 IsNo files (judgement file cert) lts = IsNotAccepted files cert lts
+
+-- a net is asked for where that is built: a net, a certificate or a number that passes is the answer
+abbrev pub IsSearched : Asked → System → Type 0
+IsSearched (net class file) lts = IsWithinReach class lts
+IsSearched (judgement file cert) lts = ⊥
+
+abbrev pub IsSearchEnd : Status → Type 0
+IsSearchEnd Done = Unit {0}
+IsSearchEnd No = Unit {0}
+IsSearchEnd (TooWide cause) = Unit {0}
+IsSearchEnd _ = ⊥
 
 -- the second file isn't there or is too long
 abbrev pub IsSecondUnread : Option Files → Asked → FileFault → Type 0
 IsSecondUnread files (net class file) fault = ⊥
 IsSecondUnread files (judgement file cert) fault = (fault.file ≡ 2) × IsUnread files cert fault.fault
 
-abbrev pub IsUnbuilt : Asked → System → Unbuilt → Type 0
-IsUnbuilt (net class file) lts unbuilt = IsBeyond class lts unbuilt
-IsUnbuilt (judgement file cert) lts unbuilt = ⊥
+abbrev pub IsUnbuilt : Asked → System → Type 0
+IsUnbuilt (net class file) lts = IsBeyond class lts
+IsUnbuilt (judgement file cert) lts = ⊥
 
 -- the first file is not that of a system; or it is, and the second is unread
 abbrev pub IsFileRefused : List (List ℕ) → Option Files → FileFault → Type 0
@@ -98,16 +111,21 @@ IsFileRefused words files fault =
     ((fault.file ≡ 1) × AskForNoSystem words files fault.fault)
     ⊎ AskOf words files (λ asked lts. IsSecondUnread files asked fault)
 
--- the status is due to the words and the files; a fault or want of memory never is
+-- the status alone is due to the words and the files; a fault or want of memory never is
 abbrev pub IsDue : List (List ℕ) → Option Files → Status → Type 0
 IsDue words files Done = AskOf words files (IsYes files)
 IsDue words files No = AskOf words files (IsNo files)
 IsDue words files (Usage usage) = AreRefused words usage
 IsDue words files (File fault) = IsFileRefused words files fault
-IsDue words files (NotBuilt unbuilt) = AskOf words files (λ asked lts. IsUnbuilt asked lts unbuilt)
+IsDue words files Unbuilt = AskOf words files IsUnbuilt
+IsDue words files (TooWide cause) = ⊥
 IsDue words files ReadFault = ⊥
 IsDue words files WriteFault = ⊥
 IsDue words files NoMemory = ⊥
+
+-- the status may come: it is due, or it is one of the three to which a search comes
+abbrev pub MayCome : List (List ℕ) → Option Files → Status → Type 0
+MayCome words files status = IsDue words files status ⊎ (AskOf words files IsSearched × IsSearchEnd status)
 
 -- ---- what a status says
 
@@ -122,13 +140,19 @@ abbrev pub SaysNo : Option Files → List ℕ → Asked → System → Type 0
 SaysNo files out (net class file) lts = IsCertificateText class lts out
 SaysNo files out (judgement file cert) lts = IsRefused files cert lts out
 
+-- what shows that a number passes
+abbrev pub SaysWide : WideCause → Asked → System → Type 0
+SaysWide cause (net class file) lts = IsShownFor class lts cause
+SaysWide cause (judgement file cert) lts = ⊥
+
 -- why a status came, and what it writes to out and to err
 abbrev pub Answers : List (List ℕ) → Option Files → Status → List ℕ → List ℕ → Type 0
 Answers words files Done out err = AskOf words files (SaysYes files out) × (err ≡ [])
 Answers words files No out err = AskOf words files (SaysNo files out) × (err ≡ [])
 Answers words files (Usage usage) out err = AreRefused words usage × (out ≡ []) × (err ≡ usage_line usage)
 Answers words files (File fault) out err = IsFileRefused words files fault × (out ≡ []) × (err ≡ file_line fault)
-Answers words files (NotBuilt unbuilt) out err = AskOf words files (λ asked lts. IsUnbuilt asked lts unbuilt) × (out ≡ []) × (err ≡ [])
+Answers words files (TooWide cause) out err = AskOf words files (SaysWide cause) × (out ≡ []) × (err ≡ wide_line cause)
+Answers words files Unbuilt out err = AskOf words files IsUnbuilt × (out ≡ []) × (err ≡ [])
 Answers words files ReadFault out err = ⊥
 Answers words files WriteFault out err = ⊥
 Answers words files NoMemory out err = ⊥

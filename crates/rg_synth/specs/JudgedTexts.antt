@@ -11,7 +11,7 @@ use Rattle.rg_verify.specs.declared.verdict.Variable.{Variable}
 use Rattle.rg_verify.specs.declared.verdict.Variable.TheVariants.{Tokens, Effect}
 use Rattle.rg_verify.specs.Judged.{variable_of}
 use Rattle.rg_verify.specs.declared.verdict.Defect.{Defect}
-use Rattle.rg_verify.specs.declared.verdict.Defect.TheVariants.{WrongRow, NotPositive, LeftOver, NoContradiction, SumPasses, CaseMissing, NotSo}
+use Rattle.rg_verify.specs.declared.verdict.Defect.TheVariants.{WrongRow, NotPositive, LeftOver, SumPasses, CaseMissing, NotSo}
 
 -- the certificate holds, so there is no net of its class
 abbrev pub accepted_line : Class → List ℕ

@@ -4,7 +4,8 @@ use Rattle.rg_ports.specs.Count.{HasRisen}
 use Rattle.rg_ports.specs.Shelf.{Files}
 use Rattle.rg_ports.specs.Sink.{taken_with, TakesPart}
 use Rattle.rg_synth.specs.Words.{Asked, Ask, file_words}
-use Rattle.rg_synth.specs.Answers.{Answers, IsDue}
+use Rattle.rg_synth.specs.Given.{AskOf}
+use Rattle.rg_synth.specs.Answers.{Answers, IsDue, IsSearched, IsSearchEnd}
 use Rattle.rg_synth.specs.declared.status.Status.{Status}
 use Rattle.rg_synth.specs.declared.status.Status.TheVariants.{Usage, ReadFault, WriteFault, NoMemory}
 
@@ -102,3 +103,8 @@ IsDecided files status = IsSome files
 -- its place
 abbrev pub ComesIfDue : List (List ℕ) → Option Files → Status → Status → Type 0
 ComesIfDue words files due result = IsDecided files due → IsDue words files due → (result ≡ due) ⊎ IsMishap result
+
+-- where a net is asked for and that is built, and the shelf tells its files, a net, a certificate or a number that passes
+-- is the answer, unless a fault or want of memory comes in its place
+abbrev pub EndsSearch : List (List ℕ) → Option Files → Status → Type 0
+EndsSearch words files result = IsSome files → AskOf words files IsSearched → IsSearchEnd result ⊎ IsMishap result

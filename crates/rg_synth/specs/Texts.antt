@@ -1,5 +1,6 @@
 -- The lines that a refusal writes to err.
-use Rattle.std.specs.Prelude.{ℕ, List, [], ◌++◌, Option, None, Some, codes, decimal}
+use Rattle.std.specs.Prelude.{ℕ, List, [], ◌++◌, Option, None, Some, ℤ, codes, decimal}
+use Rattle.std.specs.Fmt.{signed_decimal}
 use Rattle.rg_lexer.specs.declared.token.Want.{Want}
 use Rattle.rg_lexer.specs.declared.token.Want.TheVariants as want
 use Rattle.rg_apt.specs.declared.fault.TextFault.{TextFault}
@@ -11,6 +12,11 @@ use Rattle.rg_synth.specs.declared.status.Usage.TheVariants.{NoCommand, UnknownC
 use Rattle.rg_synth.specs.declared.status.Fault.{Fault}
 use Rattle.rg_synth.specs.declared.status.Fault.TheVariants.{Missing, TooLong, Apt}
 use Rattle.rg_synth.specs.declared.status.FileFault.{FileFault}
+use Rattle.rg_fraction.specs.declared.term.Wide.{Wide}
+use Rattle.rg_separate.specs.declared.wide_at.Stage.{Stage}
+use Rattle.rg_separate.specs.declared.wide_at.Stage.TheVariants.{Cycle, Row, Pivot, Place, Spread}
+use Rattle.rg_synth.specs.declared.status.WideCause.{WideCause}
+use Rattle.rg_synth.specs.declared.status.WideCause.TheVariants.{Synthesis}
 
 -- the number of a refused class word
 abbrev pub refused_number : ClassFault → ℕ
@@ -106,3 +112,23 @@ fault_text (Apt fault) = text_fault_text fault
 -- which of the files has which fault
 abbrev pub file_line : FileFault → List ℕ
 file_line f = codes "file " ++ decimal f.file ++ codes ": " ++ fault_text f.fault ++ codes "\n"
+
+-- the part of the work
+abbrev pub stage_words : Stage → List ℕ
+stage_words Cycle = codes "cycle"
+stage_words Row = codes "row"
+stage_words Pivot = codes "pivot"
+stage_words Place = codes "place"
+stage_words Spread = codes "spread"
+
+-- two factors
+abbrev pub product_text : ℤ → ℤ → List ℕ
+product_text a b = signed_decimal a ++ codes " * " ++ signed_decimal b
+
+-- the four numbers of a term
+abbrev pub term_text : Wide → List ℕ
+term_text w = product_text w.a w.b ++ codes " - " ++ product_text w.c w.d
+
+-- where a number passes
+abbrev pub wide_line : WideCause → List ℕ
+wide_line (Synthesis at) = codes "too wide: " ++ stage_words at.stage ++ codes ": " ++ term_text at.wide ++ codes "\n"

@@ -1,8 +1,8 @@
 //! The answer to the words, whole before anything is written.
 ghost use Rattle.std.specs.Prelude.{◌≡◌, ℕ, [], map, string_bytes, IfOk, IsErrOf};
 ghost use Rattle.rg_ports.specs.Count.{HasRisen};
-ghost use Rattle.rg_synth.specs.Texts.{usage_line, file_line};
-ghost use Rattle.rg_synth.specs.Answers.{Answers, IsDue};
+ghost use Rattle.rg_synth.specs.Texts.{usage_line, file_line, wide_line};
+ghost use Rattle.rg_synth.specs.Answers.{Answers, MayCome};
 ghost use Rattle.rg_synth.specs.Requests.{asked_by, HasBounds, AnswersAsked};
 ghost use Rattle.rg_synth.specs.Run.{AsksAtMost, AsksFiles, IsReadFault};
 ghost use Rattle.rg_synth.specs.declared.answer.Stop.TheVariants as stop;
@@ -10,8 +10,8 @@ ghost use Rattle.rg_synth.specs.declared.answer.Stop.TheVariants as stop;
 use crate::judging::judgement_answer;
 use crate::netting::net_answer;
 use crate::request::{Request, read_words};
-use crate::status::{Fault, FileFault, Status, Unbuilt, Usage};
-use crate::texts::{file_text, usage_text};
+use crate::status::{Fault, FileFault, Status, Usage, WideCause};
+use crate::texts::{file_text, usage_text, wide_text};
 use rg_ports::Shelf;
 use std::alloc::{AllocError, Global};
 
@@ -44,7 +44,7 @@ pub(crate) fn make_answer<H: Shelf>(
     shelf: &mut H,
 ) -> Result<Answer, Stop>
     ensures asked { AsksAtMost (map string_bytes words.now) (H.asked shelf.old) (H.asked shelf.new) }
-    ensures due { IfOk result (λ a. IsDue (map string_bytes words.now) (H.files shelf.old) a.status) }
+    ensures may_come { IfOk result (λ a. MayCome (map string_bytes words.now) (H.files shelf.old) a.status) }
     ensures says { IfOk result (λ a. Answers (map string_bytes words.now) (H.files shelf.old) a.status a.out.items a.err.items) }
     ensures fault { IsErrOf result stop.ReadFault → IsReadFault (map string_bytes words.now) (record { before = H.faults shelf.old; after = H.faults shelf.new }) }
 {
@@ -111,14 +111,28 @@ pub(crate) fn said(alloc: Global, status: Status, out: Vec<u8>) -> Answer
     }
 }
 
+// A number that passes.
+pub(crate) fn too_wide(alloc: Global, cause: WideCause) -> Result<Answer, AllocError>
+    ensures status { IfOk result (λ a. a.status ≡ Status.TooWide cause) }
+    ensures out { IfOk result (λ a. a.out.items ≡ []) }
+    ensures err { IfOk result (λ a. a.err.items ≡ wide_line cause) }
+{
+    let err = wide_text(alloc, &cause)?;
+    Ok(Answer {
+        status: Status::TooWide(cause),
+        out: Vec::new(alloc),
+        err,
+    })
+}
+
 // Nothing to write.
-pub(crate) fn unbuilt(alloc: Global, what: Unbuilt) -> Answer
-    ensures status { result.status ≡ Status.Unbuilt what }
+pub(crate) fn unbuilt(alloc: Global) -> Answer
+    ensures status { result.status ≡ Status.Unbuilt }
     ensures out { result.out.items ≡ [] }
     ensures err { result.err.items ≡ [] }
 {
     Answer {
-        status: Status::Unbuilt(what),
+        status: Status::Unbuilt,
         out: Vec::new(alloc),
         err: Vec::new(alloc),
     }

@@ -11,5 +11,6 @@ mod status;
 mod system_file;
 mod texts;
 
+pub use rg_separate::{Stage, WideAt};
 pub use run_whole::run;
-pub use status::{Fault, FileFault, Status, Unbuilt, Usage};
+pub use status::{Fault, FileFault, Status, Usage, WideCause};

@@ -1,21 +1,20 @@
 //! The answer to a request for a net.
-ghost use Rattle.std.specs.Prelude.{◌≡◌, ◌≢◌, ℕ, ◌≤◌, [], IfOk, IsErrOf, IsTrue, IsFalse};
+ghost use Rattle.std.specs.Prelude.{◌≡◌, ◌⊎◌, [], IfOk, IsErrOf};
 ghost use Rattle.rg_ports.specs.Count.{HasRisen};
 ghost use Rattle.rg_ports.specs.Shelf.{asked_with};
 ghost use Rattle.rg_theory.specs.System.{labels, IsInRange};
-ghost use Rattle.rg_theory.specs.ClassWords.{no_condition, HasBoundInRange};
+ghost use Rattle.rg_theory.specs.ClassWords.{HasBoundInRange};
 ghost use Rattle.rg_net.specs.NetText.{net_text};
-ghost use Rattle.rg_spanning.specs.Spanning.{IsTreeOf};
 ghost use Rattle.rg_refuting.specs.Refutes.{Accepts};
 ghost use Rattle.rg_cert.specs.Certificates.{reason_of, IsCertificateOf};
 ghost use Rattle.rg_synth.specs.Words.{net};
-ghost use Rattle.rg_synth.specs.Answers.{IsOpen, IsReason};
+ghost use Rattle.rg_synth.specs.Answers.{IsOpen, IsObstructed, IsWithinReach, IsReason};
 ghost use Rattle.rg_synth.specs.Requests.{AnswersNet, AnswersAsked};
 ghost use Rattle.rg_synth.specs.declared.answer.Stop.TheVariants as stop;
 ghost use Rattle.rg_synth.specs.declared.status.Status.TheVariants as status;
 
-use crate::answer::{Answer, Stop, file_refusal, said, unbuilt};
-use crate::status::{Status, Unbuilt};
+use crate::answer::{Answer, Stop, file_refusal, said, too_wide, unbuilt};
+use crate::status::{Status, WideCause};
 use crate::system_file::{SystemStop, read_system};
 use rg_cert::{Certificate, Reason, print};
 use rg_checks::{first_fork, first_unreachable};
@@ -23,9 +22,8 @@ use rg_lts::Lts;
 use rg_net::Net;
 use rg_netfile::print_net;
 use rg_ports::Shelf;
-use rg_search::{SearchStop, search};
-use rg_spanning::Tree;
-use rg_theory::{Class, Problem};
+use rg_separate::{Separation, separate};
+use rg_theory::Class;
 use std::alloc::{AllocError, Global};
 
 // A net of the class for the system of the file, or why there is none.
@@ -70,6 +68,7 @@ fn system_answer(alloc: Global, class: Class, lts: &Lts) -> Result<Answer, Alloc
 // The certificate that gives the reason.
 fn refutation(alloc: Global, class: Class, reason: Reason, lts: &Lts) -> Result<Answer, AllocError>
     requires system { IsInRange lts.now }
+    requires reached { IsObstructed lts.now ⊎ IsWithinReach class lts.now }
     requires is { IsReason lts.now (reason_of reason) }
     requires holds { Accepts lts.now class (reason_of reason) }
     requires in_range { IsCertificateOf lts.now (record { class = class; reason = reason }) }
@@ -81,48 +80,21 @@ fn refutation(alloc: Global, class: Class, reason: Reason, lts: &Lts) -> Result<
     }
 }
 
-// Whether the class asks for nothing.
-fn is_any(class: Class) -> bool
-    ensures some { IsTrue result → class ≡ no_condition }
-    ensures none { IsFalse result → class ≢ no_condition }
-{
-    !class.pure && !class.plain && class.bound.is_none() && !class.nonbranching
-}
-
 // The answer to a system without an unreachable state or a fork.
 fn open_answer(alloc: Global, class: Class, lts: &Lts) -> Result<Answer, AllocError>
-    requires { IsOpen lts.now }
-    ensures { IfOk result (λ a. AnswersNet class lts.now a.status a.out.items a.err.items) }
-{
-    if !is_any(class) {
-        return Ok(unbuilt(alloc, Unbuilt::Class));
-    }
-    if lts.labels() > 6 {
-        return Ok(unbuilt(alloc, Unbuilt::Labels(lts.labels())));
-    }
-    match Tree::grow(alloc, lts) {
-        Ok(tree) => tree_answer(alloc, class, lts, &tree),
-        Err(_) => Err(AllocError),
-    }
-}
-
-// The answer to a system with its tree.
-fn tree_answer(alloc: Global, class: Class, lts: &Lts, tree: &Tree) -> Result<Answer, AllocError>
-    requires tree { IsTreeOf lts.now tree.now }
+    requires bound { HasBoundInRange class }
     requires is_open { IsOpen lts.now }
-    requires any { class ≡ no_condition }
-    requires few { labels lts.now ≤ 6 }
     ensures { IfOk result (λ a. AnswersNet class lts.now a.status a.out.items a.err.items) }
 {
-    match search(alloc, lts, tree.arcs()) {
-        Ok(places) => printed(alloc, lts, Net::new(lts.labels(), places)),
-        Err(SearchStop::Unseparated(Problem::Event(s, t))) => {
-            Ok(unbuilt(alloc, Unbuilt::Event(s, t)))
-        }
-        Err(SearchStop::Unseparated(Problem::States(s, other))) => {
-            Ok(unbuilt(alloc, Unbuilt::States(s, other)))
-        }
-        Err(SearchStop::NoMemory) => Err(AllocError),
+    if class.plain || class.bound.is_some() {
+        return Ok(unbuilt(alloc));
+    }
+    let labels = lts.labels();
+    match separate(alloc, lts, class) {
+        Ok(Separation::Places(places)) => printed(alloc, lts, Net::new(labels, places)),
+        Ok(Separation::Unsolvable(cert)) => refutation(alloc, class, cert.reason, lts),
+        Ok(Separation::TooWide(at)) => too_wide(alloc, WideCause::Synthesis(at)),
+        Err(_) => Err(AllocError),
     }
 }
 

@@ -1,6 +1,6 @@
 //! The top call.
 ghost use Rattle.std.specs.Prelude.{map, string_bytes};
-ghost use Rattle.rg_synth.specs.Run.{Ends, AsksAtMost, ComesIfDue};
+ghost use Rattle.rg_synth.specs.Run.{Ends, AsksAtMost, ComesIfDue, EndsSearch};
 ghost use Rattle.rg_synth.specs.declared.status.Status.{Status};
 
 use crate::answer::{Stop, make_answer};
@@ -13,7 +13,8 @@ use std::thread::Threads;
 /// `out` the text of a net of the class that solves its system, or of a certificate that there is none. `verify FILE CERT`
 /// reads both files, and writes to `out` whether the certificate is accepted for the system. A refusal of words or files is
 /// a line to `err`. What is due is whole before the first write. The runtime and the gate are there for later commands, and unused. The status says how it ended; each has its
-/// cause in `Ends`, and a status that is due comes by `ComesIfDue`.
+/// cause in `Ends`, a status that is due comes by `ComesIfDue`, and a search ends by `EndsSearch` with a net, a certificate or a
+/// number that passes.
 pub fn run<R: Threads + Sync, H: Shelf, O: Sink, E: Sink, G: Gate + Sync>(
     _rt: &R,
     alloc: Global,
@@ -33,6 +34,7 @@ pub fn run<R: Threads + Sync, H: Shelf, O: Sink, E: Sink, G: Gate + Sync>(
       err_faults = record { before = E.faults err.old; after = E.faults err.new };
     }) result }
     ensures exactly { (due : Status) → ComesIfDue (map string_bytes words.now) (H.files shelf.old) due result }
+    ensures searched { EndsSearch (map string_bytes words.now) (H.files shelf.old) result }
     ensures asked { AsksAtMost (map string_bytes words.now) (H.asked shelf.old) (H.asked shelf.new) }
 {
     let made = match make_answer(alloc, words, shelf) {

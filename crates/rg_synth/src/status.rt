@@ -3,10 +3,11 @@ ghost use Rattle.std.specs.Prelude.{◌≡◌};
 ghost use Rattle.rg_synth.specs.Numbers.{status_number};
 
 use rg_apt::TextFault;
+use rg_separate::WideAt;
 use rg_theory::ClassFault;
 
 /// How a run ends.
-#[derive(Clone, Copy, Debug, PartialEq, Eq)]
+#[derive(Debug, PartialEq, Eq, Drop)]
 pub enum Status {
     /// The command's yes: its text stands in out, a net or that a certificate is accepted.
     Done,
@@ -16,14 +17,16 @@ pub enum Status {
     Usage(Usage),
     /// A file isn't there or is too long, or the first spells no system.
     File(FileFault),
+    /// A number that the stated order of work forms is out of range; it stands in err.
+    TooWide(WideCause),
     /// The shelf failed.
     ReadFault,
     /// A sink failed.
     WriteFault,
     /// There was no memory.
     NoMemory,
-    /// This case isn't built yet.
-    Unbuilt(Unbuilt),
+    /// Nets of a class that is plain or has a bound aren't built yet.
+    Unbuilt,
 }
 
 /// Why the words were refused.
@@ -59,17 +62,11 @@ pub enum Fault {
     Apt(TextFault),
 }
 
-/// What isn't built yet.
-#[derive(Clone, Copy, Debug, PartialEq, Eq)]
-pub enum Unbuilt {
-    /// A class that asks for something.
-    Class,
-    /// More than six labels: so many.
-    Labels(u32),
-    /// The first problem that no region with all effects from -1 to 1 separates: to stop a label at a state.
-    Event(u32, u32),
-    /// The first such problem: to tell two states apart.
-    States(u32, u32),
+/// The work in which a number is out of range.
+#[derive(Debug, PartialEq, Eq, Drop)]
+pub enum WideCause {
+    /// That of `synthesize`.
+    Synthesis(WideAt),
 }
 
 impl Status {
@@ -82,10 +79,11 @@ impl Status {
             Status::No => 1,
             Status::Usage(_) => 2,
             Status::File(_) => 3,
+            Status::TooWide(_) => 4,
             Status::ReadFault => 5,
             Status::WriteFault => 6,
             Status::NoMemory => 7,
-            Status::Unbuilt(_) => 8,
+            Status::Unbuilt => 8,
         }
     }
 }

@@ -1,11 +1,13 @@
 //! The lines that a refusal writes.
 ghost use Rattle.std.specs.Prelude.{◌≡◌, ◌++◌, IfOk, OnOk};
-ghost use Rattle.rg_synth.specs.Texts.{usage_line, refused_number, class_fault_words, wanted_words, text_fault_words, text_fault_place, text_fault_text, fault_text, file_line};
+ghost use Rattle.rg_synth.specs.Texts.{usage_line, refused_number, class_fault_words, wanted_words, text_fault_words, text_fault_place, text_fault_text, fault_text, file_line, stage_words, product_text, term_text, wide_line};
 
-use crate::status::{Fault, FileFault, Usage};
+use crate::status::{Fault, FileFault, Usage, WideCause};
 use itoa::Buffer;
 use rg_apt::TextFault;
+use rg_fraction::Wide;
 use rg_lexer::Want;
+use rg_separate::Stage;
 use rg_theory::ClassFault;
 use std::alloc::{AllocError, Global};
 
@@ -157,6 +159,53 @@ pub(crate) fn file_text(alloc: Global, fault: FileFault) -> Result<Vec<u8>, Allo
     text.extend_from_slice(buffer.format(fault.file).as_bytes())?;
     text.extend_from_slice(b": ")?;
     push_fault(&mut text, fault.fault)?;
+    text.push(b'\n')?;
+    Ok(text)
+}
+
+// The part of the work.
+fn stage_words(stage: Stage) -> &'static [u8]
+    ensures { result.now ≡ stage_words stage }
+{
+    match stage {
+        Stage::Cycle => b"cycle",
+        Stage::Row => b"row",
+        Stage::Pivot => b"pivot",
+        Stage::Place => b"place",
+        Stage::Spread => b"spread",
+    }
+}
+
+// Adds two factors.
+fn push_product(text: &mut Vec<u8>, a: i128, b: i128) -> Result<(), AllocError>
+    ensures { OnOk result (text.new.items ≡ text.old.items ++ product_text a b) }
+{
+    let mut buffer = Buffer::new();
+    text.extend_from_slice(buffer.format(a).as_bytes())?;
+    text.extend_from_slice(b" * ")?;
+    text.extend_from_slice(buffer.format(b).as_bytes())?;
+    Ok(())
+}
+
+// Adds the four numbers of a term.
+fn push_term(text: &mut Vec<u8>, wide: Wide) -> Result<(), AllocError>
+    ensures { OnOk result (text.new.items ≡ text.old.items ++ term_text wide) }
+{
+    push_product(text, wide.a, wide.b)?;
+    text.extend_from_slice(b" - ")?;
+    push_product(text, wide.c, wide.d)?;
+    Ok(())
+}
+
+// Where a number passes.
+pub(crate) fn wide_text(alloc: Global, cause: &WideCause) -> Result<Vec<u8>, AllocError>
+    ensures { IfOk result (λ text. text.items ≡ wide_line cause.now) }
+{
+    let WideCause::Synthesis(at) = cause;
+    let mut text = Vec::from_slice(alloc, b"too wide: ")?;
+    text.extend_from_slice(stage_words(at.stage))?;
+    text.extend_from_slice(b": ")?;
+    push_term(&mut text, at.wide)?;
     text.push(b'\n')?;
     Ok(text)
 }

@@ -1,8 +1,8 @@
-use Rattle.std.proofs.Common.{rules, ◌≡◌, ◌+◌, Err, Ok, map, ap, sym, subst, refl, ◌∙◌}
+use Rattle.std.proofs.Common.{rules, ◌≡◌, ◌+◌, Err, map}
 use Rattle.rg_theory.specs.System.{labels}
 use Rattle.rg_folds.specs.Fold.{ratio_of}
 use Rattle.rg_cycles.specs.View.{cycle_of}
-use Rattle.rg_farkas.specs.View.{counted_of, counts_fold}
+use Rattle.rg_farkas.specs.View.{counted_of}
 use Rattle.rg_farkas.proofs.ChordNumbers.{share_unsummed, share_made}
 use Rattle.rg_farkas.proofs.chords.chord_share.Goals as goal
 

@@ -1,5 +1,4 @@
-use Rattle.std.proofs.Common.{rules, ◌≡◌, ◌+◌, Err, Ok, map, length, ap, sym, subst, refl, ◌∙◌}
-use Rattle.std.proofs.lemmas.List.{map-append}
+use Rattle.std.proofs.Common.{rules, ◌≡◌, ◌+◌, Err, map, subst}
 use Rattle.rg_theory.specs.System.{labels}
 use Rattle.rg_folds.specs.Fold.{each, ratio_of}
 use Rattle.rg_cycles.specs.View.{cycle_of}

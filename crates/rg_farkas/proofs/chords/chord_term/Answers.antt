@@ -1,5 +1,5 @@
-use Rattle.std.proofs.Common.{rules, ◌≡◌, ◌+◌, Err, Ok, ap, sym, subst, refl, ◌∙◌}
-use Rattle.std.specs.Prelude.{pos, slice_index}
+use Rattle.std.proofs.Common.{rules, ◌≡◌, ◌+◌, Err, ap, subst, refl, ◌∙◌}
+use Rattle.std.specs.Prelude.{slice_index}
 use Rattle.rg_theory.specs.System.{labels}
 use Rattle.rg_integers.proofs.Casts.{back}
 use Rattle.rg_integers.proofs.Order.{positive_differs}

@@ -1,4 +1,4 @@
-use Rattle.std.proofs.Common.{◌≡◌, ◌+◌, ◌<◌, length, true, false, ap, ap₂, subst, sym, ◌∙◌}
+use Rattle.std.proofs.Common.{◌+◌, ◌<◌, length, ap, ap₂, subst, sym, ◌∙◌}
 use Rattle.rg_theory.specs.System.{labels}
 use Rattle.rg_cycles.specs.View.{cycle_of}
 use Rattle.rg_folds.specs.Rewriting.{is_in}

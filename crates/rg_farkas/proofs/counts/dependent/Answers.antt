@@ -1,4 +1,4 @@
-use Rattle.std.proofs.Common.{◌≡◌, not, true, false, ap, subst, sym, ◌∙◌}
+use Rattle.std.proofs.Common.{not, ap, sym, ◌∙◌}
 use Rattle.rg_cycles.specs.View.{cycle_of}
 use Rattle.rg_folds.specs.Rewriting.{is_in, dependent_labels}
 use Rattle.rg_farkas.proofs.Steps.{number_taken, number_left}

@@ -1,4 +1,4 @@
-use Rattle.std.proofs.Common.{◌≡◌, sym}
+use Rattle.std.proofs.Common.{sym}
 use Rattle.rg_cycles.specs.View.{cycle_of}
 use Rattle.rg_cycles.proofs.Labels.{in_set, not_in_set}
 use Rattle.rg_farkas.proofs.counts.is_free.Goals as goal

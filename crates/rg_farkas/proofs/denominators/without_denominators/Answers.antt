@@ -1,4 +1,4 @@
-use Rattle.std.proofs.Common.{rules, ◌≡◌, ◌+◌, [], ◌∷◌, ◌++◌, All, Ok, Err, map, length, take, subst, sym, ap, refl, ◌∙◌}
+use Rattle.std.proofs.Common.{rules, ◌≡◌, ◌+◌, [], ◌∷◌, ◌++◌, All, Ok, Err, map, length, take, subst, sym, ap, ◌∙◌}
 use Rattle.std.specs.Prelude.{pos, ◌<ℤ◌, slice_index_or}
 use Rattle.std.specs.Int.{w128, cast_signed, cast_unsigned}
 use Rattle.std.proofs.lemmas.List.{take_all, take_more, length-map}
@@ -7,7 +7,7 @@ use Rattle.rg_integers.specs.Range.{InRange}
 use Rattle.rg_integers.proofs.Casts.{back}
 use Rattle.rg_folds.specs.Fold.{Ratio, ratio_of, whole, mul, each, multiple_of_all}
 use Rattle.rg_folds.specs.Rewriting.{scaled_fold}
-use Rattle.rg_fraction.specs.Fractions.{numerator_of, denominator_of}
+use Rattle.rg_fraction.specs.Fractions.{numerator_of}
 use Rattle.rg_cycles.specs.declared.substitution.FoldStop.TheVariants as stop
 use Rattle.rg_farkas.proofs.Steps.{map_push}
 use Rattle.rg_farkas.proofs.Multiples.{bottoms, tops}

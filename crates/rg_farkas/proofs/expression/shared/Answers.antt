@@ -1,4 +1,4 @@
-use Rattle.std.proofs.Common.{◌≡◌, Option, option_map, subst, sym, ap, ◌∙◌}
+use Rattle.std.proofs.Common.{◌≡◌, option_map, subst, sym, ap, ◌∙◌}
 use Rattle.std.specs.Prelude.{IfOk}
 use Rattle.std.proofs.lemmas.Option.{slice_get-map}
 use Rattle.rg_refuting.specs.Row.{side_expression}

@@ -1,5 +1,3 @@
-use Rattle.rg_farkas.proofs.Told.{tree_next}
-use Rattle.rg_farkas.proofs.Refutes.{leaf_refutes}
 use Rattle.rg_farkas.proofs.Multipliers.{stand_all, range_all, shares_refute}
 use Rattle.rg_farkas.proofs.laws.multipliers_refute.Goals as goal
 

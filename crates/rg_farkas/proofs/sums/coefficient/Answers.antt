@@ -1,5 +1,5 @@
-use Rattle.std.proofs.Common.{◌≡◌, ◌+◌, ◌^◌, ◌<◌, ap, refl, ◌∙◌, arith}
-use Rattle.std.specs.Prelude.{pos, ◌+ℤ◌, slice_index_or}
+use Rattle.std.proofs.Common.{◌+◌, ap, refl, arith}
+use Rattle.std.specs.Prelude.{◌+ℤ◌, slice_index_or}
 use Rattle.rg_farkas.specs.declared.term.Term.TheVariants.{Plus}
 use Rattle.rg_cert.specs.declared.certificate.Form.TheVariants.{Tokens}
 use Rattle.std.specs.Int.{w128, cast_signed}

@@ -1,4 +1,4 @@
-use Rattle.std.proofs.Common.{rules, ◌≡◌, ◌<◌, Err, Ok, ap, subst, sym, ◌∙◌, arith}
+use Rattle.std.proofs.Common.{rules, ◌≡◌, Err, arith}
 use Rattle.std.specs.Prelude.{pos, slice_index_or}
 use Rattle.std.specs.Int.{w128, cast_signed}
 use Rattle.rg_integers.proofs.Casts.{back}

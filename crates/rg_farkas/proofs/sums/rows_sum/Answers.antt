@@ -1,4 +1,4 @@
-use Rattle.std.proofs.Common.{rules, map, ◌≡◌, Err, Ok, subst, sym, ap, ◌∙◌}
+use Rattle.std.proofs.Common.{rules, map, ◌≡◌, Err, ap, ◌∙◌}
 use Rattle.std.specs.Int.{w128, cast_signed}
 use Rattle.rg_integers.proofs.Casts.{back}
 use Rattle.rg_refuting.specs.Expression.{coefficient_in, Variable.tokens_at}

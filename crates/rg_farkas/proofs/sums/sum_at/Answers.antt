@@ -1,4 +1,4 @@
-use Rattle.std.proofs.Common.{rules, ◌≡◌, Err, Ok, map}
+use Rattle.std.proofs.Common.{rules, ◌≡◌, Err, map}
 use Rattle.std.specs.Prelude.{pos}
 use Rattle.rg_integers.proofs.Casts.{back}
 use Rattle.rg_folds.specs.Fold.{whole_sum}

@@ -1,13 +1,8 @@
-use Rattle.std.proofs.Common.{rules, ◌≡◌, ◌-◌, ◌∙◌, Err, length, set, subst}
-use Rattle.std.specs.Prelude.{slice_index_or}
+use Rattle.std.proofs.Common.{rules, ◌≡◌, ◌-◌, Err}
 use Rattle.std.proofs.lemmas.List.{length-set}
 use Rattle.std.proofs.lemmas.List.Elements.{All-set}
-use Rattle.rg_fraction.specs.declared.term.Wide.{Wide}
 use Rattle.rg_integers.specs.Range.{InRange}
 use Rattle.rg_integers.proofs.Casts.{back}
-use Rattle.rg_refuting.specs.Expression.{Expression}
-use Rattle.rg_refuting.specs.Row.{RowName}
-use Rattle.rg_folds.specs.Spreading.{tree_fold}
 use Rattle.rg_cycles.specs.declared.substitution.FoldStop.TheVariants as stop
 use Rattle.rg_farkas.proofs.Told.{state_fails, state_next}
 use Rattle.rg_farkas.proofs.sums.tree_multipliers.Goals as goal

@@ -1,4 +1,4 @@
-use Rattle.std.proofs.Common.{◌<◌, subst, refl, sym, ◌∙◌, length}
+use Rattle.std.proofs.Common.{◌<◌, subst, refl, sym, ◌∙◌}
 use Rattle.std.specs.Prelude.{slice_index_or}
 use Rattle.std.proofs.lemmas.List.{length-set}
 use Rattle.rg_theory.specs.declared.Arc.{Arc}

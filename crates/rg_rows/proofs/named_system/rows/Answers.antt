@@ -1,8 +1,6 @@
-use Rattle.std.proofs.Common.{rules, ◌≡◌, ◌+◌, [], ◌∷◌, All, Ok, Err, map, length, ap, subst, sym, ◌∙◌, arith}
-use Rattle.std.specs.Prelude.{slice_index_or}
+use Rattle.std.proofs.Common.{rules, ◌≡◌, ◌+◌, [], ◌∷◌, All, Ok, Err, map, length, ap, subst, sym, ◌∙◌}
 use Rattle.std.proofs.lemmas.List.{length-map, length-append}
 use Rattle.std.proofs.lemmas.List.Elements.{All-nil, All-cons, All-append}
-use Rattle.rg_folds.specs.Fold.{each}
 use Rattle.rg_folds.specs.Rewriting.{column_count}
 use Rattle.rg_refuting.specs.Row.{RowName.block_row}
 use Rattle.rg_cert.specs.Trees.{row_name_of}

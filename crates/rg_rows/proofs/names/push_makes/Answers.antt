@@ -1,4 +1,4 @@
-use Rattle.std.proofs.Common.{ap, map, length, subst, sym, ◌≡◌, ◌<◌, ◌∙◌, false, not, ◌==◌, ◌&&◌}
+use Rattle.std.proofs.Common.{ap, map, length, subst, sym, ◌<◌, false, not, ◌==◌, ◌&&◌}
 use Rattle.std.specs.Prelude.{slice_index_or}
 use Rattle.rg_refuting.specs.Row.{RowName.makes_row}
 use Rattle.rg_cert.specs.Trees.{row_name_of}

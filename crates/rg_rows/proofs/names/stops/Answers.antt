@@ -1,4 +1,4 @@
-use Rattle.std.proofs.Common.{map, subst, sym, ◌≡◌, ◌<◌, ◌∙◌, is_some}
+use Rattle.std.proofs.Common.{map, subst, sym, ◌≡◌, ◌<◌, ◌∙◌}
 use Rattle.rg_theory.specs.System.{states}
 use Rattle.rg_refuting.specs.Row.{RowName.stop_row}
 use Rattle.rg_cert.specs.Trees.{row_name_of}

@@ -1,7 +1,11 @@
 use Rattle.std.proofs.Common.{map, string_bytes}
 use Rattle.rg_synth.specs.Requests.{asked_by}
-use Rattle.rg_synth.proofs.Answered.{bounds}
+use Rattle.rg_synth.proofs.Answered.{bounds, asked_due_if}
 use Rattle.rg_synth.proofs.answer.make_answer.Goals as goal
 
 pub request_answer-requires : goal.request_answer-requires
 request_answer-requires g c = bounds (map string_bytes c.args.words.now) (asked_by c.in-Ok.request) c.in-Ok.ensures.ok
+
+pub returns-in-Ok-clause-may_come : goal.returns-in-Ok-clause-may_come
+returns-in-Ok-clause-may_come g c =
+    asked_due_if (map string_bytes c.args.words.now) (g.H.Shelf.files c.args.shelf.now) (asked_by c.in-Ok.request) c.request_answer.result c.in-Ok.ensures.ok c.request_answer.ensures.ok

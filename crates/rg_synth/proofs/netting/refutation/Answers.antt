@@ -1,9 +1,9 @@
 use Rattle.std.proofs.Common.{◌∙◌}
 use Rattle.rg_cert.specs.Certificates.{reason_of}
-use Rattle.rg_synth.proofs.Nets.{refuted}
+use Rattle.rg_synth.proofs.Nets.{refutes}
 use Rattle.rg_synth.proofs.netting.refutation.Goals as goal
 
 pub returns-in-Ok : goal.returns-in-Ok
 returns-in-Ok c =
-    refuted c.args.class c.args.lts.now (reason_of c.args.reason) c.said.result.status c.said.result.out.items c.said.result.err.items
-    c.requires.system c.requires.is c.requires.holds c.said.ensures.status (c.said.ensures.out ∙ c.in-Ok.ensures.text) c.said.ensures.err
+    refutes c.args.class c.args.lts.now (reason_of c.args.reason) c.said.result.status c.said.result.out.items c.said.result.err.items
+    c.requires.system c.requires.reached c.requires.is c.requires.holds c.said.ensures.status (c.said.ensures.out ∙ c.in-Ok.ensures.text) c.said.ensures.err

@@ -2,7 +2,8 @@ use Rattle.std.proofs.Common.{inl, ap, ◌∙◌, map, string_bytes}
 use Rattle.rg_ports.specs.Sink.{taken_with}
 use Rattle.rg_apt.proofs.WholeTexts.{one_spelled, one_first_fault, spelled_or_fault}
 use Rattle.rg_synth.proofs.Answered.{says_ends}
-use Rattle.rg_synth.proofs.Statuses.{OneAnswer, one_status}
+use Rattle.rg_synth.proofs.Statuses.{OneAnswer}
+use Rattle.rg_synth.proofs.Coming.{exactly_due, ends_search}
 use Rattle.rg_synth.proofs.run_whole.run.Goals as goal
 
 pub returns-clause-ends : goal.returns-clause-ends
@@ -18,4 +19,9 @@ returns-clause-ends g c =
 pub returns-clause-exactly : goal.returns-clause-exactly
 returns-clause-exactly g c = λ due decided is.
     let one : OneAnswer = record { one_system = one_spelled; one_fault = one_first_fault; not_both = spelled_or_fault } in
-    inl (one_status one (map string_bytes c.args.words.now) (g.H.Shelf.files c.args.shelf.now) c.in-Ok.made.status due decided c.in-Ok.ensures.due is)
+    inl (exactly_due one (map string_bytes c.args.words.now) (g.H.Shelf.files c.args.shelf.now) c.in-Ok.made.status due c.in-Ok.ensures.may_come decided is)
+
+pub returns-clause-searched : goal.returns-clause-searched
+returns-clause-searched g c = λ told asked.
+    let one : OneAnswer = record { one_system = one_spelled; one_fault = one_first_fault; not_both = spelled_or_fault } in
+    inl (ends_search one (map string_bytes c.args.words.now) (g.H.Shelf.files c.args.shelf.now) c.in-Ok.made.status c.in-Ok.ensures.may_come told asked)

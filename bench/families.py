@@ -1,0 +1,142 @@
+#!/usr/bin/env python3
+"""Families of systems: writes one, or measures the program on all of them.
+
+    bench/families.py write doubling 100 > doubling100.apt
+    bench/families.py run crates/regions/out/regions [none pure ..]
+
+`run` prints for each system and class (`none` and `pure`, unless classes are named) the status, the seconds, the peak memory as
+GNU time tells it, the numbers of states and of separation problems, how many places the net has (each was made for one problem, the
+others are separated by places kept before), and what err says. It is run by hand and is no test.
+"""
+import itertools
+import os
+import subprocess
+import sys
+import tempfile
+import time
+
+
+def grid(n):
+    name = lambda i, j: f'g{i}_{j}'
+    states = [name(i, j) for i in range(n + 1) for j in range(n + 1)]
+    arcs = []
+    for i in range(n + 1):
+        for j in range(n + 1):
+            if i < n:
+                arcs.append((name(i, j), 'right', name(i + 1, j)))
+            if j < n:
+                arcs.append((name(i, j), 'up', name(i, j + 1)))
+    return states, ['right', 'up'], arcs
+
+
+def doubling(n):
+    states, arcs = ['q0'], []
+    for i in range(1, n + 1):
+        states += [f'm{i}', f'q{i}']
+        arcs += [
+            (f'q{i-1}', f'a{i-1}', f'm{i}'),
+            (f'm{i}', f'a{i-1}', f'q{i}'),
+            (f'q{i-1}', f'a{i}', f'q{i}'),
+        ]
+    return states, [f'a{i}' for i in range(n + 1)], arcs
+
+
+def lock(n):
+    words = [w for w in map(''.join, itertools.product('iwc', repeat=n)) if w.count('c') <= 1]
+    labels = [f'{verb}{k}' for k in range(1, n + 1) for verb in ('ask', 'get', 'put')]
+    arcs = []
+    for w in words:
+        for k in range(n):
+            put = lambda letter: w[:k] + letter + w[k + 1:]
+            if w[k] == 'i':
+                arcs.append((w, f'ask{k+1}', put('w')))
+            elif w[k] == 'w' and 'c' not in w:
+                arcs.append((w, f'get{k+1}', put('c')))
+            elif w[k] == 'c':
+                arcs.append((w, f'put{k+1}', put('i')))
+    return words, labels, arcs
+
+
+def philosophers(n):
+    """Each takes the left fork, then the right one, eats, and puts both back."""
+    labels = [f'{verb}{k}' for k in range(1, n + 1) for verb in ('left', 'right', 'done')]
+    start = 't' * n
+    seen, todo, arcs = [start], [start], []
+    held = lambda w, f: w[f] in 'lb' or w[f - 1] == 'b'
+    for w in todo:
+        for k in range(n):
+            steps = []
+            if w[k] == 't' and not held(w, k):
+                steps.append(('left', 'l'))
+            elif w[k] == 'l' and not held(w, (k + 1) % n):
+                steps.append(('right', 'b'))
+            elif w[k] == 'b':
+                steps.append(('done', 't'))
+            for verb, letter in steps:
+                to = w[:k] + letter + w[k + 1:]
+                arcs.append((w, f'{verb}{k+1}', to))
+                if to not in seen:
+                    seen.append(to)
+                    todo.append(to)
+    return seen, labels, arcs
+
+
+FAMILIES = {'grid': grid, 'doubling': doubling, 'lock': lock, 'philosophers': philosophers}
+SIZES = {'grid': (10, 20, 40, 63), 'lock': (2, 3, 4, 5, 6), 'doubling': (20, 40), 'philosophers': (3, 4, 5, 6)}
+
+
+def text(states, labels, arcs):
+    lines = ['.type LTS', '.states', states[0] + '[initial]', *states[1:], '.labels', *labels, '.arcs']
+    return '\n'.join(lines + [' '.join(a) for a in arcs]) + '\n'
+
+
+def problems(states, labels, arcs):
+    enabled = len({(s, t) for s, t, _ in arcs})
+    return len(states) * len(labels) - enabled + len(states) * (len(states) - 1) // 2
+
+
+def measure(program, class_word, path):
+    begin = time.monotonic()
+    child = subprocess.run(['/usr/bin/time', '-q', '-f', '%M', program, 'synthesize', class_word, path], capture_output=True)
+    seconds = time.monotonic() - begin
+    *said, peak = child.stderr.decode().strip().split('\n')
+    return child.returncode, seconds, int(peak) / 1024, child.stdout, ' '.join(said)
+
+
+def places(out):
+    """The entries of the net's list of places."""
+    lines = out.decode().split('\n')
+    if '.places' not in lines:
+        return 0
+    first = lines.index('.places') + 1
+    return lines.index('.transitions') - first
+
+
+def run(program, classes):
+    print('family | class | status | seconds | MiB | states | problems | places | err')
+    with tempfile.TemporaryDirectory() as folder:
+        for family, sizes in SIZES.items():
+            for n in sizes:
+                system = FAMILIES[family](n)
+                path = os.path.join(folder, f'{family}{n}.apt')
+                with open(path, 'w') as file:
+                    file.write(text(*system))
+                for class_word in classes:
+                    status, seconds, peak, out, said = measure(program, class_word, path)
+                    line = [f'{family} {n}', class_word, str(status), f'{seconds:.2f}', f'{peak:.1f}', f'{len(system[0]):,}',
+                            f'{problems(*system):,}', str(places(out)), said]
+                    print(' | '.join(line), flush=True)
+
+
+def main():
+    words = sys.argv[1:]
+    if len(words) == 3 and words[0] == 'write' and words[1] in FAMILIES:
+        sys.stdout.write(text(*FAMILIES[words[1]](int(words[2]))))
+    elif len(words) >= 2 and words[0] == 'run':
+        run(words[1], words[2:] or ['none', 'pure'])
+    else:
+        sys.exit(__doc__)
+
+
+if __name__ == '__main__':
+    main()

@@ -1,0 +1,72 @@
+//! Systems with a problem that no region of the class separates: their certificates, which are worked by hand, and what
+//! `verify` says of those.
+use crate::harness::{NoRoom, judge, synthesize};
+use crate::worked::{
+    ABBAA, CHOICE, CYCLE, OF_ABBAA, OF_CHOICE, OF_CYCLE, OF_PURE_CHOICE, OF_SIDE, SIDE,
+};
+use rg_synth::Status;
+use std::alloc::Global;
+
+#[test]
+fn certificates_are_written(rt: HostRuntime) -> Result<(), NoRoom> {
+    for (class, text, certificate) in [
+        ("pure", SIDE, OF_SIDE),
+        ("none", ABBAA, OF_ABBAA),
+        ("none", CYCLE, OF_CYCLE),
+        ("output-nonbranching", CHOICE, OF_CHOICE),
+        ("output-nonbranching,pure", CHOICE, OF_PURE_CHOICE),
+    ] {
+        let outcome = synthesize(&rt, rt.alloc(), class, text.as_bytes())?;
+        assert_eq!(rt; outcome.status, Status::No);
+        assert_eq!(rt; outcome.status.number(), 1);
+        assert!(rt; outcome.out.bytes() == certificate.as_bytes());
+        assert!(rt; outcome.err.bytes().is_empty());
+        let judged = judge(&rt, rt.alloc(), text.as_bytes(), outcome.out.bytes())?;
+        assert_eq!(rt; judged.status, Status::Done);
+    }
+    Ok(())
+}
+
+// A system of states q0 to qn in a row, where label a(i+1) leads as far as a(i) twice.
+fn doubling(alloc: Global, n: u32) -> Result<String, NoRoom> {
+    let mut text = String::from_str(alloc, ".type LTS\n.states\nq0[initial]\n")?;
+    let mut labels = String::from_str(alloc, ".labels\na0\n")?;
+    let mut arcs = String::from_str(alloc, ".arcs\n")?;
+    for i in 0..n {
+        let next = i + 1;
+        text.push_str(&format!(in alloc; "m{next}\nq{next}\n")?)?;
+        labels.push_str(&format!(in alloc; "a{next}\n")?)?;
+        arcs.push_str(&format!(in alloc; "q{i} a{i} m{next}\nm{next} a{i} q{next}\n")?)?;
+        arcs.push_str(&format!(in alloc; "q{i} a{next} q{next}\n")?)?;
+    }
+    text.push_str(&labels)?;
+    text.push_str(&arcs)?;
+    Ok(text)
+}
+
+#[test]
+fn labels_that_double(rt: HostRuntime) -> Result<(), NoRoom> {
+    let text = doubling(rt.alloc(), 100)?;
+    let outcome = synthesize(&rt, rt.alloc(), "none", text.as_bytes())?;
+    assert_eq!(rt; outcome.status, Status::No);
+    assert!(rt;
+        outcome.out.bytes()
+            == b"certificate 1\nclass none\nevent m1 a1\ncase\nleaf\n1 stop q0\n1 stop q1\n-1 arc q0 a0 m1\n1 arc m1 a0 q1\nend\n".as_slice()
+    );
+    let judged = judge(&rt, rt.alloc(), text.as_bytes(), outcome.out.bytes())?;
+    assert_eq!(rt; judged.status, Status::Done);
+    Ok(())
+}
+
+#[test]
+fn labels_that_double_too_often(rt: HostRuntime) -> Result<(), NoRoom> {
+    let text = doubling(rt.alloc(), 127)?;
+    let outcome = synthesize(&rt, rt.alloc(), "none", text.as_bytes())?;
+    assert_eq!(rt; outcome.status.number(), 4);
+    assert!(rt; outcome.out.bytes().is_empty());
+    assert!(rt;
+        outcome.err.bytes()
+            == b"too wide: cycle: 85070591730234615865843651857942052864 * 2 - 0 * 0\n".as_slice()
+    );
+    Ok(())
+}
