@@ -1,7 +1,7 @@
 //! Systems and the nets that they get.
 use crate::harness::{NoRoom, synthesize};
 use crate::worked::{ABA, CHOICE, SIDE};
-use rg_synth::Status;
+use rg_synth::{Status, Unbuilt};
 
 // Two users and one lock.
 const LOCK: &str =
@@ -62,7 +62,7 @@ fn what_is_not_built(rt: HostRuntime) -> Result<(), NoRoom> {
         "plain,output-nonbranching",
     ] {
         let outcome = synthesize(&rt, rt.alloc(), class, SIDE.as_bytes())?;
-        assert_eq!(rt; outcome.status, Status::Unbuilt);
+        assert_eq!(rt; outcome.status, Status::Unbuilt(Unbuilt::Class));
         assert_eq!(rt; outcome.status.number(), 8);
         assert!(rt; outcome.out.bytes().is_empty());
         assert!(rt; outcome.err.bytes().is_empty());

@@ -6,3 +6,4 @@ pub mod WordKinds
 pub mod Reaches
 pub mod Statuses
 pub mod Coming
+pub mod Writing

@@ -16,6 +16,10 @@ use Rattle.rg_net.specs.NetText.{net_text}
 use Rattle.rg_refuting.proofs.Accepted.{accepted, stays_inside}
 use Rattle.rg_refuting.specs.Refutes.{Reason, Reason.unreachable, Reason.fork, Reason.refuted, Accepts}
 use Rattle.rg_cert.specs.Text.{cert_text}
+use Rattle.rg_cert.specs.Spells.{Spells}
+use Rattle.rg_lts.specs.WellFormed.{IsWellFormed}
+use Rattle.rg_netfile.specs.Spells.{Spells as NetSpells}
+use Rattle.rg_netfile.proofs.PrintedTexts.{printed_spelled}
 use Rattle.rg_separate.specs.Answer.{IsNarrowRegion, AreSeparating}
 use Rattle.rg_synth.specs.Answers.{IsOpen, IsObstructed, IsWithinReach, IsReason, IsShownFor}
 use Rattle.rg_synth.specs.Texts.{wide_line}
@@ -27,7 +31,7 @@ use Rattle.rg_synth.specs.declared.status.WideCause.{WideCause}
 
 -- what the work has found
 pub record IsFound (class : Class) (lts : System) (net : Net) : Type 0 where
-  pub in_range : IsInRange lts
+  pub formed : IsWellFormed lts
   pub within : IsWithinReach class lts
   pub transitions : net.labels ≡ labels lts
   pub numbers : IsNetInRange net
@@ -49,10 +53,18 @@ narrow_markings lts class net fine sol each m reached i p at =
 -- a net of what was found is an answer
 found : (class : Class) (lts : System) (net : Net) (status : Status) (out err : List ℕ) → IsFound class lts net → status ≡ Done → out ≡ net_text net lts → err ≡ [] → AnswersNet class lts status out err
 found class lts net status out err is done text none =
-    let (solves, in_class) = yes_in_class lts net class is.in_range is.within.is_open.reachable is.transitions (regions_of lts class net.places is.separating.regions) is.separating.separate in
+    let (solves, in_class) = yes_in_class lts net class is.formed.in_range is.within.is_open.reachable is.transitions (regions_of lts class net.places is.separating.regions) is.separating.separate in
     subst (λ s. AnswersNet class lts s out err) (sym done) (
       is.within,
-      record { net = net; in_range = is.numbers; solves = solves; in_class = in_class; narrow = narrow_markings lts class net is.in_range solves is.separating.regions; text = text },
+      record {
+        net = net;
+        in_range = is.numbers;
+        solves = solves;
+        in_class = in_class;
+        narrow = narrow_markings lts class net is.formed.in_range solves is.separating.regions;
+        text = text;
+        spelled = λ few. subst (λ bytes. NetSpells bytes lts net) (sym text) (printed_spelled net lts is.formed is.transitions is.numbers few);
+      },
       none,
     )
 
@@ -69,11 +81,11 @@ reason_is lts class (fork s t s₁ s₂) opened is = absurd (is.2 (opened.fork_f
 reason_is lts class (refuted problem trees) opened is = opened
 
 -- a reason is an answer
-pub refutes : (class : Class) (lts : System) (reason : Reason) (status : Status) (out err : List ℕ) → IsInRange lts → IsObstructed lts ⊎ IsWithinReach class lts → IsReason lts reason → Accepts lts class reason → status ≡ No → out ≡ cert_text (record { class = class; reason = reason }) lts → err ≡ [] → AnswersNet class lts status out err
-refutes class lts reason status out err fine reached is holds is_no text none =
+pub refutes : (class : Class) (lts : System) (reason : Reason) (status : Status) (out err : List ℕ) → IsInRange lts → IsObstructed lts ⊎ IsWithinReach class lts → IsReason lts reason → Accepts lts class reason → status ≡ No → out ≡ cert_text (record { class = class; reason = reason }) lts → Spells out lts (record { class = class; reason = reason }) → err ≡ [] → AnswersNet class lts status out err
+refutes class lts reason status out err fine reached is holds is_no text spelled none =
     subst (λ s. AnswersNet class lts s out err) (sym is_no) (
       reached,
-      record { reason = reason; is = is; holds = holds; none = accepted lts class reason fine holds; text = text },
+      record { reason = reason; is = is; holds = holds; none = accepted lts class reason fine holds; text = text; spelled = spelled },
       none,
     )
 

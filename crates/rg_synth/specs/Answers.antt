@@ -1,5 +1,5 @@
 -- What is due to the words and the files: each status, when it is due, and what it writes.
-use Rattle.std.specs.Prelude.{◌≡◌, ◌⊎◌, ℕ, List, [], Option, IsTrue, IsSome}
+use Rattle.std.specs.Prelude.{◌≡◌, ◌⊎◌, ℕ, ◌≤◌, List, [], length, Option, IsTrue, IsSome}
 use Rattle.rg_ports.specs.Shelf.{Files}
 use Rattle.rg_theory.specs.System.{System, IsAllReachable, IsForkFree, IsLeastUnreachable}
 use Rattle.rg_theory.specs.Net.{Net}
@@ -8,19 +8,24 @@ use Rattle.rg_theory.specs.declared.Class.{Class}
 use Rattle.rg_theory.specs.Class.{IsBounded, InClass, NoNet}
 use Rattle.rg_net.specs.Range.{largest, IsNetInRange}
 use Rattle.rg_net.specs.NetText.{net_text}
+use Rattle.rg_netfile.specs.Contents.{most_places}
+use Rattle.rg_netfile.specs.Spells.{Spells as NetSpells}
 use Rattle.rg_checks.specs.First.{IsLeastFork}
 use Rattle.rg_refuting.specs.Refutes.{Reason, Reason.unreachable, Reason.fork, Reason.refuted, Accepts}
 use Rattle.rg_folds.specs.Shown.{ShownWide}
 use Rattle.rg_separate.specs.View.{shown_of}
 use Rattle.rg_separate.specs.Answer.{IsUnbranched}
 use Rattle.rg_cert.specs.Text.{cert_text}
+use Rattle.rg_cert.specs.Spells.{Spells as CertificateSpells}
 use Rattle.rg_synth.specs.Words.{Asked, net, judgement, AreRefused}
 use Rattle.rg_synth.specs.Given.{IsUnread, AskForNoSystem, AskOf}
 use Rattle.rg_synth.specs.Judged.{IsAccepted, IsNotAccepted, IsRefused}
 use Rattle.rg_synth.specs.JudgedTexts.{accepted_line}
 use Rattle.rg_synth.specs.Texts.{usage_line, file_line, wide_line}
 use Rattle.rg_synth.specs.declared.status.Status.{Status}
-use Rattle.rg_synth.specs.declared.status.Status.TheVariants.{Done, No, Usage, File, TooWide, ReadFault, WriteFault, NoMemory, Unbuilt}
+use Rattle.rg_synth.specs.declared.status.Status.TheVariants.{Done, No, Usage, File, TooWide, ReadFault, WriteFault, NoMemory, Unbuilt as NotBuilt}
+use Rattle.rg_synth.specs.declared.status.Unbuilt.{Unbuilt}
+use Rattle.rg_synth.specs.declared.status.Unbuilt.TheVariants.{Class as OtherClass}
 use Rattle.rg_synth.specs.declared.status.FileFault.{FileFault}
 use Rattle.rg_synth.specs.declared.status.WideCause.{WideCause}
 use Rattle.rg_synth.specs.declared.status.WideCause.TheVariants.{Synthesis}
@@ -51,8 +56,8 @@ pub record IsWithinReach (class : Class) (lts : System) : Type 0 where
   pub is_open : IsOpen lts
   pub class_is : IsUnbranched class
 
--- the bytes are the text of a net of the class that solves the system; no number of the net or of a reachable marking is
--- above 2^127 - 1
+-- the bytes are the text of a net of the class that solves the system, and are read as that net where a net file may have so
+-- many places; no number of the net or of a reachable marking is above 2^127 - 1
 pub record IsNetText (class : Class) (lts : System) (out : List ℕ) : Type 0 where
   pub net : Net
   pub in_range : IsNetInRange net
@@ -60,14 +65,17 @@ pub record IsNetText (class : Class) (lts : System) (out : List ℕ) : Type 0 wh
   pub in_class : InClass net class
   pub narrow : IsBounded net largest
   pub text : out ≡ net_text net lts
+  pub spelled : length net.places ≤ most_places → NetSpells out lts net
 
--- the bytes are the text of a certificate of the class that holds, and no net of the class solves the system
+-- the bytes are the text of a certificate of the class that holds, and are read as that certificate; no net of the class
+-- solves the system
 pub record IsCertificateText (class : Class) (lts : System) (out : List ℕ) : Type 0 where
   pub reason : Reason
   pub is : IsReason lts reason
   pub holds : Accepts lts class reason
   pub none : NoNet lts class
   pub text : out ≡ cert_text (record { class = class; reason = reason }) lts
+  pub spelled : CertificateSpells out lts (record { class = class; reason = reason })
 
 -- a number that passes in the work on the system for the class, in its stated order
 abbrev pub IsShownFor : Class → System → WideCause → Type 0
@@ -101,9 +109,9 @@ abbrev pub IsSecondUnread : Option Files → Asked → FileFault → Type 0
 IsSecondUnread files (net class file) fault = ⊥
 IsSecondUnread files (judgement file cert) fault = (fault.file ≡ 2) × IsUnread files cert fault.fault
 
-abbrev pub IsUnbuilt : Asked → System → Type 0
-IsUnbuilt (net class file) lts = IsBeyond class lts
-IsUnbuilt (judgement file cert) lts = ⊥
+abbrev pub IsUnbuilt : Unbuilt → Asked → System → Type 0
+IsUnbuilt OtherClass (net class file) lts = IsBeyond class lts
+IsUnbuilt OtherClass (judgement file cert) lts = ⊥
 
 -- the first file is not that of a system; or it is, and the second is unread
 abbrev pub IsFileRefused : List (List ℕ) → Option Files → FileFault → Type 0
@@ -117,7 +125,7 @@ IsDue words files Done = AskOf words files (IsYes files)
 IsDue words files No = AskOf words files (IsNo files)
 IsDue words files (Usage usage) = AreRefused words usage
 IsDue words files (File fault) = IsFileRefused words files fault
-IsDue words files Unbuilt = AskOf words files IsUnbuilt
+IsDue words files (NotBuilt unbuilt) = AskOf words files (IsUnbuilt unbuilt)
 IsDue words files (TooWide cause) = ⊥
 IsDue words files ReadFault = ⊥
 IsDue words files WriteFault = ⊥
@@ -152,7 +160,7 @@ Answers words files No out err = AskOf words files (SaysNo files out) × (err �
 Answers words files (Usage usage) out err = AreRefused words usage × (out ≡ []) × (err ≡ usage_line usage)
 Answers words files (File fault) out err = IsFileRefused words files fault × (out ≡ []) × (err ≡ file_line fault)
 Answers words files (TooWide cause) out err = AskOf words files (SaysWide cause) × (out ≡ []) × (err ≡ wide_line cause)
-Answers words files Unbuilt out err = AskOf words files IsUnbuilt × (out ≡ []) × (err ≡ [])
+Answers words files (NotBuilt unbuilt) out err = AskOf words files (IsUnbuilt unbuilt) × (out ≡ []) × (err ≡ [])
 Answers words files ReadFault out err = ⊥
 Answers words files WriteFault out err = ⊥
 Answers words files NoMemory out err = ⊥

@@ -17,7 +17,8 @@ use Rattle.rg_synth.specs.Texts.{file_line, wide_line}
 use Rattle.rg_synth.specs.declared.request.Request.{Request}
 use Rattle.rg_synth.specs.declared.request.Request.TheVariants.{Net, Judgement}
 use Rattle.rg_synth.specs.declared.status.Status.{Status}
-use Rattle.rg_synth.specs.declared.status.Status.TheVariants.{Done, No, File, TooWide, Unbuilt}
+use Rattle.rg_synth.specs.declared.status.Status.TheVariants.{Done, No, File, TooWide, Unbuilt as NotBuilt}
+use Rattle.rg_synth.specs.declared.status.Unbuilt.TheVariants.{Class as OtherClass}
 use Rattle.rg_synth.specs.declared.status.Fault.{Fault}
 
 -- what a request asks for
@@ -35,7 +36,7 @@ abbrev pub AnswersNet : Class → System → Status → List ℕ → List ℕ �
 AnswersNet class lts Done out err = IsWithinReach class lts × IsNetText class lts out × (err ≡ [])
 AnswersNet class lts No out err = (IsObstructed lts ⊎ IsWithinReach class lts) × IsCertificateText class lts out × (err ≡ [])
 AnswersNet class lts (TooWide cause) out err = IsShownFor class lts cause × (out ≡ []) × (err ≡ wide_line cause)
-AnswersNet class lts Unbuilt out err = IsBeyond class lts × (out ≡ []) × (err ≡ [])
+AnswersNet class lts (NotBuilt OtherClass) out err = IsBeyond class lts × (out ≡ []) × (err ≡ [])
 AnswersNet class lts _ out err = ⊥
 
 -- the answer to the bytes of a certificate's file

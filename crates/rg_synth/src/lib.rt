@@ -4,6 +4,7 @@
 mod answer;
 mod judged_texts;
 mod judging;
+mod laws;
 mod netting;
 mod request;
 mod run_whole;
@@ -11,6 +12,7 @@ mod status;
 mod system_file;
 mod texts;
 
+pub use laws::written_is_accepted;
 pub use rg_separate::{Stage, WideAt};
 pub use run_whole::run;
-pub use status::{Fault, FileFault, Status, Usage, WideCause};
+pub use status::{Fault, FileFault, Status, Unbuilt, Usage, WideCause};

@@ -14,7 +14,7 @@ ghost use Rattle.rg_synth.specs.declared.answer.Stop.TheVariants as stop;
 ghost use Rattle.rg_synth.specs.declared.status.Status.TheVariants as status;
 
 use crate::answer::{Answer, Stop, file_refusal, said, too_wide, unbuilt};
-use crate::status::{Status, WideCause};
+use crate::status::{Status, Unbuilt, WideCause};
 use crate::system_file::{SystemStop, read_system};
 use rg_cert::{Certificate, Reason, print};
 use rg_checks::{first_fork, first_unreachable};
@@ -87,7 +87,7 @@ fn open_answer(alloc: Global, class: Class, lts: &Lts) -> Result<Answer, AllocEr
     ensures { IfOk result (λ a. AnswersNet class lts.now a.status a.out.items a.err.items) }
 {
     if class.plain || class.bound.is_some() {
-        return Ok(unbuilt(alloc));
+        return Ok(unbuilt(alloc, Unbuilt::Class));
     }
     let labels = lts.labels();
     match separate(alloc, lts, class) {

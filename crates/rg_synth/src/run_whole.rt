@@ -11,10 +11,12 @@ use std::thread::Threads;
 
 /// Runs the command that the words name. `synthesize CLASS FILE` reads the file of that name from the shelf, and writes to
 /// `out` the text of a net of the class that solves its system, or of a certificate that there is none. `verify FILE CERT`
-/// reads both files, and writes to `out` whether the certificate is accepted for the system. A refusal of words or files is
-/// a line to `err`. What is due is whole before the first write. The runtime and the gate are there for later commands, and unused. The status says how it ended; each has its
-/// cause in `Ends`, a status that is due comes by `ComesIfDue`, and a search ends by `EndsSearch` with a net, a certificate or a
-/// number that passes.
+/// reads both files, and writes to `out` whether the certificate is accepted for the system. A refusal of words or files, and
+/// a number out of range, is a line to `err`. What is due is whole before the first write. The runtime and the gate are there
+/// for later commands, and unused.
+///
+/// The status says how it ended: each has its cause in `Ends`, a status that is due comes by `ComesIfDue`, and a search ends by
+/// `EndsSearch` with a net, a certificate or a number out of range.
 pub fn run<R: Threads + Sync, H: Shelf, O: Sink, E: Sink, G: Gate + Sync>(
     _rt: &R,
     alloc: Global,

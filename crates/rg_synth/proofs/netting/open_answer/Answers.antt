@@ -16,7 +16,7 @@ pub returns-in-Ok-Places : goal.returns-in-Ok-Places
 returns-in-Ok-Places c =
     let separating = subst (λ s. IfPlaces s (λ places. AreSeparating c.args.lts.now c.args.class (map shown_place places))) c.in-Ok-Places.field-0-is c.in-Ok-Places.ensures.places in
     let found : IsFound c.args.class c.args.lts.now (record { labels = c.labels-labels.result; places = map shown_place c.in-Ok-Places.places.items }) = record {
-      in_range = c.labels-labels.ensures.well_formed.in_range;
+      formed = c.labels-labels.ensures.well_formed;
       within = record { is_open = c.requires.is_open; class_is = search rules };
       transitions = c.labels-labels.ensures.value;
       numbers = subst (λ (n : ℕ). IsNetInRange (record { labels = n; places = map shown_place c.in-Ok-Places.places.items })) (sym c.labels-labels.ensures.value) separating.in_range;

@@ -1,9 +1,12 @@
-use Rattle.std.proofs.Common.{◌∙◌}
+use Rattle.std.proofs.Common.{ℕ, List, sym, subst, ◌∙◌}
 use Rattle.rg_cert.specs.Certificates.{reason_of}
+use Rattle.rg_cert.specs.Spells.{Spells}
 use Rattle.rg_synth.proofs.Nets.{refutes}
 use Rattle.rg_synth.proofs.netting.refutation.Goals as goal
 
 pub returns-in-Ok : goal.returns-in-Ok
 returns-in-Ok c =
     refutes c.args.class c.args.lts.now (reason_of c.args.reason) c.said.result.status c.said.result.out.items c.said.result.err.items
-    c.requires.system c.requires.reached c.requires.is c.requires.holds c.said.ensures.status (c.said.ensures.out ∙ c.in-Ok.ensures.text) c.said.ensures.err
+    c.requires.system c.requires.reached c.requires.is c.requires.holds c.said.ensures.status (c.said.ensures.out ∙ c.in-Ok.ensures.text)
+    (subst (λ (bytes : List ℕ). Spells bytes c.args.lts.now (record { class = c.args.class; reason = reason_of c.args.reason })) (sym c.said.ensures.out) c.in-Ok.ensures.spelled)
+    c.said.ensures.err

@@ -1,9 +1,10 @@
-use Rattle.std.proofs.Common.{inl, ap, ◌∙◌, map, string_bytes}
-use Rattle.rg_ports.specs.Sink.{taken_with}
+use Rattle.std.proofs.Common.{inl, ℕ, List, ap, subst, ◌∙◌, map, string_bytes}
+use Rattle.rg_ports.specs.Sink.{taken_with, TakesPart}
 use Rattle.rg_apt.proofs.WholeTexts.{one_spelled, one_first_fault, spelled_or_fault}
 use Rattle.rg_synth.proofs.Answered.{says_ends}
 use Rattle.rg_synth.proofs.Statuses.{OneAnswer}
 use Rattle.rg_synth.proofs.Coming.{exactly_due, ends_search}
+use Rattle.rg_synth.proofs.Writing.{second_fails}
 use Rattle.rg_synth.proofs.run_whole.run.Goals as goal
 
 pub returns-clause-ends : goal.returns-clause-ends
@@ -15,6 +16,13 @@ returns-clause-ends g c =
       out = c.in-Ok-write_all.ensures.ok ∙ ap (taken_with (g.O.Sink.taken c.args.out.now)) c.deref.ensures.value;
       err = c.in-Ok-write_all-2.ensures.ok ∙ ap (taken_with (g.E.Sink.taken c.args.err.now)) c.deref-2.ensures.value;
     })
+
+pub returns-in_default-write_all-clause-ends : goal.returns-in_default-write_all-clause-ends
+returns-in_default-write_all-clause-ends g c =
+    second_fails _ c.in-Ok.made.status c.in-Ok.made.out.items c.in-Ok.made.err.items c.in-Ok.ensures.says
+    (c.in-Ok-write_all.ensures.ok ∙ ap (taken_with (g.O.Sink.taken c.args.out.now)) c.deref.ensures.value)
+    (subst (λ (b : List ℕ). TakesPart (g.E.Sink.taken c.args.err.now) b (g.E.Sink.taken c.write_all-2.new.sink)) c.deref-2.ensures.value c.in_default-write_all.ensures.part)
+    c.in_default-write_all.ensures.rises
 
 pub returns-clause-exactly : goal.returns-clause-exactly
 returns-clause-exactly g c = λ due decided is.
