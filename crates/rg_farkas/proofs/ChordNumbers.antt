@@ -21,7 +21,7 @@ use Rattle.rg_cycles.specs.declared.relation.Relation.{Relation}
 use Rattle.rg_cycles.specs.Basis.{ShowsRelation, number_with}
 use Rattle.rg_cycles.proofs.Labels.{filter_has, filter_from}
 use Rattle.rg_farkas.specs.View.{LabelCount, counted_of, count_fold, counts_fold}
-use Rattle.rg_farkas.specs.declared.term.Counted.{Counted}
+use Rattle.rg_farkas.specs.declared.multiplied.Counted.{Counted}
 use Rattle.rg_farkas.proofs.Steps.{sum_next, sum_unmade, sum_unjoined, sum_ends}
 use Rattle.rg_cycles.proofs.Folding.{whole_is}
 use Rattle.std.proofs.lemmas.List.{length-map, get_or-map}

@@ -25,12 +25,13 @@ use Rattle.rg_folds.specs.Spreading.{Share, Pair, pairs_of, used_chords, chord_f
 use Rattle.rg_cycles.proofs.Equations.{kept_few}
 use Rattle.rg_cycles.proofs.Labels.{in_set}
 use Rattle.rg_farkas.specs.Leaves.{share_of}
-use Rattle.rg_farkas.specs.declared.term.Row.{Row}
+use Rattle.rg_farkas.specs.declared.multiplied.Row.{Row}
 use Rattle.rg_farkas.specs.View.{LabelCount, pair_count, count_fold, counts_fold, named_of, Tells, arc_times}
 use Rattle.rg_farkas.proofs.ChordSums.{in_pairs}
 use Rattle.rg_farkas.proofs.ChordNumbers.{IsDependent}
 use Rattle.rg_farkas.proofs.Listed.{zeros-append}
-use Rattle.rg_farkas.proofs.Steps.{joined-map, each_length}
+use Rattle.rg_scaling.proofs.Items.{each_length}
+use Rattle.rg_farkas.proofs.Steps.{joined-map}
 use Rattle.rg_farkas.proofs.Told.{each_told}
 
 -- ---- the chords

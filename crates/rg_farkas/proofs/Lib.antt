@@ -11,10 +11,7 @@ pub mod Steps
 pub mod RowSteps
 pub mod Names
 pub mod Multipliers
-pub mod Counting
 pub mod Told
-pub mod Multiples
-pub mod Places
 pub mod ChordNumbers
 pub mod Pairs
 pub mod Parted

@@ -1,16 +1,12 @@
 -- The steps of loops.
 use Rattle.std.proofs.Common.{◌≡◌, ℕ, suc, ◌+◌, ◌-◌, ◌<◌, ◌≤◌, Bool, true, false, if◌then◌else◌, List, [], ◌∷◌, ◌++◌, map, drop, length, Result, Ok, Err, Contains, ap, refl, subst, sym, ◌∙◌, inl, inr, arith, add-one, append_assoc}
 use Rattle.std.specs.Prelude.{slice_index_or}
-use Rattle.std.proofs.lemmas.List.{drop_all, append-nil, map-append}
-use Rattle.std.proofs.Math.Seq.{drop-cons}
+use Rattle.std.proofs.lemmas.List.{drop_all, append-nil}
 use Rattle.rg_fraction.specs.declared.term.Wide.{Wide}
-use Rattle.rg_folds.specs.Fold.{each, further, joined}
+use Rattle.rg_folds.specs.Fold.{further, joined}
 use Rattle.rg_folds.specs.Rewriting.{numbers_where}
-use Rattle.rg_cycles.proofs.Folding.{behind, each_next, each_fails, each_ends, further_next, further_unmade, further_unjoined}
-
--- the list from place i on
-pub from_place : {A : Type 0} (all : List A) (i : ℕ) (d : A) → i < length all → drop i all ≡ slice_index_or all i d ∷ drop (i + 1) all
-from_place all i d lt = drop-cons all i d lt ∙ ap (λ n. slice_index_or all i d ∷ drop n all) (sym (add-one i))
+use Rattle.rg_cycles.proofs.Folding.{further_next, further_unmade, further_unjoined}
+use Rattle.rg_scaling.proofs.Items.{from_place}
 
 -- ---- a sum, item by item
 
@@ -76,21 +72,6 @@ joined-map join make f none (a ∷ items) (Ok y) (x, made, rest) = (x, made, fur
 joined-map join make f none (a ∷ items) (Err w) (inl made) = inl made
 joined-map join make f none (a ∷ items) (Err w) (inr (x, made, rest)) = inr (x, made, further-map join make f x items (Err w) rest)
 
--- ---- a list, item by item
-
-module _ {A X : Type 0} (make : A → Result X Wide → Type 0) (all : List A) (i : ℕ) (d : A) (xs : List X) (so_far : (r : Result (List X) Wide) → each make (drop i all) r → each make all (behind xs r)) where
-  here_each : i < length all → (r : Result (List X) Wide) → each make (slice_index_or all i d ∷ drop (i + 1) all) r → each make all (behind xs r)
-  here_each lt r h = so_far r (subst (λ l. each make l r) (sym (from_place all i d lt)) h)
-
-  pub item_next : i < length all → (x : X) → make (slice_index_or all i d) (Ok x) → (r : Result (List X) Wide) → each make (drop (i + 1) all) r → each make all (behind (xs ++ x ∷ []) r)
-  item_next lt x made = each_next make all (slice_index_or all i d) (drop (i + 1) all) xs (here_each lt) x made
-
-  pub item_fails : i < length all → (w : Wide) → make (slice_index_or all i d) (Err w) → each make all (Err w)
-  item_fails lt w made = each_fails make all (slice_index_or all i d) (drop (i + 1) all) xs (here_each lt) w made
-
-  pub items_end : length all ≤ i → each make all (Ok xs)
-  items_end past = each_ends make all xs (λ r h. so_far r (subst (λ l. each make l r) (sym (drop_all i all past)) h))
-
 -- ---- lists that grow towards a whole one
 
 -- what is made of the items from i on stands behind what is made so far
@@ -124,12 +105,3 @@ module _ (test : ℕ → Bool) (n i : ℕ) (out whole : List ℕ) (so_far : out 
 -- all numbers, each made into something
 pub all_next : {X : Type 0} (f : ℕ → X) (n i : ℕ) (out whole : List X) → out ++ map f (numbers_where (λ k. true) i (n - i)) ≡ whole → i < n → (out ++ f i ∷ []) ++ map f (numbers_where (λ k. true) (i + 1) (n - (i + 1))) ≡ whole
 all_next f n i out whole so_far lt = append_assoc out (f i ∷ []) (map f (numbers_where (λ k. true) (i + 1) (n - (i + 1)))) ∙ ap (λ l. out ++ map f l) (sym (where_is_next (λ k. true) n i [] (numbers_where (λ k. true) i (n - i)) refl lt true refl)) ∙ so_far
-
--- ---- lengths and maps
-
-pub each_length : {A X : Type 0} (make : A → Result X Wide → Type 0) (items : List A) (xs : List X) → each make items (Ok xs) → length xs ≡ length items
-each_length make [] xs e = ap length e
-each_length make (a ∷ items) xs (x, made, (ys, rest, e)) = ap length e ∙ ap suc (each_length make items ys rest)
-
-pub map_push : {A B : Type 0} (f : A → B) (xs ys : List A) (x : A) → ys ≡ xs ++ x ∷ [] → map f ys ≡ map f xs ++ f x ∷ []
-map_push f xs ys x e = ap (map f) e ∙ map-append f xs (x ∷ [])

@@ -1,21 +1,15 @@
--- How the call's lists are seen, and what is said of a node that is a leaf.
-use Rattle.std.specs.Prelude.{Bool, List, ℤ}
-use Rattle.rg_refuting.specs.Row.{Side}
+-- How the call's list is seen, and what is said of a node that is a leaf.
+use Rattle.std.specs.Prelude.{List}
 use Rattle.rg_refuting.specs.Refutes.{NamedRow}
 use Rattle.rg_fraction.specs.declared.fraction.Fraction.{Fraction}
 use Rattle.rg_cert.specs.declared.certificate.RowName.{RowName}
-use Rattle.rg_cert.specs.declared.certificate.Form.{Form}
-use Rattle.rg_cert.specs.Trees.{TreeNode, TreeNode.leaf_node, TreeNode.split_node, row_name_of, variable_of}
+use Rattle.rg_cert.specs.Trees.{TreeNode, TreeNode.leaf_node, TreeNode.split_node, row_name_of}
 use Rattle.rg_folds.specs.Fold.{ratio_of}
 use Rattle.rg_folds.specs.Spreading.{Share}
 
 -- a named row times a fraction
 abbrev pub share_of : RowName × Fraction → Share
 share_of r = record { name = row_name_of r.0; multiplier = ratio_of r.1 }
-
--- one side of a split: its form, its number, and whether it is the high side
-abbrev pub side_of : Form × ℤ × Bool → Side
-side_of s = record { form = variable_of s.0; at = s.1; high = s.2 }
 
 -- the node is a leaf, and its rows are such
 abbrev pub IsLeafWith : (List NamedRow → Type 0) → TreeNode → Type 0

@@ -4,30 +4,18 @@ use Rattle.rg_theory.specs.declared.Arc.{Arc}
 use Rattle.rg_theory.specs.System.{System, states, labels}
 use Rattle.rg_fraction.specs.declared.term.Wide.{Wide}
 use Rattle.rg_linear.specs.Cycle.{CycleBasis}
-use Rattle.rg_refuting.specs.Expression.{Variable, Variable.tokens_at, Variable.effect_of, Term as SumTerm, Expression as Sum, plus, minus, coefficient_in}
+use Rattle.rg_refuting.specs.Expression.{Variable, Variable.tokens_at, Variable.effect_of, Term as SumTerm, Expression as Sum, coefficient_in}
 use Rattle.rg_refuting.specs.Row.{RowName}
 use Rattle.rg_refuting.specs.Refutes.{NamedRow}
 use Rattle.rg_integers.specs.Sign.{size}
-use Rattle.rg_cert.specs.Trees.{row_name_of, variable_of}
+use Rattle.rg_cert.specs.Trees.{row_name_of}
 use Rattle.rg_folds.specs.Fold.{gives, and_then, joined, Ratio, whole, ratio_of, quotient, add, mul, whole_product}
-use Rattle.rg_folds.specs.Rewriting.{count_of, Scaled as ScaledNumbers}
+use Rattle.rg_folds.specs.Rewriting.{count_of}
 use Rattle.rg_folds.specs.Placing.{negated}
 use Rattle.rg_folds.specs.Spreading.{Share, Pair, ArcTimes, Addend, Addend.product}
-use Rattle.rg_farkas.specs.declared.term.Term.{Term}
-use Rattle.rg_farkas.specs.declared.term.Term.TheVariants.{Plus, Minus}
-use Rattle.rg_farkas.specs.declared.term.Expression.{Expression}
-use Rattle.rg_farkas.specs.declared.term.Row.{Row}
-use Rattle.rg_farkas.specs.declared.term.Counted.{Counted}
-use Rattle.rg_farkas.specs.declared.scaled.Scaled.{Scaled}
-
--- a variable that is added or taken away
-abbrev pub term_of : Term → SumTerm
-term_of (Plus f) = plus (variable_of f)
-term_of (Minus f) = minus (variable_of f)
-
--- a sum of terms and a constant
-abbrev pub expression_of : Expression → Sum
-expression_of e = record { terms = map term_of e.terms.items; constant = e.constant }
+use Rattle.rg_expressions.specs.View.{term_of, expression_of}
+use Rattle.rg_farkas.specs.declared.multiplied.Row.{Row}
+use Rattle.rg_farkas.specs.declared.multiplied.Counted.{Counted}
 
 -- the state or label is one of so many
 abbrev pub IsVariableWithin : ℕ → ℕ → Variable → Type 0
@@ -96,7 +84,3 @@ abbrev pub arc_times : List Arc → List ℤ → List ArcTimes
 arc_times [] numbers = []
 arc_times (a ∷ arcs) [] = []
 arc_times (a ∷ arcs) (z ∷ numbers) = record { arc = a; multiplier = z } ∷ arc_times arcs numbers
-
--- numbers without denominators
-abbrev pub scaled_of : Scaled → ScaledNumbers
-scaled_of s = record { multiple = s.multiple; numbers = s.numbers.items }

@@ -17,7 +17,7 @@ ghost use Rattle.rg_folds.specs.Rewriting.{is_in, dependent_labels};
 ghost use Rattle.rg_folds.specs.Spreading.{used_chords, chord_arcs};
 ghost use Rattle.rg_farkas.specs.View.{counted_of, counts_fold, count_fold};
 
-use crate::term::Counted;
+use crate::multiplied::Counted;
 use rg_cycles::{Basis, FoldStop, Relation};
 use rg_fraction::{Fraction, Wide};
 use rg_lts::Lts;

@@ -1,22 +1,21 @@
 //! How often the labels that aren't free count in the named rows.
-ghost use Rattle.std.specs.Prelude.{◌≡◌, ◌<◌, ◌≤◌, ◌^◌, ◌++◌, pos, ◌≤ℤ◌, ◌<ℤ◌, length, map, All, IfOk, OnOk, IsTrue};
+ghost use Rattle.std.specs.Prelude.{◌≡◌, ◌<◌, ◌≤◌, ◌++◌, length, map, All, IfOk, OnOk, IsTrue};
 ghost use Rattle.rg_theory.specs.System.{labels};
-ghost use Rattle.rg_integers.specs.Range.{InRange};
 ghost use Rattle.rg_refuting.specs.Row.{row_expression};
 ghost use Rattle.rg_spanning.specs.Spanning.{IsTreeOf};
 ghost use Rattle.rg_cycles.specs.View.{labels_of, cycle_of};
 ghost use Rattle.rg_folds.specs.Fold.{ratio_of};
-ghost use Rattle.rg_folds.specs.Rewriting.{is_in, variable_count, count_of, dependent_labels};
+ghost use Rattle.rg_folds.specs.Rewriting.{is_in, dependent_labels};
 ghost use Rattle.rg_folds.specs.Spreading.{pairs_of};
-ghost use Rattle.rg_cert.specs.Trees.{variable_of, row_name_of};
-ghost use Rattle.rg_farkas.specs.Leaves.{share_of, side_of};
-ghost use Rattle.rg_farkas.specs.View.{term_of, counted_of, pair_count, label_count, IsVariableWithin, IsTermWithin, AreRowsWithin};
+ghost use Rattle.rg_cert.specs.Trees.{row_name_of};
+ghost use Rattle.rg_expressions.specs.View.{term_of, side_of};
+ghost use Rattle.rg_farkas.specs.Leaves.{share_of};
+ghost use Rattle.rg_farkas.specs.View.{counted_of, pair_count, label_count, IsTermWithin, AreRowsWithin};
 
-use crate::expression::expression;
-use crate::term::Term::{self, Minus, Plus};
-use crate::term::{Counted, Setting};
+use crate::multiplied::Counted;
 use rg_cert::{Form, RowName};
 use rg_cycles::Basis;
+use rg_expressions::{ProblemCase, Term, count, expression};
 use rg_fraction::Fraction;
 use rg_lts::Lts;
 use rg_spanning::Tree;
@@ -28,20 +27,20 @@ pub(crate) fn row_counts(
     lts: &Lts,
     tree: &Tree,
     basis: &Basis,
-    setting: Setting,
+    case: ProblemCase,
     named: &[(RowName, Fraction)],
     above: &[(Form, i64, bool)],
 ) -> Result<Vec<Counted>, AllocError>
     requires tree { IsTreeOf lts.now tree.now }
     requires labels { labels_of basis.now ≡ labels lts.now }
-    requires consumer { IsTrue setting.class.nonbranching → 0 < labels lts.now }
-    requires within { AreRowsWithin lts.now (row_expression lts.now setting.class setting.problem setting.number (map side_of above.now)) (map share_of named.now) }
-    ensures { IfOk result (λ v. map counted_of v.items ≡ map (pair_count tree.now.arcs (row_expression lts.now setting.class setting.problem setting.number (map side_of above.now))) (pairs_of (map share_of named.now) (dependent_labels (labels lts.now) (cycle_of basis.now)))) }
+    requires consumer { IsTrue case.class.nonbranching → 0 < labels lts.now }
+    requires within { AreRowsWithin lts.now (row_expression lts.now case.class case.problem case.number (map side_of above.now)) (map share_of named.now) }
+    ensures { IfOk result (λ v. map counted_of v.items ≡ map (pair_count tree.now.arcs (row_expression lts.now case.class case.problem case.number (map side_of above.now))) (pairs_of (map share_of named.now) (dependent_labels (labels lts.now) (cycle_of basis.now)))) }
 {
     let labels = dependent(alloc, basis, lts.labels())?;
     let mut counts = Vec::new(alloc);
     for &(name, multiplier) in named {
-        let row = expression(alloc, lts, setting, above, name)?;
+        let row = expression(alloc, lts, case, above, name)?;
         push_counts(&mut counts, tree, &labels, multiplier, &row.terms)?;
     }
     Ok(counts)
@@ -94,35 +93,4 @@ fn push_counts(
         })?;
     }
     Ok(())
-}
-
-// How often label t counts in the terms.
-fn count(tree: &Tree, terms: &[Term], t: u32) -> i128
-    requires label { t < tree.now.labels }
-    requires few { length terms.now ≤ 3 }
-    requires within { All (IsTermWithin tree.now.states tree.now.labels) (map term_of terms.now) }
-    ensures value { result ≡ count_of tree.now.arcs (map term_of terms.now) t }
-    ensures in_range { InRange result }
-{
-    let mut sum = 0;
-    for term in terms {
-        match term {
-            Plus(form) => sum += count_in(tree, *form, t),
-            Minus(form) => sum -= count_in(tree, *form, t),
-        }
-    }
-    sum
-}
-
-// How often label t counts in the tokens at a state or the effect of a label.
-fn count_in(tree: &Tree, form: Form, t: u32) -> i128
-    requires label { t < tree.now.labels }
-    requires within { IsVariableWithin tree.now.states tree.now.labels (variable_of form) }
-    ensures value { result ≡ variable_count tree.now.arcs (variable_of form) t }
-    ensures bounds { (pos 0 ≤ℤ result) × (result <ℤ pos (2 ^ 32)) }
-{
-    match form {
-        Form::Tokens(q) => i128::from(tree.parikh(q)[t as usize]),
-        Form::Effect(u) => i128::from(u == t),
-    }
 }

@@ -11,24 +11,25 @@ ghost use Rattle.rg_folds.specs.Chords.{IsBasis};
 ghost use Rattle.rg_folds.specs.Spreading.{leaf_fold};
 ghost use Rattle.rg_cert.specs.Trees.{named_row, node_of};
 ghost use Rattle.rg_cert.specs.Certificates.{IsVariableOf, IsRowNameOf, IsNodeOf};
-ghost use Rattle.rg_farkas.specs.Leaves.{share_of, side_of, IsLeafWith};
+ghost use Rattle.rg_expressions.specs.View.{side_of};
+ghost use Rattle.rg_farkas.specs.Leaves.{share_of, IsLeafWith};
 ghost use Rattle.rg_integers.specs.Range.{InRange};
 ghost use Rattle.rg_farkas.specs.Refuting.{SharesRefute};
 ghost use Rattle.rg_farkas.specs.View.{AreRowsWithin};
 
 use crate::chords::{chord_arcs, chord_shares, used_chords};
 use crate::counts::row_counts;
-use crate::denominators::without_denominators;
 use crate::listing::{named_rows, push_arcs};
 use crate::parts::divided;
 use crate::rows::{numbered, with_expressions};
 use crate::sizes::check_sizes;
 use crate::sums::tree_multipliers;
-use crate::term::Setting;
 use rg_cert::{Form, Node, RowName};
 use rg_cycles::{Basis, FoldStop};
+use rg_expressions::ProblemCase;
 use rg_fraction::Fraction;
 use rg_lts::Lts;
+use rg_scaling::without_denominators;
 use rg_spanning::Tree;
 use rg_theory::{Arc, Class, Problem};
 use std::alloc::{AllocError, Global};
@@ -75,12 +76,12 @@ pub fn spread(
     ensures wide { (w : Wide) → IsErrOf result (stop.Wide w) → leaf_fold lts.now tree.now.arcs (cycle_of basis.now) (row_expression lts.now class problem case (map side_of above.now)) (map share_of named.now) (Err w) }
 {
     let _arcs = lts.arcs();
-    let setting = Setting {
+    let case = ProblemCase {
         class,
         problem,
         number: case,
     };
-    let rows = leaf_rows(alloc, lts, tree, basis, setting, named, above)?;
+    let rows = leaf_rows(alloc, lts, tree, basis, case, named, above)?;
     Ok(Node::Leaf(rows))
 }
 
@@ -90,34 +91,34 @@ pub(crate) fn leaf_rows(
     lts: &Lts,
     tree: &Tree,
     basis: &Basis,
-    setting: Setting,
+    case: ProblemCase,
     named: &[(RowName, Fraction)],
     above: &[(Form, i64, bool)],
 ) -> Result<Vec<(RowName, i128)>, FoldStop>
     requires tree { IsTreeOf lts.now tree.now }
     requires labels { labels_of basis.now ≡ labels lts.now }
     requires basis { IsBasis lts.now tree.now.arcs (cycle_of basis.now) }
-    requires consumer { IsTrue setting.class.nonbranching → 0 < labels lts.now }
-    requires within { AreRowsWithin lts.now (row_expression lts.now setting.class setting.problem setting.number (map side_of above.now)) (map share_of named.now) }
-    ensures leaf { IfOk result (λ v. leaf_fold lts.now tree.now.arcs (cycle_of basis.now) (row_expression lts.now setting.class setting.problem setting.number (map side_of above.now)) (map share_of named.now) (Ok (map named_row v.items))) }
+    requires consumer { IsTrue case.class.nonbranching → 0 < labels lts.now }
+    requires within { AreRowsWithin lts.now (row_expression lts.now case.class case.problem case.number (map side_of above.now)) (map share_of named.now) }
+    ensures leaf { IfOk result (λ v. leaf_fold lts.now tree.now.arcs (cycle_of basis.now) (row_expression lts.now case.class case.problem case.number (map side_of above.now)) (map share_of named.now) (Ok (map named_row v.items))) }
     ensures in_range { IfOk result (λ v. All (λ r. InRange r.1) v.items) }
-    ensures wide { (w : Wide) → IsErrOf result (stop.Wide w) → leaf_fold lts.now tree.now.arcs (cycle_of basis.now) (row_expression lts.now setting.class setting.problem setting.number (map side_of above.now)) (map share_of named.now) (Err w) }
+    ensures wide { (w : Wide) → IsErrOf result (stop.Wide w) → leaf_fold lts.now tree.now.arcs (cycle_of basis.now) (row_expression lts.now case.class case.problem case.number (map side_of above.now)) (map share_of named.now) (Err w) }
 {
     let system = lts.arcs();
-    let counts = row_counts(alloc, lts, tree, basis, setting, named, above)?;
+    let counts = row_counts(alloc, lts, tree, basis, case, named, above)?;
     let used = used_chords(alloc, lts, basis)?;
     let shares = chord_shares(alloc, lts, basis, &counts, &used)?;
     let fractions = fractions(alloc, named, &shares)?;
     let scaled = without_denominators(alloc, &fractions)?;
     let chords = chord_arcs(alloc, lts, tree, basis, &used)?;
     let listed = numbered(alloc, named, &chords, &scaled.numbers)?;
-    let rows = with_expressions(alloc, lts, setting, above, &listed)?;
+    let rows = with_expressions(alloc, lts, case, above, &listed)?;
     let multipliers = tree_multipliers(alloc, tree.arcs(), &rows)?;
     let parts = divided(alloc, &scaled.numbers, &multipliers)?;
     let mut leaf = named_rows(alloc, named, &parts)?;
     let arcs = both(alloc, &chords, tree.arcs())?;
     push_arcs(&mut leaf, system, &arcs, &parts[named.len()..])?;
-    let rows = with_expressions(alloc, lts, setting, above, &leaf)?;
+    let rows = with_expressions(alloc, lts, case, above, &leaf)?;
     check_sizes(alloc, lts, &rows)?;
     Ok(leaf)
 }

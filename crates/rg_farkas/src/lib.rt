@@ -9,17 +9,14 @@
 
 mod chords;
 mod counts;
-mod denominators;
-mod expression;
 mod laws;
 mod leaf;
 mod listing;
+mod multiplied;
 mod parts;
 mod rows;
-mod scaled;
 mod sizes;
 mod sums;
-mod term;
 
 pub use laws::multipliers_refute;
 pub use leaf::spread;

@@ -9,8 +9,8 @@ ghost use Rattle.rg_folds.specs.Spreading.{variables_of, checked_leaf};
 ghost use Rattle.rg_cycles.specs.declared.substitution.FoldStop.TheVariants as stop;
 ghost use Rattle.rg_farkas.specs.View.{named_of, Tells, size_fold, coefficient_at};
 
+use crate::multiplied::Row;
 use crate::sums::{coefficient, plus, size_times};
-use crate::term::Row;
 use rg_cert::Form;
 use rg_cycles::FoldStop;
 use rg_fraction::Wide;

@@ -1,5 +1,5 @@
 -- What calls of fractions answer are steps of folds.
-use Rattle.std.proofs.Common.{◌≡◌, ◌≢◌, ℕ, ◌<◌, ◌≤◌, map, slice_index_or, subst, List, [], ◌∷◌, length, ap, sym, ◌∙◌, Result, Ok, Err, inr, arith}
+use Rattle.std.proofs.Common.{◌≡◌, ◌≢◌, ℕ, ◌<◌, slice_index_or, subst, List, [], ◌∷◌, length, ap, sym, ◌∙◌, Result, Ok, Err, inr, arith}
 use Rattle.std.specs.Prelude.{ℤ, pos, neg_ℤ, ◌+ℤ◌, ◌*ℤ◌}
 use Rattle.rg_fraction.specs.declared.term.Wide.{Wide}
 use Rattle.rg_fraction.specs.declared.fraction.Fraction.{Fraction}
@@ -29,25 +29,6 @@ share_step n d value share r ne v p = go r (mul_step value share r p)
 pub joined_none : {A X : Type 0} (join : X → X → Result X Wide → Type 0) (make : A → Result X Wide → Type 0) (none x : X) (items : List A) → length items ≡ 0 → x ≡ none → joined join make none items (Ok x)
 joined_none join make none x [] e is = is
 joined_none join make none x (a ∷ rest) e is = absurd (omega arith)
-
--- a whole number is that of its top
-pub is_its_top : (r : Ratio) (z : ℤ) → r ≡ whole z → r ≡ whole r.top
-is_its_top r z e = e ∙ ap (λ (q : Ratio). whole q.top) (sym e)
-
--- ---- the denominators of a list
-
-abbrev pub bottoms_of : List Fraction → List ℤ
-bottoms_of xs = map (λ r. r.bottom) (ratios_of xs)
-
-module _ (xs : List Fraction) (i : ℕ) (x : Fraction) where
-  pub bottom_at : x ≡ slice_index_or xs i x → denominator_of x ≡ slice_index_or (bottoms_of xs) i (denominator_of x)
-  bottom_at at = map_at (λ r. r.bottom) (ratios_of xs) i (ratio_of x) (map_at ratio_of xs i x at)
-
-  pub bottom_below : i < length xs → i < length (bottoms_of xs)
-  bottom_below lt = subst (λ n. i < n) (sym (length-map (ratios_of xs) (λ r. r.bottom) ∙ length-map xs ratio_of)) lt
-
-  pub bottoms_past : length xs ≤ i → length (bottoms_of xs) ≤ i
-  bottoms_past le = subst (λ n. n ≤ i) (sym (length-map (ratios_of xs) (λ r. r.bottom) ∙ length-map xs ratio_of)) le
 
 -- ---- the top at a place
 

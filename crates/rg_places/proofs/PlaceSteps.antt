@@ -1,6 +1,6 @@
 -- The steps from effects to a place, one after the other.
 use Rattle.std.proofs.Common.{◌≡◌, ℕ, ◌+◌, ◌||◌, is_some, Bool, true, false, List, [], ◌∷◌, ◌++◌, length, map, unsigned_abs, Result, Ok, Err, inl, inr, ap, refl, sym, subst, ◌∙◌}
-use Rattle.std.specs.Prelude.{IfOk}
+use Rattle.std.specs.Prelude.{ℤ, IfOk}
 use Rattle.std.proofs.lemmas.List.{length-map, length-append}
 use Rattle.rg_theory.specs.declared.Arc.{Arc}
 use Rattle.rg_theory.specs.declared.Class.{Class}
@@ -16,7 +16,7 @@ use Rattle.rg_folds.specs.Rewriting.{all_numbers}
 use Rattle.rg_folds.specs.Placing.{effect_fold, negated, made_whole, ratio_at, along_tree, least_of, is_shifted, shift_fold, top_at, taken, place_fold}
 use Rattle.rg_places.specs.Places.{numbers_fold}
 use Rattle.rg_places.specs.Steps.{IsAlongTree, found_fold, weights_fold}
-use Rattle.rg_places.proofs.Wholes.{each_length}
+use Rattle.rg_scaling.proofs.Items.{each_length}
 use Rattle.rg_places.proofs.PlaceWeights.{taken_length, given_length}
 use Rattle.rg_places.proofs.Found.{all_length}
 
@@ -38,9 +38,9 @@ module _ (class : Class) (numbers : List Ratio) where
   pub multiple_fails : (w : Wide) → (class.plain || is_some class.bound) ≡ false → multiple_of_all (map (λ r. r.bottom) numbers) (Err w) → made_whole class numbers (Err w)
   multiple_fails w e h = made_by e (Err w) (inl h)
 
-  pub multiple_makes : (multiple : Ratio) → multiple ≡ whole multiple.top → (class.plain || is_some class.bound) ≡ false → multiple_of_all (map (λ r. r.bottom) numbers) (Ok multiple.top) → (r : Result (List Ratio) Wide) → each (λ r. mul r multiple) numbers r → made_whole class numbers r
-  multiple_makes multiple is e h (Ok found) products = made_by e (Ok found) (multiple.top, h, subst (λ m. each (λ r. mul r m) numbers (Ok found)) is products)
-  multiple_makes multiple is e h (Err w) products = made_by e (Err w) (inr (multiple.top, h, subst (λ m. each (λ r. mul r m) numbers (Err w)) is products))
+  pub multiple_makes : (m : ℤ) → (class.plain || is_some class.bound) ≡ false → multiple_of_all (map (λ r. r.bottom) numbers) (Ok m) → (r : Result (List Ratio) Wide) → each (λ r. mul r (whole m)) numbers r → made_whole class numbers r
+  multiple_makes m e h (Ok found) products = made_by e (Ok found) (m, h, products)
+  multiple_makes m e h (Err w) products = made_by e (Err w) (inr (m, h, products))
 
   pub made_length : (found : List Ratio) → made_whole class numbers (Ok found) → length found ≡ length numbers
   made_length found h = go (class.plain || is_some class.bound) h

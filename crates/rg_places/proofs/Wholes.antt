@@ -73,10 +73,6 @@ each_at make (b ∷ items) xs a x i (y, is, (rest, others, e)) lt = subst (λ l.
     go zero lt next = is
     go (suc i) lt next = next i (omega arith)
 
-pub each_length : {A X : Type 0} (make : A → Result X Wide → Type 0) (items : List A) (xs : List X) → each make items (Ok xs) → length xs ≡ length items
-each_length make [] xs made = ap length made
-each_length make (b ∷ items) xs (y, is, (rest, others, e)) = ap length e ∙ ap suc (each_length make items rest others)
-
 -- ---- the least common multiple
 
 pub divides_at : (rs : List Ratio) (m : ℤ) (i : ℕ) (r : Ratio) → AllDivide (map (λ z. z.bottom) rs) m → i < length rs → Divides (slice_index_or rs i r).bottom m

@@ -1,10 +1,8 @@
 mod Naming
-mod Counting
 mod Picking
 mod Making
 mod Keeping
 mod Terms
-mod Multiples
 mod Dividing
 mod Forming
 mod Counted

@@ -1,8 +1,7 @@
 -- The steps of a row's fold.
-use Rattle.std.proofs.Common.{◌≡◌, ℕ, ◌+◌, ◌<◌, ◌≤◌, false, is_some, if◌then◌else◌, Option, None, List, [], ◌∷◌, ◌++◌, map, drop, length, Result, Ok, Err, ap, refl, subst, sym, ◌∙◌, inl, inr, add-one}
+use Rattle.std.proofs.Common.{◌≡◌, ℕ, ◌<◌, false, is_some, if◌then◌else◌, Option, None, List, [], map, length, Result, Ok, Err, ap, refl, subst, sym, ◌∙◌, inl, inr}
 use Rattle.std.specs.Prelude.{ℤ, pos, slice_index_or, IfOk}
-use Rattle.std.proofs.lemmas.List.{drop_all, get_or-map}
-use Rattle.std.proofs.Math.Seq.{drop-cons}
+use Rattle.std.proofs.lemmas.List.{get_or-map}
 use Rattle.rg_theory.specs.declared.Arc.{Arc}
 use Rattle.rg_theory.specs.declared.Class.{Class}
 use Rattle.rg_theory.specs.declared.Problem.{Problem}
@@ -16,26 +15,13 @@ use Rattle.rg_cert.specs.Trees.{row_name_of}
 use Rattle.rg_fraction.specs.declared.fraction.Fraction.{Fraction}
 use Rattle.rg_fraction.specs.Fractions.{numerator_of, denominator_of, IsValue, IsProduct}
 use Rattle.rg_folds.proofs.FoldLemmas.{mul_step}
-use Rattle.rg_folds.specs.Fold.{shown_result, ratio_of, each, Ratio, whole, mul, multiple_of_all}
+use Rattle.rg_folds.specs.Fold.{shown_result, ratio_of, each, Ratio, whole, mul}
 use Rattle.rg_folds.specs.Rewriting.{start_of, count_of, substitute_fold, columns_of, Scaled, scaled_fold, terms_fold, KeptRow, IsDivided, row_fold, used_labels, all_numbers, names_of, form_variables, form_fold, column_count, CaseSystem, IsIdle, system_fold}
 use Rattle.rg_linear.specs.Firsts.{KeepsFirsts}
 use Rattle.rg_rows.specs.View.{fold_of}
 use Rattle.rg_rows.proofs.Counted.{substitute_same}
 use Rattle.rg_rows.proofs.Picking.{columns_length}
-use Rattle.rg_cycles.proofs.Folding.{whole_is, behind, each_next, each_fails, each_ends}
-
--- ---- from the numbers of the columns to whole ones
-
-module _ (numbers : List Ratio) where
-  pub scaled_unmultiplied : (w : Wide) → multiple_of_all (map (λ r. r.bottom) numbers) (Err w) → scaled_fold numbers (Err w)
-  scaled_unmultiplied w h = inl h
-
-  module _ (m : ℤ) (multiple : multiple_of_all (map (λ r. r.bottom) numbers) (Ok m)) where
-    pub scaled_unmade : (w : Wide) → each (λ r. mul r (whole m)) numbers (Err w) → scaled_fold numbers (Err w)
-    scaled_unmade w h = inr (m, multiple, inl h)
-
-    pub scaled_made : (products : List Ratio) → each (λ r. mul r (whole m)) numbers (Ok products) → scaled_fold numbers (Ok (record { multiple = m; numbers = map (λ r. r.top) products }))
-    scaled_made products h = (m, multiple, (products, h, refl))
+use Rattle.rg_cycles.proofs.Folding.{whole_is}
 
 -- ---- from the counts of labels to the columns
 
@@ -83,22 +69,6 @@ module _ (lts : System) (tree : List Arc) (basis : CycleBasis) (class : Class) (
 
     pub row_made : (constant : Ratio) (out : KeptRow) → mul (whole e.constant) (whole scaled.multiple) (Ok constant) → out.name ≡ name → IsDivided scaled constant.top out → row_fold lts tree basis class name e (Ok out)
     row_made constant out h same is = (scaled, terms, (constant, h, (same, is)))
-
--- ---- item by item
-
--- what is made of the items from i on stands behind what is made so far
-module _ {A X : Type 0} (make : A → Result X Wide → Type 0) (all : List A) (i : ℕ) (d : A) (xs : List X) (so_far : (r : Result (List X) Wide) → each make (drop i all) r → each make all (behind xs r)) where
-  at : i < length all → (r : Result (List X) Wide) → each make (slice_index_or all i d ∷ drop (i + 1) all) r → each make all (behind xs r)
-  at lt r h = so_far r (subst (λ l. each make l r) (sym (drop-cons all i d lt ∙ ap (λ n. slice_index_or all i d ∷ drop n all) (sym (add-one i)))) h)
-
-  pub item_next : i < length all → (x : X) → make (slice_index_or all i d) (Ok x) → (r : Result (List X) Wide) → each make (drop (i + 1) all) r → each make all (behind (xs ++ x ∷ []) r)
-  item_next lt x made = each_next make all (slice_index_or all i d) (drop (i + 1) all) xs (at lt) x made
-
-  pub item_fails : i < length all → (w : Wide) → make (slice_index_or all i d) (Err w) → each make all (Err w)
-  item_fails lt w made = each_fails make all (slice_index_or all i d) (drop (i + 1) all) xs (at lt) w made
-
-  pub items_end : length all ≤ i → each make all (Ok xs)
-  items_end past = each_ends make all xs (λ r h. so_far r (subst (λ l. each make l r) (sym (drop_all i all past)) h))
 
 -- ---- the rows of the code
 

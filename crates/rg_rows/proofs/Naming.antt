@@ -1,7 +1,7 @@
 -- Lists of named rows, state by state and label by label.
 use Rattle.std.proofs.Common.{◌≡◌, ⊎_elim, ℕ, zero, suc, ◌+◌, ◌-◌, ◌<◌, ◌≤◌, ◌==◌, ◌&&◌, not, is_some, Bool, true, false, if◌then◌else◌, Option, Some, None, List, [], ◌∷◌, ◌++◌, map, take, length, Contains, ap, refl, sym, ◌∙◌, arith, append_assoc, eq-eqb}
 use Rattle.std.specs.Prelude.{slice_index_or, IfSome, IfNone}
-use Rattle.std.proofs.lemmas.List.{append-nil, map-append, take_more, get_or-set_other}
+use Rattle.std.proofs.lemmas.List.{append-nil, take_more, get_or-set_other}
 use Rattle.std.proofs.lemmas.Grind.{get_or-set_at}
 use Rattle.std.proofs.Math.ListN.{set}
 use Rattle.std.proofs.lemmas.Bool.{false≢true, and_from, and_parts, eqb-true}
@@ -15,10 +15,6 @@ use Rattle.rg_folds.specs.Rewriting.{numbers_where, has_label, has_label_at, use
 use Rattle.rg_cycles.proofs.Folding.{where_taken, where_left, where_ends}
 use Rattle.rg_rows.specs.declared.columns.Columns.{Columns}
 use Rattle.rg_rows.specs.View.{TellsUsed, AreColumns, makers}
-
--- one item more
-pub map_push : {A B : Type 0} (f : A → B) (xs ys : List A) (x : A) → ys ≡ xs ++ x ∷ [] → map f ys ≡ map f xs ++ f x ∷ []
-map_push f xs ys x e = ap (map f) e ∙ map-append f xs (x ∷ [])
 
 -- so far the rows of the numbers before i that pass the test are named
 module _ (make : ℕ → RowName) (test : ℕ → Bool) (i n : ℕ) (done all : List RowName) (so_far : done ++ map make (numbers_where test i (n - i)) ≡ all) where

@@ -1,15 +1,15 @@
 -- The numbers of the columns, picked label by label.
-use Rattle.std.proofs.Common.{◌≡◌, ℕ, zero, suc, ◌+◌, ◌<◌, ◌≤◌, ◌&&◌, Result, Ok, Bool, true, false, if◌then◌else◌, List, [], ◌∷◌, ◌++◌, map, drop, length, ap, refl, subst, sym, ◌∙◌, arith, append_assoc, add-one}
+use Rattle.std.proofs.Common.{◌≡◌, ℕ, zero, suc, ◌+◌, ◌<◌, ◌≤◌, ◌&&◌, Ok, Bool, true, false, if◌then◌else◌, List, [], ◌∷◌, ◌++◌, map, drop, length, ap, refl, subst, sym, ◌∙◌, arith, append_assoc, add-one}
 use Rattle.std.specs.Prelude.{ℤ, pos, slice_index, slice_index_or}
 use Rattle.std.specs.Int.{from_bool}
 use Rattle.std.proofs.lemmas.List.{append-nil, drop_all, length-map, get_or_default}
 use Rattle.std.proofs.Math.Seq.{drop-cons}
 use Rattle.rg_theory.specs.declared.Class.{Class}
 use Rattle.rg_theory.specs.System.{System, labels}
-use Rattle.rg_fraction.specs.declared.term.Wide.{Wide}
 use Rattle.rg_linear.specs.Cycle.{CycleBasis}
-use Rattle.rg_folds.specs.Fold.{Ratio, each, whole}
+use Rattle.rg_folds.specs.Fold.{Ratio, whole}
 use Rattle.rg_folds.specs.Rewriting.{is_in, has_label, numbers_where, free_labels, free_columns, has_start, pick, coefficient_fold, substitute_fold, columns_of, column_count}
+use Rattle.rg_scaling.proofs.Items.{each_length}
 use Rattle.rg_rows.specs.declared.columns.Columns.{Columns}
 use Rattle.rg_rows.specs.View.{AreColumns}
 
@@ -53,10 +53,6 @@ pick_length test (f ∷ fs) (r ∷ rs) e = go (test f) (pick_length test fs rs (
     go : (b : Bool) → length (pick test fs rs) ≡ length (chosen test fs) → length (if b then (r ∷ pick test fs rs) else pick test fs rs) ≡ length (if b then (f ∷ chosen test fs) else chosen test fs)
     go true h = ap suc h
     go false h = h
-
-pub each_length : {A X : Type 0} (make : A → Result X Wide → Type 0) (items : List A) (xs : List X) → each make items (Ok xs) → length xs ≡ length items
-each_length make [] xs e = ap length e
-each_length make (a ∷ items) xs (x, made, (ys, rest, e)) = ap length e ∙ ap suc (each_length make items ys rest)
 
 -- the columns are counted by the free labels with an arc
 pub columns_count : (lts : System) (basis : CycleBasis) (class : Class) → column_count lts basis class ≡ (if has_start class then 1 else 0) + length (chosen (λ t. has_label t lts.arcs) (free_labels (labels lts) basis))

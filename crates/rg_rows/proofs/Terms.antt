@@ -14,7 +14,8 @@ use Rattle.rg_folds.specs.Rewriting.{numbers_where, used_labels, has_label, has_
 use Rattle.rg_cycles.proofs.Labels.{where_from}
 use Rattle.rg_cert.specs.declared.certificate.RowName.{RowName as CodeName}
 use Rattle.rg_cert.specs.Trees.{row_name_of}
-use Rattle.rg_rows.specs.View.{IsTermWithin, AreNamesWithin}
+use Rattle.rg_expressions.specs.View.{IsTermWithin}
+use Rattle.rg_rows.specs.View.{AreNamesWithin}
 
 one : (n : ℕ) (t : SumTerm) → IsTermWithin n t → All (IsTermWithin n) (t ∷ [])
 one n t h = All-cons (IsTermWithin n) t [] h (All-nil (IsTermWithin n))

@@ -3,40 +3,19 @@ use Rattle.std.specs.Prelude.{◌≡◌, ℕ, ◌<◌, ◌==◌, ◌&&◌, not, 
 use Rattle.rg_theory.specs.declared.Arc.{Arc}
 use Rattle.rg_theory.specs.declared.Class.{Class}
 use Rattle.rg_theory.specs.System.{System, states, labels}
-use Rattle.rg_refuting.specs.Expression.{Term as SumTerm, Expression as Sum, Variable, Variable.tokens_at, Variable.effect_of, plus, minus}
 use Rattle.rg_linear.specs.System.{LinearRow}
 use Rattle.rg_linear.specs.Cycle.{CycleBasis}
 use Rattle.rg_fraction.specs.declared.term.Wide.{Wide}
 use Rattle.rg_theory.specs.declared.Problem.{Problem}
 use Rattle.rg_refuting.specs.Row.{RowName, row_expression}
 use Rattle.rg_folds.specs.Fold.{ratio_of}
-use Rattle.rg_folds.specs.Rewriting.{has_label, has_start, numbers_where, Scaled as ScaledNumbers, KeptRow, row_fold}
-use Rattle.rg_cert.specs.Trees.{row_name_of, variable_of}
+use Rattle.rg_folds.specs.Rewriting.{has_label, has_start, numbers_where, KeptRow, row_fold}
+use Rattle.rg_cert.specs.Trees.{row_name_of}
+use Rattle.rg_expressions.specs.View.{IsTermWithin}
 use Rattle.rg_feasible.specs.View.{linear_row}
-use Rattle.rg_rows.specs.declared.term.Term.{Term}
-use Rattle.rg_rows.specs.declared.term.Term.TheVariants.{Plus, Minus}
-use Rattle.rg_rows.specs.declared.term.Expression.{Expression}
 use Rattle.rg_rows.specs.declared.columns.Columns.{Columns}
-use Rattle.rg_rows.specs.declared.scaled.Scaled.{Scaled}
 use Rattle.rg_rows.specs.declared.named_row.NamedRow.{NamedRow}
 use Rattle.rg_rows.specs.declared.kept.NamedRows.{NamedRows}
-
--- a variable that is added or taken away
-abbrev pub term_of : Term → SumTerm
-term_of (Plus f) = plus (variable_of f)
-term_of (Minus f) = minus (variable_of f)
-
--- a sum of terms and a constant
-abbrev pub expression_of : Expression → Sum
-expression_of e = record { terms = map term_of e.terms.items; constant = e.constant }
-
--- a state that it names is one of so many
-abbrev pub IsVariableWithin : ℕ → Variable → Type 0
-IsVariableWithin states (tokens_at q) = q < states
-IsVariableWithin states (effect_of t) = Unit {0}
-
-abbrev pub IsTermWithin : ℕ → SumTerm → Type 0
-IsTermWithin states t = IsVariableWithin states t.variable
 
 -- of each label whether an arc has it
 pub record TellsUsed (labels : ℕ) (arcs : List Arc) (used : List Bool) : Type 0 where
@@ -51,10 +30,6 @@ pub record AreColumns (lts : System) (class : Class) (columns : Columns) : Type 
 -- the labels with an arc, but this one
 abbrev pub makers : List Bool → ℕ → List ℕ
 makers used consumer = numbers_where (λ u. slice_index_or used u false && not (u == consumer)) 0 (length used)
-
--- numbers without denominators
-abbrev pub scaled_of : Scaled → ScaledNumbers
-scaled_of s = record { multiple = s.multiple; numbers = s.numbers.items }
 
 -- the numbers of a row: its coefficients, then its constant
 abbrev pub numbers_of : LinearRow → List ℤ

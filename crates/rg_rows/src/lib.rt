@@ -8,15 +8,11 @@
 mod case;
 mod columns;
 mod counts;
-mod denominators;
-mod expression;
 mod kept;
 mod named_row;
 mod named_system;
 mod names;
 mod rewriting;
-mod scaled;
-mod term;
 
 pub use case::cases;
 pub use named_system::{NamedSystem, system};

@@ -13,15 +13,14 @@ ghost use Rattle.rg_cert.specs.Trees.{row_name_of};
 ghost use Rattle.rg_rows.specs.View.{kept_row, AreColumns, AreNamesWithin, fold_of};
 ghost use Rattle.rg_rows.specs.Shown.{ShowsCase};
 
-use crate::case::ProblemCase;
 use crate::columns::Columns;
-use crate::expression::expression;
 use crate::kept::{NamedRows, firsts};
 use crate::named_row::NamedRow;
 use crate::names::names;
 use crate::rewriting::row;
 use rg_cert::RowName;
 use rg_cycles::{Basis, FoldStop};
+use rg_expressions::{ProblemCase, expression};
 use rg_feasible::System;
 use rg_fraction::Fraction;
 use rg_lts::Lts;
@@ -110,7 +109,7 @@ fn rows(
 {
     let mut rows = Vec::new(alloc);
     for &name in names {
-        let expression = expression(alloc, lts, case, name)?;
+        let expression = expression(alloc, lts, case, &[], name)?;
         rows.push(row(alloc, tree, basis, columns, name, &expression)?)?;
     }
     Ok(rows)

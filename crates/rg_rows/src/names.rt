@@ -7,9 +7,9 @@ ghost use Rattle.rg_cert.specs.Trees.{row_name_of};
 ghost use Rattle.rg_folds.specs.Rewriting.{all_numbers, states_with, has_label, numbers_where, problem_rows, names_of};
 ghost use Rattle.rg_rows.specs.View.{AreColumns, makers};
 
-use crate::case::ProblemCase;
 use crate::columns::Columns;
 use rg_cert::RowName;
+use rg_expressions::ProblemCase;
 use rg_lts::Lts;
 use rg_theory::Problem;
 use std::alloc::{AllocError, Global};

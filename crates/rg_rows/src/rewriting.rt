@@ -10,17 +10,18 @@ ghost use Rattle.rg_folds.specs.Rewriting.{terms_fold, row_fold, IsDivided, colu
 ghost use Rattle.rg_cert.specs.Trees.{row_name_of};
 ghost use Rattle.rg_cycles.specs.View.{labels_of, cycle_of};
 ghost use Rattle.rg_cycles.specs.declared.substitution.FoldStop.TheVariants as stop;
-ghost use Rattle.rg_rows.specs.View.{AreColumns, IsTermWithin, term_of, expression_of, scaled_of, kept_row};
+ghost use Rattle.rg_expressions.specs.View.{IsTermWithin, term_of, expression_of};
+ghost use Rattle.rg_scaling.specs.View.{scaled_of};
+ghost use Rattle.rg_rows.specs.View.{AreColumns, kept_row};
 
 use crate::columns::Columns;
-use crate::counts::{counts, start};
-use crate::denominators::without_denominators;
+use crate::counts::counts;
 use crate::named_row::NamedRow;
-use crate::scaled::Scaled;
-use crate::term::{Expression, Term};
 use rg_cert::RowName;
 use rg_cycles::{Basis, FoldStop, substitute};
+use rg_expressions::{Expression, Term, start};
 use rg_fraction::{Fraction, gcd, reduce};
+use rg_scaling::{Scaled, without_denominators};
 use rg_spanning::Tree;
 use std::alloc::Global;
 

@@ -1,6 +1,7 @@
 use Rattle.std.proofs.Common.{◌≡◌, ◌++◌, map, drop}
 use Rattle.rg_folds.specs.Fold.{ratio_of}
-use Rattle.rg_farkas.specs.View.{term_of, counted_of, label_count}
+use Rattle.rg_expressions.specs.View.{term_of}
+use Rattle.rg_farkas.specs.View.{counted_of, label_count}
 use Rattle.rg_farkas.proofs.counts.push_counts.Given as goal
 
 abbrev pub invariant-loop-label : goal.invariant-loop-label

@@ -2,7 +2,8 @@ use Rattle.std.proofs.Common.{rules, map, ◌≡◌, Err, ap, ◌∙◌}
 use Rattle.std.specs.Int.{w128, cast_signed}
 use Rattle.rg_integers.proofs.Casts.{back}
 use Rattle.rg_cert.specs.Trees.{variable_of}
-use Rattle.rg_farkas.specs.View.{term_of, coefficient_at}
+use Rattle.rg_expressions.specs.View.{term_of}
+use Rattle.rg_farkas.specs.View.{coefficient_at}
 use Rattle.rg_refuting.specs.Expression.{coefficient_in}
 use Rattle.rg_farkas.proofs.RowSteps.{size_unmade, size_unjoined, size_next, size_ends}
 use Rattle.rg_farkas.proofs.sizes.coefficient_sizes.Goals as goal

@@ -1,8 +1,12 @@
-use Rattle.std.proofs.Common.{rules, ◌≡◌, Vec, Global, Err, Ok, sym, subst, ◌∙◌}
+use Rattle.std.proofs.Common.{rules, ◌≡◌, List, Vec, Global, Err, Ok, map, ap, sym, subst, ◌∙◌}
+use Rattle.std.specs.Int.{w128, cast_signed, cast_unsigned}
+use Rattle.rg_integers.proofs.Casts.{back}
 use Rattle.rg_fraction.specs.declared.fraction.Fraction.{Fraction}
-use Rattle.rg_folds.specs.Fold.{each, mul, ratio_of}
+use Rattle.rg_fraction.specs.Fractions.{denominator_of}
+use Rattle.rg_folds.specs.Fold.{each, mul, whole, ratio_of, multiple_of_all}
 use Rattle.rg_folds.specs.Placing.{made_whole}
 use Rattle.rg_cycles.specs.declared.substitution.FoldStop.TheVariants as stop
+use Rattle.rg_scaling.proofs.Multiples.{bottoms}
 use Rattle.rg_places.specs.PointValues.{ratios_of}
 use Rattle.rg_places.proofs.PlaceSteps.{if_ok, made_kept, multiple_fails, multiple_makes}
 use Rattle.rg_places.proofs.whole.made_whole.Goals as goal
@@ -14,18 +18,26 @@ pub returns-in_err-multiple-clause-wide : goal.returns-in_err-multiple-clause-wi
 returns-in_err-multiple-clause-wide c = λ w e.
     let same : c.from_residual.result ≡ Err (stop.Wide c.in_err-multiple.field-0.0) = search rules in
     let is : c.in_err-multiple.field-0.0 ≡ w = cc in
-    let multiple = rw (c.deref.ensures.value, c.in_err-multiple.was) at c.common_denominator.ensures.value in
-    subst (λ v. made_whole c.args.class (ratios_of c.args.numbers.items) (Err v)) is (multiple_fails c.args.class (ratios_of c.args.numbers.items) c.in_err-multiple.field-0.0 (sym c.has_whole_points.ensures ∙ c.if-has_whole_points.false) multiple)
+    let numbers = c.args.numbers.items in
+    let multiple = subst (λ l. multiple_of_all l (Err c.in_err-multiple.field-0.0)) (ap (map denominator_of) c.deref.ensures.value ∙ sym (bottoms numbers)) c.in_err-multiple.ensures.value in
+    subst (λ v. made_whole c.args.class (ratios_of numbers) (Err v)) is (multiple_fails c.args.class (ratios_of numbers) c.in_err-multiple.field-0.0 (sym c.has_whole_points.ensures ∙ c.if-has_whole_points.false) multiple)
 
 pub returns-clause-value : goal.returns-clause-value
 returns-clause-value c =
-    let multiple = rw (c.deref.ensures.value, c.in_ok-multiple.was) at c.common_denominator.ensures.value in
-    let made = rw c.deref-2.ensures.value at c.multiplied.ensures.value in
-    if_ok (λ (v : Vec Fraction Global). each (λ r. mul r (ratio_of c.in_ok-multiple.multiple)) (ratios_of c.args.numbers.items) (Ok (ratios_of v.items))) (λ (v : Vec Fraction Global). made_whole c.args.class (ratios_of c.args.numbers.items) (Ok (ratios_of v.items))) c.multiplied.result
-    (λ v h. multiple_makes c.args.class (ratios_of c.args.numbers.items) (ratio_of c.in_ok-multiple.multiple) c.in_ok-multiple.ensures.is_whole (sym c.has_whole_points.ensures ∙ c.if-has_whole_points.false) multiple (Ok (ratios_of v.items)) h) made
+    let numbers = c.args.numbers.items in
+    let m = c.in_ok-multiple.multiple in
+    let multiple = subst (λ l. multiple_of_all l (Ok m)) (ap (map denominator_of) c.deref.ensures.value ∙ sym (bottoms numbers)) c.in_ok-multiple.ensures.value in
+    if_ok (λ (v : Vec Fraction Global). each (λ f. mul f (whole (cast_signed w128 (cast_unsigned w128 m)))) (map ratio_of c.deref-2.result.now) (Ok (map ratio_of v.items))) (λ (v : Vec Fraction Global). made_whole c.args.class (ratios_of numbers) (Ok (ratios_of v.items))) c.products.result
+    (λ v h. multiple_makes c.args.class (ratios_of numbers) m (sym c.has_whole_points.ensures ∙ c.if-has_whole_points.false) multiple (Ok (ratios_of v.items))
+    (subst (λ z. each (λ f. mul f (whole z)) (ratios_of numbers) (Ok (ratios_of v.items))) (back m c.in_ok-multiple.ensures.in_range)
+    (subst (λ (l : List Fraction). each (λ f. mul f (whole (cast_signed w128 (cast_unsigned w128 m)))) (map ratio_of l) (Ok (ratios_of v.items))) c.deref-2.ensures.value h)))
+    c.products.ensures.value
 
 pub returns-clause-wide : goal.returns-clause-wide
 returns-clause-wide c = λ w e.
-    let multiple = rw (c.deref.ensures.value, c.in_ok-multiple.was) at c.common_denominator.ensures.value in
-    let made = rw c.deref-2.ensures.value at (c.multiplied.ensures.wide w e) in
-    multiple_makes c.args.class (ratios_of c.args.numbers.items) (ratio_of c.in_ok-multiple.multiple) c.in_ok-multiple.ensures.is_whole (sym c.has_whole_points.ensures ∙ c.if-has_whole_points.false) multiple (Err w) made
+    let numbers = c.args.numbers.items in
+    let m = c.in_ok-multiple.multiple in
+    let multiple = subst (λ l. multiple_of_all l (Ok m)) (ap (map denominator_of) c.deref.ensures.value ∙ sym (bottoms numbers)) c.in_ok-multiple.ensures.value in
+    multiple_makes c.args.class (ratios_of numbers) m (sym c.has_whole_points.ensures ∙ c.if-has_whole_points.false) multiple (Err w)
+    (subst (λ z. each (λ f. mul f (whole z)) (ratios_of numbers) (Err w)) (back m c.in_ok-multiple.ensures.in_range)
+    (subst (λ (l : List Fraction). each (λ f. mul f (whole (cast_signed w128 (cast_unsigned w128 m)))) (map ratio_of l) (Err w)) c.deref-2.ensures.value (c.products.ensures.wide w e)))

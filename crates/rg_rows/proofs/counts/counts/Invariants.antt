@@ -2,7 +2,7 @@ use Rattle.std.proofs.Common.{◌≡◌, ℕ, ◌<◌, length, map}
 use Rattle.rg_integers.specs.Range.{InRange}
 use Rattle.rg_integers.specs.Sum.{number_at}
 use Rattle.rg_folds.specs.Rewriting.{count_of}
-use Rattle.rg_rows.specs.View.{term_of}
+use Rattle.rg_expressions.specs.View.{term_of}
 use Rattle.rg_rows.proofs.counts.counts.Given as goal
 
 abbrev pub invariant-loop-t : goal.invariant-loop-t

@@ -7,10 +7,12 @@ use Rattle.rg_cert.specs.Trees.{row_name_of}
 use Rattle.rg_cycles.specs.declared.substitution.FoldStop.TheVariants as stop
 use Rattle.rg_cycles.specs.View.{cycle_of}
 use Rattle.rg_rows.specs.declared.named_row.NamedRow.{NamedRow}
-use Rattle.rg_rows.specs.View.{expression_of, kept_row, fold_of}
-use Rattle.rg_rows.proofs.Naming.{map_push}
+use Rattle.rg_expressions.specs.View.{expression_of}
+use Rattle.rg_rows.specs.View.{kept_row, fold_of}
+use Rattle.rg_scaling.proofs.Items.{map_push}
 use Rattle.rg_rows.proofs.Terms.{name_within}
-use Rattle.rg_rows.proofs.Making.{fold_told, item_next, item_fails, items_end}
+use Rattle.rg_scaling.proofs.Items.{item_next, item_fails, items_end}
+use Rattle.rg_rows.proofs.Making.{fold_told}
 use Rattle.rg_rows.proofs.named_system.rows.Goals as goal
 
 pub row-requires-clause-within : goal.row-requires-clause-within

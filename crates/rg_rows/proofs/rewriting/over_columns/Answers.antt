@@ -7,8 +7,9 @@ use Rattle.rg_folds.specs.Fold.{ratio_of}
 use Rattle.rg_folds.specs.Rewriting.{free_labels, columns_of, scaled_fold, coefficient_fold}
 use Rattle.rg_cycles.specs.declared.substitution.FoldStop.TheVariants as stop
 use Rattle.rg_cycles.specs.View.{labels_of, cycle_of}
-use Rattle.rg_rows.specs.View.{term_of, scaled_of}
-use Rattle.rg_rows.proofs.Picking.{each_length}
+use Rattle.rg_expressions.specs.View.{term_of}
+use Rattle.rg_scaling.specs.View.{scaled_of}
+use Rattle.rg_scaling.proofs.Items.{each_length}
 use Rattle.rg_rows.proofs.Making.{if_ok_more, columns_unsubstituted, columns_scaled, columns_many}
 use Rattle.rg_rows.proofs.rewriting.over_columns.Goals as goal
 

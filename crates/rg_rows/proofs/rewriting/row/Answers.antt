@@ -8,7 +8,9 @@ use Rattle.rg_folds.specs.Rewriting.{terms_fold, IsDivided}
 use Rattle.rg_cert.specs.Trees.{row_name_of}
 use Rattle.rg_cycles.specs.declared.substitution.FoldStop.TheVariants as stop
 use Rattle.rg_cycles.specs.View.{cycle_of}
-use Rattle.rg_rows.specs.View.{term_of, expression_of, scaled_of, kept_row}
+use Rattle.rg_expressions.specs.View.{term_of, expression_of}
+use Rattle.rg_scaling.specs.View.{scaled_of}
+use Rattle.rg_rows.specs.View.{kept_row}
 use Rattle.rg_rows.proofs.Making.{whole_step, if_ok_more, row_unscaled, row_unmade, row_made}
 use Rattle.rg_rows.proofs.rewriting.row.Goals as goal
 

@@ -7,7 +7,7 @@ use Rattle.rg_folds.specs.Fold.{whole, ratio_of}
 use Rattle.rg_folds.specs.Rewriting.{has_label, free_labels}
 use Rattle.rg_cycles.specs.View.{labels_of, cycle_of}
 use Rattle.rg_cycles.proofs.Folding.{whole_is, free_below}
-use Rattle.rg_rows.proofs.Naming.{map_push}
+use Rattle.rg_scaling.proofs.Items.{map_push}
 use Rattle.rg_rows.proofs.Picking.{used_is, pick_starts, pick_pushed, pick_left, pick_ends}
 use Rattle.rg_rows.proofs.columns.Columns.pick.Goals as goal
 use Rattle.rg_rows.proofs.columns.Columns.pick.Goals.{then-self+in_ok-push, else-self, then-index+in_ok-push-2, else-index}
