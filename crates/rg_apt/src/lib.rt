@@ -18,14 +18,13 @@ mod building;
 mod fault;
 mod found;
 mod laws;
-mod no_memory;
 mod place;
 mod print;
 mod whole;
 
 pub use fault::TextFault;
 pub use laws::{items_are_read, one_answer, plain_is_spelled, printed_is_spelled};
-pub use no_memory::NoMemory;
+pub use rg_memory::NoMemory;
 pub use print::print_lts;
 pub use whole::read_lts;
 

@@ -5,7 +5,7 @@ ghost use Rattle.rg_theory.specs.System.{IsArcInRange};
 ghost use Rattle.rg_apt.specs.Plain.{state_line, state_lines, arc_line, lts_text};
 ghost use Rattle.rg_apt.specs.Spells.{Spells};
 
-use crate::no_memory::NoMemory;
+use rg_memory::NoMemory;
 use rg_lts::{Arc, Lts};
 use std::alloc::Global;
 

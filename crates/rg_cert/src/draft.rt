@@ -10,7 +10,7 @@ use crate::decode::{effect_split, row_of, tokens_split};
 use crate::place::Place;
 use crate::table::{LineForm, RowForm};
 use rg_lts::Lts;
-use rg_net::NoMemory;
+use rg_memory::NoMemory;
 use std::alloc::Global;
 use std::mem;
 

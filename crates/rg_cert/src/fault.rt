@@ -2,7 +2,7 @@
 ghost use Rattle.std.specs.Prelude.{◌≡◌};
 ghost use Rattle.rg_cert.specs.declared.fault.CertFault.TheVariants as fault;
 
-use rg_net::NoMemory;
+use rg_memory::NoMemory;
 use std::alloc::{AllocError, AllocFailed};
 
 /// Why bytes are the text of no certificate for a system: the first fault, by line. Lines are counted from 1. Of one

@@ -20,7 +20,7 @@ pub use fault::CertFault;
 pub use laws::{certificate_is_told, one_answer};
 pub use printing::print;
 pub use reading::read;
-pub use rg_net::NoMemory;
+pub use rg_memory::NoMemory;
 pub use rg_theory::Problem;
 
 #[cfg(test)]

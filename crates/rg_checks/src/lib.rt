@@ -8,8 +8,9 @@ mod walks;
 
 pub use fork::first_fork;
 pub use laws::one_least_fork;
+pub use rg_memory::NoMemory;
 pub use unreachable::first_unreachable;
-pub use walks::{NoMemory, Step, reach};
+pub use walks::{Step, reach};
 
 #[cfg(test)]
 mod tests;

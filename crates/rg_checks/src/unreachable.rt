@@ -4,8 +4,8 @@ ghost use Rattle.rg_theory.specs.System.{IsLeastUnreachable, IsAllReachable};
 ghost use Rattle.rg_spanning.specs.Spanning.{AreEntries};
 ghost use Rattle.rg_checks.specs.First.{IsShutOut};
 
-use crate::walks::NoMemory;
 use rg_lts::Lts;
+use rg_memory::NoMemory;
 use rg_spanning::entries;
 use rg_theory::Arc;
 use std::alloc::Global;

@@ -3,25 +3,10 @@ ghost use Rattle.std.specs.Prelude.{◌≡◌, IfOk};
 ghost use Rattle.rg_checks.specs.Met.{AreSteps, step_of};
 
 use rg_lts::Lts;
+use rg_memory::NoMemory;
 use rg_spanning::entries;
 use rg_theory::Arc;
-use std::alloc::{AllocError, AllocFailed, Global};
-
-/// There is no memory left.
-#[derive(Clone, Copy, Debug, PartialEq, Eq)]
-pub struct NoMemory;
-
-impl From<AllocError> for NoMemory {
-    fn from(_: AllocError) -> NoMemory {
-        NoMemory
-    }
-}
-
-impl<T: Drop> From<AllocFailed<T>> for NoMemory {
-    fn from(_: AllocFailed<T>) -> NoMemory {
-        NoMemory
-    }
-}
+use std::alloc::Global;
 
 /// The last arc of a walk: the state that it leaves, and its label.
 #[derive(Clone, Copy, Debug, PartialEq, Eq)]

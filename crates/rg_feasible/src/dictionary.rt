@@ -9,7 +9,7 @@ ghost use Rattle.rg_feasible.specs.declared.settled.Settled.TheVariants as ends;
 ghost use Rattle.rg_feasible.specs.Settling.{IsDictionaryOf, IsWhole, IsFresh, IsOutcome, IsLeftBy, IsBasicPoint, IsFeasibleAt, IsRefutation, multiplier_with};
 
 use crate::descent::descend;
-use crate::no_memory::NoMemory;
+use rg_memory::NoMemory;
 use crate::settled::Settled;
 use crate::system::System;
 use rg_dictionary::Dictionary as Table;

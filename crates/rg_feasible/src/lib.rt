@@ -8,13 +8,12 @@
 
 mod descent;
 mod dictionary;
-mod no_memory;
 mod settled;
 mod step;
 mod system;
 
 pub use dictionary::Dictionary;
-pub use no_memory::NoMemory;
+pub use rg_memory::NoMemory;
 pub use settled::{PivotWide, Settled};
 pub use system::{Row, System};
 

@@ -4,12 +4,11 @@
 mod class_words;
 mod laws;
 mod net;
-mod no_memory;
 
 pub use class_words::class_text;
 pub use laws::{net_is_told, prefix_is_free};
 pub use net::{Net, Place};
-pub use no_memory::NoMemory;
+pub use rg_memory::NoMemory;
 pub use rg_theory::{Class, ClassFault, class_is_told};
 
 #[cfg(test)]

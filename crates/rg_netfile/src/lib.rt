@@ -8,7 +8,6 @@ mod known;
 mod labels;
 mod laws;
 mod names;
-mod no_memory;
 mod numbers;
 mod prefix;
 mod print;
@@ -19,7 +18,7 @@ mod whole;
 
 pub use fault::NetFault;
 pub use laws::{one_answer, printed_is_spelled};
-pub use no_memory::NoMemory;
+pub use rg_memory::NoMemory;
 pub use print::print_net;
 pub use whole::read_net;
 

@@ -4,7 +4,7 @@ ghost use Rattle.std.specs.List.{list_all, list_any};
 ghost use Rattle.std.specs.Char.{is_ascii_digit};
 ghost use Rattle.rg_net.specs.NetText.{blocks, candidate, place_prefix};
 
-use crate::no_memory::NoMemory;
+use rg_memory::NoMemory;
 use itoa::Buffer;
 use rg_lts::Lts;
 use std::alloc::Global;

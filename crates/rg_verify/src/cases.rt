@@ -11,9 +11,10 @@ use crate::leaves::leaf_defect;
 use crate::setting::Setting;
 use crate::side::Side;
 use crate::sums::Sums;
-use crate::verdict::{Defect, NoMemory, Verdict};
+use crate::verdict::{Defect, Verdict};
 use rg_cert::{Case, Node};
 use rg_lts::Lts;
+use rg_memory::NoMemory;
 use std::alloc::Global;
 
 /// A defect and the node that has it.

@@ -14,10 +14,11 @@ use crate::cases::case_defect;
 use crate::setting::Setting;
 use crate::standing::{has_arc, has_arc_at};
 use crate::sums::Sums;
-use crate::verdict::{Defect, NoMemory, Verdict};
+use crate::verdict::{Defect, Verdict};
 use rg_cert::{Case, Certificate, Reason};
 use rg_checks::reach;
 use rg_lts::Lts;
+use rg_memory::NoMemory;
 use rg_theory::{Arc, Class, Problem};
 use std::alloc::Global;
 

@@ -12,9 +12,10 @@ use crate::setting::Setting;
 use crate::side::Side;
 use crate::standing::stands;
 use crate::sums::{Stop, Sums};
-use crate::verdict::{Defect, NoMemory};
+use crate::verdict::Defect;
 use rg_cert::RowName;
 use rg_lts::Lts;
+use rg_memory::NoMemory;
 
 /// What is wrong with the rows of a leaf; None where they refute. The sums are the table for the leaf, and are 0 before and after.
 pub(crate) fn leaf_defect(

@@ -16,4 +16,5 @@ mod verdict;
 
 pub use judging::verify;
 pub use laws::one_verdict;
-pub use verdict::{Defect, NoMemory, Variable, Verdict};
+pub use rg_memory::NoMemory;
+pub use verdict::{Defect, Variable, Verdict};

@@ -11,9 +11,10 @@ ghost use Rattle.rg_verify.specs.Judged.{variable_of, ComesBefore};
 use crate::expression::{Expression, Term, row_expression};
 use crate::setting::Setting;
 use crate::side::Side;
-use crate::verdict::{Defect, NoMemory, Variable};
+use crate::verdict::{Defect, Variable};
 use rg_cert::RowName;
 use rg_lts::Lts;
+use rg_memory::NoMemory;
 use std::alloc::{AllocError, AllocFailed, Global};
 
 // The greatest sum of absolute values, 2^127 - 1.

@@ -3,7 +3,6 @@ ghost use Rattle.std.specs.Prelude.{◌↔◌, IsTrue};
 ghost use Rattle.rg_verify.specs.Judged.{variable_of, ComesBefore};
 
 use rg_cert::Form;
-use std::alloc::{AllocError, AllocFailed};
 
 /// An unknown of the rows: the tokens at a state, or the effect of a label. Tokens come first, by state, then effects, by
 /// label.
@@ -75,26 +74,4 @@ pub enum Verdict {
         node: u64,
         defect: Defect,
     },
-}
-
-/// There is no memory left.
-#[derive(Clone, Copy, Debug, PartialEq, Eq)]
-pub struct NoMemory;
-
-impl From<rg_checks::NoMemory> for NoMemory {
-    fn from(_: rg_checks::NoMemory) -> NoMemory {
-        NoMemory
-    }
-}
-
-impl From<AllocError> for NoMemory {
-    fn from(_: AllocError) -> NoMemory {
-        NoMemory
-    }
-}
-
-impl<T: Drop> From<AllocFailed<T>> for NoMemory {
-    fn from(_: AllocFailed<T>) -> NoMemory {
-        NoMemory
-    }
 }
