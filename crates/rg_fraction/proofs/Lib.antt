@@ -2,5 +2,6 @@ pub mod Parts
 pub mod DivisorCasts
 pub mod Forms
 pub mod Outcomes
+pub mod Wholes
 pub mod Orders
 pub mod Floors

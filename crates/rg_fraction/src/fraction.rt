@@ -8,7 +8,7 @@ ghost use Rattle.rg_fraction.specs.Terms.{term_value, ProductIsReduced};
 
 use crate::divisor::{quotient, split};
 use crate::order::compare;
-use crate::term::Wide;
+use crate::term::{Wide, difference, product};
 use std::cmp::Ordering;
 
 /// A rational number: a numerator and a denominator in range, without a common factor, the
@@ -64,7 +64,7 @@ fn signed(top: i128, bottom: i128) -> Fraction
 }
 
 impl Fraction {
-    ghost use Rattle.rg_fraction.specs.Fractions.{numerator_of, denominator_of, IsValue, IsFormed, IsSum, IsProduct, ShowsProduct};
+    ghost use Rattle.rg_fraction.specs.Fractions.{numerator_of, denominator_of, IsValue, Shows, IsFormed, IsSum, IsProduct, ShowsProduct};
 
     /// The fraction with the value of `n` over `d`.
     pub fn new(n: i128, d: i128) -> Fraction
@@ -93,6 +93,52 @@ impl Fraction {
         Ok(Fraction::new(n, d))
     }
 
+    // The whole number as a fraction.
+    fn whole(n: i128) -> Fraction
+        requires { InRange n }
+        ensures { Shows result n (pos 1) }
+    {
+        Fraction {
+            numerator: n,
+            denominator: 1,
+        }
+    }
+
+    // The sum of two whole numbers: one difference, and no divisor is sought.
+    fn whole_sum(n: i128, m: i128) -> Result<Fraction, Wide>
+        requires first { InRange n }
+        requires second { InRange m }
+        ensures { IsSum n (pos 1) m (pos 1) result }
+    {
+        let c = negated(m);
+        match difference(n, c) {
+            Some(z) => Ok(Fraction::whole(z)),
+            None => Err(Wide {
+                a: n,
+                b: 1,
+                c,
+                d: 1,
+            }),
+        }
+    }
+
+    // The product of two whole numbers: no divisor is sought.
+    fn whole_product(n: i128, m: i128) -> Result<Fraction, Wide>
+        requires first { InRange n }
+        requires second { InRange m }
+        ensures { IsProduct n (pos 1) m (pos 1) result }
+    {
+        match product(n, m) {
+            Some(z) => Ok(Fraction::whole(z)),
+            None => Err(Wide {
+                a: n,
+                b: m,
+                c: 0,
+                d: 0,
+            }),
+        }
+    }
+
     /// The sum `n/d + m/e`. With the greatest common divisor `g` of `d` and `e` it forms the
     /// numerator `n*(e/g) - (-m)*(d/g)` and the denominator `(d/g)*e`, and is refused exactly where
     /// one of them passes. A numerator that passes is shown as `n`, `e/g`, `-m`, `d/g`, a
@@ -100,6 +146,9 @@ impl Fraction {
     pub fn add(self, o: Fraction) -> Result<Fraction, Wide>
         ensures { IsSum (numerator_of self) (denominator_of self) (numerator_of o) (denominator_of o) result }
     {
+        if self.is_whole() && o.is_whole() {
+            return Fraction::whole_sum(self.numerator, o.numerator);
+        }
         let (d, e) = split(self.denominator, o.denominator);
         let m = negated(o.numerator);
         Fraction::over(
@@ -146,6 +195,9 @@ impl Fraction {
         ensures numbers { ShowsProduct (numerator_of self) (denominator_of self) (numerator_of o) (denominator_of o) result }
         ensures reduced { ProductIsReduced (numerator_of self) (denominator_of self) (numerator_of o) (denominator_of o) }
     {
+        if self.is_whole() && o.is_whole() {
+            return Fraction::whole_product(self.numerator, o.numerator);
+        }
         let (n, e) = split(self.numerator, o.denominator);
         let (m, d) = split(o.numerator, self.denominator);
         Fraction::over(

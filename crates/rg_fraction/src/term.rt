@@ -44,7 +44,7 @@ fn short_product(a: i64, b: i64) -> i128
 }
 
 // The product, where it is in range.
-fn product(a: i128, b: i128) -> Option<i128>
+pub(crate) fn product(a: i128, b: i128) -> Option<i128>
     ensures { SomeIff result (InRange (a *ℤ b)) (a *ℤ b) }
 {
     if let Ok(x) = i64::try_from(a)
@@ -59,7 +59,7 @@ fn product(a: i128, b: i128) -> Option<i128>
 }
 
 // The difference, where it is in range.
-fn difference(a: i128, b: i128) -> Option<i128>
+pub(crate) fn difference(a: i128, b: i128) -> Option<i128>
     ensures { SomeIff result (InRange (a -ℤ b)) (a -ℤ b) }
 {
     match a.checked_sub(b) {

@@ -1,3 +1,5 @@
+use Rattle.std.proofs.Common.{rules}
+use Rattle.rg_fraction.specs.Fractions.{IsProduct}
 use Rattle.rg_integers.proofs.Casts.{back}
 use Rattle.rg_integers.proofs.Order.{positive_differs}
 use Rattle.rg_fraction.proofs.Forms.{product-positive, product_form}
@@ -43,5 +45,16 @@ returns-clause-numbers c =
 
 pub returns-clause-reduced : goal.returns-clause-reduced
 returns-clause-reduced c =
+    product_form c.args.self.numerator c.args.self.denominator c.args.o.numerator c.args.o.denominator c.args.self.positive c.args.o.positive
+    c.args.self.reduced c.args.o.reduced
+
+pub returns-then-is_whole-2-clause-numbers : goal.returns-then-is_whole-2-clause-numbers
+returns-then-is_whole-2-clause-numbers c =
+    let p : IsProduct c.args.self.numerator c.args.self.denominator c.args.o.numerator c.args.o.denominator c.whole_product.result = search rules in
+    product_shows c.args.self.numerator c.args.self.denominator c.args.o.numerator c.args.o.denominator c.whole_product.result
+    c.args.self.positive c.args.o.positive c.args.self.reduced c.args.o.reduced p
+
+pub returns-then-is_whole-2-clause-reduced : goal.returns-then-is_whole-2-clause-reduced
+returns-then-is_whole-2-clause-reduced c =
     product_form c.args.self.numerator c.args.self.denominator c.args.o.numerator c.args.o.denominator c.args.self.positive c.args.o.positive
     c.args.self.reduced c.args.o.reduced
