@@ -1,37 +1,15 @@
 -- Sums and products of whole numbers: the terms of fractions over 1.
 use Rattle.std.proofs.Common.{◌≡◌, ℕ, ◌<◌, ◌^◌, ◌⊎◌, inl, Result, Ok, Err, ap, refl, sym, subst, arith}
 use Rattle.std.specs.Prelude.{◌%◌, ℤ, pos, neg_ℤ, ◌+ℤ◌, ◌-ℤ◌, ◌*ℤ◌, unsigned_abs, int_div}
-use Rattle.std.specs.Int.{IsGcd}
 use Rattle.std.proofs.lemmas.Int.{ints}
-use Rattle.std.proofs.lemmas.Nat.Gcd.{IsGcd-from_mod, IsGcd-from_zero}
 use Rattle.rg_integers.specs.Range.{InRange, Fits}
 use Rattle.rg_integers.specs.Divisor.{int_gcd}
-use Rattle.rg_integers.proofs.Divisors.{gcd_of-only, exact}
 use Rattle.rg_integers.specs.Value.{SameValue}
 use Rattle.rg_fraction.specs.declared.term.Wide.{Wide}
 use Rattle.rg_fraction.specs.declared.fraction.Fraction.{Fraction}
 use Rattle.rg_fraction.specs.Terms.{FitsTerm, product_term, sum_top, sum_bottom, product_top, product_bottom}
 use Rattle.rg_fraction.specs.Fractions.{Shows, IsSum, IsProduct}
-
--- 1 has no common factor with any number
-pub one_is_reduced : (n : ℕ) → IsGcd n 1 1
-one_is_reduced n = IsGcd-from_mod n 1 1 (IsGcd-from_zero 1 (n % 1) (omega arith))
-
-gcd_with_one : (z : ℤ) → int_gcd z (pos 1) ≡ pos 1
-gcd_with_one z = ap pos (sym (gcd_of-only (unsigned_abs z) 1 1 (one_is_reduced (unsigned_abs z))))
-
-over_one : (z : ℤ) → int_div z (pos 1) ≡ z
-over_one z = by (exact z (pos 1) (one_is_reduced (unsigned_abs z)).0)
-  where
-    by : int_div z (pos 1) *ℤ pos 1 ≡ z → int_div z (pos 1) ≡ z
-    by e = omega (arith, ints)
-
--- the parts of z and of 1 without their common factor
-first_part : (z : ℤ) → int_div z (int_gcd z (pos 1)) ≡ z
-first_part z = subst (λ g. int_div z g ≡ z) (sym (gcd_with_one z)) (over_one z)
-
-second_part : (z : ℤ) → int_div (pos 1) (int_gcd z (pos 1)) ≡ pos 1
-second_part z = subst (λ g. int_div (pos 1) g ≡ pos 1) (sym (gcd_with_one z)) refl
+use Rattle.rg_fraction.proofs.Ones.{first_part, second_part}
 
 -- ---- the terms
 

@@ -94,6 +94,9 @@ pub(crate) fn split(a: i128, b: i128) -> (i128, i128)
     ensures first_in_range { InRange result.0 }
     ensures second_in_range { InRange result.1 }
 {
+    if b == 1 {
+        return (a, 1);
+    }
     let g = gcd(a, b);
     let x = part(a, g);
     let y = part(b, g);

@@ -73,6 +73,9 @@ impl Fraction {
         requires nonzero { d ≢ pos 0 }
         ensures { IsValue result n d }
     {
+        if d == 1 {
+            return Fraction::whole(n);
+        }
         let (top, bottom) = split(n, d);
         signed(top, bottom)
     }

@@ -1,6 +1,6 @@
 use Rattle.std.proofs.Common.{arith}
 use Rattle.rg_integers.proofs.Casts.{back}
-use Rattle.rg_fraction.proofs.Wholes.{one_is_reduced}
+use Rattle.rg_fraction.proofs.Ones.{one_is_reduced}
 use Rattle.rg_fraction.proofs.fraction.Fraction.whole.Goals as goal
 
 pub invariant_of-result : goal.invariant_of-result
