@@ -96,6 +96,26 @@ impl Fraction {
         Ok(Fraction::new(n, d))
     }
 
+    // The first term over the second, which have no common factor, or the first of them that passes.
+    fn of_reduced(top: Wide, bottom: Wide) -> Result<Fraction, Wide>
+        requires positive { pos 0 <ℤ term_value bottom }
+        requires reduced { IsGcd (unsigned_abs (term_value top)) (unsigned_abs (term_value bottom)) 1 }
+        ensures { IsFormed top bottom (term_value top) (term_value bottom) result }
+    {
+        let numerator = match top.evaluate() {
+            Ok(n) => n,
+            Err(w) => return Err(w),
+        };
+        let denominator = match bottom.evaluate() {
+            Ok(d) => d,
+            Err(w) => return Err(w),
+        };
+        Ok(Fraction {
+            numerator,
+            denominator,
+        })
+    }
+
     // The whole number as a fraction.
     fn whole(n: i128) -> Fraction
         requires { InRange n }
@@ -203,7 +223,7 @@ impl Fraction {
         }
         let (n, e) = split(self.numerator, o.denominator);
         let (m, d) = split(o.numerator, self.denominator);
-        Fraction::over(
+        Fraction::of_reduced(
             Wide {
                 a: n,
                 b: m,
