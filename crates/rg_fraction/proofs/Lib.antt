@@ -3,6 +3,7 @@ pub mod DivisorCasts
 pub mod Forms
 pub mod Outcomes
 pub mod Ones
+pub mod Twos
 pub mod Wholes
 pub mod Orders
 pub mod Floors

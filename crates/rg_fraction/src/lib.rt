@@ -3,6 +3,7 @@
 //! is refused and shows the four numbers that it would be formed from.
 #![tactic(auto)]
 
+mod binary;
 mod divisor;
 mod fraction;
 mod order;
