@@ -5,24 +5,26 @@ ghost use Rattle.std.specs.Int.{IsGcd, ◌∣◌};
 ghost use Rattle.rg_integers.specs.Range.{InRange};
 ghost use Rattle.rg_integers.specs.Divisor.{int_gcd};
 
-// The greatest common divisor of `a` and `b`.
+use crate::binary::binary_gcd;
+
+// The greatest common divisor of `a` and `b`: in 64 bits where both fit there, or one of them does and so the
+// remainder by it.
 pub(crate) fn gcd_of_sizes(a: u128, b: u128) -> u128
     ensures greatest { IsGcd a b result }
     ensures bound { result ≤ max a b }
 {
-    let mut x = a;
-    let mut y = b;
-    while y != 0 {
-        if let Ok(p) = u64::try_from(x)
-            && let Ok(q) = u64::try_from(y)
-        {
-            return u128::from(gcd_of_words(p, q));
-        }
-        let rest = x % y;
-        x = y;
-        y = rest;
+    if a == 0 {
+        return b;
     }
-    x
+    if b == 0 {
+        return a;
+    }
+    match (u64::try_from(a), u64::try_from(b)) {
+        (Ok(p), Ok(q)) => u128::from(gcd_of_words(p, q)),
+        (Err(_), Ok(q)) => u128::from(gcd_of_words(q, (a % b) as u64)),
+        (Ok(p), Err(_)) => u128::from(gcd_of_words(p, (b % a) as u64)),
+        (Err(_), Err(_)) => binary_gcd(a, b),
+    }
 }
 
 // The same for numbers of 64 bits.
