@@ -1,6 +1,7 @@
 pub mod Potentials
 pub mod ChordRows
 pub mod FoldLemmas
+pub mod Zeros
 pub mod OneResult
 pub mod RowValues
 pub mod Scaling

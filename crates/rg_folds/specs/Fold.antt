@@ -3,6 +3,7 @@ use Rattle.std.specs.Prelude.{◌≡◌, ◌≢◌, ◌⊎◌, Bool, true, false
 use Rattle.std.specs.Int.{IsGcd}
 use Rattle.rg_fraction.specs.declared.term.Wide.{Wide}
 use Rattle.rg_fraction.specs.declared.fraction.Fraction.{Fraction}
+use Rattle.rg_integers.specs.Range.{InRange}
 use Rattle.rg_integers.specs.Value.{SameValue}
 use Rattle.rg_fraction.specs.Terms.{FitsTerm, term_value, FirstPasses, sum_top, sum_bottom, product_top, product_bottom}
 use Rattle.rg_integers.specs.Divisor.{int_gcd}
@@ -69,6 +70,13 @@ pub record IsRatio (f : Ratio) (n d : ℤ) : Type 0 where
   pub positive : pos 0 <ℤ f.bottom
   pub reduced : IsGcd (unsigned_abs f.top) (unsigned_abs f.bottom) 1
   pub value : SameValue f.top f.bottom n d
+
+-- a reduced number, with numbers in range
+pub record IsWithin (f : Ratio) : Type 0 where
+  pub positive : pos 0 <ℤ f.bottom
+  pub reduced : IsGcd (unsigned_abs f.top) (unsigned_abs f.bottom) 1
+  pub top_in_range : InRange f.top
+  pub bottom_in_range : InRange f.bottom
 
 -- n over d, which is never out of range
 abbrev pub quotient : ℤ → ℤ → Result Ratio Wide → Type 0

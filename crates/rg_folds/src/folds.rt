@@ -1,15 +1,16 @@
 //! Each fold has one result, so a call whose value or shown numbers are a result of its fold answers
 //! exactly.
 
-ghost use Rattle.std.specs.Prelude.{◌≡◌, ◌≢◌, ℕ, ℤ, List, Ok, Result, pos};
+ghost use Rattle.std.specs.Prelude.{◌≡◌, ◌≢◌, ℕ, ℤ, List, ◌∷◌, Ok, Result, pos};
 ghost use Rattle.rg_theory.specs.System.{System};
+ghost use Rattle.rg_integers.specs.Range.{InRange};
 ghost use Rattle.rg_refuting.specs.Expression.{Expression};
 ghost use Rattle.rg_refuting.specs.Row.{RowName, Side};
 ghost use Rattle.rg_linear.specs.Branching.{Weight, SplitSide};
 ghost use Rattle.rg_fraction.specs.Fractions.{numerator_of, denominator_of, IsValue, IsSum, IsProduct};
-ghost use Rattle.rg_folds.specs.Fold.{IsOne, Ratio, ratio_of, shown_result, quotient, term, add, mul, multiple_of_all};
+ghost use Rattle.rg_folds.specs.Fold.{IsOne, Ratio, whole, ratio_of, shown_result, and_then, further, quotient, term, add, mul, multiple_of_all};
 ghost use Rattle.rg_linear.specs.Cycle.{CycleBasis};
-ghost use Rattle.rg_folds.specs.Rewriting.{substitute_fold, row_fold, CaseSystem, system_fold};
+ghost use Rattle.rg_folds.specs.Rewriting.{dependent_term, substitute_fold, row_fold, CaseSystem, system_fold};
 ghost use Rattle.rg_folds.specs.Placing.{place_fold};
 ghost use Rattle.rg_folds.specs.Spreading.{Share, leaf_fold, spread_fold};
 
@@ -30,6 +31,16 @@ pub fn calls_are_steps()
     ensures new { (f : Fraction) (n d : ℤ) → d ≢ pos 0 → IsValue f n d → quotient n d (Ok (ratio_of f)) }
     ensures add { (f g : Fraction) (r : Result Fraction Wide) → IsSum (numerator_of f) (denominator_of f) (numerator_of g) (denominator_of g) r → add (ratio_of f) (ratio_of g) (shown_result ratio_of r) }
     ensures mul { (f g : Fraction) (r : Result Fraction Wide) → IsProduct (numerator_of f) (denominator_of f) (numerator_of g) (denominator_of g) r → mul (ratio_of f) (ratio_of g) (shown_result ratio_of r) }
+{}
+
+/// A count of 0 and an entry of 0 make a term of value 0, which is never out of range and leaves a sum as it is. So a fold
+/// that sums may pass over such items.
+pub fn zeros_add_nothing()
+    ensures count { (n d : ℤ) → d ≢ pos 0 → InRange n → InRange d → and_then (quotient n d) (mul (whole (pos 0))) (Ok (whole (pos 0))) }
+    ensures entry { (d count : ℤ) → d ≢ pos 0 → InRange count → and_then (quotient (pos 0) d) (mul (whole count)) (Ok (whole (pos 0))) }
+    ensures sum { (f : Fraction) → add (ratio_of f) (whole (pos 0)) (Ok (ratio_of f)) }
+    ensures coefficient { (basis : CycleBasis) (counts : ℕ → ℤ) (f t : ℕ) (rest : List ℕ) (sum : Fraction) (r : Result Ratio Wide) → dependent_term basis counts f t (Ok (whole (pos 0)))
+        → further add (dependent_term basis counts f) (ratio_of sum) rest r → further add (dependent_term basis counts f) (ratio_of sum) (t ∷ rest) r }
 {}
 
 /// The folds of rows, of a case's system, of a place and of a leaf have one result at most each.

@@ -1,5 +1,5 @@
 //! The laws are called as any function is, and do nothing.
-use crate::folds::{calls_are_steps, folds_are_one, steps_are_one};
+use crate::folds::{calls_are_steps, folds_are_one, steps_are_one, zeros_add_nothing};
 use crate::rows::{expression_is_rewritten, row_is_exact, system_is_exact};
 use crate::shown::shown_is_one;
 use crate::spanning::{basis_is_exact, chords_are_exact, tree_is_one, ways_are_one};
@@ -9,6 +9,7 @@ fn laws_are_called(_rt: HostRuntime) {
     steps_are_one();
     calls_are_steps();
     folds_are_one();
+    zeros_add_nothing();
     tree_is_one();
     ways_are_one();
     chords_are_exact();

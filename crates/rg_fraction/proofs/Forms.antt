@@ -23,10 +23,10 @@ product_term-positive x y h k = rw (product_term_is x y) (mul_positive x y h k)
 
 -- ---- quotients by the greatest common divisor
 
-left_exact : (a b : ℤ) → int_div a (int_gcd a b) *ℤ int_gcd a b ≡ a
+pub left_exact : (a b : ℤ) → int_div a (int_gcd a b) *ℤ int_gcd a b ≡ a
 left_exact a b = exact a (int_gcd a b) (gcd_of-is (unsigned_abs a) (unsigned_abs b)).0
 
-right_exact : (a b : ℤ) → int_div b (int_gcd a b) *ℤ int_gcd a b ≡ b
+pub right_exact : (a b : ℤ) → int_div b (int_gcd a b) *ℤ int_gcd a b ≡ b
 right_exact a b = exact b (int_gcd a b) (gcd_of-is (unsigned_abs a) (unsigned_abs b)).1
 
 divisor_not_negative : (a b : ℤ) → pos 0 ≤ℤ int_gcd a b
@@ -35,13 +35,13 @@ divisor_not_negative a b = above (gcd_of (unsigned_abs a) (unsigned_abs b))
     above : (n : ℕ) → pos 0 ≤ℤ pos n
     above n = omega (arith, ints)
 
-left_positive : (a b : ℤ) → pos 0 <ℤ a → pos 0 <ℤ int_div a (int_gcd a b)
+pub left_positive : (a b : ℤ) → pos 0 <ℤ a → pos 0 <ℤ int_div a (int_gcd a b)
 left_positive a b h = quotient_positive (int_div a (int_gcd a b)) (int_gcd a b) a (divisor_not_negative a b) (left_exact a b) h
 
-right_positive : (a b : ℤ) → pos 0 <ℤ b → pos 0 <ℤ int_div b (int_gcd a b)
+pub right_positive : (a b : ℤ) → pos 0 <ℤ b → pos 0 <ℤ int_div b (int_gcd a b)
 right_positive a b h = quotient_positive (int_div b (int_gcd a b)) (int_gcd a b) b (divisor_not_negative a b) (right_exact a b) h
 
-quotients_reduced : (a b : ℤ) → b ≢ pos 0 → IsGcd (unsigned_abs (int_div a (int_gcd a b))) (unsigned_abs (int_div b (int_gcd a b))) 1
+pub quotients_reduced : (a b : ℤ) → b ≢ pos 0 → IsGcd (unsigned_abs (int_div a (int_gcd a b))) (unsigned_abs (int_div b (int_gcd a b))) 1
 quotients_reduced a b ne =
     parts_reduced a b (int_gcd a b) _ _ (gcd_of-is (unsigned_abs a) (unsigned_abs b)) (positive_differs (int_gcd a b) (int_gcd_positive a b ne))
     (left_exact a b) (right_exact a b)
