@@ -154,6 +154,23 @@ module _ (labels : ℕ) (cycle : CycleBasis) (counts : List ℤ) (f : ℕ) (sum 
     pub sum_passes : (x : Ratio) (w : Wide) → dependent_term cycle (number_at counts) f t (Ok x) → add sum x (Err w) → coefficient_fold labels cycle (number_at counts) f (Err w)
     sum_passes x w made joins = at (Err w) (further_unjoined add (dependent_term cycle (number_at counts) f) t (numbers_where (λ u. not (is_in cycle.members u)) (t + 1) (labels - (t + 1))) sum x w made joins)
 
+    -- what the label adds to the sum, in one step
+    pub leads_with : (s : Ratio) → and_then (dependent_term cycle (number_at counts) f t) (add sum) (Ok s) → Leads labels cycle counts f s (t + 1)
+    leads_with s (x, made, joins) = leads_on x s made joins
+
+    pub passes_with : (w : Wide) → and_then (dependent_term cycle (number_at counts) f t) (add sum) (Err w) → coefficient_fold labels cycle (number_at counts) f (Err w)
+    passes_with w (inl made) = term_passes w made
+    passes_with w (inr (x, made, joins)) = sum_passes x w made joins
+
+-- what a label adds to a sum, by the numbers that its relation shows
+pub stepped : (labels : ℕ) (cycle : CycleBasis) (counts : List ℤ) (t place : ℕ) (rel : Relation) (count : ℤ) (sum : Ratio) (r : Result Ratio Wide)
+    → ShowsRelation labels cycle t rel → place < length (free_labels labels cycle) → count ≡ number_at counts t
+    → and_then (and_then (quotient (number_at rel.free.items place) rel.d) (mul (whole count))) (add sum) r
+    → and_then (dependent_term cycle (number_at counts) (slice_index (free_labels labels cycle) place) t) (add sum) r
+stepped labels cycle counts t place rel count sum (Ok y) shows lt same (x, made, joins) = (x, term_is labels cycle counts t place rel count (Ok x) shows lt same made, joins)
+stepped labels cycle counts t place rel count sum (Err w) shows lt same (inl made) = inl (term_is labels cycle counts t place rel count (Err w) shows lt same made)
+stepped labels cycle counts t place rel count sum (Err w) shows lt same (inr (x, made, joins)) = inr (x, term_is labels cycle counts t place rel count (Ok x) shows lt same made, joins)
+
 -- ---- the coefficients, place by place
 
 module _ {X : Type 0} (make : ℕ → Result X Wide → Type 0) (all : List ℕ) (i : ℕ) (xs : List X) (so_far : (r : Result (List X) Wide) → each make (drop i all) r → each make all (behind xs r)) where

@@ -3,7 +3,7 @@ ghost use Rattle.std.specs.Prelude.{◌≡◌, ℕ, ◌<◌, map, length, slice_
 ghost use Rattle.rg_integers.specs.Range.{InRange};
 ghost use Rattle.rg_integers.specs.Sum.{number_at};
 ghost use Rattle.rg_fraction.specs.declared.term.Wide.{Wide};
-ghost use Rattle.rg_folds.specs.Fold.{whole, ratio_of, shown_result, quotient, mul, and_then};
+ghost use Rattle.rg_folds.specs.Fold.{whole, ratio_of, shown_result, quotient, add, mul, and_then};
 ghost use Rattle.rg_folds.specs.Rewriting.{free_labels, coefficient_fold, substitute_fold};
 ghost use Rattle.rg_cycles.specs.declared.substitution.FoldStop.TheVariants as stop;
 ghost use Rattle.rg_cycles.specs.Basis.{IsRelationInRange};
@@ -86,11 +86,33 @@ fn coefficient(basis: &Basis, counts: &[i128], place: usize) -> Result<Fraction,
     let mut sum = Fraction::new(counts[own as usize], 1);
     for (t, &count) in counts.iter().enumerate() {
         if let Some(relation) = basis.relation(t as u32) {
-            let term = term_of(relation, count, place)?;
-            sum = sum.add(term)?;
+            sum = with_term(sum, relation, count, place)?;
         }
     }
     Ok(sum)
+}
+
+// The sum with what a label with this relation and this count adds to the coefficient of the free label at this place. A
+// count of 0 and a number of 0 add nothing.
+fn with_term(
+    sum: Fraction,
+    relation: &Relation,
+    count: i128,
+    place: usize,
+) -> Result<Fraction, Wide>
+    requires place { place < length relation.now.free.items }
+    requires count_in_range { InRange count }
+    requires relation_in_range { IsRelationInRange relation.now }
+    ensures { and_then (and_then (quotient (number_at relation.now.free.items place) relation.now.d) (mul (whole count))) (add (ratio_of sum)) (shown_result ratio_of result) }
+{
+    if count == 0 {
+        return Ok(sum);
+    }
+    if relation.free[place] == 0 {
+        return Ok(sum);
+    }
+    let term = term_of(relation, count, place)?;
+    sum.add(term)
 }
 
 // What a label with this relation and this count adds to the coefficient of the free label at this place.

@@ -48,12 +48,16 @@ positive_quotient n d h hn hd = (
 )
 
 turned_quotient : (n d : ℤ) → d ≢ pos 0 → SomeQuotient (neg_ℤ n) (neg_ℤ d) → SomeQuotient n d
-turned_quotient n d ne (k, h, within) = (k, record {
-  nonzero = ne;
-  positive = h.positive;
-  reduced = h.reduced;
-  value = back k.top k.bottom h.value;
-}, within)
+turned_quotient n d ne (k, h, within) = (
+  k,
+  record {
+    nonzero = ne;
+    positive = h.positive;
+    reduced = h.reduced;
+    value = back k.top k.bottom h.value;
+  },
+  within,
+)
   where
     twice : (z : ℤ) → neg_ℤ (neg_ℤ z) ≡ z
     twice z = omega (arith, ints)

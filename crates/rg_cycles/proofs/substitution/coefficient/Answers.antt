@@ -4,11 +4,10 @@ use Rattle.rg_integers.specs.Sum.{number_at}
 use Rattle.rg_integers.proofs.Casts.{back}
 use Rattle.rg_folds.specs.Fold.{ratio_of, shown_result}
 use Rattle.rg_folds.specs.Rewriting.{free_labels}
-use Rattle.rg_folds.proofs.FoldLemmas.{add_step}
 use Rattle.rg_cycles.specs.View.{labels_of, cycle_of}
-use Rattle.rg_cycles.proofs.Folding.{whole_is, term_is, free_below, leads_start, leads_end, leads_past_free, leads_on, term_passes, sum_passes}
+use Rattle.rg_cycles.proofs.Folding.{whole_is, free_below, leads_start, leads_end, leads_past_free, leads_with, passes_with, stepped}
 use Rattle.rg_cycles.proofs.substitution.coefficient.Goals as goal
-use Rattle.rg_cycles.proofs.substitution.coefficient.Goals.{in-Some+in_ok-term+in_ok-sum, in_default}
+use Rattle.rg_cycles.proofs.substitution.coefficient.Goals.{in-Some+in_ok-sum, in_default}
 
 pub bounds-counts-own : goal.bounds-counts-own
 bounds-counts-own c = rw (c.free.ensures, c.requires.counts) (free_below (labels_of c.args.basis.now) (cycle_of c.args.basis.now) c.args.place c.requires.place)
@@ -28,22 +27,14 @@ loop-t-init c =
     let v = rw (c.free.ensures, z) at c.new-sum.ensures in
     leads_start (labels_of c.args.basis.now) (cycle_of c.args.basis.now) c.args.counts.now f (ratio_of c.new-sum.result) (whole_is c.new-sum.result _ v)
 
-pub returns-in_err-term : goal.returns-in_err-term
-returns-in_err-term c =
-    let f = slice_index (free_labels (labels_of c.args.basis.now) (cycle_of c.args.basis.now)) c.args.place in
-    let same : c.from_residual.result ≡ Err c.in_err-term.field-0.0 = search rules in
-    let z = back (number_at c.args.counts.now c.loop-t.t) (c.requires.in_range c.loop-t.t c.loop-t-test.true) in
-    let term = term_is (labels_of c.args.basis.now) (cycle_of c.args.basis.now) c.args.counts.now c.loop-t.t c.args.place c.in-Some.relation.now _ (shown_result ratio_of c.term_of.result) c.in-Some.ensures.exact.1 c.requires.place z c.term_of.ensures in
-    rw same (term_passes (labels_of c.args.basis.now) (cycle_of c.args.basis.now) c.args.counts.now f (ratio_of c.loop-t.sum) c.loop-t.t c.loop-t.invariant (subst (λ n. c.loop-t.t < n) c.requires.counts c.loop-t-test.true) c.in-Some.ensures.exact.0 c.in_err-term.field-0.0 (rw c.in_err-term.was at term))
-
 pub returns-in_err-sum : goal.returns-in_err-sum
 returns-in_err-sum c =
     let f = slice_index (free_labels (labels_of c.args.basis.now) (cycle_of c.args.basis.now)) c.args.place in
-    let same : c.from_residual-in_err-sum.result ≡ Err c.in_err-sum.field-0.0 = search rules in
+    let same : c.from_residual.result ≡ Err c.in_err-sum.field-0.0 = search rules in
     let z = back (number_at c.args.counts.now c.loop-t.t) (c.requires.in_range c.loop-t.t c.loop-t-test.true) in
-    let term = term_is (labels_of c.args.basis.now) (cycle_of c.args.basis.now) c.args.counts.now c.loop-t.t c.args.place c.in-Some.relation.now _ (shown_result ratio_of c.term_of.result) c.in-Some.ensures.exact.1 c.requires.place z c.term_of.ensures in
-    let sum = add_step c.loop-t.sum c.in_ok-term.term c.add.result c.add.ensures in
-    rw same (sum_passes (labels_of c.args.basis.now) (cycle_of c.args.basis.now) c.args.counts.now f (ratio_of c.loop-t.sum) c.loop-t.t c.loop-t.invariant (subst (λ n. c.loop-t.t < n) c.requires.counts c.loop-t-test.true) c.in-Some.ensures.exact.0 (ratio_of c.in_ok-term.term) c.in_err-sum.field-0.0 (rw c.in_ok-term.was at term) (rw c.in_err-sum.was at sum))
+    let lt = subst (λ n. c.loop-t.t < n) c.requires.counts c.loop-t-test.true in
+    let step = stepped (labels_of c.args.basis.now) (cycle_of c.args.basis.now) c.args.counts.now c.loop-t.t c.args.place c.in-Some.relation.now _ (ratio_of c.loop-t.sum) (shown_result ratio_of c.with_term.result) c.in-Some.ensures.exact.1 c.requires.place z c.with_term.ensures in
+    rw same (passes_with (labels_of c.args.basis.now) (cycle_of c.args.basis.now) c.args.counts.now f (ratio_of c.loop-t.sum) c.loop-t.t c.loop-t.invariant lt c.in-Some.ensures.exact.0 c.in_err-sum.field-0.0 (rw c.in_err-sum.was at step))
 
 pub loop-t-preserved : goal.loop-t-preserved
 loop-t-preserved c =
@@ -51,10 +42,9 @@ loop-t-preserved c =
     let z = back (number_at c.args.counts.now c.loop-t.t) (c.requires.in_range c.loop-t.t c.loop-t-test.true) in
     let lt = subst (λ n. c.loop-t.t < n) c.requires.counts c.loop-t-test.true in
     elim c.match-relation.branch [
-      | in-Some+in_ok-term+in_ok-sum w ↦
-          let term = term_is (labels_of c.args.basis.now) (cycle_of c.args.basis.now) c.args.counts.now c.loop-t.t c.args.place w.in-Some.relation.now _ (shown_result ratio_of w.term_of.result) w.in-Some.ensures.exact.1 c.requires.place z w.term_of.ensures in
-          let sum = add_step c.loop-t.sum w.in_ok-term.term w.add.result w.add.ensures in
-          rw w.sum-is (leads_on (labels_of c.args.basis.now) (cycle_of c.args.basis.now) c.args.counts.now f (ratio_of c.loop-t.sum) c.loop-t.t c.loop-t.invariant lt w.in-Some.ensures.exact.0 (ratio_of w.in_ok-term.term) (ratio_of w.in_ok-sum.sum) (rw w.in_ok-term.was at term) (rw w.in_ok-sum.was at sum))
+      | in-Some+in_ok-sum w ↦
+          let step = stepped (labels_of c.args.basis.now) (cycle_of c.args.basis.now) c.args.counts.now c.loop-t.t c.args.place w.in-Some.relation.now _ (ratio_of c.loop-t.sum) (shown_result ratio_of w.with_term.result) w.in-Some.ensures.exact.1 c.requires.place z w.with_term.ensures in
+          rw w.sum-is (leads_with (labels_of c.args.basis.now) (cycle_of c.args.basis.now) c.args.counts.now f (ratio_of c.loop-t.sum) c.loop-t.t c.loop-t.invariant lt w.in-Some.ensures.exact.0 (ratio_of w.in_ok-sum.sum) (rw w.in_ok-sum.was at step))
       | in_default w ↦ rw w.sum-is (leads_past_free (labels_of c.args.basis.now) (cycle_of c.args.basis.now) c.args.counts.now f (ratio_of c.loop-t.sum) c.loop-t.t c.loop-t.invariant lt w.in_default.ensures.exact)
     ]
 

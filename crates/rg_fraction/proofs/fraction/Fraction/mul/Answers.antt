@@ -5,7 +5,6 @@ use Rattle.rg_fraction.proofs.Forms.{product-positive, product_form}
 use Rattle.rg_fraction.proofs.Outcomes.{product_formed, product_shows}
 use Rattle.rg_fraction.proofs.fraction.Fraction.mul.Goals as goal
 
-
 pub returns-clause-product : goal.returns-clause-product
 returns-clause-product c =
     let n = back c.args.self.numerator c.args.self.numerator_in_range in
@@ -73,5 +72,5 @@ of_reduced-requires-clause-reduced c =
     let vx = rw (m, d) at c.split-m.ensures.first in
     let vy = rw (m, d) at c.split-m.ensures.second in
     let form = product_form c.args.self.numerator c.args.self.denominator c.args.o.numerator c.args.o.denominator c.args.self.positive c.args.o.positive
-        c.args.self.reduced c.args.o.reduced in
+    c.args.self.reduced c.args.o.reduced in
     rw (a, x, y, b, va, vx, vy, vb) form.reduced
