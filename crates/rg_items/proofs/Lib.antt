@@ -2,7 +2,6 @@ pub mod Printed
 pub mod Names
 pub mod Refusals
 pub mod Described
-pub mod Left
 pub mod Moves
 pub mod Lists
 pub mod Complete

@@ -3,7 +3,7 @@ ghost use Rattle.std.specs.Prelude.{◌≡◌, ◌≢◌, ◌≤◌, ◌<◌, []
 ghost use Rattle.rg_lexer.specs.Lexeme.{Lexeme};
 ghost use Rattle.rg_theory.specs.System.{labels};
 ghost use Rattle.rg_items.specs.Entry.{IsNameOf};
-ghost use Rattle.rg_items.specs.Faults.{faults_after, IsFirst, AreNone};
+ghost use Rattle.rg_text.specs.Faults.{faults_after, IsFirst, AreNone};
 ghost use Rattle.rg_netitems.specs.Contents.{Transition};
 ghost use Rattle.rg_netitems.specs.FoundView.{places_in, transitions_in, found_in, IsTransitionOf, HoldsNames};
 ghost use Rattle.rg_netfile.specs.Contents.{most_places, place_fault, transition_fault, name_faults, faults, IsNetOf};

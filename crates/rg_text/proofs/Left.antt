@@ -1,7 +1,7 @@
 -- Going over a list of faults: what is left of it.
 use Rattle.std.proofs.Common.{◌≡◌, ◌⊎◌, inl, inr, ℕ, ◌+◌, ◌<◌, ◌≤◌, List, [], ◌∷◌, ◌++◌, length, get_or, take, drop, map, Option, None, Some, refl, sym, ap, subst, ◌∙◌}
 use Rattle.std.proofs.lemmas.List.{drop_more, drop_all, take_more, take_all, map-append}
-use Rattle.rg_items.specs.Faults.{faults_after, IsFirst, AreNone}
+use Rattle.rg_text.specs.Faults.{faults_after, IsFirst, AreNone}
 
 -- the first fault of what is left is the first of all, and where none is left there is none
 pub record Left {F : Type 0} (all left : List (Option F)) : Type 0 where
