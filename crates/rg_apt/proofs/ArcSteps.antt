@@ -6,6 +6,7 @@ use Rattle.std.proofs.lemmas.Bool.{cond-true, cond-false, or_cases, cases_order}
 use Rattle.std.proofs.lemmas.List.Elements.{All-push}
 use Rattle.std.proofs.lemmas.Option.{slice_get_within, get_or_from_slice_get}
 use Rattle.std.proofs.lemmas.Slice.Eq.{bytes_eq-Decides}
+use Rattle.rg_theory.specs.Limits.{most_arcs}
 use Rattle.rg_theory.specs.declared.Arc.{Arc}
 use Rattle.rg_lexer.specs.Lexeme.{Lexeme}
 use Rattle.rg_lts.proofs.OrderedArcs.{Has, has_from, contains_from, Ordered, ordered_from, one_order, inserted}
@@ -140,7 +141,7 @@ how_many d before draft formed h =
 
 -- the tests of a triple's fault
 abbrev pub full : List ArcNames → ArcNames → Bool
-full before x = nat_le 262144 (different before) && not (list_any (same_arc x) before)
+full before x = nat_le most_arcs (different before) && not (list_any (same_arc x) before)
 
 abbrev pub last_test : List ArcNames → ArcNames → Option TextFault
 last_test before x = cond (full before x) (Some (TooManyArcs x.from.at)) None
@@ -210,22 +211,22 @@ module _ (d : Declared) (before : List ArcNames) (x : ArcNames) (draft : Draft) 
   pub limit_fault : (f : TextFault) → IsWellFormedDraft draft → (f ≡ TooManyArcs x.from.at) × IsOverLimit draft x → arc_fault d before x ≡ Some f
   limit_fault f formed (is, over) =
       let count = how_many d before draft formed h in
-      let many = le_true 262144 (different before) (omega (arith, over.limit)) in
+      let many = le_true most_arcs (different before) (omega (arith, over.limit)) in
       names_there over.names ∙ by (list_any (same_arc x) before) refl many ∙ ap Some (sym is)
     where
-      by : (b : Bool) → list_any (same_arc x) before ≡ b → nat_le 262144 (different before) ≡ true → last_test before x ≡ Some (TooManyArcs x.from.at)
+      by : (b : Bool) → list_any (same_arc x) before ≡ b → nat_le most_arcs (different before) ≡ true → last_test before x ≡ Some (TooManyArcs x.from.at)
       by true e many = let a = is_there e in absurd (over.new a.0 a.1 a.2)
       by false e many = rw (many, e) refl
 
   arc_fine : HasNamesOf draft x → IsWellFormedDraft draft → (IsOverLimit draft x → ⊥) → arc_fault d before x ≡ None
-  arc_fine has formed within = names_there has ∙ by (nat_le 262144 (different before)) (list_any (same_arc x) before) refl refl
+  arc_fine has formed within = names_there has ∙ by (nat_le most_arcs (different before)) (list_any (same_arc x) before) refl refl
     where
-      by : (p q : Bool) → nat_le 262144 (different before) ≡ p → list_any (same_arc x) before ≡ q → last_test before x ≡ None
+      by : (p q : Bool) → nat_le most_arcs (different before) ≡ p → list_any (same_arc x) before ≡ q → last_test before x ≡ None
       by false q e f = rw e refl
       by true true e f = rw (e, f) refl
       by true false e f =
           let count = how_many d before draft formed h in
-          let many = le_says 262144 (different before) e in
+          let many = le_says most_arcs (different before) e in
           absurd (within (record {
             names = has;
             new = λ a named there. (let found = came_before a named there in cc);

@@ -4,6 +4,7 @@ use Rattle.std.specs.List.{list_any, position_or_len}
 use Rattle.std.specs.Str.{bytes_eq}
 use Rattle.std.proofs.lemmas.Bool.{or_cases, or_parts, cond-true, lt-ltb, both_ways, cases_order}
 use Rattle.std.proofs.lemmas.Slice.Eq.{bytes_eq-Decides}
+use Rattle.rg_theory.specs.Limits.{most_states, most_labels, most_arcs}
 use Rattle.rg_theory.specs.declared.Arc.{Arc}
 use Rattle.rg_theory.specs.System.{System, IsArcBefore}
 use Rattle.rg_lts.proofs.OrderedArcs.{Has, has_from, contains_from, sorted_of, pairs_from}
@@ -88,7 +89,7 @@ state_fresh : IsFresh (λ (e : StateEntry). e.name.text) state_fault
 state_fresh before x none = by (list_any (λ (b : StateEntry). same_text x.name b.name) before) refl none
   where
     by : (t : Bool) → list_any (λ (b : StateEntry). same_text x.name b.name) before ≡ t
-        → cond t (Some (TwiceState x.name.at)) (cond (nat_le 4096 (length before)) (Some (TooManyStates x.name.at)) (cond (x.initial && list_any (λ (b : StateEntry). b.initial) before) (Some (TwoInitial x.name.at)) None)) ≡ None
+        → cond t (Some (TwiceState x.name.at)) (cond (nat_le most_states (length before)) (Some (TooManyStates x.name.at)) (cond (x.initial && list_any (λ (b : StateEntry). b.initial) before) (Some (TwoInitial x.name.at)) None)) ≡ None
         → list_any (λ (b : StateEntry). same_text x.name b.name) before ≡ false
     by true e none = absurd cc
     by false e none = e
@@ -97,7 +98,7 @@ label_fresh : IsFresh (λ (x : Lexeme). x.text) label_fault
 label_fresh before x none = by (list_any (same_text x) before) refl none
   where
     by : (t : Bool) → list_any (same_text x) before ≡ t
-        → cond t (Some (TwiceLabel x.at)) (cond (nat_le 256 (length before)) (Some (TooManyLabels x.at)) None) ≡ None → list_any (same_text x) before ≡ false
+        → cond t (Some (TwiceLabel x.at)) (cond (nat_le most_labels (length before)) (Some (TooManyLabels x.at)) None) ≡ None → list_any (same_text x) before ≡ false
     by true e none = absurd cc
     by false e none = e
 
@@ -111,11 +112,11 @@ known : (d : Declared) (before : List ArcNames) (a : ArcNames) → arc_fault d b
 known d before a none = by (is_state d a.from) (is_label d a.label) (is_state d a.to) refl refl refl none
   where
     rest : Option TextFault
-    rest = cond (nat_le 262144 (different before) && not (list_any (same_arc a) before)) (Some (TooManyArcs a.from.at)) None
+    rest = cond (nat_le most_arcs (different before) && not (list_any (same_arc a) before)) (Some (TooManyArcs a.from.at)) None
 
     by : (x y z : Bool) → is_state d a.from ≡ x → is_label d a.label ≡ y → is_state d a.to ≡ z
         → cond (not x) (Some (UnknownState a.from.at)) (cond (not y) (Some (UnknownLabel a.label.at)) (cond (not z) (Some (UnknownState a.to.at))
-        (cond (nat_le 262144 (different before) && not (list_any (same_arc a) before)) (Some (TooManyArcs a.from.at)) None))) ≡ None → Known d a
+        (cond (nat_le most_arcs (different before) && not (list_any (same_arc a) before)) (Some (TooManyArcs a.from.at)) None))) ≡ None → Known d a
     by true true true e f g none = record { from = e; label = f; to = g }
     by false y z e f g none = absurd cc
     by true false z e f g none = absurd cc
@@ -165,7 +166,7 @@ marked_within p (x ∷ xs) e = by (p x) refl e (marked_within p xs)
     by true h e more = rw h (omega arith)
     by false h e more = let lt = more e in rw h (omega arith)
 
--- a member by its place, and by recursion
+-- a member by its position, and by recursion
 pub among_at : {X : Type 0} (xs : List X) (k : ℕ) (x : X) → k < length xs → get_or xs k x ≡ x → Among x xs
 among_at [] k x lt e = absurd (omega arith)
 among_at (y ∷ xs) zero x lt e = inl e

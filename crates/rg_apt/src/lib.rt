@@ -18,7 +18,7 @@ mod building;
 mod fault;
 mod found;
 mod laws;
-mod place;
+mod position;
 mod print;
 mod whole;
 

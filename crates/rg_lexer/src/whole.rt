@@ -23,7 +23,7 @@ fn push_token(tokens: &mut Vec<Token>, sort: Sort, from: u32, to: u32) -> Result
 /// bytes and comments are left out. By `one_answer` no other answer meets these clauses, and by `spans`
 /// the tokens are spans of the text, in order.
 ///
-/// Errors: `BadByte`, `OpenString`, `OpenComment` or `LongName`, the first in the text, with its place;
+/// Errors: `BadByte`, `OpenString`, `OpenComment` or `LongName`, the first in the text, with its position;
 /// `NoMemory` where the list of tokens can't grow.
 pub fn tokens(alloc: Global, bytes: &[u8]) -> Result<Vec<Token>, LexFault>
     requires { length bytes.now ≤ most_bytes }

@@ -10,7 +10,7 @@ pub(crate) fn system(alloc: Global, labels: &[&str]) -> Option<Lts> {
     builder.state("s0").ok()?;
     builder.initial("s0").ok()?;
     for label in labels {
-        if !is_name(label) {
+        if !is_name(label.as_bytes()) {
             return None;
         }
         builder.label(label).ok()?;

@@ -3,16 +3,16 @@ ghost use Rattle.std.specs.Prelude.{◌≡◌, ℕ, List, option_map, IfSome};
 ghost use Rattle.rg_lexer.specs.Lexeme.{lexeme};
 ghost use Rattle.rg_lexer.specs.Tokens.{IsTokenOf};
 ghost use Rattle.rg_items.specs.Entry.{IsNameOf};
-ghost use Rattle.rg_items.specs.ListPlace.{list_wanted, list_leads, completed};
-ghost use Rattle.rg_items.specs.ListPlace as table;
-ghost use Rattle.rg_items.specs.ListView.{list_place_in, list_step_in, setting_in, HoldsKey, StepHoldsKey, HoldsSetting};
+ghost use Rattle.rg_items.specs.ListPosition.{list_wanted, list_leads, completed};
+ghost use Rattle.rg_items.specs.ListPosition as table;
+ghost use Rattle.rg_items.specs.ListView.{list_position_in, list_step_in, setting_in, HoldsKey, StepHoldsKey, HoldsSetting};
 
 use rg_lexer::{Kind, Token, Want};
 
-/// Where a token stands in an option list: `[`, options separated by commas, `]`. A key that a place holds
+/// Where a token stands in an option list: `[`, options separated by commas, `]`. A key that a position holds
 /// came before it and still counts.
 #[derive(Clone, Copy, Debug, PartialEq, Eq)]
-pub enum ListPlace {
+pub enum ListPosition {
     /// After `[`.
     FirstKey,
     /// After `,`.
@@ -28,8 +28,8 @@ pub enum ListPlace {
 /// Where a token leads that may stand in an option list.
 #[derive(Clone, Copy, Debug, PartialEq, Eq)]
 pub enum ListStep {
-    /// To another place of the list.
-    On(ListPlace),
+    /// To another position of the list.
+    On(ListPosition),
     /// The list is closed.
     Closed,
 }
@@ -41,14 +41,14 @@ pub enum FoundSetting {
     Valued(Token, Token),
 }
 
-/// What is wanted at a place of an option list.
-pub fn list_wanted(place: ListPlace) -> Want
-    ensures { (bytes : List ℕ) → result ≡ list_wanted (list_place_in bytes place) }
+/// What is wanted at a position of an option list.
+pub fn list_wanted(position: ListPosition) -> Want
+    ensures { (bytes : List ℕ) → result ≡ list_wanted (list_position_in bytes position) }
 {
-    match place {
-        ListPlace::FirstKey | ListPlace::NextKey => Want::Key,
-        ListPlace::AfterKey(_) | ListPlace::AfterValue => Want::CloseList,
-        ListPlace::Value(_) => Want::Value,
+    match position {
+        ListPosition::FirstKey | ListPosition::NextKey => Want::Key,
+        ListPosition::AfterKey(_) | ListPosition::AfterValue => Want::CloseList,
+        ListPosition::Value(_) => Want::Value,
     }
 }
 
@@ -58,7 +58,7 @@ fn from_bracket(token: Token) -> Option<ListStep>
     ensures holds { (bytes : List ℕ) → IsTokenOf bytes token → IfSome result (StepHoldsKey bytes) }
 {
     match token.kind {
-        Kind::Name => Some(ListStep::On(ListPlace::AfterKey(token))),
+        Kind::Name => Some(ListStep::On(ListPosition::AfterKey(token))),
         Kind::RightBracket => Some(ListStep::Closed),
         _ => None,
     }
@@ -70,7 +70,7 @@ fn from_comma(token: Token) -> Option<ListStep>
     ensures holds { (bytes : List ℕ) → IsTokenOf bytes token → IfSome result (StepHoldsKey bytes) }
 {
     match token.kind {
-        Kind::Name => Some(ListStep::On(ListPlace::AfterKey(token))),
+        Kind::Name => Some(ListStep::On(ListPosition::AfterKey(token))),
         _ => None,
     }
 }
@@ -81,8 +81,8 @@ fn from_key(key: Token, token: Token) -> Option<ListStep>
     ensures holds { (bytes : List ℕ) → IsNameOf bytes key → IfSome result (StepHoldsKey bytes) }
 {
     match token.kind {
-        Kind::Equals => Some(ListStep::On(ListPlace::Value(key))),
-        Kind::Comma => Some(ListStep::On(ListPlace::NextKey)),
+        Kind::Equals => Some(ListStep::On(ListPosition::Value(key))),
+        Kind::Comma => Some(ListStep::On(ListPosition::NextKey)),
         Kind::RightBracket => Some(ListStep::Closed),
         _ => None,
     }
@@ -94,8 +94,8 @@ fn from_equals(key: Token, token: Token) -> Option<ListStep>
     ensures holds { (bytes : List ℕ) → IfSome result (StepHoldsKey bytes) }
 {
     match token.kind {
-        Kind::Text => Some(ListStep::On(ListPlace::AfterValue)),
-        Kind::Name => Some(ListStep::On(ListPlace::AfterValue)),
+        Kind::Text => Some(ListStep::On(ListPosition::AfterValue)),
+        Kind::Name => Some(ListStep::On(ListPosition::AfterValue)),
         _ => None,
     }
 }
@@ -106,23 +106,23 @@ fn from_value(token: Token) -> Option<ListStep>
     ensures holds { (bytes : List ℕ) → IfSome result (StepHoldsKey bytes) }
 {
     match token.kind {
-        Kind::Comma => Some(ListStep::On(ListPlace::NextKey)),
+        Kind::Comma => Some(ListStep::On(ListPosition::NextKey)),
         Kind::RightBracket => Some(ListStep::Closed),
         _ => None,
     }
 }
 
-/// Where a token leads from a place of an option list, if it may stand there.
-pub fn list_lead(place: ListPlace, token: Token) -> Option<ListStep>
-    ensures leads { (bytes : List ℕ) → option_map (list_step_in bytes) result ≡ list_leads (list_place_in bytes place) (lexeme bytes token) }
-    ensures holds { (bytes : List ℕ) → IsTokenOf bytes token → HoldsKey bytes place → IfSome result (StepHoldsKey bytes) }
+/// Where a token leads from a position of an option list, if it may stand there.
+pub fn list_lead(position: ListPosition, token: Token) -> Option<ListStep>
+    ensures leads { (bytes : List ℕ) → option_map (list_step_in bytes) result ≡ list_leads (list_position_in bytes position) (lexeme bytes token) }
+    ensures holds { (bytes : List ℕ) → IsTokenOf bytes token → HoldsKey bytes position → IfSome result (StepHoldsKey bytes) }
 {
-    match place {
-        ListPlace::FirstKey => from_bracket(token),
-        ListPlace::NextKey => from_comma(token),
-        ListPlace::AfterKey(key) => from_key(key, token),
-        ListPlace::Value(key) => from_equals(key, token),
-        ListPlace::AfterValue => from_value(token),
+    match position {
+        ListPosition::FirstKey => from_bracket(token),
+        ListPosition::NextKey => from_comma(token),
+        ListPosition::AfterKey(key) => from_key(key, token),
+        ListPosition::Value(key) => from_equals(key, token),
+        ListPosition::AfterValue => from_value(token),
     }
 }
 
@@ -150,16 +150,16 @@ fn valued(key: Token, token: Token) -> Option<FoundSetting>
     }
 }
 
-/// The option that a token completes at a place of an option list, if it completes one.
-pub fn completed(place: ListPlace, token: Token) -> Option<FoundSetting>
-    ensures setting { (bytes : List ℕ) → option_map (setting_in bytes) result ≡ completed (list_place_in bytes place) (lexeme bytes token) }
-    ensures holds { (bytes : List ℕ) → IsTokenOf bytes token → HoldsKey bytes place → IfSome result (HoldsSetting bytes) }
+/// The option that a token completes at a position of an option list, if it completes one.
+pub fn completed(position: ListPosition, token: Token) -> Option<FoundSetting>
+    ensures setting { (bytes : List ℕ) → option_map (setting_in bytes) result ≡ completed (list_position_in bytes position) (lexeme bytes token) }
+    ensures holds { (bytes : List ℕ) → IsTokenOf bytes token → HoldsKey bytes position → IfSome result (HoldsSetting bytes) }
 {
-    match place {
-        ListPlace::FirstKey => None,
-        ListPlace::NextKey => None,
-        ListPlace::AfterKey(key) => alone(key, token),
-        ListPlace::Value(key) => valued(key, token),
-        ListPlace::AfterValue => None,
+    match position {
+        ListPosition::FirstKey => None,
+        ListPosition::NextKey => None,
+        ListPosition::AfterKey(key) => alone(key, token),
+        ListPosition::Value(key) => valued(key, token),
+        ListPosition::AfterValue => None,
     }
 }

@@ -1,4 +1,4 @@
-use Rattle.rg_apt.proofs.place.from_section.Goals as goal
+use Rattle.rg_apt.proofs.position.from_entry.Goals as goal
 
 pub returns-in-Word-clause-holds : goal.returns-in-Word-clause-holds
 returns-in-Word-clause-holds c = λ bytes is. c.after_word.ensures.holds bytes

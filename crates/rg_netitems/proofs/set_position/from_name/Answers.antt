@@ -1,4 +1,4 @@
-use Rattle.rg_netitems.proofs.place.from_name.Goals as goal
+use Rattle.rg_netitems.proofs.set_position.from_name.Goals as goal
 
 pub returns-in-Star-clause-leads : goal.returns-in-Star-clause-leads
 returns-in-Star-clause-leads c = rw c.in-Star.is (c.from_star.ensures.leads c.args.token)

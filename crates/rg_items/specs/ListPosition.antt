@@ -1,4 +1,4 @@
--- The places of an option list, as a table.
+-- The positions of an option list, as a table.
 use Rattle.std.specs.Prelude.{Option, None, Some}
 use Rattle.rg_lexer.specs.Lexeme.{Lexeme}
 use Rattle.rg_lexer.specs.declared.token.Kind.{Kind}
@@ -7,16 +7,16 @@ use Rattle.rg_lexer.specs.declared.token.Want.{Want}
 use Rattle.rg_lexer.specs.declared.token.Want.TheVariants as want
 use Rattle.rg_items.specs.Entry.{Setting, alone, valued}
 
--- where a token stands in an option list; a key that a place holds came before it
-pub data ListPlace : Type 0 where
-  first_key : ListPlace  -- after `[`
-  next_key : ListPlace  -- after `,`
-  after_key : Lexeme → ListPlace
-  value : Lexeme → ListPlace  -- after `=`
-  after_value : ListPlace
+-- where a token stands in an option list; a key that a position holds came before it
+pub data ListPosition : Type 0 where
+  first_key : ListPosition  -- after `[`
+  next_key : ListPosition  -- after `,`
+  after_key : Lexeme → ListPosition
+  value : Lexeme → ListPosition  -- after `=`
+  after_value : ListPosition
 
--- what is wanted at a place
-abbrev pub list_wanted : ListPlace → Want
+-- what is wanted at a position
+abbrev pub list_wanted : ListPosition → Want
 list_wanted first_key = want.Key
 list_wanted next_key = want.Key
 list_wanted (after_key key) = want.CloseList
@@ -25,10 +25,10 @@ list_wanted after_value = want.CloseList
 
 -- where a token leads that may stand in an option list
 pub data ListStep : Type 0 where
-  on : ListPlace → ListStep
+  on : ListPosition → ListStep
   closed : ListStep
 
-abbrev pub list_leads_by : ListPlace → Kind → Lexeme → Option ListStep
+abbrev pub list_leads_by : ListPosition → Kind → Lexeme → Option ListStep
 list_leads_by first_key Name x = Some (on (after_key x))
 list_leads_by first_key RightBracket x = Some closed
 list_leads_by next_key Name x = Some (on (after_key x))
@@ -41,23 +41,23 @@ list_leads_by after_value Comma x = Some (on next_key)
 list_leads_by after_value RightBracket x = Some closed
 list_leads_by _ _ _ = None
 
-abbrev pub list_leads : ListPlace → Lexeme → Option ListStep
-list_leads place x = list_leads_by place x.kind x
+abbrev pub list_leads : ListPosition → Lexeme → Option ListStep
+list_leads position x = list_leads_by position x.kind x
 
 -- the option that a token completes
-abbrev pub completed_by : ListPlace → Kind → Lexeme → Option Setting
+abbrev pub completed_by : ListPosition → Kind → Lexeme → Option Setting
 completed_by (after_key key) Comma x = Some (alone key)
 completed_by (after_key key) RightBracket x = Some (alone key)
 completed_by (value key) Text x = Some (valued key x)
 completed_by (value key) Name x = Some (valued key x)
 completed_by _ _ _ = None
 
-abbrev pub completed : ListPlace → Lexeme → Option Setting
-completed place x = completed_by place x.kind x
+abbrev pub completed : ListPosition → Lexeme → Option Setting
+completed position x = completed_by position x.kind x
 
--- where a step of a list leads, in a grammar with such lists: to a place in the list, or to the place after it
-abbrev pub list_to : {P : Type 0} → (ListPlace → P) → P → ListStep → P
-list_to inside after (on place) = inside place
+-- where a step of a list leads, in a grammar with such lists: to a position in the list, or to the position after it
+abbrev pub list_to : {P : Type 0} → (ListPosition → P) → P → ListStep → P
+list_to inside after (on position) = inside position
 list_to inside after closed = after
 
 -- what is found with the thing that a token completes, if it completes one
