@@ -21,7 +21,8 @@ pub fn one_answer()
 {}
 
 /// The table and the items agree: tokens are items, or one of them is refused, never both. What they
-/// declare is one.
+/// declare is one. Tokens that lead anywhere from the start go on to the tokens of a whole file, so the first that
+/// is refused is the first that can't continue any file.
 pub fn items_are_read()
     ensures some { (xs : List Lexeme) (end : ℕ) → ((items : List Item) × AreItems items xs) ⊎ ((f : TextFault) × FirstRefusal xs end f) }
     ensures not_refused { (items : List Item) (xs : List Lexeme) (end : ℕ) (f : TextFault) → AreItems items xs → ¬ FirstRefusal xs end f }

@@ -6,3 +6,4 @@ pub mod Moves
 pub mod Lists
 pub mod Complete
 pub mod Tokens
+pub mod Going

@@ -10,5 +10,5 @@ mod whole;
 
 pub use fault::ItemFault;
 pub use found::{Found, FoundFlow, FoundMember, FoundTransition};
-pub use laws::one_answer;
+pub use laws::{one_answer, tokens_go_on};
 pub use whole::read_items;
