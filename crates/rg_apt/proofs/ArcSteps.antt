@@ -6,16 +6,17 @@ use Rattle.std.proofs.lemmas.Bool.{cond-true, cond-false, or_cases, cases_order}
 use Rattle.std.proofs.lemmas.List.Elements.{All-push}
 use Rattle.std.proofs.lemmas.Option.{slice_get_within, get_or_from_slice_get}
 use Rattle.std.proofs.lemmas.Slice.Eq.{bytes_eq-Decides}
+use Rattle.rg_theory.specs.Limits.{most_arcs}
 use Rattle.rg_theory.specs.declared.Arc.{Arc}
 use Rattle.rg_lexer.specs.Lexeme.{Lexeme}
-use Rattle.rg_lts.specs.WellFormed.{AreNames}
+use Rattle.rg_lts.proofs.OrderedArcs.{Has, has_from, contains_from, Ordered, ordered_from, one_order, inserted}
+use Rattle.rg_lts.proofs.Drafts.{one_place}
 use Rattle.rg_lts.specs.Draft.{Draft, AddsArc, IsWellFormedDraft}
 use Rattle.rg_apt.specs.declared.fault.TextFault.{TextFault}
 use Rattle.rg_apt.specs.declared.fault.TextFault.TheVariants.{UnknownState, UnknownLabel, TooManyArcs}
 use Rattle.rg_apt.specs.Contents.{ArcNames, Declared, arc_fault, is_state, is_label, same_arc, different}
 use Rattle.rg_apt.specs.Built.{state_text, label_text, HasArcs, IsArcOfNames, IsUnknownOf, HasNamesOf, IsOverLimit}
-use Rattle.rg_apt.proofs.Systems.{Has, has_from, contains_from, Ordered, ordered_from, one_order}
-use Rattle.rg_apt.proofs.Existing.{Among, among-append, among-last, among_at, place_of, inserted}
+use Rattle.rg_apt.proofs.Existing.{Among, among-append, among-last, among_at, place_of}
 use Rattle.rg_apt.proofs.Names.{contains_any, absent_none, or_right, le_true, le_says}
 
 any_among : {X : Type 0} (p : X → Bool) (xs : List X) → list_any p xs ≡ true → (x : X) × Among x xs × (p x ≡ true)
@@ -78,22 +79,12 @@ one_names d x y a n m = record {
 named_too : (d : Draft) (x y : ArcNames) (a : Arc) → AreSame x y → IsArcOfNames d x a → IsArcOfNames d y a
 named_too d x y a s n = record { from = n.from ∙ ap Some s.from; label = n.label ∙ ap Some s.label; to = n.to ∙ ap Some s.to }
 
-one_number : (names : List (List ℕ)) (i j : ℕ) (name : List ℕ) → AreNames names → slice_get names i ≡ Some name → slice_get names j ≡ Some name → i ≡ j
-one_number names i j name are at too = go (cases_order i j)
-  where
-    go : (i ≡ j) ⊎ ((i < j) ⊎ (j < i)) → i ≡ j
-    go (inl same) = same
-    go (inr (inl l)) = absurd (are.differ i j name l (slice_get_within names j name too)
-        (get_or_from_slice_get names i name name at ∙ sym (get_or_from_slice_get names j name name too)))
-    go (inr (inr l)) = absurd (are.differ j i name l (slice_get_within names i name at)
-        (get_or_from_slice_get names j name name too ∙ sym (get_or_from_slice_get names i name name at)))
-
 -- a triple of names has one arc
 pub one_arc : (d : Draft) (x : ArcNames) (a b : Arc) → IsWellFormedDraft d → IsArcOfNames d x a → IsArcOfNames d x b → a ≡ b
 one_arc d x a b formed n m =
-    let from = one_number d.state_names a.from b.from x.from.text formed.state_names n.from m.from in
-    let label = one_number d.label_names a.label b.label x.label.text formed.label_names n.label m.label in
-    let to = one_number d.state_names a.to b.to x.to.text formed.state_names n.to m.to in
+    let from = one_place d.state_names a.from b.from x.from.text formed.state_names.differ n.from m.from in
+    let label = one_place d.label_names a.label b.label x.label.text formed.label_names.differ n.label m.label in
+    let to = one_place d.state_names a.to b.to x.to.text formed.state_names.differ n.to m.to in
     λ i. record { from = from i; label = label i; to = to i }
 
 -- the arcs of triples, in order
@@ -150,7 +141,7 @@ how_many d before draft formed h =
 
 -- the tests of a triple's fault
 abbrev pub full : List ArcNames → ArcNames → Bool
-full before x = nat_le 262144 (different before) && not (list_any (same_arc x) before)
+full before x = nat_le most_arcs (different before) && not (list_any (same_arc x) before)
 
 abbrev pub last_test : List ArcNames → ArcNames → Option TextFault
 last_test before x = cond (full before x) (Some (TooManyArcs x.from.at)) None
@@ -220,22 +211,22 @@ module _ (d : Declared) (before : List ArcNames) (x : ArcNames) (draft : Draft) 
   pub limit_fault : (f : TextFault) → IsWellFormedDraft draft → (f ≡ TooManyArcs x.from.at) × IsOverLimit draft x → arc_fault d before x ≡ Some f
   limit_fault f formed (is, over) =
       let count = how_many d before draft formed h in
-      let many = le_true 262144 (different before) (omega (arith, over.limit)) in
+      let many = le_true most_arcs (different before) (omega (arith, over.limit)) in
       names_there over.names ∙ by (list_any (same_arc x) before) refl many ∙ ap Some (sym is)
     where
-      by : (b : Bool) → list_any (same_arc x) before ≡ b → nat_le 262144 (different before) ≡ true → last_test before x ≡ Some (TooManyArcs x.from.at)
+      by : (b : Bool) → list_any (same_arc x) before ≡ b → nat_le most_arcs (different before) ≡ true → last_test before x ≡ Some (TooManyArcs x.from.at)
       by true e many = let a = is_there e in absurd (over.new a.0 a.1 a.2)
       by false e many = rw (many, e) refl
 
   arc_fine : HasNamesOf draft x → IsWellFormedDraft draft → (IsOverLimit draft x → ⊥) → arc_fault d before x ≡ None
-  arc_fine has formed within = names_there has ∙ by (nat_le 262144 (different before)) (list_any (same_arc x) before) refl refl
+  arc_fine has formed within = names_there has ∙ by (nat_le most_arcs (different before)) (list_any (same_arc x) before) refl refl
     where
-      by : (p q : Bool) → nat_le 262144 (different before) ≡ p → list_any (same_arc x) before ≡ q → last_test before x ≡ None
+      by : (p q : Bool) → nat_le most_arcs (different before) ≡ p → list_any (same_arc x) before ≡ q → last_test before x ≡ None
       by false q e f = rw e refl
       by true true e f = rw (e, f) refl
       by true false e f =
           let count = how_many d before draft formed h in
-          let many = le_says 262144 (different before) e in
+          let many = le_says most_arcs (different before) e in
           absurd (within (record {
             names = has;
             new = λ a named there. (let found = came_before a named there in cc);

@@ -6,11 +6,11 @@ use Rattle.rg_lts.specs.WellFormed.{IsWellFormed}
 use Rattle.rg_lts.specs.Draft.{Draft, finished}
 use Rattle.rg_apt.specs.declared.fault.TextFault.{TextFault}
 use Rattle.rg_apt.specs.declared.fault.TextFault.TheVariants.{NoType, NoInitial}
-use Rattle.rg_items.specs.Faults.{faults_after, if_not, IsFirst, AreNone}
+use Rattle.rg_text.specs.Faults.{faults_after, if_not, IsFirst, AreNone}
 use Rattle.rg_apt.specs.Contents.{StateEntry, Declared, faults, state_fault, label_fault, arc_fault, IsSystemOf}
 use Rattle.rg_apt.specs.Built.{label_text, is_marked, HasStates, HasLabels, HasArcs}
 use Rattle.rg_apt.proofs.Marks.{some_marked, any_of_some}
-use Rattle.rg_items.proofs.Left.{first_left, first_right, none_joined}
+use Rattle.rg_text.proofs.Left.{first_left, first_right, none_joined}
 
 abbrev typed_part : Declared → List (Option TextFault)
 typed_part d = if_not d.typed NoType

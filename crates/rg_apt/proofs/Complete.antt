@@ -6,13 +6,13 @@ use Rattle.rg_lexer.specs.Lexeme.{Lexeme}
 use Rattle.rg_lexer.specs.declared.token.Kind.{Kind}
 use Rattle.rg_lexer.specs.declared.token.Kind.TheVariants.{Name, Word, Text, LeftBracket}
 use Rattle.rg_items.specs.Entry.{IsEntry, IsWord}
-use Rattle.rg_items.specs.ListPlace.{first_key}
+use Rattle.rg_items.specs.ListPosition.{first_key}
 use Rattle.rg_items.specs.Grammar.{leads_all}
 use Rattle.rg_items.proofs.Complete.{Tail, tail_of_more, tail_more, After, after_of_more, after_of_list, entry_more, ListCompletes, list_token_in, same_bytes, other_bytes}
 use Rattle.rg_items.proofs.Complete as complete
 use Rattle.rg_apt.specs.Item.{Triple, Item, IsTriple, AreItems, IsOtherWord, IsTypeName}
 use Rattle.rg_apt.specs.Item as item
-use Rattle.rg_apt.specs.Table.{Section, states, labels, arcs, Place, section, type_name, passed_text, in_section, after_entry, second, third, in_list, leads_by, after_word, after_name, is_type_name, may_end}
+use Rattle.rg_apt.specs.Table.{Section, states, labels, arcs, Position, section, type_name, passed_text, in_section, after_entry, second, third, in_list, leads_by, after_word, after_name, is_type_name, may_end}
 use Rattle.rg_apt.specs.Reading.{system_grammar}
 
 -- items, to the end
@@ -25,8 +25,8 @@ TailOf states xs = Tail IsEntry Items xs
 TailOf labels xs = Tail IsEntry Items xs
 TailOf arcs xs = Tail IsTriple Items xs
 
--- with what came before at the place, the tokens go on as the grammar wants
-abbrev Completes : Place → List Lexeme → Type 0
+-- with what came before at the position, the tokens go on as the grammar wants
+abbrev Completes : Position → List Lexeme → Type 0
 Completes section xs = Items xs
 Completes type_name xs = (word : Lexeme) → IsWord (codes ".type") word → Items (word ∷ xs)
 Completes passed_text xs = (word : Lexeme) → IsOtherWord word → Items (word ∷ xs)
@@ -34,7 +34,7 @@ Completes (in_section s) xs = TailOf s xs
 Completes (after_entry s) xs = After (TailOf s) xs
 Completes (second from) xs = from.kind ≡ Name → TailOf arcs (from ∷ xs)
 Completes (third from label) xs = from.kind ≡ Name → label.kind ≡ Name → TailOf arcs (from ∷ label ∷ xs)
-Completes (in_list s place) xs = ListCompletes (TailOf s) place xs
+Completes (in_list s position) xs = ListCompletes (TailOf s) position xs
 
 tail_of_items : (s : Section) (xs : List Lexeme) → Items xs → TailOf s xs
 tail_of_items states xs items = tail_of_more IsEntry Items xs items
@@ -94,16 +94,16 @@ type_name_is name kind e = (
       (or_cases (bytes_eq name.text (codes "LTS")) (bytes_eq name.text (codes "TS")) e),
 )
 
--- the place that a token leads to
-led : (to q : Place) (xs : List Lexeme) → Some to ≡ Some q → Completes q xs → Completes to xs
+-- the position that a token leads to
+led : (to q : Position) (xs : List Lexeme) → Some to ≡ Some q → Completes q xs → Completes to xs
 led to q xs e go = let same : to ≡ q = cc in subst (λ p. Completes p xs) (sym same) go
 
-type_more : (x : Lexeme) (xs : List Lexeme) (q : Place) (b : Bool) → is_type_name x.text ≡ b → x.kind ≡ Name → cond b (Some section) None ≡ Some q → Completes q xs → Completes type_name (x ∷ xs)
+type_more : (x : Lexeme) (xs : List Lexeme) (q : Position) (b : Bool) → is_type_name x.text ≡ b → x.kind ≡ Name → cond b (Some section) None ≡ Some q → Completes q xs → Completes type_name (x ∷ xs)
 type_more x xs q true e kind lead go = λ word w. typed_items word x xs w (type_name_is x kind e) (led section q xs lead go)
 type_more x xs q false e kind lead go = absurd cc
 
--- one token and what completes the place after it
-token_more : (p : Place) (x : Lexeme) (xs : List Lexeme) (k : Kind) (q : Place) → x.kind ≡ k → leads_by p k x ≡ Some q → Completes q xs → Completes p (x ∷ xs)
+-- one token and what completes the position after it
+token_more : (p : Position) (x : Lexeme) (xs : List Lexeme) (k : Kind) (q : Position) → x.kind ≡ k → leads_by p k x ≡ Some q → Completes q xs → Completes p (x ∷ xs)
 token_more section x xs Word q kind lead go = word_items x xs kind (led (after_word x.text) q xs lead go)
 token_more type_name x xs Name q kind lead go = type_more x xs q (is_type_name x.text) refl kind lead go
 token_more passed_text x xs Text q kind lead go = λ word w. other_items word x xs w kind (led section q xs lead go)
@@ -115,18 +115,18 @@ token_more (after_entry s) x xs Word q kind lead go =
 token_more (after_entry s) x xs LeftBracket q kind lead go = after_of_list (TailOf s) x xs kind (led (in_list s first_key) q xs lead go)
 token_more (second from) x xs Name q kind lead go = λ f. led (third from x) q xs lead go f kind
 token_more (third from label) x xs Name q kind lead go = λ f l. triple_more from label x xs (led (after_entry arcs) q xs lead go) f l kind
-token_more (in_list s place) x xs k q kind lead go =
-    list_token_in (in_list s) (in_section s) Completes (TailOf s) (λ place xs h. h) (λ xs h. h) place x xs k q kind lead go
+token_more (in_list s position) x xs k q kind lead go =
+    list_token_in (in_list s) (in_section s) Completes (TailOf s) (λ position xs h. h) (λ xs h. h) position x xs k q kind lead go
 token_more p x xs k q kind lead go = absurd cc
 
 -- the end
-ended : (p : Place) → may_end p ≡ true → Completes p []
+ended : (p : Position) → may_end p ≡ true → Completes p []
 ended section e = ([], refl)
 ended (in_section s) e = tail_of_items s [] ([], refl)
 ended (after_entry s) e = after_of_more (TailOf s) [] (tail_of_items s [] ([], refl))
 ended p e = absurd cc
 
--- tokens that lead to a place where the file may end are items
-pub items_from : (q : Place) (xs : List Lexeme) → leads_all system_grammar section xs ≡ Some q → may_end q ≡ true → Items xs
+-- tokens that lead to a position where the file may end are items
+pub items_from : (q : Position) (xs : List Lexeme) → leads_all system_grammar section xs ≡ Some q → may_end q ≡ true → Items xs
 items_from q xs lead ends =
     complete.completes system_grammar Completes (λ p x xs q lead go. token_more p x xs x.kind q refl lead go) ended section q xs lead ends

@@ -4,16 +4,18 @@ use Rattle.std.specs.List.{list_any, position_or_len}
 use Rattle.std.proofs.lemmas.Bool.{cond-true, cond-false, eqb-true, or_parts}
 use Rattle.std.proofs.lemmas.Bool.Decides.{nat_tests}
 use Rattle.std.proofs.lemmas.List.{get_or_append_left, map-append, length-map}
+use Rattle.rg_theory.specs.Limits.{most_states, most_labels, most_arcs}
 use Rattle.rg_theory.specs.declared.Arc.{Arc}
 use Rattle.rg_theory.specs.System.{System, IsArcBefore}
 use Rattle.rg_lexer.specs.Lexeme.{Lexeme}
 use Rattle.rg_lts.specs.WellFormed.{IsWellFormed}
 use Rattle.rg_lts.specs.Draft.{Draft, draft_of, IsWellFormedDraft}
-use Rattle.rg_items.specs.Faults.{faults_after, AreNone}
+use Rattle.rg_text.specs.Faults.{faults_after, AreNone}
 use Rattle.rg_apt.specs.Contents.{StateEntry, ArcNames, Declared, faults, state_fault, label_fault, arc_fault, same_text, same_arc, different, is_state, is_label, HasNames, IsSystemOf}
 use Rattle.rg_apt.specs.Built.{state_text, label_text, is_marked, IsArcOfNames}
-use Rattle.rg_apt.proofs.Names.{there, contains_any, absent_none, le_says}
-use Rattle.rg_apt.proofs.Systems.{Has, has_from, contains_from, Ordered, ordered_from, after_has, before_itself, before_back}
+use Rattle.rg_apt.proofs.Names.{contains_any, absent_none, le_says}
+use Rattle.rg_lts.proofs.OrderedArcs.{Has, has_from, contains_from, Ordered, ordered_from, after_has, before_itself, before_back}
+use Rattle.rg_lts.proofs.Drafts.{there}
 use Rattle.rg_apt.proofs.Existing.{Among, among_at}
 use Rattle.rg_apt.proofs.Built.{all_none}
 use Rattle.rg_apt.proofs.StateSteps.{is_fine, label_fine}
@@ -83,7 +85,7 @@ later_mark s initial before e is none le =
     not_same m n lt = grind (arith, nat_tests)
 
 states_none : (initial s : ℕ) (before : List StateEntry) (names : List (List ℕ)) (es : List StateEntry) → s ≡ length before
-    → AreStatesOf initial s names es → AreFresh (map state_text before) names → length before + length names ≤ 4096
+    → AreStatesOf initial s names es → AreFresh (map state_text before) names → length before + length names ≤ most_states
     → (s ≤ initial → list_any is_marked before ≡ false) → AreNone (faults_after state_fault before es)
 states_none initial s before [] [] at are fresh few none = tt
 states_none initial s before [] (e ∷ es) at are fresh few none = absurd are
@@ -132,7 +134,7 @@ marked_state initial names es are lt =
 
 -- labels
 
-labels_none : (before labels : List Lexeme) → AreFresh (map label_text before) (map label_text labels) → length before + length labels ≤ 256
+labels_none : (before labels : List Lexeme) → AreFresh (map label_text before) (map label_text labels) → length before + length labels ≤ most_labels
     → AreNone (faults_after label_fault before labels)
 labels_none before [] fresh few = tt
 labels_none before (x ∷ labels) fresh few =
@@ -229,14 +231,14 @@ module _ (lts : System) (formed : IsWellFormed lts) (d : Declared) (state_texts 
   arc_fine before x here =
       let a = here x (inl refl) in
       to_last d before x (state_there a.0.from x.from a.2.0) (label_there a.0.label x.label a.2.1) (state_there a.0.to x.to a.2.2)
-      ∙ by (nat_le 262144 (different before)) (list_any (same_arc x) before) refl refl (few_different lts (x ∷ before) formed here)
+      ∙ by (nat_le most_arcs (different before)) (list_any (same_arc x) before) refl refl (few_different lts (x ∷ before) formed here)
     where
-      by : (p q : Bool) → nat_le 262144 (different before) ≡ p → list_any (same_arc x) before ≡ q → different (x ∷ before) ≤ length lts.arcs
+      by : (p q : Bool) → nat_le most_arcs (different before) ≡ p → list_any (same_arc x) before ≡ q → different (x ∷ before) ≤ length lts.arcs
           → last_test before x ≡ None
       by false q e f few = rw e refl
       by true true e f few = rw (e, f) refl
       by true false e f few =
-          let many = le_says 262144 (different before) e in
+          let many = le_says most_arcs (different before) e in
           let more = cond-false (list_any (same_arc x) before) (different before) (different before + 1) f in
           absurd (omega (arith, few, more, many, formed.few_arcs))
 

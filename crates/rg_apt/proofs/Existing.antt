@@ -4,14 +4,15 @@ use Rattle.std.specs.List.{list_any, position_or_len}
 use Rattle.std.specs.Str.{bytes_eq}
 use Rattle.std.proofs.lemmas.Bool.{or_cases, or_parts, cond-true, lt-ltb, both_ways, cases_order}
 use Rattle.std.proofs.lemmas.Slice.Eq.{bytes_eq-Decides}
+use Rattle.rg_theory.specs.Limits.{most_states, most_labels, most_arcs}
 use Rattle.rg_theory.specs.declared.Arc.{Arc}
 use Rattle.rg_theory.specs.System.{System, IsArcBefore}
+use Rattle.rg_lts.proofs.OrderedArcs.{Has, has_from, contains_from, sorted_of, pairs_from}
 use Rattle.rg_lexer.specs.Lexeme.{Lexeme}
 use Rattle.rg_apt.specs.declared.fault.TextFault.{TextFault}
 use Rattle.rg_apt.specs.declared.fault.TextFault.TheVariants.{NoType, TwiceState, TwiceLabel, UnknownState, UnknownLabel, TwoInitial, NoInitial, TooManyStates, TooManyLabels, TooManyArcs}
-use Rattle.rg_items.specs.Faults.{faults_after, if_not, AreNone}
+use Rattle.rg_text.specs.Faults.{faults_after, if_not, AreNone}
 use Rattle.rg_apt.specs.Contents.{StateEntry, ArcNames, Declared, faults, state_fault, label_fault, arc_fault, is_state, is_label, same_text, same_arc, different, IsSystemOf}
-use Rattle.rg_apt.proofs.Systems.{Has, has_from, contains_from, AllAfter, Ordered}
 
 -- a list without faults, in parts
 none_both : (xs ys : List (Option TextFault)) → AreNone (xs ++ ys) → AreNone xs × AreNone ys
@@ -88,7 +89,7 @@ state_fresh : IsFresh (λ (e : StateEntry). e.name.text) state_fault
 state_fresh before x none = by (list_any (λ (b : StateEntry). same_text x.name b.name) before) refl none
   where
     by : (t : Bool) → list_any (λ (b : StateEntry). same_text x.name b.name) before ≡ t
-        → cond t (Some (TwiceState x.name.at)) (cond (nat_le 4096 (length before)) (Some (TooManyStates x.name.at)) (cond (x.initial && list_any (λ (b : StateEntry). b.initial) before) (Some (TwoInitial x.name.at)) None)) ≡ None
+        → cond t (Some (TwiceState x.name.at)) (cond (nat_le most_states (length before)) (Some (TooManyStates x.name.at)) (cond (x.initial && list_any (λ (b : StateEntry). b.initial) before) (Some (TwoInitial x.name.at)) None)) ≡ None
         → list_any (λ (b : StateEntry). same_text x.name b.name) before ≡ false
     by true e none = absurd cc
     by false e none = e
@@ -97,7 +98,7 @@ label_fresh : IsFresh (λ (x : Lexeme). x.text) label_fault
 label_fresh before x none = by (list_any (same_text x) before) refl none
   where
     by : (t : Bool) → list_any (same_text x) before ≡ t
-        → cond t (Some (TwiceLabel x.at)) (cond (nat_le 256 (length before)) (Some (TooManyLabels x.at)) None) ≡ None → list_any (same_text x) before ≡ false
+        → cond t (Some (TwiceLabel x.at)) (cond (nat_le most_labels (length before)) (Some (TooManyLabels x.at)) None) ≡ None → list_any (same_text x) before ≡ false
     by true e none = absurd cc
     by false e none = e
 
@@ -111,11 +112,11 @@ known : (d : Declared) (before : List ArcNames) (a : ArcNames) → arc_fault d b
 known d before a none = by (is_state d a.from) (is_label d a.label) (is_state d a.to) refl refl refl none
   where
     rest : Option TextFault
-    rest = cond (nat_le 262144 (different before) && not (list_any (same_arc a) before)) (Some (TooManyArcs a.from.at)) None
+    rest = cond (nat_le most_arcs (different before) && not (list_any (same_arc a) before)) (Some (TooManyArcs a.from.at)) None
 
     by : (x y z : Bool) → is_state d a.from ≡ x → is_label d a.label ≡ y → is_state d a.to ≡ z
         → cond (not x) (Some (UnknownState a.from.at)) (cond (not y) (Some (UnknownLabel a.label.at)) (cond (not z) (Some (UnknownState a.to.at))
-        (cond (nat_le 262144 (different before) && not (list_any (same_arc a) before)) (Some (TooManyArcs a.from.at)) None))) ≡ None → Known d a
+        (cond (nat_le most_arcs (different before) && not (list_any (same_arc a) before)) (Some (TooManyArcs a.from.at)) None))) ≡ None → Known d a
     by true true true e f g none = record { from = e; label = f; to = g }
     by false y z e f g none = absurd cc
     by true false z e f g none = absurd cc
@@ -156,110 +157,6 @@ arcs_of d before (a ∷ names) none =
       },
     )
 
--- arcs in order
-abbrev Compared : Arc → Arc → Type 0
-Compared a b = IsArcBefore a b ⊎ ((a ≡ b) ⊎ IsArcBefore b a)
-
-compared : (a b : Arc) → Compared a b
-compared a b = by (cases_order a.from b.from) (cases_order a.label b.label) (cases_order a.to b.to)
-  where
-    by : (a.from ≡ b.from) ⊎ ((a.from < b.from) ⊎ (b.from < a.from)) → (a.label ≡ b.label) ⊎ ((a.label < b.label) ⊎ (b.label < a.label))
-        → (a.to ≡ b.to) ⊎ ((a.to < b.to) ⊎ (b.to < a.to)) → Compared a b
-    by (inr (inl lt)) y z = inl (inl lt)
-    by (inr (inr gt)) y z = inr (inr (inl gt))
-    by (inl e) (inr (inl lt)) z = inl (inr (e, inl lt))
-    by (inl e) (inr (inr gt)) z = inr (inr (inr (sym e, inl gt)))
-    by (inl e) (inl f) (inr (inl lt)) = inl (inr (e, inr (f, lt)))
-    by (inl e) (inl f) (inr (inr gt)) = inr (inr (inr (sym e, inr (sym f, gt))))
-    by (inl e) (inl f) (inl g) = inr (inl (λ i. record { from = e i; label = f i; to = g i }))
-
-before_trans : (a b c : Arc) → IsArcBefore a b → IsArcBefore b c → IsArcBefore a c
-before_trans a b c (inl x) (inl y) = inl (omega arith)
-before_trans a b c (inl x) (inr y) = let e = y.0 in inl (omega arith)
-before_trans a b c (inr x) (inl y) = let e = x.0 in inl (omega arith)
-before_trans a b c (inr (e, inl x)) (inr (f, inl y)) = inr (e ∙ f, inl (omega arith))
-before_trans a b c (inr (e, inl x)) (inr (f, inr y)) = let g = y.0 in inr (e ∙ f, inl (omega arith))
-before_trans a b c (inr (e, inr x)) (inr (f, inl y)) = let g = x.0 in inr (e ∙ f, inl (omega arith))
-before_trans a b c (inr (e, inr x)) (inr (f, inr y)) = let lt = x.1 in let lt' = y.1 in inr (e ∙ f, inr (x.0 ∙ y.0, omega arith))
-
-all_after_trans : (a b : Arc) (more : List Arc) → IsArcBefore a b → AllAfter b more → AllAfter a more
-all_after_trans a b [] lt all = tt
-all_after_trans a b (c ∷ more) lt all = (before_trans a b c lt all.0, all_after_trans a b more lt all.1)
-
--- a list in order with one arc more
-pub record Inserted (a : Arc) (ys zs : List Arc) : Type 0 where
-  pub ordered : Ordered zs
-  pub after : (x : Arc) → IsArcBefore x a → AllAfter x ys → AllAfter x zs
-  pub to : (c : Arc) → Has zs c → (a ≡ c) ⊎ Has ys c
-  pub from : (c : Arc) → (a ≡ c) ⊎ Has ys c → Has zs c
-  pub longer : (Has ys a → ⊥) → length zs ≡ length ys + 1
-
-pub inserted : (a : Arc) (ys : List Arc) → Ordered ys → (zs : List Arc) × Inserted a ys zs
-inserted a [] ordered = (a ∷ [], record { ordered = (tt, tt); after = λ x lt all. (lt, tt); to = λ c h. h; from = λ c h. h; longer = λ new. omega arith })
-inserted a (b ∷ ys) ordered = by (compared a b) (inserted a ys ordered.1)
-  where
-    by : Compared a b → (zs : List Arc) × Inserted a ys zs → (zs : List Arc) × Inserted a (b ∷ ys) zs
-    by (inl lt) more = (
-      a ∷ b ∷ ys,
-      record {
-        ordered = ((lt, all_after_trans a b ys lt ordered.0), ordered);
-        after = λ x lt' all. (lt', all);
-        to = λ c h. h;
-        from = λ c h. h;
-        longer = λ new. omega arith;
-      },
-    )
-    by (inr (inl e)) more = (
-      b ∷ ys,
-      record {
-        ordered = ordered;
-        after = λ x lt' all. all;
-        to = λ c h. inr h;
-        from = λ c h. ⊎_elim (λ here. inl (sym e ∙ here)) (λ later. later) h;
-        longer = λ new. absurd (new (inl (sym e)));
-      },
-    )
-    by (inr (inr gt)) more = (
-      b ∷ more.0,
-      record {
-        ordered = (more.1.after b gt ordered.0, more.1.ordered);
-        after = λ x lt' all. (all.0, more.1.after x lt' all.1);
-        to = λ c h. ⊎_elim (λ here. inr (inl here)) (λ later. ⊎_elim (λ e. inl e) (λ l. inr (inr l)) (more.1.to c later)) h;
-        from = λ c h. ⊎_elim (λ e. inr (more.1.from c (inl e))) (λ l. ⊎_elim (λ here. inl here) (λ m. inr (more.1.from c (inr m))) l) h;
-        longer = λ new. omega (arith, more.1.longer (λ h. new (inr h)));
-      },
-    )
-
-pub record SortedOf (xs ys : List Arc) : Type 0 where
-  pub ordered : Ordered ys
-  pub to : (c : Arc) → Has ys c → Has xs c
-  pub from : (c : Arc) → Has xs c → Has ys c
-
-sorted_of : (xs : List Arc) → (ys : List Arc) × SortedOf xs ys
-sorted_of [] = ([], record { ordered = tt; to = λ c h. h; from = λ c h. h })
-sorted_of (x ∷ xs) =
-    let more = sorted_of xs in
-    let one = inserted x more.0 more.1.ordered in (
-      one.0,
-      record {
-        ordered = one.1.ordered;
-        to = λ c h. ⊎_elim (λ e. inl e) (λ l. inr (more.1.to c l)) (one.1.to c h);
-        from = λ c h. one.1.from c (⊎_elim (λ e. inl e) (λ l. inr (more.1.from c l)) h);
-      },
-    )
-
-after_at : (a : Arc) (more : List Arc) (j : ℕ) (d : Arc) → AllAfter a more → j < length more → IsArcBefore a (get_or more j d)
-after_at a [] j d all lt = absurd (omega arith)
-after_at a (b ∷ more) zero d all lt = all.0
-after_at a (b ∷ more) (suc j) d all lt = after_at a more j d all.1 (omega arith)
-
-pairs_from : (xs : List Arc) → Ordered xs → AllPairs IsArcBefore xs
-pairs_from [] ordered i j d lt in' = absurd (omega arith)
-pairs_from (x ∷ xs) ordered zero zero d lt in' = absurd (omega arith)
-pairs_from (x ∷ xs) ordered zero (suc j) d lt in' = after_at x xs j d ordered.0 (omega arith)
-pairs_from (x ∷ xs) ordered (suc i) zero d lt in' = absurd (omega arith)
-pairs_from (x ∷ xs) ordered (suc i) (suc j) d lt in' = pairs_from xs ordered.1 i j d (omega arith) (omega arith)
-
 -- the marked state has a number
 pub marked_within : {X : Type 0} (p : X → Bool) (xs : List X) → list_any p xs ≡ true → position_or_len p xs < length xs
 marked_within p [] e = absurd cc
@@ -269,7 +166,7 @@ marked_within p (x ∷ xs) e = by (p x) refl e (marked_within p xs)
     by true h e more = rw h (omega arith)
     by false h e more = let lt = more e in rw h (omega arith)
 
--- a member by its place, and by recursion
+-- a member by its position, and by recursion
 pub among_at : {X : Type 0} (xs : List X) (k : ℕ) (x : X) → k < length xs → get_or xs k x ≡ x → Among x xs
 among_at [] k x lt e = absurd (omega arith)
 among_at (y ∷ xs) zero x lt e = inl e

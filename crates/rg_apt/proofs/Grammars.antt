@@ -6,13 +6,13 @@ use Rattle.rg_items.proofs.Described.{Describes}
 use Rattle.rg_items.proofs.Described as described
 use Rattle.rg_apt.specs.declared.fault.TextFault.{TextFault}
 use Rattle.rg_apt.specs.Item.{Item, AreItems}
-use Rattle.rg_apt.specs.Table.{Place}
+use Rattle.rg_apt.specs.Table.{Position}
 use Rattle.rg_apt.specs.Contents.{Declared, declared}
 use Rattle.rg_apt.specs.Reading.{system_grammar, FirstRefusal}
 use Rattle.rg_apt.proofs.Items.{items_read}
 use Rattle.rg_apt.proofs.Complete.{items_from}
 
-pub describes : Describes Place Declared TextFault (List Item) system_grammar AreItems declared
+pub describes : Describes Position Declared TextFault (List Item) system_grammar AreItems declared
 describes = record { read = items_read; complete = items_from }
 
 -- one first refusal

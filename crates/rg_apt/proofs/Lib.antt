@@ -4,6 +4,7 @@ pub mod Grammars
 pub mod Systems
 pub mod WholeTexts
 pub mod Complete
+pub mod Going
 pub mod Existing
 pub mod FoundLemmas
 pub mod Names

@@ -5,6 +5,7 @@ use Rattle.std.proofs.lemmas.Bool.{cond-true, cond-false, and_from}
 use Rattle.std.proofs.lemmas.List.{map-append, length-map}
 use Rattle.std.proofs.lemmas.List.Elements.{Contains-push}
 use Rattle.std.proofs.lemmas.Option.{slice_get_within}
+use Rattle.rg_theory.specs.Limits.{most_states, most_labels}
 use Rattle.rg_lexer.specs.Lexeme.{Lexeme}
 use Rattle.rg_lts.specs.Draft.{Draft, IsStateNamed, IsOtherInitial}
 use Rattle.rg_apt.specs.declared.fault.TextFault.{TextFault}
@@ -25,7 +26,7 @@ abbrev last_test : List StateEntry → StateEntry → Option TextFault
 last_test before e = cond (two before e) (Some (TwoInitial e.name.at)) None
 
 abbrev room_test : List StateEntry → StateEntry → Option TextFault
-room_test before e = cond (nat_le 4096 (length before)) (Some (TooManyStates e.name.at)) (last_test before e)
+room_test before e = cond (nat_le most_states (length before)) (Some (TooManyStates e.name.at)) (last_test before e)
 
 is_again : (before : List StateEntry) (e : StateEntry) → again before e ≡ true → state_fault before e ≡ Some (TwiceState e.name.at)
 is_again before e a = cond-true (again before e) (Some (TwiceState e.name.at)) (room_test before e) a
@@ -33,18 +34,18 @@ is_again before e a = cond-true (again before e) (Some (TwiceState e.name.at)) (
 to_room : (before : List StateEntry) (e : StateEntry) → again before e ≡ false → state_fault before e ≡ room_test before e
 to_room before e a = cond-false (again before e) (Some (TwiceState e.name.at)) (room_test before e) a
 
-is_full : (before : List StateEntry) (e : StateEntry) → again before e ≡ false → 4096 ≤ length before → state_fault before e ≡ Some (TooManyStates e.name.at)
+is_full : (before : List StateEntry) (e : StateEntry) → again before e ≡ false → most_states ≤ length before → state_fault before e ≡ Some (TooManyStates e.name.at)
 is_full before e a full =
-    to_room before e a ∙ cond-true (nat_le 4096 (length before)) (Some (TooManyStates e.name.at)) (last_test before e) (le_true 4096 (length before) full)
+    to_room before e a ∙ cond-true (nat_le most_states (length before)) (Some (TooManyStates e.name.at)) (last_test before e) (le_true most_states (length before) full)
 
-to_last : (before : List StateEntry) (e : StateEntry) → again before e ≡ false → length before < 4096 → state_fault before e ≡ last_test before e
+to_last : (before : List StateEntry) (e : StateEntry) → again before e ≡ false → length before < most_states → state_fault before e ≡ last_test before e
 to_last before e a room =
-    to_room before e a ∙ cond-false (nat_le 4096 (length before)) (Some (TooManyStates e.name.at)) (last_test before e) (le_false 4096 (length before) room)
+    to_room before e a ∙ cond-false (nat_le most_states (length before)) (Some (TooManyStates e.name.at)) (last_test before e) (le_false most_states (length before) room)
 
-is_two : (before : List StateEntry) (e : StateEntry) → again before e ≡ false → length before < 4096 → two before e ≡ true → state_fault before e ≡ Some (TwoInitial e.name.at)
+is_two : (before : List StateEntry) (e : StateEntry) → again before e ≡ false → length before < most_states → two before e ≡ true → state_fault before e ≡ Some (TwoInitial e.name.at)
 is_two before e a room t = to_last before e a room ∙ cond-true (two before e) (Some (TwoInitial e.name.at)) None t
 
-pub is_fine : (before : List StateEntry) (e : StateEntry) → again before e ≡ false → length before < 4096 → two before e ≡ false → state_fault before e ≡ None
+pub is_fine : (before : List StateEntry) (e : StateEntry) → again before e ≡ false → length before < most_states → two before e ≡ false → state_fault before e ≡ None
 is_fine before e a room t = to_last before e a room ∙ cond-false (two before e) (Some (TwoInitial e.name.at)) None t
 
 -- what the names of a draft say of the entries
@@ -56,7 +57,7 @@ fresh before e d name is h new =
     absent_none state_text e.name.text before (λ has. new (moved (map state_text before) d.state_names e.name.text name (sym h.state_names) (sym is) has))
 
 pub name_fault : (before : List StateEntry) (e : StateEntry) (d : Draft) (name : List ℕ) (f : TextFault) → name ≡ e.name.text → HasStates before d
-    → IsNameFault d.state_names 4096 name (TwiceState e.name.at) (TooManyStates e.name.at) f → state_fault before e ≡ Some f
+    → IsNameFault d.state_names most_states name (TwiceState e.name.at) (TooManyStates e.name.at) f → state_fault before e ≡ Some f
 name_fault before e d name f is h (inl (at, has)) =
     is_again before e (contains_any state_text e.name.text before (moved d.state_names (map state_text before) name e.name.text h.state_names is has)) ∙ ap Some (sym at)
 name_fault before e d name f is h (inr (at, new, full)) =
@@ -68,7 +69,7 @@ abbrev pub WithState : Draft → List ℕ → Draft
 WithState d name = record d { state_names = d.state_names ++ name ∷ [] }
 
 pub mark_fault : (before : List StateEntry) (e : StateEntry) (d d' : Draft) (name : List ℕ) (f : TextFault) → name ≡ e.name.text → e.initial ≡ true
-    → d' ≡ WithState d name → IsNewName d.state_names 4096 name → HasStates before d → (f ≡ TwoInitial e.name.at) × IsOtherInitial d' name
+    → d' ≡ WithState d name → IsNewName d.state_names most_states name → HasStates before d → (f ≡ TwoInitial e.name.at) × IsOtherInitial d' name
     → state_fault before e ≡ Some f
 mark_fault before e d d' name f is mark made new h (at, other) =
     let count = how_many state_text d.state_names before h.state_names in
@@ -90,7 +91,7 @@ right_false true b e = e
 right_false false b e = refl
 
 pub plain_state : (before : List StateEntry) (e : StateEntry) (d d' : Draft) (name : List ℕ) → name ≡ e.name.text → e.initial ≡ false
-    → d' ≡ WithState d name → IsNewName d.state_names 4096 name → HasStates before d
+    → d' ≡ WithState d name → IsNewName d.state_names most_states name → HasStates before d
     → (state_fault before e ≡ None) × HasStates (before ++ e ∷ []) d'
 plain_state before e d d' name is mark made new h =
     let count = how_many state_text d.state_names before h.state_names in (
@@ -129,7 +130,7 @@ last_number names name s new at =
     omega arith
 
 pub marked_state : (before : List StateEntry) (e : StateEntry) (d d' d'' : Draft) (name : List ℕ) → name ≡ e.name.text → e.initial ≡ true
-    → d' ≡ WithState d name → IsNewName d.state_names 4096 name → ((s : ℕ) × IsStateNamed d' s name × (d'' ≡ record d' { initial = Some s }))
+    → d' ≡ WithState d name → IsNewName d.state_names most_states name → ((s : ℕ) × IsStateNamed d' s name × (d'' ≡ record d' { initial = Some s }))
     → (IsOtherInitial d' name → ⊥) → HasStates before d → (state_fault before e ≡ None) × HasStates (before ++ e ∷ []) d''
 marked_state before e d d' d'' name is mark made new (s, at, set) alone h =
     let count = how_many state_text d.state_names before h.state_names in
@@ -148,10 +149,10 @@ marked_state before e d d' d'' name is mark made new (s, at, set) alone h =
 
 -- labels
 abbrev label_room : List Lexeme → Lexeme → Option TextFault
-label_room before x = cond (nat_le 256 (length before)) (Some (TooManyLabels x.at)) None
+label_room before x = cond (nat_le most_labels (length before)) (Some (TooManyLabels x.at)) None
 
 pub label_name_fault : (before : List Lexeme) (x : Lexeme) (names : List (List ℕ)) (f : TextFault) → names ≡ map label_text before
-    → IsNameFault names 256 x.text (TwiceLabel x.at) (TooManyLabels x.at) f → label_fault before x ≡ Some f
+    → IsNameFault names most_labels x.text (TwiceLabel x.at) (TooManyLabels x.at) f → label_fault before x ≡ Some f
 label_name_fault before x names f has (inl (at, there)) =
     cond-true (list_any (same_text x) before) (Some (TwiceLabel x.at)) (label_room before x)
     (contains_any label_text x.text before (subst (λ l. Contains l x.text) has there)) ∙ ap Some (sym at)
@@ -159,11 +160,11 @@ label_name_fault before x names f has (inr (at, new, full)) =
     let count = how_many label_text names before has in
     cond-false (list_any (same_text x) before) (Some (TwiceLabel x.at)) (label_room before x)
     (absent_none label_text x.text before (λ there. new (subst (λ l. Contains l x.text) (sym has) there)))
-    ∙ cond-true (nat_le 256 (length before)) (Some (TooManyLabels x.at)) None (le_true 256 (length before) (omega arith)) ∙ ap Some (sym at)
+    ∙ cond-true (nat_le most_labels (length before)) (Some (TooManyLabels x.at)) None (le_true most_labels (length before) (omega arith)) ∙ ap Some (sym at)
 
-pub label_fine : (before : List Lexeme) (x : Lexeme) (names : List (List ℕ)) → names ≡ map label_text before → IsNewName names 256 x.text → label_fault before x ≡ None
+pub label_fine : (before : List Lexeme) (x : Lexeme) (names : List (List ℕ)) → names ≡ map label_text before → IsNewName names most_labels x.text → label_fault before x ≡ None
 label_fine before x names has new =
     let count = how_many label_text names before has in
     cond-false (list_any (same_text x) before) (Some (TwiceLabel x.at)) (label_room before x)
     (absent_none label_text x.text before (λ there. new.new (subst (λ l. Contains l x.text) (sym has) there)))
-    ∙ cond-false (nat_le 256 (length before)) (Some (TooManyLabels x.at)) None (le_false 256 (length before) (omega (arith, new.room)))
+    ∙ cond-false (nat_le most_labels (length before)) (Some (TooManyLabels x.at)) None (le_false most_labels (length before) (omega (arith, new.room)))

@@ -5,32 +5,32 @@ use Rattle.rg_lexer.specs.Lexeme.{Lexeme}
 use Rattle.rg_lexer.specs.declared.token.Kind.{Kind}
 use Rattle.rg_lexer.specs.declared.token.Kind.TheVariants.{Name, LeftBracket}
 use Rattle.rg_items.specs.Entry.{Setting, Entry, IsOptionally, IsEntry, AreEach}
-use Rattle.rg_items.specs.ListPlace.{first_key}
+use Rattle.rg_items.specs.ListPosition.{first_key}
 use Rattle.rg_items.proofs.Moves.{moves_both, moves_same, step, take_all, each_move}
 use Rattle.rg_items.proofs.Moves as moves
 use Rattle.rg_items.proofs.Lists.{HasLists, free_of, optional_move}
 use Rattle.rg_apt.specs.declared.fault.TextFault.{TextFault}
 use Rattle.rg_apt.specs.Item.{Triple, IsTriple}
-use Rattle.rg_apt.specs.Table.{Section, states, labels, arcs, Place, in_section, after_entry, second, third, in_list, leads_by}
+use Rattle.rg_apt.specs.Table.{Section, states, labels, arcs, Position, in_section, after_entry, second, third, in_list, leads_by}
 use Rattle.rg_apt.specs.Contents.{marks, StateEntry, ArcNames, Declared}
 use Rattle.rg_apt.specs.Reading.{mark_last, marked, with_setting, with_name, adds_by, system_grammar}
 
--- from a place the tokens lead to another, whatever follows them
-abbrev pub Moves : Place → Declared → List Lexeme → Place → Declared → Type 0
+-- from a position the tokens lead to another, whatever follows them
+abbrev pub Moves : Position → Declared → List Lexeme → Position → Declared → Type 0
 Moves p d xs q e = moves.Moves system_grammar p d xs q e
 
 -- one token
-pub kind_step : (p q : Place) (d e : Declared) (x : Lexeme) (kind : Kind) → x.kind ≡ kind → leads_by p kind x ≡ Some q → adds_by p kind x d ≡ e → Moves p d (x ∷ []) q e
+pub kind_step : (p q : Position) (d e : Declared) (x : Lexeme) (kind : Kind) → x.kind ≡ kind → leads_by p kind x ≡ Some q → adds_by p kind x d ≡ e → Moves p d (x ∷ []) q e
 kind_step p q d e x kind same lead add = step system_grammar p q d e x (ap (λ k. leads_by p k x) same ∙ lead) (ap (λ k. adds_by p k x d) same ∙ add)
 
-both : (p q r : Place) (d e f : Declared) (xs ys : List Lexeme) → Moves p d xs q e → Moves q e ys r f → Moves p d (xs ++ ys) r f
+both : (p q r : Position) (d e f : Declared) (xs ys : List Lexeme) → Moves p d xs q e → Moves q e ys r f → Moves p d (xs ++ ys) r f
 both p q r d e f xs ys one two = moves_both system_grammar p q r d e f xs ys one two
 
-lists : (s : Section) → HasLists Place Declared TextFault system_grammar (in_list s) (after_entry s) (in_section s) (with_setting s)
+lists : (s : Section) → HasLists Position Declared TextFault system_grammar (in_list s) (after_entry s) (in_section s) (with_setting s)
 lists s = record {
   opens = λ d x bracket. kind_step (after_entry s) (in_list s first_key) d d x LeftBracket bracket refl refl;
-  leads = λ place x. refl;
-  adds = λ place x d. refl;
+  leads = λ position x. refl;
+  adds = λ position x d. refl;
 }
 
 -- marks join
@@ -57,11 +57,11 @@ all_marked s [] d = marked_none s d
 all_marked s (setting ∷ more) d = all_marked s more (marked s (marks setting) d) ∙ marked-marked s (marks setting) (list_any marks more) d
 
 -- where an entry, a triple or a word may stand
-abbrev pub free : Section → Bool → Place
+abbrev pub free : Section → Bool → Position
 free s b = free_of (after_entry s) (in_section s) b
 
--- the tokens lead to such a place
-abbrev pub MovesFree : Place → Declared → List Lexeme → Section → Declared → Type 0
+-- the tokens lead to such a position
+abbrev pub MovesFree : Position → Declared → List Lexeme → Section → Declared → Type 0
 MovesFree p d xs s e = (b : Bool) × Moves p d xs (free s b) e
 
 optional_moves : (s : Section) (d : Declared) (settings : List Setting) (xs : List Lexeme) → IsOptionally settings xs → MovesFree (after_entry s) d xs s (marked s (list_any marks settings) d)
@@ -83,7 +83,7 @@ marked_name : (x : Lexeme) (mark : Bool) (d : Declared) → marked states mark (
 marked_name x true d = ap (λ l. record d { states = l }) (mark_last-push d.states (record { name = x; initial = false }))
 marked_name x false d = refl
 
-name_moves : (b : Bool) (s : Section) (d : Declared) (x : Lexeme) → x.kind ≡ Name → (q : Place) → leads_by (in_section s) Name x ≡ Some q → Moves (free s b) d (x ∷ []) q (with_name s x d)
+name_moves : (b : Bool) (s : Section) (d : Declared) (x : Lexeme) → x.kind ≡ Name → (q : Position) → leads_by (in_section s) Name x ≡ Some q → Moves (free s b) d (x ∷ []) q (with_name s x d)
 name_moves true s d x name q lead = kind_step (in_section s) q d (with_name s x d) x Name name lead refl
 name_moves false s d x name q lead = kind_step (after_entry s) q d (with_name s x d) x Name name lead refl
 

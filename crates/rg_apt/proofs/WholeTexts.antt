@@ -9,11 +9,11 @@ use Rattle.rg_lexer.proofs.Texts.{one_fault, tokens_or_fault, answered as tokens
 use Rattle.rg_apt.specs.declared.fault.TextFault.{TextFault}
 use Rattle.rg_apt.specs.Item.{Item, AreItems}
 use Rattle.rg_apt.specs.Reading.{FirstRefusal}
-use Rattle.rg_items.specs.Faults.{IsFirst}
+use Rattle.rg_text.specs.Faults.{IsFirst}
 use Rattle.rg_apt.specs.Contents.{declared, faults, IsSystemOf}
 use Rattle.rg_apt.specs.Spells.{Spells, of_lexer, FirstFault, in_tokens, in_grammar, in_system}
 use Rattle.rg_apt.proofs.Grammars.{one_refusal, items_or_refusal, declared_once, items_or_refused}
-use Rattle.rg_items.proofs.Left.{one_first, none_or_first, some_first}
+use Rattle.rg_text.proofs.Left.{one_first, none_or_first, some_first}
 use Rattle.rg_items.proofs.Tokens.{one_lexemes}
 use Rattle.rg_apt.proofs.Systems.{one_system}
 use Rattle.rg_apt.proofs.Existing.{system_exists}

@@ -52,7 +52,7 @@ abbrev pub IsNameFault : List (List ℕ) → ℕ → List ℕ → TextFault → 
 IsNameFault names limit name twice too_many fault =
     ((fault ≡ twice) × Contains names name) ⊎ ((fault ≡ too_many) × (¬ Contains names name) × (limit ≤ length names))
 
--- the first of an arc's names that isn't there, in the order from, label, to, each with its place
+-- the first of an arc's names that isn't there, in the order from, label, to, each with its position
 abbrev pub IsUnknown : Draft → List ℕ → List ℕ → List ℕ → ℕ → ℕ → ℕ → TextFault → Type 0
 IsUnknown draft from label to at_from at_label at_to fault =
     ((fault ≡ UnknownState at_from) × ¬ Contains draft.state_names from)

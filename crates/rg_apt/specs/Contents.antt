@@ -2,13 +2,14 @@
 use Rattle.std.specs.Prelude.{◌≡◌, ℕ, ◌+◌, ◌↔◌, nat_le, Bool, true, false, not, ◌&&◌, List, [], ◌∷◌, ◌++◌, length, map, Option, None, Some, slice_get, position, Contains, Any, AllPairs, codes, if◌then◌else◌}
 use Rattle.std.specs.List.{list_any, flat_map}
 use Rattle.std.specs.Str.{bytes_eq}
+use Rattle.rg_theory.specs.Limits.{most_states, most_labels, most_arcs}
 use Rattle.rg_theory.specs.declared.Arc.{Arc}
 use Rattle.rg_theory.specs.System.{System, IsArcBefore}
 use Rattle.rg_lexer.specs.Lexeme.{Lexeme}
 use Rattle.rg_apt.specs.declared.fault.TextFault.{TextFault}
 use Rattle.rg_apt.specs.declared.fault.TextFault.TheVariants.{NoType, TwiceState, TwiceLabel, UnknownState, UnknownLabel, TwoInitial, NoInitial, TooManyStates, TooManyLabels, TooManyArcs}
 use Rattle.rg_items.specs.Entry.{Setting, alone, valued, Entry, value_text}
-use Rattle.rg_items.specs.Faults.{faults_after, if_not}
+use Rattle.rg_text.specs.Faults.{faults_after, if_not}
 use Rattle.rg_apt.specs.Item.{Triple, Item, type, states, labels, arcs}
 
 abbrev pub is_initial : Lexeme → Bool
@@ -87,7 +88,7 @@ different (a ∷ more) = if list_any (same_arc a) more then different more else 
 abbrev pub state_fault : List StateEntry → StateEntry → Option TextFault
 state_fault before e =
     if list_any (λ (b : StateEntry). same_text e.name b.name) before then Some (TwiceState e.name.at)
-    else (if nat_le 4096 (length before) then Some (TooManyStates e.name.at)
+    else (if nat_le most_states (length before) then Some (TooManyStates e.name.at)
     else (if e.initial && list_any (λ (b : StateEntry). b.initial) before then Some (TwoInitial e.name.at)
     else None))
 
@@ -95,7 +96,7 @@ state_fault before e =
 abbrev pub label_fault : List Lexeme → Lexeme → Option TextFault
 label_fault before name =
     if list_any (same_text name) before then Some (TwiceLabel name.at)
-    else (if nat_le 256 (length before) then Some (TooManyLabels name.at)
+    else (if nat_le most_labels (length before) then Some (TooManyLabels name.at)
     else None)
 
 -- the fault of a triple, by the triples before it
@@ -104,7 +105,7 @@ arc_fault d before a =
     if not (is_state d a.from) then Some (UnknownState a.from.at)
     else (if not (is_label d a.label) then Some (UnknownLabel a.label.at)
     else (if not (is_state d a.to) then Some (UnknownState a.to.at)
-    else (if nat_le 262144 (different before) && not (list_any (same_arc a) before) then Some (TooManyArcs a.from.at)
+    else (if nat_le most_arcs (different before) && not (list_any (same_arc a) before) then Some (TooManyArcs a.from.at)
     else None)))
 
 -- all that may be wrong with what is declared, in the order in which it counts

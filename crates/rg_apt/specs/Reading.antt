@@ -5,12 +5,12 @@ use Rattle.rg_lexer.specs.Lexeme.{Lexeme}
 use Rattle.rg_lexer.specs.declared.token.Kind.{Kind}
 use Rattle.rg_lexer.specs.declared.token.Kind.TheVariants.{Name}
 use Rattle.rg_items.specs.Entry.{Setting}
-use Rattle.rg_items.specs.ListPlace.{completed_by, with_completed}
+use Rattle.rg_items.specs.ListPosition.{completed_by, with_completed}
 use Rattle.rg_items.specs.Grammar.{Grammar}
 use Rattle.rg_items.specs.Grammar as grammar
 use Rattle.rg_apt.specs.declared.fault.TextFault.{TextFault}
 use Rattle.rg_apt.specs.declared.fault.TextFault.TheVariants.{Expected}
-use Rattle.rg_apt.specs.Table.{Section, states, labels, arcs, Place, section, type_name, in_section, after_entry, third, in_list, wanted, may_end, leads, refusal_by}
+use Rattle.rg_apt.specs.Table.{Section, states, labels, arcs, Position, section, type_name, in_section, after_entry, third, in_list, wanted, may_end, leads, refusal_by}
 use Rattle.rg_apt.specs.Contents.{marks, StateEntry, Declared}
 
 -- nothing is found
@@ -38,28 +38,28 @@ with_name states x d = record d { states = d.states ++ record { name = x; initia
 with_name labels x d = record d { labels = d.labels ++ x ∷ [] }
 with_name arcs x d = d
 
--- what is found with a token that stands at a place
-abbrev pub adds_by : Place → Kind → Lexeme → Declared → Declared
+-- what is found with a token that stands at a position
+abbrev pub adds_by : Position → Kind → Lexeme → Declared → Declared
 adds_by type_name Name x d = record d { typed = true }
 adds_by (in_section s) Name x d = with_name s x d
 adds_by (after_entry s) Name x d = with_name s x d
 adds_by (third from label) Name x d = record d { arcs = d.arcs ++ record { from = from; label = label; to = x } ∷ [] }
-adds_by (in_list s place) kind x d = with_completed (with_setting s) (completed_by place kind x) d
+adds_by (in_list s position) kind x d = with_completed (with_setting s) (completed_by position kind x) d
 adds_by _ _ _ d = d
 
-abbrev pub adds : Place → Lexeme → Declared → Declared
-adds place x d = adds_by place x.kind x d
+abbrev pub adds : Position → Lexeme → Declared → Declared
+adds position x d = adds_by position x.kind x d
 
 -- the grammar of system files
-abbrev pub system_grammar : Grammar Place Declared TextFault
+abbrev pub system_grammar : Grammar Position Declared TextFault
 system_grammar = record {
   start = section;
   nothing = nothing;
   leads = leads;
   adds = adds;
   may_end = may_end;
-  refuses = λ place x. refusal_by place x.kind x.at;
-  ends = λ place end. Expected end (wanted place);
+  refuses = λ position x. refusal_by position x.kind x.at;
+  ends = λ position end. Expected end (wanted position);
 }
 
 -- the first token that can't continue the grammar

@@ -9,7 +9,7 @@ use Rattle.rg_apt.specs.declared.fault.TextFault.{TextFault}
 use Rattle.rg_apt.specs.declared.fault.TextFault.TheVariants.{BadByte, OpenString, OpenComment, LongName, NoMemory}
 use Rattle.rg_apt.specs.Item.{Item, AreItems}
 use Rattle.rg_apt.specs.Reading.{FirstRefusal}
-use Rattle.rg_items.specs.Faults.{IsFirst, AreNone}
+use Rattle.rg_text.specs.Faults.{IsFirst, AreNone}
 use Rattle.rg_apt.specs.Contents.{declared, faults, IsSystemOf}
 
 -- the bytes are a text of the grammar, and the system is the one that it gives

@@ -7,7 +7,7 @@ use Rattle.rg_lexer.specs.declared.token.Kind.{Kind}
 use Rattle.rg_lexer.specs.declared.token.Kind.TheVariants.{Name, Word, Text, LeftBracket}
 use Rattle.rg_lexer.specs.declared.token.Want.{Want}
 use Rattle.rg_lexer.specs.declared.token.Want.TheVariants as want
-use Rattle.rg_items.specs.ListPlace.{ListPlace, first_key, list_wanted, list_leads_by, list_to}
+use Rattle.rg_items.specs.ListPosition.{ListPosition, first_key, list_wanted, list_leads_by, list_to}
 use Rattle.rg_apt.specs.declared.fault.TextFault.{TextFault}
 use Rattle.rg_apt.specs.declared.fault.TextFault.TheVariants.{Expected, WrongType}
 
@@ -16,19 +16,19 @@ pub data Section : Type 0 where
   labels : Section
   arcs : Section
 
--- where a token stands; the names that a place holds came before it and still count
-pub data Place : Type 0 where
-  section : Place  -- start of the file, after `.type` Name, after a passed-over Text
-  type_name : Place  -- after `.type`
-  passed_text : Place  -- after another word
-  in_section : Section → Place  -- after the section's word or an option list
-  after_entry : Section → Place  -- directly after an entry or triple
-  second : Lexeme → Place  -- at the second name of a triple
-  third : Lexeme → Lexeme → Place  -- at the third name of a triple
-  in_list : Section → ListPlace → Place  -- in an option list
+-- where a token stands; the names that a position holds came before it and still count
+pub data Position : Type 0 where
+  section : Position  -- start of the file, after `.type` Name, after a passed-over Text
+  type_name : Position  -- after `.type`
+  passed_text : Position  -- after another word
+  in_section : Section → Position  -- after the section's word or an option list
+  after_entry : Section → Position  -- directly after an entry or triple
+  second : Lexeme → Position  -- at the second name of a triple
+  third : Lexeme → Lexeme → Position  -- at the third name of a triple
+  in_list : Section → ListPosition → Position  -- in an option list
 
--- what is wanted at a place
-abbrev pub wanted : Place → Want
+-- what is wanted at a position
+abbrev pub wanted : Position → Want
 wanted section = want.Section
 wanted type_name = want.Name
 wanted passed_text = want.Text
@@ -36,17 +36,17 @@ wanted (in_section s) = want.Name
 wanted (after_entry s) = want.Name
 wanted (second from) = want.Name
 wanted (third from label) = want.Name
-wanted (in_list s place) = list_wanted place
+wanted (in_list s position) = list_wanted position
 
--- whether the file may end at a place
-abbrev pub may_end : Place → Bool
+-- whether the file may end at a position
+abbrev pub may_end : Position → Bool
 may_end section = true
 may_end (in_section s) = true
 may_end (after_entry s) = true
 may_end _ = false
 
 -- where a word leads
-abbrev pub after_word : List ℕ → Place
+abbrev pub after_word : List ℕ → Position
 after_word text =
     if bytes_eq text (codes ".type") then type_name
     else (if bytes_eq text (codes ".states") then in_section states
@@ -58,13 +58,13 @@ abbrev pub is_type_name : List ℕ → Bool
 is_type_name text = bytes_eq text (codes "LTS") || bytes_eq text (codes "TS")
 
 -- where a name leads that begins an entry or triple
-abbrev pub after_name : Section → Lexeme → Place
+abbrev pub after_name : Section → Lexeme → Position
 after_name states x = after_entry states
 after_name labels x = after_entry labels
 after_name arcs x = second x
 
--- where a token of a kind leads from a place, if it may stand there
-abbrev pub leads_by : Place → Kind → Lexeme → Option Place
+-- where a token of a kind leads from a position, if it may stand there
+abbrev pub leads_by : Position → Kind → Lexeme → Option Position
 leads_by section Word x = Some (after_word x.text)
 leads_by type_name Name x = if is_type_name x.text then Some section else None
 leads_by passed_text Text x = Some section
@@ -75,13 +75,13 @@ leads_by (after_entry s) Word x = Some (after_word x.text)
 leads_by (after_entry s) LeftBracket x = Some (in_list s first_key)
 leads_by (second from) Name x = Some (third from x)
 leads_by (third from label) Name x = Some (after_entry arcs)
-leads_by (in_list s place) kind x = option_map (list_to (in_list s) (in_section s)) (list_leads_by place kind x)
+leads_by (in_list s position) kind x = option_map (list_to (in_list s) (in_section s)) (list_leads_by position kind x)
 leads_by _ _ _ = None
 
-abbrev pub leads : Place → Lexeme → Option Place
-leads place x = leads_by place x.kind x
+abbrev pub leads : Position → Lexeme → Option Position
+leads position x = leads_by position x.kind x
 
--- the fault of a token that may not stand at a place
-abbrev pub refusal_by : Place → Kind → ℕ → TextFault
+-- the fault of a token that may not stand at a position
+abbrev pub refusal_by : Position → Kind → ℕ → TextFault
 refusal_by type_name Name at = WrongType at
-refusal_by place _ at = Expected at (wanted place)
+refusal_by position _ at = Expected at (wanted position)

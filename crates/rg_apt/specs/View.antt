@@ -1,12 +1,12 @@
--- How the code's places are seen.
+-- How the code's positions are seen.
 use Rattle.std.specs.Prelude.{ℕ, List}
 use Rattle.rg_lexer.specs.Lexeme.{lexeme}
 use Rattle.rg_items.specs.Entry.{IsNameOf}
-use Rattle.rg_items.specs.ListView.{list_place_in, HoldsKey}
-use Rattle.rg_apt.specs.declared.place.Section.{Section}
-use Rattle.rg_apt.specs.declared.place.Section.TheVariants.{States, Labels, Arcs}
-use Rattle.rg_apt.specs.declared.place.Place.{Place}
-use Rattle.rg_apt.specs.declared.place.Place.TheVariants.{Start, TypeName, PassedText, InSection, AfterEntry, Second, Third, InList}
+use Rattle.rg_items.specs.ListView.{list_position_in, HoldsKey}
+use Rattle.rg_apt.specs.declared.position.Section.{Section}
+use Rattle.rg_apt.specs.declared.position.Section.TheVariants.{States, Labels, Arcs}
+use Rattle.rg_apt.specs.declared.position.Position.{Position}
+use Rattle.rg_apt.specs.declared.position.Position.TheVariants.{Start, TypeName, PassedText, InSection, AfterEntry, Second, Third, InList}
 use Rattle.rg_apt.specs.Table as table
 
 abbrev pub section_in : Section → table.Section
@@ -14,20 +14,20 @@ section_in States = table.states
 section_in Labels = table.labels
 section_in Arcs = table.arcs
 
--- a place, with its tokens as they stand in the text
-abbrev pub place_in : List ℕ → Place → table.Place
-place_in bytes Start = table.section
-place_in bytes TypeName = table.type_name
-place_in bytes PassedText = table.passed_text
-place_in bytes (InSection s) = table.in_section (section_in s)
-place_in bytes (AfterEntry s) = table.after_entry (section_in s)
-place_in bytes (Second from) = table.second (lexeme bytes from)
-place_in bytes (Third from label) = table.third (lexeme bytes from) (lexeme bytes label)
-place_in bytes (InList s place) = table.in_list (section_in s) (list_place_in bytes place)
+-- a position, with its tokens as they stand in the text
+abbrev pub position_in : List ℕ → Position → table.Position
+position_in bytes Start = table.section
+position_in bytes TypeName = table.type_name
+position_in bytes PassedText = table.passed_text
+position_in bytes (InSection s) = table.in_section (section_in s)
+position_in bytes (AfterEntry s) = table.after_entry (section_in s)
+position_in bytes (Second from) = table.second (lexeme bytes from)
+position_in bytes (Third from label) = table.third (lexeme bytes from) (lexeme bytes label)
+position_in bytes (InList s position) = table.in_list (section_in s) (list_position_in bytes position)
 
--- what a place holds are names of the text
-abbrev pub HoldsTokens : List ℕ → Place → Type 0
+-- what a position holds are names of the text
+abbrev pub HoldsTokens : List ℕ → Position → Type 0
 HoldsTokens bytes (Second from) = IsNameOf bytes from
 HoldsTokens bytes (Third from label) = IsNameOf bytes from × IsNameOf bytes label
-HoldsTokens bytes (InList s place) = HoldsKey bytes place
+HoldsTokens bytes (InList s position) = HoldsKey bytes position
 HoldsTokens bytes _ = Unit {0}

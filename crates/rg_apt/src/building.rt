@@ -1,13 +1,13 @@
 //! The system of what a file declares.
-ghost use Rattle.std.specs.Prelude.{◌≡◌, ◌≢◌, ◌++◌, ◌∷◌, [], ℕ, List, All, map, string_bytes, ◌⊎◌, Contains, IsTrue, IfOk, IfErr, OnOk, Option, None, Some};
+ghost use Rattle.std.specs.Prelude.{◌≡◌, ◌≢◌, ◌++◌, ◌∷◌, [], ℕ, List, All, map, string_bytes, ◌⊎◌, Contains, IsTrue, IsErrOf, ◌≤◌, length, IfOk, IfErr, OnOk, Option, None, Some};
 ghost use Rattle.rg_text.specs.Byte.{IsName};
 ghost use Rattle.rg_theory.specs.declared.Arc.{Arc};
 ghost use Rattle.rg_lexer.specs.Lexeme.{Lexeme, lexeme};
 ghost use Rattle.rg_items.specs.Entry.{IsNameOf};
-ghost use Rattle.rg_lts.specs.WellFormed.{most_states, most_labels};
+ghost use Rattle.rg_theory.specs.Limits.{most_states, most_labels};
 ghost use Rattle.rg_lts.specs.Draft.{Draft, blank, HasNames, IsOtherInitial, IsStateNamed, AddsArc, IsWellFormedDraft};
 ghost use Rattle.rg_apt.specs.Contents.{StateEntry, ArcNames, Declared, state_fault, label_fault, arc_fault, faults, IsSystemOf};
-ghost use Rattle.rg_items.specs.Faults.{faults_after, IsFirst, AreNone};
+ghost use Rattle.rg_text.specs.Faults.{faults_after, IsFirst, AreNone};
 ghost use Rattle.rg_apt.specs.FoundView.{state_in, states_in, labels_in, arc_in, arcs_in, found_in, IsStateOf, IsArcOf, HoldsNames};
 ghost use Rattle.rg_apt.specs.Built.{label_text, HasStates, HasLabels, HasArcs, IsArcOfNames, IsNewName, IsNameFault, IsUnknown, IsUnknownOf, HasNamesOf, IsOverLimit};
 ghost use Rattle.rg_apt.specs.declared.fault.TextFault.TheVariants as fault;
@@ -19,32 +19,36 @@ use rg_lexer::Token;
 use rg_lts::{BuildFault, Lts, LtsBuilder};
 use std::alloc::Global;
 
-// Adds a state of this name, which stands at a place.
+// Adds a state of this name, which stands at a position.
 fn add_name(builder: &mut LtsBuilder, name: &str, at: u32) -> Result<(), TextFault>
     requires { IsName name.now }
     ensures added { OnOk result (builder.new ≡ record builder.old { state_names = builder.old.state_names ++ name.now ∷ [] }) }
     ensures new { OnOk result (IsNewName builder.old.state_names most_states name.now) }
     ensures fault { IfErr result (λ f. f ≢ fault.NoMemory
         → IsNameFault builder.old.state_names most_states name.now (fault.TwiceState at) (fault.TooManyStates at) f) }
+    ensures memory { IsErrOf result fault.NoMemory → ¬ Contains builder.old.state_names name.now }
+    ensures room { IsErrOf result fault.NoMemory → ¬ (most_states ≤ length builder.old.state_names) }
 {
     match builder.state(name) {
         Ok(_) => Ok(()),
         Err(BuildFault::TwiceState) => Err(TextFault::TwiceState(at)),
         Err(BuildFault::TooManyStates) => Err(TextFault::TooManyStates(at)),
-        Err(_) => Err(TextFault::NoMemory),
+        Err(BuildFault::NoMemory) => Err(TextFault::NoMemory),
+        Err(_) => unreachable!(),
     }
 }
 
-// Makes the state of this name, which stands at a place, the initial one.
+// Makes the state of this name, which stands at a position, the initial one. It takes no memory.
 fn mark(builder: &mut LtsBuilder, name: &str, at: u32) -> Result<(), TextFault>
+    requires { Contains builder.old.state_names name.now }
     ensures marked { OnOk result ((s : ℕ) × IsStateNamed builder.old s name.now × (builder.new ≡ record builder.old { initial = Some s })) }
     ensures alone { OnOk result (¬ IsOtherInitial builder.old name.now) }
-    ensures fault { IfErr result (λ f. f ≢ fault.NoMemory → (f ≡ fault.TwoInitial at) × IsOtherInitial builder.old name.now) }
+    ensures fault { IfErr result (λ f. (f ≡ fault.TwoInitial at) × IsOtherInitial builder.old name.now) }
 {
     match builder.initial(name) {
         Ok(()) => Ok(()),
         Err(BuildFault::TwoInitial) => Err(TextFault::TwoInitial(at)),
-        Err(_) => Err(TextFault::NoMemory),
+        Err(_) => unreachable!(),
     }
 }
 
@@ -89,12 +93,15 @@ fn add_label(builder: &mut LtsBuilder, bytes: &[u8], label: Token) -> Result<(),
     ensures new { OnOk result (IsNewName builder.old.label_names most_labels (lexeme bytes.now label).text) }
     ensures fault { IfErr result (λ f. f ≢ fault.NoMemory
         → IsNameFault builder.old.label_names most_labels (lexeme bytes.now label).text (fault.TwiceLabel label.from) (fault.TooManyLabels label.from) f) }
+    ensures memory { IsErrOf result fault.NoMemory → ¬ Contains builder.old.label_names (lexeme bytes.now label).text }
+    ensures room { IsErrOf result fault.NoMemory → ¬ (most_labels ≤ length builder.old.label_names) }
 {
     match builder.label(name_of(bytes, label)) {
         Ok(_) => Ok(()),
         Err(BuildFault::TwiceLabel) => Err(TextFault::TwiceLabel(label.from)),
         Err(BuildFault::TooManyLabels) => Err(TextFault::TooManyLabels(label.from)),
-        Err(_) => Err(TextFault::NoMemory),
+        Err(BuildFault::NoMemory) => Err(TextFault::NoMemory),
+        Err(_) => unreachable!(),
     }
 }
 
@@ -166,6 +173,8 @@ fn add_arc(builder: &mut LtsBuilder, bytes: &[u8], arc: FoundArc) -> Result<(), 
     ensures formed { OnOk result (IsWellFormedDraft builder.old) }
     ensures fault { IfErr result (λ f. f ≢ fault.NoMemory → IsUnknownOf builder.old (arc_in bytes.now arc) f
         ⊎ ((f ≡ fault.TooManyArcs arc.from.from) × IsOverLimit builder.old (arc_in bytes.now arc) × IsWellFormedDraft builder.old)) }
+    ensures memory { IsErrOf result fault.NoMemory → HasNamesOf builder.old (arc_in bytes.now arc) }
+    ensures room { IsErrOf result fault.NoMemory → ¬ IsOverLimit builder.old (arc_in bytes.now arc) }
 {
     let from = name_of(bytes, arc.from);
     let label = name_of(bytes, arc.label);
@@ -174,7 +183,8 @@ fn add_arc(builder: &mut LtsBuilder, bytes: &[u8], arc: FoundArc) -> Result<(), 
     match builder.arc(from, label, to) {
         Ok(()) => Ok(()),
         Err(BuildFault::TooManyArcs) => Err(TextFault::TooManyArcs(arc.from.from)),
-        Err(_) => Err(TextFault::NoMemory),
+        Err(BuildFault::NoMemory) => Err(TextFault::NoMemory),
+        Err(_) => unreachable!(),
     }
 }
 
@@ -211,6 +221,7 @@ pub fn build(alloc: Global, bytes: &[u8], found: &Found) -> Result<Lts, TextFaul
     match builder.finish() {
         Ok(lts) => Ok(lts),
         Err(BuildFault::NoInitial) => Err(TextFault::NoInitial),
-        Err(_) => Err(TextFault::NoMemory),
+        Err(BuildFault::NoMemory) => Err(TextFault::NoMemory),
+        Err(_) => unreachable!(),
     }
 }

@@ -5,41 +5,41 @@ ghost use Rattle.rg_apt.specs.declared.fault.TextFault.TheVariants as fault;
 use rg_lexer::{LexFault, Want};
 use std::alloc::{AllocError, AllocFailed};
 
-/// The first fault of a text. Each place is the number of a byte, from 0.
+/// The first fault of a text. Each position is the number of a byte, from 0.
 #[derive(Clone, Copy, Debug, PartialEq, Eq)]
 pub enum TextFault {
-    /// No token, blank byte or comment begins with the byte at this place.
+    /// No token, blank byte or comment begins with the byte at this position.
     BadByte(u32),
-    /// No `"` follows the `"` at this place.
+    /// No `"` follows the `"` at this position.
     OpenString(u32),
-    /// No `*/` follows the `/*` at this place.
+    /// No `*/` follows the `/*` at this position.
     OpenComment(u32),
-    /// More than 255 name bytes follow each other from this place on.
+    /// More than 255 name bytes follow each other from this position on.
     LongName(u32),
-    /// The token at this place can't go on with the text before it, or the text ends at this place and can't
+    /// The token at this position can't go on with the text before it, or the text ends at this position and can't
     /// end yet. The other value says what is wanted instead.
     Expected(u32, Want),
     /// No `.type` stands in the text.
     NoType,
-    /// The name at this place, after `.type`, is neither `LTS` nor `TS`.
+    /// The name at this position, after `.type`, is neither `LTS` nor `TS`.
     WrongType(u32),
-    /// The name at this place is that of a state that was declared before.
+    /// The name at this position is that of a state that was declared before.
     TwiceState(u32),
-    /// The name at this place is that of a label that was declared before.
+    /// The name at this position is that of a label that was declared before.
     TwiceLabel(u32),
-    /// The name at this place, the first or third of an arc, is that of no state.
+    /// The name at this position, the first or third of an arc, is that of no state.
     UnknownState(u32),
-    /// The name at this place, the second of an arc, is that of no label.
+    /// The name at this position, the second of an arc, is that of no label.
     UnknownLabel(u32),
-    /// The state whose name is at this place is marked initial, and so is one before it.
+    /// The state whose name is at this position is marked initial, and so is one before it.
     TwoInitial(u32),
     /// No state is marked initial.
     NoInitial,
-    /// The name at this place is that of a new state, and 4,096 were declared before.
+    /// The name at this position is that of a new state, and 4,096 were declared before.
     TooManyStates(u32),
-    /// The name at this place is that of a new label, and 256 were declared before.
+    /// The name at this position is that of a new label, and 256 were declared before.
     TooManyLabels(u32),
-    /// The name at this place is the first of a new arc, and 262,144 were declared before, repetitions not
+    /// The name at this position is the first of a new arc, and 262,144 were declared before, repetitions not
     /// counted.
     TooManyArcs(u32),
     /// There is no memory left.

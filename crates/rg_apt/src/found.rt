@@ -4,16 +4,16 @@ ghost use Rattle.rg_lexer.specs.Lexeme.{lexeme};
 ghost use Rattle.rg_lexer.specs.Tokens.{IsTokenOf};
 ghost use Rattle.rg_items.specs.Entry.{IsNameOf};
 ghost use Rattle.rg_apt.specs.Contents.{is_initial, is_true, marks};
-ghost use Rattle.rg_items.specs.ListView.{list_place_in, setting_in, HoldsKey, HoldsSetting};
+ghost use Rattle.rg_items.specs.ListView.{list_position_in, setting_in, HoldsKey, HoldsSetting};
 ghost use Rattle.rg_apt.specs.Reading.{marked, with_name, adds, nothing, mark_last};
-ghost use Rattle.rg_apt.specs.View.{section_in, place_in, HoldsTokens};
+ghost use Rattle.rg_apt.specs.View.{section_in, position_in, HoldsTokens};
 ghost use Rattle.rg_apt.specs.Table.{type_name, in_section, after_entry, third, in_list};
 ghost use Rattle.rg_apt.specs.FoundView.{state_in, states_in, labels_in, arcs_in, found_in, IsStateOf, HoldsNames};
 ghost use Rattle.rg_apt.specs.declared.fault.TextFault.TheVariants.{NoMemory};
 
 use crate::fault::TextFault;
-use crate::place::{Place, Section};
-use rg_items::{FoundSetting, ListPlace, completed, text_of, value_of};
+use crate::position::{Position, Section};
+use rg_items::{FoundSetting, ListPosition, completed, text_of, value_of};
 use rg_lexer::{Kind, Token};
 use std::alloc::Global;
 
@@ -174,14 +174,14 @@ impl Found {
     }
 
     // A token stands in an option list.
-    fn at_option(&mut self, bytes: &[u8], section: Section, place: ListPlace, token: Token)
+    fn at_option(&mut self, bytes: &[u8], section: Section, position: ListPosition, token: Token)
         requires token { IsTokenOf bytes.now token }
-        requires key { HoldsKey bytes.now place }
+        requires key { HoldsKey bytes.now position }
         ensures found { found_in bytes.now self.new
-            ≡ adds (in_list (section_in section) (list_place_in bytes.now place)) (lexeme bytes.now token) (found_in bytes.now self.old) }
+            ≡ adds (in_list (section_in section) (list_position_in bytes.now position)) (lexeme bytes.now token) (found_in bytes.now self.old) }
         ensures names { HoldsNames bytes.now self.old → HoldsNames bytes.now self.new }
     {
-        match completed(place, token) {
+        match completed(position, token) {
             Some(setting) => {
                 let mark = marks(bytes, setting);
                 self.mark(section, mark);
@@ -190,23 +190,23 @@ impl Found {
         }
     }
 
-    /// Adds what is found with a token that stands at a place.
-    pub fn add(&mut self, bytes: &[u8], place: Place, token: Token) -> Result<(), TextFault>
+    /// Adds what is found with a token that stands at a position.
+    pub fn add(&mut self, bytes: &[u8], position: Position, token: Token) -> Result<(), TextFault>
         requires token { IsTokenOf bytes.now token }
-        requires held { HoldsTokens bytes.now place }
-        ensures ok { OnOk result (found_in bytes.now self.new ≡ adds (place_in bytes.now place) (lexeme bytes.now token) (found_in bytes.now self.old)) }
+        requires held { HoldsTokens bytes.now position }
+        ensures ok { OnOk result (found_in bytes.now self.new ≡ adds (position_in bytes.now position) (lexeme bytes.now token) (found_in bytes.now self.old)) }
         ensures names { OnOk result (HoldsNames bytes.now self.old → HoldsNames bytes.now self.new) }
         ensures err { IfErr result (λ e. e ≡ NoMemory) }
     {
-        match place {
-            Place::Start => {}
-            Place::TypeName => self.at_type(token),
-            Place::PassedText => {}
-            Place::InSection(section) => self.at_entry(section, token)?,
-            Place::AfterEntry(section) => self.at_entry(section, token)?,
-            Place::Second(_) => {}
-            Place::Third(from, label) => self.at_third(from, label, token)?,
-            Place::InList(section, place) => self.at_option(bytes, section, place, token),
+        match position {
+            Position::Start => {}
+            Position::TypeName => self.at_type(token),
+            Position::PassedText => {}
+            Position::InSection(section) => self.at_entry(section, token)?,
+            Position::AfterEntry(section) => self.at_entry(section, token)?,
+            Position::Second(_) => {}
+            Position::Third(from, label) => self.at_third(from, label, token)?,
+            Position::InList(section, position) => self.at_option(bytes, section, position, token),
         }
         Ok(())
     }

@@ -18,7 +18,7 @@ mod building;
 mod fault;
 mod found;
 mod laws;
-mod place;
+mod position;
 mod print;
 mod whole;
 
@@ -27,6 +27,3 @@ pub use laws::{items_are_read, one_answer, plain_is_spelled, printed_is_spelled}
 pub use rg_memory::NoMemory;
 pub use print::print_lts;
 pub use whole::read_lts;
-
-#[cfg(test)]
-mod tests;

@@ -1,5 +1,6 @@
 //! What the tokens of a file declare, or the first that can't continue the grammar.
 ghost use Rattle.std.specs.Prelude.{◌≡◌, ◌≢◌, ◌≤◌, List, All, length, map, IfOk, IfErr};
+ghost use Rattle.rg_text.specs.Limits.{most_bytes};
 ghost use Rattle.rg_lexer.specs.Lexeme.{Lexeme, lexeme, AreLexemes};
 ghost use Rattle.rg_apt.specs.Spells.{FirstFault, Spells};
 ghost use Rattle.rg_lexer.specs.Tokens.{IsTokenOf};
@@ -12,7 +13,7 @@ ghost use Rattle.rg_apt.specs.declared.fault.TextFault.TheVariants.{NoMemory};
 use crate::building::build;
 use crate::fault::TextFault;
 use crate::found::Found;
-use crate::place::{Place, lead, may_end, refusal, wanted};
+use crate::position::{Position, lead, may_end, refusal, wanted};
 use rg_items::text_of;
 use rg_lexer::{Token, tokens};
 use rg_lts::Lts;
@@ -20,34 +21,34 @@ use std::alloc::Global;
 
 /// What the tokens of a text declare.
 pub fn found_of(alloc: Global, bytes: &[u8], tokens: &[Token]) -> Result<Found, TextFault>
-    requires size { length bytes.now ≤ 16777216 }
+    requires size { length bytes.now ≤ most_bytes }
     requires tokens { All (IsTokenOf bytes.now) tokens.now }
     ensures ok { IfOk result (λ f. (items : List Item) × AreItems items (map (lexeme bytes.now) tokens.now) × (found_in bytes.now f ≡ declared items)) }
     ensures names { IfOk result (HoldsNames bytes.now) }
     ensures fault { IfErr result (λ e. e ≢ NoMemory → FirstRefusal (map (lexeme bytes.now) tokens.now) (length bytes.now) e) }
 {
     let mut found = Found::new(alloc);
-    let mut place = Place::Start;
+    let mut position = Position::Start;
     for token in tokens {
         let text = text_of(bytes, *token);
-        match lead(place, *token, text) {
+        match lead(position, *token, text) {
             Some(next) => {
-                found.add(bytes, place, *token)?;
-                place = next;
+                found.add(bytes, position, *token)?;
+                position = next;
             }
-            None => return Err(refusal(place, *token)),
+            None => return Err(refusal(position, *token)),
         }
     }
-    if may_end(place) {
+    if may_end(position) {
         Ok(found)
     } else {
-        Err(TextFault::Expected(bytes.len() as u32, wanted(place)))
+        Err(TextFault::Expected(bytes.len() as u32, wanted(position)))
     }
 }
 
 /// What a text declares, or its first fault in its tokens or its grammar.
 pub fn read(alloc: Global, bytes: &[u8]) -> Result<Found, TextFault>
-    requires { length bytes.now ≤ 16777216 }
+    requires { length bytes.now ≤ most_bytes }
     ensures ok { IfOk result (λ f. (xs : List Lexeme) × (items : List Item) × AreLexemes bytes.now xs × AreItems items xs × (found_in bytes.now f ≡ declared items)) }
     ensures names { IfOk result (HoldsNames bytes.now) }
     ensures fault { IfErr result (λ e. e ≢ NoMemory → FirstFault bytes.now e) }
@@ -65,7 +66,7 @@ pub fn read(alloc: Global, bytes: &[u8]) -> Result<Found, TextFault>
 /// declared, in the order `NoType`, faults of states, of labels, of arcs, `NoInitial`; `NoMemory` where
 /// memory runs out.
 pub fn read_lts(alloc: Global, bytes: &[u8]) -> Result<Lts, TextFault>
-    requires { length bytes.now ≤ 16777216 }
+    requires { length bytes.now ≤ most_bytes }
     ensures ok { IfOk result (λ lts. Spells bytes.now lts) }
     ensures fault { IfErr result (λ e. e ≢ NoMemory → FirstFault bytes.now e) }
 {

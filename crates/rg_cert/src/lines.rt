@@ -1,9 +1,8 @@
 //! Lines and their fields.
-ghost use Rattle.std.specs.Prelude.{◌≡◌, ◌≢◌, ◌≤◌, ◌++◌, ◌∷◌, length, map, All, IfOk, IfSome, IfNone};
-ghost use Rattle.std.specs.List.{prefix_len};
-ghost use Rattle.rg_text.specs.Byte.{is_other_than};
+ghost use Rattle.std.specs.Prelude.{◌≡◌, ◌≢◌, ◌++◌, ◌∷◌, map, All, IfOk, IfSome, IfNone};
 ghost use Rattle.rg_text.specs.Line.{fields};
 
+use rg_text::len_before;
 use std::alloc::{AllocError, Global};
 
 // The first line of a text, and what follows its line feed.
@@ -11,19 +10,11 @@ pub(crate) fn first_line(text: &[u8]) -> Option<(&[u8], &[u8])>
     ensures some { IfSome result (λ r. (text.entry.now ≡ r.0.now ++ 10 ∷ r.1.now) × All (λ b. b ≢ 10) r.0.now) }
     ensures none { IfNone result (All (λ b. b ≢ 10) text.entry.now) }
 {
-    let at = line_len(text);
+    let at = len_before(text, b'\n');
     if at == text.len() {
         return None;
     }
     Some((&text[..at], &text[at + 1..]))
-}
-
-// How many bytes stand before the first line feed.
-fn line_len(text: &[u8]) -> usize
-    ensures value { result ≡ prefix_len (is_other_than 10) text.now }
-    ensures within { result ≤ length text.now }
-{
-    text.iter().take_while(|b| **b != b'\n').count()
 }
 
 // What stands between the spaces of a line.

@@ -1,19 +1,11 @@
 //! Names, and the states and labels that they name.
-ghost use Rattle.std.specs.Prelude.{◌≡◌, ◌<◌, IsTrue, ◌↔◌, IfSome, IfNone, Contains};
+ghost use Rattle.std.specs.Prelude.{◌≡◌, ◌<◌, IfSome, IfNone, Contains};
 ghost use Rattle.rg_text.specs.Byte.{IsName};
 ghost use Rattle.rg_theory.specs.System.{states, labels};
 ghost use Rattle.rg_cert.specs.Text.{state_name, label_name};
 
 use rg_lts::Lts;
-use rg_text::is_name_byte;
 use std::str;
-
-// Whether the text is 1 to 255 name bytes.
-pub(crate) fn is_name(text: &[u8]) -> bool
-    ensures { IsTrue result ↔ IsName text.now }
-{
-    !text.is_empty() && text.len() <= 255 && text.iter().all(|b| is_name_byte(*b))
-}
 
 // The state of this name; None where there is none.
 pub(crate) fn state_in(name: &[u8], lts: &Lts) -> Option<u32>

@@ -1,5 +1,6 @@
 //! The certificate that a text spells.
 ghost use Rattle.std.specs.Prelude.{◌≡◌, ◌≢◌, ◌⊎◌, ◌≤◌, ℕ, List, [], ◌∷◌, ◌++◌, length, map, IfOk, IfErr, IfSome, IfNone, OnOk, codes};
+ghost use Rattle.rg_text.specs.Limits.{most_bytes};
 ghost use Rattle.rg_theory.specs.declared.Class.{Class};
 ghost use Rattle.rg_theory.specs.ClassWords.{NamesClass};
 ghost use Rattle.rg_cert.specs.Trees.{nodes_of};
@@ -26,7 +27,7 @@ use std::str;
 /// The certificate that the bytes spell for the system. The class may be named by any text that `Class::read`
 /// takes. Errors: the first fault, as `CertFault` says, or want of memory.
 pub fn read(alloc: Global, bytes: &[u8], lts: &Lts) -> Result<Certificate, CertFault>
-    requires { length bytes.now ≤ 16777216 }
+    requires { length bytes.now ≤ most_bytes }
     ensures spelled { IfOk result (λ cert. Spells bytes.now lts.now (claim_of cert)) }
     ensures in_range { IfOk result (λ cert. IsCertificateOf lts.now cert) }
     ensures fault { IfErr result (λ e. e ≢ fault.NoMemory → FirstFault bytes.now lts.now e) }
@@ -102,7 +103,7 @@ fn head_line<'a>(alloc: Global, text: &'a [u8], lts: &Lts) -> Result<(Head, &'a 
 
 // The cases that follow a head, from the fourth line on.
 fn cases(alloc: Global, text: &[u8], head: Head, lts: &Lts) -> Result<Vec<Case>, CertFault>
-    requires { length text.now ≤ 16777216 }
+    requires { length text.now ≤ most_bytes }
     ensures ok { IfOk result (λ cases. AreCasesOf lts.now (head_in head) text.now (map nodes_of cases.items)) }
     ensures err { IfErr result (λ e. e ≢ fault.NoMemory → FaultFrom lts.now (after_head (head_in head)) text.now 4 e) }
 {

@@ -5,9 +5,10 @@ ghost use Rattle.rg_cert.specs.declared.table.LineForm.TheVariants as of_line;
 ghost use Rattle.rg_cert.specs.Lines.{fields_of, IsIn, HasFieldForm, IsFieldInRange, IsFieldKnown, AreAsked};
 ghost use Rattle.rg_cert.specs.View.{range_in, field_in, line_form_in};
 
-use crate::names::{is_name, label_in, state_in};
+use crate::names::{label_in, state_in};
 use crate::numerals::{is_numeral, number};
 use rg_lts::Lts;
+use rg_text::is_name;
 
 /// The ranges of numbers.
 #[derive(Clone, Copy, Debug, PartialEq, Eq)]

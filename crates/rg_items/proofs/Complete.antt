@@ -9,9 +9,9 @@ use Rattle.rg_lexer.specs.declared.token.Kind.{Kind}
 use Rattle.rg_lexer.specs.declared.token.Kind.TheVariants.{Name, Text, LeftBracket, RightBracket, Comma, Equals}
 use Rattle.rg_items.specs.Entry.{Setting, alone, valued, Entry, IsSetting, AreSeparated, AreEnclosed, IsOptionally, IsEntry, AreEach}
 use Rattle.rg_items.specs.Grammar.{Grammar, leads_all}
-use Rattle.rg_items.specs.ListPlace.{ListPlace, first_key, next_key, after_key, value, after_value, ListStep, on, closed, list_leads_by, list_to}
+use Rattle.rg_items.specs.ListPosition.{ListPosition, first_key, next_key, after_key, value, after_value, ListStep, on, closed, list_leads_by, list_to}
 
--- by one token after another: what completes the place after a token completes the place before it
+-- by one token after another: what completes the position after a token completes the position before it
 pub completes : {P D F : Type 0} (g : Grammar P D F) (Completes : P → List Lexeme → Type 0)
     → ((p : P) (x : Lexeme) (xs : List Lexeme) (q : P) → g.leads p x ≡ Some q → Completes q xs → Completes p (x ∷ xs))
     → ((p : P) → g.may_end p ≡ true → Completes p [])
@@ -100,11 +100,11 @@ enclosed opening closing Is More left xs kind things =
       ap (λ l. left ∷ l) (c.all ∙ sym (append_assoc c.inner (c.right ∷ []) c.rest)),
     )
 
--- with what came before at a place of an option list, the tokens go on as the grammar wants
+-- with what came before at a position of an option list, the tokens go on as the grammar wants
 abbrev pub Keys : (List Lexeme → Type 0) → List Lexeme → Type 0
 Keys More xs = SomeThings RightBracket IsSetting More xs
 
-abbrev pub ListCompletes : (List Lexeme → Type 0) → ListPlace → List Lexeme → Type 0
+abbrev pub ListCompletes : (List Lexeme → Type 0) → ListPosition → List Lexeme → Type 0
 ListCompletes More first_key xs = Things RightBracket IsSetting More xs
 ListCompletes More next_key xs = Keys More xs
 ListCompletes More (after_key key) xs = key.kind ≡ Name → Keys More (key ∷ xs)
@@ -112,14 +112,14 @@ ListCompletes More (value key) xs = (equals : Lexeme) → key.kind ≡ Name → 
 ListCompletes More after_value xs = (key equals v : Lexeme) → key.kind ≡ Name → equals.kind ≡ Equals → (v.kind ≡ Text) ⊎ (v.kind ≡ Name) → Keys More (key ∷ equals ∷ v ∷ xs)
 
 abbrev pub StepCompletes : (List Lexeme → Type 0) → ListStep → List Lexeme → Type 0
-StepCompletes More (on place) xs = ListCompletes More place xs
+StepCompletes More (on position) xs = ListCompletes More position xs
 StepCompletes More closed xs = More xs
 
 led : (More : List Lexeme → Type 0) (to q : ListStep) (xs : List Lexeme) → Some to ≡ Some q → StepCompletes More q xs → StepCompletes More to xs
 led More to q xs e go = let same : to ≡ q = cc in subst (λ p. StepCompletes More p xs) (sym same) go
 
--- one token of an option list and what completes the place after it
-pub list_token : (More : List Lexeme → Type 0) (p : ListPlace) (x : Lexeme) (xs : List Lexeme) (k : Kind) (q : ListStep) → x.kind ≡ k → list_leads_by p k x ≡ Some q → StepCompletes More q xs → ListCompletes More p (x ∷ xs)
+-- one token of an option list and what completes the position after it
+pub list_token : (More : List Lexeme → Type 0) (p : ListPosition) (x : Lexeme) (xs : List Lexeme) (k : Kind) (q : ListStep) → x.kind ≡ k → list_leads_by p k x ≡ Some q → StepCompletes More q xs → ListCompletes More p (x ∷ xs)
 list_token More first_key x xs Name q kind lead go = some_things RightBracket IsSetting More (x ∷ xs) (led More (on (after_key x)) q xs lead go kind)
 list_token More first_key x xs RightBracket q kind lead go = no_things RightBracket IsSetting More x xs kind (led More closed q xs lead go)
 list_token More next_key x xs Name q kind lead go = led More (on (after_key x)) q xs lead go kind
@@ -137,13 +137,13 @@ list_token More after_value x xs RightBracket q kind lead go = λ key equals v k
 list_token More p x xs k q kind lead go = absurd cc
 
 -- the same in a grammar with such lists
-pub list_token_in : {P : Type 0} (inside : ListPlace → P) (after : P) (Completes : P → List Lexeme → Type 0) (More : List Lexeme → Type 0)
-    → ((place : ListPlace) (xs : List Lexeme) → Completes (inside place) xs → ListCompletes More place xs) → ((xs : List Lexeme) → Completes after xs → More xs)
-    → (p : ListPlace) (x : Lexeme) (xs : List Lexeme) (k : Kind) (q : P) → x.kind ≡ k → option_map (list_to inside after) (list_leads_by p k x) ≡ Some q → Completes q xs → ListCompletes More p (x ∷ xs)
+pub list_token_in : {P : Type 0} (inside : ListPosition → P) (after : P) (Completes : P → List Lexeme → Type 0) (More : List Lexeme → Type 0)
+    → ((position : ListPosition) (xs : List Lexeme) → Completes (inside position) xs → ListCompletes More position xs) → ((xs : List Lexeme) → Completes after xs → More xs)
+    → (p : ListPosition) (x : Lexeme) (xs : List Lexeme) (k : Kind) (q : P) → x.kind ≡ k → option_map (list_to inside after) (list_leads_by p k x) ≡ Some q → Completes q xs → ListCompletes More p (x ∷ xs)
 list_token_in {P} inside after Completes More within beyond p x xs k q kind lead go = by (list_leads_by p k x) refl lead
   where
     to_step : (s : ListStep) → Completes (list_to inside after s) xs → StepCompletes More s xs
-    to_step (on place) h = within place xs h
+    to_step (on position) h = within position xs h
     to_step closed h = beyond xs h
 
     by : (o : Option ListStep) → list_leads_by p k x ≡ o → option_map (list_to inside after) o ≡ Some q → ListCompletes More p (x ∷ xs)

@@ -42,9 +42,9 @@ abbrev pub lexemes : List ℕ → List Token → List Lexeme
 lexemes bytes tokens = map (lexeme bytes) tokens
 
 -- what is left after i tokens is read and refused as the whole
-pub record ReadsTo (P D F : Type 0) (g : Grammar P D F) (bytes : List ℕ) (tokens : List Token) (i : ℕ) (place : P) (found : D) : Type 0 where
-  pub reads : read_on g g.start g.nothing (lexemes bytes tokens) ≡ read_on g place found (lexemes bytes (drop i tokens))
-  pub refused : refusal g g.start (lexemes bytes tokens) (length bytes) ≡ refusal g place (lexemes bytes (drop i tokens)) (length bytes)
+pub record ReadsTo (P D F : Type 0) (g : Grammar P D F) (bytes : List ℕ) (tokens : List Token) (i : ℕ) (position : P) (found : D) : Type 0 where
+  pub reads : read_on g g.start g.nothing (lexemes bytes tokens) ≡ read_on g position found (lexemes bytes (drop i tokens))
+  pub refused : refusal g g.start (lexemes bytes tokens) (length bytes) ≡ refusal g position (lexemes bytes (drop i tokens)) (length bytes)
 
 pub reads_none : {P D F : Type 0} (g : Grammar P D F) (bytes : List ℕ) (tokens : List Token) (found : D) → found ≡ g.nothing → ReadsTo P D F g bytes tokens 0 g.start found
 reads_none g bytes tokens found e = record { reads = ap (λ d. read_on g g.start d (lexemes bytes tokens)) (sym e); refused = refl }

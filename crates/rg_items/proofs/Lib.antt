@@ -2,8 +2,8 @@ pub mod Printed
 pub mod Names
 pub mod Refusals
 pub mod Described
-pub mod Left
 pub mod Moves
 pub mod Lists
 pub mod Complete
 pub mod Tokens
+pub mod Going

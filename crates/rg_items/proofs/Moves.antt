@@ -1,4 +1,4 @@
--- Tokens that lead a reader from one place to another.
+-- Tokens that lead a reader from one position to another.
 use Rattle.std.proofs.Common.{◌≡◌, Bool, true, false, List, [], ◌∷◌, ◌++◌, Some, refl, sym, ap, subst, ◌∙◌, append_assoc}
 use Rattle.std.specs.Option.{option_and_then}
 use Rattle.rg_lexer.specs.Lexeme.{Lexeme}
@@ -7,7 +7,7 @@ use Rattle.rg_lexer.specs.declared.token.Kind.TheVariants.{Comma}
 use Rattle.rg_items.specs.Entry.{AreSeparated, AreEnclosed, AreEach}
 use Rattle.rg_items.specs.Grammar.{Grammar, read_on}
 
--- from a place the tokens lead to another, whatever follows them
+-- from a position the tokens lead to another, whatever follows them
 abbrev pub Moves : {P D F : Type 0} → Grammar P D F → P → D → List Lexeme → P → D → Type 0
 Moves g p d xs q e = (rest : List Lexeme) → read_on g p d (xs ++ rest) ≡ read_on g q e rest
 
@@ -30,7 +30,7 @@ abbrev pub take_all : {X D : Type 0} → (X → D → D) → List X → D → D
 take_all take [] d = d
 take_all take (x ∷ xs) d = take_all take xs (take x d)
 
--- things of one sort, each of which leads from one of two places to one of them
+-- things of one sort, each of which leads from one of two positions to one of them
 pub each_move : {P D F X : Type 0} (g : Grammar P D F) (free : Bool → P) (Is : X → List Lexeme → Type 0) (take : X → D → D)
     → ((b : Bool) (d : D) (thing : X) (xs : List Lexeme) → Is thing xs → (c : Bool) × Moves g (free b) d xs (free c) (take thing d))
     → (b : Bool) (d : D) (things : List X) (xs : List Lexeme) → AreEach Is things xs → (c : Bool) × Moves g (free b) d xs (free c) (take_all take things d)
@@ -44,22 +44,22 @@ each_move g free Is take one b d (thing ∷ things) xs is =
     )
 
 -- where a thing may stand: after the opening token or after a comma
-abbrev pub thing_place : {P : Type 0} → Bool → P → P → P
-thing_place true first next = first
-thing_place false first next = next
+abbrev pub thing_position : {P : Type 0} → Bool → P → P → P
+thing_position true first next = first
+thing_position false first next = next
 
 -- a grammar with things between an opening and a closing token
 pub record Encloses (P D F X : Type 0) (g : Grammar P D F) (opening closing : Kind) (Is : X → List Lexeme → Type 0) (take : X → D → D) (before first next after : P) : Type 0 where
   pub opens : (d : D) (x : Lexeme) → x.kind ≡ opening → Moves g before d (x ∷ []) first d
   pub closes : (d : D) (x : Lexeme) → x.kind ≡ closing → Moves g first d (x ∷ []) after d
-  pub at_comma : (b : Bool) (d : D) (thing : X) (xs : List Lexeme) (x : Lexeme) → Is thing xs → x.kind ≡ Comma → Moves g (thing_place b first next) d (xs ++ x ∷ []) next (take thing d)
-  pub at_close : (b : Bool) (d : D) (thing : X) (xs : List Lexeme) (x : Lexeme) → Is thing xs → x.kind ≡ closing → Moves g (thing_place b first next) d (xs ++ x ∷ []) after (take thing d)
+  pub at_comma : (b : Bool) (d : D) (thing : X) (xs : List Lexeme) (x : Lexeme) → Is thing xs → x.kind ≡ Comma → Moves g (thing_position b first next) d (xs ++ x ∷ []) next (take thing d)
+  pub at_close : (b : Bool) (d : D) (thing : X) (xs : List Lexeme) (x : Lexeme) → Is thing xs → x.kind ≡ closing → Moves g (thing_position b first next) d (xs ++ x ∷ []) after (take thing d)
 
 -- things, and the token that closes their list
 separated_move : {P D F X : Type 0} (g : Grammar P D F) (opening closing : Kind) (Is : X → List Lexeme → Type 0) (take : X → D → D) (before first next after : P)
     → Encloses P D F X g opening closing Is take before first next after
     → (b : Bool) (d : D) (thing : X) (more : List X) (xs : List Lexeme) (x : Lexeme) → AreSeparated Is (thing ∷ more) xs → x.kind ≡ closing
-    → Moves g (thing_place b first next) d (xs ++ x ∷ []) after (take_all take (thing ∷ more) d)
+    → Moves g (thing_position b first next) d (xs ++ x ∷ []) after (take_all take (thing ∷ more) d)
 separated_move g opening closing Is take before first next after by b d thing [] xs x is close = by.at_close b d thing xs x is close
 separated_move g opening closing Is take before first next after by b d thing (t ∷ more) xs x is close =
     let front = is.0 in
@@ -67,9 +67,9 @@ separated_move g opening closing Is take before first next after by b d thing (t
     let rest = is.2 in
     let e = take thing d in
     let f = take_all take (t ∷ more) e in
-    subst (λ l. Moves g (thing_place b first next) d l after f)
+    subst (λ l. Moves g (thing_position b first next) d l after f)
     (sym (ap (λ l. l ++ x ∷ []) is.6 ∙ append_assoc front (comma ∷ rest) (x ∷ []) ∙ sym (append_assoc front (comma ∷ []) (rest ++ x ∷ []))))
-    (moves_both g (thing_place b first next) next after d e f (front ++ comma ∷ []) (rest ++ x ∷ [])
+    (moves_both g (thing_position b first next) next after d e f (front ++ comma ∷ []) (rest ++ x ∷ [])
     (by.at_comma b d thing front comma is.3 is.4)
     (separated_move g opening closing Is take before first next after by false e t more rest x is.5 close))
 

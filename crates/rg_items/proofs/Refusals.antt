@@ -11,7 +11,7 @@ abbrev pub or_refused : {P F : Type 0} → F → (P → Option F) → Option P �
 or_refused fault go_on None = Some fault
 or_refused fault go_on (Some q) = go_on q
 
--- the refusal of tokens from a place on, if they are refused
+-- the refusal of tokens from a position on, if they are refused
 abbrev pub refusal : {P D F : Type 0} → Grammar P D F → P → List Lexeme → ℕ → Option F
 refusal g p [] end = at_end g p end
 refusal g p (x ∷ xs) end = or_refused (g.refuses p x) (λ q. refusal g q xs end) (g.leads p x)
@@ -67,7 +67,7 @@ read_leads {P} g p q d e (x ∷ xs) is = by (g.leads p x) refl is (λ next h. re
     by None same is more = absurd cc
     by (Some next) same is more = ap (option_and_then (λ next. leads_all g next xs)) same ∙ more next is
 
--- tokens that are not refused lead to a place where the text may end
+-- tokens that are not refused lead to a position where the text may end
 pub refused_from_none : {P D F : Type 0} (g : Grammar P D F) (p : P) (xs : List Lexeme) (end : ℕ) → refusal g p xs end ≡ None → (q : P) × (leads_all g p xs ≡ Some q) × (g.may_end q ≡ true)
 refused_from_none {P} g p [] end none = by (g.may_end p) refl none
   where

@@ -1,5 +1,4 @@
 pub mod Entry
 pub mod Grammar
-pub mod Faults
-pub mod ListPlace
+pub mod ListPosition
 pub mod ListView

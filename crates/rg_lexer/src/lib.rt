@@ -11,6 +11,3 @@ mod whole;
 pub use laws::{one_answer, spans};
 pub use token::{Kind, LexFault, Token, Want};
 pub use whole::tokens;
-
-#[cfg(test)]
-mod tests;

@@ -71,16 +71,16 @@ pub enum Want {
     Number,
 }
 
-/// Why a text has no tokens. Each place is the number of a byte, from 0.
+/// Why a text has no tokens. Each position is the number of a byte, from 0.
 #[derive(Clone, Copy, Debug, PartialEq, Eq)]
 pub enum LexFault {
-    /// No token, blank byte or comment begins with the byte at this place.
+    /// No token, blank byte or comment begins with the byte at this position.
     BadByte(u32),
-    /// No `"` follows the `"` at this place.
+    /// No `"` follows the `"` at this position.
     OpenString(u32),
-    /// No `*/` follows the `/*` at this place.
+    /// No `*/` follows the `/*` at this position.
     OpenComment(u32),
-    /// More than 255 name bytes follow each other from this place on.
+    /// More than 255 name bytes follow each other from this position on.
     LongName(u32),
     /// There is no memory for the list of tokens.
     NoMemory,

@@ -1,5 +1,6 @@
 //! The tokens of a whole text.
 ghost use Rattle.std.specs.Prelude.{◌≡◌, ◌≢◌, ◌≤◌, ◌++◌, length, IfOk, IfErr, OnOk};
+ghost use Rattle.rg_text.specs.Limits.{most_bytes};
 ghost use Rattle.rg_lexer.specs.Tokens.{token_of, AreTokens, FirstLexFault};
 ghost use Rattle.rg_lexer.specs.declared.token.LexFault.TheVariants.{NoMemory};
 
@@ -22,10 +23,10 @@ fn push_token(tokens: &mut Vec<Token>, sort: Sort, from: u32, to: u32) -> Result
 /// bytes and comments are left out. By `one_answer` no other answer meets these clauses, and by `spans`
 /// the tokens are spans of the text, in order.
 ///
-/// Errors: `BadByte`, `OpenString`, `OpenComment` or `LongName`, the first in the text, with its place;
+/// Errors: `BadByte`, `OpenString`, `OpenComment` or `LongName`, the first in the text, with its position;
 /// `NoMemory` where the list of tokens can't grow.
 pub fn tokens(alloc: Global, bytes: &[u8]) -> Result<Vec<Token>, LexFault>
-    requires { length bytes.now ≤ 16777216 }
+    requires { length bytes.now ≤ most_bytes }
     ensures ok { IfOk result (λ v. AreTokens bytes.now v.items) }
     ensures fault { IfErr result (λ e. e ≢ NoMemory → FirstLexFault bytes.now e) }
 {

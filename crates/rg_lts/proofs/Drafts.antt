@@ -7,7 +7,8 @@ use Rattle.std.proofs.lemmas.List.Quantifiers.{all_pairs_push}
 use Rattle.rg_text.specs.Byte.{IsName}
 use Rattle.rg_theory.specs.declared.Arc.{Arc}
 use Rattle.rg_theory.specs.System.{IsArcInRange, IsArcBefore}
-use Rattle.rg_lts.specs.WellFormed.{AreNames, IsWellFormed, most_states, most_labels, most_arcs}
+use Rattle.rg_theory.specs.Limits.{most_states, most_labels, most_arcs}
+use Rattle.rg_lts.specs.WellFormed.{AreNames, IsWellFormed}
 use Rattle.rg_lts.specs.declared.fault.BuildFault.{BuildFault}
 use Rattle.rg_lts.specs.declared.fault.BuildFault.TheVariants.{UnknownState, UnknownLabel, TooManyArcs, NoMemory}
 use Rattle.rg_lts.specs.Draft.{Draft, finished, names_alone, IsWellFormedDraft, IsArcNamed, HasNames, LacksState, LacksLabel, IsArcOverLimit}
@@ -89,7 +90,7 @@ finished_fine d s fine is = record {
 }
 
 -- a name stands at one place
-one_place : (names : List (List ℕ)) (i j : ℕ) (name : List ℕ) → AllPairs (λ a b. a ≢ b) names → slice_get names i ≡ Some name
+pub one_place : (names : List (List ℕ)) (i j : ℕ) (name : List ℕ) → AllPairs (λ a b. a ≢ b) names → slice_get names i ≡ Some name
     → slice_get names j ≡ Some name → i ≡ j
 one_place names i j name differ at too = go (cases_order i j)
   where
@@ -100,7 +101,7 @@ one_place names i j name differ at too = go (cases_order i j)
     go (inr (inr l)) = absurd (differ j i name l (slice_get_within names i name at)
         (get_or_from_slice_get names j name name too ∙ sym (get_or_from_slice_get names i name name at)))
 
-there : (names : List (List ℕ)) (i : ℕ) (name : List ℕ) → slice_get names i ≡ Some name → Contains names name
+pub there : (names : List (List ℕ)) (i : ℕ) (name : List ℕ) → slice_get names i ≡ Some name → Contains names name
 there names i name at = (i, slice_get_within names i name at, get_or_from_slice_get names i name name at)
 
 -- what the names say they say of the whole draft

@@ -1,4 +1,5 @@
 pub mod NameLemmas
+pub mod OrderedArcs
+pub mod Drafts
 mod ArcOrder
 mod ArcSets
-mod Drafts

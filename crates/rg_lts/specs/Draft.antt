@@ -2,7 +2,8 @@
 use Rattle.std.specs.Prelude.{◌≡◌, ◌≢◌, ◌↔◌, ◌⊎◌, ℕ, ◌<◌, ◌≤◌, List, [], length, All, AllPairs, Contains, Option, Some, None, IfSome, IsSomeAnd, slice_get}
 use Rattle.rg_theory.specs.declared.Arc.{Arc}
 use Rattle.rg_theory.specs.System.{System, IsArcInRange, IsArcBefore}
-use Rattle.rg_lts.specs.WellFormed.{AreNames, most_states, most_labels, most_arcs}
+use Rattle.rg_theory.specs.Limits.{most_states, most_labels, most_arcs}
+use Rattle.rg_lts.specs.WellFormed.{AreNames}
 
 -- the names so far, each arc once and in order, and the initial state where one is named
 pub record Draft : Type 0 where

@@ -2,17 +2,8 @@
 use Rattle.std.specs.Prelude.{◌≢◌, ℕ, ◌≤◌, ◌==◌, nat_lt, ◌&&◌, ◌||◌, Bool, List, length, All, AllPairs}
 use Rattle.rg_text.specs.Byte.{IsName}
 use Rattle.rg_theory.specs.declared.Arc.{Arc}
+use Rattle.rg_theory.specs.Limits.{most_states, most_labels, most_arcs}
 use Rattle.rg_theory.specs.System.{System, states, labels, IsInRange, IsArcBefore}
-
--- the most states, labels and arcs
-abbrev pub most_states : ℕ
-most_states = 4096
-
-abbrev pub most_labels : ℕ
-most_labels = 256
-
-abbrev pub most_arcs : ℕ
-most_arcs = 262144
 
 -- each is a name, and no two are the same
 pub record AreNames (names : List (List ℕ)) : Type 0 where

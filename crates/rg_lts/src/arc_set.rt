@@ -2,7 +2,7 @@
 ghost use Rattle.std.specs.Prelude.{◌≡◌, ◌↔◌, ◌⊎◌, ◌≤◌, length, AllPairs, Contains, IfOk, IfErr, OnOk, OnErr, IsErrOf};
 ghost use Rattle.rg_theory.specs.declared.Arc.{Arc};
 ghost use Rattle.rg_theory.specs.System.{IsArcBefore};
-ghost use Rattle.rg_lts.specs.WellFormed.{most_arcs};
+ghost use Rattle.rg_theory.specs.Limits.{most_arcs};
 ghost use Rattle.rg_lts.specs.declared.fault.BuildFault.TheVariants as fault;
 
 use crate::fault::BuildFault;
@@ -10,8 +10,8 @@ use rg_theory::Arc;
 use std::alloc::{AllocError, Global};
 use std::collections::BTreeSet;
 
-// The most arcs.
-const ARC_LIMIT: usize = 262_144;
+/// The most arcs of a system.
+pub const MOST_ARCS: usize = 262_144;
 
 // Adds the arc, if it isn't there.
 pub(crate) fn add(arcs: &mut BTreeSet<Arc>, arc: Arc) -> Result<(), BuildFault>
@@ -23,7 +23,7 @@ pub(crate) fn add(arcs: &mut BTreeSet<Arc>, arc: Arc) -> Result<(), BuildFault>
     ensures cause { IfErr result (λ e. (e ≡ fault.TooManyArcs) ⊎ (e ≡ fault.NoMemory)) }
     ensures err { OnErr result (arcs.new.keys ≡ arcs.old.keys) }
 {
-    if arcs.len() >= ARC_LIMIT && !arcs.contains(&arc) {
+    if arcs.len() >= MOST_ARCS && !arcs.contains(&arc) {
         return Err(BuildFault::TooManyArcs);
     }
     arcs.insert(arc)?;

@@ -2,7 +2,8 @@
 ghost use Rattle.std.specs.Prelude.{◌≡◌, ◌↔◌, ◌⊎◌, ℕ, ◌<◌, ◌≤◌, length, Contains, Some, None, [], ◌∷◌, ◌++◌, slice_get, IfOk, IfErr, OnOk, OnErr, IfSome, IfNone, IsErrOf, map, string_bytes};
 ghost use Rattle.rg_text.specs.Byte.{IsName};
 ghost use Rattle.rg_theory.specs.declared.Arc.{Arc};
-ghost use Rattle.rg_lts.specs.WellFormed.{most_states, most_labels, IsWellFormed};
+ghost use Rattle.rg_theory.specs.Limits.{most_states, most_labels};
+ghost use Rattle.rg_lts.specs.WellFormed.{IsWellFormed};
 ghost use Rattle.rg_lts.specs.Draft.{Draft, IsWellFormedDraft, blank, finished, names_alone, IsArcNamed, AddsArc, LacksState, LacksLabel, IsArcOverLimit, IsOtherInitial};
 ghost use Rattle.rg_lts.specs.Faults.{IsStateFault, IsLabelFault, IsArcFault, IsInitialFault, IsFinishFault};
 ghost use Rattle.rg_lts.specs.declared.fault.BuildFault.TheVariants as fault;
@@ -16,11 +17,11 @@ use std::alloc::Global;
 use std::collections::BTreeSet;
 use std::marker::Model;
 
-// The most states.
-const STATE_LIMIT: usize = 4_096;
+/// The most states of a system.
+pub const MOST_STATES: usize = 4_096;
 
-// The most labels.
-const LABEL_LIMIT: usize = 256;
+/// The most labels of a system.
+pub const MOST_LABELS: usize = 256;
 
 /// A system that is being built: names in the order in which they came, arcs as a set.
 #[derive(Drop)]
@@ -72,7 +73,7 @@ impl LtsBuilder {
             return Err(BuildFault::TwiceState);
         }
         let s = self.state_names.len();
-        if s >= STATE_LIMIT {
+        if s >= MOST_STATES {
             return Err(BuildFault::TooManyStates);
         }
         names::add(self.alloc, &mut self.state_names, name)?;
@@ -94,7 +95,7 @@ impl LtsBuilder {
             return Err(BuildFault::TwiceLabel);
         }
         let t = self.label_names.len();
-        if t >= LABEL_LIMIT {
+        if t >= MOST_LABELS {
             return Err(BuildFault::TooManyLabels);
         }
         names::add(self.alloc, &mut self.label_names, name)?;
@@ -180,8 +181,8 @@ fn named_arc(
     label: &str,
     to: &str,
 ) -> Result<Arc, BuildFault>
-    requires states { length state_names.now.keys ≤ 4096 }
-    requires labels { length label_names.now.keys ≤ 4096 }
+    requires states { length state_names.now.keys ≤ most_states }
+    requires labels { length label_names.now.keys ≤ most_labels }
     ensures ok { let d = names_alone (map string_bytes state_names.now.keys) (map string_bytes label_names.now.keys) in
         IfOk result (IsArcNamed d from.now label.now to.now) }
     ensures unknown_state { let d = names_alone (map string_bytes state_names.now.keys) (map string_bytes label_names.now.keys) in

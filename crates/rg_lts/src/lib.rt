@@ -7,11 +7,9 @@ mod fault;
 mod lts;
 mod names;
 
-pub use builder::LtsBuilder;
+pub use arc_set::MOST_ARCS;
+pub use builder::{LtsBuilder, MOST_LABELS, MOST_STATES};
 pub use fault::BuildFault;
 pub use lts::Lts;
-pub use names::is_name;
+pub use rg_text::is_name;
 pub use rg_theory::Arc;
-
-#[cfg(test)]
-mod tests;

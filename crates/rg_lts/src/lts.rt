@@ -50,6 +50,14 @@ impl Lts {
         }
     }
 
+    /// Law: what a system in memory keeps to, so that its numbers are in range, its names differ, its arcs stand in
+    /// order and no limit is passed.
+    pub fn is_well_formed(&self)
+        ensures { IsWellFormed self.now }
+    {
+        let _initial = self.initial;
+    }
+
     /// How many states there are, 1 to 4,096.
     pub fn states(&self) -> u32
         ensures value { result ≡ states self.now }

@@ -1,20 +1,11 @@
 //! Tables of names in order of first appearance.
-ghost use Rattle.std.specs.Prelude.{◌≡◌, ℕ, ◌<◌, ◌≤◌, length, Contains, Some, [], ◌∷◌, ◌++◌, IfSome, IfNone, IfErr, OnOk, OnErr, IsTrue, ◌↔◌, map, string_bytes, slice_get};
-ghost use Rattle.rg_text.specs.Byte.{IsName};
+ghost use Rattle.std.specs.Prelude.{◌≡◌, ℕ, ◌<◌, ◌≤◌, length, Contains, Some, [], ◌∷◌, ◌++◌, IfSome, IfNone, IfErr, OnOk, OnErr, map, string_bytes, slice_get};
+ghost use Rattle.rg_theory.specs.Limits.{most_states};
 ghost use Rattle.rg_lts.specs.declared.fault.BuildFault.TheVariants as fault;
 
 use crate::fault::BuildFault;
 use indexmap::IndexSet;
-use rg_text::is_name_byte;
 use std::alloc::Global;
-
-/// Whether the text is a name: 1 to 255 bytes, each an ASCII letter, a digit or `_`.
-pub fn is_name(text: &str) -> bool
-    ensures { IsTrue result ↔ IsName text.now }
-{
-    let bytes = text.as_bytes();
-    !bytes.is_empty() && bytes.len() <= 255 && bytes.iter().all(|b| is_name_byte(*b))
-}
 
 // The name at a number of the table.
 pub(crate) fn name_at(table: &IndexSet<String>, i: u32) -> &str
@@ -26,7 +17,7 @@ pub(crate) fn name_at(table: &IndexSet<String>, i: u32) -> &str
 
 // The number of a name of the table.
 pub(crate) fn number_of(table: &IndexSet<String>, name: &str) -> Option<u32>
-    requires { length table.now.keys ≤ 4096 }
+    requires { length table.now.keys ≤ most_states }
     ensures within { IfSome result (λ i. i < length table.now.keys) }
     ensures found { IfSome result (λ i. slice_get (map string_bytes table.now.keys) i ≡ Some name.now) }
     ensures none { IfNone result (¬ Contains (map string_bytes table.now.keys) name.now) }

@@ -8,6 +8,7 @@ use Rattle.std.proofs.lemmas.List.Folds.{Any-from_list_any}
 use Rattle.std.proofs.lemmas.Bool.{and_parts, eqb-true, or_cases, or_parts, cases_eq, false_from_ne_true}
 use Rattle.std.proofs.lemmas.Map.Steps.{length-le_from_distinct_below}
 use Rattle.std.proofs.lemmas.Slice.Eq.{bytes_eq-Decides}
+use Rattle.rg_theory.specs.Limits.{most_labels}
 use Rattle.rg_net.specs.NetText.{blocks, candidate, first_free, place_prefix}
 use Rattle.rg_net.proofs.Digits.{IsPrinted, AreDigits, same_rest, split_digits, told_number, decimal_digits}
 
@@ -146,7 +147,7 @@ free_or_blocked names k (suc n) = by (list_any (blocks (candidate k)) names) ref
     by true e (inr all) = inr (λ j low high. ⊎_elim (λ same. subst (λ j. list_any (blocks (candidate j)) names ≡ true) same e)
         (λ other. all j (omega arith) (omega arith)) (cases_eq k j))
 
-pub free_prefix : (names : List (List ℕ)) → length names ≤ 256 → list_any (blocks (place_prefix names)) names ≡ false
+pub free_prefix : (names : List (List ℕ)) → length names ≤ most_labels → list_any (blocks (place_prefix names)) names ≡ false
 unfolding place_prefix
 free_prefix names few = ⊎_elim (λ free. free) (λ all. let most : 257 ≤ length names = enough names 257 (lit< tt) all in absurd
     (omega arith)) (free_or_blocked names 0 257)

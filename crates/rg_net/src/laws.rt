@@ -1,6 +1,7 @@
 //! What the text of a net tells.
 ghost use Rattle.std.specs.Prelude.{◌≡◌, ℕ, ◌≤◌, false, length, List};
 ghost use Rattle.std.specs.List.{list_any};
+ghost use Rattle.rg_theory.specs.Limits.{most_labels};
 ghost use Rattle.rg_theory.specs.System.{System, labels};
 ghost use Rattle.rg_theory.specs.Net.{Net};
 ghost use Rattle.rg_net.specs.NetText.{net_text, blocks, place_prefix};
@@ -15,5 +16,5 @@ pub fn net_is_told()
 /// Where there are at most 256 labels, none is the prefix of the places followed by digits alone, so none is the
 /// name of a place.
 pub fn prefix_is_free()
-    ensures { (names : List (List ℕ)) → length names ≤ 256 → list_any (blocks (place_prefix names)) names ≡ false }
+    ensures { (names : List (List ℕ)) → length names ≤ most_labels → list_any (blocks (place_prefix names)) names ≡ false }
 {}

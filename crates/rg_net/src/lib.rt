@@ -10,6 +10,3 @@ pub use laws::{net_is_told, prefix_is_free};
 pub use net::{Net, Place};
 pub use rg_memory::NoMemory;
 pub use rg_theory::{Class, ClassFault, class_is_told};
-
-#[cfg(test)]
-mod tests;

@@ -1,11 +1,12 @@
 -- One entry of a place or transition more: its fault, or that there is none.
-use Rattle.std.proofs.Common.{◌≡◌, ℕ, ◌<◌, ◌≤◌, cond, nat_le, List, [], ◌∷◌, ◌++◌, length, map, Contains, None, Some, sym, ap, subst, ◌∙◌}
+use Rattle.std.proofs.Common.{◌≡◌, ℕ, ◌<◌, ◌≤◌, ◌⊎◌, inl, inr, cond, nat_le, List, [], ◌∷◌, ◌++◌, length, map, Contains, None, Some, sym, ap, subst, ◌∙◌}
 use Rattle.std.specs.List.{list_any}
 use Rattle.std.specs.Str.{bytes_eq}
 use Rattle.std.proofs.lemmas.Bool.{cond-true, cond-false}
 use Rattle.std.proofs.lemmas.List.{map-append}
 use Rattle.rg_lexer.specs.Lexeme.{Lexeme}
 use Rattle.rg_netitems.specs.Contents.{Transition}
+use Rattle.rg_netfile.specs.declared.fault.NetFault.{NetFault}
 use Rattle.rg_netfile.specs.declared.fault.NetFault.TheVariants.{TwicePlace, TooManyPlaces, TwiceTransition}
 use Rattle.rg_netfile.specs.Contents.{most_places, place_fault, transition_fault}
 use Rattle.rg_netfile.proofs.NameTests.{contains_any, absent_none, le_true, le_false}
@@ -16,7 +17,7 @@ text_of x = x.text
 abbrev pub name_of : Transition → List ℕ
 name_of t = t.name.text
 
-pub place_twice : (before : List Lexeme) (x : Lexeme) (names : List (List ℕ)) → names ≡ map text_of before → Contains names x.text
+place_twice : (before : List Lexeme) (x : Lexeme) (names : List (List ℕ)) → names ≡ map text_of before → Contains names x.text
     → place_fault before x ≡ Some (TwicePlace x.at)
 place_twice before x names is has =
     cond-true (list_any (λ (b : Lexeme). bytes_eq x.text b.text) before) (Some (TwicePlace x.at)) (cond (nat_le most_places (length before)) (Some (TooManyPlaces x.at)) None)
@@ -28,10 +29,20 @@ to_room before x names is absent =
     cond-false (list_any (λ (b : Lexeme). bytes_eq x.text b.text) before) (Some (TwicePlace x.at)) (cond (nat_le most_places (length before)) (Some (TooManyPlaces x.at)) None)
     (absent_none text_of x.text before (λ has. absent (subst (λ l. Contains l x.text) (sym is) has)))
 
-pub place_over : (before : List Lexeme) (x : Lexeme) (names : List (List ℕ)) → names ≡ map text_of before → (Contains names x.text → ⊥)
+place_over : (before : List Lexeme) (x : Lexeme) (names : List (List ℕ)) → names ≡ map text_of before → (Contains names x.text → ⊥)
     → most_places ≤ length before → place_fault before x ≡ Some (TooManyPlaces x.at)
 place_over before x names is absent full =
     to_room before x names is absent ∙ cond-true (nat_le most_places (length before)) (Some (TooManyPlaces x.at)) None (le_true most_places (length before) full)
+
+-- the fault that is told is the place's
+pub place_fault_of : (before : List Lexeme) (x : Lexeme) (names : List (List ℕ)) (read : List ℕ) (f : NetFault) → names ≡ map text_of before → read ≡ x.text
+    → (size : ℕ) → size ≡ length before
+    → ((f ≡ TwicePlace x.at) × Contains names read) ⊎ ((f ≡ TooManyPlaces x.at) × (Contains names read → ⊥) × (most_places ≤ size))
+    → place_fault before x ≡ Some f
+place_fault_of before x names read f is same size many (inl (at, has)) =
+    place_twice before x names is (subst (Contains names) same has) ∙ ap Some (sym at)
+place_fault_of before x names read f is same size many (inr (at, absent, full)) =
+    place_over before x names is (λ has. absent (subst (Contains names) (sym same) has)) (subst (λ n. most_places ≤ n) many full) ∙ ap Some (sym at)
 
 pub place_fine : (before : List Lexeme) (x : Lexeme) (names : List (List ℕ)) → names ≡ map text_of before → (Contains names x.text → ⊥)
     → length before < most_places → place_fault before x ≡ None

@@ -1,8 +1,8 @@
 -- Faults of a list that grows.
 use Rattle.std.proofs.Common.{◌≡◌, List, [], ◌∷◌, ◌++◌, Option, None, Some, sym, ap, subst, ◌∙◌, append_assoc}
 use Rattle.std.proofs.lemmas.List.{append-nil}
-use Rattle.rg_items.specs.Faults.{faults_after, IsFirst, AreNone}
-use Rattle.rg_items.proofs.Left.{first_left, first_right, none_joined}
+use Rattle.rg_text.specs.Faults.{faults_after, IsFirst, AreNone}
+use Rattle.rg_text.proofs.Left.{first_left, first_right, none_joined}
 
 pub faults_joined : {X F : Type 0} (fault : List X → X → Option F) (before xs ys : List X)
     → faults_after fault before (xs ++ ys) ≡ faults_after fault before xs ++ faults_after fault (before ++ xs) ys

@@ -8,7 +8,7 @@ use Rattle.std.proofs.lemmas.List.Sums.{sum_by-cons, sum_by-append, list_all-fro
 use Rattle.std.proofs.lemmas.Option.{slice_get-map, slice_get-get_or}
 use Rattle.std.proofs.lemmas.Slice.Eq.{bytes_eq-Decides}
 use Rattle.rg_lexer.specs.Lexeme.{Lexeme}
-use Rattle.rg_items.specs.Faults.{faults_after, AreNone}
+use Rattle.rg_text.specs.Faults.{faults_after, AreNone}
 use Rattle.rg_net.specs.Range.{largest}
 use Rattle.rg_netitems.specs.Contents.{Transition}
 use Rattle.rg_netfile.specs.Contents.{most_places, place_fault, transition_fault, is_among, have_each_once, Step, flow_of, adds, added, total, step_fault}

@@ -10,8 +10,8 @@ use Rattle.rg_theory.specs.System.{System, labels}
 use Rattle.rg_theory.specs.Net.{Place, Net, pre_weight, post_weight}
 use Rattle.rg_lexer.specs.Lexeme.{Lexeme}
 use Rattle.rg_lts.specs.WellFormed.{IsWellFormed}
-use Rattle.rg_items.specs.Faults.{faults_after, if_not, AreNone}
-use Rattle.rg_items.proofs.Left.{none_joined}
+use Rattle.rg_text.specs.Faults.{faults_after, if_not, AreNone}
+use Rattle.rg_text.proofs.Left.{none_joined}
 use Rattle.rg_net.specs.Range.{IsNetInRange, IsPlaceInRange, largest}
 use Rattle.rg_net.specs.NetText.{place_name, taken_by, put_by, starts}
 use Rattle.rg_netitems.specs.Item.{Member, Flow}

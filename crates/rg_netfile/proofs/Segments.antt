@@ -5,7 +5,7 @@ use Rattle.std.proofs.lemmas.List.{drop_more, take-append-drop, map-append, appe
 use Rattle.std.proofs.lemmas.List.Concat.{flat_map-cons}
 use Rattle.std.proofs.lemmas.Grind.{flat_map-append}
 use Rattle.rg_theory.specs.Net.{Net}
-use Rattle.rg_items.proofs.Left.{before_is}
+use Rattle.rg_text.proofs.Left.{before_is}
 use Rattle.rg_netfile.specs.declared.fault.NetFault.{NetFault}
 use Rattle.rg_netfile.specs.Contents.{Step}
 use Rattle.rg_netfile.specs.Built.{KnownNames, Passes, Stops}

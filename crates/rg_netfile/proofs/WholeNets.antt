@@ -9,7 +9,7 @@ use Rattle.rg_theory.specs.System.{System, labels}
 use Rattle.rg_theory.specs.Net.{Net, HasAllWeights, IsPlaceAt}
 use Rattle.rg_lexer.specs.Lexeme.{Lexeme}
 use Rattle.rg_lts.specs.WellFormed.{IsWellFormed}
-use Rattle.rg_items.specs.Faults.{if_not, IsFirst, AreNone}
+use Rattle.rg_text.specs.Faults.{if_not, IsFirst, AreNone}
 use Rattle.rg_netitems.specs.Contents.{Transition, Declared}
 use Rattle.rg_netfile.specs.declared.fault.NetFault.{NetFault}
 use Rattle.rg_netfile.specs.declared.slot.Slot.{Slot}

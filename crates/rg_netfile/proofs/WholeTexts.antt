@@ -2,8 +2,8 @@
 use Rattle.std.proofs.Common.{◌≡◌, ℕ, ◌⊎◌, inl, inr, ⊎_elim, Bool, true, false, List, [], ◌∷◌, ◌++◌, Option, None, Some, refl, sym, ap, subst}
 use Rattle.rg_theory.specs.System.{System}
 use Rattle.rg_theory.specs.Net.{Net}
-use Rattle.rg_items.specs.Faults.{faults_after, if_not, IsFirst, AreNone}
-use Rattle.rg_items.proofs.Left.{one_first, none_or_first, some_first}
+use Rattle.rg_text.specs.Faults.{faults_after, if_not, IsFirst, AreNone}
+use Rattle.rg_text.proofs.Left.{one_first, none_or_first, some_first}
 use Rattle.rg_netitems.specs.Item.{Item}
 use Rattle.rg_netitems.specs.Contents.{Declared, declared}
 use Rattle.rg_netitems.specs.Text.{AreItemsOf, FirstItemFault}

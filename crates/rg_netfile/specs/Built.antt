@@ -2,7 +2,7 @@
 use Rattle.std.specs.Prelude.{◌≡◌, ℕ, ◌+◌, ◌<◌, ◌≤◌, ◌==◌, List, [], ◌∷◌, ◌++◌, length, All, Some, slice_get, slice_set, slice_index, count_by}
 use Rattle.rg_theory.specs.Net.{Place, Net, IsPlaceAt, pre_weight, post_weight}
 use Rattle.rg_theory.specs.System.{System}
-use Rattle.rg_items.specs.Faults.{faults_after, IsFirst, AreNone}
+use Rattle.rg_text.specs.Faults.{faults_after, IsFirst, AreNone}
 use Rattle.rg_netitems.specs.Contents.{Transition, Declared}
 use Rattle.rg_netfile.specs.declared.fault.NetFault.{NetFault}
 use Rattle.rg_netfile.specs.declared.slot.Slot.{Slot}

@@ -6,7 +6,7 @@ use Rattle.std.specs.Str.Parse.{digits_value}
 use Rattle.rg_theory.specs.System.{System, labels}
 use Rattle.rg_theory.specs.Net.{Place, Net, HasAllWeights, IsPlaceAt, pre_weight, post_weight}
 use Rattle.rg_lexer.specs.Lexeme.{Lexeme}
-use Rattle.rg_items.specs.Faults.{faults_after, if_not}
+use Rattle.rg_text.specs.Faults.{faults_after, if_not}
 use Rattle.rg_net.specs.Range.{largest}
 use Rattle.rg_netitems.specs.Item.{Member, Flow}
 use Rattle.rg_netitems.specs.Contents.{Transition, Declared}

@@ -2,7 +2,7 @@
 use Rattle.std.specs.Prelude.{ℕ, List}
 use Rattle.rg_theory.specs.System.{System}
 use Rattle.rg_theory.specs.Net.{Net}
-use Rattle.rg_items.specs.Faults.{IsFirst, AreNone}
+use Rattle.rg_text.specs.Faults.{IsFirst, AreNone}
 use Rattle.rg_netitems.specs.Item.{Item}
 use Rattle.rg_netitems.specs.Contents.{declared}
 use Rattle.rg_netitems.specs.Text.{AreItemsOf, FirstItemFault}

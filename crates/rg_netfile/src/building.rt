@@ -1,9 +1,9 @@
 //! The net of what a file declares.
-ghost use Rattle.std.specs.Prelude.{◌≡◌, ◌≢◌, ◌≤◌, ◌<◌, [], length, map, string_bytes, All, IfOk, IfErr, OnOk};
+ghost use Rattle.std.specs.Prelude.{◌≡◌, ◌≢◌, ◌≤◌, ◌<◌, ◌⊎◌, [], ◌∷◌, ◌++◌, length, map, string_bytes, All, Contains, IfOk, IfErr, IsErrOf, OnOk};
 ghost use Rattle.rg_lexer.specs.Lexeme.{Lexeme};
 ghost use Rattle.rg_theory.specs.System.{labels};
 ghost use Rattle.rg_items.specs.Entry.{IsNameOf};
-ghost use Rattle.rg_items.specs.Faults.{faults_after, IsFirst, AreNone};
+ghost use Rattle.rg_text.specs.Faults.{faults_after, IsFirst, AreNone};
 ghost use Rattle.rg_netitems.specs.Contents.{Transition};
 ghost use Rattle.rg_netitems.specs.FoundView.{places_in, transitions_in, found_in, IsTransitionOf, HoldsNames};
 ghost use Rattle.rg_netfile.specs.Contents.{most_places, place_fault, transition_fault, name_faults, faults, IsNetOf};
@@ -27,6 +27,30 @@ use std::alloc::Global;
 // The most places.
 const PLACE_LIMIT: usize = 16_384;
 
+// Adds the name of a place, which stands at a position.
+fn add_place(
+    alloc: Global,
+    table: &mut IndexSet<String>,
+    name: &str,
+    at: u32,
+) -> Result<(), NetFault>
+    ensures ok { OnOk result (map string_bytes table.new.keys ≡ map string_bytes table.old.keys ++ name.now ∷ []) }
+    ensures absent { OnOk result (¬ Contains (map string_bytes table.old.keys) name.now) }
+    ensures few { OnOk result (length table.old.keys < most_places) }
+    ensures fault { IfErr result (λ f. f ≢ fault.NoMemory → ((f ≡ fault.TwicePlace at) × Contains (map string_bytes table.old.keys) name.now)
+        ⊎ ((f ≡ fault.TooManyPlaces at) × (¬ Contains (map string_bytes table.old.keys) name.now) × (most_places ≤ length table.old.keys))) }
+    ensures memory { IsErrOf result fault.NoMemory → ¬ Contains (map string_bytes table.old.keys) name.now }
+    ensures room { IsErrOf result fault.NoMemory → ¬ (most_places ≤ length table.old.keys) }
+{
+    if let Some(_) = number_of(table, name) {
+        return Err(NetFault::TwicePlace(at));
+    }
+    if table.len() >= PLACE_LIMIT {
+        return Err(NetFault::TooManyPlaces(at));
+    }
+    add(alloc, table, name)
+}
+
 // The names of the places.
 fn place_table(alloc: Global, bytes: &[u8], places: &[Token]) -> Result<IndexSet<String>, NetFault>
     requires { All (IsNameOf bytes.now) places.now }
@@ -38,14 +62,7 @@ fn place_table(alloc: Global, bytes: &[u8], places: &[Token]) -> Result<IndexSet
 {
     let mut table = IndexSet::new(alloc);
     for place in places {
-        let name = name_of(bytes, *place);
-        if let Some(_) = number_of(&table, name) {
-            return Err(NetFault::TwicePlace(place.from));
-        }
-        if table.len() >= PLACE_LIMIT {
-            return Err(NetFault::TooManyPlaces(place.from));
-        }
-        add(alloc, &mut table, name)?;
+        add_place(alloc, &mut table, name_of(bytes, *place), place.from)?;
     }
     Ok(table)
 }

@@ -6,22 +6,22 @@ use rg_lexer::Want;
 use rg_netitems::ItemFault;
 use std::alloc::{AllocError, AllocFailed};
 
-/// The first fault of a net file. Each place is the number of a byte, from 0.
+/// The first fault of a net file. Each position is the number of a byte, from 0.
 #[derive(Clone, Copy, Debug, PartialEq, Eq)]
 pub enum NetFault {
-    /// No token, blank byte or comment begins with the byte at this place.
+    /// No token, blank byte or comment begins with the byte at this position.
     BadByte(u32),
-    /// No `"` follows the `"` at this place.
+    /// No `"` follows the `"` at this position.
     OpenString(u32),
-    /// No `*/` follows the `/*` at this place.
+    /// No `*/` follows the `/*` at this position.
     OpenComment(u32),
-    /// More than 255 name bytes follow each other from this place on.
+    /// More than 255 name bytes follow each other from this position on.
     LongName(u32),
-    /// The token at this place, or the end of the text, can't continue the grammar, which wants this.
+    /// The token at this position, or the end of the text, can't continue the grammar, which wants this.
     Expected(u32, Want),
     /// No `.type` stands in the text.
     NoType,
-    /// The name at this place is no type of nets: those are `PN` and `LPN`.
+    /// The name at this position is no type of nets: those are `PN` and `LPN`.
     WrongType(u32),
     /// The place named here is declared before.
     TwicePlace(u32),

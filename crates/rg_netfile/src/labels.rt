@@ -31,8 +31,7 @@ fn number_of(lts: &Lts, label: &[u8]) -> Option<u32>
     ensures found { IfSome result (λ t. slice_get lts.now.label_names t ≡ Some label.now) }
     ensures none { IfNone result (¬ Contains lts.now.label_names label.now) }
 {
-    // the number of labels is asked for because its contract says that the labels are names
-    let _labels = lts.labels();
+    lts.is_well_formed();
     match str::from_utf8(label) {
         Ok(name) => lts.label_number(name),
         Err(_) => None,

@@ -21,8 +21,3 @@ pub use laws::{one_answer, printed_is_spelled};
 pub use rg_memory::NoMemory;
 pub use print::print_net;
 pub use whole::read_net;
-
-#[cfg(test)]
-mod read_tests;
-#[cfg(test)]
-mod tests;

@@ -1,5 +1,6 @@
 //! The net that a text spells for a system.
 ghost use Rattle.std.specs.Prelude.{◌≢◌, ◌≤◌, length, IfOk, IfErr};
+ghost use Rattle.rg_text.specs.Limits.{most_bytes};
 ghost use Rattle.rg_netfile.specs.Spells.{Spells, FirstFault};
 ghost use Rattle.rg_netfile.specs.declared.fault.NetFault.TheVariants.{NoMemory};
 
@@ -19,7 +20,7 @@ use std::alloc::Global;
 /// `TransitionsDiffer`; by flow `UnknownTransition` and by member `NumberPasses` or `UnknownPlace`, and so
 /// for the members of the markings; `NoMemory` where memory runs out.
 pub fn read_net(alloc: Global, bytes: &[u8], lts: &Lts) -> Result<Net, NetFault>
-    requires { length bytes.now ≤ 16777216 }
+    requires { length bytes.now ≤ most_bytes }
     ensures ok { IfOk result (λ net. Spells bytes.now lts.now net) }
     ensures fault { IfErr result (λ e. e ≢ NoMemory → FirstFault bytes.now lts.now e) }
 {

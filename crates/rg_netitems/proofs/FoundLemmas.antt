@@ -8,7 +8,7 @@ use Rattle.rg_netitems.specs.Contents.{Declared, Transition}
 use Rattle.rg_netitems.specs.Reading.{change_last, transition_of, declared_by}
 use Rattle.rg_netitems.specs.FoundView.{places_in, flows_in, members_in, transition_in, transitions_in, labelled_in, progress_in, found_in}
 
--- a new thing at the last place, which is the old one changed
+-- a new thing at the last position, which is the old one changed
 pub last_set : {X Y : Type 0} (f : X → Y) (change : Y → Y) (xs : List X) (n : ℕ) (old new : X) → n + 1 ≡ length xs → old ≡ get_or xs n old → f new ≡ change (f old)
     → map f (set xs n new) ≡ change_last change (map f xs)
 last_set f change [] n old new e at made = absurd (omega arith)

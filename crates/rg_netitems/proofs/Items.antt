@@ -1,4 +1,4 @@
--- Whole files: items lead to a place where the file may end, and what is found is what they declare.
+-- Whole files: items lead to a position where the file may end, and what is found is what they declare.
 use Rattle.std.proofs.Common.{◌≡◌, ◌⊎◌, inl, inr, Bool, true, false, cond, ◌||◌, ℕ, List, [], ◌∷◌, ◌++◌, map, None, Some, codes, refl, sym, ap, subst, ◌∙◌, append_assoc, append-nil, flat_map}
 use Rattle.std.specs.List.{list_any}
 use Rattle.std.specs.Str.{bytes_eq}
@@ -12,16 +12,16 @@ use Rattle.rg_items.specs.Grammar.{read_on}
 use Rattle.rg_items.proofs.Moves as moves
 use Rattle.rg_netitems.specs.Item.{Item, IsItem, AreItems, IsOtherWord}
 use Rattle.rg_netitems.specs.Item as item
-use Rattle.rg_netitems.specs.Table.{Section, places, transitions, marking, Place, section, type_name, passed_text, in_section, after_entry, in_flows, before_set, after_word, is_type_name, may_end}
+use Rattle.rg_netitems.specs.Table.{Section, places, transitions, marking, Position, section, type_name, passed_text, in_section, after_entry, in_flows, before_set, after_word, is_type_name, may_end}
 use Rattle.rg_netitems.specs.Contents.{Declared, Transition, is_type, places_in, transitions_in, flows_in, marking_in, declared}
 use Rattle.rg_netitems.specs.Reading.{Labelled, Progress, nothing, transition_of, declared_by, net_grammar}
 use Rattle.rg_netitems.proofs.Walk.{Moves, kind_step, both, free, name_of, labelled, places_move, transitions_move, marking_moves, flows_move}
 
-moves_same : (p q : Place) (d e e' : Progress) (xs : List Lexeme) → e ≡ e' → Moves p d xs q e → Moves p d xs q e'
+moves_same : (p q : Position) (d e e' : Progress) (xs : List Lexeme) → e ≡ e' → Moves p d xs q e → Moves p d xs q e'
 moves_same p q d e e' xs same one = moves.moves_same net_grammar p q d e e' xs same one
 
--- a place where a word may stand, and the file may end
-pub record Begins (p : Place) : Type 0 where
+-- a position where a word may stand, and the file may end
+pub record Begins (p : Position) : Type 0 where
   pub word : (x : Lexeme) (d : Progress) → x.kind ≡ Word → Moves p d (x ∷ []) (after_word x.text) d
   pub end : may_end p ≡ true
 
@@ -69,13 +69,13 @@ or_true : (a : Bool) → true ≡ (a || true)
 or_true true = refl
 or_true false = refl
 
--- the tokens lead to a place where the next item may begin
-record MovesOn (p : Place) (d : Progress) (xs : List Lexeme) (e : Progress) : Type 0 where
-  place : Place
-  begins : Begins place
-  moves : Moves p d xs place e
+-- the tokens lead to a position where the next item may begin
+record MovesOn (p : Position) (d : Progress) (xs : List Lexeme) (e : Progress) : Type 0 where
+  position : Position
+  begins : Begins position
+  moves : Moves p d xs position e
 
-word_then : (p q r : Place) (d e : Progress) (word : Lexeme) (rest xs : List Lexeme) → Begins p → word.kind ≡ Word → after_word word.text ≡ q → Moves q d rest r e → xs ≡ word ∷ rest → Moves p d xs r e
+word_then : (p q r : Position) (d e : Progress) (word : Lexeme) (rest xs : List Lexeme) → Begins p → word.kind ≡ Word → after_word word.text ≡ q → Moves q d rest r e → xs ≡ word ∷ rest → Moves p d xs r e
 word_then p q r d e word rest xs begins kind to moves same =
     subst (λ l. Moves p d l r e) (sym same)
     (both p q r d d e (word ∷ []) rest (subst (λ q. Moves p d (word ∷ []) q d) to (begins.word word d kind)) moves)
@@ -97,13 +97,13 @@ other_word word is =
       differ word.text (codes ".initial_marking") is.no_marking,
     ) refl
 
-item_moves : (p : Place) (d : Progress) (i : Item) (xs : List Lexeme) → Begins p → IsItem i xs → MovesOn p d xs (with_item d i)
+item_moves : (p : Position) (d : Progress) (i : Item) (xs : List Lexeme) → Begins p → IsItem i xs → MovesOn p d xs (with_item d i)
 item_moves p d (item.type name) xs begins is =
     let made = with_item d (item.type name) in
     let typed : Progress = record d { typed = true } in
     let same : typed ≡ made = same_progress typed made (or_true d.typed) (sym (append-nil d.places)) (sym (append-nil d.transitions)) (sym (append-nil d.flows)) (sym (append-nil d.marking)) in
     record {
-      place = section;
+      position = section;
       begins = section_begins;
       moves = moves_same p section d typed made xs same
           (word_then p type_name section d typed is.0 (name ∷ []) xs begins is.1.0 (ap after_word is.1.1)
@@ -115,7 +115,7 @@ item_moves p d (item.places es) xs begins is =
     let found : Progress = record d { places = d.places ++ map name_of es } in
     let same : found ≡ made = same_progress found made (or_false d.typed) refl (sym (append-nil d.transitions)) (sym (append-nil d.flows)) (sym (append-nil d.marking)) in
     record {
-      place = free places more.0;
+      position = free places more.0;
       begins = free_begins places more.0;
       moves = moves_same p (free places more.0) d found made xs same (word_then p (in_section places) (free places more.0) d found is.0 is.1 xs begins is.2.0 (ap after_word is.2.1) more.1 is.4);
     }
@@ -125,7 +125,7 @@ item_moves p d (item.transitions es) xs begins is =
     let found : Progress = record d { transitions = d.transitions ++ map labelled es } in
     let same : found ≡ made = same_progress found made (or_false d.typed) (sym (append-nil d.places)) refl (sym (append-nil d.flows)) (sym (append-nil d.marking)) in
     record {
-      place = free transitions more.0;
+      position = free transitions more.0;
       begins = free_begins transitions more.0;
       moves = moves_same p (free transitions more.0) d found made xs same
           (word_then p (in_section transitions) (free transitions more.0) d found is.0 is.1 xs begins is.2.0 (ap after_word is.2.1) more.1 is.4);
@@ -135,7 +135,7 @@ item_moves p d (item.flows many) xs begins is =
     let found : Progress = record d { flows = d.flows ++ many } in
     let same : found ≡ made = same_progress found made (or_false d.typed) (sym (append-nil d.places)) (sym (append-nil d.transitions)) refl (sym (append-nil d.marking)) in
     record {
-      place = in_flows;
+      position = in_flows;
       begins = flows_begin;
       moves = moves_same p in_flows d found made xs same (word_then p in_flows in_flows d found is.0 is.1 xs begins is.2.0 (ap after_word is.2.1) (flows_move d many is.1 is.3) is.4);
     }
@@ -144,7 +144,7 @@ item_moves p d (item.marking members) xs begins is =
     let found : Progress = record d { marking = d.marking ++ members } in
     let same : found ≡ made = same_progress found made (or_false d.typed) (sym (append-nil d.places)) (sym (append-nil d.transitions)) (sym (append-nil d.flows)) refl in
     record {
-      place = section;
+      position = section;
       begins = section_begins;
       moves = moves_same p section d found made xs same (word_then p (before_set marking) section d found is.0 is.1 xs begins is.2.0 (ap after_word is.2.1) (marking_moves d members is.1 is.3) is.4);
     }
@@ -152,7 +152,7 @@ item_moves p d item.other xs begins is =
     let made = with_item d item.other in
     let same : d ≡ made = same_progress d made (or_false d.typed) (sym (append-nil d.places)) (sym (append-nil d.transitions)) (sym (append-nil d.flows)) (sym (append-nil d.marking)) in
     record {
-      place = section;
+      position = section;
       begins = section_begins;
       moves = moves_same p section d d made xs same
           (word_then p passed_text section d d is.0 (is.1 ∷ []) xs begins is.2.kind (other_word is.0 is.2) (kind_step passed_text section d d is.1 Text is.3 refl refl) is.4);
@@ -162,25 +162,25 @@ or_assoc : (a b c : Bool) → ((a || b) || c) ≡ (a || (b || c))
 or_assoc true b c = refl
 or_assoc false b c = refl
 
-items_move : (p : Place) (d : Progress) (is : List Item) (xs : List Lexeme) → Begins p → AreItems is xs → MovesOn p d xs (with_items d is)
+items_move : (p : Position) (d : Progress) (is : List Item) (xs : List Lexeme) → Begins p → AreItems is xs → MovesOn p d xs (with_items d is)
 items_move p d [] xs begins are =
     let made = with_items d [] in
     let same : d ≡ made = same_progress d made (or_false d.typed) (sym (append-nil d.places)) (sym (append-nil d.transitions)) (sym (append-nil d.flows)) (sym (append-nil d.marking)) in
-    record { place = p; begins = begins; moves = subst (λ l. Moves p d l p made) (sym are) (moves_same p p d d made [] same (moves.moves_none net_grammar p d)) }
+    record { position = p; begins = begins; moves = subst (λ l. Moves p d l p made) (sym are) (moves_same p p d d made [] same (moves.moves_none net_grammar p d)) }
 items_move p d (i ∷ is) xs begins are =
     let one = item_moves p d i are.0 begins are.2 in
     let d' = with_item d i in
-    let more = items_move one.place d' is are.1 one.begins are.3 in
+    let more = items_move one.position d' is are.1 one.begins are.3 in
     let made = with_items d (i ∷ is) in
     let same : with_items d' is ≡ made = same_progress (with_items d' is) made (or_assoc d.typed (is_type i) (list_any is_type is))
     (append_assoc d.places (places_in i) (flat_map places_in is)) (append_assoc d.transitions (labelled_in i) (flat_map labelled_in is))
     (append_assoc d.flows (flows_in i) (flat_map flows_in is)) (append_assoc d.marking (marking_in i) (flat_map marking_in is)) in
     record {
-      place = more.place;
+      position = more.position;
       begins = more.begins;
-      moves = subst (λ l. Moves p d l more.place made) (sym are.4)
-          (moves_same p more.place d (with_items d' is) made (are.0 ++ are.1) same
-          (both p one.place more.place d d' (with_items d' is) are.0 are.1 one.moves more.moves));
+      moves = subst (λ l. Moves p d l more.position made) (sym are.4)
+          (moves_same p more.position d (with_items d' is) made (are.0 ++ are.1) same
+          (both p one.position more.position d d' (with_items d' is) are.0 are.1 one.moves more.moves));
     }
 
 -- what is found of items
@@ -188,10 +188,10 @@ abbrev pub progress_of : List Item → Progress
 progress_of is = with_items nothing is
 
 -- items are read to what they declare
-pub items_read : (is : List Item) (xs : List Lexeme) → AreItems is xs → (p : Place) × (may_end p ≡ true) × (read_on net_grammar section nothing xs ≡ Some (p, progress_of is))
+pub items_read : (is : List Item) (xs : List Lexeme) → AreItems is xs → (p : Position) × (may_end p ≡ true) × (read_on net_grammar section nothing xs ≡ Some (p, progress_of is))
 items_read is xs are =
     let all = items_move section nothing is xs section_begins are in
-    (all.place, all.begins.end, ap (read_on net_grammar section nothing) (sym (append-nil xs)) ∙ all.moves [])
+    (all.position, all.begins.end, ap (read_on net_grammar section nothing) (sym (append-nil xs)) ∙ all.moves [])
 
 -- a transition's label is the first value of a label, or its name
 labels_named : (es : List Entry) → transitions_in (item.transitions es) ≡ map transition_of (map labelled es)

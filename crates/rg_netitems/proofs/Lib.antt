@@ -3,3 +3,4 @@ pub mod Items
 pub mod Complete
 pub mod WholeTexts
 pub mod FoundLemmas
+pub mod Going

@@ -8,40 +8,40 @@ use Rattle.rg_lexer.specs.Lexeme.{Lexeme}
 use Rattle.rg_lexer.specs.declared.token.Kind.{Kind}
 use Rattle.rg_lexer.specs.declared.token.Kind.TheVariants.{Name, LeftBracket, LeftBrace, RightBrace, Comma, Colon, Star, Arrow}
 use Rattle.rg_items.specs.Entry.{Setting, Entry, IsEntry, AreEach}
-use Rattle.rg_items.specs.ListPlace.{first_key}
-use Rattle.rg_items.proofs.Moves.{moves_both, moves_same, step, take_all, each_move, thing_place, Encloses, enclosed_move}
+use Rattle.rg_items.specs.ListPosition.{first_key}
+use Rattle.rg_items.proofs.Moves.{moves_both, moves_same, step, take_all, each_move, thing_position, Encloses, enclosed_move}
 use Rattle.rg_items.proofs.Moves as moves
 use Rattle.rg_items.proofs.Lists.{HasLists, free_of, optional_move}
 use Rattle.rg_netitems.specs.declared.fault.ItemFault.{ItemFault}
 use Rattle.rg_netitems.specs.Item.{Member, Flow, IsMember, IsSet, IsFlow}
 use Rattle.rg_netitems.specs.Contents.{label_in, first_label}
-use Rattle.rg_netitems.specs.Table.{Section, places, transitions, Side, pre, post, marking, first_member, next_member, after_name, after_star, after_member, Place, in_section, after_entry, in_list, in_flows, after_flow_name, before_set, in_set, after_pre, after_set, leads_by}
+use Rattle.rg_netitems.specs.Table.{Section, places, transitions, Side, pre, post, marking, first_member, next_member, after_name, after_star, after_member, Position, in_section, after_entry, in_list, in_flows, after_flow_name, before_set, in_set, after_pre, after_set, leads_by}
 use Rattle.rg_netitems.specs.Reading.{Labelled, Progress, change_last, with_value, with_setting, with_name, with_pre, with_post, with_member, adds_by, net_grammar}
 
--- from a place the tokens lead to another, whatever follows them
-abbrev pub Moves : Place → Progress → List Lexeme → Place → Progress → Type 0
+-- from a position the tokens lead to another, whatever follows them
+abbrev pub Moves : Position → Progress → List Lexeme → Position → Progress → Type 0
 Moves p d xs q e = moves.Moves net_grammar p d xs q e
 
 -- one token
-pub kind_step : (p q : Place) (d e : Progress) (x : Lexeme) (kind : Kind) → x.kind ≡ kind → leads_by p kind x ≡ Some q → adds_by p kind x d ≡ e → Moves p d (x ∷ []) q e
+pub kind_step : (p q : Position) (d e : Progress) (x : Lexeme) (kind : Kind) → x.kind ≡ kind → leads_by p kind x ≡ Some q → adds_by p kind x d ≡ e → Moves p d (x ∷ []) q e
 kind_step p q d e x kind same lead add = step net_grammar p q d e x (ap (λ k. leads_by p k x) same ∙ lead) (ap (λ k. adds_by p k x d) same ∙ add)
 
-pub both : (p q r : Place) (d e f : Progress) (xs ys : List Lexeme) → Moves p d xs q e → Moves q e ys r f → Moves p d (xs ++ ys) r f
+pub both : (p q r : Position) (d e f : Progress) (xs ys : List Lexeme) → Moves p d xs q e → Moves q e ys r f → Moves p d (xs ++ ys) r f
 both p q r d e f xs ys one two = moves_both net_grammar p q r d e f xs ys one two
 
-lists : (s : Section) → HasLists Place Progress ItemFault net_grammar (in_list s) (after_entry s) (in_section s) (with_setting s)
+lists : (s : Section) → HasLists Position Progress ItemFault net_grammar (in_list s) (after_entry s) (in_section s) (with_setting s)
 lists s = record {
   opens = λ d x bracket. kind_step (after_entry s) (in_list s first_key) d d x LeftBracket bracket refl refl;
-  leads = λ place x. refl;
-  adds = λ place x d. refl;
+  leads = λ position x. refl;
+  adds = λ position x d. refl;
 }
 
 -- where an entry or a word may stand
-abbrev pub free : Section → Bool → Place
+abbrev pub free : Section → Bool → Position
 free s b = free_of (after_entry s) (in_section s) b
 
--- the tokens lead to such a place
-abbrev pub MovesFree : Place → Progress → List Lexeme → Section → Progress → Type 0
+-- the tokens lead to such a position
+abbrev pub MovesFree : Position → Progress → List Lexeme → Section → Progress → Type 0
 MovesFree p d xs s e = (b : Bool) × Moves p d xs (free s b) e
 
 name_moves : (b : Bool) (s : Section) (d : Progress) (x : Lexeme) → x.kind ≡ Name → Moves (free s b) d (x ∷ []) (after_entry s) (with_name s x d)
@@ -128,10 +128,10 @@ transitions_move d es xs is =
     )
 
 -- where a member may stand
-abbrev member_place : Bool → Side → Place
-member_place b side = thing_place b (in_set side first_member) (in_set side next_member)
+abbrev member_position : Bool → Side → Position
+member_position b side = thing_position b (in_set side first_member) (in_set side next_member)
 
-first_name : (b : Bool) (side : Side) (d : Progress) (x : Lexeme) → x.kind ≡ Name → Moves (member_place b side) d (x ∷ []) (in_set side (after_name x)) d
+first_name : (b : Bool) (side : Side) (d : Progress) (x : Lexeme) → x.kind ≡ Name → Moves (member_position b side) d (x ∷ []) (in_set side (after_name x)) d
 first_name true side d x name = kind_step (in_set side first_member) (in_set side (after_name x)) d d x Name name refl refl
 first_name false side d x name = kind_step (in_set side next_member) (in_set side (after_name x)) d d x Name name refl refl
 
@@ -141,23 +141,23 @@ star_step side d number star digits kind =
     (ap (λ b. cond b (Some (in_set side (after_star number))) None) (list_all-from_AllPass is_ascii_digit number.text digits)) refl
 
 -- a member, and the token that ends it
-member_moves : (b : Bool) (side : Side) (d : Progress) (q : Place) (number : Option Lexeme) (place : Lexeme) (xs : List Lexeme) (x : Lexeme) → IsMember (record { number = number; place = place }) xs
+member_moves : (b : Bool) (side : Side) (d : Progress) (q : Position) (number : Option Lexeme) (place : Lexeme) (xs : List Lexeme) (x : Lexeme) → IsMember (record { number = number; place = place }) xs
     → Moves (in_set side (after_name place)) d (x ∷ []) q (with_member side (record { number = None; place = place }) d)
     → ((e : Progress) → Moves (in_set side after_member) e (x ∷ []) q e)
-    → Moves (member_place b side) d (xs ++ x ∷ []) q (with_member side (record { number = number; place = place }) d)
+    → Moves (member_position b side) d (xs ++ x ∷ []) q (with_member side (record { number = number; place = place }) d)
 member_moves b side d q None place xs x is name_ends ends =
-    subst (λ l. Moves (member_place b side) d (l ++ x ∷ []) q (with_member side (record { number = None; place = place }) d)) (sym is.1)
-    (both (member_place b side) (in_set side (after_name place)) q d d (with_member side (record { number = None; place = place }) d) (place ∷ []) (x ∷ []) (first_name b side d place is.0) name_ends)
+    subst (λ l. Moves (member_position b side) d (l ++ x ∷ []) q (with_member side (record { number = None; place = place }) d)) (sym is.1)
+    (both (member_position b side) (in_set side (after_name place)) q d d (with_member side (record { number = None; place = place }) d) (place ∷ []) (x ∷ []) (first_name b side d place is.0) name_ends)
 member_moves b side d q (Some number) place xs x is name_ends ends =
     let star = is.1.1.0 in
     let e = with_member side (record { number = Some number; place = place }) d in
-    subst (λ l. Moves (member_place b side) d (l ++ x ∷ []) q e) (sym is.1.1.2)
-    (both (member_place b side) (in_set side (after_name number)) q d d e (number ∷ []) (star ∷ place ∷ x ∷ []) (first_name b side d number is.1.0.0)
+    subst (λ l. Moves (member_position b side) d (l ++ x ∷ []) q e) (sym is.1.1.2)
+    (both (member_position b side) (in_set side (after_name number)) q d d e (number ∷ []) (star ∷ place ∷ x ∷ []) (first_name b side d number is.1.0.0)
     (both (in_set side (after_name number)) (in_set side (after_star number)) q d d e (star ∷ []) (place ∷ x ∷ []) (star_step side d number star is.1.0.1 is.1.1.1)
     (both (in_set side (after_star number)) (in_set side after_member) q d e e (place ∷ []) (x ∷ [])
     (kind_step (in_set side (after_star number)) (in_set side after_member) d e place Name is.0 refl refl) (ends e))))
 
-sets_enclose : (side : Side) → Encloses Place Progress ItemFault Member net_grammar LeftBrace RightBrace IsMember (with_member side) (before_set side) (in_set side first_member) (in_set side next_member) (after_set side)
+sets_enclose : (side : Side) → Encloses Position Progress ItemFault Member net_grammar LeftBrace RightBrace IsMember (with_member side) (before_set side) (in_set side first_member) (in_set side next_member) (after_set side)
 sets_enclose side = record {
   opens = λ d x kind. kind_step (before_set side) (in_set side first_member) d d x LeftBrace kind refl refl;
   closes = λ d x kind. kind_step (in_set side first_member) (after_set side) d d x RightBrace kind refl refl;

@@ -13,14 +13,14 @@ use Rattle.rg_items.proofs.Tokens.{one_lexemes}
 use Rattle.rg_netitems.specs.declared.fault.ItemFault.{ItemFault}
 use Rattle.rg_netitems.specs.Item.{Item, AreItems}
 use Rattle.rg_netitems.specs.Contents.{declared}
-use Rattle.rg_netitems.specs.Table.{Place}
+use Rattle.rg_netitems.specs.Table.{Position}
 use Rattle.rg_netitems.specs.Reading.{Progress, declared_by, net_grammar}
 use Rattle.rg_netitems.specs.Text.{AreItemsOf, of_lexer, FirstItemFault, in_tokens, in_grammar}
 use Rattle.rg_netitems.proofs.Items.{progress_of, items_read, declared_is}
 use Rattle.rg_netitems.proofs.Complete.{items_from}
 
 -- the table describes the items of a net file
-pub describes : Describes Place Progress ItemFault (List Item) net_grammar AreItems progress_of
+pub describes : Describes Position Progress ItemFault (List Item) net_grammar AreItems progress_of
 describes = record { read = items_read; complete = items_from }
 
 -- what a text declares is one

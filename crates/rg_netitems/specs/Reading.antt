@@ -5,13 +5,13 @@ use Rattle.rg_lexer.specs.Lexeme.{Lexeme}
 use Rattle.rg_lexer.specs.declared.token.Kind.{Kind}
 use Rattle.rg_lexer.specs.declared.token.Kind.TheVariants.{Name, RightBrace, Comma}
 use Rattle.rg_items.specs.Entry.{Setting}
-use Rattle.rg_items.specs.ListPlace.{completed_by, with_completed}
+use Rattle.rg_items.specs.ListPosition.{completed_by, with_completed}
 use Rattle.rg_items.specs.Grammar.{Grammar}
 use Rattle.rg_netitems.specs.declared.fault.ItemFault.{ItemFault}
 use Rattle.rg_netitems.specs.declared.fault.ItemFault.TheVariants.{Expected}
 use Rattle.rg_netitems.specs.Item.{Member, Flow}
 use Rattle.rg_netitems.specs.Contents.{Transition, Declared, label_in, label_of}
-use Rattle.rg_netitems.specs.Table.{Section, places, transitions, Side, pre, post, marking, SetPlace, after_name, after_star, Place, section, type_name, in_section, after_entry, in_list, in_flows, in_set, wanted, may_end, leads_by, refusal_by}
+use Rattle.rg_netitems.specs.Table.{Section, places, transitions, Side, pre, post, marking, SetPosition, after_name, after_star, Position, section, type_name, in_section, after_entry, in_list, in_flows, in_set, wanted, may_end, leads_by, refusal_by}
 
 -- a transition, and the first value that its options give to its label so far
 pub record Labelled : Type 0 where
@@ -69,36 +69,36 @@ with_member post member d = record d { flows = change_last (with_post member) d.
 with_member marking member d = record d { marking = d.marking ++ member ∷ [] }
 
 -- the member that a token completes
-abbrev pub member_by : SetPlace → Kind → Lexeme → Option Member
+abbrev pub member_by : SetPosition → Kind → Lexeme → Option Member
 member_by (after_name name) Comma x = Some (record { number = None; place = name })
 member_by (after_name name) RightBrace x = Some (record { number = None; place = name })
 member_by (after_star number) Name x = Some (record { number = Some number; place = x })
 member_by _ _ _ = None
 
--- what is found with a token that stands at a place
-abbrev pub adds_by : Place → Kind → Lexeme → Progress → Progress
+-- what is found with a token that stands at a position
+abbrev pub adds_by : Position → Kind → Lexeme → Progress → Progress
 adds_by type_name Name x d = record d { typed = true }
 adds_by (in_section s) Name x d = with_name s x d
 adds_by (after_entry s) Name x d = with_name s x d
-adds_by (in_list s place) kind x d = with_completed (with_setting s) (completed_by place kind x) d
+adds_by (in_list s position) kind x d = with_completed (with_setting s) (completed_by position kind x) d
 adds_by in_flows Name x d = record d { flows = d.flows ++ record { name = x; pre = []; post = [] } ∷ [] }
-adds_by (in_set side place) kind x d = with_completed (with_member side) (member_by place kind x) d
+adds_by (in_set side position) kind x d = with_completed (with_member side) (member_by position kind x) d
 adds_by _ _ _ d = d
 
-abbrev pub leads : Place → Lexeme → Option Place
-leads place x = leads_by place x.kind x
+abbrev pub leads : Position → Lexeme → Option Position
+leads position x = leads_by position x.kind x
 
-abbrev pub adds : Place → Lexeme → Progress → Progress
-adds place x d = adds_by place x.kind x d
+abbrev pub adds : Position → Lexeme → Progress → Progress
+adds position x d = adds_by position x.kind x d
 
 -- the grammar of net files
-abbrev pub net_grammar : Grammar Place Progress ItemFault
+abbrev pub net_grammar : Grammar Position Progress ItemFault
 net_grammar = record {
   start = section;
   nothing = nothing;
   leads = leads;
   adds = adds;
   may_end = may_end;
-  refuses = λ place x. refusal_by place x.kind x.at;
-  ends = λ place end. Expected end (wanted place);
+  refuses = λ position x. refusal_by position x.kind x.at;
+  ends = λ position end. Expected end (wanted position);
 }

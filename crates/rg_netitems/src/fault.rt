@@ -5,21 +5,21 @@ ghost use Rattle.rg_netitems.specs.declared.fault.ItemFault.TheVariants as fault
 use rg_lexer::{LexFault, Want};
 use std::alloc::{AllocError, AllocFailed};
 
-/// The first fault of a text in its tokens or in the grammar of net files. Each place is the number of a
+/// The first fault of a text in its tokens or in the grammar of net files. Each position is the number of a
 /// byte, from 0.
 #[derive(Clone, Copy, Debug, PartialEq, Eq)]
 pub enum ItemFault {
-    /// No token, blank byte or comment begins with the byte at this place.
+    /// No token, blank byte or comment begins with the byte at this position.
     BadByte(u32),
-    /// No `"` follows the `"` at this place.
+    /// No `"` follows the `"` at this position.
     OpenString(u32),
-    /// No `*/` follows the `/*` at this place.
+    /// No `*/` follows the `/*` at this position.
     OpenComment(u32),
-    /// More than 255 name bytes follow each other from this place on.
+    /// More than 255 name bytes follow each other from this position on.
     LongName(u32),
-    /// The token at this place, or the end of the text, can't continue the grammar, which wants this.
+    /// The token at this position, or the end of the text, can't continue the grammar, which wants this.
     Expected(u32, Want),
-    /// The name at this place is no type of nets: those are `PN` and `LPN`.
+    /// The name at this position is no type of nets: those are `PN` and `LPN`.
     WrongType(u32),
     /// There is no memory for what is read.
     NoMemory,

@@ -3,17 +3,18 @@ ghost use Rattle.std.specs.Prelude.{◌≡◌, ◌≤◌, ◌++◌, ◌∷◌, [
 ghost use Rattle.rg_lexer.specs.Lexeme.{Lexeme, lexeme};
 ghost use Rattle.rg_lexer.specs.Tokens.{IsTokenOf};
 ghost use Rattle.rg_items.specs.Entry.{Setting, IsNameOf, IsValueOf};
-ghost use Rattle.rg_items.specs.ListView.{list_place_in, setting_in, HoldsKey, HoldsSetting};
+ghost use Rattle.rg_items.specs.ListView.{list_position_in, setting_in, HoldsKey, HoldsSetting};
 ghost use Rattle.rg_netitems.specs.Contents.{label_in};
 ghost use Rattle.rg_netitems.specs.Reading.{nothing, change_last, with_value, with_setting, with_name, with_pre, with_post, with_member, member_by, adds};
 ghost use Rattle.rg_netitems.specs.Table as table;
-ghost use Rattle.rg_netitems.specs.View.{section_in, side_in, set_place_in, place_in, HoldsMember, HoldsTokens};
+ghost use Rattle.rg_netitems.specs.View.{section_in, side_in, set_position_in, position_in, HoldsMember, HoldsTokens};
 ghost use Rattle.rg_netitems.specs.FoundView.{member_in, members_in, flows_in, labelled_in, progress_in, IsNumberOf, IsMemberOf, IsFlowOf, IsTransitionOf, HoldsNames};
 ghost use Rattle.rg_netitems.specs.declared.fault.ItemFault.TheVariants.{NoMemory};
 
 use crate::fault::ItemFault;
-use crate::place::{Place, Section, SetPlace, Side};
-use rg_items::{FoundSetting, ListPlace, completed, text_of};
+use crate::position::{Position, Section};
+use crate::set_position::{SetPosition, Side};
+use rg_items::{FoundSetting, ListPosition, completed, text_of};
 use rg_lexer::{Kind, Token};
 use std::alloc::Global;
 
@@ -112,14 +113,14 @@ fn counted(number: Token, token: Token) -> Option<FoundMember>
     }
 }
 
-// The member that a token completes at a place of a set, if it completes one.
-fn completed_member(place: SetPlace, token: Token) -> Option<FoundMember>
-    ensures member { (bytes : List ℕ) → option_map (member_in bytes) result ≡ member_by (set_place_in bytes place) token.kind (lexeme bytes token) }
-    ensures holds { (bytes : List ℕ) → IsTokenOf bytes token → HoldsMember bytes place → IfSome result (IsMemberOf bytes) }
+// The member that a token completes at a position of a set, if it completes one.
+fn completed_member(position: SetPosition, token: Token) -> Option<FoundMember>
+    ensures member { (bytes : List ℕ) → option_map (member_in bytes) result ≡ member_by (set_position_in bytes position) token.kind (lexeme bytes token) }
+    ensures holds { (bytes : List ℕ) → IsTokenOf bytes token → HoldsMember bytes position → IfSome result (IsMemberOf bytes) }
 {
-    match place {
-        SetPlace::AfterName(name) => alone(name, token),
-        SetPlace::AfterStar(number) => counted(number, token),
+    match position {
+        SetPosition::AfterName(name) => alone(name, token),
+        SetPosition::AfterStar(number) => counted(number, token),
         _ => None,
     }
 }
@@ -235,14 +236,14 @@ impl Found {
     }
 
     // A token stands in an option list.
-    fn at_option(&mut self, bytes: &[u8], section: Section, place: ListPlace, token: Token)
+    fn at_option(&mut self, bytes: &[u8], section: Section, position: ListPosition, token: Token)
         requires token { IsTokenOf bytes.now token }
-        requires key { HoldsKey bytes.now place }
+        requires key { HoldsKey bytes.now position }
         ensures found { progress_in bytes.now self.new
-            ≡ adds (table.in_list (section_in section) (list_place_in bytes.now place)) (lexeme bytes.now token) (progress_in bytes.now self.old) }
+            ≡ adds (table.in_list (section_in section) (list_position_in bytes.now position)) (lexeme bytes.now token) (progress_in bytes.now self.old) }
         ensures names { HoldsNames bytes.now self.old → HoldsNames bytes.now self.new }
     {
-        match completed(place, token) {
+        match completed(position, token) {
             Some(setting) => self.option(bytes, section, setting),
             None => {}
         }
@@ -270,45 +271,45 @@ impl Found {
     }
 
     // A token stands in a set.
-    fn at_set(&mut self, side: Side, place: SetPlace, token: Token) -> Result<(), ItemFault>
+    fn at_set(&mut self, side: Side, position: SetPosition, token: Token) -> Result<(), ItemFault>
         ensures ok { OnOk result ((bytes : List ℕ) → progress_in bytes self.new
-            ≡ adds (table.in_set (side_in side) (set_place_in bytes place)) (lexeme bytes token) (progress_in bytes self.old)) }
-        ensures names { OnOk result ((bytes : List ℕ) → IsTokenOf bytes token → HoldsMember bytes place → HoldsNames bytes self.old → HoldsNames bytes self.new) }
+            ≡ adds (table.in_set (side_in side) (set_position_in bytes position)) (lexeme bytes token) (progress_in bytes self.old)) }
+        ensures names { OnOk result ((bytes : List ℕ) → IsTokenOf bytes token → HoldsMember bytes position → HoldsNames bytes self.old → HoldsNames bytes self.new) }
         ensures err { IfErr result (λ e. e ≡ NoMemory) }
     {
-        match completed_member(place, token) {
+        match completed_member(position, token) {
             Some(member) => self.member(side, member)?,
             None => {}
         }
         Ok(())
     }
 
-    /// Adds what is found with a token that stands at a place.
+    /// Adds what is found with a token that stands at a position.
     pub fn add(
         &mut self,
         alloc: Global,
         bytes: &[u8],
-        place: Place,
+        position: Position,
         token: Token,
     ) -> Result<(), ItemFault>
         requires token { IsTokenOf bytes.now token }
-        requires held { HoldsTokens bytes.now place }
-        ensures ok { OnOk result (progress_in bytes.now self.new ≡ adds (place_in bytes.now place) (lexeme bytes.now token) (progress_in bytes.now self.old)) }
+        requires held { HoldsTokens bytes.now position }
+        ensures ok { OnOk result (progress_in bytes.now self.new ≡ adds (position_in bytes.now position) (lexeme bytes.now token) (progress_in bytes.now self.old)) }
         ensures names { OnOk result (HoldsNames bytes.now self.old → HoldsNames bytes.now self.new) }
         ensures err { IfErr result (λ e. e ≡ NoMemory) }
     {
-        match place {
-            Place::Start => {}
-            Place::TypeName => self.at_type(token),
-            Place::PassedText => {}
-            Place::InSection(section) => self.at_entry(section, token)?,
-            Place::AfterEntry(section) => self.at_entry(section, token)?,
-            Place::InList(section, place) => self.at_option(bytes, section, place, token),
-            Place::InFlows => self.at_flow(alloc, token)?,
-            Place::AfterFlowName => {}
-            Place::BeforeSet(_) => {}
-            Place::InSet(side, place) => self.at_set(side, place, token)?,
-            Place::AfterPre => {}
+        match position {
+            Position::Start => {}
+            Position::TypeName => self.at_type(token),
+            Position::PassedText => {}
+            Position::InSection(section) => self.at_entry(section, token)?,
+            Position::AfterEntry(section) => self.at_entry(section, token)?,
+            Position::InList(section, position) => self.at_option(bytes, section, position, token),
+            Position::InFlows => self.at_flow(alloc, token)?,
+            Position::AfterFlowName => {}
+            Position::BeforeSet(_) => {}
+            Position::InSet(side, position) => self.at_set(side, position, token)?,
+            Position::AfterPre => {}
         }
         Ok(())
     }

@@ -1,7 +1,11 @@
 //! A text has items with one meaning, or one first fault.
-ghost use Rattle.std.specs.Prelude.{◌≡◌, ℕ, ◌⊎◌, List};
+ghost use Rattle.std.specs.Prelude.{◌≡◌, ℕ, ◌⊎◌, ◌++◌, List, Some};
 ghost use Rattle.rg_netitems.specs.declared.fault.ItemFault.{ItemFault};
-ghost use Rattle.rg_netitems.specs.Item.{Item};
+ghost use Rattle.rg_lexer.specs.Lexeme.{Lexeme};
+ghost use Rattle.rg_items.specs.Grammar.{leads_all};
+ghost use Rattle.rg_netitems.specs.Item.{Item, AreItems};
+ghost use Rattle.rg_netitems.specs.Table.{Position, section};
+ghost use Rattle.rg_netitems.specs.Reading.{net_grammar};
 ghost use Rattle.rg_netitems.specs.Contents.{declared};
 ghost use Rattle.rg_netitems.specs.Text.{AreItemsOf, FirstItemFault};
 
@@ -11,4 +15,10 @@ pub fn one_answer()
     ensures one_meaning { (bytes : List ℕ) (a b : List Item) → AreItemsOf bytes a → AreItemsOf bytes b → declared a ≡ declared b }
     ensures one_fault { (bytes : List ℕ) (f g : ItemFault) → FirstItemFault bytes f → FirstItemFault bytes g → f ≡ g }
     ensures not_both { (bytes : List ℕ) (items : List Item) (f : ItemFault) → AreItemsOf bytes items → ¬ FirstItemFault bytes f }
+{}
+
+/// Tokens that lead anywhere from the start go on to the tokens of a whole file, so a first fault of the grammar
+/// is told at the first token that can't continue any file.
+pub fn tokens_go_on()
+    ensures { (front : List Lexeme) (position : Position) → leads_all net_grammar section front ≡ Some position → (more : List Lexeme) × (items : List Item) × AreItems items (front ++ more) }
 {}

@@ -4,13 +4,11 @@
 mod fault;
 mod found;
 mod laws;
-mod place;
+mod position;
+mod set_position;
 mod whole;
 
 pub use fault::ItemFault;
 pub use found::{Found, FoundFlow, FoundMember, FoundTransition};
-pub use laws::one_answer;
+pub use laws::{one_answer, tokens_go_on};
 pub use whole::read_items;
-
-#[cfg(test)]
-mod tests;

@@ -1,5 +1,6 @@
 //! What the tokens of a net file declare, or the first that can't continue the grammar.
 ghost use Rattle.std.specs.Prelude.{◌≡◌, ◌≢◌, ◌≤◌, List, All, length, map, IfOk, IfErr};
+ghost use Rattle.rg_text.specs.Limits.{most_bytes};
 ghost use Rattle.rg_lexer.specs.Lexeme.{lexeme};
 ghost use Rattle.rg_lexer.specs.Tokens.{IsTokenOf};
 ghost use Rattle.rg_items.specs.Grammar.{FirstRefusal};
@@ -12,33 +13,33 @@ ghost use Rattle.rg_netitems.specs.declared.fault.ItemFault.TheVariants.{NoMemor
 
 use crate::fault::ItemFault;
 use crate::found::Found;
-use crate::place::{Place, lead, may_end, refusal, wanted};
+use crate::position::{Position, lead, may_end, refusal, wanted};
 use rg_lexer::{Token, tokens};
 use std::alloc::Global;
 
 // What the tokens of a text declare.
 fn found_of(alloc: Global, bytes: &[u8], tokens: &[Token]) -> Result<Found, ItemFault>
-    requires size { length bytes.now ≤ 16777216 }
+    requires size { length bytes.now ≤ most_bytes }
     requires tokens { All (IsTokenOf bytes.now) tokens.now }
     ensures ok { IfOk result (λ f. (items : List Item) × AreItems items (map (lexeme bytes.now) tokens.now) × (found_in bytes.now f ≡ declared items)) }
     ensures names { IfOk result (HoldsNames bytes.now) }
     ensures fault { IfErr result (λ e. e ≢ NoMemory → FirstRefusal net_grammar (map (lexeme bytes.now) tokens.now) (length bytes.now) e) }
 {
     let mut found = Found::new(alloc);
-    let mut place = Place::Start;
+    let mut position = Position::Start;
     for token in tokens {
-        match lead(bytes, place, *token) {
+        match lead(bytes, position, *token) {
             Some(next) => {
-                found.add(alloc, bytes, place, *token)?;
-                place = next;
+                found.add(alloc, bytes, position, *token)?;
+                position = next;
             }
-            None => return Err(refusal(place, *token)),
+            None => return Err(refusal(position, *token)),
         }
     }
-    if may_end(place) {
+    if may_end(position) {
         Ok(found)
     } else {
-        Err(ItemFault::Expected(bytes.len() as u32, wanted(place)))
+        Err(ItemFault::Expected(bytes.len() as u32, wanted(position)))
     }
 }
 
@@ -53,7 +54,7 @@ fn found_of(alloc: Global, bytes: &[u8], tokens: &[Token]) -> Result<Found, Item
 /// Errors: `BadByte`, `OpenString`, `OpenComment` or `LongName`, the first in the text; else `Expected`
 /// or `WrongType` at the first token that can't continue the grammar; `NoMemory` where memory runs out.
 pub fn read_items(alloc: Global, bytes: &[u8]) -> Result<Found, ItemFault>
-    requires { length bytes.now ≤ 16777216 }
+    requires { length bytes.now ≤ most_bytes }
     ensures ok { IfOk result (λ f. (items : List Item) × AreItemsOf bytes.now items × (found_in bytes.now f ≡ declared items)) }
     ensures names { IfOk result (HoldsNames bytes.now) }
     ensures fault { IfErr result (λ e. e ≢ NoMemory → FirstItemFault bytes.now e) }

@@ -41,12 +41,12 @@ fn system(
 ) -> Result<Lts, BuildFault> {
     let mut builder = LtsBuilder::new(alloc);
     for &name in states {
-        if is_name(name) {
+        if is_name(name.as_bytes()) {
             builder.state(name)?;
         }
     }
     for &name in labels {
-        if is_name(name) {
+        if is_name(name.as_bytes()) {
             builder.label(name)?;
         }
     }

@@ -55,13 +55,13 @@ fn built(alloc: Global, arcs: &str) -> Result<Lts, BuildFault> {
 
 // Adds an arc, and its states and its label where they are new.
 fn add(builder: &mut LtsBuilder, from: &str, label: &str, to: &str) -> Result<(), BuildFault> {
-    if is_name(from) && builder.state_number(from).is_none() {
+    if is_name(from.as_bytes()) && builder.state_number(from).is_none() {
         builder.state(from)?;
     }
-    if is_name(to) && builder.state_number(to).is_none() {
+    if is_name(to.as_bytes()) && builder.state_number(to).is_none() {
         builder.state(to)?;
     }
-    if is_name(label) && builder.label_number(label).is_none() {
+    if is_name(label.as_bytes()) && builder.label_number(label).is_none() {
         builder.label(label)?;
     }
     builder.arc(from, label, to)

@@ -3,7 +3,7 @@ ghost use Rattle.std.specs.Prelude.{◌+◌, ◌*◌, ◌<◌, ◌≤◌, length
 ghost use Rattle.rg_theory.specs.System.{states, labels};
 ghost use Rattle.rg_theory.specs.declared.Problem.TheVariants as problem;
 ghost use Rattle.rg_theory.specs.Problem.{IsProblem};
-ghost use Rattle.rg_lts.specs.WellFormed.{most_states, most_labels};
+ghost use Rattle.rg_theory.specs.Limits.{most_states, most_labels};
 ghost use Rattle.rg_separate.specs.Keeping.{IsSetting, IsFound, IsSettled, StaySettled, SettledBefore};
 ghost use Rattle.rg_separate.specs.Deciding.{EndingTells};
 

@@ -2,7 +2,7 @@
 ghost use Rattle.std.specs.Prelude.{◌+◌, ◌*◌, ◌<◌, ◌≤◌, length, OnOk, IfErr};
 ghost use Rattle.rg_theory.specs.System.{states};
 ghost use Rattle.rg_theory.specs.declared.Problem.TheVariants as problem;
-ghost use Rattle.rg_lts.specs.WellFormed.{most_states};
+ghost use Rattle.rg_theory.specs.Limits.{most_states};
 ghost use Rattle.rg_separate.specs.Keeping.{IsSetting, IsFound, StaySettled, SettledBefore};
 ghost use Rattle.rg_separate.specs.Deciding.{EndingTells};
 

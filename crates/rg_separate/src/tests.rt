@@ -33,12 +33,12 @@ fn built(
 ) -> Result<Lts, BuildFault> {
     let mut builder = LtsBuilder::new(alloc);
     for &name in states {
-        if is_name(name) {
+        if is_name(name.as_bytes()) {
             builder.state(name)?;
         }
     }
     for &name in labels {
-        if is_name(name) {
+        if is_name(name.as_bytes()) {
             builder.label(name)?;
         }
     }

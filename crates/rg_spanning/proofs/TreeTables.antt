@@ -10,7 +10,8 @@ use Rattle.rg_theory.specs.System.{System, states, labels, IsArcInRange, IsReach
 use Rattle.rg_theory.specs.Tree.{Grows, IsTree, way_to, count, parikh, same_arc, is_among, arcs_without, chords}
 use Rattle.rg_theory.proofs.Lists.{Contains-cons_cases}
 use Rattle.rg_theory.proofs.Trees.{way_of_initial, way_joins, source_met, tree_arcs, reachable_is_met, met_is_reachable}
-use Rattle.rg_lts.specs.WellFormed.{IsWellFormed, most_states}
+use Rattle.rg_theory.specs.Limits.{most_states}
+use Rattle.rg_lts.specs.WellFormed.{IsWellFormed}
 use Rattle.rg_spanning.specs.Growing.{IsGrowing}
 use Rattle.rg_spanning.specs.Tables.{IsRow, HasRows, AreTables}
 use Rattle.rg_spanning.proofs.TreeGrowth.{targets, met_entered}

@@ -61,7 +61,7 @@ fn add_steps_of_second(builder: &mut LtsBuilder) -> Result<(), BuildFault> {
 
 fn add_states(builder: &mut LtsBuilder, names: &[&str]) -> Result<(), BuildFault> {
     for &name in names {
-        if is_name(name) {
+        if is_name(name.as_bytes()) {
             builder.state(name)?;
         }
     }
@@ -70,7 +70,7 @@ fn add_states(builder: &mut LtsBuilder, names: &[&str]) -> Result<(), BuildFault
 
 fn add_labels(builder: &mut LtsBuilder, names: &[&str]) -> Result<(), BuildFault> {
     for &name in names {
-        if is_name(name) {
+        if is_name(name.as_bytes()) {
             builder.label(name)?;
         }
     }

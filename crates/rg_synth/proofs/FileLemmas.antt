@@ -2,7 +2,8 @@
 use Rattle.std.proofs.Common.{◌≡◌, ℕ, ◌<◌, ◌+◌, List, length, Option, Some, None, IfSome, IsSomeAnd, replicate, refl, sym, subst, arith}
 use Rattle.std.proofs.lemmas.List.{length-replicate}
 use Rattle.rg_ports.specs.Shelf.{Files, file_of}
-use Rattle.rg_synth.specs.Given.{most_bytes, MayHold, IsTooLong}
+use Rattle.rg_text.specs.Limits.{most_bytes}
+use Rattle.rg_synth.specs.Given.{MayHold, IsTooLong}
 
 -- a list longer than any number
 longer_than : (n : ℕ) → (xs : List ℕ) × (n < length xs)

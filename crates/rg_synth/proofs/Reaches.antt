@@ -5,7 +5,8 @@ use Rattle.rg_theory.specs.System.{System}
 use Rattle.rg_theory.specs.declared.Class.{Class}
 use Rattle.rg_cert.specs.Spells.{Spells}
 use Rattle.rg_separate.specs.Answer.{IsUnbranched}
-use Rattle.rg_synth.specs.Given.{most_bytes, IsUnread}
+use Rattle.rg_text.specs.Limits.{most_bytes}
+use Rattle.rg_synth.specs.Given.{IsUnread}
 use Rattle.rg_synth.specs.Judged.{IsAccepted, IsNotAccepted}
 use Rattle.rg_synth.specs.Answers.{IsOpen, IsObstructed, IsBeyond, IsWithinReach}
 use Rattle.rg_synth.specs.declared.status.Fault.{Fault}

@@ -1,6 +1,7 @@
 -- The files that the words name.
 use Rattle.std.specs.Prelude.{◌≡◌, ◌≢◌, ℕ, ◌<◌, ◌≤◌, List, length, Option, Some, None}
 use Rattle.rg_ports.specs.Shelf.{Files, file_of}
+use Rattle.rg_text.specs.Limits.{most_bytes}
 use Rattle.rg_theory.specs.System.{System}
 use Rattle.rg_apt.specs.Spells.{Spells, FirstFault}
 use Rattle.rg_apt.specs.declared.fault.TextFault.{TextFault}
@@ -8,10 +9,6 @@ use Rattle.rg_apt.specs.declared.fault.TextFault.TheVariants.{NoMemory}
 use Rattle.rg_synth.specs.Words.{Asked, Ask, system_file}
 use Rattle.rg_synth.specs.declared.status.Fault.{Fault}
 use Rattle.rg_synth.specs.declared.status.Fault.TheVariants.{Missing, TooLong, Apt}
-
--- the most bytes of a file
-abbrev pub most_bytes : ℕ
-most_bytes = 16777216
 
 -- the shelf, as far as it tells its files, has these bytes under the name, or no such file
 abbrev pub MayHold : Option Files → List ℕ → Option (List ℕ) → Type 0

@@ -7,16 +7,15 @@ ghost use Rattle.rg_apt.specs.declared.fault.TextFault.{TextFault};
 ghost use Rattle.rg_apt.specs.declared.fault.TextFault.TheVariants as text_fault;
 ghost use Rattle.rg_synth.specs.declared.status.Fault.{Fault};
 ghost use Rattle.rg_synth.specs.declared.system_file.SystemStop.TheVariants as stop;
-ghost use Rattle.rg_synth.specs.Given.{most_bytes, IsNoSystem, IsSystemFile};
+ghost use Rattle.rg_text.specs.Limits.{most_bytes};
+ghost use Rattle.rg_synth.specs.Given.{IsNoSystem, IsSystemFile};
 
 use crate::status::Fault;
 use rg_apt::{TextFault, read_lts};
 use rg_lts::Lts;
 use rg_ports::{ReadStop, Shelf, read_all};
+use rg_text::MOST_BYTES;
 use std::alloc::Global;
-
-/// The most bytes of a file.
-pub(crate) const MOST_BYTES: usize = 16_777_216;
 
 // Why a file gave no system.
 pub(crate) enum SystemStop {

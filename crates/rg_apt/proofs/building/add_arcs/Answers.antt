@@ -7,7 +7,7 @@ use Rattle.rg_apt.specs.declared.found.FoundArc.{FoundArc}
 use Rattle.rg_apt.specs.Contents.{arc_fault}
 use Rattle.rg_apt.specs.FoundView.{arc_in, arcs_in}
 use Rattle.rg_apt.specs.Built.{HasArcs}
-use Rattle.rg_items.proofs.Left.{left_start, left_more, left_first, left_end, before_is, all_before}
+use Rattle.rg_text.proofs.Left.{left_start, left_more, left_first, left_end, before_is, all_before}
 use Rattle.rg_apt.proofs.ArcSteps.{unknown_fault, limit_fault, arc_step}
 use Rattle.rg_apt.proofs.Built.{no_arcs}
 use Rattle.rg_apt.proofs.building.add_arcs.Goals as goal

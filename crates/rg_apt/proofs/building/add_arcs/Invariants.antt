@@ -2,7 +2,7 @@ use Rattle.std.proofs.Common.{take}
 use Rattle.rg_apt.specs.Contents.{Declared, arc_fault}
 use Rattle.rg_apt.specs.FoundView.{arc_in, arcs_in}
 use Rattle.rg_apt.specs.Built.{HasLabels, HasArcs}
-use Rattle.rg_items.proofs.Left.{LeftAt}
+use Rattle.rg_text.proofs.Left.{LeftAt}
 use Rattle.rg_apt.proofs.building.add_arcs.Given as goal
 
 -- the arcs so far are there, without a fault

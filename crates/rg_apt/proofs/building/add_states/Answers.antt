@@ -6,7 +6,7 @@ use Rattle.rg_apt.specs.declared.found.FoundState.{FoundState}
 use Rattle.rg_apt.specs.Contents.{state_fault}
 use Rattle.rg_apt.specs.FoundView.{state_in, states_in}
 use Rattle.rg_apt.specs.Built.{HasStates}
-use Rattle.rg_items.proofs.Left.{left_start, left_more, left_first, left_end, before_is, all_before}
+use Rattle.rg_text.proofs.Left.{left_start, left_more, left_first, left_end, before_is, all_before}
 use Rattle.rg_apt.proofs.building.add_states.Goals as goal
 
 -- what a read past the end would give

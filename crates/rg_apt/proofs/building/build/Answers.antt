@@ -1,6 +1,6 @@
 use Rattle.std.proofs.Common.{[], map, Err, sym, ap, subst, ◌∙◌}
 use Rattle.std.proofs.lemmas.Result.{err_from_is_err_and}
-use Rattle.rg_items.specs.Faults.{faults_after, IsFirst, AreNone}
+use Rattle.rg_text.specs.Faults.{faults_after, IsFirst, AreNone}
 use Rattle.rg_apt.specs.Contents.{state_fault, label_fault, arc_fault}
 use Rattle.rg_apt.specs.FoundView.{states_in, labels_in, arcs_in, found_in}
 use Rattle.rg_apt.specs.Built.{label_text, HasStates, HasArcs}

@@ -1,4 +1,4 @@
-use Rattle.rg_apt.proofs.Names.{there}
+use Rattle.rg_lts.proofs.Drafts.{there}
 use Rattle.rg_apt.proofs.building.has_label.Goals as goal
 
 pub returns-in-Some-clause-yes : goal.returns-in-Some-clause-yes

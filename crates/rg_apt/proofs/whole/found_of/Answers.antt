@@ -2,7 +2,7 @@ use Rattle.std.proofs.Common.{◌≡◌, ◌<◌, ℕ, List, length, get_or, sym
 use Rattle.std.proofs.lemmas.List.{get_or_default}
 use Rattle.rg_lexer.specs.declared.token.Token.{Token}
 use Rattle.rg_lexer.specs.declared.token.Kind.TheVariants.{Name}
-use Rattle.rg_apt.specs.View.{place_in}
+use Rattle.rg_apt.specs.View.{position_in}
 use Rattle.rg_apt.specs.FoundView.{found_in}
 use Rattle.rg_items.proofs.Described.{reads_none, reads_more, refused_at, refused_end, read_end}
 use Rattle.rg_apt.specs.Item.{AreItems}
@@ -26,7 +26,7 @@ returns-in-None-clause-fault c = λ memory.
     let i = c.loop-token.token-index in
     let within : i < length tokens = omega arith in
     rw (c.refusal.ensures bytes)
-    (refused_at system_grammar bytes tokens i (get_or tokens i past_end) (place_in bytes c.loop-token.place) (found_in bytes c.loop-token.found) within (same_read tokens i within)
+    (refused_at system_grammar bytes tokens i (get_or tokens i past_end) (position_in bytes c.loop-token.position) (found_in bytes c.loop-token.found) within (same_read tokens i within)
     (sym (c.in-None.ensures.leads bytes (sym c.text_of-text.ensures))) c.loop-token.invariant.reads)
 
 pub loop-token-preserved : goal.loop-token-preserved
@@ -38,20 +38,20 @@ loop-token-preserved c =
     record {
       held = c.in-Some.ensures.holds bytes (c.requires.tokens i past_end within) c.loop-token.invariant.held;
       names = c.in_ok-add-in-Some.ensures.names c.loop-token.invariant.names;
-      reads = reads_more system_grammar bytes tokens i (get_or tokens i past_end) (place_in bytes c.loop-token.place) (place_in bytes c.in-Some.next)
+      reads = reads_more system_grammar bytes tokens i (get_or tokens i past_end) (position_in bytes c.loop-token.position) (position_in bytes c.in-Some.next)
           (found_in bytes c.loop-token.found) (found_in bytes c.add.new.self) within (same_read tokens i within)
           (sym (c.in-Some.ensures.leads bytes (sym c.text_of-text.ensures))) c.in_ok-add-in-Some.ensures.ok c.loop-token.invariant.reads;
     }
 
 pub returns-then-may_end-clause-ok : goal.returns-then-may_end-clause-ok
 returns-then-may_end-clause-ok c =
-    read_end system_grammar AreItems declared describes c.args.bytes.now c.args.tokens.now c.loop-token.token-index (place_in c.args.bytes.now c.loop-token.place) (found_in c.args.bytes.now c.loop-token.found)
+    read_end system_grammar AreItems declared describes c.args.bytes.now c.args.tokens.now c.loop-token.token-index (position_in c.args.bytes.now c.loop-token.position) (found_in c.args.bytes.now c.loop-token.found)
     (omega arith) (sym (c.may_end.ensures c.args.bytes.now) ∙ c.if-may_end.true) c.loop-token.invariant.reads
 
 pub returns-else-may_end-clause-fault : goal.returns-else-may_end-clause-fault
 returns-else-may_end-clause-fault c = λ memory.
     rw (c.wanted.ensures c.args.bytes.now)
-    (refused_end system_grammar c.args.bytes.now c.args.tokens.now c.loop-token.token-index (place_in c.args.bytes.now c.loop-token.place) (found_in c.args.bytes.now c.loop-token.found)
+    (refused_end system_grammar c.args.bytes.now c.args.tokens.now c.loop-token.token-index (position_in c.args.bytes.now c.loop-token.position) (found_in c.args.bytes.now c.loop-token.found)
     (omega arith) (sym (c.may_end.ensures c.args.bytes.now) ∙ c.if-may_end.false) c.loop-token.invariant.reads)
 
 pub loop-token-init : goal.loop-token-init

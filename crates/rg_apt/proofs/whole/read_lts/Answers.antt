@@ -1,6 +1,6 @@
 use Rattle.std.proofs.Common.{subst}
 use Rattle.std.proofs.lemmas.Result.{err_from_is_err_and}
-use Rattle.rg_items.specs.Faults.{IsFirst, AreNone}
+use Rattle.rg_text.specs.Faults.{IsFirst, AreNone}
 use Rattle.rg_apt.specs.Contents.{Declared, faults, IsSystemOf}
 use Rattle.rg_apt.specs.Spells.{in_system}
 use Rattle.rg_apt.proofs.whole.read_lts.Goals as goal

@@ -3,8 +3,8 @@ use Rattle.std.proofs.lemmas.List.{length-map, length-replicate}
 use Rattle.std.proofs.lemmas.Result.{err_from_is_err_and}
 use Rattle.rg_theory.specs.Net.{Net}
 use Rattle.rg_lexer.specs.Lexeme.{lexeme}
-use Rattle.rg_items.specs.Faults.{faults_after, if_not, IsFirst, AreNone}
-use Rattle.rg_items.proofs.Left.{first_left, first_right, none_joined}
+use Rattle.rg_text.specs.Faults.{faults_after, if_not, IsFirst, AreNone}
+use Rattle.rg_text.proofs.Left.{first_left, first_right, none_joined}
 use Rattle.rg_netitems.specs.FoundView.{found_in}
 use Rattle.rg_netfile.specs.declared.fault.NetFault.TheVariants.{NoType}
 use Rattle.rg_netfile.specs.Contents.{name_faults, step_fault, steps, place_names, transition_names, IsNetOf}

@@ -1,14 +1,14 @@
 use Rattle.std.proofs.Common.{Some, ◌≡◌, Contains, ◌<◌, ◌≤◌, ℕ, List, length, get_or, take, map, string_bytes, sym, ap, subst, ◌∙◌, arith}
+use Rattle.std.proofs.lemmas.Result.{err_from_is_err_and}
 use Rattle.std.proofs.lemmas.List.{get_or_default, length-map, length-take-le}
 use Rattle.rg_lexer.specs.declared.token.Kind.TheVariants.{Name}
 use Rattle.rg_lexer.specs.declared.token.Token.{Token}
 use Rattle.rg_lexer.specs.Lexeme.{lexeme}
-use Rattle.rg_items.proofs.Left.{left_start, left_more, left_first, left_end, before_is, all_before}
+use Rattle.rg_text.proofs.Left.{left_start, left_more, left_first, left_end, before_is, all_before}
 use Rattle.rg_netitems.specs.FoundView.{places_in}
 use Rattle.rg_netfile.specs.Contents.{place_fault, most_places}
-use Rattle.rg_netfile.proofs.NameTests.{there}
 use Rattle.rg_netfile.proofs.Apart.{apart_from, apart_none, apart_more}
-use Rattle.rg_netfile.proofs.EntryFaults.{text_of, place_twice, place_over, place_fine, names_more}
+use Rattle.rg_netfile.proofs.EntryFaults.{text_of, place_fault_of, place_fine, names_more}
 use Rattle.rg_netfile.proofs.building.place_table.Goals as goal
 
 -- what a read past the end would give
@@ -26,16 +26,24 @@ loop-place-init c = record {
   left = left_start (lexeme c.args.bytes.now) place_fault c.args.places.now;
 }
 
-pub returns-in-Some-clause-fault : goal.returns-in-Some-clause-fault
-returns-in-Some-clause-fault c = λ memory.
+pub returns-in_err-add_place-clause-fault : goal.returns-in_err-add_place-clause-fault
+returns-in_err-add_place-clause-fault c =
+    let p = err_from_is_err_and c.from_residual.result c.from_residual.ensures.1 in
     let bytes = c.args.bytes.now in
     let xs = c.args.places.now in
     let i = c.loop-place.place-index in
     let within : i < length xs = omega arith in
     let x = get_or xs i past_end in
-    left_first (lexeme bytes) place_fault xs i x _ within (same_read xs i within)
-    (place_twice (places_in bytes (take i xs)) (lexeme bytes x) (map string_bytes c.loop-place.table.keys) c.loop-place.invariant.names
-    (there _ c.in-Some.field-0 _ (c.in-Some.ensures.found ∙ ap Some c.name_of-name.ensures.value))) c.loop-place.invariant.left
+    let before = places_in bytes (take i xs) in
+    let names = map string_bytes c.loop-place.table.keys in
+    let many : length before ≡ i = length-map (take i xs) (lexeme bytes) ∙ length-take-le i xs (omega arith) in
+    let size : length c.loop-place.table.keys ≡ length before =
+    omega (arith, length-map c.loop-place.table.keys string_bytes, ap length c.loop-place.invariant.names, length-map before text_of) in
+    let f = c.in_err-add_place.field-0.0 in
+    rw (p.1, p.2)
+    (λ memory. left_first (lexeme bytes) place_fault xs i x f within (same_read xs i within)
+    (place_fault_of before (lexeme bytes x) names c.name_of.result.now f c.loop-place.invariant.names c.name_of.ensures.value (length c.loop-place.table.keys) size
+    (c.in_err-add_place.ensures.fault memory)) c.loop-place.invariant.left)
 
 pub loop-place-preserved : goal.loop-place-preserved
 loop-place-preserved c =
@@ -46,32 +54,17 @@ loop-place-preserved c =
     let x = get_or xs i past_end in
     let before = places_in bytes (take i xs) in
     let more = before_is (lexeme bytes) xs i x within (same_read xs i within) in
-    let absent = subst (λ n. Contains (map string_bytes c.loop-place.table.keys) n → ⊥) c.name_of-name.ensures.value c.in_default.ensures.none in
+    let absent = subst (λ n. Contains (map string_bytes c.loop-place.table.keys) n → ⊥) c.name_of.ensures.value c.in_ok-add_place.ensures.absent in
     let many : length before ≡ i = length-map (take i xs) (lexeme bytes) ∙ length-take-le i xs (omega arith) in
     let room : i < most_places =
-    omega (arith, c.len.ensures.len, length-map c.loop-place.table.keys string_bytes, ap length c.loop-place.invariant.names, length-map before text_of) in
+    omega (arith, c.in_ok-add_place.ensures.few, length-map c.loop-place.table.keys string_bytes, ap length c.loop-place.invariant.names, length-map before text_of) in
     record {
-      names = c.in_ok-add.ensures.ok ∙ names_more before (lexeme bytes x) _ _ c.loop-place.invariant.names c.name_of-name.ensures.value ∙ ap (map text_of) (sym more);
+      names = c.in_ok-add_place.ensures.ok ∙ names_more before (lexeme bytes x) _ _ c.loop-place.invariant.names c.name_of.ensures.value ∙ ap (map text_of) (sym more);
       few = omega arith;
-      apart = apart_from c.in_ok-add.ensures.ok (apart_more (map string_bytes c.loop-place.table.keys) c.name_of-name.result.now c.loop-place.invariant.apart c.in_default.ensures.none);
+      apart = apart_from c.in_ok-add_place.ensures.ok (apart_more (map string_bytes c.loop-place.table.keys) c.name_of.result.now c.loop-place.invariant.apart c.in_ok-add_place.ensures.absent);
       left = left_more (lexeme bytes) place_fault xs i x within (same_read xs i within)
           (place_fine before (lexeme bytes x) (map string_bytes c.loop-place.table.keys) c.loop-place.invariant.names absent (omega arith)) c.loop-place.invariant.left;
     }
-
-pub returns-then-len-ge-PLACE_LIMIT-clause-fault : goal.returns-then-len-ge-PLACE_LIMIT-clause-fault
-returns-then-len-ge-PLACE_LIMIT-clause-fault c = λ memory.
-    let bytes = c.args.bytes.now in
-    let xs = c.args.places.now in
-    let i = c.loop-place.place-index in
-    let within : i < length xs = omega arith in
-    let x = get_or xs i past_end in
-    let before = places_in bytes (take i xs) in
-    let absent = subst (λ n. Contains (map string_bytes c.loop-place.table.keys) n → ⊥) c.name_of-name.ensures.value c.in_default.ensures.none in
-    let many : length before ≡ i = length-map (take i xs) (lexeme bytes) ∙ length-take-le i xs (omega arith) in
-    let full : most_places ≤ i =
-    omega (arith, c.len.ensures.len, length-map c.loop-place.table.keys string_bytes, ap length c.loop-place.invariant.names, length-map before text_of) in
-    left_first (lexeme bytes) place_fault xs i x _ within (same_read xs i within)
-    (place_over before (lexeme bytes x) (map string_bytes c.loop-place.table.keys) c.loop-place.invariant.names absent (omega arith)) c.loop-place.invariant.left
 
 pub returns-clause-names : goal.returns-clause-names
 returns-clause-names c =

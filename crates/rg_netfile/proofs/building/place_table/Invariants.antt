@@ -1,6 +1,6 @@
 use Rattle.std.proofs.Common.{◌≡◌, ◌≤◌, map, take, string_bytes}
 use Rattle.rg_lexer.specs.Lexeme.{Lexeme, lexeme}
-use Rattle.rg_items.proofs.Left.{LeftAt}
+use Rattle.rg_text.proofs.Left.{LeftAt}
 use Rattle.rg_netitems.specs.FoundView.{places_in}
 use Rattle.rg_netfile.specs.Contents.{place_fault, most_places}
 use Rattle.rg_netfile.specs.Built.{AreApart}

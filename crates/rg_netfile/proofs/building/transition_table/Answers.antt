@@ -2,7 +2,7 @@ use Rattle.std.proofs.Common.{Some, None, ◌≡◌, Contains, ◌<◌, ℕ, Lis
 use Rattle.std.proofs.lemmas.List.{get_or_default}
 use Rattle.rg_lexer.specs.declared.token.Kind.TheVariants.{Name}
 use Rattle.rg_netitems.specs.declared.found.FoundTransition.{FoundTransition}
-use Rattle.rg_items.proofs.Left.{left_start, left_more, left_first, left_end, before_is, all_before}
+use Rattle.rg_text.proofs.Left.{left_start, left_more, left_first, left_end, before_is, all_before}
 use Rattle.rg_netitems.specs.FoundView.{transition_in, transitions_in}
 use Rattle.rg_netfile.specs.Contents.{transition_fault}
 use Rattle.rg_netfile.proofs.NameTests.{there}

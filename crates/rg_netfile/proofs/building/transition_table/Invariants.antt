@@ -1,5 +1,5 @@
 use Rattle.std.proofs.Common.{◌≡◌, map, take, string_bytes}
-use Rattle.rg_items.proofs.Left.{LeftAt}
+use Rattle.rg_text.proofs.Left.{LeftAt}
 use Rattle.rg_netitems.specs.Contents.{Transition}
 use Rattle.rg_netitems.specs.FoundView.{transition_in, transitions_in}
 use Rattle.rg_netfile.specs.Contents.{transition_fault}

@@ -3,7 +3,7 @@ use Rattle.std.proofs.lemmas.List.{get_or_default, get_or-map, length-map}
 use Rattle.std.proofs.lemmas.List.Elements.{All-push}
 use Rattle.rg_lexer.specs.declared.token.Kind.TheVariants.{Name}
 use Rattle.rg_theory.specs.System.{labels}
-use Rattle.rg_items.proofs.Left.{before_is}
+use Rattle.rg_text.proofs.Left.{before_is}
 use Rattle.rg_netitems.specs.declared.found.FoundTransition.{FoundTransition}
 use Rattle.rg_netitems.specs.FoundView.{transition_in, transitions_in}
 use Rattle.rg_netfile.specs.Built.{AreNumbers}

@@ -1,6 +1,6 @@
 use Rattle.std.proofs.Common.{◌≢◌, ℕ, List, ap, subst}
 use Rattle.std.proofs.lemmas.Result.{err_from_is_err_and}
-use Rattle.rg_items.specs.Faults.{IsFirst, AreNone}
+use Rattle.rg_text.specs.Faults.{IsFirst, AreNone}
 use Rattle.rg_theory.specs.System.{System}
 use Rattle.rg_netitems.specs.Contents.{Declared}
 use Rattle.rg_netitems.specs.Text.{FirstItemFault}

@@ -5,7 +5,7 @@ use Rattle.rg_lexer.specs.declared.token.Kind.TheVariants.{Name}
 use Rattle.rg_items.proofs.Described.{reads_none, reads_more, refused_at, refused_end, read_end}
 use Rattle.rg_netitems.specs.Item.{AreItems}
 use Rattle.rg_netitems.specs.Reading.{declared_by, net_grammar}
-use Rattle.rg_netitems.specs.View.{place_in}
+use Rattle.rg_netitems.specs.View.{position_in}
 use Rattle.rg_netitems.specs.FoundView.{progress_in}
 use Rattle.rg_netitems.proofs.Items.{progress_of, declared_is}
 use Rattle.rg_netitems.proofs.FoundLemmas.{found_is}
@@ -39,7 +39,7 @@ returns-in-None-clause-fault c = λ memory.
     let i = c.loop-token.token-index in
     let within : i < length tokens = omega arith in
     rw (c.refusal.ensures bytes)
-    (refused_at net_grammar bytes tokens i (get_or tokens i past_end) (place_in bytes c.loop-token.place) (progress_in bytes c.loop-token.found) within (same_read tokens i within)
+    (refused_at net_grammar bytes tokens i (get_or tokens i past_end) (position_in bytes c.loop-token.position) (progress_in bytes c.loop-token.found) within (same_read tokens i within)
     (sym c.in-None.ensures.leads) c.loop-token.invariant.reads)
 
 pub loop-token-preserved : goal.loop-token-preserved
@@ -51,7 +51,7 @@ loop-token-preserved c =
     record {
       held = c.in-Some.ensures.holds;
       names = c.in_ok-add-in-Some.ensures.names c.loop-token.invariant.names;
-      reads = reads_more net_grammar bytes tokens i (get_or tokens i past_end) (place_in bytes c.loop-token.place) (place_in bytes c.in-Some.next)
+      reads = reads_more net_grammar bytes tokens i (get_or tokens i past_end) (position_in bytes c.loop-token.position) (position_in bytes c.in-Some.next)
           (progress_in bytes c.loop-token.found) (progress_in bytes c.add.new.self) within (same_read tokens i within)
           (sym c.in-Some.ensures.leads) c.in_ok-add-in-Some.ensures.ok c.loop-token.invariant.reads;
     }
@@ -59,12 +59,12 @@ loop-token-preserved c =
 pub returns-then-may_end-clause-ok : goal.returns-then-may_end-clause-ok
 returns-then-may_end-clause-ok c =
     let bytes = c.args.bytes.now in
-    let end = read_end net_grammar AreItems progress_of describes bytes c.args.tokens.now c.loop-token.token-index (place_in bytes c.loop-token.place)
+    let end = read_end net_grammar AreItems progress_of describes bytes c.args.tokens.now c.loop-token.token-index (position_in bytes c.loop-token.position)
     (progress_in bytes c.loop-token.found) (omega arith) (sym (c.may_end.ensures bytes) ∙ c.if-may_end.true) c.loop-token.invariant.reads in
     (end.0, end.1, found_is bytes c.loop-token.found ∙ ap declared_by end.2 ∙ sym (declared_is end.0))
 
 pub returns-else-may_end-clause-fault : goal.returns-else-may_end-clause-fault
 returns-else-may_end-clause-fault c = λ memory.
     rw (c.wanted.ensures c.args.bytes.now)
-    (refused_end net_grammar c.args.bytes.now c.args.tokens.now c.loop-token.token-index (place_in c.args.bytes.now c.loop-token.place) (progress_in c.args.bytes.now c.loop-token.found)
+    (refused_end net_grammar c.args.bytes.now c.args.tokens.now c.loop-token.token-index (position_in c.args.bytes.now c.loop-token.position) (progress_in c.args.bytes.now c.loop-token.found)
     (omega arith) (sym (c.may_end.ensures c.args.bytes.now) ∙ c.if-may_end.false) c.loop-token.invariant.reads)

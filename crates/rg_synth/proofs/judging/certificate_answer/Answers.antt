@@ -1,6 +1,6 @@
 use Rattle.std.proofs.Common.{ℕ, ◌<◌, List, ap, subst, Err, length, IsSomeAnd}
 use Rattle.rg_ports.specs.Shelf.{Files, file_of}
-use Rattle.rg_synth.specs.Given.{most_bytes}
+use Rattle.rg_text.specs.Limits.{most_bytes}
 use Rattle.rg_synth.specs.Requests.{AnswersBytes}
 use Rattle.rg_synth.proofs.FileLemmas.{held, told, too_long}
 use Rattle.rg_synth.proofs.Answered.{bytes_answered, second_too_long}

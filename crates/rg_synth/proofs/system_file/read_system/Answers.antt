@@ -1,7 +1,8 @@
 use Rattle.std.proofs.Common.{◌<◌, ◌≡◌, subst, ap, Err, length, IsSomeAnd}
 use Rattle.rg_ports.specs.Shelf.{Files, file_of}
 use Rattle.rg_synth.specs.declared.status.Fault.TheVariants.{TooLong}
-use Rattle.rg_synth.specs.Given.{most_bytes, IsNoSystem}
+use Rattle.rg_text.specs.Limits.{most_bytes}
+use Rattle.rg_synth.specs.Given.{IsNoSystem}
 use Rattle.rg_synth.proofs.FileLemmas.{told, too_long}
 use Rattle.rg_synth.proofs.system_file.read_system.Goals as goal
 

@@ -2,7 +2,7 @@
 use Rattle.std.proofs.Common.{◌<◌, length, map, string_bytes, arith}
 use Rattle.std.proofs.lemmas.List.{length-map}
 use Rattle.rg_lts.specs.Draft.{Draft, draft_of}
-use Rattle.rg_lts.specs.WellFormed.{most_labels}
+use Rattle.rg_theory.specs.Limits.{most_labels}
 use Rattle.rg_lts.proofs.Drafts.{label_push}
 use Rattle.rg_lts.proofs.builder.LtsBuilder.label.Goals as goal
 

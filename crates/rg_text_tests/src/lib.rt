@@ -1,0 +1,22 @@
+//! Tests of single calls of the crates of texts, in memory and on paper: what no clause says, with values from
+//! outside, and that each call can succeed.
+#![tactic(auto)]
+
+#[cfg(test)]
+mod bytes;
+#[cfg(test)]
+mod net_faults;
+#[cfg(test)]
+mod net_limits;
+#[cfg(test)]
+mod nets;
+#[cfg(test)]
+mod options;
+#[cfg(test)]
+mod samples;
+#[cfg(test)]
+mod system_faults;
+#[cfg(test)]
+mod system_limits;
+#[cfg(test)]
+mod systems;

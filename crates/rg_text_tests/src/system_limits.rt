@@ -1,0 +1,93 @@
+//! Limits of the texts of systems, each just met and just passed.
+use crate::samples::{push_name, with_bytes, with_names};
+use rg_apt::{TextFault, print_lts, read_lts};
+use rg_text::MOST_BYTES;
+use std::alloc::{AllocError, Global};
+use std::test::Fail;
+
+// The first fault of a text.
+fn fault(alloc: Global, text: &[u8]) -> Option<TextFault> {
+    if text.len() > MOST_BYTES {
+        return Some(TextFault::NoMemory);
+    }
+    read_lts(alloc, text).err()
+}
+
+#[test]
+fn bytes_of_names(rt: HostRuntime) -> Result<(), Fail> {
+    let alloc = rt.alloc();
+    for (head, bytes, tail, wanted) in [
+        (".type TS .states ", 255, "[initial]", None),
+        (".type TS .states ", 256, "[initial]", Some(TextFault::LongName(17))),
+        (".", 255, " \"\" .type TS .states s[initial]", None),
+        (".", 256, " \"\" .type TS .states s[initial]", Some(TextFault::LongName(1))),
+    ] {
+        assert!(rt; fault(alloc, &with_bytes(alloc, head, bytes, tail)?) == wanted, "{bytes}");
+    }
+    Ok(())
+}
+
+#[test]
+fn states_and_labels(rt: HostRuntime) -> Result<(), Fail> {
+    let alloc = rt.alloc();
+    let states = ".type TS .states ";
+    let labels = ".type TS .states s[initial] .labels ";
+    for (head, names, tail, wanted) in [
+        (states, 4_096, "", Some(TextFault::NoInitial)),
+        (states, 4_096, "aaa", Some(TextFault::TwiceState(16_401))),
+        (states, 4_097, "", Some(TextFault::TooManyStates(16_401))),
+        (labels, 256, "", None),
+        (labels, 256, "aaa", Some(TextFault::TwiceLabel(1_060))),
+        (labels, 257, "", Some(TextFault::TooManyLabels(1_060))),
+        (labels, 256, ".type PN", Some(TextFault::WrongType(1_066))),
+    ] {
+        assert!(rt; fault(alloc, &with_names(alloc, head, names, tail)?) == wanted, "{names}{tail}");
+    }
+    Ok(())
+}
+
+// A text of 512 states with an arc from each to each, and then another text.
+fn with_arcs(alloc: Global, tail: &str) -> Result<Vec<u8>, AllocError> {
+    let mut text = with_names(
+        alloc,
+        ".type TS .labels a b .states ",
+        512,
+        "s[initial] .arcs ",
+    )?;
+    for arc in 0..262_144 {
+        push_name(&mut text, arc / 512)?;
+        text.extend_from_slice(b"a ")?;
+        push_name(&mut text, arc % 512)?;
+    }
+    text.extend_from_slice(tail.as_bytes())?;
+    Ok(text)
+}
+
+// The arcs are as many as may be; one of them again is none more, and another one is.
+#[test]
+fn arcs(rt: HostRuntime) -> Result<(), Fail> {
+    let alloc = rt.alloc();
+    let text = with_arcs(alloc, "aab a aaa aab b aaa")?;
+    assert!(rt; fault(alloc, &text) == Some(TextFault::TooManyArcs(2_623_544)));
+    Ok(())
+}
+
+#[test]
+fn a_great_system_is_printed(rt: HostRuntime) -> Result<(), Fail> {
+    let alloc = rt.alloc();
+    let text = with_names(
+        alloc,
+        ".type TS .labels a .states ",
+        4_095,
+        "s[initial] .arcs s a aab aab a s",
+    )?;
+    assert!(rt; text.len() <= MOST_BYTES);
+    let lts = read_lts(alloc, &text)?;
+    assert!(rt; lts.states() == 4_096);
+    let printed = print_lts(alloc, &lts)?;
+    assert!(rt; printed.len() <= MOST_BYTES);
+    let again = read_lts(alloc, &printed)?;
+    assert!(rt; again.states() == 4_096 && again.initial() == 4_095);
+    assert!(rt; again.arcs() == lts.arcs() && again.arcs().len() == 2);
+    Ok(())
+}
