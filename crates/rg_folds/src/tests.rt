@@ -2,14 +2,13 @@
 use crate::folds::{calls_are_steps, folds_are_one, steps_are_one};
 use crate::rows::{expression_is_rewritten, row_is_exact, system_is_exact};
 use crate::shown::shown_is_one;
-use crate::spanning::{basis_is_exact, chords_are_exact, tree_is_one, ways_are_one};
+use crate::spanning::{basis_is_exact, chords_are_exact, ways_are_one};
 
 #[test]
 fn laws_are_called(_rt: HostRuntime) {
     steps_are_one();
     calls_are_steps();
     folds_are_one();
-    tree_is_one();
     ways_are_one();
     chords_are_exact();
     basis_is_exact();

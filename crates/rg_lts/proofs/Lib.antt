@@ -1,4 +1,5 @@
 pub mod NameLemmas
 mod ArcOrder
+mod ArcRuns
 mod ArcSets
 mod Drafts

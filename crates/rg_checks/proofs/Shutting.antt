@@ -1,14 +1,14 @@
 -- The states that can be reached are a closed set.
-use Rattle.std.proofs.Common.{◌≡◌, ◌≢◌, ◌↔◌, ℕ, ◌<◌, ◌==◌, Bool, true, false, not, cond, List, [], ◌∷◌, ◌++◌, Option, Some, None, is_some, length, get_or, slice_get, IsTrue, true≢false, refl, sym, ap, subst, ◌∙◌, arith}
+use Rattle.std.proofs.Common.{◌≡◌, ◌≢◌, ◌↔◌, ℕ, ◌<◌, ◌==◌, ◌||◌, Bool, true, false, not, List, [], ◌∷◌, ◌++◌, Option, Some, None, is_some, length, get_or, slice_get, IsTrue, true≢false, refl, sym, ap, subst, ◌∙◌, arith}
 use Rattle.std.proofs.lemmas.List.Elements.{All-contains}
 use Rattle.std.proofs.lemmas.Option.{slice_get-get_or, slice_get_read, get_or_from_slice_get}
-use Rattle.std.proofs.lemmas.Bool.{eqb-true, eqb-false}
+use Rattle.std.proofs.lemmas.Bool.{false_from_ne_true}
 use Rattle.std.proofs.lemmas.Bool.Decides.{nat_tests}
-use Rattle.rg_theory.specs.System.{System, arc, states, IsInRange, IsArcInRange, HasArc, Leads, IsReachable}
+use Rattle.rg_theory.specs.System.{System, arc, states, IsInRange, IsArcInRange, HasArc, Leads, IsReachable, IsAllReachable, IsLeastUnreachable, IsClosedWithout}
 use Rattle.rg_theory.proofs.Trees.{leads_more}
 use Rattle.rg_checks.specs.declared.walks.Step.{Step}
-use Rattle.rg_checks.specs.Met.{AreSteps}
-use Rattle.rg_refuting.specs.Refutes.{IsClosedWithout}
+use Rattle.rg_checks.specs.Met.{AreSteps, is_met}
+use Rattle.rg_checks.proofs.Walking.{initial_met, unmet_none, met_reached}
 
 -- exactly the states outside can't be reached
 pub record TellsReachable (lts : System) (inside : ℕ → Bool) : Type 0 where
@@ -42,26 +42,30 @@ shut_out lts inside s fine tells lt = (λ out. (inside, record { initial = tells
     back (without, c) =
         (tells.each s lt).1 (λ (ts, path). true≢false (sym (stays lts without lts.initial ts s c.closed path c.initial) ∙ c.without))
 
--- the state is the initial one, or has a step that leads to it
-abbrev is_met : System → List (Option Step) → ℕ → Bool
-is_met lts steps s = cond (s == lts.initial) true (is_some (get_or steps s None))
-
-met_entry : (lts : System) (steps : List (Option Step)) (s : ℕ) (b : Bool) → (s == lts.initial) ≡ b → (b ≡ false → (is_some (get_or steps s None) ≡ false) ↔ (IsReachable lts s → ⊥))
-    → (cond b true (is_some (get_or steps s None)) ≡ false) ↔ (IsReachable lts s → ⊥)
-met_entry lts steps s true is other = ((λ e. absurd (true≢false e)), λ none. absurd (none ([], sym (eqb-true s lts.initial is))))
-met_entry lts steps s false is other = other refl
-
-step_entry : (lts : System) (steps : List (Option Step)) (s : ℕ) (e : Option Step) → slice_get steps s ≡ Some e → ((slice_get steps s ≡ Some None) ↔ (IsReachable lts s → ⊥))
-    → (is_some e ≡ false) ↔ (IsReachable lts s → ⊥)
-step_entry lts steps s None at told = ((λ e. told.0 at), λ none. refl)
-step_entry lts steps s (Some step) at told = ((λ e. absurd (true≢false e)), λ none. absurd (let both = sym at ∙ told.1 none in cc))
-
-told : (lts : System) (steps : List (Option Step)) → AreSteps lts steps → TellsReachable lts (is_met lts steps)
-told lts steps are = let start : (lts.initial == lts.initial) ≡ true = grind (arith, nat_tests) in record {
-  initial = ap (λ b. cond b true (is_some (get_or steps lts.initial None))) start;
-  each = λ s lt. met_entry lts steps s (s == lts.initial) refl (λ off.
-      step_entry lts steps s (get_or steps s None) (slice_get-get_or steps s None (subst (λ n. s < n) (sym are.long) lt)) (are.none s lt (eqb-false s lts.initial off)));
+-- the steps tell which states can be reached
+pub told : (lts : System) (steps : List (Option Step)) → AreSteps lts steps → TellsReachable lts (is_met lts steps)
+told lts steps are = record {
+  initial = initial_met lts steps;
+  each = λ s lt. (unmet s lt, λ far. false_from_ne_true (is_met lts steps s) (λ met. far (met_reached lts steps s are lt met)));
 }
+  where
+    unmet : (s : ℕ) → s < states lts → is_met lts steps s ≡ false → IsReachable lts s → ⊥
+    unmet s lt out = (are.none s lt other).0 (slice_get-get_or steps s None (subst (λ n. s < n) (sym are.long) lt) ∙ ap Some (unmet_none lts steps s out))
+      where
+        other : s ≢ lts.initial
+        other e = true≢false (sym (initial_met lts steps) ∙ ap (is_met lts steps) (sym e) ∙ out)
+
+-- a state that isn't met is the least that can't be reached, where all before it are met
+pub least_unreachable : (lts : System) (steps : List (Option Step)) (s : ℕ) → AreSteps lts steps → s < states lts → is_met lts steps s ≡ false
+    → ((r : ℕ) → r < s → is_met lts steps r ≡ true) → IsLeastUnreachable lts s
+least_unreachable lts steps s are lt out before = record {
+  state = lt;
+  unreachable = ((told lts steps are).each s lt).0 out;
+  least = λ r less. met_reached lts steps r are (omega arith) (before r less);
+}
+
+pub all_reachable : (lts : System) (steps : List (Option Step)) → AreSteps lts steps → ((r : ℕ) → r < states lts → is_met lts steps r ≡ true) → IsAllReachable lts
+all_reachable lts steps are met = record { each = λ s lt. met_reached lts steps s are lt (met s lt) }
 
 not_false : (b : Bool) (o : Bool) → o ≡ not b → (b ≡ true) ↔ (o ≡ false)
 not_false true o is = ((λ e. is), λ e. refl)
@@ -74,7 +78,7 @@ no_step lts steps s entry b fine are lt other at is =
     let here : slice_get steps s ≡ Some entry = slice_get_read steps (length steps) s entry refl (subst (λ n. s < n) (sym are.long) lt) at in
     let same : entry ≡ get_or steps s None = sym (get_or_from_slice_get steps s entry None here) in
     let off : (s == lts.initial) ≡ false = grind (arith, nat_tests) in
-    let met : is_met lts steps s ≡ is_some entry = ap (λ t. cond t true (is_some (get_or steps s None))) off ∙ ap is_some (sym same) in
+    let met : is_met lts steps s ≡ is_some entry = ap (λ t. t || is_some (get_or steps s None)) off ∙ ap is_some (sym same) in
     let turned = not_false b (is_some entry) is in
     let out = shut_out lts (is_met lts steps) s fine (told lts steps are) lt in
     ((λ t. out.0 (met ∙ turned.0 t)), λ h. turned.1 (sym met ∙ out.1 h))
