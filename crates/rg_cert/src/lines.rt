@@ -1,5 +1,5 @@
 //! Lines and their fields.
-ghost use Rattle.std.specs.Prelude.{◌≡◌, ◌≢◌, ◌≤◌, ◌++◌, ◌∷◌, length, map, All, IfOk, IfSome, IfNone};
+ghost use Rattle.std.specs.Prelude.{◌≡◌, ◌≢◌, ◌≤◌, ◌++◌, ◌∷◌, length, map, take, All, IfOk, IfSome, IfNone};
 ghost use Rattle.std.specs.List.{prefix_len};
 ghost use Rattle.rg_text.specs.Byte.{is_other_than};
 ghost use Rattle.rg_text.specs.Line.{fields};
@@ -26,9 +26,9 @@ fn line_len(text: &[u8]) -> usize
     text.iter().take_while(|b| **b != b'\n').count()
 }
 
-// What stands between the spaces of a line.
-pub(crate) fn fields<'a>(alloc: Global, line: &'a [u8]) -> Result<Vec<&'a [u8]>, AllocError>
-    ensures { IfOk result (λ v. map (λ w. w.now) v.items ≡ fields line.entry.now) }
+// The first parts of a line that is cut at its spaces: six, one more than any line may have.
+pub(crate) fn first_fields<'a>(alloc: Global, line: &'a [u8]) -> Result<Vec<&'a [u8]>, AllocError>
+    ensures { IfOk result (λ v. map (λ w. w.now) v.items ≡ take 6 (fields line.entry.now)) }
 {
-    line.split(|b| *b == b' ').collect(alloc)
+    line.split(|b| *b == b' ').take(6).collect(alloc)
 }

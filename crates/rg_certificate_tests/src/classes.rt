@@ -1,43 +1,47 @@
 //! Classes as words.
-use crate::{Class, ClassFault, class_is_told};
+use rg_theory::{Class, ClassFault};
+
+const NONE: Class = Class {
+    pure: false,
+    plain: false,
+    bound: None,
+    nonbranching: false,
+};
+
+const ALL: Class = Class {
+    pure: true,
+    plain: true,
+    bound: Some(255),
+    nonbranching: true,
+};
 
 #[test]
-fn reads_classes(rt: HostRuntime) {
-    class_is_told();
-    let none = Class {
-        pure: false,
-        plain: false,
-        bound: None,
-        nonbranching: false,
-    };
-    assert_eq!(rt; Class::read("none"), Ok(none));
-    let all = Class {
-        pure: true,
-        plain: true,
-        bound: Some(255),
-        nonbranching: true,
-    };
-    assert_eq!(rt;
-        Class::read("255-bounded,pure,output-nonbranching,plain"),
-        Ok(all)
-    );
+fn classes_of_words(rt: HostRuntime) {
     let safe = Class {
         bound: Some(1),
-        ..none
+        ..NONE
     };
-    assert_eq!(rt; Class::read("safe"), Ok(safe));
+    for (text, class) in [
+        ("none", NONE),
+        ("255-bounded,pure,output-nonbranching,plain", ALL),
+        ("safe", safe),
+        ("1-bounded", safe),
+    ] {
+        assert!(rt; Class::read(text) == Ok(class));
+    }
 }
 
 #[test]
-fn refuses_the_first_word(rt: HostRuntime) {
-    assert_eq!(rt; Class::read("safe,1-bounded"), Err(ClassFault::Repeated(1)));
-    assert_eq!(rt; Class::read("pure,none"), Err(ClassFault::UnknownWord(1)));
-    assert_eq!(rt; Class::read("none,none"), Err(ClassFault::UnknownWord(0)));
-    assert_eq!(rt; Class::read(""), Err(ClassFault::UnknownWord(0)));
-    assert_eq!(rt; Class::read("-bounded"), Err(ClassFault::UnknownWord(0)));
-    assert_eq!(rt;
-        Class::read("plain,256-bounded"),
-        Err(ClassFault::BadNumber(1))
-    );
-    assert_eq!(rt; Class::read("01-bounded"), Err(ClassFault::BadNumber(0)));
+fn the_first_word_that_is_refused(rt: HostRuntime) {
+    for (text, fault) in [
+        ("safe,1-bounded", ClassFault::Repeated(1)),
+        ("pure,none", ClassFault::UnknownWord(1)),
+        ("none,none", ClassFault::UnknownWord(0)),
+        ("", ClassFault::UnknownWord(0)),
+        ("-bounded", ClassFault::UnknownWord(0)),
+        ("plain,256-bounded", ClassFault::BadNumber(1)),
+        ("01-bounded", ClassFault::BadNumber(0)),
+    ] {
+        assert!(rt; Class::read(text) == Err(fault));
+    }
 }

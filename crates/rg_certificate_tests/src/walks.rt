@@ -1,66 +1,40 @@
-//! A fork and an unreachable state, and neither.
-use crate::{Step, first_fork, first_unreachable, one_least_fork, reach};
-use rg_lts::{BuildFault, Lts, LtsBuilder};
-use std::alloc::Global;
+//! The first fork, the least state that can't be reached, and how the others are reached.
+use crate::samples::{APART, FORKED, LOCK, RING, THERE_AND_BACK, system};
+use rg_checks::{Step, first_fork, first_unreachable, reach};
 use std::test::Fail;
 
-// From s0 by a to s1, and to s2 by a or by b; s3 is apart.
-fn system(alloc: Global, second: &str) -> Result<Lts, BuildFault> {
-    let mut builder = LtsBuilder::new(alloc);
-    builder.state("s0")?;
-    builder.state("s1")?;
-    builder.state("s2")?;
-    builder.label("a")?;
-    builder.label("b")?;
-    builder.arc("s0", "a", "s1")?;
-    builder.arc("s0", second, "s2")?;
-    builder.initial("s0")?;
-    builder.finish()
-}
-
-// Two states without an arc.
-fn apart(alloc: Global) -> Result<Lts, BuildFault> {
-    let mut builder = LtsBuilder::new(alloc);
-    builder.state("s0")?;
-    builder.state("s1")?;
-    builder.initial("s0")?;
-    builder.finish()
-}
-
 #[test]
-fn tells_the_first_fork(rt: HostRuntime) -> Result<(), Fail> {
-    let lts = system(rt.alloc(), "a")?;
-    assert!(rt; first_fork(&lts) == Some((0, 0, 1, 2)));
-    one_least_fork();
+fn the_first_fork(rt: HostRuntime) -> Result<(), Fail> {
+    for (text, fork) in [(FORKED, Some((0, 0, 1, 2))), (RING, None)] {
+        let lts = system(&rt, rt.alloc(), text)?;
+        assert!(rt; first_fork(&lts) == fork);
+    }
     Ok(())
 }
 
 #[test]
-fn tells_the_least_unreachable_state(rt: HostRuntime) -> Result<(), Fail> {
-    let lts = apart(rt.alloc())?;
-    let first = first_unreachable(rt.alloc(), &lts)?;
-    assert!(rt; first == Some(1));
+fn the_least_unreachable_state(rt: HostRuntime) -> Result<(), Fail> {
+    for (text, state) in [(APART, Some(1)), (THERE_AND_BACK, None), (LOCK, None)] {
+        let lts = system(&rt, rt.alloc(), text)?;
+        let first = first_unreachable(rt.alloc(), &lts)?;
+        assert!(rt; first == state);
+    }
     Ok(())
 }
 
+// s4 leads to s0, and is apart.
+const LINE: &str =
+    ".type LTS .states s0 s1 s2[initial] s3 s4 .labels a b .arcs s2 a s3 s3 b s1 s1 a s0 s4 a s0";
+
+fn step(before: u32, label: u32) -> Option<Step> {
+    Some(Step { before, label })
+}
+
 #[test]
-fn reaches_all_states(rt: HostRuntime) -> Result<(), Fail> {
-    let lts = system(rt.alloc(), "b")?;
-    assert!(rt; first_fork(&lts) == None);
-    let first = first_unreachable(rt.alloc(), &lts)?;
-    assert!(rt; first == None);
+fn the_steps_of_a_line(rt: HostRuntime) -> Result<(), Fail> {
+    let lts = system(&rt, rt.alloc(), LINE)?;
     let steps = reach(rt.alloc(), &lts)?;
-    let wanted = [
-        None,
-        Some(Step {
-            before: 0,
-            label: 0,
-        }),
-        Some(Step {
-            before: 0,
-            label: 1,
-        }),
-    ];
+    let wanted = [step(1, 0), step(3, 1), None, step(2, 0), None];
     assert!(rt; steps.as_slice() == wanted.as_slice());
     Ok(())
 }

@@ -1,30 +1,35 @@
 //! That trees are grown, and what an unreachable state answers.
 ghost use Rattle.rg_spanning.specs.Spanning.{IsTreeOf};
 
-use crate::samples::{apart, arc, lock};
-use crate::{GrowStop, Tree};
+use crate::samples::{APART, LOCK, system};
 use rg_lts::Lts;
+use rg_spanning::{GrowStop, Tree};
+use rg_theory::Arc;
+use std::test::Fail;
+
+// The arc (from, label, to).
+fn arc(from: u32, label: u32, to: u32) -> Arc {
+    Arc { from, label, to }
+}
 
 #[test]
-fn tells_the_least_unreachable_state(rt: HostRuntime) {
-    let Ok(lts) = apart(rt.alloc()) else {
-        panic!(rt; "the system wasn't made");
-    };
+fn tells_the_least_unreachable_state(rt: HostRuntime) -> Result<(), Fail> {
+    let lts = system(&rt, rt.alloc(), APART)?;
     match Tree::grow(rt.alloc(), &lts) {
         Ok(_) => panic!(rt; "s1 was reached"),
         Err(stop) => assert!(rt; stop == GrowStop::Unreachable(1)),
     }
+    Ok(())
 }
 
 #[test]
-fn grows_breadth_first(rt: HostRuntime) {
-    let Ok(lts) = lock(rt.alloc()) else {
-        panic!(rt; "the system wasn't made");
-    };
+fn grows_breadth_first(rt: HostRuntime) -> Result<(), Fail> {
+    let lts = system(&rt, rt.alloc(), LOCK)?;
     match Tree::grow(rt.alloc(), &lts) {
         Ok(tree) => assert!(rt; is_right(&lts, &tree)),
         Err(_) => panic!(rt; "the tree wasn't grown"),
     }
+    Ok(())
 }
 
 fn is_right(lts: &Lts, tree: &Tree) -> bool

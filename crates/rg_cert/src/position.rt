@@ -1,7 +1,7 @@
 //! Where a line stands, and which lines may follow.
 ghost use Rattle.std.specs.Prelude.{◌≡◌, ◌<◌};
 ghost use Rattle.rg_cert.specs.Lines.{follows, in_tree, after_tree};
-ghost use Rattle.rg_cert.specs.View.{IsSmall, line_form_in, count_in, place_in, next_in};
+ghost use Rattle.rg_cert.specs.View.{IsSmall, line_form_in, count_in, position_in, next_in};
 
 use crate::table::LineForm;
 
@@ -14,7 +14,7 @@ pub(crate) enum Count {
 
 /// Where a line stands.
 #[derive(Clone, Copy, Debug, PartialEq, Eq)]
-pub(crate) enum Place {
+pub(crate) enum Position {
     /// The third line.
     Reason,
     /// After `unreachable` or `fork`.
@@ -34,7 +34,7 @@ pub(crate) enum Place {
 /// What comes of a line of some form.
 #[derive(Clone, Copy, Debug, PartialEq, Eq)]
 pub(crate) enum Next {
-    To(Place),
+    To(Position),
     /// A node is due.
     Short,
     /// The tree is whole.
@@ -42,23 +42,23 @@ pub(crate) enum Next {
     Refused,
 }
 
-impl Place {
+impl Position {
     // What comes of a line of this form here.
     pub(crate) fn next(self, form: LineForm) -> Next
         requires { IsSmall self 4294967294 }
-        ensures { next_in result ≡ follows (place_in self) (line_form_in form) }
+        ensures { next_in result ≡ follows (position_in self) (line_form_in form) }
     {
         match (self, form) {
-            (Place::Reason, LineForm::Unreachable | LineForm::Fork) => Next::To(Place::Last),
-            (Place::Reason, LineForm::Event) => Next::To(Place::OneCase),
-            (Place::Reason, LineForm::States) => Next::To(Place::Cases),
-            (Place::Last | Place::Cases, LineForm::End) => Next::To(Place::End),
-            (Place::OneCase, LineForm::Case) => Next::To(Place::Node(Count::One, 0)),
-            (Place::Cases, LineForm::Case) => Next::To(Place::Node(Count::Several, 0)),
-            (Place::Node(count, due), form) => in_tree(count, due, form),
-            (Place::Row(count, due), LineForm::Row(_)) => Next::To(Place::Row(count, due)),
-            (Place::Row(count, 0), form) => after_tree(count, form),
-            (Place::Row(count, due), form) => in_tree(count, due - 1, form),
+            (Position::Reason, LineForm::Unreachable | LineForm::Fork) => Next::To(Position::Last),
+            (Position::Reason, LineForm::Event) => Next::To(Position::OneCase),
+            (Position::Reason, LineForm::States) => Next::To(Position::Cases),
+            (Position::Last | Position::Cases, LineForm::End) => Next::To(Position::End),
+            (Position::OneCase, LineForm::Case) => Next::To(Position::Node(Count::One, 0)),
+            (Position::Cases, LineForm::Case) => Next::To(Position::Node(Count::Several, 0)),
+            (Position::Node(count, due), form) => in_tree(count, due, form),
+            (Position::Row(count, due), LineForm::Row(_)) => Next::To(Position::Row(count, due)),
+            (Position::Row(count, 0), form) => after_tree(count, form),
+            (Position::Row(count, due), form) => in_tree(count, due - 1, form),
             _ => Next::Refused,
         }
     }
@@ -70,8 +70,8 @@ fn in_tree(count: Count, due: u32, form: LineForm) -> Next
     ensures { next_in result ≡ in_tree (count_in count) due (line_form_in form) }
 {
     match form {
-        LineForm::SplitTokens | LineForm::SplitEffect => Next::To(Place::Node(count, due + 1)),
-        LineForm::Leaf => Next::To(Place::Row(count, due)),
+        LineForm::SplitTokens | LineForm::SplitEffect => Next::To(Position::Node(count, due + 1)),
+        LineForm::Leaf => Next::To(Position::Row(count, due)),
         LineForm::Case | LineForm::End => Next::Short,
         _ => Next::Refused,
     }
@@ -83,8 +83,8 @@ fn after_tree(count: Count, form: LineForm) -> Next
 {
     match (count, form) {
         (_, LineForm::SplitTokens | LineForm::SplitEffect | LineForm::Leaf) => Next::Long,
-        (Count::Several, LineForm::Case) => Next::To(Place::Node(Count::Several, 0)),
-        (_, LineForm::End) => Next::To(Place::End),
+        (Count::Several, LineForm::Case) => Next::To(Position::Node(Count::Several, 0)),
+        (_, LineForm::End) => Next::To(Position::End),
         _ => Next::Refused,
     }
 }
