@@ -18,41 +18,41 @@ use Rattle.rg_refuting.specs.Refutes.{NamedRow, Tree, Tree.leaf, Tree.split}
 use Rattle.rg_cert.specs.Trees.{TreeNode, leaf_node, split_node, preorder}
 use Rattle.rg_cert.specs.Certificates.{IsRowOf, IsNodeOf, IsTreeOf, IsReasonOf}
 use Rattle.rg_cert.specs.Text.{state_name, label_name, named_fields, variable_fields, node_lines, case_lines, reason_lines, spaced, cert_lines}
-use Rattle.rg_cert.specs.Lines.{HasFieldForm, AreAsked, LineForm, heading_line, class_line, unreachable_line, fork_line, event_line, states_line, case_line, split_tokens_line, split_effect_line, leaf_line, row_line, end_line, arc_form, tokens_form, cap_form, up_form, down_form, makes_form, stop_form, block_form, empty_form, full_form, keep_form, apart_form, above_form, fields_of, Count, one, several, Place, at_heading, at_class, at_reason, at_last, at_one_case, at_cases, at_node, at_row, at_end, to, follows}
+use Rattle.rg_cert.specs.Lines.{HasFieldForm, AreAsked, LineForm, heading_line, class_line, unreachable_line, fork_line, event_line, states_line, case_line, split_tokens_line, split_effect_line, leaf_line, row_line, end_line, arc_form, tokens_form, cap_form, up_form, down_form, makes_form, stop_form, block_form, empty_form, full_form, keep_form, apart_form, above_form, fields_of, Count, one, several, Position, at_heading, at_class, at_reason, at_last, at_one_case, at_cases, at_node, at_row, at_end, to, follows}
 use Rattle.rg_cert.specs.Faults.{IsRight, Leads, LeadAll}
 use Rattle.rg_cert.specs.Drafts.{Head, of_unreachable, of_fork, of_event, of_states, head_fields, IsHeadOf, after_head}
 use Rattle.rg_cert.proofs.Decimal.{written_numeral}
 use Rattle.rg_cert.proofs.LineTexts.{fields_are}
 
--- the line with these texts is right in itself, and leads from a place to the next
-pub record TextsLead (lts : System) (place : Place) (texts : List (List ℕ)) (next : Place) : Type 0 where
+-- the line with these texts is right in itself, and leads from a position to the next
+pub record TextsLead (lts : System) (position : Position) (texts : List (List ℕ)) (next : Position) : Type 0 where
   pub form : LineForm
   pub fields : AreAsked HasFieldForm (fields_of form) texts
   pub right : IsRight lts form texts
-  pub leads : follows place form ≡ to next
+  pub leads : follows position form ≡ to next
 
-pub lead_of : (lts : System) (place : Place) (texts : List (List ℕ)) (next : Place) → TextsLead lts place texts next → Leads lts place (spaced texts) next
-lead_of lts place texts next is = record { form = is.form; texts = texts; has = record { fields = is.fields; spelled = refl }; right = is.right; leads = is.leads }
+pub lead_of : (lts : System) (position : Position) (texts : List (List ℕ)) (next : Position) → TextsLead lts position texts next → Leads lts position (spaced texts) next
+lead_of lts position texts next is = record { form = is.form; texts = texts; has = record { fields = is.fields; spelled = refl }; right = is.right; leads = is.leads }
 
 -- lines with these texts, one after the other
-abbrev pub TextsLeadAll : System → Place → List (List (List ℕ)) → Place → Type 0
-TextsLeadAll lts place [] last = place ≡ last
-TextsLeadAll lts place (texts ∷ more) last = (next : Place) × TextsLead lts place texts next × TextsLeadAll lts next more last
+abbrev pub TextsLeadAll : System → Position → List (List (List ℕ)) → Position → Type 0
+TextsLeadAll lts position [] last = position ≡ last
+TextsLeadAll lts position (texts ∷ more) last = (next : Position) × TextsLead lts position texts next × TextsLeadAll lts next more last
 
-pub lead_all_of : (lts : System) (place : Place) (lines : List (List (List ℕ))) (last : Place) → TextsLeadAll lts place lines last → LeadAll lts place (map spaced lines) last
-lead_all_of lts place [] last same = same
-lead_all_of lts place (texts ∷ more) last (next, first, rest) = (next, lead_of lts place texts next first, lead_all_of lts next more last rest)
+pub lead_all_of : (lts : System) (position : Position) (lines : List (List (List ℕ))) (last : Position) → TextsLeadAll lts position lines last → LeadAll lts position (map spaced lines) last
+lead_all_of lts position [] last same = same
+lead_all_of lts position (texts ∷ more) last (next, first, rest) = (next, lead_of lts position texts next first, lead_all_of lts next more last rest)
 
 -- a line tells its texts
 abbrev pub IsTold : List (List ℕ) → Type 0
 IsTold texts = fields (spaced texts) ≡ texts
 
-pub all_told : (lts : System) (place : Place) (lines : List (List (List ℕ))) (last : Place) → TextsLeadAll lts place lines last → All IsTold lines
-all_told lts place [] last same = All-nil IsTold
-all_told lts place (texts ∷ more) last (next, first, rest) =
+pub all_told : (lts : System) (position : Position) (lines : List (List (List ℕ))) (last : Position) → TextsLeadAll lts position lines last → All IsTold lines
+all_told lts position [] last same = All-nil IsTold
+all_told lts position (texts ∷ more) last (next, first, rest) =
     All-cons IsTold texts more (fields_are first.form (spaced texts) texts (record { fields = first.fields; spelled = refl })) (all_told lts next more last rest)
 
-pub lead_append : (lts : System) (from : Place) (xs : List (List (List ℕ))) (mid : Place) (ys : List (List (List ℕ))) (last : Place) → TextsLeadAll lts from xs mid → TextsLeadAll lts mid ys last
+pub lead_append : (lts : System) (from : Position) (xs : List (List (List ℕ))) (mid : Position) (ys : List (List (List ℕ))) (last : Position) → TextsLeadAll lts from xs mid → TextsLeadAll lts mid ys last
     → TextsLeadAll lts from (xs ++ ys) last
 lead_append lts from [] mid ys last same more = subst (λ p. TextsLeadAll lts p ys last) (sym same) more
 lead_append lts from (texts ∷ xs) mid ys last (next, first, rest) more = (next, first, lead_append lts next xs mid ys last rest more)
@@ -198,11 +198,11 @@ rows_lead lts count due [] fine are = refl
 rows_lead lts count due (r ∷ rows) fine are =
     (at_row count due, row_leads lts count due r.multiplier r.name fine (All-head (IsRowOf lts) r rows are), rows_lead lts count due rows fine (All-tail (IsRowOf lts) r rows are))
 
--- a node is due at the place, and so many after it
-record IsDue (place : Place) (count : Count) (due : ℕ) : Type 0 where
-  pub tokens : follows place split_tokens_line ≡ to (at_node count (suc due))
-  pub effect : follows place split_effect_line ≡ to (at_node count (suc due))
-  pub leaf : follows place leaf_line ≡ to (at_row count due)
+-- a node is due at the position, and so many after it
+record IsDue (position : Position) (count : Count) (due : ℕ) : Type 0 where
+  pub tokens : follows position split_tokens_line ≡ to (at_node count (suc due))
+  pub effect : follows position split_effect_line ≡ to (at_node count (suc due))
+  pub leaf : follows position leaf_line ≡ to (at_row count due)
 
 due_node : (count : Count) (due : ℕ) → IsDue (at_node count due) count due
 due_node count due = record { tokens = refl; effect = refl; leaf = refl }
@@ -210,15 +210,15 @@ due_node count due = record { tokens = refl; effect = refl; leaf = refl }
 due_row : (count : Count) (due : ℕ) → IsDue (at_row count (suc due)) count due
 due_row count due = record { tokens = refl; effect = refl; leaf = refl }
 
-split_leads : (lts : System) (place : Place) (count : Count) (due : ℕ) (form : Variable) (at : ℤ) → IsWellFormed lts → IsDue place count due → IsNodeOf lts (split_node form at)
-    → TextsLead lts place (codes "split" ∷ (variable_fields lts form ++ signed_decimal at ∷ [])) (at_node count (suc due))
-split_leads lts place count due (tokens_at q) at fine is of_system = record {
+split_leads : (lts : System) (position : Position) (count : Count) (due : ℕ) (form : Variable) (at : ℤ) → IsWellFormed lts → IsDue position count due → IsNodeOf lts (split_node form at)
+    → TextsLead lts position (codes "split" ∷ (variable_fields lts form ++ signed_decimal at ∷ [])) (at_node count (suc due))
+split_leads lts position count due (tokens_at q) at fine is of_system = record {
   form = split_tokens_line;
   fields = (refl, (refl, (state_is lts q fine of_system.0, ((at, written_numeral at (small_split at of_system.1)), tt))));
   right = ((tt, (tt, (tt, ((at, written_numeral at (small_split at of_system.1), of_system.1), tt)))), (tt, (tt, (there_at lts.state_names q of_system.0, (tt, tt)))));
   leads = is.tokens;
 }
-split_leads lts place count due (effect_of t) at fine is of_system = record {
+split_leads lts position count due (effect_of t) at fine is of_system = record {
   form = split_effect_line;
   fields = (refl, (refl, (label_is lts t fine of_system.0, ((at, written_numeral at (small_split at of_system.1)), tt))));
   right = ((tt, (tt, (tt, ((at, written_numeral at (small_split at of_system.1), of_system.1), tt)))), (tt, (tt, (there_at lts.label_names t of_system.0, (tt, tt)))));
@@ -233,36 +233,36 @@ sides P (x ∷ xs) ys are =
     (All-cons P x xs (All-head P x (xs ++ ys) are) more.0, more.1)
 
 -- a tree takes one of the nodes that are due
-tree_leads : (lts : System) (place : Place) (count : Count) (due : ℕ) (tree : Tree) → IsWellFormed lts → IsDue place count due → IsTreeOf lts tree
-    → TextsLeadAll lts place (flat_map (node_lines lts) (preorder tree)) (at_row count due)
-tree_leads lts place count due (leaf rows) fine is are =
-    subst (λ l. TextsLeadAll lts place l (at_row count due)) (sym (append-nil (node_lines lts (leaf_node rows))))
+tree_leads : (lts : System) (position : Position) (count : Count) (due : ℕ) (tree : Tree) → IsWellFormed lts → IsDue position count due → IsTreeOf lts tree
+    → TextsLeadAll lts position (flat_map (node_lines lts) (preorder tree)) (at_row count due)
+tree_leads lts position count due (leaf rows) fine is are =
+    subst (λ l. TextsLeadAll lts position l (at_row count due)) (sym (append-nil (node_lines lts (leaf_node rows))))
     (at_row count due, record { form = leaf_line; fields = (refl, tt); right = ((tt, tt), (tt, tt)); leads = is.leaf }, rows_lead lts count due rows fine (All-head (IsNodeOf lts) (leaf_node rows) [] are))
-tree_leads lts place count due (split form at low high) fine is are =
+tree_leads lts position count due (split form at low high) fine is are =
     let both = sides (IsNodeOf lts) (preorder low) (preorder high) (All-tail (IsNodeOf lts) (split_node form at) (preorder low ++ preorder high) are) in
     let below : TextsLeadAll lts (at_node count (suc due)) (flat_map (node_lines lts) (preorder low ++ preorder high)) (at_row count due) =
     subst (λ l. TextsLeadAll lts (at_node count (suc due)) l (at_row count due)) (sym (flat_map-append (node_lines lts) (preorder low) (preorder high)))
     (lead_append lts (at_node count (suc due)) (flat_map (node_lines lts) (preorder low)) (at_row count (suc due)) (flat_map (node_lines lts) (preorder high)) (at_row count due)
     (tree_leads lts (at_node count (suc due)) count (suc due) low fine (due_node count (suc due)) both.0) (tree_leads lts (at_row count (suc due)) count due high fine (due_row count due) both.1)) in
-    (at_node count (suc due), split_leads lts place count due form at fine is (All-head (IsNodeOf lts) (split_node form at) (preorder low ++ preorder high) are), below)
+    (at_node count (suc due), split_leads lts position count due form at fine is (All-head (IsNodeOf lts) (split_node form at) (preorder low ++ preorder high) are), below)
 
 -- a case
-case_leads : (lts : System) (place : Place) (count : Count) (tree : Tree) → IsWellFormed lts → follows place case_line ≡ to (at_node count 0) → IsTreeOf lts tree
-    → TextsLeadAll lts place (case_lines lts tree) (at_row count 0)
-case_leads lts place count tree fine may are =
+case_leads : (lts : System) (position : Position) (count : Count) (tree : Tree) → IsWellFormed lts → follows position case_line ≡ to (at_node count 0) → IsTreeOf lts tree
+    → TextsLeadAll lts position (case_lines lts tree) (at_row count 0)
+case_leads lts position count tree fine may are =
     (at_node count 0, record { form = case_line; fields = (refl, tt); right = ((tt, tt), (tt, tt)); leads = may }, tree_leads lts (at_node count 0) count 0 tree fine (due_node count 0) are)
 
-end_leads : (lts : System) (place : Place) → follows place end_line ≡ to at_end → TextsLeadAll lts place ((codes "end" ∷ []) ∷ []) at_end
-end_leads lts place may = (at_end, record { form = end_line; fields = (refl, tt); right = ((tt, tt), (tt, tt)); leads = may }, refl)
+pub end_leads : (lts : System) (position : Position) → follows position end_line ≡ to at_end → TextsLeadAll lts position ((codes "end" ∷ []) ∷ []) at_end
+end_leads lts position may = (at_end, record { form = end_line; fields = (refl, tt); right = ((tt, tt), (tt, tt)); leads = may }, refl)
 
 -- any number of cases, and the end
-cases_lead : (lts : System) (place : Place) (trees : List Tree) → IsWellFormed lts → follows place case_line ≡ to (at_node several 0) → follows place end_line ≡ to at_end → All (IsTreeOf lts) trees
-    → TextsLeadAll lts place (flat_map (case_lines lts) trees ++ (codes "end" ∷ []) ∷ []) at_end
-cases_lead lts place [] fine may ends are = end_leads lts place ends
-cases_lead lts place (tree ∷ trees) fine may ends are =
-    subst (λ l. TextsLeadAll lts place l at_end) (sym (append_assoc (case_lines lts tree) (flat_map (case_lines lts) trees) ((codes "end" ∷ []) ∷ [])))
-    (lead_append lts place (case_lines lts tree) (at_row several 0) (flat_map (case_lines lts) trees ++ (codes "end" ∷ []) ∷ []) at_end
-    (case_leads lts place several tree fine may (All-head (IsTreeOf lts) tree trees are))
+cases_lead : (lts : System) (position : Position) (trees : List Tree) → IsWellFormed lts → follows position case_line ≡ to (at_node several 0) → follows position end_line ≡ to at_end → All (IsTreeOf lts) trees
+    → TextsLeadAll lts position (flat_map (case_lines lts) trees ++ (codes "end" ∷ []) ∷ []) at_end
+cases_lead lts position [] fine may ends are = end_leads lts position ends
+cases_lead lts position (tree ∷ trees) fine may ends are =
+    subst (λ l. TextsLeadAll lts position l at_end) (sym (append_assoc (case_lines lts tree) (flat_map (case_lines lts) trees) ((codes "end" ∷ []) ∷ [])))
+    (lead_append lts position (case_lines lts tree) (at_row several 0) (flat_map (case_lines lts) trees ++ (codes "end" ∷ []) ∷ []) at_end
+    (case_leads lts position several tree fine may (All-head (IsTreeOf lts) tree trees are))
     (cases_lead lts (at_row several 0) trees fine refl refl (All-tail (IsTreeOf lts) tree trees are)))
 
 reason_leads : (lts : System) (reason : refutes.Reason) → IsWellFormed lts → IsReasonOf lts reason → TextsLeadAll lts at_reason (reason_lines lts reason ++ (codes "end" ∷ []) ∷ []) at_end

@@ -5,19 +5,19 @@ use Rattle.rg_text.specs.Line.{fed}
 use Rattle.rg_theory.specs.System.{System}
 use Rattle.rg_cert.specs.declared.fault.CertFault.{CertFault}
 use Rattle.rg_cert.specs.Text.{spaced}
-use Rattle.rg_cert.specs.Lines.{LineForm, Place, at_end}
+use Rattle.rg_cert.specs.Lines.{LineForm, Position, at_end}
 use Rattle.rg_cert.specs.Faults.{GoesOn, IsFaultAt, FaultFrom}
 use Rattle.rg_cert.specs.Drafts.{Head, of_unreachable, of_fork, of_event, of_states, after_head, Draft, blank, Adds, draft_lines, IsDraftAt, IsNextLine, AreCasesOf}
 use Rattle.rg_cert.proofs.Walks.{start, goes_more, count_before}
 use Rattle.rg_cert.proofs.DraftSteps.{drafted}
 
 -- the lines so far, which are those of the draft
-pub record IsReading (lts : System) (head : Head) (text : List ℕ) (place : Place) (d : Draft) (rest : List ℕ) (number : ℕ) : Type 0 where
+pub record IsReading (lts : System) (head : Head) (text : List ℕ) (position : Position) (d : Draft) (rest : List ℕ) (number : ℕ) : Type 0 where
   pub before : List (List ℕ)
-  pub goes_on : GoesOn lts (after_head head) text before place rest
+  pub goes_on : GoesOn lts (after_head head) text before position rest
   pub count : number ≡ length before + 4
-  pub draft : IsDraftAt lts head place d
-  pub lines : before ≡ map spaced (draft_lines lts place d)
+  pub draft : IsDraftAt lts head position d
+  pub lines : before ≡ map spaced (draft_lines lts position d)
 
 blank_at : (lts : System) (head : Head) → IsDraftAt lts head (after_head head) blank × ([] ≡ draft_lines lts (after_head head) blank)
 blank_at lts (of_unreachable s) = ((refl, refl), refl)
@@ -26,8 +26,8 @@ blank_at lts (of_event s t) = ((refl, refl), refl)
 blank_at lts (of_states s s') = ((refl, refl), refl)
 
 -- before the first line
-pub reading_starts : (lts : System) (head : Head) (text : List ℕ) (place : Place) (d : Draft) → place ≡ after_head head → d ≡ blank → IsReading lts head text place d text 4
-reading_starts lts head text place d at is =
+pub reading_starts : (lts : System) (head : Head) (text : List ℕ) (position : Position) (d : Draft) → position ≡ after_head head → d ≡ blank → IsReading lts head text position d text 4
+reading_starts lts head text position d at is =
     subst (λ p. IsReading lts head text p d text 4) (sym at) (subst (λ x. IsReading lts head text (after_head head) x text 4) (sym is) (record {
       before = [];
       goes_on = start lts (after_head head) text;
@@ -37,34 +37,34 @@ reading_starts lts head text place d at is =
     }))
 
 -- one line more
-pub reading_goes : (lts : System) (head : Head) (text : List ℕ) (place : Place) (d : Draft) (rest : List ℕ) (number : ℕ) (form : LineForm) (texts : List (List ℕ)) (next : Place) (after : List ℕ) (new : Draft)
-    → IsReading lts head text place d rest number → IsNextLine lts place rest form texts next after → Adds lts place form texts d new
+pub reading_goes : (lts : System) (head : Head) (text : List ℕ) (position : Position) (d : Draft) (rest : List ℕ) (number : ℕ) (form : LineForm) (texts : List (List ℕ)) (next : Position) (after : List ℕ) (new : Draft)
+    → IsReading lts head text position d rest number → IsNextLine lts position rest form texts next after → Adds lts position form texts d new
     → IsReading lts head text next new after (number + 1)
-reading_goes lts head text place d rest number form texts next after new is line adds =
-    let one = drafted lts head place form texts next d new is.draft line.has.fields line.leads adds in
+reading_goes lts head text position d rest number form texts next after new is line adds =
+    let one = drafted lts head position form texts next d new is.draft line.has.fields line.leads adds in
     record {
       before = is.before ++ line.line ∷ [];
-      goes_on = goes_more lts (after_head head) text is.before place rest form texts next after is.goes_on line;
+      goes_on = goes_more lts (after_head head) text is.before position rest form texts next after is.goes_on line;
       count = omega (arith, is.count, length-append is.before (line.line ∷ []));
       draft = one.0;
-      lines = ap₂ (λ a b. a ++ b ∷ []) is.lines line.has.spelled ∙ sym (map-append spaced (draft_lines lts place d) (texts ∷ [])) ∙ ap (map spaced) (sym one.1);
+      lines = ap₂ (λ a b. a ++ b ∷ []) is.lines line.has.spelled ∙ sym (map-append spaced (draft_lines lts position d) (texts ∷ [])) ∙ ap (map spaced) (sym one.1);
     }
 
 -- a fault of the next line
-pub reading_fails : (lts : System) (head : Head) (text : List ℕ) (place : Place) (d : Draft) (rest : List ℕ) (number : ℕ) (fault : CertFault)
-    → IsReading lts head text place d rest number → IsFaultAt lts place rest number fault → FaultFrom lts (after_head head) text 4 fault
-reading_fails lts head text place d rest number fault is at = record {
+pub reading_fails : (lts : System) (head : Head) (text : List ℕ) (position : Position) (d : Draft) (rest : List ℕ) (number : ℕ) (fault : CertFault)
+    → IsReading lts head text position d rest number → IsFaultAt lts position rest number fault → FaultFrom lts (after_head head) text 4 fault
+reading_fails lts head text position d rest number fault is at = record {
   before = is.before;
-  place = place;
+  position = position;
   rest = rest;
   goes_on = is.goes_on;
-  is = count_before lts place rest number (length is.before + 4) fault is.count at;
+  is = count_before lts position rest number (length is.before + 4) fault is.count at;
 }
 
 -- nothing after the end
-pub reading_ends : (lts : System) (head : Head) (text : List ℕ) (place : Place) (d : Draft) (rest : List ℕ) (number : ℕ)
-    → IsReading lts head text place d rest number → place ≡ at_end → rest ≡ [] → AreCasesOf lts head text d.cases
-reading_ends lts head text place d rest number is at none =
+pub reading_ends : (lts : System) (head : Head) (text : List ℕ) (position : Position) (d : Draft) (rest : List ℕ) (number : ℕ)
+    → IsReading lts head text position d rest number → position ≡ at_end → rest ≡ [] → AreCasesOf lts head text d.cases
+reading_ends lts head text position d rest number is at none =
     let drafted : IsDraftAt lts head at_end d = subst (λ p. IsDraftAt lts head p d) at is.draft in
     record {
       each = drafted.0;

@@ -11,13 +11,13 @@ use Rattle.rg_refuting.specs.Refutes.{NamedRow}
 use Rattle.rg_cert.specs.Trees.{TreeNode, leaf_node, split_node}
 use Rattle.rg_cert.specs.Certificates.{IsRowOf, IsNodeOf}
 use Rattle.rg_cert.specs.Text.{named_fields, node_lines}
-use Rattle.rg_cert.specs.Lines.{word, HasFieldForm, AreAsked, LineForm, heading_line, class_line, unreachable_line, fork_line, event_line, states_line, case_line, split_tokens_line, split_effect_line, leaf_line, row_line, end_line, fields_of, Count, one, several, Place, at_heading, at_class, at_reason, at_last, at_one_case, at_cases, at_node, at_row, at_end, to, follows}
+use Rattle.rg_cert.specs.Lines.{word, HasFieldForm, AreAsked, LineForm, heading_line, class_line, unreachable_line, fork_line, event_line, states_line, case_line, split_tokens_line, split_effect_line, leaf_line, row_line, end_line, fields_of, Count, one, several, Position, at_heading, at_class, at_reason, at_last, at_one_case, at_cases, at_node, at_row, at_end, to, follows}
 use Rattle.rg_cert.specs.Drafts.{Head, of_unreachable, of_fork, of_event, of_states, after_head, Draft, blank, leaf_closed, case_closed, with_split, IsSplitLine, Adds, nodes_lines, draft_lines, IsCase, IsCount, IsInTree, HasCases, IsDraftAt, due_at}
 use Rattle.rg_cert.proofs.Opened.{open_start, open_leaf, open_split, open_whole}
 
--- the draft is right at the place, and has these lines
-abbrev pub IsDrafted : System → Head → Place → Draft → List (List (List ℕ)) → Type 0
-IsDrafted lts head place d lines = IsDraftAt lts head place d × (draft_lines lts place d ≡ lines)
+-- the draft is right at the position, and has these lines
+abbrev pub IsDrafted : System → Head → Position → Draft → List (List (List ℕ)) → Type 0
+IsDrafted lts head position d lines = IsDraftAt lts head position d × (draft_lines lts position d ≡ lines)
 
 -- a case that grows by a node
 add_node : (lts : System) (cases : List (List TreeNode)) (nodes : List TreeNode) (n : TreeNode)
@@ -73,13 +73,13 @@ in_case : (lts : System) (head : Head) (count : Count) (cases : List (List TreeN
     → IsInTree lts head count (record { cases = cases; nodes = []; rows = [] }) 1
 in_case lts head count cases asked each none = record { asked = asked; cases = each; one = none; tree = open_start; nodes = All-nil (IsNodeOf lts) }
 
-to_is : (p q : Place) → to p ≡ to q → p ≡ q
+to_is : (p q : Position) → to p ≡ to q → p ≡ q
 to_is p q e = cc
 
-drafted_to : (lts : System) (head : Head) (p next : Place) (d : Draft) (lines : List (List (List ℕ))) → to p ≡ to next → IsDrafted lts head p d lines → IsDrafted lts head next d lines
+drafted_to : (lts : System) (head : Head) (p next : Position) (d : Draft) (lines : List (List (List ℕ))) → to p ≡ to next → IsDrafted lts head p d lines → IsDrafted lts head next d lines
 drafted_to lts head p next d lines e is = subst (λ q. IsDrafted lts head q d lines) (to_is p next e) is
 
-drafted_by : (lts : System) (head : Head) (p : Place) (d new : Draft) (lines : List (List (List ℕ))) → new ≡ d → IsDrafted lts head p d lines → IsDrafted lts head p new lines
+drafted_by : (lts : System) (head : Head) (p : Position) (d new : Draft) (lines : List (List (List ℕ))) → new ≡ d → IsDrafted lts head p d lines → IsDrafted lts head p new lines
 drafted_by lts head p d new lines e is = subst (λ x. IsDrafted lts head p x lines) (sym e) is
 
 -- a split where a node is due
@@ -174,15 +174,15 @@ several_is (of_fork s t s₁ s₂) at = absurd cc
 several_is (of_event s t) at = absurd cc
 several_is (of_states s s') at = tt
 
-not_early : (head : Head) (place : Place) → place ≡ after_head head → (place ≡ at_heading → ⊥) × (place ≡ at_class → ⊥) × (place ≡ at_reason → ⊥)
-not_early (of_unreachable s) place at = ((λ e. absurd cc), (λ e. absurd cc), (λ e. absurd cc))
-not_early (of_fork s t s₁ s₂) place at = ((λ e. absurd cc), (λ e. absurd cc), (λ e. absurd cc))
-not_early (of_event s t) place at = ((λ e. absurd cc), (λ e. absurd cc), (λ e. absurd cc))
-not_early (of_states s s') place at = ((λ e. absurd cc), (λ e. absurd cc), (λ e. absurd cc))
+not_early : (head : Head) (position : Position) → position ≡ after_head head → (position ≡ at_heading → ⊥) × (position ≡ at_class → ⊥) × (position ≡ at_reason → ⊥)
+not_early (of_unreachable s) position at = ((λ e. absurd cc), (λ e. absurd cc), (λ e. absurd cc))
+not_early (of_fork s t s₁ s₂) position at = ((λ e. absurd cc), (λ e. absurd cc), (λ e. absurd cc))
+not_early (of_event s t) position at = ((λ e. absurd cc), (λ e. absurd cc), (λ e. absurd cc))
+not_early (of_states s s') position at = ((λ e. absurd cc), (λ e. absurd cc), (λ e. absurd cc))
 
 -- a right line makes of a right draft a right one, with one line more
-pub drafted : (lts : System) (head : Head) (place : Place) (form : LineForm) (texts : List (List ℕ)) (next : Place) (d new : Draft) → IsDraftAt lts head place d
-    → AreAsked HasFieldForm (fields_of form) texts → follows place form ≡ to next → Adds lts place form texts d new → IsDrafted lts head next new (draft_lines lts place d ++ texts ∷ [])
+pub drafted : (lts : System) (head : Head) (position : Position) (form : LineForm) (texts : List (List ℕ)) (next : Position) (d new : Draft) → IsDraftAt lts head position d
+    → AreAsked HasFieldForm (fields_of form) texts → follows position form ≡ to next → Adds lts position form texts d new → IsDrafted lts head next new (draft_lines lts position d ++ texts ∷ [])
 drafted lts head at_heading form texts next d new is asked leads adds = absurd ((not_early head at_heading is.0).0 refl)
 drafted lts head at_class form texts next d new is asked leads adds = absurd ((not_early head at_class is.0).1 refl)
 drafted lts head at_reason form texts next d new is asked leads adds = absurd ((not_early head at_reason is.0).2 refl)
@@ -313,11 +313,11 @@ drafted lts head at_end leaf_line texts next d new is asked leads adds = absurd 
 drafted lts head at_end (row_line row) texts next d new is asked leads adds = absurd cc
 drafted lts head at_end end_line texts next d new is asked leads adds = absurd cc
 
-due_is : (p next : Place) → to p ≡ to next → due_at next ≡ due_at p
+due_is : (p next : Position) → to p ≡ to next → due_at next ≡ due_at p
 due_is p next e = ap due_at (sym (to_is p next e))
 
 -- a line makes at most one more node due
-pub few_due : (place : Place) (form : LineForm) (next : Place) → follows place form ≡ to next → due_at next ≤ suc (due_at place)
+pub few_due : (position : Position) (form : LineForm) (next : Position) → follows position form ≡ to next → due_at next ≤ suc (due_at position)
 few_due at_heading heading_line next e = omega (arith, due_is at_class next e)
 few_due at_heading class_line next e = absurd cc
 few_due at_heading unreachable_line next e = absurd cc

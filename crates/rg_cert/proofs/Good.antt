@@ -4,7 +4,7 @@ use Rattle.rg_theory.specs.System.{System}
 use Rattle.rg_cert.specs.Lines.{Field, AreAsked, LineForm, fields_of}
 use Rattle.rg_cert.specs.Drafts.{IsGood, IsGoodAt}
 
--- what is asked of the field at a place
+-- what is asked of the field at a position
 pub asked_at : (P : Field → List ℕ → Type 0) (fields : List Field) (texts : List (List ℕ)) (i : ℕ) (field : Field) → AreAsked P fields texts → slice_get fields i ≡ Some field
     → (i < length texts) × P field (get_or texts i [])
 asked_at P [] [] i field are at = absurd cc

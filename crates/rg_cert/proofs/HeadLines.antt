@@ -28,7 +28,7 @@ pub fault_two : (bytes : List ℕ) (lts : System) (rest : List ℕ) (fault : Cer
 fault_two bytes lts rest fault is h =
     subst (FaultFrom lts at_heading bytes 1) (sym h.0)
     (fault_before lts at_heading (codes "certificate 1") at_class bytes rest 1 (Expected 2) is (lead_of lts at_heading (codes "certificate" ∷ codes "1" ∷ []) at_class (heading_leads lts))
-    (record { before = []; place = at_class; rest = rest; goes_on = start lts at_class rest; is = (refl, h.1) }))
+    (record { before = []; position = at_class; rest = rest; goes_on = start lts at_class rest; is = (refl, h.1) }))
 
 -- a fault from the third line on
 pub fault_three : (bytes : List ℕ) (lts : System) (name : List ℕ) (class : Class) (after rest : List ℕ) (fault : CertFault)

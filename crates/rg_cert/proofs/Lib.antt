@@ -22,3 +22,4 @@ pub mod OneFault
 pub mod OneClaim
 pub mod Deciding
 pub mod SomeAnswer
+pub mod Going

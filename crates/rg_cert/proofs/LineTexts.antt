@@ -1,7 +1,8 @@
 -- The lines of certificates hold no line feeds, and their fields no spaces.
-use Rattle.std.proofs.Common.{◌≡◌, ◌≢◌, ℕ, ◌<◌, ◌≤◌, nat_lt, Bool, true, false, ◌&&◌, List, [], ◌∷◌, All, refl, sym, ap, subst, ◌∙◌, arith}
+use Rattle.std.proofs.Common.{◌≡◌, ◌≢◌, ℕ, suc, ◌<◌, ◌≤◌, nat_lt, nat_le, length, take, Bool, true, false, ◌&&◌, List, [], ◌∷◌, All, refl, sym, ap, subst, ◌∙◌, arith}
 use Rattle.std.specs.List.{list_all}
 use Rattle.std.proofs.lemmas.Bool.Decides.{nat_tests}
+use Rattle.std.proofs.lemmas.List.{length-take, take_all}
 use Rattle.std.proofs.lemmas.List.Elements.{All-append, All-cons, All-head, All-tail, All-weaker, All-nil}
 use Rattle.std.proofs.lemmas.List.Sums.{AllPass-from_list_all}
 use Rattle.rg_text.specs.Line.{fields}
@@ -122,3 +123,61 @@ line_lacks form line texts has = subst (Lacks 10) (sym has.spelled) (spaced_lack
 -- a line is its fields with spaces between
 pub from_fields : (line : List ℕ) (texts : List (List ℕ)) → texts ≡ fields line → line ≡ spaced texts
 from_fields line texts are = sym (fields_spaced line) ∙ ap spaced (sym are)
+
+-- no line has more than five fields
+abbrev is_few : LineForm → Bool
+is_few form = nat_le (length (fields_of form)) 5
+
+row_few : (row : RowForm) → is_few (row_line row) ≡ true
+row_few arc_form = refl
+row_few tokens_form = refl
+row_few cap_form = refl
+row_few up_form = refl
+row_few down_form = refl
+row_few makes_form = refl
+row_few stop_form = refl
+row_few block_form = refl
+row_few empty_form = refl
+row_few full_form = refl
+row_few keep_form = refl
+row_few apart_form = refl
+row_few above_form = refl
+
+form_few : (form : LineForm) → is_few form ≡ true
+form_few heading_line = refl
+form_few class_line = refl
+form_few unreachable_line = refl
+form_few fork_line = refl
+form_few event_line = refl
+form_few states_line = refl
+form_few case_line = refl
+form_few split_tokens_line = refl
+form_few split_effect_line = refl
+form_few leaf_line = refl
+form_few end_line = refl
+form_few (row_line row) = row_few row
+
+asked_long : (fields : List Field) (texts : List (List ℕ)) → AreAsked HasFieldForm fields texts → length texts ≡ length fields
+asked_long [] [] are = refl
+asked_long [] (text ∷ texts) are = absurd are
+asked_long (field ∷ fields) [] are = absurd are
+asked_long (field ∷ fields) (text ∷ texts) are = ap (λ n. suc n) (asked_long fields texts are.1)
+
+at_most_five : (n : ℕ) → nat_le n 5 ≡ true → n ≤ 5
+at_most_five n is = grind (arith, nat_tests)
+
+pub few_texts : (form : LineForm) (texts : List (List ℕ)) → AreAsked HasFieldForm (fields_of form) texts → length texts ≤ 5
+few_texts form texts are = let n = asked_long (fields_of form) texts are in let few = at_most_five (length (fields_of form)) (form_few form) in omega arith
+
+-- the first six fields of a line, where they have a form, are all
+pub all_fields : (form : LineForm) (line : List ℕ) (texts : List (List ℕ)) → texts ≡ take 6 (fields line) → AreAsked HasFieldForm (fields_of form) texts → texts ≡ fields line
+all_fields form line texts first are =
+    let few = few_texts form texts are in
+    let n = ap length first ∙ length-take 6 (fields line) in
+    first ∙ take_all 6 (fields line) (omega arith)
+
+-- and so are those of a line that has a form
+pub first_are_all : (form : LineForm) (line : List ℕ) (texts first : List (List ℕ)) → HasForm form line texts → first ≡ take 6 (fields line) → first ≡ texts
+first_are_all form line texts first has is =
+    let few = few_texts form texts has.fields in
+    is ∙ ap (take 6) (fields_are form line texts has) ∙ take_all 6 texts (omega arith)

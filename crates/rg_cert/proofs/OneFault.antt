@@ -4,7 +4,7 @@ use Rattle.rg_text.specs.Line.{fed}
 use Rattle.rg_theory.specs.System.{System}
 use Rattle.rg_cert.specs.declared.fault.CertFault.{CertFault}
 use Rattle.rg_cert.specs.declared.fault.CertFault.TheVariants.{Expected, UnknownName, NumberPasses, TreeShort, TreeLong, NoMemory}
-use Rattle.rg_cert.specs.Lines.{HasFieldForm, AreAsked, LineForm, heading_line, class_line, unreachable_line, fork_line, event_line, states_line, case_line, split_tokens_line, split_effect_line, leaf_line, row_line, end_line, fields_of, HasForm, Place, at_heading, at_class, at_reason, at_last, at_one_case, at_cases, at_node, at_row, at_end, to, short, long, refused, follows}
+use Rattle.rg_cert.specs.Lines.{HasFieldForm, AreAsked, LineForm, heading_line, class_line, unreachable_line, fork_line, event_line, states_line, case_line, split_tokens_line, split_effect_line, leaf_line, row_line, end_line, fields_of, HasForm, Position, at_heading, at_class, at_reason, at_last, at_one_case, at_cases, at_node, at_row, at_end, to, short, long, refused, follows}
 use Rattle.rg_cert.specs.Faults.{IsRight, Leads, LeadAll, GoesOn, BeginsWith, BreaksAt, HasNumberOut, HasUnknownName, IsFaultAt, FaultFrom}
 use Rattle.rg_cert.proofs.Cuts.{one_cut}
 use Rattle.rg_cert.proofs.LineTexts.{line_lacks, fields_are}
@@ -27,7 +27,7 @@ end_refuses (row_line row) = refl
 end_refuses end_line = refl
 
 -- what breaks off begins with no line
-breaks_begins : (place : Place) (rest : List ℕ) (form : LineForm) (texts : List (List ℕ)) → BreaksAt place rest → BeginsWith place rest form texts → ⊥
+breaks_begins : (position : Position) (rest : List ℕ) (form : LineForm) (texts : List (List ℕ)) → BreaksAt position rest → BeginsWith position rest form texts → ⊥
 breaks_begins at_heading rest form texts breaks b = breaks form texts b
 breaks_begins at_class rest form texts breaks b = breaks form texts b
 breaks_begins at_reason rest form texts breaks b = breaks form texts b
@@ -45,91 +45,91 @@ same_texts f g line xs ys x y =
     (one_form f g ys (subst (AreAsked HasFieldForm (fields_of f)) texts x.fields) y.fields, texts)
 
 -- the fault of a line with these texts
-abbrev pub IsLineFault : System → Place → LineForm → List (List ℕ) → ℕ → CertFault → Type 0
-IsLineFault lts place form texts n (NumberPasses line) = (line ≡ n) × HasNumberOut form texts
-IsLineFault lts place form texts n (UnknownName line) = (line ≡ n) × HasUnknownName lts form texts
-IsLineFault lts place form texts n TreeShort = IsRight lts form texts × (follows place form ≡ short)
-IsLineFault lts place form texts n TreeLong = IsRight lts form texts × (follows place form ≡ long)
-IsLineFault lts place form texts n _ = ⊥
+abbrev pub IsLineFault : System → Position → LineForm → List (List ℕ) → ℕ → CertFault → Type 0
+IsLineFault lts position form texts n (NumberPasses line) = (line ≡ n) × HasNumberOut form texts
+IsLineFault lts position form texts n (UnknownName line) = (line ≡ n) × HasUnknownName lts form texts
+IsLineFault lts position form texts n TreeShort = IsRight lts form texts × (follows position form ≡ short)
+IsLineFault lts position form texts n TreeLong = IsRight lts form texts × (follows position form ≡ long)
+IsLineFault lts position form texts n _ = ⊥
 
 -- the text breaks off, or its line is at fault
-abbrev pub IsEither : System → Place → List ℕ → ℕ → CertFault → Type 0
-IsEither lts place rest n fault =
-    ((fault ≡ Expected n) × BreaksAt place rest)
-    ⊎ ((form : LineForm) × (texts : List (List ℕ)) × BeginsWith place rest form texts × IsLineFault lts place form texts n fault)
+abbrev pub IsEither : System → Position → List ℕ → ℕ → CertFault → Type 0
+IsEither lts position rest n fault =
+    ((fault ≡ Expected n) × BreaksAt position rest)
+    ⊎ ((form : LineForm) × (texts : List (List ℕ)) × BeginsWith position rest form texts × IsLineFault lts position form texts n fault)
 
-pub either : (lts : System) (place : Place) (rest : List ℕ) (n : ℕ) (fault : CertFault) → IsFaultAt lts place rest n fault → IsEither lts place rest n fault
-either lts place rest n (Expected line) is = inl (ap Expected is.0, is.1)
-either lts place rest n (NumberPasses line) is = inr (is.1.0, is.1.1, is.1.2, (is.0, is.1.3))
-either lts place rest n (UnknownName line) is = inr (is.1.0, is.1.1, is.1.2, (is.0, is.1.3))
-either lts place rest n TreeShort is = inr (is.0, is.1, is.2, is.3)
-either lts place rest n TreeLong is = inr (is.0, is.1, is.2, is.3)
-either lts place rest n NoMemory is = absurd is
+pub either : (lts : System) (position : Position) (rest : List ℕ) (n : ℕ) (fault : CertFault) → IsFaultAt lts position rest n fault → IsEither lts position rest n fault
+either lts position rest n (Expected line) is = inl (ap Expected is.0, is.1)
+either lts position rest n (NumberPasses line) is = inr (is.1.0, is.1.1, is.1.2, (is.0, is.1.3))
+either lts position rest n (UnknownName line) is = inr (is.1.0, is.1.1, is.1.2, (is.0, is.1.3))
+either lts position rest n TreeShort is = inr (is.0, is.1, is.2, is.3)
+either lts position rest n TreeLong is = inr (is.0, is.1, is.2, is.3)
+either lts position rest n NoMemory is = absurd is
 
-one_line_fault : (lts : System) (place : Place) (form : LineForm) (texts : List (List ℕ)) (n : ℕ) (d e : CertFault) → IsLineFault lts place form texts n d → IsLineFault lts place form texts n e → d ≡ e
-one_line_fault lts place form texts n (NumberPasses i) (NumberPasses j) x y = ap NumberPasses (x.0 ∙ sym y.0)
-one_line_fault lts place form texts n (NumberPasses i) (UnknownName j) x y = absurd (x.1 y.1.0)
-one_line_fault lts place form texts n (NumberPasses i) TreeShort x y = absurd (x.1 y.0.0)
-one_line_fault lts place form texts n (NumberPasses i) TreeLong x y = absurd (x.1 y.0.0)
-one_line_fault lts place form texts n (UnknownName i) (NumberPasses j) x y = absurd (y.1 x.1.0)
-one_line_fault lts place form texts n (UnknownName i) (UnknownName j) x y = ap UnknownName (x.0 ∙ sym y.0)
-one_line_fault lts place form texts n (UnknownName i) TreeShort x y = absurd (x.1.1 y.0.1)
-one_line_fault lts place form texts n (UnknownName i) TreeLong x y = absurd (x.1.1 y.0.1)
-one_line_fault lts place form texts n TreeShort (NumberPasses j) x y = absurd (y.1 x.0.0)
-one_line_fault lts place form texts n TreeShort (UnknownName j) x y = absurd (y.1.1 x.0.1)
-one_line_fault lts place form texts n TreeShort TreeShort x y = refl
-one_line_fault lts place form texts n TreeShort TreeLong x y = let both = sym x.1 ∙ y.1 in absurd cc
-one_line_fault lts place form texts n TreeLong (NumberPasses j) x y = absurd (y.1 x.0.0)
-one_line_fault lts place form texts n TreeLong (UnknownName j) x y = absurd (y.1.1 x.0.1)
-one_line_fault lts place form texts n TreeLong TreeShort x y = let both = sym x.1 ∙ y.1 in absurd cc
-one_line_fault lts place form texts n TreeLong TreeLong x y = refl
-one_line_fault lts place form texts n (Expected i) e x y = absurd x
-one_line_fault lts place form texts n NoMemory e x y = absurd x
-one_line_fault lts place form texts n d (Expected j) x y = absurd y
-one_line_fault lts place form texts n d NoMemory x y = absurd y
+one_line_fault : (lts : System) (position : Position) (form : LineForm) (texts : List (List ℕ)) (n : ℕ) (d e : CertFault) → IsLineFault lts position form texts n d → IsLineFault lts position form texts n e → d ≡ e
+one_line_fault lts position form texts n (NumberPasses i) (NumberPasses j) x y = ap NumberPasses (x.0 ∙ sym y.0)
+one_line_fault lts position form texts n (NumberPasses i) (UnknownName j) x y = absurd (x.1 y.1.0)
+one_line_fault lts position form texts n (NumberPasses i) TreeShort x y = absurd (x.1 y.0.0)
+one_line_fault lts position form texts n (NumberPasses i) TreeLong x y = absurd (x.1 y.0.0)
+one_line_fault lts position form texts n (UnknownName i) (NumberPasses j) x y = absurd (y.1 x.1.0)
+one_line_fault lts position form texts n (UnknownName i) (UnknownName j) x y = ap UnknownName (x.0 ∙ sym y.0)
+one_line_fault lts position form texts n (UnknownName i) TreeShort x y = absurd (x.1.1 y.0.1)
+one_line_fault lts position form texts n (UnknownName i) TreeLong x y = absurd (x.1.1 y.0.1)
+one_line_fault lts position form texts n TreeShort (NumberPasses j) x y = absurd (y.1 x.0.0)
+one_line_fault lts position form texts n TreeShort (UnknownName j) x y = absurd (y.1.1 x.0.1)
+one_line_fault lts position form texts n TreeShort TreeShort x y = refl
+one_line_fault lts position form texts n TreeShort TreeLong x y = let both = sym x.1 ∙ y.1 in absurd cc
+one_line_fault lts position form texts n TreeLong (NumberPasses j) x y = absurd (y.1 x.0.0)
+one_line_fault lts position form texts n TreeLong (UnknownName j) x y = absurd (y.1.1 x.0.1)
+one_line_fault lts position form texts n TreeLong TreeShort x y = let both = sym x.1 ∙ y.1 in absurd cc
+one_line_fault lts position form texts n TreeLong TreeLong x y = refl
+one_line_fault lts position form texts n (Expected i) e x y = absurd x
+one_line_fault lts position form texts n NoMemory e x y = absurd x
+one_line_fault lts position form texts n d (Expected j) x y = absurd y
+one_line_fault lts position form texts n d NoMemory x y = absurd y
 
--- one fault at a place
-one_fault_at : (lts : System) (place : Place) (rest : List ℕ) (n : ℕ) (d e : CertFault) → IsEither lts place rest n d → IsEither lts place rest n e → d ≡ e
-one_fault_at lts place rest n d e (inl x) (inl y) = x.0 ∙ sym y.0
-one_fault_at lts place rest n d e (inl x) (inr (g, ys, b, y)) = absurd (breaks_begins place rest g ys x.1 b)
-one_fault_at lts place rest n d e (inr (f, xs, b, x)) (inl y) = absurd (breaks_begins place rest f xs y.1 b)
-one_fault_at lts place rest n d e (inr (f, xs, b, x)) (inr (g, ys, c, y)) =
-    let has = same_line place rest c.line c.more c.text (line_lacks g c.line ys c.has) f xs b in
+-- one fault at a position
+one_fault_at : (lts : System) (position : Position) (rest : List ℕ) (n : ℕ) (d e : CertFault) → IsEither lts position rest n d → IsEither lts position rest n e → d ≡ e
+one_fault_at lts position rest n d e (inl x) (inl y) = x.0 ∙ sym y.0
+one_fault_at lts position rest n d e (inl x) (inr (g, ys, b, y)) = absurd (breaks_begins position rest g ys x.1 b)
+one_fault_at lts position rest n d e (inr (f, xs, b, x)) (inl y) = absurd (breaks_begins position rest f xs y.1 b)
+one_fault_at lts position rest n d e (inr (f, xs, b, x)) (inr (g, ys, c, y)) =
+    let has = same_line position rest c.line c.more c.text (line_lacks g c.line ys c.has) f xs b in
     let same = same_texts f g c.line xs ys has c.has in
-    one_line_fault lts place g ys n d e (subst (λ h. IsLineFault lts place h ys n d) same.0 (subst (λ l. IsLineFault lts place f l n d) same.1 x)) y
+    one_line_fault lts position g ys n d e (subst (λ h. IsLineFault lts position h ys n d) same.0 (subst (λ l. IsLineFault lts position f l n d) same.1 x)) y
 
 -- a line that leads on isn't at fault
-no_line_fault : (lts : System) (place : Place) (form : LineForm) (texts : List (List ℕ)) (n : ℕ) (fault : CertFault) (next : Place) → IsRight lts form texts → follows place form ≡ to next
-    → IsLineFault lts place form texts n fault → ⊥
-no_line_fault lts place form texts n (NumberPasses i) next right leads x = x.1 right.0
-no_line_fault lts place form texts n (UnknownName i) next right leads x = x.1.1 right.1
-no_line_fault lts place form texts n TreeShort next right leads x = let both = sym leads ∙ x.1 in absurd cc
-no_line_fault lts place form texts n TreeLong next right leads x = let both = sym leads ∙ x.1 in absurd cc
-no_line_fault lts place form texts n (Expected i) next right leads x = x
-no_line_fault lts place form texts n NoMemory next right leads x = x
+no_line_fault : (lts : System) (position : Position) (form : LineForm) (texts : List (List ℕ)) (n : ℕ) (fault : CertFault) (next : Position) → IsRight lts form texts → follows position form ≡ to next
+    → IsLineFault lts position form texts n fault → ⊥
+no_line_fault lts position form texts n (NumberPasses i) next right leads x = x.1 right.0
+no_line_fault lts position form texts n (UnknownName i) next right leads x = x.1.1 right.1
+no_line_fault lts position form texts n TreeShort next right leads x = let both = sym leads ∙ x.1 in absurd cc
+no_line_fault lts position form texts n TreeLong next right leads x = let both = sym leads ∙ x.1 in absurd cc
+no_line_fault lts position form texts n (Expected i) next right leads x = x
+no_line_fault lts position form texts n NoMemory next right leads x = x
 
-leads_begin : (lts : System) (place : Place) (line : List ℕ) (next : Place) (text rest : List ℕ) → text ≡ line ++ 10 ∷ rest → (is : Leads lts place line next) → BeginsWith place text is.form is.texts
-leads_begin lts place line next text rest cut is =
+leads_begin : (lts : System) (position : Position) (line : List ℕ) (next : Position) (text rest : List ℕ) → text ≡ line ++ 10 ∷ rest → (is : Leads lts position line next) → BeginsWith position text is.form is.texts
+leads_begin lts position line next text rest cut is =
     record { line = line; more = rest; text = cut; has = is.has; due = λ e. let both = sym is.leads ∙ e in absurd cc }
 
-pub no_fault_at : (lts : System) (place : Place) (line : List ℕ) (next : Place) (text rest : List ℕ) (n : ℕ) (fault : CertFault) → text ≡ line ++ 10 ∷ rest → Leads lts place line next
-    → IsEither lts place text n fault → ⊥
-no_fault_at lts place line next text rest n fault cut is (inl x) = breaks_begins place text is.form is.texts x.1 (leads_begin lts place line next text rest cut is)
-no_fault_at lts place line next text rest n fault cut is (inr (f, xs, b, x)) =
-    let has = same_line place text line rest cut (line_lacks is.form line is.texts is.has) f xs b in
+pub no_fault_at : (lts : System) (position : Position) (line : List ℕ) (next : Position) (text rest : List ℕ) (n : ℕ) (fault : CertFault) → text ≡ line ++ 10 ∷ rest → Leads lts position line next
+    → IsEither lts position text n fault → ⊥
+no_fault_at lts position line next text rest n fault cut is (inl x) = breaks_begins position text is.form is.texts x.1 (leads_begin lts position line next text rest cut is)
+no_fault_at lts position line next text rest n fault cut is (inr (f, xs, b, x)) =
+    let has = same_line position text line rest cut (line_lacks is.form line is.texts is.has) f xs b in
     let same = same_texts f is.form line xs is.texts has is.has in
-    no_line_fault lts place is.form is.texts n fault next is.right is.leads
-    (subst (λ h. IsLineFault lts place h is.texts n fault) same.0 (subst (λ l. IsLineFault lts place f l n fault) same.1 x))
+    no_line_fault lts position is.form is.texts n fault next is.right is.leads
+    (subst (λ h. IsLineFault lts position h is.texts n fault) same.0 (subst (λ l. IsLineFault lts position f l n fault) same.1 x))
 
--- a line leads to one place
-pub one_next : (lts : System) (place : Place) (line : List ℕ) (p q : Place) → Leads lts place line p → Leads lts place line q → p ≡ q
-one_next lts place line p q x y =
+-- a line leads to one position
+pub one_next : (lts : System) (position : Position) (line : List ℕ) (p q : Position) → Leads lts position line p → Leads lts position line q → p ≡ q
+one_next lts position line p q x y =
     let same = same_texts x.form y.form line x.texts y.texts x.has y.has in
-    let both : to p ≡ to q = sym x.leads ∙ ap (follows place) same.0 ∙ y.leads in
+    let both : to p ≡ to q = sym x.leads ∙ ap (follows position) same.0 ∙ y.leads in
     cc
 
 -- two texts that go on with lines have the same first one
-pub same_first : (lts : System) (from p q : Place) (a b r s : List ℕ) → Leads lts from a p → Leads lts from b q → a ++ 10 ∷ r ≡ b ++ 10 ∷ s → (a ≡ b) × (r ≡ s) × (p ≡ q)
+pub same_first : (lts : System) (from p q : Position) (a b r s : List ℕ) → Leads lts from a p → Leads lts from b q → a ++ 10 ∷ r ≡ b ++ 10 ∷ s → (a ≡ b) × (r ≡ s) × (p ≡ q)
 same_first lts from p q a b r s x y e =
     let cut = one_cut 10 a b r s (line_lacks x.form a x.texts x.has) (line_lacks y.form b y.texts y.has) e in
     (cut.0, cut.1, one_next lts from b p q (subst (λ l. Leads lts from l p) cut.0 x) y)
@@ -138,7 +138,7 @@ abbrev first_cut : (line : List ℕ) (more : List (List ℕ)) (rest text : List 
 first_cut line more rest text e = e ∙ append_assoc line (10 ∷ fed more) rest
 
 -- the first fault, along two walks
-faults_from : (lts : System) (from : Place) (text : List ℕ) (n : ℕ) (a : List (List ℕ)) (p : Place) (r : List ℕ) (b : List (List ℕ)) (q : Place) (s : List ℕ) (d e : CertFault)
+faults_from : (lts : System) (from : Position) (text : List ℕ) (n : ℕ) (a : List (List ℕ)) (p : Position) (r : List ℕ) (b : List (List ℕ)) (q : Position) (s : List ℕ) (d e : CertFault)
     → text ≡ fed a ++ r → LeadAll lts from a p → IsFaultAt lts p r (length a + n) d → text ≡ fed b ++ s → LeadAll lts from b q → IsFaultAt lts q s (length b + n) e → d ≡ e
 faults_from lts from text n [] p r [] q s d e cut leads x cut' leads' y =
     let x' : IsFaultAt lts from text (0 + n) d = subst (λ z. IsFaultAt lts from z (0 + n) d) (sym cut) (subst (λ z. IsFaultAt lts z r (0 + n) d) (sym leads) x) in
@@ -156,17 +156,17 @@ faults_from lts from text n (line ∷ a) p r (line' ∷ b) q s d e cut (next, fi
     faults_from lts next (fed a ++ r) (suc n) a p r b q s d e refl more
     (subst (λ k. IsFaultAt lts p r k d) (omega arith) x) one.1 more'' (subst (λ k. IsFaultAt lts q s k e) (omega arith) y)
 
-pub one_fault : (lts : System) (from : Place) (text : List ℕ) (n : ℕ) (d e : CertFault) → FaultFrom lts from text n d → FaultFrom lts from text n e → d ≡ e
+pub one_fault : (lts : System) (from : Position) (text : List ℕ) (n : ℕ) (d e : CertFault) → FaultFrom lts from text n d → FaultFrom lts from text n e → d ≡ e
 one_fault lts from text n d e x y =
-    faults_from lts from text n x.before x.place x.rest y.before y.place y.rest d e x.goes_on.cut x.goes_on.lines x.is y.goes_on.cut y.goes_on.lines y.is
+    faults_from lts from text n x.before x.position x.rest y.before y.position y.rest d e x.goes_on.cut x.goes_on.lines x.is y.goes_on.cut y.goes_on.lines y.is
 
 -- no fault in a whole text
-whole_from : (lts : System) (from : Place) (text : List ℕ) (n : ℕ) (a : List (List ℕ)) (b : List (List ℕ)) (q : Place) (s : List ℕ) (e : CertFault)
+whole_from : (lts : System) (from : Position) (text : List ℕ) (n : ℕ) (a : List (List ℕ)) (b : List (List ℕ)) (q : Position) (s : List ℕ) (e : CertFault)
     → text ≡ fed a ++ [] → LeadAll lts from a at_end → text ≡ fed b ++ s → LeadAll lts from b q → IsFaultAt lts q s (length b + n) e → ⊥
 whole_from lts from text n [] [] q s e cut leads cut' leads' y =
-    let place : q ≡ at_end = sym leads' ∙ leads in
+    let position : q ≡ at_end = sym leads' ∙ leads in
     let none : s ≡ [] = sym cut' ∙ cut in
-    ended (either lts at_end [] (0 + n) e (subst (λ z. IsFaultAt lts at_end z (0 + n) e) none (subst (λ z. IsFaultAt lts z s (0 + n) e) place y)))
+    ended (either lts at_end [] (0 + n) e (subst (λ z. IsFaultAt lts at_end z (0 + n) e) none (subst (λ z. IsFaultAt lts z s (0 + n) e) position y)))
   where
     ended : IsEither lts at_end [] (0 + n) e → ⊥
     ended (inl x) = x.1 refl
@@ -182,12 +182,12 @@ whole_from lts from text n (line ∷ a) (line' ∷ b) q s e cut (next, first, mo
     let one = same_first lts from next next' line line' (fed a ++ []) (fed b ++ s) first first' (sym (first_cut line a [] text cut) ∙ first_cut line' b s text cut') in
     whole_from lts next (fed a ++ []) (suc n) a b q s e refl more one.1 (subst (λ z. LeadAll lts z b q) (sym one.2) more') (subst (λ k. IsFaultAt lts q s k e) (omega arith) y)
 
-pub no_fault : (lts : System) (from : Place) (text : List ℕ) (n : ℕ) (whole : List (List ℕ)) (fault : CertFault) → GoesOn lts from text whole at_end [] → FaultFrom lts from text n fault → ⊥
+pub no_fault : (lts : System) (from : Position) (text : List ℕ) (n : ℕ) (whole : List (List ℕ)) (fault : CertFault) → GoesOn lts from text whole at_end [] → FaultFrom lts from text n fault → ⊥
 no_fault lts from text n whole fault on f =
-    whole_from lts from text n whole f.before f.place f.rest fault on.cut on.lines f.goes_on.cut f.goes_on.lines f.is
+    whole_from lts from text n whole f.before f.position f.rest fault on.cut on.lines f.goes_on.cut f.goes_on.lines f.is
 
 -- a whole text has one list of lines
-pub one_walk : (lts : System) (from : Place) (text : List ℕ) (a b : List (List ℕ)) → text ≡ fed a ++ [] → LeadAll lts from a at_end → text ≡ fed b ++ [] → LeadAll lts from b at_end → a ≡ b
+pub one_walk : (lts : System) (from : Position) (text : List ℕ) (a b : List (List ℕ)) → text ≡ fed a ++ [] → LeadAll lts from a at_end → text ≡ fed b ++ [] → LeadAll lts from b at_end → a ≡ b
 one_walk lts from text [] [] cut leads cut' leads' = refl
 one_walk lts from text [] (line ∷ b) cut leads cut' (next, first, more) =
     let at : Leads lts at_end line next = subst (λ z. Leads lts z line next) leads first in

@@ -20,7 +20,7 @@ use Rattle.rg_cert.specs.View.{reason_head, reason_cases}
 use Rattle.rg_cert.proofs.Walks.{fed_append}
 use Rattle.rg_cert.proofs.WholeReasons.{lines_of_reason}
 
--- what holds of each, of the one at a place
+-- what holds of each, of the one at a position
 pub all_at : {X Y : Type 0} (P : Y → Type 0) (g : X → Y) (xs : List X) (i : ℕ) (x : X) → All P (map g xs) → i < length xs → x ≡ get_or xs i x → P (g x)
 all_at P g xs i x each less is =
     subst P (get_or-map g xs i x ∙ ap g (sym is)) (each i (g x) (omega (arith, less, length-map xs g)))

@@ -20,7 +20,7 @@ use Rattle.rg_cert.specs.Trees.{TreeNode}
 use Rattle.rg_cert.specs.Certificates.{Claim, IsMultiplierInRange, IsSplitInRange, IsRowOf, IsNodeOf, IsTreeOf, IsReasonOf}
 use Rattle.rg_cert.specs.Text.{named_fields, node_lines, case_lines, reason_lines, spaced, cert_lines, text_with}
 use Rattle.rg_cert.specs.Spells.{Spells}
-use Rattle.rg_cert.specs.Lines.{multiplier, split_value, depth, word, state, label, number, HasFieldForm, IsFieldInRange, IsFieldKnown, AreAsked, RowForm, arc_form, tokens_form, cap_form, up_form, down_form, makes_form, stop_form, block_form, empty_form, full_form, keep_form, apart_form, above_form, LineForm, heading_line, class_line, unreachable_line, fork_line, event_line, states_line, case_line, split_tokens_line, split_effect_line, leaf_line, row_line, end_line, fields_of, HasForm, Place, at_heading, at_class, at_reason, at_last, at_one_case, at_cases, at_node, at_row, at_end, Next, to, short, long, refused, follows}
+use Rattle.rg_cert.specs.Lines.{multiplier, split_value, depth, word, state, label, number, HasFieldForm, IsFieldInRange, IsFieldKnown, AreAsked, RowForm, arc_form, tokens_form, cap_form, up_form, down_form, makes_form, stop_form, block_form, empty_form, full_form, keep_form, apart_form, above_form, LineForm, heading_line, class_line, unreachable_line, fork_line, event_line, states_line, case_line, split_tokens_line, split_effect_line, leaf_line, row_line, end_line, fields_of, HasForm, Position, at_heading, at_class, at_reason, at_last, at_one_case, at_cases, at_node, at_row, at_end, Next, to, short, long, refused, follows}
 use Rattle.rg_cert.specs.Faults.{Leads, LeadAll, BeginsWith, IsFaultAt, FaultFrom}
 use Rattle.rg_cert.specs.Drafts.{Head, of_unreachable, of_fork, of_event, of_states, head_fields, IsHeadOf, after_head, Draft, blank, leaf_closed, case_closed, with_split, IsSplitLine, Adds, nodes_lines, draft_lines, IsCase, HasCases, IsDraftAt, IsGood}
 use Rattle.rg_cert.proofs.Decimal.{numeral_text}
@@ -153,7 +153,7 @@ split_effect_there lts texts good =
     )
 
 -- the head of a right line
-head_there : (lts : System) (form : LineForm) (texts : List (List ℕ)) (next : Place) → IsGood lts form texts → follows at_reason form ≡ to next
+head_there : (lts : System) (form : LineForm) (texts : List (List ℕ)) (next : Position) → IsGood lts form texts → follows at_reason form ≡ to next
     → (head : Head) × IsHeadOf lts head × (texts ≡ head_fields lts head) × (next ≡ after_head head)
 head_there lts unreachable_line texts next good leads =
     let v = (good_at lts unreachable_line texts 0 (word (codes "unreachable")) good refl).form in
@@ -186,48 +186,48 @@ head_there lts (row_line row) texts next good leads = absurd cc
 head_there lts end_line texts next good leads = absurd cc
 
 -- each right line adds something
-adds_there : (lts : System) (place : Place) (form : LineForm) (texts : List (List ℕ)) (d : Draft) → IsGood lts form texts → (new : Draft) × Adds lts place form texts d new
-adds_there lts place split_tokens_line texts d good =
-    let is = split_tokens_there lts texts good in (with_split (leaf_closed place d) is.0 is.1, (is.0, is.1, is.2, refl))
-adds_there lts place split_effect_line texts d good =
-    let is = split_effect_there lts texts good in (with_split (leaf_closed place d) is.0 is.1, (is.0, is.1, is.2, refl))
-adds_there lts place leaf_line texts d good = (leaf_closed place d, refl)
-adds_there lts place (row_line row) texts d good =
+adds_there : (lts : System) (position : Position) (form : LineForm) (texts : List (List ℕ)) (d : Draft) → IsGood lts form texts → (new : Draft) × Adds lts position form texts d new
+adds_there lts position split_tokens_line texts d good =
+    let is = split_tokens_there lts texts good in (with_split (leaf_closed position d) is.0 is.1, (is.0, is.1, is.2, refl))
+adds_there lts position split_effect_line texts d good =
+    let is = split_effect_there lts texts good in (with_split (leaf_closed position d) is.0 is.1, (is.0, is.1, is.2, refl))
+adds_there lts position leaf_line texts d good = (leaf_closed position d, refl)
+adds_there lts position (row_line row) texts d good =
     let is = row_there lts row texts good in (record { cases = d.cases; nodes = d.nodes; rows = d.rows ++ is.0 ∷ [] }, (is.0, is.1, is.2, refl))
-adds_there lts place case_line texts d good = (case_closed place d, refl)
-adds_there lts place end_line texts d good = (case_closed place d, refl)
-adds_there lts place heading_line texts d good = (d, refl)
-adds_there lts place class_line texts d good = (d, refl)
-adds_there lts place unreachable_line texts d good = (d, refl)
-adds_there lts place fork_line texts d good = (d, refl)
-adds_there lts place event_line texts d good = (d, refl)
-adds_there lts place states_line texts d good = (d, refl)
+adds_there lts position case_line texts d good = (case_closed position d, refl)
+adds_there lts position end_line texts d good = (case_closed position d, refl)
+adds_there lts position heading_line texts d good = (d, refl)
+adds_there lts position class_line texts d good = (d, refl)
+adds_there lts position unreachable_line texts d good = (d, refl)
+adds_there lts position fork_line texts d good = (d, refl)
+adds_there lts position event_line texts d good = (d, refl)
+adds_there lts position states_line texts d good = (d, refl)
 
 -- the draft of lines
-record IsRead (lts : System) (head : Head) (place : Place) (d : Draft) (lines : List (List ℕ)) : Type 0 where
+record IsRead (lts : System) (head : Head) (position : Position) (d : Draft) (lines : List (List ℕ)) : Type 0 where
   pub last : Draft
   pub texts : List (List (List ℕ))
   pub ended : IsDraftAt lts head at_end last
-  pub grown : draft_lines lts at_end last ≡ draft_lines lts place d ++ texts
+  pub grown : draft_lines lts at_end last ≡ draft_lines lts position d ++ texts
   pub are : lines ≡ map spaced texts
 
-lines_read : (lts : System) (head : Head) (place : Place) (d : Draft) (lines : List (List ℕ)) → IsDraftAt lts head place d → LeadAll lts place lines at_end → IsRead lts head place d lines
-lines_read lts head place d [] is same = record {
+lines_read : (lts : System) (head : Head) (position : Position) (d : Draft) (lines : List (List ℕ)) → IsDraftAt lts head position d → LeadAll lts position lines at_end → IsRead lts head position d lines
+lines_read lts head position d [] is same = record {
   last = d;
   texts = [];
   ended = subst (λ p. IsDraftAt lts head p d) same is;
-  grown = ap (λ p. draft_lines lts p d) (sym same) ∙ sym (append-nil (draft_lines lts place d));
+  grown = ap (λ p. draft_lines lts p d) (sym same) ∙ sym (append-nil (draft_lines lts position d));
   are = refl;
 }
-lines_read lts head place d (line ∷ lines) is (next, leads, more) =
-    let adds = adds_there lts place leads.form leads.texts d (record { fields = leads.has.fields; right = leads.right }) in
-    let one = drafted lts head place leads.form leads.texts next d adds.0 is leads.has.fields leads.leads adds.1 in
+lines_read lts head position d (line ∷ lines) is (next, leads, more) =
+    let adds = adds_there lts position leads.form leads.texts d (record { fields = leads.has.fields; right = leads.right }) in
+    let one = drafted lts head position leads.form leads.texts next d adds.0 is leads.has.fields leads.leads adds.1 in
     let rest = lines_read lts head next adds.0 lines one.0 more in
     record {
       last = rest.last;
       texts = leads.texts ∷ rest.texts;
       ended = rest.ended;
-      grown = rest.grown ∙ ap (λ l. l ++ rest.texts) one.1 ∙ append_assoc (draft_lines lts place d) (leads.texts ∷ []) rest.texts;
+      grown = rest.grown ∙ ap (λ l. l ++ rest.texts) one.1 ∙ append_assoc (draft_lines lts position d) (leads.texts ∷ []) rest.texts;
       are = ap₂ ◌∷◌ leads.has.spelled rest.are;
     }
 
@@ -264,7 +264,7 @@ reason_there lts (of_states s s') cases is each any =
     let trees = trees_there lts cases each in
     (refutes.refuted (States s s') trees.trees, (is.0, is.1, trees.each), ap (λ l. head_fields lts (of_states s s') ∷ l) trees.lines)
 
-heading_there : (form : LineForm) (line : List ℕ) (texts : List (List ℕ)) (next : Place) → HasForm form line texts → follows at_heading form ≡ to next → (line ≡ codes "certificate 1") × (next ≡ at_class)
+heading_there : (form : LineForm) (line : List ℕ) (texts : List (List ℕ)) (next : Position) → HasForm form line texts → follows at_heading form ≡ to next → (line ≡ codes "certificate 1") × (next ≡ at_class)
 heading_there heading_line line [] next has leads = absurd has.fields
 heading_there heading_line line (v ∷ []) next has leads = absurd has.fields.1
 heading_there heading_line line (v ∷ w ∷ []) next has leads = (has.spelled ∙ ap₂ (λ a b. a ++ 32 ∷ b) has.fields.0 has.fields.1.0, cc)
@@ -281,7 +281,7 @@ heading_there leaf_line line texts next has leads = absurd cc
 heading_there (row_line row) line texts next has leads = absurd cc
 heading_there end_line line texts next has leads = absurd cc
 
-class_there : (form : LineForm) (line : List ℕ) (texts : List (List ℕ)) (next : Place) → HasForm form line texts → follows at_class form ≡ to next
+class_there : (form : LineForm) (line : List ℕ) (texts : List (List ℕ)) (next : Position) → HasForm form line texts → follows at_class form ≡ to next
     → (name : List ℕ) × (class : Class) × NamesClass name class × (line ≡ codes "class " ++ name) × (next ≡ at_reason)
 class_there class_line line texts next has leads = let is = class_texts line texts has in (is.0, is.1, is.2, is.3, cc)
 class_there heading_line line texts next has leads = absurd cc
@@ -335,7 +335,8 @@ from_class lts line (third ∷ lines) bytes is (next, leads, more) =
     from_head lts class.0 class.1 third lines bytes class.2 (is ∙ ap (λ l. fed (codes "certificate 1" ∷ l ∷ third ∷ lines)) class.3)
     (subst (λ p. LeadAll lts p (third ∷ lines) at_end) class.4 more)
 
-from_lines : (lts : System) (lines : List (List ℕ)) (bytes : List ℕ) → bytes ≡ fed lines → LeadAll lts at_heading lines at_end → (claim : Claim) × Spells bytes lts claim
+-- lines that lead to the end spell a claim
+pub from_lines : (lts : System) (lines : List (List ℕ)) (bytes : List ℕ) → bytes ≡ fed lines → LeadAll lts at_heading lines at_end → (claim : Claim) × Spells bytes lts claim
 from_lines lts [] bytes is same = absurd cc
 from_lines lts (line ∷ []) bytes is (next, leads, same) =
     let heading = heading_there leads.form line leads.texts next leads.has leads.leads in
@@ -346,61 +347,61 @@ from_lines lts (line ∷ second ∷ lines) bytes is (next, leads, more) =
     from_class lts second lines bytes (is ∙ ap (λ l. fed (l ∷ second ∷ lines)) heading.0) (subst (λ p. LeadAll lts p (second ∷ lines) at_end) heading.1 more)
 
 -- the text goes on with a right line, or with a fault
-abbrev GoesOnOrFails : System → Place → List ℕ → ℕ → Type 0
-GoesOnOrFails lts place text n =
-    ((line : List ℕ) × (next : Place) × (rest : List ℕ) × (text ≡ line ++ 10 ∷ rest) × Leads lts place line next) ⊎ ((fault : CertFault) × IsFaultAt lts place text n fault)
+abbrev GoesOnOrFails : System → Position → List ℕ → ℕ → Type 0
+GoesOnOrFails lts position text n =
+    ((line : List ℕ) × (next : Position) × (rest : List ℕ) × (text ≡ line ++ 10 ∷ rest) × Leads lts position line next) ⊎ ((fault : CertFault) × IsFaultAt lts position text n fault)
 
-next_or_fault : (lts : System) (place : Place) (text : List ℕ) (n : ℕ) → (place ≡ at_end → ⊥) → GoesOnOrFails lts place text n
-next_or_fault lts place text n going = by (cut_or_not 10 text)
+next_or_fault : (lts : System) (position : Position) (text : List ℕ) (n : ℕ) → (position ≡ at_end → ⊥) → GoesOnOrFails lts position text n
+next_or_fault lts position text n going = by (cut_or_not 10 text)
   where
     none_fits : (cut : IsCut 10 text) → ((form : LineForm) → form_key (fields cut.line) ≡ Some form → AreAsked HasFieldForm (fields_of form) (fields cut.line) → ⊥)
-        → (form : LineForm) (texts : List (List ℕ)) → ¬ BeginsWith place text form texts
+        → (form : LineForm) (texts : List (List ℕ)) → ¬ BeginsWith position text form texts
     none_fits cut none form texts b =
-        let has = same_line place text cut.line cut.rest cut.cut cut.lacks form texts b in
+        let has = same_line position text cut.line cut.rest cut.cut cut.lacks form texts b in
         let are = fields_are form cut.line texts has in
         none form (ap form_key are ∙ keyed form texts has.fields) (subst (AreAsked HasFieldForm (fields_of form)) (sym are) has.fields)
 
-    unexpected : ((form : LineForm) (texts : List (List ℕ)) → ¬ BeginsWith place text form texts) → GoesOnOrFails lts place text n
-    unexpected none = inr (Expected n, (refl, breaks place text going none))
+    unexpected : ((form : LineForm) (texts : List (List ℕ)) → ¬ BeginsWith position text form texts) → GoesOnOrFails lts position text n
+    unexpected none = inr (Expected n, (refl, breaks position text going none))
 
-    leads_on : (cut : IsCut 10 text) (f : LineForm) → AreAsked HasFieldForm (fields_of f) (fields cut.line) → (next : Next) → follows place f ≡ next
-        → Decided (AreAsked IsFieldInRange (fields_of f) (fields cut.line)) → Decided (AreAsked (IsFieldKnown lts) (fields_of f) (fields cut.line)) → GoesOnOrFails lts place text n
+    leads_on : (cut : IsCut 10 text) (f : LineForm) → AreAsked HasFieldForm (fields_of f) (fields cut.line) → (next : Next) → follows position f ≡ next
+        → Decided (AreAsked IsFieldInRange (fields_of f) (fields cut.line)) → Decided (AreAsked (IsFieldKnown lts) (fields_of f) (fields cut.line)) → GoesOnOrFails lts position text n
     leads_on cut f asked refused leads ranges names =
-        unexpected (refused_form place text cut.line cut.rest f (fields cut.line) cut.cut cut.lacks refl asked leads)
+        unexpected (refused_form position text cut.line cut.rest f (fields cut.line) cut.cut cut.lacks refl asked leads)
     leads_on cut f asked (to next) leads (inr out) names =
-        inr (NumberPasses n, (refl, (f, fields cut.line, begins_with place text cut.line cut.rest f (fields cut.line) cut.cut refl asked (λ e. let both = sym leads ∙ e in absurd cc), out)))
+        inr (NumberPasses n, (refl, (f, fields cut.line, begins_with position text cut.line cut.rest f (fields cut.line) cut.cut refl asked (λ e. let both = sym leads ∙ e in absurd cc), out)))
     leads_on cut f asked (to next) leads (inl within) (inr unknown) =
-        inr (UnknownName n, (refl, (f, fields cut.line, begins_with place text cut.line cut.rest f (fields cut.line) cut.cut refl asked (λ e. let both = sym leads ∙ e in absurd cc), (within, unknown))))
+        inr (UnknownName n, (refl, (f, fields cut.line, begins_with position text cut.line cut.rest f (fields cut.line) cut.cut refl asked (λ e. let both = sym leads ∙ e in absurd cc), (within, unknown))))
     leads_on cut f asked (to next) leads (inl within) (inl known) =
         inl (cut.line, next, cut.rest, cut.cut, record { form = f; texts = fields cut.line; has = record { fields = asked; spelled = from_fields cut.line (fields cut.line) refl }; right = (within, known); leads = leads })
     leads_on cut f asked short leads (inr out) names =
-        inr (NumberPasses n, (refl, (f, fields cut.line, begins_with place text cut.line cut.rest f (fields cut.line) cut.cut refl asked (λ e. let both = sym leads ∙ e in absurd cc), out)))
+        inr (NumberPasses n, (refl, (f, fields cut.line, begins_with position text cut.line cut.rest f (fields cut.line) cut.cut refl asked (λ e. let both = sym leads ∙ e in absurd cc), out)))
     leads_on cut f asked short leads (inl within) (inr unknown) =
-        inr (UnknownName n, (refl, (f, fields cut.line, begins_with place text cut.line cut.rest f (fields cut.line) cut.cut refl asked (λ e. let both = sym leads ∙ e in absurd cc), (within, unknown))))
+        inr (UnknownName n, (refl, (f, fields cut.line, begins_with position text cut.line cut.rest f (fields cut.line) cut.cut refl asked (λ e. let both = sym leads ∙ e in absurd cc), (within, unknown))))
     leads_on cut f asked short leads (inl within) (inl known) =
-        inr (TreeShort, (f, fields cut.line, begins_with place text cut.line cut.rest f (fields cut.line) cut.cut refl asked (λ e. let both = sym leads ∙ e in absurd cc), ((within, known), leads)))
+        inr (TreeShort, (f, fields cut.line, begins_with position text cut.line cut.rest f (fields cut.line) cut.cut refl asked (λ e. let both = sym leads ∙ e in absurd cc), ((within, known), leads)))
     leads_on cut f asked long leads (inr out) names =
-        inr (NumberPasses n, (refl, (f, fields cut.line, begins_with place text cut.line cut.rest f (fields cut.line) cut.cut refl asked (λ e. let both = sym leads ∙ e in absurd cc), out)))
+        inr (NumberPasses n, (refl, (f, fields cut.line, begins_with position text cut.line cut.rest f (fields cut.line) cut.cut refl asked (λ e. let both = sym leads ∙ e in absurd cc), out)))
     leads_on cut f asked long leads (inl within) (inr unknown) =
-        inr (UnknownName n, (refl, (f, fields cut.line, begins_with place text cut.line cut.rest f (fields cut.line) cut.cut refl asked (λ e. let both = sym leads ∙ e in absurd cc), (within, unknown))))
+        inr (UnknownName n, (refl, (f, fields cut.line, begins_with position text cut.line cut.rest f (fields cut.line) cut.cut refl asked (λ e. let both = sym leads ∙ e in absurd cc), (within, unknown))))
     leads_on cut f asked long leads (inl within) (inl known) =
-        inr (TreeLong, (f, fields cut.line, begins_with place text cut.line cut.rest f (fields cut.line) cut.cut refl asked (λ e. let both = sym leads ∙ e in absurd cc), ((within, known), leads)))
+        inr (TreeLong, (f, fields cut.line, begins_with position text cut.line cut.rest f (fields cut.line) cut.cut refl asked (λ e. let both = sym leads ∙ e in absurd cc), ((within, known), leads)))
 
-    of_form : (cut : IsCut 10 text) (f : LineForm) → form_key (fields cut.line) ≡ Some f → Decided (AreAsked HasFieldForm (fields_of f) (fields cut.line)) → GoesOnOrFails lts place text n
+    of_form : (cut : IsCut 10 text) (f : LineForm) → form_key (fields cut.line) ≡ Some f → Decided (AreAsked HasFieldForm (fields_of f) (fields cut.line)) → GoesOnOrFails lts position text n
     of_form cut f key (inl asked) =
-        leads_on cut f asked (follows place f) refl (ranges_decided (fields_of f) (fields cut.line)) (names_decided lts (fields_of f) (fields cut.line))
+        leads_on cut f asked (follows position f) refl (ranges_decided (fields_of f) (fields cut.line)) (names_decided lts (fields_of f) (fields cut.line))
     of_form cut f key (inr none) =
         unexpected (none_fits cut (λ form k are. let same : f ≡ form = let both = sym key ∙ k in cc in none (subst (λ g. AreAsked HasFieldForm (fields_of g) (fields cut.line)) (sym same) are)))
 
-    by_key : (cut : IsCut 10 text) (key : Option LineForm) → form_key (fields cut.line) ≡ key → GoesOnOrFails lts place text n
+    by_key : (cut : IsCut 10 text) (key : Option LineForm) → form_key (fields cut.line) ≡ key → GoesOnOrFails lts position text n
     by_key cut None key = unexpected (none_fits cut (λ form k are. let both = sym key ∙ k in absurd cc))
     by_key cut (Some f) key = of_form cut f key (forms_decided (fields_of f) (fields cut.line))
 
-    by : IsCut 10 text ⊎ ((k : ℕ) (d : ℕ) → k < length text → get_or text k d ≢ 10) → GoesOnOrFails lts place text n
+    by : IsCut 10 text ⊎ ((k : ℕ) (d : ℕ) → k < length text → get_or text k d ≢ 10) → GoesOnOrFails lts position text n
     by (inl cut) = by_key cut (form_key (fields cut.line)) refl
-    by (inr none) = unexpected (no_line place text none)
+    by (inr none) = unexpected (no_line position text none)
 
-end_or_not : (place : Place) → (place ≡ at_end) ⊎ (place ≡ at_end → ⊥)
+end_or_not : (position : Position) → (position ≡ at_end) ⊎ (position ≡ at_end → ⊥)
 end_or_not at_heading = inr (λ e. absurd cc)
 end_or_not at_class = inr (λ e. absurd cc)
 end_or_not at_reason = inr (λ e. absurd cc)
@@ -411,35 +412,35 @@ end_or_not (at_node c due) = inr (λ e. absurd cc)
 end_or_not (at_row c due) = inr (λ e. absurd cc)
 end_or_not at_end = inl refl
 
--- the text is whole from a place on, or has a first fault
-abbrev EndsOrFails : System → Place → List ℕ → ℕ → Type 0
-EndsOrFails lts place text n = ((lines : List (List ℕ)) × LeadAll lts place lines at_end × (text ≡ fed lines)) ⊎ ((fault : CertFault) × FaultFrom lts place text n fault)
+-- the text is whole from a position on, or has a first fault
+abbrev EndsOrFails : System → Position → List ℕ → ℕ → Type 0
+EndsOrFails lts position text n = ((lines : List (List ℕ)) × LeadAll lts position lines at_end × (text ≡ fed lines)) ⊎ ((fault : CertFault) × FaultFrom lts position text n fault)
 
-fails_here : (lts : System) (place : Place) (text : List ℕ) (n : ℕ) (fault : CertFault) → IsFaultAt lts place text (0 + n) fault → FaultFrom lts place text n fault
-fails_here lts place text n fault is = record { before = []; place = place; rest = text; goes_on = start lts place text; is = is }
+fails_here : (lts : System) (position : Position) (text : List ℕ) (n : ℕ) (fault : CertFault) → IsFaultAt lts position text (0 + n) fault → FaultFrom lts position text n fault
+fails_here lts position text n fault is = record { before = []; position = position; rest = text; goes_on = start lts position text; is = is }
 
-at_the_end : (lts : System) (place : Place) (text : List ℕ) (n : ℕ) → place ≡ at_end → EndsOrFails lts place text n
-at_the_end lts place [] n same = inl ([], same, refl)
-at_the_end lts place (b ∷ text) n same =
-    inr (Expected (0 + n), fails_here lts place (b ∷ text) n (Expected (0 + n)) (subst (λ p. IsFaultAt lts p (b ∷ text) (0 + n) (Expected (0 + n))) (sym same) (refl, (λ e. absurd cc))))
+at_the_end : (lts : System) (position : Position) (text : List ℕ) (n : ℕ) → position ≡ at_end → EndsOrFails lts position text n
+at_the_end lts position [] n same = inl ([], same, refl)
+at_the_end lts position (b ∷ text) n same =
+    inr (Expected (0 + n), fails_here lts position (b ∷ text) n (Expected (0 + n)) (subst (λ p. IsFaultAt lts p (b ∷ text) (0 + n) (Expected (0 + n))) (sym same) (refl, (λ e. absurd cc))))
 
-walk : (fuel : ℕ) (lts : System) (place : Place) (text : List ℕ) (n : ℕ) → length text < fuel → EndsOrFails lts place text n
-walk zero lts place text n few = absurd (omega arith)
-walk (suc fuel) lts place text n few = by (end_or_not place) (λ next rest short. walk fuel lts next rest (n + 1) short)
+walk : (fuel : ℕ) (lts : System) (position : Position) (text : List ℕ) (n : ℕ) → length text < fuel → EndsOrFails lts position text n
+walk zero lts position text n few = absurd (omega arith)
+walk (suc fuel) lts position text n few = by (end_or_not position) (λ next rest short. walk fuel lts next rest (n + 1) short)
   where
-    on : (line : List ℕ) (next : Place) (rest : List ℕ) → text ≡ line ++ 10 ∷ rest → Leads lts place line next → EndsOrFails lts next rest (n + 1) → EndsOrFails lts place text n
+    on : (line : List ℕ) (next : Position) (rest : List ℕ) → text ≡ line ++ 10 ∷ rest → Leads lts position line next → EndsOrFails lts next rest (n + 1) → EndsOrFails lts position text n
     on line next rest cut leads (inl (lines, more, is)) = inl (line ∷ lines, (next, leads, more), cut ∙ ap (λ l. line ++ 10 ∷ l) is)
-    on line next rest cut leads (inr (fault, f)) = inr (fault, fault_before lts place line next text rest n fault cut leads f)
+    on line next rest cut leads (inr (fault, f)) = inr (fault, fault_before lts position line next text rest n fault cut leads f)
 
-    goes : GoesOnOrFails lts place text (0 + n) → ((next : Place) (rest : List ℕ) → length rest < fuel → EndsOrFails lts next rest (n + 1)) → EndsOrFails lts place text n
+    goes : GoesOnOrFails lts position text (0 + n) → ((next : Position) (rest : List ℕ) → length rest < fuel → EndsOrFails lts next rest (n + 1)) → EndsOrFails lts position text n
     goes (inl (line, next, rest, cut, leads)) more =
         let long = ap length cut ∙ length-append line (10 ∷ rest) in
         on line next rest cut leads (more next rest (omega arith))
-    goes (inr (fault, is)) more = inr (fault, fails_here lts place text n fault is)
+    goes (inr (fault, is)) more = inr (fault, fails_here lts position text n fault is)
 
-    by : (place ≡ at_end) ⊎ (place ≡ at_end → ⊥) → ((next : Place) (rest : List ℕ) → length rest < fuel → EndsOrFails lts next rest (n + 1)) → EndsOrFails lts place text n
-    by (inl same) more = at_the_end lts place text n same
-    by (inr going) more = goes (next_or_fault lts place text (0 + n) going) more
+    by : (position ≡ at_end) ⊎ (position ≡ at_end → ⊥) → ((next : Position) (rest : List ℕ) → length rest < fuel → EndsOrFails lts next rest (n + 1)) → EndsOrFails lts position text n
+    by (inl same) more = at_the_end lts position text n same
+    by (inr going) more = goes (next_or_fault lts position text (0 + n) going) more
 
 -- a text spells a claim or has a first fault
 pub some_answer : (bytes : List ℕ) (lts : System) → ((claim : Claim) × Spells bytes lts claim) ⊎ ((fault : CertFault) × FaultFrom lts at_heading bytes 1 fault)

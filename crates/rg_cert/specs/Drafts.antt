@@ -12,7 +12,7 @@ use Rattle.rg_cert.specs.Text.{spaced, state_name, label_name, named_fields, var
 use Rattle.rg_cert.specs.declared.fault.CertFault.{CertFault}
 use Rattle.rg_cert.specs.declared.fault.CertFault.TheVariants.{NumberPasses, UnknownName}
 use Rattle.rg_cert.specs.Faults.{IsRight, HasNumberOut, HasUnknownName}
-use Rattle.rg_cert.specs.Lines.{Field, HasFieldForm, IsFieldInRange, IsFieldKnown, AreAsked, fields_of, HasForm, follows, to, LineForm, unreachable_line, fork_line, event_line, states_line, split_tokens_line, split_effect_line, leaf_line, case_line, end_line, row_line, Count, one, several, Place, at_last, at_one_case, at_cases, at_node, at_row, at_end}
+use Rattle.rg_cert.specs.Lines.{Field, HasFieldForm, IsFieldInRange, IsFieldKnown, AreAsked, fields_of, HasForm, follows, to, LineForm, unreachable_line, fork_line, event_line, states_line, split_tokens_line, split_effect_line, leaf_line, case_line, end_line, row_line, Count, one, several, Position, at_last, at_one_case, at_cases, at_node, at_row, at_end}
 
 -- the line of a reason
 pub data Head : Type 0 where
@@ -34,14 +34,14 @@ IsHeadOf lts (of_event s t) = (s < states lts) × (t < labels lts)
 IsHeadOf lts (of_states s s') = (s < states lts) × (s' < states lts)
 
 -- where the line after it stands
-abbrev pub after_head : Head → Place
+abbrev pub after_head : Head → Position
 after_head (of_unreachable s) = at_last
 after_head (of_fork s t s₁ s₂) = at_last
 after_head (of_event s t) = at_one_case
 after_head (of_states s s') = at_cases
 
--- how many nodes are due after a place
-abbrev pub due_at : Place → ℕ
+-- how many nodes are due after a position
+abbrev pub due_at : Position → ℕ
 due_at (at_node count due) = due
 due_at (at_row count due) = due
 due_at _ = 0
@@ -55,13 +55,13 @@ pub record Draft : Type 0 where
 abbrev pub blank : Draft
 blank = record { cases = []; nodes = []; rows = [] }
 
--- the leaf that is read is whole, if one is read at the place
-abbrev pub leaf_closed : Place → Draft → Draft
+-- the leaf that is read is whole, if one is read at the position
+abbrev pub leaf_closed : Position → Draft → Draft
 leaf_closed (at_row count due) d = record d { nodes = d.nodes ++ leaf_node d.rows ∷ []; rows = [] }
 leaf_closed _ d = d
 
 -- and so is its case
-abbrev pub case_closed : Place → Draft → Draft
+abbrev pub case_closed : Position → Draft → Draft
 case_closed (at_row count due) d = record { cases = d.cases ++ (d.nodes ++ leaf_node d.rows ∷ []) ∷ []; nodes = []; rows = [] }
 case_closed _ d = d
 
@@ -83,21 +83,21 @@ abbrev pub AddsRow : System → List (List ℕ) → Draft → Draft → Type 0
 AddsRow lts texts d new = (r : NamedRow) × IsRowOf lts r × (texts ≡ named_fields lts r) × (new ≡ record d { rows = d.rows ++ r ∷ [] })
 
 -- what a line with these texts makes of the draft
-abbrev pub Adds : System → Place → LineForm → List (List ℕ) → Draft → Draft → Type 0
-Adds lts place split_tokens_line texts d new = AddsSplit lts texts (leaf_closed place d) new
-Adds lts place split_effect_line texts d new = AddsSplit lts texts (leaf_closed place d) new
-Adds lts place leaf_line texts d new = new ≡ leaf_closed place d
-Adds lts place (row_line row) texts d new = AddsRow lts texts d new
-Adds lts place case_line texts d new = new ≡ case_closed place d
-Adds lts place end_line texts d new = new ≡ case_closed place d
-Adds lts place _ texts d new = new ≡ d
+abbrev pub Adds : System → Position → LineForm → List (List ℕ) → Draft → Draft → Type 0
+Adds lts position split_tokens_line texts d new = AddsSplit lts texts (leaf_closed position d) new
+Adds lts position split_effect_line texts d new = AddsSplit lts texts (leaf_closed position d) new
+Adds lts position leaf_line texts d new = new ≡ leaf_closed position d
+Adds lts position (row_line row) texts d new = AddsRow lts texts d new
+Adds lts position case_line texts d new = new ≡ case_closed position d
+Adds lts position end_line texts d new = new ≡ case_closed position d
+Adds lts position _ texts d new = new ≡ d
 
 -- the lines of a case
 abbrev pub nodes_lines : System → List TreeNode → List (List (List ℕ))
 nodes_lines lts nodes = (codes "case" ∷ []) ∷ flat_map (node_lines lts) nodes
 
 -- the lines of the draft
-abbrev pub draft_lines : System → Place → Draft → List (List (List ℕ))
+abbrev pub draft_lines : System → Position → Draft → List (List (List ℕ))
 draft_lines lts (at_node count due) d = flat_map (nodes_lines lts) d.cases ++ nodes_lines lts d.nodes
 draft_lines lts (at_row count due) d = flat_map (nodes_lines lts) d.cases ++ nodes_lines lts (d.nodes ++ leaf_node d.rows ∷ [])
 draft_lines lts at_end d = flat_map (nodes_lines lts) d.cases ++ (codes "end" ∷ []) ∷ []
@@ -134,20 +134,20 @@ HasCases (of_fork s t s₁ s₂) cases = cases ≡ []
 HasCases (of_event s t) cases = length cases ≡ 1
 HasCases (of_states s s') cases = Unit {0}
 
--- what the draft is at a place
-abbrev pub IsDraftAt : System → Head → Place → Draft → Type 0
+-- what the draft is at a position
+abbrev pub IsDraftAt : System → Head → Position → Draft → Type 0
 IsDraftAt lts head (at_node count due) d = IsInTree lts head count d (suc due) × (d.rows ≡ [])
 IsDraftAt lts head (at_row count due) d = IsInTree lts head count d (suc due) × All (IsRowOf lts) d.rows
 IsDraftAt lts head at_end d = All (IsCase lts) d.cases × HasCases head d.cases
-IsDraftAt lts head place d = (place ≡ after_head head) × (d ≡ blank)
+IsDraftAt lts head position d = (position ≡ after_head head) × (d ≡ blank)
 
--- the text goes on with a line that is right in itself and leads from a place to the next, and then with the rest
-pub record IsNextLine (lts : System) (place : Place) (text : List ℕ) (form : LineForm) (texts : List (List ℕ)) (next : Place) (rest : List ℕ) : Type 0 where
+-- the text goes on with a line that is right in itself and leads from a position to the next, and then with the rest
+pub record IsNextLine (lts : System) (position : Position) (text : List ℕ) (form : LineForm) (texts : List (List ℕ)) (next : Position) (rest : List ℕ) : Type 0 where
   pub line : List ℕ
   pub cut : text ≡ line ++ 10 ∷ rest
   pub has : HasForm form line texts
   pub right : IsRight lts form texts
-  pub leads : follows place form ≡ to next
+  pub leads : follows position form ≡ to next
 
 -- the first of these faults of a line
 abbrev pub IsWrong : System → LineForm → List (List ℕ) → ℕ → CertFault → Type 0
@@ -160,7 +160,7 @@ pub record IsGood (lts : System) (form : LineForm) (texts : List (List ℕ)) : T
   pub fields : AreAsked HasFieldForm (fields_of form) texts
   pub right : IsRight lts form texts
 
--- the text at a place is good for a field
+-- the text at a position is good for a field
 pub record IsGoodAt (lts : System) (texts : List (List ℕ)) (i : ℕ) (field : Field) : Type 0 where
   pub there : i < length texts
   pub form : HasFieldForm field (slice_index_or texts i [])

@@ -4,42 +4,42 @@ use Rattle.rg_text.specs.Line.{fed}
 use Rattle.rg_theory.specs.System.{System}
 use Rattle.rg_cert.specs.declared.fault.CertFault.{CertFault}
 use Rattle.rg_cert.specs.declared.fault.CertFault.TheVariants.{Expected, UnknownName, NumberPasses, TreeShort, TreeLong, NoMemory}
-use Rattle.rg_cert.specs.Lines.{LineForm, Place, at_heading, at_end, to, short, long, refused, IsFieldInRange, IsFieldKnown, AreAsked, fields_of, HasForm, follows}
+use Rattle.rg_cert.specs.Lines.{LineForm, Position, at_heading, at_end, to, short, long, refused, IsFieldInRange, IsFieldKnown, AreAsked, fields_of, HasForm, follows}
 
 -- the numbers are in range, and the names are those of states and labels
 abbrev pub IsRight : System → LineForm → List (List ℕ) → Type 0
 IsRight lts form texts = AreAsked IsFieldInRange (fields_of form) texts × AreAsked (IsFieldKnown lts) (fields_of form) texts
 
--- the line is right in itself, and leads from a place to the next
-pub record Leads (lts : System) (place : Place) (line : List ℕ) (next : Place) : Type 0 where
+-- the line is right in itself, and leads from a position to the next
+pub record Leads (lts : System) (position : Position) (line : List ℕ) (next : Position) : Type 0 where
   pub form : LineForm
   pub texts : List (List ℕ)
   pub has : HasForm form line texts
   pub right : IsRight lts form texts
-  pub leads : follows place form ≡ to next
+  pub leads : follows position form ≡ to next
 
--- lines that lead from a place to a place, one after the other
-abbrev pub LeadAll : System → Place → List (List ℕ) → Place → Type 0
-LeadAll lts place [] last = place ≡ last
-LeadAll lts place (line ∷ more) last = (next : Place) × Leads lts place line next × LeadAll lts next more last
+-- lines that lead from a position to a position, one after the other
+abbrev pub LeadAll : System → Position → List (List ℕ) → Position → Type 0
+LeadAll lts position [] last = position ≡ last
+LeadAll lts position (line ∷ more) last = (next : Position) × Leads lts position line next × LeadAll lts next more last
 
--- from a place on the text has these lines, and goes on with the rest at a place
-pub record GoesOn (lts : System) (from : Place) (text : List ℕ) (before : List (List ℕ)) (place : Place) (rest : List ℕ) : Type 0 where
+-- from a position on the text has these lines, and goes on with the rest at a position
+pub record GoesOn (lts : System) (from : Position) (text : List ℕ) (before : List (List ℕ)) (position : Position) (rest : List ℕ) : Type 0 where
   pub cut : text ≡ fed before ++ rest
-  pub lines : LeadAll lts from before place
+  pub lines : LeadAll lts from before position
 
--- the rest begins with a line of a form that isn't refused at the place
-pub record BeginsWith (place : Place) (rest : List ℕ) (form : LineForm) (texts : List (List ℕ)) : Type 0 where
+-- the rest begins with a line of a form that isn't refused at the position
+pub record BeginsWith (position : Position) (rest : List ℕ) (form : LineForm) (texts : List (List ℕ)) : Type 0 where
   pub line : List ℕ
   pub more : List ℕ
   pub text : rest ≡ line ++ 10 ∷ more
   pub has : HasForm form line texts
-  pub due : follows place form ≢ refused
+  pub due : follows position form ≢ refused
 
--- what the text goes on with isn't due at the place: no line of a form that may stand there, or something after the end
-abbrev pub BreaksAt : Place → List ℕ → Type 0
+-- what the text goes on with isn't due at the position: no line of a form that may stand there, or something after the end
+abbrev pub BreaksAt : Position → List ℕ → Type 0
 BreaksAt at_end rest = rest ≢ []
-BreaksAt place rest = (form : LineForm) (texts : List (List ℕ)) → ¬ BeginsWith place rest form texts
+BreaksAt position rest = (form : LineForm) (texts : List (List ℕ)) → ¬ BeginsWith position rest form texts
 
 -- a number in the line is out of its range
 abbrev pub HasNumberOut : LineForm → List (List ℕ) → Type 0
@@ -50,25 +50,25 @@ abbrev pub HasUnknownName : System → LineForm → List (List ℕ) → Type 0
 HasUnknownName lts form texts = AreAsked IsFieldInRange (fields_of form) texts × ¬ AreAsked (IsFieldKnown lts) (fields_of form) texts
 
 -- the text goes on with a line of a form with these texts, and this holds of them
-abbrev pub HasLine : Place → List ℕ → (LineForm → List (List ℕ) → Type 0) → Type 0
-HasLine place rest Holds = (form : LineForm) × (texts : List (List ℕ)) × BeginsWith place rest form texts × Holds form texts
+abbrev pub HasLine : Position → List ℕ → (LineForm → List (List ℕ) → Type 0) → Type 0
+HasLine position rest Holds = (form : LineForm) × (texts : List (List ℕ)) × BeginsWith position rest form texts × Holds form texts
 
--- what the text goes on with at a place, in line n, is at fault
-abbrev pub IsFaultAt : System → Place → List ℕ → ℕ → CertFault → Type 0
-IsFaultAt lts place rest n (Expected line) = (line ≡ n) × BreaksAt place rest
-IsFaultAt lts place rest n (NumberPasses line) = (line ≡ n) × HasLine place rest HasNumberOut
-IsFaultAt lts place rest n (UnknownName line) = (line ≡ n) × HasLine place rest (HasUnknownName lts)
-IsFaultAt lts place rest n TreeShort = HasLine place rest (λ form texts. IsRight lts form texts × (follows place form ≡ short))
-IsFaultAt lts place rest n TreeLong = HasLine place rest (λ form texts. IsRight lts form texts × (follows place form ≡ long))
-IsFaultAt lts place rest n NoMemory = ⊥
+-- what the text goes on with at a position, in line n, is at fault
+abbrev pub IsFaultAt : System → Position → List ℕ → ℕ → CertFault → Type 0
+IsFaultAt lts position rest n (Expected line) = (line ≡ n) × BreaksAt position rest
+IsFaultAt lts position rest n (NumberPasses line) = (line ≡ n) × HasLine position rest HasNumberOut
+IsFaultAt lts position rest n (UnknownName line) = (line ≡ n) × HasLine position rest (HasUnknownName lts)
+IsFaultAt lts position rest n TreeShort = HasLine position rest (λ form texts. IsRight lts form texts × (follows position form ≡ short))
+IsFaultAt lts position rest n TreeLong = HasLine position rest (λ form texts. IsRight lts form texts × (follows position form ≡ long))
+IsFaultAt lts position rest n NoMemory = ⊥
 
--- the first fault of a text that begins at a place, after right lines; its first line has a number
-pub record FaultFrom (lts : System) (from : Place) (text : List ℕ) (first : ℕ) (fault : CertFault) : Type 0 where
+-- the first fault of a text that begins at a position, after right lines; its first line has a number
+pub record FaultFrom (lts : System) (from : Position) (text : List ℕ) (first : ℕ) (fault : CertFault) : Type 0 where
   pub before : List (List ℕ)
-  pub place : Place
+  pub position : Position
   pub rest : List ℕ
-  pub goes_on : GoesOn lts from text before place rest
-  pub is : IsFaultAt lts place rest (length before + first) fault
+  pub goes_on : GoesOn lts from text before position rest
+  pub is : IsFaultAt lts position rest (length before + first) fault
 
 -- the first fault of a text; lines are numbered from 1
 abbrev pub FirstFault : List ℕ → System → CertFault → Type 0

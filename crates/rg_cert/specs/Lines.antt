@@ -127,20 +127,20 @@ pub data Count : Type 0 where
   several : Count
 
 -- where a line stands
-pub data Place : Type 0 where
-  at_heading : Place
-  at_class : Place
-  at_reason : Place
-  at_last : Place  -- after `unreachable` or `fork`
-  at_one_case : Place  -- after `event`
-  at_cases : Place  -- after `states`
-  at_node : Count → ℕ → Place  -- in a tree; a node is due, and so many after it
-  at_row : Count → ℕ → Place  -- in a leaf; so many nodes are due after it
-  at_end : Place  -- after `end`
+pub data Position : Type 0 where
+  at_heading : Position
+  at_class : Position
+  at_reason : Position
+  at_last : Position  -- after `unreachable` or `fork`
+  at_one_case : Position  -- after `event`
+  at_cases : Position  -- after `states`
+  at_node : Count → ℕ → Position  -- in a tree; a node is due, and so many after it
+  at_row : Count → ℕ → Position  -- in a leaf; so many nodes are due after it
+  at_end : Position  -- after `end`
 
--- what comes of a line of some form at a place
+-- what comes of a line of some form at a position
 pub data Next : Type 0 where
-  to : Place → Next
+  to : Position → Next
   short : Next  -- a node is due
   long : Next  -- the tree is whole
   refused : Next
@@ -170,7 +170,7 @@ in_leaf count zero form = after_tree count form
 in_leaf count (suc due) form = in_tree count due form
 
 -- which lines may follow which
-abbrev pub follows : Place → LineForm → Next
+abbrev pub follows : Position → LineForm → Next
 follows at_heading heading_line = to at_class
 follows at_class class_line = to at_reason
 follows at_reason unreachable_line = to at_last

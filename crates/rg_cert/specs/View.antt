@@ -1,4 +1,4 @@
--- How the code's forms and places are seen.
+-- How the code's forms and positions are seen.
 use Rattle.std.specs.Prelude.{ℕ, ◌≤◌, List, [], ◌∷◌, map}
 use denote.Bor.{Bor}
 use Rattle.rg_cert.specs.declared.table.Range.{Range}
@@ -9,12 +9,12 @@ use Rattle.rg_cert.specs.declared.table.RowForm.{RowForm}
 use Rattle.rg_cert.specs.declared.table.RowForm.TheVariants as of_row
 use Rattle.rg_cert.specs.declared.table.LineForm.{LineForm}
 use Rattle.rg_cert.specs.declared.table.LineForm.TheVariants as of_line
-use Rattle.rg_cert.specs.declared.place.Count.{Count}
-use Rattle.rg_cert.specs.declared.place.Count.TheVariants as count
-use Rattle.rg_cert.specs.declared.place.Place.{Place}
-use Rattle.rg_cert.specs.declared.place.Place.TheVariants as place
-use Rattle.rg_cert.specs.declared.place.Next.{Next}
-use Rattle.rg_cert.specs.declared.place.Next.TheVariants as next
+use Rattle.rg_cert.specs.declared.position.Count.{Count}
+use Rattle.rg_cert.specs.declared.position.Count.TheVariants as count
+use Rattle.rg_cert.specs.declared.position.Position.{Position}
+use Rattle.rg_cert.specs.declared.position.Position.TheVariants as position
+use Rattle.rg_cert.specs.declared.position.Next.{Next}
+use Rattle.rg_cert.specs.declared.position.Next.TheVariants as next
 use Rattle.rg_cert.specs.declared.draft.Head.{Head}
 use Rattle.rg_cert.specs.declared.draft.Head.TheVariants as head
 use Rattle.rg_cert.specs.declared.draft.Draft.{Draft}
@@ -66,24 +66,24 @@ abbrev pub count_in : Count → line.Count
 count_in count.One = line.one
 count_in count.Several = line.several
 
-abbrev pub place_in : Place → line.Place
-place_in place.Reason = line.at_reason
-place_in place.Last = line.at_last
-place_in place.OneCase = line.at_one_case
-place_in place.Cases = line.at_cases
-place_in (place.Node count due) = line.at_node (count_in count) due
-place_in (place.Row count due) = line.at_row (count_in count) due
-place_in place.End = line.at_end
+abbrev pub position_in : Position → line.Position
+position_in position.Reason = line.at_reason
+position_in position.Last = line.at_last
+position_in position.OneCase = line.at_one_case
+position_in position.Cases = line.at_cases
+position_in (position.Node count due) = line.at_node (count_in count) due
+position_in (position.Row count due) = line.at_row (count_in count) due
+position_in position.End = line.at_end
 
 abbrev pub next_in : Next → line.Next
-next_in (next.To place) = line.to (place_in place)
+next_in (next.To position) = line.to (position_in position)
 next_in next.Short = line.short
 next_in next.Long = line.long
 next_in next.Refused = line.refused
 
--- at most so many nodes are due at the place
-abbrev pub IsSmall : Place → ℕ → Type 0
-IsSmall place n = draft.due_at (place_in place) ≤ n
+-- at most so many nodes are due at the position
+abbrev pub IsSmall : Position → ℕ → Type 0
+IsSmall position n = draft.due_at (position_in position) ≤ n
 
 abbrev pub head_in : Head → draft.Head
 head_in (head.Unreachable s) = draft.of_unreachable s

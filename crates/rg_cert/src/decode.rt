@@ -5,7 +5,7 @@ ghost use Rattle.rg_theory.specs.System.{states, labels};
 ghost use Rattle.rg_cert.specs.Trees.{row_name_of, named_row, variable_of};
 ghost use Rattle.rg_cert.specs.Certificates.{IsMultiplierInRange, IsSplitInRange, IsRowNameOf, IsRowOf};
 ghost use Rattle.rg_cert.specs.Text.{state_name, label_name, row_fields, named_fields};
-ghost use Rattle.rg_cert.specs.Lines.{Place.at_reason, Next.to, follows, Field.state as state_field, Field.label as label_field, Field.number as number_field, Range.multiplier as multiplier_range, Range.split_value as split_range, Range.depth as depth_range};
+ghost use Rattle.rg_cert.specs.Lines.{Position.at_reason, Next.to, follows, Field.state as state_field, Field.label as label_field, Field.number as number_field, Range.multiplier as multiplier_range, Range.split_value as split_range, Range.depth as depth_range};
 ghost use Rattle.rg_cert.specs.Drafts.{IsGoodAt, IsGood, IsSplitLine, head_fields, IsHeadOf, IsHeadForm, after_head};
 ghost use Rattle.rg_cert.specs.View.{texts_in, line_form_in, head_in};
 ghost use Rattle.rg_cert.specs.declared.table.LineForm.TheVariants as of_line;

@@ -1,13 +1,13 @@
 //! What is read of a certificate so far.
 ghost use Rattle.std.specs.Prelude.{◌≡◌, OnOk};
 ghost use Rattle.rg_cert.specs.Drafts.{after_head, blank, leaf_closed, case_closed, with_split, IsGood, AddsRow, Adds};
-ghost use Rattle.rg_cert.specs.View.{texts_in, line_form_in, place_in, IsSmall, head_in, draft_in};
+ghost use Rattle.rg_cert.specs.View.{texts_in, line_form_in, position_in, IsSmall, head_in, draft_in};
 ghost use Rattle.rg_cert.specs.Trees.{variable_of};
 ghost use Rattle.rg_cert.specs.declared.table.LineForm.TheVariants as of_line;
 
 use crate::certificate::{Case, Form, Node, RowName};
 use crate::decode::{effect_split, row_of, tokens_split};
-use crate::place::Place;
+use crate::position::Position;
 use crate::table::{LineForm, RowForm};
 use rg_lts::Lts;
 use rg_memory::NoMemory;
@@ -25,14 +25,14 @@ pub(crate) enum Head {
 
 impl Head {
     // Where the next line stands.
-    pub(crate) fn after(self) -> Place
-        ensures place { place_in result ≡ after_head (head_in self) }
+    pub(crate) fn after(self) -> Position
+        ensures position { position_in result ≡ after_head (head_in self) }
         ensures small { IsSmall result 0 }
     {
         match self {
-            Head::Unreachable(..) | Head::Fork(..) => Place::Last,
-            Head::Event(..) => Place::OneCase,
-            Head::States(..) => Place::Cases,
+            Head::Unreachable(..) | Head::Fork(..) => Position::Last,
+            Head::Event(..) => Position::OneCase,
+            Head::States(..) => Position::Cases,
         }
     }
 }
@@ -64,26 +64,26 @@ impl Draft {
     pub(crate) fn take(
         &mut self,
         alloc: Global,
-        place: Place,
+        position: Position,
         form: LineForm,
         texts: &[&[u8]],
         lts: &Lts,
     ) -> Result<(), NoMemory>
         requires { IsGood lts.now (line_form_in form) (texts_in texts.now) }
-        ensures { OnOk result (Adds lts.now (place_in place) (line_form_in form) (texts_in texts.now) (draft_in self.old) (draft_in self.new)) }
+        ensures { OnOk result (Adds lts.now (position_in position) (line_form_in form) (texts_in texts.now) (draft_in self.old) (draft_in self.new)) }
     {
         match form {
             LineForm::Row(row) => self.take_row(row, texts, lts),
             LineForm::SplitTokens => {
-                self.close_leaf(alloc, place)?;
+                self.close_leaf(alloc, position)?;
                 self.push_split(tokens_split(texts, lts))
             }
             LineForm::SplitEffect => {
-                self.close_leaf(alloc, place)?;
+                self.close_leaf(alloc, position)?;
                 self.push_split(effect_split(texts, lts))
             }
-            LineForm::Leaf => self.close_leaf(alloc, place),
-            LineForm::Case | LineForm::End => self.close_case(alloc, place),
+            LineForm::Leaf => self.close_leaf(alloc, position),
+            LineForm::Case | LineForm::End => self.close_case(alloc, position),
             _ => Ok(()),
         }
     }
@@ -105,12 +105,12 @@ impl Draft {
         Ok(())
     }
 
-    // The leaf that is read is whole, if one is read at the place.
-    fn close_leaf(&mut self, alloc: Global, place: Place) -> Result<(), NoMemory>
-        ensures { OnOk result (draft_in self.new ≡ leaf_closed (place_in place) (draft_in self.old)) }
+    // The leaf that is read is whole, if one is read at the position.
+    fn close_leaf(&mut self, alloc: Global, position: Position) -> Result<(), NoMemory>
+        ensures { OnOk result (draft_in self.new ≡ leaf_closed (position_in position) (draft_in self.old)) }
     {
-        match place {
-            Place::Row(..) => {
+        match position {
+            Position::Row(..) => {
                 let rows = mem::replace(&mut self.rows, Vec::new(alloc));
                 self.nodes.push(Node::Leaf(rows))?;
                 Ok(())
@@ -119,13 +119,13 @@ impl Draft {
         }
     }
 
-    // The case that is read is whole, if the place is after a leaf.
-    fn close_case(&mut self, alloc: Global, place: Place) -> Result<(), NoMemory>
-        ensures { OnOk result (draft_in self.new ≡ case_closed (place_in place) (draft_in self.old)) }
+    // The case that is read is whole, if the position is after a leaf.
+    fn close_case(&mut self, alloc: Global, position: Position) -> Result<(), NoMemory>
+        ensures { OnOk result (draft_in self.new ≡ case_closed (position_in position) (draft_in self.old)) }
     {
-        match place {
-            Place::Row(..) => {
-                self.close_leaf(alloc, place)?;
+        match position {
+            Position::Row(..) => {
+                self.close_leaf(alloc, position)?;
                 let nodes = mem::replace(&mut self.nodes, Vec::new(alloc));
                 self.cases.push(Case { nodes })?;
                 Ok(())

@@ -1,15 +1,15 @@
 //! The next line of a text, where it is right.
 ghost use Rattle.std.specs.Prelude.{◌≡◌, ◌≢◌, ◌++◌, ◌∷◌, map, List, ℕ, IfOk, IfErr, OnOk};
 ghost use Rattle.rg_cert.specs.declared.fault.CertFault.TheVariants as fault;
-ghost use Rattle.rg_cert.specs.declared.place.Place.TheVariants as of_place;
+ghost use Rattle.rg_cert.specs.declared.position.Position.TheVariants as of_position;
 ghost use Rattle.rg_cert.specs.Lines.{HasFieldForm, AreAsked, fields_of};
 ghost use Rattle.rg_cert.specs.Faults.{IsRight, IsFaultAt};
 ghost use Rattle.rg_cert.specs.Drafts.{IsNextLine, IsWrong};
-ghost use Rattle.rg_cert.specs.View.{line_form_in, place_in, IsSmall};
+ghost use Rattle.rg_cert.specs.View.{line_form_in, position_in, IsSmall};
 
 use crate::fault::CertFault;
-use crate::lines::{fields, first_line};
-use crate::place::{Next, Place};
+use crate::lines::{first_fields, first_line};
+use crate::position::{Next, Position};
 use crate::table::{LineForm, are_in_range, are_known, form_of};
 use rg_lts::Lts;
 use std::alloc::Global;
@@ -21,31 +21,31 @@ pub(crate) struct GoodLine<'a> {
     /// Its fields.
     pub(crate) texts: Vec<&'a [u8]>,
     /// Where the next line stands.
-    pub(crate) to: Place,
+    pub(crate) to: Position,
     pub(crate) rest: &'a [u8],
 }
 
-// The line, of this number, with which the text goes on at a place.
+// The line, of this number, with which the text goes on at a position.
 pub(crate) fn good_line<'a>(
     alloc: Global,
     text: &'a [u8],
     number: u32,
-    place: Place,
+    position: Position,
     lts: &Lts,
 ) -> Result<GoodLine<'a>, CertFault>
-    requires small { IsSmall place 4294967294 }
-    requires going { place ≢ of_place.End }
-    ensures ok { IfOk result (λ g. IsNextLine lts.now (place_in place) text.entry.now (line_form_in g.form) (map (λ w. w.now) g.texts.items) (place_in g.to) g.rest.now) }
-    ensures err { IfErr result (λ e. e ≢ fault.NoMemory → IsFaultAt lts.now (place_in place) text.entry.now number e) }
+    requires small { IsSmall position 4294967294 }
+    requires going { position ≢ of_position.End }
+    ensures ok { IfOk result (λ g. IsNextLine lts.now (position_in position) text.entry.now (line_form_in g.form) (map (λ w. w.now) g.texts.items) (position_in g.to) g.rest.now) }
+    ensures err { IfErr result (λ e. e ≢ fault.NoMemory → IsFaultAt lts.now (position_in position) text.entry.now number e) }
 {
     let Some((line, rest)) = first_line(text) else {
         return Err(CertFault::Expected(number));
     };
-    let texts = fields(alloc, line)?;
+    let texts = first_fields(alloc, line)?;
     let Some(form) = form_of(&texts) else {
         return Err(CertFault::Expected(number));
     };
-    let next = place.next(form);
+    let next = position.next(form);
     if let Next::Refused = next {
         return Err(CertFault::Expected(number));
     }

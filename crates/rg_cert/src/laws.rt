@@ -1,11 +1,13 @@
 //! What the text of a certificate tells.
-ghost use Rattle.std.specs.Prelude.{◌≡◌, ◌⊎◌, ℕ, List};
+ghost use Rattle.std.specs.Prelude.{◌≡◌, ◌⊎◌, ◌++◌, ℕ, List};
+ghost use Rattle.rg_text.specs.Line.{fed};
 ghost use Rattle.rg_theory.specs.System.{System};
 ghost use Rattle.rg_lts.specs.WellFormed.{IsWellFormed};
 ghost use Rattle.rg_cert.specs.Certificates.{Claim, IsClaimOf};
 ghost use Rattle.rg_cert.specs.Text.{cert_text};
 ghost use Rattle.rg_cert.specs.Spells.{Spells};
-ghost use Rattle.rg_cert.specs.Faults.{FirstFault};
+ghost use Rattle.rg_cert.specs.Lines.{Position, Position.at_heading};
+ghost use Rattle.rg_cert.specs.Faults.{LeadAll, FirstFault};
 ghost use Rattle.rg_cert.specs.declared.fault.CertFault.{CertFault};
 
 /// For a system a text spells one claim or has one first fault, and never both.
@@ -14,6 +16,12 @@ pub fn one_answer()
     ensures one_claim { (bytes : List ℕ) (lts : System) (a b : Claim) → IsWellFormed lts → Spells bytes lts a → Spells bytes lts b → a ≡ b }
     ensures one_fault { (bytes : List ℕ) (lts : System) (d e : CertFault) → FirstFault bytes lts d → FirstFault bytes lts e → d ≡ e }
     ensures not_both { (bytes : List ℕ) (lts : System) (claim : Claim) (fault : CertFault) → IsWellFormed lts → Spells bytes lts claim → ¬ FirstFault bytes lts fault }
+{}
+
+/// Right lines, each of which may follow those before it, can go on to the text of a claim. So the line of a first fault is the first with
+/// which the text can't.
+pub fn lines_go_on()
+    ensures { (lts : System) (before : List (List ℕ)) (position : Position) → IsWellFormed lts → LeadAll lts at_heading before position → (more : List (List ℕ)) × (claim : Claim) × Spells (fed (before ++ more)) lts claim }
 {}
 
 /// Two claims for a system with the same text are the same.

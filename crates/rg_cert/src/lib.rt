@@ -10,18 +10,15 @@ mod laws;
 mod lines;
 mod names;
 mod numerals;
-mod place;
+mod position;
 mod printing;
 mod reading;
 mod table;
 
 pub use certificate::{Case, Certificate, Form, Node, Reason, RowName};
 pub use fault::CertFault;
-pub use laws::{certificate_is_told, one_answer};
+pub use laws::{certificate_is_told, lines_go_on, one_answer};
 pub use printing::print;
 pub use reading::read;
 pub use rg_memory::NoMemory;
 pub use rg_theory::Problem;
-
-#[cfg(test)]
-mod tests;

@@ -1,5 +1,5 @@
 //! Lines and their fields.
-ghost use Rattle.std.specs.Prelude.{◌≡◌, ◌≢◌, ◌++◌, ◌∷◌, map, All, IfOk, IfSome, IfNone};
+ghost use Rattle.std.specs.Prelude.{◌≡◌, ◌≢◌, ◌++◌, ◌∷◌, map, take, All, IfOk, IfSome, IfNone};
 ghost use Rattle.rg_text.specs.Line.{fields};
 
 use rg_text::len_before;
@@ -17,9 +17,9 @@ pub(crate) fn first_line(text: &[u8]) -> Option<(&[u8], &[u8])>
     Some((&text[..at], &text[at + 1..]))
 }
 
-// What stands between the spaces of a line.
-pub(crate) fn fields<'a>(alloc: Global, line: &'a [u8]) -> Result<Vec<&'a [u8]>, AllocError>
-    ensures { IfOk result (λ v. map (λ w. w.now) v.items ≡ fields line.entry.now) }
+// The first parts of a line that is cut at its spaces: six, one more than any line may have.
+pub(crate) fn first_fields<'a>(alloc: Global, line: &'a [u8]) -> Result<Vec<&'a [u8]>, AllocError>
+    ensures { IfOk result (λ v. map (λ w. w.now) v.items ≡ take 6 (fields line.entry.now)) }
 {
-    line.split(|b| *b == b' ').collect(alloc)
+    line.split(|b| *b == b' ').take(6).collect(alloc)
 }

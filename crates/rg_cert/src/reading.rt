@@ -6,7 +6,7 @@ ghost use Rattle.rg_theory.specs.ClassWords.{NamesClass};
 ghost use Rattle.rg_cert.specs.Trees.{nodes_of};
 ghost use Rattle.rg_cert.specs.Certificates.{claim_of, IsCertificateOf};
 ghost use Rattle.rg_cert.specs.Spells.{Spells};
-ghost use Rattle.rg_cert.specs.Lines.{Place.at_heading, Place.at_class, Place.at_reason};
+ghost use Rattle.rg_cert.specs.Lines.{Position.at_heading, Position.at_class, Position.at_reason};
 ghost use Rattle.rg_cert.specs.Faults.{BreaksAt, FaultFrom, FirstFault};
 ghost use Rattle.rg_cert.specs.Drafts.{IsHeadOf, HasCases, AreCasesOf, after_head, head_fields, IsHeadLine};
 ghost use Rattle.rg_cert.specs.View.{head_in, reason_head, reason_cases};
@@ -18,7 +18,7 @@ use crate::draft::{Draft, Head};
 use crate::fault::CertFault;
 use crate::good_line::good_line;
 use crate::lines::first_line;
-use crate::place::Place;
+use crate::position::Position;
 use rg_lts::Lts;
 use rg_theory::Class;
 use std::alloc::Global;
@@ -97,7 +97,7 @@ fn head_line<'a>(alloc: Global, text: &'a [u8], lts: &Lts) -> Result<(Head, &'a 
     ensures ok { IfOk result (λ r. IsHeadLine lts.now text.entry.now (head_in r.0) r.1.now) }
     ensures err { IfErr result (λ e. e ≢ fault.NoMemory → FaultFrom lts.now at_reason text.entry.now 3 e) }
 {
-    let line = good_line(alloc, text, 3, Place::Reason, lts)?;
+    let line = good_line(alloc, text, 3, Position::Reason, lts)?;
     Ok((head_of(line.form, &line.texts, lts), line.rest))
 }
 
@@ -108,13 +108,13 @@ fn cases(alloc: Global, text: &[u8], head: Head, lts: &Lts) -> Result<Vec<Case>,
     ensures err { IfErr result (λ e. e ≢ fault.NoMemory → FaultFrom lts.now (after_head (head_in head)) text.now 4 e) }
 {
     let mut draft = Draft::new(alloc);
-    let mut place = head.after();
+    let mut position = head.after();
     let mut rest = text;
     let mut number = 4;
-    'lines: while place != Place::End {
-        let line = good_line(alloc, rest, number, place, lts)?;
-        draft.take(alloc, place, line.form, &line.texts, lts)?;
-        place = line.to;
+    'lines: while position != Position::End {
+        let line = good_line(alloc, rest, number, position, lts)?;
+        draft.take(alloc, position, line.form, &line.texts, lts)?;
+        position = line.to;
         rest = line.rest;
         number += 1;
     }

@@ -1,2 +1,3 @@
-mod Entries
 mod Forks
+mod Walking
+pub mod Shutting

@@ -1,2 +1,2 @@
 pub mod Met
-pub mod First
+pub mod Walk

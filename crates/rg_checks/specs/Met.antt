@@ -1,6 +1,5 @@
 -- How the states that can be reached are reached.
-use Rattle.std.specs.Prelude.{◌≡◌, ◌≢◌, ℕ, ◌<◌, List, Option, None, Some, length, slice_get, ◌↔◌}
-use Rattle.rg_theory.specs.declared.Arc.{Arc}
+use Rattle.std.specs.Prelude.{◌≡◌, ◌≢◌, ℕ, ◌<◌, ◌==◌, ◌||◌, Bool, List, Option, None, Some, is_some, length, slice_get, slice_index_or, ◌↔◌}
 use Rattle.rg_theory.specs.System.{System, states, HasArc, IsReachable}
 use Rattle.rg_checks.specs.declared.walks.Step.{Step}
 
@@ -18,7 +17,6 @@ pub record AreSteps (lts : System) (steps : List (Option Step)) : Type 0 where
   pub none : (s : ℕ) → s < states lts → s ≢ lts.initial → (slice_get steps s ≡ Some None) ↔ (¬ IsReachable lts s)
   pub walk : (s : ℕ) (step : Step) → slice_get steps s ≡ Some (Some step) → IsEntered lts steps s
 
--- the step by which an arc enters a state
-abbrev pub step_of : Option Arc → Option Step
-step_of None = None
-step_of (Some a) = Some (record { before = a.from; label = a.label })
+-- the state is the initial one, or a step leads to it
+abbrev pub is_met : System → List (Option Step) → ℕ → Bool
+is_met lts steps s = (s == lts.initial) || is_some (slice_index_or steps s None)

@@ -1,7 +1,6 @@
 //! The first fork.
 ghost use Rattle.std.specs.Prelude.{IfSome, IfNone};
-ghost use Rattle.rg_theory.specs.System.{IsForkFree};
-ghost use Rattle.rg_checks.specs.First.{IsLeastFork};
+ghost use Rattle.rg_theory.specs.System.{IsForkFree, IsLeastFork};
 
 use rg_lts::Lts;
 

@@ -2,15 +2,11 @@
 #![tactic(auto)]
 
 mod fork;
-mod laws;
 mod unreachable;
 mod walks;
 
 pub use fork::first_fork;
-pub use laws::one_least_fork;
 pub use rg_memory::NoMemory;
 pub use unreachable::first_unreachable;
 pub use walks::{Step, reach};
 
-#[cfg(test)]
-mod tests;

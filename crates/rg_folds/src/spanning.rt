@@ -10,11 +10,6 @@ ghost use Rattle.rg_folds.specs.Chords.{KeepsChords, chord_system, IsBasis};
 
 use rg_theory::Arc;
 
-/// A system has one tree at most.
-pub fn tree_is_one()
-    ensures { (lts : System) (tree tree' : List Arc) → IsTree lts tree → IsTree lts tree' → tree ≡ tree' }
-{}
-
 /// The tree meets every state that can be reached, by one way, which an arc of the tree makes longer by
 /// its label.
 pub fn ways_are_one()

@@ -2,7 +2,7 @@
 use crate::folds::{calls_are_steps, folds_are_one, steps_are_one, zeros_add_nothing};
 use crate::rows::{expression_is_rewritten, row_is_exact, system_is_exact};
 use crate::shown::shown_is_one;
-use crate::spanning::{basis_is_exact, chords_are_exact, tree_is_one, ways_are_one};
+use crate::spanning::{basis_is_exact, chords_are_exact, ways_are_one};
 
 #[test]
 fn laws_are_called(_rt: HostRuntime) {
@@ -10,7 +10,6 @@ fn laws_are_called(_rt: HostRuntime) {
     calls_are_steps();
     folds_are_one();
     zeros_add_nothing();
-    tree_is_one();
     ways_are_one();
     chords_are_exact();
     basis_is_exact();

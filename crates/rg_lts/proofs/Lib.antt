@@ -2,4 +2,5 @@ pub mod NameLemmas
 pub mod OrderedArcs
 pub mod Drafts
 mod ArcOrder
+mod ArcRuns
 mod ArcSets

@@ -2,6 +2,7 @@
 #![tactic(auto)]
 
 mod arc_set;
+mod arcs_from;
 mod builder;
 mod fault;
 mod lts;

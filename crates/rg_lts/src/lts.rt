@@ -152,8 +152,9 @@ fn first_target(arcs: &[Arc], s: u32, t: u32) -> Option<u32>
 }
 
 // How many arcs come before all arcs of label t at state s.
-fn first_place(arcs: &[Arc], s: u32, t: u32) -> usize
+pub(crate) fn first_place(arcs: &[Arc], s: u32, t: u32) -> usize
     requires { AllPairs IsArcBefore arcs.now }
+    ensures within { result ≤ length arcs.now }
     ensures before { (k : ℕ) (d : Arc) → k < result → IsTrue (is_earlier s t (slice_index_or arcs.now k d)) }
     ensures behind { (k : ℕ) (d : Arc) → result ≤ k → k < length arcs.now → is_earlier s t (slice_index_or arcs.now k d) ≡ false }
 {

@@ -1,7 +1,7 @@
 -- When a certificate is accepted.
 use Rattle.std.specs.Prelude.{◌≡◌, ◌≢◌, ℕ, ◌-◌, ◌^◌, ◌<◌, ◌≤◌, Bool, true, false, List, [], ◌∷◌, ◌++◌, length, All, IsTrue, IsFalse, ℤ, pos, ◌*ℤ◌, ◌≤ℤ◌, ◌<ℤ◌, nat_abs, slice_get, Some, sum_by}
 use Rattle.rg_integers.specs.Sum.{sum_over}
-use Rattle.rg_theory.specs.System.{System, states, labels, HasArc, IsFork}
+use Rattle.rg_theory.specs.System.{System, states, labels, HasArc, IsFork, IsClosedWithout}
 use Rattle.rg_theory.specs.declared.Class.{Class}
 use Rattle.rg_theory.specs.Net.{Place}
 use Rattle.rg_theory.specs.Region.{RegionIn}
@@ -64,12 +64,6 @@ pub data Reason : Type 0 where
   unreachable : ℕ → Reason
   fork : ℕ → ℕ → ℕ → ℕ → Reason
   refuted : Problem → List Tree → Reason
-
--- a set of states that has the initial state and is closed under arcs, without s
-pub record IsClosedWithout (lts : System) (s : ℕ) (inside : ℕ → Bool) : Type 0 where
-  pub initial : IsTrue (inside lts.initial)
-  pub closed : (q t q' : ℕ) → HasArc lts q t q' → IsTrue (inside q) → IsTrue (inside q')
-  pub without : IsFalse (inside s)
 
 -- the label has no arc at the state; the two states differ
 abbrev pub IsAsked : System → Problem → Type 0

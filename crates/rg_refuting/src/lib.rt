@@ -19,6 +19,3 @@ pub fn accepted_is_no_net()
 pub fn rows_are_exact()
     ensures { (lts : System) (class : Class) (problem : Problem) → IsInRange lts → IsAsked lts problem → 0 < cases_of lts class problem → IsSeparable lts class problem ↔ HasWholeSolution lts class problem }
 {}
-
-#[cfg(test)]
-mod tests;

@@ -1,4 +1,4 @@
-pub mod ArcRuns
 pub mod RowLaws
+mod Orders
 pub mod TreeGrowth
 pub mod TreeTables

@@ -22,7 +22,7 @@ target_of [] a (k, lt, at) = absurd (omega arith)
 target_of (b ∷ tree) a (zero, lt, at) = (0, omega arith, ap (λ (x : Arc). x.to) at)
 target_of (b ∷ tree) a (suc k, lt, at) = let (j, l, is) = target_of tree a (k, omega arith, at) in (suc j, omega arith, is)
 
-arc_to : (tree : List Arc) (s : ℕ) → Contains (targets tree) s → (a : Arc) × Contains tree a × (a.to ≡ s)
+pub arc_to : (tree : List Arc) (s : ℕ) → Contains (targets tree) s → (a : Arc) × Contains tree a × (a.to ≡ s)
 arc_to [] s (k, lt, at) = absurd (omega arith)
 arc_to (b ∷ tree) s (zero, lt, at) = (b, (0, omega arith, refl), at)
 arc_to (b ∷ tree) s (suc k, lt, at) = let (a, (j, l, is), e) = arc_to tree s (k, omega arith, at) in (a, (suc j, omega arith, is), e)

@@ -1,5 +1,4 @@
 pub mod Growing
 pub mod Rows
 pub mod Spanning
-pub mod Starts
 pub mod Tables

@@ -23,12 +23,3 @@ pub record IsTreeOf (lts : System) (grown : Spanning) : Type 0 where
   pub initial : grown.initial ≡ lts.initial
   pub tree : IsTree lts grown.arcs
   pub chords : grown.chords ≡ chords lts grown.arcs
-
--- for each state the arc by which the tree meets it, and None for the initial state and those that it doesn't meet
-pub record AreEntries (lts : System) (entries : List (Option Arc)) : Type 0 where
-  pub arcs : List Arc
-  pub tree : IsTree lts arcs
-  pub one_each : length entries ≡ states lts
-  pub entered : (s : ℕ) (a : Arc) → slice_index_or entries s None ≡ Some a → (a.to ≡ s) × Contains arcs a
-  pub enters : (a : Arc) → Contains arcs a → slice_index_or entries a.to None ≡ Some a
-  pub root : slice_index_or entries lts.initial None ≡ None

@@ -4,10 +4,7 @@ ghost use Rattle.rg_theory.specs.declared.Arc.{Arc};
 ghost use Rattle.rg_theory.specs.System.{states, IsArcBefore};
 ghost use Rattle.rg_theory.specs.Tree.{Joins, IsTree};
 ghost use Rattle.rg_spanning.specs.Growing.{IsGrowing, IsSettled};
-ghost use Rattle.rg_spanning.specs.Starts.{AreStarts};
-ghost use Rattle.rg_spanning.specs.Spanning.{AreEntries};
 
-use crate::starts::{leaving, starts};
 use rg_lts::Lts;
 use rg_theory::Arc;
 use std::alloc::{AllocError, Global};
@@ -25,23 +22,13 @@ pub(crate) fn grown(alloc: Global, lts: &Lts) -> Result<Growth, AllocError>
     ensures growing { IfOk result (λ g. IsGrowing lts.now g.order.items g.arcs.items g.entries.items) }
     ensures tree { IfOk result (λ g. IsTree lts.now g.arcs.items) }
 {
-    let starts = starts(alloc, lts)?;
     let mut growth = rooted(alloc, lts)?;
     let mut place = 0;
     while place < growth.order.len() {
-        join_arcs_of(lts, &starts, &mut growth, place)?;
+        join_arcs_of(lts, &mut growth, place)?;
         place += 1;
     }
     Ok(growth)
-}
-
-/// For each state the arc by which the breadth first walk from the initial state meets it; None for the initial state
-/// and for each state that it doesn't meet. `AllocError` where there is no memory.
-pub fn entries(alloc: Global, lts: &Lts) -> Result<Vec<Option<Arc>>, AllocError>
-    ensures { IfOk result (λ v. AreEntries lts.now v.items) }
-{
-    let growth = grown(alloc, lts)?;
-    Ok(growth.entries)
 }
 
 // The tree of the initial state alone.
@@ -59,13 +46,7 @@ fn rooted(alloc: Global, lts: &Lts) -> Result<Growth, AllocError>
 }
 
 // Adds the arcs that join from the state at this place.
-fn join_arcs_of(
-    lts: &Lts,
-    starts: &[usize],
-    growth: &mut Growth,
-    place: usize,
-) -> Result<(), AllocError>
-    requires starts { AreStarts lts.now starts.now }
+fn join_arcs_of(lts: &Lts, growth: &mut Growth, place: usize) -> Result<(), AllocError>
     requires growing { IsGrowing lts.now growth.old.order.items growth.old.arcs.items growth.old.entries.items }
     requires settled { IsSettled lts.now growth.old.order.items place }
     requires within { place < length growth.old.order.items }
@@ -74,7 +55,7 @@ fn join_arcs_of(
     ensures within { OnOk result (place < length growth.new.order.items) }
 {
     let s = growth.order[place];
-    for a in leaving(lts, starts, s) {
+    for a in lts.arcs_from(s) {
         if !is_met(lts, growth, a.to) {
             join(lts, growth, *a)?;
         }

@@ -4,14 +4,9 @@
 mod chords;
 mod counts;
 mod growth;
-#[cfg(test)]
-mod samples;
-mod starts;
+mod laws;
 mod table;
 mod tree;
 
-pub use growth::entries;
+pub use laws::each_state_once;
 pub use tree::{GrowStop, Tree};
-
-#[cfg(test)]
-mod tests;

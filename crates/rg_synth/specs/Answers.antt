@@ -1,7 +1,7 @@
 -- What is due to the words and the files: each status, when it is due, and what it writes.
 use Rattle.std.specs.Prelude.{◌≡◌, ◌⊎◌, ℕ, ◌≤◌, List, [], length, Option, IsTrue, IsSome}
 use Rattle.rg_ports.specs.Shelf.{Files}
-use Rattle.rg_theory.specs.System.{System, IsAllReachable, IsForkFree, IsLeastUnreachable}
+use Rattle.rg_theory.specs.System.{System, IsAllReachable, IsForkFree, IsLeastUnreachable, IsLeastFork}
 use Rattle.rg_theory.specs.Net.{Net}
 use Rattle.rg_theory.specs.Solves.{Solves}
 use Rattle.rg_theory.specs.declared.Class.{Class}
@@ -10,7 +10,6 @@ use Rattle.rg_net.specs.Range.{largest, IsNetInRange}
 use Rattle.rg_net.specs.NetText.{net_text}
 use Rattle.rg_netfile.specs.Contents.{most_places}
 use Rattle.rg_netfile.specs.Spells.{Spells as NetSpells}
-use Rattle.rg_checks.specs.First.{IsLeastFork}
 use Rattle.rg_refuting.specs.Refutes.{Reason, Reason.unreachable, Reason.fork, Reason.refuted, Accepts}
 use Rattle.rg_folds.specs.Shown.{ShownWide}
 use Rattle.rg_separate.specs.View.{shown_of}

@@ -1,5 +1,5 @@
 -- Labelled transition systems.
-use Rattle.std.specs.Prelude.{◌≡◌, ◌≢◌, ℕ, ◌<◌, ◌⊎◌, List, [], ◌∷◌, length, All, Contains}
+use Rattle.std.specs.Prelude.{◌≡◌, ◌≢◌, ℕ, ◌<◌, ◌≤◌, ◌⊎◌, Bool, IsTrue, IsFalse, List, [], ◌∷◌, length, All, Contains}
 pub use Rattle.rg_theory.specs.declared.Arc.{Arc}
 
 -- label t leads from s to s'
@@ -53,6 +53,12 @@ pub record IsLeastUnreachable (lts : System) (s : ℕ) : Type 0 where
   pub unreachable : ¬ IsReachable lts s
   pub least : (earlier : ℕ) → earlier < s → IsReachable lts earlier
 
+-- a set of states that has the initial state and is closed under arcs, without s
+pub record IsClosedWithout (lts : System) (s : ℕ) (inside : ℕ → Bool) : Type 0 where
+  pub initial : IsTrue (inside lts.initial)
+  pub closed : (q t q' : ℕ) → HasArc lts q t q' → IsTrue (inside q) → IsTrue (inside q')
+  pub without : IsFalse (inside s)
+
 -- label t leads from s to two different states
 abbrev pub IsFork : System → ℕ → ℕ → ℕ → ℕ → Type 0
 IsFork lts s t s₁ s₂ = HasArc lts s t s₁ × HasArc lts s t s₂ × (s₁ ≢ s₂)
@@ -60,6 +66,14 @@ IsFork lts s t s₁ s₂ = HasArc lts s t s₁ × HasArc lts s t s₂ × (s₁ �
 -- a label leads from a state to one state at most
 pub record IsForkFree (lts : System) : Type 0 where
   pub one_target : (s t s₁ s₂ : ℕ) → HasArc lts s t s₁ → HasArc lts s t s₂ → s₁ ≡ s₂
+
+-- the first fork, by state and then label, with its two least targets
+pub record IsLeastFork (lts : System) (s t s₁ s₂ : ℕ) : Type 0 where
+  pub fork : IsFork lts s t s₁ s₂
+  pub in_order : s₁ < s₂
+  pub first : (q u q₁ q₂ : ℕ) → (q < s) ⊎ ((q ≡ s) × (u < t)) → ¬ IsFork lts q u q₁ q₂
+  pub least : (to : ℕ) → HasArc lts s t to → s₁ ≤ to
+  pub next : (to : ℕ) → HasArc lts s t to → s₁ < to → s₂ ≤ to
 
 -- no arc has the label
 abbrev pub IsDead : System → ℕ → Type 0

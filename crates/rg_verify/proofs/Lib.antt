@@ -1,4 +1,3 @@
-mod Shutting
 mod Arcs
 mod Expressions
 mod Places

@@ -1,10 +1,9 @@
 //! Whether a certificate holds.
 ghost use Rattle.std.specs.Prelude.{◌≡◌, ◌≢◌, ℕ, ◌<◌, ◌≤◌, ◌↔◌, Bool, [], ◌∷◌, if◌then◌else◌, AllPairs, Contains, IfOk, IsTrue, length, map, All};
-ghost use Rattle.rg_theory.specs.System.{arc, states, labels, IsInRange, IsArcBefore};
+ghost use Rattle.rg_theory.specs.System.{arc, states, labels, IsInRange, IsArcBefore, IsClosedWithout};
 ghost use Rattle.rg_theory.specs.Class.{NoNet};
 ghost use Rattle.rg_theory.specs.declared.Problem.TheVariants as problem;
 ghost use Rattle.rg_refuting.specs.Row.{cases_of};
-ghost use Rattle.rg_refuting.specs.Refutes.{IsClosedWithout};
 ghost use Rattle.rg_cert.specs.Certificates.{claim_of, IsCertificateOf, IsWhole, IsTreeOf, case_tree};
 ghost use Rattle.rg_verify.specs.Judged.{Judges, JudgesTrees, HasAllCases};
 ghost use Rattle.rg_verify.specs.declared.verdict.Verdict.TheVariants as verdict;

@@ -10,8 +10,6 @@ mod setting;
 mod side;
 mod standing;
 mod sums;
-#[cfg(test)]
-mod tests;
 mod verdict;
 
 pub use judging::verify;

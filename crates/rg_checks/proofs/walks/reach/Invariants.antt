@@ -1,6 +1,14 @@
-use Rattle.std.proofs.Common.{◌≡◌, map, take}
-use Rattle.rg_checks.specs.Met.{step_of}
+-- The walk goes on, and the arcs of each state that is met are followed, or it waits.
+use Rattle.std.proofs.Common.{ℕ, ◌+◌, length, is_none, count_by}
+use Rattle.rg_checks.specs.Walk.{IsWalk}
+use Rattle.rg_checks.proofs.Walking.{AreFollowed}
 use Rattle.rg_checks.proofs.walks.reach.Given as goal
 
-abbrev pub invariant-loop-entry : goal.invariant-loop-entry
-invariant-loop-entry l = l.steps.items ≡ map step_of (take l.entry-index l.entry-items)
+abbrev pub invariant-loop-s : goal.invariant-loop-s
+invariant-loop-s l = record {
+  walk : IsWalk l.lts l.walk.steps.items l.walk.waiting.items;
+  followed : AreFollowed l.lts l.walk.steps.items l.walk.waiting.items;
+}
+
+abbrev pub decreases-loop-s : goal.decreases-loop-s
+decreases-loop-s l = count_by is_none l.walk.steps.items + length l.walk.waiting.items

@@ -1,5 +1,5 @@
 use Rattle.std.proofs.Common.{◌∙◌, sym}
-use Rattle.rg_verify.proofs.Shutting.{no_step}
+use Rattle.rg_checks.proofs.Shutting.{no_step}
 use Rattle.rg_verify.proofs.judging.is_shut_out.Goals as goal
 
 pub returns : goal.returns

@@ -1,0 +1,79 @@
+-- Right lines that lead anywhere can go on to a whole certificate.
+use Rattle.std.proofs.Common.{◌≡◌, ℕ, zero, suc, List, [], ◌∷◌, ◌++◌, codes, map, None, false, refl, sym, subst}
+use Rattle.rg_text.specs.Line.{fed}
+use Rattle.rg_theory.specs.System.{System}
+use Rattle.rg_theory.specs.declared.Class.{Class}
+use Rattle.rg_theory.specs.ClassWords.{class_text}
+use Rattle.rg_theory.proofs.ClassWritten.{written}
+use Rattle.rg_lts.specs.WellFormed.{IsWellFormed}
+use Rattle.rg_cert.specs.Certificates.{Claim}
+use Rattle.rg_cert.specs.Text.{spaced}
+use Rattle.rg_cert.specs.Spells.{Spells}
+use Rattle.rg_cert.specs.Lines.{leaf_line, case_line, Count, one, several, Position, at_heading, at_class, at_reason, at_last, at_one_case, at_cases, at_node, at_row, at_end, to, follows}
+use Rattle.rg_cert.specs.Faults.{LeadAll}
+use Rattle.rg_cert.specs.Drafts.{of_unreachable}
+use Rattle.rg_cert.proofs.Canonical.{TextsLead, TextsLeadAll, lead_all_of, heading_leads, class_leads, head_leads, end_leads}
+use Rattle.rg_cert.proofs.SomeAnswer.{from_lines}
+
+-- lines lead from the position to the end
+record CanEnd (lts : System) (position : Position) : Type 0 where
+  lines : List (List (List ℕ))
+  lead : TextsLeadAll lts position lines at_end
+
+one_more : (lts : System) (position : Position) (texts : List (List ℕ)) (next : Position) → TextsLead lts position texts next → CanEnd lts next → CanEnd lts position
+one_more lts position texts next first rest = record { lines = texts ∷ rest.lines; lead = (next, first, rest.lead) }
+
+leaf : (lts : System) (position next : Position) → follows position leaf_line ≡ to next → TextsLead lts position (codes "leaf" ∷ []) next
+leaf lts position next may = record { form = leaf_line; fields = (refl, tt); right = ((tt, tt), (tt, tt)); leads = may }
+
+case_here : (lts : System) (position next : Position) → follows position case_line ≡ to next → TextsLead lts position (codes "case" ∷ []) next
+case_here lts position next may = record { form = case_line; fields = (refl, tt); right = ((tt, tt), (tt, tt)); leads = may }
+
+end_here : (lts : System) (position : Position) → TextsLeadAll lts position ((codes "end" ∷ []) ∷ []) at_end → CanEnd lts position
+end_here lts position lead = record { lines = (codes "end" ∷ []) ∷ []; lead = lead }
+
+-- the nodes that are due may be leaves
+row_ends : (lts : System) (count : Count) (due : ℕ) → CanEnd lts (at_row count due)
+row_ends lts one zero = end_here lts (at_row one zero) (end_leads lts (at_row one zero) refl)
+row_ends lts several zero = end_here lts (at_row several zero) (end_leads lts (at_row several zero) refl)
+row_ends lts count (suc due) = one_more lts (at_row count (suc due)) (codes "leaf" ∷ []) (at_row count due) (leaf lts (at_row count (suc due)) (at_row count due) refl) (row_ends lts count due)
+
+node_ends : (lts : System) (count : Count) (due : ℕ) → CanEnd lts (at_node count due)
+node_ends lts count due = one_more lts (at_node count due) (codes "leaf" ∷ []) (at_row count due) (leaf lts (at_node count due) (at_row count due) refl) (row_ends lts count due)
+
+last_ends : (lts : System) → CanEnd lts at_last
+last_ends lts = end_here lts at_last (end_leads lts at_last refl)
+
+-- the initial state has a name
+reason_ends : (lts : System) → IsWellFormed lts → CanEnd lts at_reason
+reason_ends lts fine = one_more lts at_reason _ at_last (head_leads lts (of_unreachable lts.initial) fine fine.in_range.initial) (last_ends lts)
+
+abbrev all_nets : Class
+all_nets = record { pure = false; plain = false; bound = None; nonbranching = false }
+
+class_ends : (lts : System) → IsWellFormed lts → CanEnd lts at_class
+class_ends lts fine = one_more lts at_class _ at_reason (class_leads lts (class_text all_nets) all_nets (written all_nets tt)) (reason_ends lts fine)
+
+can_end : (lts : System) (position : Position) → IsWellFormed lts → CanEnd lts position
+can_end lts at_heading fine = one_more lts at_heading _ at_class (heading_leads lts) (class_ends lts fine)
+can_end lts at_class fine = class_ends lts fine
+can_end lts at_reason fine = reason_ends lts fine
+can_end lts at_last fine = last_ends lts
+can_end lts at_one_case fine = one_more lts at_one_case (codes "case" ∷ []) (at_node one 0) (case_here lts at_one_case (at_node one 0) refl) (node_ends lts one 0)
+can_end lts at_cases fine = end_here lts at_cases (end_leads lts at_cases refl)
+can_end lts (at_node count due) fine = node_ends lts count due
+can_end lts (at_row count due) fine = row_ends lts count due
+can_end lts at_end fine = record { lines = []; lead = refl }
+
+lead_on : (lts : System) (from : Position) (before : List (List ℕ)) (position : Position) (more : List (List ℕ)) (last : Position) → LeadAll lts from before position → LeadAll lts position more last
+    → LeadAll lts from (before ++ more) last
+lead_on lts from [] position more last same rest = subst (λ p. LeadAll lts p more last) (sym same) rest
+lead_on lts from (line ∷ before) position more last (next, leads, lead) rest = (next, leads, lead_on lts next before position more last lead rest)
+
+pub goes_on : (lts : System) (before : List (List ℕ)) (position : Position) → IsWellFormed lts → LeadAll lts at_heading before position
+    → (more : List (List ℕ)) × (claim : Claim) × Spells (fed (before ++ more)) lts claim
+goes_on lts before position fine lead =
+    let ends = can_end lts position fine in
+    let more = map spaced ends.lines in
+    let found = from_lines lts (before ++ more) (fed (before ++ more)) refl (lead_on lts at_heading before position more at_end lead (lead_all_of lts position ends.lines at_end ends.lead)) in
+    (more, found.0, found.1)

@@ -1,0 +1,21 @@
+//! Tests of single calls: classes, the outside, walks and trees, certificates and their verdicts.
+#![tactic(auto)]
+
+#[cfg(test)]
+mod certificates;
+#[cfg(test)]
+mod classes;
+#[cfg(test)]
+mod laws;
+#[cfg(test)]
+mod limits;
+#[cfg(test)]
+mod outside;
+#[cfg(test)]
+mod samples;
+#[cfg(test)]
+mod trees;
+#[cfg(test)]
+mod verdicts;
+#[cfg(test)]
+mod walks;

@@ -1,0 +1,99 @@
+//! That trees are grown, and what an unreachable state answers.
+ghost use Rattle.rg_spanning.specs.Spanning.{IsTreeOf};
+
+use crate::samples::{APART, LOCK, system};
+use rg_lts::Lts;
+use rg_spanning::{GrowStop, Tree};
+use rg_theory::Arc;
+use std::test::Fail;
+
+// The arc (from, label, to).
+fn arc(from: u32, label: u32, to: u32) -> Arc {
+    Arc { from, label, to }
+}
+
+#[test]
+fn tells_the_least_unreachable_state(rt: HostRuntime) -> Result<(), Fail> {
+    let lts = system(&rt, rt.alloc(), APART)?;
+    match Tree::grow(rt.alloc(), &lts) {
+        Ok(_) => panic!(rt; "s1 was reached"),
+        Err(stop) => assert!(rt; stop == GrowStop::Unreachable(1)),
+    }
+    Ok(())
+}
+
+#[test]
+fn grows_breadth_first(rt: HostRuntime) -> Result<(), Fail> {
+    let lts = system(&rt, rt.alloc(), LOCK)?;
+    match Tree::grow(rt.alloc(), &lts) {
+        Ok(tree) => assert!(rt; is_right(&lts, &tree)),
+        Err(_) => panic!(rt; "the tree wasn't grown"),
+    }
+    Ok(())
+}
+
+fn is_right(lts: &Lts, tree: &Tree) -> bool
+    requires { IsTreeOf lts.now tree.now }
+{
+    has_order(tree)
+        && has_arcs(tree)
+        && has_chords(tree)
+        && counts_labels(lts, tree)
+        && enters_states(lts, tree)
+        && writes_chords(lts, tree)
+}
+
+fn has_order(tree: &Tree) -> bool {
+    tree.order() == [0, 3, 1, 6, 4, 2, 7, 5].as_slice()
+}
+
+fn has_arcs(tree: &Tree) -> bool {
+    let arcs = [
+        arc(0, 0, 3),
+        arc(0, 3, 1),
+        arc(3, 1, 6),
+        arc(3, 3, 4),
+        arc(1, 4, 2),
+        arc(6, 3, 7),
+        arc(4, 4, 5),
+    ];
+    tree.arcs() == arcs.as_slice()
+}
+
+fn has_chords(tree: &Tree) -> bool {
+    let chords = [
+        arc(1, 0, 4),
+        arc(2, 0, 5),
+        arc(2, 5, 0),
+        arc(4, 1, 7),
+        arc(5, 5, 3),
+        arc(6, 2, 0),
+        arc(7, 2, 1),
+    ];
+    tree.chords() == chords.as_slice()
+}
+
+fn counts_labels(lts: &Lts, tree: &Tree) -> bool
+    requires { IsTreeOf lts.now tree.now }
+{
+    lts.states() == 8
+        && tree.parikh(0) == [0, 0, 0, 0, 0, 0].as_slice()
+        && tree.parikh(3) == [1, 0, 0, 0, 0, 0].as_slice()
+        && tree.parikh(7) == [1, 1, 0, 1, 0, 0].as_slice()
+        && tree.parikh(5) == [1, 0, 0, 1, 1, 0].as_slice()
+}
+
+fn enters_states(lts: &Lts, tree: &Tree) -> bool
+    requires { IsTreeOf lts.now tree.now }
+{
+    lts.states() == 8 && tree.parent(0) == None && tree.parent(7) == Some(arc(6, 3, 7))
+}
+
+fn writes_chords(lts: &Lts, tree: &Tree) -> bool
+    requires { IsTreeOf lts.now tree.now }
+{
+    let many = lts.labels() == 6 && tree.chords().len() == 7;
+    many && tree.chord_entry(2, 3) == 1
+        && tree.chord_entry(2, 5) == 1
+        && tree.chord_entry(4, 0) == 0
+}
