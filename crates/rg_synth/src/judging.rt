@@ -3,7 +3,7 @@ ghost use Rattle.std.specs.Prelude.{◌≡◌, ◌≢◌, ◌⊎◌, ℕ, ◌≤
 ghost use Rattle.rg_ports.specs.Count.{HasRisen};
 ghost use Rattle.rg_ports.specs.Shelf.{asked_with};
 ghost use Rattle.rg_lts.specs.WellFormed.{IsWellFormed};
-ghost use Rattle.rg_cert.specs.Certificates.{claim_of, IsCertificateOf};
+ghost use Rattle.rg_reasons.specs.Certificates.{claim_of, IsCertificateOf};
 ghost use Rattle.rg_cert.specs.Spells.{Spells};
 ghost use Rattle.rg_synth.specs.Given.{most_bytes};
 ghost use Rattle.rg_synth.specs.Words.{judgement};
@@ -16,9 +16,10 @@ use crate::answer::{Answer, Stop, file_refusal, said};
 use crate::judged_texts::{accepted_text, defect_text, fault_text};
 use crate::status::{Fault, Status};
 use crate::system_file::{MOST_BYTES, SystemStop, read_system};
-use rg_cert::{CertFault, Certificate, read};
+use rg_cert::{CertFault, read};
 use rg_lts::Lts;
 use rg_ports::{ReadStop, Shelf, read_all};
+use rg_reasons::Certificate;
 use rg_verify::{Verdict, verify};
 use std::alloc::{AllocError, Global};
 
