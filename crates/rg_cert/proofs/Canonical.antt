@@ -15,8 +15,8 @@ use Rattle.rg_refuting.specs.Expression.{Variable, Variable.tokens_at, Variable.
 use Rattle.rg_refuting.specs.Row.{RowName, RowName.arc_row, RowName.tokens_row, RowName.cap_row, RowName.up_row, RowName.down_row, RowName.makes_row, RowName.stop_row, RowName.block_row, RowName.empty_row, RowName.full_row, RowName.keep_row, RowName.apart_row, RowName.above_row}
 use Rattle.rg_refuting.specs.Refutes as refutes
 use Rattle.rg_refuting.specs.Refutes.{NamedRow, Tree, Tree.leaf, Tree.split}
-use Rattle.rg_cert.specs.Trees.{TreeNode, leaf_node, split_node, preorder}
-use Rattle.rg_cert.specs.Certificates.{IsRowOf, IsNodeOf, IsTreeOf, IsReasonOf}
+use Rattle.rg_reasons.specs.Trees.{TreeNode, leaf_node, split_node, preorder}
+use Rattle.rg_reasons.specs.Certificates.{IsRowOf, IsNodeOf, IsTreeOf, IsReasonOf}
 use Rattle.rg_cert.specs.Text.{state_name, label_name, named_fields, variable_fields, node_lines, case_lines, reason_lines, spaced, cert_lines}
 use Rattle.rg_cert.specs.Lines.{HasFieldForm, AreAsked, LineForm, heading_line, class_line, unreachable_line, fork_line, event_line, states_line, case_line, split_tokens_line, split_effect_line, leaf_line, row_line, end_line, arc_form, tokens_form, cap_form, up_form, down_form, makes_form, stop_form, block_form, empty_form, full_form, keep_form, apart_form, above_form, fields_of, Count, one, several, Position, at_heading, at_class, at_reason, at_last, at_one_case, at_cases, at_node, at_row, at_end, to, follows}
 use Rattle.rg_cert.specs.Faults.{IsRight, Leads, LeadAll}

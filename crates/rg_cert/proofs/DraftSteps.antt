@@ -8,8 +8,8 @@ use Rattle.std.proofs.lemmas.List.Elements.{All-push, All-nil}
 use Rattle.rg_theory.specs.System.{System}
 use Rattle.rg_refuting.specs.Expression.{Variable}
 use Rattle.rg_refuting.specs.Refutes.{NamedRow}
-use Rattle.rg_cert.specs.Trees.{TreeNode, leaf_node, split_node}
-use Rattle.rg_cert.specs.Certificates.{IsRowOf, IsNodeOf}
+use Rattle.rg_reasons.specs.Trees.{TreeNode, leaf_node, split_node}
+use Rattle.rg_reasons.specs.Certificates.{IsRowOf, IsNodeOf}
 use Rattle.rg_cert.specs.Text.{named_fields, node_lines}
 use Rattle.rg_cert.specs.Lines.{word, HasFieldForm, AreAsked, LineForm, heading_line, class_line, unreachable_line, fork_line, event_line, states_line, case_line, split_tokens_line, split_effect_line, leaf_line, row_line, end_line, fields_of, Count, one, several, Position, at_heading, at_class, at_reason, at_last, at_one_case, at_cases, at_node, at_row, at_end, to, follows}
 use Rattle.rg_cert.specs.Drafts.{Head, of_unreachable, of_fork, of_event, of_states, after_head, Draft, blank, leaf_closed, case_closed, with_split, IsSplitLine, Adds, nodes_lines, draft_lines, IsCase, IsCount, IsInTree, HasCases, IsDraftAt, due_at}

@@ -1,4 +1,3 @@
-pub mod Trees
 pub mod Digits
 pub mod Cuts
 pub mod Forms

@@ -19,8 +19,8 @@ use Rattle.rg_refuting.specs.Expression.{Variable, Variable.tokens_at, Variable.
 use Rattle.rg_refuting.specs.Row.{RowName, RowName.arc_row, RowName.tokens_row, RowName.cap_row, RowName.up_row, RowName.down_row, RowName.makes_row, RowName.stop_row, RowName.block_row, RowName.empty_row, RowName.full_row, RowName.keep_row, RowName.apart_row, RowName.above_row}
 use Rattle.rg_refuting.specs.Refutes as refutes
 use Rattle.rg_refuting.specs.Refutes.{NamedRow, Tree, Tree.leaf, Tree.split}
-use Rattle.rg_cert.specs.Trees.{leaf_node, split_node, preorder}
-use Rattle.rg_cert.specs.Certificates.{Claim, IsRowNameOf, IsRowOf, IsVariableOf, IsNodeOf, IsTreeOf, IsReasonOf, IsClaimOf}
+use Rattle.rg_reasons.specs.Trees.{leaf_node, split_node, preorder}
+use Rattle.rg_reasons.specs.Certificates.{Claim, IsRowNameOf, IsRowOf, IsVariableOf, IsNodeOf, IsTreeOf, IsReasonOf, IsClaimOf}
 use Rattle.rg_cert.specs.Text.{state_name, label_name, row_fields, named_fields, variable_fields, node_lines, case_lines, reason_lines, spaced, cert_lines, text_with, cert_text}
 use Rattle.rg_cert.specs.Spells.{Spells}
 use Rattle.rg_cert.specs.Numerals.{IsNumeral}

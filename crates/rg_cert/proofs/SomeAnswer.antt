@@ -16,8 +16,8 @@ use Rattle.rg_refuting.specs.Refutes as refutes
 use Rattle.rg_refuting.specs.Refutes.{NamedRow, Tree}
 use Rattle.rg_cert.specs.declared.fault.CertFault.{CertFault}
 use Rattle.rg_cert.specs.declared.fault.CertFault.TheVariants.{Expected, UnknownName, NumberPasses, TreeShort, TreeLong}
-use Rattle.rg_cert.specs.Trees.{TreeNode}
-use Rattle.rg_cert.specs.Certificates.{Claim, IsMultiplierInRange, IsSplitInRange, IsRowOf, IsNodeOf, IsTreeOf, IsReasonOf}
+use Rattle.rg_reasons.specs.Trees.{TreeNode}
+use Rattle.rg_reasons.specs.Certificates.{Claim, IsMultiplierInRange, IsSplitInRange, IsRowOf, IsNodeOf, IsTreeOf, IsReasonOf}
 use Rattle.rg_cert.specs.Text.{named_fields, node_lines, case_lines, reason_lines, spaced, cert_lines, text_with}
 use Rattle.rg_cert.specs.Spells.{Spells}
 use Rattle.rg_cert.specs.Lines.{multiplier, split_value, depth, word, state, label, number, HasFieldForm, IsFieldInRange, IsFieldKnown, AreAsked, RowForm, arc_form, tokens_form, cap_form, up_form, down_form, makes_form, stop_form, block_form, empty_form, full_form, keep_form, apart_form, above_form, LineForm, heading_line, class_line, unreachable_line, fork_line, event_line, states_line, case_line, split_tokens_line, split_effect_line, leaf_line, row_line, end_line, fields_of, HasForm, Position, at_heading, at_class, at_reason, at_last, at_one_case, at_cases, at_node, at_row, at_end, Next, to, short, long, refused, follows}

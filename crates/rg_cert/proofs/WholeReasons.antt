@@ -3,15 +3,15 @@ use Rattle.std.proofs.Common.{◌≡◌, List, [], ◌∷◌, ◌++◌, map, cod
 use Rattle.std.specs.List.{flat_map}
 use Rattle.std.proofs.lemmas.List.Elements.{All-nil, All-cons, All-head, All-tail}
 use Rattle.rg_theory.specs.System.{System}
-use Rattle.rg_cert.specs.declared.certificate.Case.{Case}
-use Rattle.rg_cert.specs.declared.certificate.Reason.{Reason}
-use Rattle.rg_cert.specs.declared.certificate.Reason.TheVariants.{Unreachable, Fork, Event, States}
-use Rattle.rg_cert.specs.Trees.{TreeNode, IsWholeTree, tree_of, nodes_of}
-use Rattle.rg_cert.specs.Certificates.{case_tree, reason_of, IsWhole, HasWholeCases, IsNodeOf, IsTreeOf, IsReasonOf}
+use Rattle.rg_reasons.specs.declared.certificate.Case.{Case}
+use Rattle.rg_reasons.specs.declared.certificate.Reason.{Reason}
+use Rattle.rg_reasons.specs.declared.certificate.Reason.TheVariants.{Unreachable, Fork, Event, States}
+use Rattle.rg_reasons.specs.Trees.{TreeNode, IsWholeTree, tree_of, nodes_of}
+use Rattle.rg_reasons.specs.Certificates.{case_tree, reason_of, IsWhole, HasWholeCases, IsNodeOf, IsTreeOf, IsReasonOf}
 use Rattle.rg_cert.specs.Text.{node_lines, case_lines, reason_lines}
 use Rattle.rg_cert.specs.Drafts.{head_fields, IsHeadOf, nodes_lines, IsCase}
 use Rattle.rg_cert.specs.View.{reason_head, reason_cases}
-use Rattle.rg_cert.proofs.Trees.{whole_is}
+use Rattle.rg_reasons.proofs.Trees.{whole_is}
 
 -- the nodes of a case are those of its tree
 pub whole_nodes : (lts : System) (nodes : List TreeNode) → IsCase lts nodes → IsWholeTree nodes (tree_of nodes)

@@ -5,8 +5,8 @@ use Rattle.std.specs.Fmt.{signed_decimal}
 use Rattle.rg_theory.specs.System.{System, states, labels}
 use Rattle.rg_refuting.specs.Expression.{Variable}
 use Rattle.rg_refuting.specs.Refutes.{NamedRow, Tree}
-use Rattle.rg_cert.specs.Trees.{TreeNode, leaf_node, split_node, preorder, IsWholeTree}
-use Rattle.rg_cert.specs.Certificates.{IsRowOf, IsVariableOf, IsSplitInRange, IsNodeOf}
+use Rattle.rg_reasons.specs.Trees.{TreeNode, leaf_node, split_node, preorder, IsWholeTree}
+use Rattle.rg_reasons.specs.Certificates.{IsRowOf, IsVariableOf, IsSplitInRange, IsNodeOf}
 use Rattle.rg_text.specs.Line.{fed}
 use Rattle.rg_cert.specs.Text.{spaced, state_name, label_name, named_fields, variable_fields, node_lines}
 use Rattle.rg_cert.specs.declared.fault.CertFault.{CertFault}

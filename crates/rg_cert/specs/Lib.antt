@@ -1,5 +1,3 @@
-pub mod Trees
-pub mod Certificates
 pub mod Text
 pub mod Spells
 pub mod Numerals

@@ -11,8 +11,8 @@ use Rattle.rg_refuting.specs.Expression.{Variable, Variable.tokens_at, Variable.
 use Rattle.rg_refuting.specs.Row as row
 use Rattle.rg_refuting.specs.Refutes as refutes
 use Rattle.rg_refuting.specs.Refutes.{NamedRow, Tree}
-use Rattle.rg_cert.specs.Trees.{TreeNode, TreeNode.leaf_node, TreeNode.split_node, preorder}
-use Rattle.rg_cert.specs.Certificates.{Claim}
+use Rattle.rg_reasons.specs.Trees.{TreeNode, TreeNode.leaf_node, TreeNode.split_node, preorder}
+use Rattle.rg_reasons.specs.Certificates.{Claim}
 
 abbrev pub state_name : System → ℕ → List ℕ
 state_name lts s = slice_index_or lts.state_names s []

@@ -2,20 +2,20 @@
 ghost use Rattle.std.specs.Prelude.{◌≡◌, ◌<◌, ◌++◌, ◌∷◌, [], length, slice_index_or};
 ghost use Rattle.std.specs.Fmt.{signed_decimal};
 ghost use Rattle.rg_theory.specs.System.{states, labels};
-ghost use Rattle.rg_cert.specs.Trees.{row_name_of, named_row, variable_of};
-ghost use Rattle.rg_cert.specs.Certificates.{IsMultiplierInRange, IsSplitInRange, IsRowNameOf, IsRowOf};
+ghost use Rattle.rg_reasons.specs.Trees.{row_name_of, named_row, variable_of};
+ghost use Rattle.rg_reasons.specs.Certificates.{IsMultiplierInRange, IsSplitInRange, IsRowNameOf, IsRowOf};
 ghost use Rattle.rg_cert.specs.Text.{state_name, label_name, row_fields, named_fields};
 ghost use Rattle.rg_cert.specs.Lines.{Position.at_reason, Next.to, follows, Field.state as state_field, Field.label as label_field, Field.number as number_field, Range.multiplier as multiplier_range, Range.split_value as split_range, Range.depth as depth_range};
 ghost use Rattle.rg_cert.specs.Drafts.{IsGoodAt, IsGood, IsSplitLine, head_fields, IsHeadOf, IsHeadForm, after_head};
 ghost use Rattle.rg_cert.specs.View.{texts_in, line_form_in, head_in};
 ghost use Rattle.rg_cert.specs.declared.table.LineForm.TheVariants as of_line;
 
-use crate::certificate::{Form, RowName};
 use crate::draft::Head;
 use crate::names::{label_of, state_of};
 use crate::numerals::{depth, multiplier, split_value};
 use crate::table::{LineForm, RowForm};
 use rg_lts::Lts;
+use rg_reasons::{Form, RowName};
 use rg_theory::Arc;
 
 // A field.

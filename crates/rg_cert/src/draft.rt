@@ -2,15 +2,15 @@
 ghost use Rattle.std.specs.Prelude.{◌≡◌, OnOk};
 ghost use Rattle.rg_cert.specs.Drafts.{after_head, blank, leaf_closed, case_closed, with_split, IsGood, AddsRow, Adds};
 ghost use Rattle.rg_cert.specs.View.{texts_in, line_form_in, position_in, IsSmall, head_in, draft_in};
-ghost use Rattle.rg_cert.specs.Trees.{variable_of};
+ghost use Rattle.rg_reasons.specs.Trees.{variable_of};
 ghost use Rattle.rg_cert.specs.declared.table.LineForm.TheVariants as of_line;
 
-use crate::certificate::{Case, Form, Node, RowName};
 use crate::decode::{effect_split, row_of, tokens_split};
 use crate::position::Position;
 use crate::table::{LineForm, RowForm};
 use rg_lts::Lts;
 use rg_memory::NoMemory;
+use rg_reasons::{Case, Form, Node, RowName};
 use std::alloc::Global;
 use std::mem;
 

@@ -1,7 +1,6 @@
 //! Certificates that a system has no net, and their text.
 #![tactic(auto)]
 
-mod certificate;
 mod decode;
 mod draft;
 mod fault;
@@ -15,10 +14,9 @@ mod printing;
 mod reading;
 mod table;
 
-pub use certificate::{Case, Certificate, Form, Node, Reason, RowName};
 pub use fault::CertFault;
 pub use laws::{certificate_is_told, lines_go_on, one_answer};
 pub use printing::print;
 pub use reading::read;
 pub use rg_memory::NoMemory;
-pub use rg_theory::Problem;
+pub use rg_reasons::{Case, Certificate, Form, Node, Problem, Reason, RowName};

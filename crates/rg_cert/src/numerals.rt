@@ -4,7 +4,7 @@ ghost use Rattle.std.specs.List.{list_all};
 ghost use Rattle.std.specs.Char.{is_ascii_digit};
 ghost use Rattle.std.specs.Fmt.{signed_decimal};
 ghost use Rattle.rg_cert.specs.Numerals.{IsPlain, IsNumeral};
-ghost use Rattle.rg_cert.specs.Certificates.{IsMultiplierInRange, IsSplitInRange};
+ghost use Rattle.rg_reasons.specs.Certificates.{IsMultiplierInRange, IsSplitInRange};
 ghost use Rattle.rg_cert.specs.Lines.{IsFieldInRange, Field.number as number_field, Range.multiplier as multiplier_range, Range.split_value as split_range, Range.depth as depth_range};
 
 use std::str;

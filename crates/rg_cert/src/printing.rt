@@ -4,18 +4,18 @@ ghost use Rattle.std.specs.List.{flat_map};
 ghost use Rattle.std.specs.Fmt.{signed_decimal};
 ghost use Rattle.rg_text.specs.Line.{fed};
 ghost use Rattle.rg_theory.specs.System.{states, labels};
-ghost use Rattle.rg_cert.specs.Trees.{TreeNode.split_node, row_name_of, variable_of, named_row, node_of, nodes_of};
-ghost use Rattle.rg_cert.specs.Certificates.{claim_of, IsCertificateOf, IsRowNameOf, IsVariableOf, IsRowOf, IsNodeOf};
+ghost use Rattle.rg_reasons.specs.Trees.{TreeNode.split_node, row_name_of, variable_of, named_row, node_of, nodes_of};
+ghost use Rattle.rg_reasons.specs.Certificates.{claim_of, IsCertificateOf, IsRowNameOf, IsVariableOf, IsRowOf, IsNodeOf};
 ghost use Rattle.rg_cert.specs.Text.{state_name, label_name, row_fields, named_fields, variable_fields, node_lines, spaced, cert_text};
 ghost use Rattle.rg_cert.specs.Spells.{Spells};
 ghost use Rattle.rg_cert.specs.Drafts.{head_fields, IsHeadOf, nodes_lines, IsCase};
 ghost use Rattle.rg_cert.specs.View.{reason_head, reason_cases};
 
-use crate::certificate::{Case, Certificate, Form, Node, Reason, RowName};
 use itoa::Buffer;
 use rg_lts::Lts;
 use rg_memory::NoMemory;
 use rg_net::class_text;
+use rg_reasons::{Case, Certificate, Form, Node, Reason, RowName};
 use std::alloc::Global;
 
 /// The text of a certificate for a system: the lines `certificate 1`, `class` with the class, the reason with the

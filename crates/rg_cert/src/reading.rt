@@ -3,8 +3,8 @@ ghost use Rattle.std.specs.Prelude.{◌≡◌, ◌≢◌, ◌⊎◌, ◌≤◌, 
 ghost use Rattle.rg_text.specs.Limits.{most_bytes};
 ghost use Rattle.rg_theory.specs.declared.Class.{Class};
 ghost use Rattle.rg_theory.specs.ClassWords.{NamesClass};
-ghost use Rattle.rg_cert.specs.Trees.{nodes_of};
-ghost use Rattle.rg_cert.specs.Certificates.{claim_of, IsCertificateOf};
+ghost use Rattle.rg_reasons.specs.Trees.{nodes_of};
+ghost use Rattle.rg_reasons.specs.Certificates.{claim_of, IsCertificateOf};
 ghost use Rattle.rg_cert.specs.Spells.{Spells};
 ghost use Rattle.rg_cert.specs.Lines.{Position.at_heading, Position.at_class, Position.at_reason};
 ghost use Rattle.rg_cert.specs.Faults.{BreaksAt, FaultFrom, FirstFault};
@@ -12,7 +12,6 @@ ghost use Rattle.rg_cert.specs.Drafts.{IsHeadOf, HasCases, AreCasesOf, after_hea
 ghost use Rattle.rg_cert.specs.View.{head_in, reason_head, reason_cases};
 ghost use Rattle.rg_cert.specs.declared.fault.CertFault.TheVariants as fault;
 
-use crate::certificate::{Case, Certificate, Reason};
 use crate::decode::head_of;
 use crate::draft::{Draft, Head};
 use crate::fault::CertFault;
@@ -20,6 +19,7 @@ use crate::good_line::good_line;
 use crate::lines::first_line;
 use crate::position::Position;
 use rg_lts::Lts;
+use rg_reasons::{Case, Certificate, Reason};
 use rg_theory::Class;
 use std::alloc::Global;
 use std::str;

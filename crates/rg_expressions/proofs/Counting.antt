@@ -9,8 +9,8 @@ use Rattle.rg_integers.specs.Range.{InRange}
 use Rattle.rg_integers.proofs.Ring.{one-mul}
 use Rattle.rg_refuting.specs.Expression.{Variable, same_variable, coefficient_in}
 use Rattle.rg_folds.specs.Rewriting.{variable_start, variable_count, start_of, count_of}
-use Rattle.rg_cert.specs.Trees.{variable_of}
-use Rattle.rg_cert.specs.declared.certificate.Form.{Form}
+use Rattle.rg_reasons.specs.Trees.{variable_of}
+use Rattle.rg_reasons.specs.declared.certificate.Form.{Form}
 use Rattle.rg_expressions.specs.declared.term.Term.{Term}
 use Rattle.rg_expressions.specs.declared.term.Term.TheVariants.{Plus, Minus}
 use Rattle.rg_expressions.specs.View.{term_of, IsVariableWithin, IsTermWithin}

@@ -2,8 +2,8 @@
 use Rattle.std.specs.Prelude.{ℕ, ◌<◌, Bool, ℤ, map}
 use Rattle.rg_refuting.specs.Expression.{Term as SumTerm, Expression as Sum, Variable, Variable.tokens_at, Variable.effect_of, plus, minus}
 use Rattle.rg_refuting.specs.Row.{Side}
-use Rattle.rg_cert.specs.declared.certificate.Form.{Form}
-use Rattle.rg_cert.specs.Trees.{variable_of}
+use Rattle.rg_reasons.specs.declared.certificate.Form.{Form}
+use Rattle.rg_reasons.specs.Trees.{variable_of}
 use Rattle.rg_expressions.specs.declared.term.Term.{Term}
 use Rattle.rg_expressions.specs.declared.term.Term.TheVariants.{Plus, Minus}
 use Rattle.rg_expressions.specs.declared.term.Expression.{Expression}

@@ -2,11 +2,11 @@
 ghost use Rattle.std.specs.Prelude.{◌≡◌, ◌<◌, ◌≤◌, ◌^◌, pos, ◌≤ℤ◌, ◌<ℤ◌, length, map, All};
 ghost use Rattle.rg_integers.specs.Range.{InRange};
 ghost use Rattle.rg_folds.specs.Rewriting.{variable_start, variable_count, start_of, count_of};
-ghost use Rattle.rg_cert.specs.Trees.{variable_of};
+ghost use Rattle.rg_reasons.specs.Trees.{variable_of};
 ghost use Rattle.rg_expressions.specs.View.{term_of, IsVariableWithin, IsTermWithin};
 
 use crate::term::Term::{self, Minus, Plus};
-use rg_cert::Form;
+use rg_reasons::Form;
 use rg_spanning::Tree;
 
 /// How often Start, the tokens of the initial state, counts in the terms: once in the tokens at each state, and

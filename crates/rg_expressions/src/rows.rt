@@ -4,15 +4,15 @@ ghost use Rattle.rg_theory.specs.System.{labels};
 ghost use Rattle.rg_integers.specs.Range.{InRange};
 ghost use Rattle.rg_refuting.specs.Expression.{sum_of};
 ghost use Rattle.rg_refuting.specs.Row.{row_expression, shared_expression, event_expression, state_expression, side_expression};
-ghost use Rattle.rg_cert.specs.Trees.{row_name_of};
+ghost use Rattle.rg_reasons.specs.Trees.{row_name_of};
 ghost use Rattle.rg_expressions.specs.View.{term_of, expression_of, side_of};
 
 use crate::case::ProblemCase;
 use crate::term::Term::{Minus, Plus};
 use crate::term::{Expression, Term};
-use rg_cert::Form::{self, Effect, Tokens};
-use rg_cert::RowName;
 use rg_lts::Lts;
+use rg_reasons::Form::{self, Effect, Tokens};
+use rg_reasons::RowName;
 use rg_theory::{Class, Problem};
 use std::alloc::{AllocError, Global};
 

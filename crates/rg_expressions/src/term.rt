@@ -2,7 +2,7 @@
 ghost use Rattle.std.specs.Prelude.{◌≤◌, length};
 ghost use Rattle.rg_integers.specs.Range.{InRange};
 
-use rg_cert::Form;
+use rg_reasons::Form;
 
 /// The tokens at a state or the effect of a label, added or taken away.
 #[derive(Clone, Copy)]

@@ -3,9 +3,9 @@ ghost use Rattle.rg_spanning.specs.Spanning.{IsTreeOf};
 
 use crate::Term::{self, Minus, Plus};
 use crate::{ProblemCase, count, expression, start};
-use rg_cert::Form::{Effect, Tokens};
-use rg_cert::RowName;
 use rg_lts::{BuildFault, Lts, LtsBuilder};
+use rg_reasons::Form::{Effect, Tokens};
+use rg_reasons::RowName;
 use rg_spanning::Tree;
 use rg_theory::Class;
 use rg_theory::Problem::{Event, States};

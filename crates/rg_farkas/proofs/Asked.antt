@@ -14,9 +14,9 @@ use Rattle.rg_linear.specs.Cycle.{CycleBasis}
 use Rattle.rg_refuting.specs.Expression.{Variable, Variable.tokens_at, Variable.effect_of, Term, Expression, plus, minus, sum_of}
 use Rattle.rg_refuting.specs.Row.{Side, RowName, RowName.arc_row, RowName.tokens_row, RowName.cap_row, RowName.up_row, RowName.down_row, RowName.makes_row, RowName.stop_row, RowName.block_row, RowName.empty_row, RowName.full_row, RowName.keep_row, RowName.apart_row, RowName.above_row, RowStands, side_expression, shared_expression, event_expression, state_expression, apart_expression, row_expression, order_of, cases_of}
 use Rattle.rg_refuting.specs.Refutes.{NamedRow, IsAsked}
-use Rattle.rg_cert.specs.declared.certificate.RowName.{RowName as CodeName}
-use Rattle.rg_cert.specs.Trees.{named_row}
-use Rattle.rg_cert.specs.Certificates.{IsVariableOf, IsRowNameOf, IsRowOf}
+use Rattle.rg_reasons.specs.declared.certificate.RowName.{RowName as CodeName}
+use Rattle.rg_reasons.specs.Trees.{named_row}
+use Rattle.rg_reasons.specs.Certificates.{IsVariableOf, IsRowNameOf, IsRowOf}
 use Rattle.rg_folds.specs.Spreading.{Share, arc_name, named_from, multiplier_among, chord_arcs, leaf_fold}
 use Rattle.rg_farkas.specs.Leaves.{share_of}
 use Rattle.rg_farkas.specs.View.{IsTermWithin, AreRowsWithin}

@@ -16,8 +16,8 @@ use Rattle.rg_fraction.specs.declared.fraction.Fraction.{Fraction}
 use Rattle.rg_refuting.specs.Expression.{Expression}
 use Rattle.rg_refuting.specs.Row.{RowName}
 use Rattle.rg_refuting.specs.Refutes.{NamedRow}
-use Rattle.rg_cert.specs.declared.certificate.RowName.{RowName as CodeName}
-use Rattle.rg_cert.specs.Trees.{named_row}
+use Rattle.rg_reasons.specs.declared.certificate.RowName.{RowName as CodeName}
+use Rattle.rg_reasons.specs.Trees.{named_row}
 use Rattle.rg_folds.specs.Fold.{each, joined, add, whole, Ratio, ratio_of}
 use Rattle.rg_folds.specs.Chords.{IsBasis, chord_vectors, chord_at}
 use Rattle.rg_folds.specs.Rewriting.{is_in, dependent_labels, scaled_fold, Scaled as ScaledNumbers}

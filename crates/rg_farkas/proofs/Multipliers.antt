@@ -39,7 +39,7 @@ use Rattle.rg_meaning.proofs.Names.{names_stand, names_labels}
 use Rattle.rg_meaning.proofs.CaseRows.{name_no_tokens}
 use Rattle.rg_meaning.proofs.Shifts.{same_value}
 use Rattle.rg_meaning.proofs.ColumnValues.{row_sum}
-use Rattle.rg_cert.specs.Certificates.{IsRowNameOf}
+use Rattle.rg_reasons.specs.Certificates.{IsRowNameOf}
 use Rattle.rg_farkas.specs.Refuting.{KeepsEachArc, AreShares, SharesRefute}
 use Rattle.rg_farkas.proofs.Listed.{rows_sum, zero_of}
 use Rattle.rg_farkas.proofs.Names.{IsUsed, NamesUsed, names_in_range, names_used}

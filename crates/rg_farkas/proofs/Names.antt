@@ -15,7 +15,7 @@ use Rattle.rg_folds.specs.Shown.{IsLive}
 use Rattle.rg_meaning.proofs.Lists.{nothing, Contains-of_map, where_is, of_optional, in_one_of}
 use Rattle.rg_meaning.proofs.Names.{each_problem_name}
 use Rattle.rg_meaning.proofs.LeftOut.{finds_label}
-use Rattle.rg_cert.specs.Certificates.{IsRowNameOf}
+use Rattle.rg_reasons.specs.Certificates.{IsRowNameOf}
 
 -- a state, or a label with an arc
 abbrev pub IsUsed : System → Variable → Type 0

@@ -10,8 +10,8 @@ use Rattle.rg_meaning.proofs.Lists.{where_is}
 use Rattle.rg_fraction.specs.declared.fraction.Fraction.{Fraction}
 use Rattle.rg_refuting.specs.Expression.{Expression}
 use Rattle.rg_refuting.specs.Row.{RowName}
-use Rattle.rg_cert.specs.declared.certificate.RowName.{RowName as CodeName}
-use Rattle.rg_cert.specs.Trees.{row_name_of}
+use Rattle.rg_reasons.specs.declared.certificate.RowName.{RowName as CodeName}
+use Rattle.rg_reasons.specs.Trees.{row_name_of}
 use Rattle.rg_folds.specs.Fold.{ratio_of}
 use Rattle.rg_folds.specs.Rewriting.{is_in, dependent_labels}
 use Rattle.rg_folds.specs.Spreading.{pairs_of}

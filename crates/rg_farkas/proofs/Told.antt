@@ -17,14 +17,14 @@ use Rattle.rg_refuting.specs.Row.{RowName}
 use Rattle.rg_refuting.specs.Refutes.{NamedRow}
 use Rattle.rg_folds.specs.Fold.{gives, and_then, each, further, joined, whole_sum, whole_product}
 use Rattle.rg_folds.specs.Spreading.{ArcTimes, Addend, Addend.number, Addend.product, addend_fold, leaving, addends_at, tree_fold, sizes_fold, variables_of, checked_leaf}
-use Rattle.rg_cert.specs.Trees.{row_name_of, variable_of}
+use Rattle.rg_reasons.specs.Trees.{row_name_of, variable_of}
 use Rattle.rg_farkas.specs.declared.multiplied.Row.{Row}
 use Rattle.rg_expressions.specs.View.{expression_of}
 use Rattle.rg_farkas.specs.View.{named_of, Tells, row_addend, size_fold, coefficient_at, arc_times}
 use Rattle.rg_scaling.proofs.Items.{from_place, item_next, item_fails, items_end}
 use Rattle.rg_farkas.proofs.Steps.{from_neutral}
 use Rattle.rg_cycles.proofs.Folding.{behind}
-use Rattle.rg_cert.specs.declared.certificate.Form.{Form}
+use Rattle.rg_reasons.specs.declared.certificate.Form.{Form}
 
 -- ---- sums over other items
 

@@ -8,7 +8,7 @@ use Rattle.rg_refuting.specs.Expression.{Variable, Variable.tokens_at, Variable.
 use Rattle.rg_refuting.specs.Row.{RowName}
 use Rattle.rg_refuting.specs.Refutes.{NamedRow}
 use Rattle.rg_integers.specs.Sign.{size}
-use Rattle.rg_cert.specs.Trees.{row_name_of}
+use Rattle.rg_reasons.specs.Trees.{row_name_of}
 use Rattle.rg_folds.specs.Fold.{gives, and_then, joined, Ratio, whole, ratio_of, quotient, add, mul, whole_product}
 use Rattle.rg_folds.specs.Rewriting.{count_of}
 use Rattle.rg_folds.specs.Placing.{negated}

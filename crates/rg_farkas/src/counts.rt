@@ -7,17 +7,17 @@ ghost use Rattle.rg_cycles.specs.View.{labels_of, cycle_of};
 ghost use Rattle.rg_folds.specs.Fold.{ratio_of};
 ghost use Rattle.rg_folds.specs.Rewriting.{is_in, dependent_labels};
 ghost use Rattle.rg_folds.specs.Spreading.{pairs_of};
-ghost use Rattle.rg_cert.specs.Trees.{row_name_of};
+ghost use Rattle.rg_reasons.specs.Trees.{row_name_of};
 ghost use Rattle.rg_expressions.specs.View.{term_of, side_of};
 ghost use Rattle.rg_farkas.specs.Leaves.{share_of};
 ghost use Rattle.rg_farkas.specs.View.{counted_of, pair_count, label_count, IsTermWithin, AreRowsWithin};
 
 use crate::multiplied::Counted;
-use rg_cert::{Form, RowName};
 use rg_cycles::Basis;
 use rg_expressions::{ProblemCase, Term, count, expression};
 use rg_fraction::Fraction;
 use rg_lts::Lts;
+use rg_reasons::{Form, RowName};
 use rg_spanning::Tree;
 use std::alloc::{AllocError, Global};
 

@@ -10,7 +10,7 @@ ghost use Rattle.rg_folds.specs.Rewriting.{CaseSystem, rows_of};
 ghost use Rattle.rg_folds.specs.Shown.{IsLive};
 ghost use Rattle.rg_folds.specs.Spreading.{Share, share_fold};
 ghost use Rattle.rg_meaning.specs.Meaning.{IsCaseOver};
-ghost use Rattle.rg_cert.specs.Certificates.{IsRowNameOf};
+ghost use Rattle.rg_reasons.specs.Certificates.{IsRowNameOf};
 ghost use Rattle.rg_farkas.specs.Refuting.{SharesRefute};
 
 use rg_theory::{Arc, Class, Problem};

@@ -3,17 +3,17 @@ ghost use Rattle.std.specs.Prelude.{◌≡◌, ◌<◌, ◌+◌, ◌++◌, lengt
 ghost use Rattle.rg_theory.specs.System.{labels};
 ghost use Rattle.rg_integers.specs.Range.{InRange};
 ghost use Rattle.rg_refuting.specs.Row.{row_expression};
-ghost use Rattle.rg_cert.specs.Trees.{row_name_of, named_row};
+ghost use Rattle.rg_reasons.specs.Trees.{row_name_of, named_row};
 ghost use Rattle.rg_folds.specs.Spreading.{named_from, arc_name};
 ghost use Rattle.rg_expressions.specs.View.{side_of};
 ghost use Rattle.rg_farkas.specs.Leaves.{share_of};
 ghost use Rattle.rg_farkas.specs.View.{named_of, Tells};
 
 use crate::multiplied::Row;
-use rg_cert::{Form, RowName};
 use rg_expressions::{ProblemCase, expression};
 use rg_fraction::Fraction;
 use rg_lts::Lts;
+use rg_reasons::{Form, RowName};
 use rg_theory::Arc;
 use std::alloc::{AllocError, Global};
 

@@ -3,7 +3,7 @@ ghost use Rattle.std.specs.Prelude.{◌≡◌, pos, map, All, Ok, Err, IfOk, IsE
 ghost use Rattle.rg_fraction.specs.declared.term.Wide.{Wide};
 ghost use Rattle.rg_refuting.specs.Expression.{Expression};
 ghost use Rattle.rg_refuting.specs.Row.{RowName};
-ghost use Rattle.rg_cert.specs.Trees.{variable_of};
+ghost use Rattle.rg_reasons.specs.Trees.{variable_of};
 ghost use Rattle.rg_folds.specs.Fold.{further, whole_sum};
 ghost use Rattle.rg_folds.specs.Spreading.{variables_of, checked_leaf};
 ghost use Rattle.rg_cycles.specs.declared.substitution.FoldStop.TheVariants as stop;
@@ -11,10 +11,10 @@ ghost use Rattle.rg_farkas.specs.View.{named_of, Tells, size_fold, coefficient_a
 
 use crate::multiplied::Row;
 use crate::sums::{coefficient, plus, size_times};
-use rg_cert::Form;
 use rg_cycles::FoldStop;
 use rg_fraction::Wide;
 use rg_lts::Lts;
+use rg_reasons::Form;
 use std::alloc::{AllocError, Global};
 
 // Refused where for some state or label, or for the constants, the sum of the absolute values of the rows'

@@ -5,7 +5,7 @@ ghost use Rattle.rg_integers.specs.Sign.{size};
 ghost use Rattle.rg_fraction.specs.declared.term.Wide.{Wide};
 ghost use Rattle.rg_refuting.specs.Expression.{Expression, same_variable, coefficient_in};
 ghost use Rattle.rg_refuting.specs.Row.{RowName};
-ghost use Rattle.rg_cert.specs.Trees.{variable_of};
+ghost use Rattle.rg_reasons.specs.Trees.{variable_of};
 ghost use Rattle.rg_cycles.specs.declared.substitution.FoldStop.TheVariants as stop;
 ghost use Rattle.rg_folds.specs.Fold.{gives, and_then, further, whole_sum, whole_product};
 ghost use Rattle.rg_folds.specs.Spreading.{tree_fold, addend_fold, leaving};
@@ -13,10 +13,10 @@ ghost use Rattle.rg_expressions.specs.View.{term_of};
 ghost use Rattle.rg_farkas.specs.View.{named_of, Tells, arc_times, row_addend};
 
 use crate::multiplied::Row;
-use rg_cert::Form;
 use rg_cycles::FoldStop;
 use rg_expressions::Term::{self, Minus, Plus};
 use rg_fraction::Wide;
+use rg_reasons::Form;
 use rg_theory::Arc;
 use std::alloc::Global;
 

@@ -10,8 +10,8 @@ use Rattle.rg_fraction.specs.declared.term.Wide.{Wide}
 use Rattle.rg_linear.specs.Cycle.{CycleBasis}
 use Rattle.rg_refuting.specs.Expression.{Term, Expression, Variable.tokens_at, Variable.effect_of}
 use Rattle.rg_refuting.specs.Row.{RowName, row_expression}
-use Rattle.rg_cert.specs.declared.certificate.RowName.{RowName as CodeName}
-use Rattle.rg_cert.specs.Trees.{row_name_of}
+use Rattle.rg_reasons.specs.declared.certificate.RowName.{RowName as CodeName}
+use Rattle.rg_reasons.specs.Trees.{row_name_of}
 use Rattle.rg_fraction.specs.declared.fraction.Fraction.{Fraction}
 use Rattle.rg_fraction.specs.Fractions.{numerator_of, denominator_of, IsValue, IsProduct}
 use Rattle.rg_folds.proofs.FoldLemmas.{mul_step}

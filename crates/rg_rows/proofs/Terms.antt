@@ -12,8 +12,8 @@ use Rattle.rg_refuting.specs.Row.{RowName, RowName.tokens_row, RowName.makes_row
 use Rattle.rg_refuting.specs.Refutes.{IsAsked}
 use Rattle.rg_folds.specs.Rewriting.{numbers_where, used_labels, has_label, has_label_at, states_with, has_start, all_numbers, problem_rows, case_consumer, names_of}
 use Rattle.rg_cycles.proofs.Labels.{where_from}
-use Rattle.rg_cert.specs.declared.certificate.RowName.{RowName as CodeName}
-use Rattle.rg_cert.specs.Trees.{row_name_of}
+use Rattle.rg_reasons.specs.declared.certificate.RowName.{RowName as CodeName}
+use Rattle.rg_reasons.specs.Trees.{row_name_of}
 use Rattle.rg_expressions.specs.View.{IsTermWithin}
 use Rattle.rg_rows.specs.View.{AreNamesWithin}
 

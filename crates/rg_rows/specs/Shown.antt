@@ -2,7 +2,7 @@
 use Rattle.std.specs.Prelude.{◌≡◌, [], map}
 use Rattle.rg_folds.specs.Fold.{ratio_of}
 use Rattle.rg_folds.specs.Rewriting.{CaseSystem, rows_of}
-use Rattle.rg_cert.specs.Trees.{row_name_of}
+use Rattle.rg_reasons.specs.Trees.{row_name_of}
 use Rattle.rg_rows.specs.declared.named_system.NamedSystem.{NamedSystem}
 
 -- its columns and rows, their names and their factors are those of the case, which has no forms

@@ -10,7 +10,7 @@ use Rattle.rg_theory.specs.declared.Problem.{Problem}
 use Rattle.rg_refuting.specs.Row.{RowName, row_expression}
 use Rattle.rg_folds.specs.Fold.{ratio_of}
 use Rattle.rg_folds.specs.Rewriting.{has_label, has_start, numbers_where, KeptRow, row_fold}
-use Rattle.rg_cert.specs.Trees.{row_name_of}
+use Rattle.rg_reasons.specs.Trees.{row_name_of}
 use Rattle.rg_expressions.specs.View.{IsTermWithin}
 use Rattle.rg_feasible.specs.View.{linear_row}
 use Rattle.rg_rows.specs.declared.columns.Columns.{Columns}

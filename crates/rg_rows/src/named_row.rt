@@ -2,8 +2,8 @@
 ghost use Rattle.std.specs.Prelude.{All};
 ghost use Rattle.rg_integers.specs.Range.{InRange};
 
-use rg_cert::RowName;
 use rg_fraction::Fraction;
+use rg_reasons::RowName;
 
 /// A row over the columns: it is the named row times the factor, which is positive.
 #[derive(Drop)]

@@ -9,7 +9,7 @@ ghost use Rattle.rg_folds.specs.Rewriting.{CaseSystem, column_count, system_fold
 ghost use Rattle.rg_folds.specs.Fold.{each};
 ghost use Rattle.rg_cycles.specs.View.{labels_of, cycle_of};
 ghost use Rattle.rg_cycles.specs.declared.substitution.FoldStop.TheVariants as stop;
-ghost use Rattle.rg_cert.specs.Trees.{row_name_of};
+ghost use Rattle.rg_reasons.specs.Trees.{row_name_of};
 ghost use Rattle.rg_rows.specs.View.{kept_row, AreColumns, AreNamesWithin, fold_of};
 ghost use Rattle.rg_rows.specs.Shown.{ShowsCase};
 
@@ -18,12 +18,12 @@ use crate::kept::{NamedRows, firsts};
 use crate::named_row::NamedRow;
 use crate::names::names;
 use crate::rewriting::row;
-use rg_cert::RowName;
 use rg_cycles::{Basis, FoldStop};
 use rg_expressions::{ProblemCase, expression};
 use rg_feasible::System;
 use rg_fraction::Fraction;
 use rg_lts::Lts;
+use rg_reasons::RowName;
 use rg_spanning::Tree;
 use rg_theory::{Class, Problem};
 use std::alloc::Global;

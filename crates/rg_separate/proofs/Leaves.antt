@@ -21,10 +21,10 @@ use Rattle.rg_folds.specs.Rewriting.{rows_of}
 use Rattle.rg_folds.specs.Spreading.{spread_fold}
 use Rattle.rg_folds.specs.Shown.{SpreadShown}
 use Rattle.rg_cycles.specs.View.{cycle_of}
-use Rattle.rg_cert.specs.declared.certificate.Case.{Case}
-use Rattle.rg_cert.specs.declared.certificate.Node.{Node}
-use Rattle.rg_cert.specs.Trees.{TreeNode, TreeNode.leaf_node, TreeNode.split_node, preorder, tree_of, node_of}
-use Rattle.rg_cert.specs.Certificates.{IsNodeOf}
+use Rattle.rg_reasons.specs.declared.certificate.Case.{Case}
+use Rattle.rg_reasons.specs.declared.certificate.Node.{Node}
+use Rattle.rg_reasons.specs.Trees.{TreeNode, TreeNode.leaf_node, TreeNode.split_node, preorder, tree_of, node_of}
+use Rattle.rg_reasons.specs.Certificates.{IsNodeOf}
 use Rattle.rg_farkas.specs.Leaves.{IsLeafWith}
 use Rattle.rg_rows.specs.declared.named_system.NamedSystem.{NamedSystem}
 use Rattle.rg_separate.specs.declared.wide_at.Stage.TheVariants.{Spread}

@@ -14,9 +14,9 @@ use Rattle.rg_theory.specs.ClassWords.{HasBoundInRange}
 use Rattle.rg_theory.proofs.Arcs.{arc_in_range}
 use Rattle.rg_refuting.specs.Row.{cases_of}
 use Rattle.rg_refuting.specs.Refutes.{Tree, TreeRefutes}
-use Rattle.rg_cert.specs.declared.certificate.Case.{Case}
-use Rattle.rg_cert.specs.declared.certificate.Reason.TheVariants as reason
-use Rattle.rg_cert.specs.Certificates.{case_tree, IsTreeOf}
+use Rattle.rg_reasons.specs.declared.certificate.Case.{Case}
+use Rattle.rg_reasons.specs.declared.certificate.Reason.TheVariants as reason
+use Rattle.rg_reasons.specs.Certificates.{case_tree, IsTreeOf}
 use Rattle.rg_separate.specs.Deciding.{RefutesCase, IsGoodReason}
 
 -- a class without a bound

@@ -20,8 +20,8 @@ use Rattle.rg_folds.specs.Rewriting.{CaseSystem, rows_of}
 use Rattle.rg_folds.specs.Spreading.{Share, share_fold, kept_at, name_of, side_at, factor_of}
 use Rattle.rg_folds.proofs.FoldLemmas.{ratio_one, new_step, mul_step}
 use Rattle.rg_folds.proofs.Scaling.{whole_ratio}
-use Rattle.rg_cert.specs.declared.certificate.RowName.{RowName as NameOfCode}
-use Rattle.rg_cert.specs.Trees.{row_name_of}
+use Rattle.rg_reasons.specs.declared.certificate.RowName.{RowName as NameOfCode}
+use Rattle.rg_reasons.specs.Trees.{row_name_of}
 use Rattle.rg_feasible.specs.View.{DescentState}
 use Rattle.rg_linear.specs.System.{LinearSystem}
 use Rattle.rg_feasible.specs.Settling.{IsRefutation, multiplier_with}

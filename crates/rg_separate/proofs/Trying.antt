@@ -7,7 +7,7 @@ use Rattle.rg_theory.specs.System.{System}
 use Rattle.rg_theory.specs.declared.Class.{Class}
 use Rattle.rg_theory.specs.declared.Problem.{Problem}
 use Rattle.rg_folds.specs.Shown.{ShownWide}
-use Rattle.rg_cert.specs.declared.certificate.Case.{Case}
+use Rattle.rg_reasons.specs.declared.certificate.Case.{Case}
 use Rattle.rg_separate.specs.declared.problem.Tried.{Tried}
 use Rattle.rg_separate.specs.declared.wide_at.WideAt.{WideAt}
 use Rattle.rg_separate.specs.View.{shown_of}

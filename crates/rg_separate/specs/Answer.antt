@@ -7,10 +7,10 @@ use Rattle.rg_theory.specs.Region.{RegionIn}
 use Rattle.rg_theory.specs.Problem.{SeparateAll}
 use Rattle.rg_net.specs.Range.{largest, IsNetInRange}
 use Rattle.rg_net.specs.declared.net.Place.{Place as PlaceOfCode}
-use Rattle.rg_cert.specs.declared.certificate.Certificate.{Certificate}
+use Rattle.rg_reasons.specs.declared.certificate.Certificate.{Certificate}
 use Rattle.rg_net.specs.Shown.{shown_place}
 use Rattle.rg_refuting.specs.Refutes.{Accepts}
-use Rattle.rg_cert.specs.Certificates.{reason_of, IsCertificateOf}
+use Rattle.rg_reasons.specs.Certificates.{reason_of, IsCertificateOf}
 use Rattle.rg_folds.specs.Shown.{ShownWide}
 use Rattle.rg_separate.specs.View.{shown_of}
 use Rattle.rg_separate.specs.declared.wide_at.WideAt.{WideAt}

@@ -17,7 +17,7 @@ use Rattle.rg_feasible.specs.Settling.{IsDictionaryOf, IsBasicPoint, IsFeasibleA
 use Rattle.rg_feasible.specs.declared.settled.Settled.TheVariants.{Point, Refuted}
 use Rattle.rg_rows.specs.Shown.{ShowsCase}
 use Rattle.rg_rows.specs.declared.named_system.NamedSystem.{NamedSystem}
-use Rattle.rg_cert.specs.declared.certificate.RowName.{RowName}
+use Rattle.rg_reasons.specs.declared.certificate.RowName.{RowName}
 use Rattle.rg_farkas.specs.Leaves.{share_of}
 use Rattle.rg_separate.specs.declared.setting.ProblemCase.{ProblemCase}
 use Rattle.rg_separate.specs.Keeping.{IsSetting}

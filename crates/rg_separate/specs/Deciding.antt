@@ -5,9 +5,9 @@ use Rattle.rg_theory.specs.declared.Class.{Class}
 use Rattle.rg_theory.specs.declared.Problem.{Problem}
 use Rattle.rg_refuting.specs.Refutes.{TreeRefutes, Accepts}
 use Rattle.rg_folds.specs.Shown.{ShownWide}
-use Rattle.rg_cert.specs.declared.certificate.Case.{Case}
-use Rattle.rg_cert.specs.declared.certificate.Reason.{Reason}
-use Rattle.rg_cert.specs.Certificates.{case_tree, reason_of, IsWhole, IsTreeOf, IsCertificateOf}
+use Rattle.rg_reasons.specs.declared.certificate.Case.{Case}
+use Rattle.rg_reasons.specs.declared.certificate.Reason.{Reason}
+use Rattle.rg_reasons.specs.Certificates.{case_tree, reason_of, IsWhole, IsTreeOf, IsCertificateOf}
 use Rattle.rg_places.specs.RegionPlaces.{IsRegionPlace, PlaceSeparates}
 use Rattle.rg_separate.specs.declared.case.CaseAnswer.{CaseAnswer}
 use Rattle.rg_separate.specs.declared.case.CaseAnswer.TheVariants as answer

@@ -9,11 +9,11 @@ use crate::placing::placed;
 use crate::refuting::refuted;
 use crate::setting::{ProblemCase, Setting};
 use crate::wide_at::{Stage, WideAt};
-use rg_cert::Case;
 use rg_cycles::FoldStop;
 use rg_feasible::{Dictionary, PivotWide, Settled};
 use rg_fraction::Wide;
 use rg_places::RegionPlace;
+use rg_reasons::Case;
 use rg_rows::{NamedSystem, system};
 use std::alloc::{AllocError, Global};
 

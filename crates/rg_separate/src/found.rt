@@ -9,8 +9,8 @@ ghost use Rattle.rg_separate.specs.Deciding.{EndingTells};
 use crate::problem::{ProblemAnswer, solve_problem};
 use crate::setting::Setting;
 use crate::wide_at::WideAt;
-use rg_cert::Reason;
 use rg_places::RegionPlace;
+use rg_reasons::Reason;
 use rg_theory::Problem;
 use std::alloc::{AllocError, AllocFailed, Global};
 

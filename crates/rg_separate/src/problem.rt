@@ -1,7 +1,7 @@
 //! One problem, by its cases.
 ghost use Rattle.std.specs.Prelude.{◌≡◌, ℕ, length, Some, None, unwrap_or, slice_get, IfOk};
 ghost use Rattle.rg_refuting.specs.Row.{cases_of};
-ghost use Rattle.rg_cert.specs.declared.certificate.Case.{Case};
+ghost use Rattle.rg_reasons.specs.declared.certificate.Case.{Case};
 ghost use Rattle.rg_theory.specs.System.{IsAllReachable};
 ghost use Rattle.rg_theory.specs.Problem.{IsProblem};
 ghost use Rattle.rg_folds.specs.Shown.{IsLive};
@@ -11,9 +11,9 @@ ghost use Rattle.rg_separate.specs.Deciding.{RefutesCase, AreTried, IsGoodReason
 use crate::case::{CaseAnswer, solve_case};
 use crate::setting::{ProblemCase, Setting};
 use crate::wide_at::WideAt;
-use rg_cert::{Case, Reason};
 use rg_lts::Lts;
 use rg_places::RegionPlace;
+use rg_reasons::{Case, Reason};
 use rg_rows::cases;
 use rg_theory::{Class, Problem};
 use std::alloc::{AllocError, Global};

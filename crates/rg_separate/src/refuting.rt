@@ -14,11 +14,11 @@ ghost use Rattle.rg_separate.specs.Deciding.{CaseTells};
 use crate::case::{CaseAnswer, passed};
 use crate::setting::{ProblemCase, Setting};
 use crate::wide_at::Stage;
-use rg_cert::{Case, Node, RowName};
 use rg_cycles::FoldStop;
 use rg_farkas::spread;
 use rg_feasible::Dictionary;
 use rg_fraction::{Fraction, Wide};
+use rg_reasons::{Case, Node, RowName};
 use rg_rows::NamedSystem;
 use std::alloc::{AllocError, Global};
 

@@ -2,9 +2,9 @@
 ghost use Rattle.rg_separate.specs.Answer.{IsUnbranched};
 
 use crate::{Separation, separate};
-use rg_cert::RowName::{self, Apart, Block, Makes, Stop, Tokens};
-use rg_cert::{Case, Node, Reason};
 use rg_lts::{BuildFault, Lts, LtsBuilder, is_name};
+use rg_reasons::RowName::{self, Apart, Block, Makes, Stop, Tokens};
+use rg_reasons::{Case, Node, Reason};
 use rg_spanning::Tree;
 use rg_theory::Class;
 use std::alloc::Global;

@@ -1,7 +1,7 @@
 //! Where a number passes.
 
-use rg_cert::Form;
 use rg_fraction::Wide;
+use rg_reasons::Form;
 use rg_theory::Problem;
 
 /// The part of the work in which a term is out of range.

@@ -5,7 +5,7 @@ use Rattle.rg_theory.specs.declared.Class.{Class}
 use Rattle.rg_theory.specs.ClassWords.{class_text}
 use Rattle.rg_cert.specs.declared.fault.CertFault.{CertFault}
 use Rattle.rg_cert.specs.declared.fault.CertFault.TheVariants.{Expected, UnknownName, NumberPasses, TreeShort, TreeLong, NoMemory}
-use Rattle.rg_cert.specs.Certificates.{IsVariableOf}
+use Rattle.rg_reasons.specs.Certificates.{IsVariableOf}
 use Rattle.rg_cert.specs.Text.{state_name, label_name}
 use Rattle.rg_verify.specs.declared.verdict.Variable.{Variable}
 use Rattle.rg_verify.specs.declared.verdict.Variable.TheVariants.{Tokens, Effect}

@@ -5,7 +5,7 @@ use Rattle.rg_theory.specs.System.{System}
 use Rattle.rg_theory.specs.declared.Class.{Class}
 use Rattle.rg_theory.specs.Class.{NoNet}
 use Rattle.rg_theory.specs.ClassWords.{HasBoundInRange}
-use Rattle.rg_cert.specs.Certificates.{Claim}
+use Rattle.rg_reasons.specs.Certificates.{Claim}
 use Rattle.rg_cert.specs.Spells.{Spells}
 use Rattle.rg_synth.specs.Words.{Asked, net, judgement, system_file}
 use Rattle.rg_synth.specs.Given.{IsUnread, IsNoSystem, IsSystemFile}

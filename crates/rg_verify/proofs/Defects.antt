@@ -7,7 +7,7 @@ use Rattle.rg_refuting.specs.Expression as linear
 use Rattle.rg_refuting.specs.Expression.{Variable.tokens_at, Variable.effect_of}
 use Rattle.rg_refuting.specs.Row.{RowName}
 use Rattle.rg_refuting.specs.Refutes.{NamedRow, IsSmall, LeafRefutes}
-use Rattle.rg_cert.specs.Certificates.{IsVariableOf, IsRowOf}
+use Rattle.rg_reasons.specs.Certificates.{IsVariableOf, IsRowOf}
 use Rattle.rg_verify.specs.declared.verdict.Defect.{Defect}
 use Rattle.rg_verify.specs.declared.verdict.Defect.TheVariants.{WrongRow, NotPositive, LeftOver, NoContradiction, SumPasses, CaseMissing, NotSo}
 use Rattle.rg_verify.specs.declared.sums.Sums.{Sums}

@@ -9,8 +9,8 @@ use Rattle.rg_theory.specs.System.{System}
 use Rattle.rg_refuting.specs.Expression as linear
 use Rattle.rg_refuting.specs.Expression.{same_variable, coefficient_in, plus, minus, sum_of}
 use Rattle.rg_refuting.specs.Row.{side_expression}
-use Rattle.rg_cert.specs.Certificates.{IsVariableOf}
-use Rattle.rg_cert.specs.Trees as cert
+use Rattle.rg_reasons.specs.Certificates.{IsVariableOf}
+use Rattle.rg_reasons.specs.Trees as cert
 use Rattle.rg_verify.specs.declared.expression.Term.TheVariants.{Plus, Minus}
 use Rattle.rg_verify.specs.declared.expression.Expression.{Expression}
 use Rattle.rg_verify.specs.declared.side.Side.{Side}

@@ -10,10 +10,10 @@ use Rattle.rg_refuting.specs.Expression.{coefficient_in}
 use Rattle.rg_refuting.specs.Row.{RowName}
 use Rattle.rg_refuting.specs.Refutes.{NamedRow, IsSmall}
 use Rattle.rg_integers.specs.Range.{InRange}
-use Rattle.rg_cert.specs.Certificates.{IsRowOf}
-use Rattle.rg_cert.specs.Trees.{named_row}
-use Rattle.rg_cert.specs.declared.certificate.RowName.{RowName as Row}
-use Rattle.rg_cert.specs.declared.certificate.RowName.TheVariants.{Arc}
+use Rattle.rg_reasons.specs.Certificates.{IsRowOf}
+use Rattle.rg_reasons.specs.Trees.{named_row}
+use Rattle.rg_reasons.specs.declared.certificate.RowName.{RowName as Row}
+use Rattle.rg_reasons.specs.declared.certificate.RowName.TheVariants.{Arc}
 use Rattle.rg_verify.specs.declared.expression.Expression.{Expression}
 use Rattle.rg_verify.specs.declared.sums.Sums.{Sums}
 use Rattle.rg_verify.proofs.Places.{image_at}

@@ -12,10 +12,10 @@ use Rattle.rg_theory.specs.declared.Problem.TheVariants.{Event, States}
 use Rattle.rg_refuting.specs.Row.{HasArcAt, cases_of}
 use Rattle.rg_refuting.specs.Refutes.{Tree, TreeRefutes, IsAsked, IsRefuted}
 use Rattle.rg_refuting.proofs.Accepted.{accepted}
-use Rattle.rg_cert.specs.declared.certificate.Case.{Case}
-use Rattle.rg_cert.specs.declared.certificate.Certificate.{Certificate}
-use Rattle.rg_cert.specs.declared.certificate.Reason.TheVariants as reason
-use Rattle.rg_cert.specs.Certificates.{claim_of, IsCertificateOf, IsTreeOf, case_tree, reason_of}
+use Rattle.rg_reasons.specs.declared.certificate.Case.{Case}
+use Rattle.rg_reasons.specs.declared.certificate.Certificate.{Certificate}
+use Rattle.rg_reasons.specs.declared.certificate.Reason.TheVariants as reason
+use Rattle.rg_reasons.specs.Certificates.{claim_of, IsCertificateOf, IsTreeOf, case_tree, reason_of}
 use Rattle.rg_verify.specs.declared.verdict.Verdict.{Verdict}
 use Rattle.rg_verify.specs.declared.verdict.Verdict.TheVariants.{Accepted, Refused}
 use Rattle.rg_verify.specs.declared.verdict.Defect.{Defect}

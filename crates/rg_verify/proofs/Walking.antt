@@ -9,10 +9,10 @@ use Rattle.rg_theory.specs.declared.Problem.{Problem}
 use Rattle.rg_refuting.specs.Expression as linear
 use Rattle.rg_refuting.specs.Row.{Side, RowStands, row_expression}
 use Rattle.rg_refuting.specs.Refutes.{NamedRow, LeafRefutes, Tree, Tree.leaf, Tree.split, TreeRefutes}
-use Rattle.rg_cert.specs.declared.certificate.Case.{Case}
-use Rattle.rg_cert.specs.declared.certificate.Node.{Node}
-use Rattle.rg_cert.specs.Certificates.{case_tree, IsWhole, IsNodeOf, IsTreeOf}
-use Rattle.rg_cert.specs.Trees.{TreeNode, TreeNode.leaf_node, TreeNode.split_node, preorder, node_of}
+use Rattle.rg_reasons.specs.declared.certificate.Case.{Case}
+use Rattle.rg_reasons.specs.declared.certificate.Node.{Node}
+use Rattle.rg_reasons.specs.Certificates.{case_tree, IsWhole, IsNodeOf, IsTreeOf}
+use Rattle.rg_reasons.specs.Trees.{TreeNode, TreeNode.leaf_node, TreeNode.split_node, preorder, node_of}
 use Rattle.rg_verify.specs.declared.verdict.Defect.{Defect}
 use Rattle.rg_verify.specs.Judged.{IsReached, PlacedLeaf, leaves_of, Refutes, IsDefectOf, IsDefectIn}
 use Rattle.rg_verify.proofs.Places.{image_at}

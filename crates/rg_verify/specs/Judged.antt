@@ -8,8 +8,8 @@ use Rattle.rg_refuting.specs.Expression as linear
 use Rattle.rg_refuting.specs.Row.{Side, RowName, RowStands, row_expression, cases_of}
 use Rattle.rg_refuting.specs.Refutes.{NamedRow, IsMultiplier, IsSmall, coefficient_sum, constant_sum, LeafRefutes, Tree, Tree.leaf, Tree.split, TreeRefutes, IsAsked, IsRefuted, Accepts}
 use Rattle.rg_refuting.specs.Refutes as refutes
-use Rattle.rg_cert.specs.Trees.{preorder}
-use Rattle.rg_cert.specs.Certificates.{Claim, IsVariableOf}
+use Rattle.rg_reasons.specs.Trees.{preorder}
+use Rattle.rg_reasons.specs.Certificates.{Claim, IsVariableOf}
 use Rattle.rg_verify.specs.declared.verdict.Variable.{Variable}
 use Rattle.rg_verify.specs.declared.verdict.Variable.TheVariants.{Tokens, Effect}
 use Rattle.rg_verify.specs.declared.verdict.Defect.{Defect}

@@ -2,8 +2,8 @@
 use Rattle.std.specs.Prelude.{true, List, [], ◌∷◌, map, reverse, All, if◌then◌else◌}
 use Rattle.rg_theory.specs.System.{System}
 use Rattle.rg_refuting.specs.Row as row
-use Rattle.rg_cert.specs.Certificates.{IsVariableOf, IsSplitInRange}
-use Rattle.rg_cert.specs.Trees.{variable_of}
+use Rattle.rg_reasons.specs.Certificates.{IsVariableOf, IsSplitInRange}
+use Rattle.rg_reasons.specs.Trees.{variable_of}
 use Rattle.rg_verify.specs.declared.side.Side.{Side}
 
 -- a side of the code in the words of the definitions

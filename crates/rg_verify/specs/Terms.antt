@@ -3,7 +3,7 @@ use Rattle.std.specs.Prelude.{◌≡◌, ℕ, List, [], ◌∷◌, Option, Some,
 use Rattle.rg_theory.specs.System.{System}
 use Rattle.rg_refuting.specs.Expression as linear
 use Rattle.rg_refuting.specs.Expression.{same_variable, coefficient_in, plus, minus}
-use Rattle.rg_cert.specs.Certificates.{IsVariableOf}
+use Rattle.rg_reasons.specs.Certificates.{IsVariableOf}
 use Rattle.rg_verify.specs.declared.expression.Term.{Term}
 use Rattle.rg_verify.specs.declared.expression.Term.TheVariants.{Plus, Minus}
 use Rattle.rg_verify.specs.declared.expression.Expression.{Expression}

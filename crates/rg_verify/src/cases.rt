@@ -1,7 +1,7 @@
 //! What is wrong with a case.
 ghost use Rattle.std.specs.Prelude.{◌≡◌, [], IfOk, MatchOption};
 ghost use Rattle.rg_refuting.specs.Refutes.{TreeRefutes, IsAsked};
-ghost use Rattle.rg_cert.specs.Certificates.{case_tree, IsWhole, IsTreeOf};
+ghost use Rattle.rg_reasons.specs.Certificates.{case_tree, IsWhole, IsTreeOf};
 ghost use Rattle.rg_verify.specs.Judged.{IsDefectIn};
 ghost use Rattle.rg_verify.specs.Sides.{sides_of, AreSidesOf, turned};
 ghost use Rattle.rg_verify.specs.Sums.{IsClear};
@@ -12,9 +12,9 @@ use crate::setting::Setting;
 use crate::side::Side;
 use crate::sums::Sums;
 use crate::verdict::{Defect, Verdict};
-use rg_cert::{Case, Node};
 use rg_lts::Lts;
 use rg_memory::NoMemory;
+use rg_reasons::{Case, Node};
 use std::alloc::Global;
 
 /// A defect and the node that has it.

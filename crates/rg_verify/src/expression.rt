@@ -3,8 +3,8 @@ ghost use Rattle.std.specs.Prelude.{◌≡◌, ◌≢◌, ◌<◌, [], ◌∷◌
 ghost use Rattle.rg_theory.specs.System.{states, labels, IsArcInRange};
 ghost use Rattle.rg_refuting.specs.Row.{arc_row, side_expression, shared_expression, event_expression, state_expression};
 ghost use Rattle.rg_refuting.specs.Refutes.{IsAsked};
-ghost use Rattle.rg_cert.specs.Certificates.{IsRowNameOf};
-ghost use Rattle.rg_cert.specs.Trees.{row_name_of};
+ghost use Rattle.rg_reasons.specs.Certificates.{IsRowNameOf};
+ghost use Rattle.rg_reasons.specs.Trees.{row_name_of};
 ghost use Rattle.rg_verify.specs.Settings.{expression_in};
 ghost use Rattle.rg_verify.specs.Sides.{side_of, sides_of, IsSideOf, AreSidesOf};
 ghost use Rattle.rg_verify.specs.Terms.{IsExpressionOf};
@@ -12,8 +12,8 @@ ghost use Rattle.rg_verify.specs.Terms.{IsExpressionOf};
 use crate::setting::Setting;
 use crate::side::Side;
 use crate::verdict::Variable;
-use rg_cert::RowName;
 use rg_lts::Lts;
+use rg_reasons::RowName;
 use rg_theory::{Arc, Class, Problem};
 
 /// A variable, with the coefficient 1 or -1.

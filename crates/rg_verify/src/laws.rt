@@ -1,7 +1,7 @@
 //! A certificate has one verdict.
 ghost use Rattle.std.specs.Prelude.{◌≡◌};
 ghost use Rattle.rg_theory.specs.System.{System};
-ghost use Rattle.rg_cert.specs.Certificates.{Claim};
+ghost use Rattle.rg_reasons.specs.Certificates.{Claim};
 ghost use Rattle.rg_verify.specs.declared.verdict.Verdict.{Verdict};
 ghost use Rattle.rg_verify.specs.Judged.{Judges};
 

@@ -1,8 +1,8 @@
 //! What is wrong with a leaf.
 ghost use Rattle.std.specs.Prelude.{◌↔◌, IfOk, IsTrue, MatchOption, map, All};
 ghost use Rattle.rg_refuting.specs.Refutes.{IsMultiplier, LeafRefutes, IsAsked};
-ghost use Rattle.rg_cert.specs.Certificates.{IsRowOf};
-ghost use Rattle.rg_cert.specs.Trees.{named_row, row_name_of};
+ghost use Rattle.rg_reasons.specs.Certificates.{IsRowOf};
+ghost use Rattle.rg_reasons.specs.Trees.{named_row, row_name_of};
 ghost use Rattle.rg_verify.specs.Judged.{IsRight, IsDefectOf};
 ghost use Rattle.rg_verify.specs.Settings.{StandsIn, expression_in};
 ghost use Rattle.rg_verify.specs.Sides.{AreSidesOf};
@@ -13,9 +13,9 @@ use crate::side::Side;
 use crate::standing::stands;
 use crate::sums::{Stop, Sums};
 use crate::verdict::Defect;
-use rg_cert::RowName;
 use rg_lts::Lts;
 use rg_memory::NoMemory;
+use rg_reasons::RowName;
 
 /// What is wrong with the rows of a leaf; None where they refute. The sums are the table for the leaf, and are 0 before and after.
 pub(crate) fn leaf_defect(

@@ -1,5 +1,5 @@
 //! The splits above a leaf.
-use rg_cert::Form;
+use rg_reasons::Form;
 
 /// A split above the node at hand: its form and number, and whether the high side is taken.
 #[derive(Clone, Copy, Debug)]

@@ -3,15 +3,15 @@ ghost use Rattle.std.specs.Prelude.{◌≡◌, ◌<◌, ◌↔◌, AllPairs, Con
 ghost use Rattle.rg_theory.specs.System.{arc, states, labels, IsArcBefore};
 ghost use Rattle.rg_refuting.specs.Row.{HasArcAt, SharedStands, EventStands};
 ghost use Rattle.rg_refuting.specs.Refutes.{IsAsked};
-ghost use Rattle.rg_cert.specs.Certificates.{IsRowNameOf};
-ghost use Rattle.rg_cert.specs.Trees.{row_name_of};
+ghost use Rattle.rg_reasons.specs.Certificates.{IsRowNameOf};
+ghost use Rattle.rg_reasons.specs.Trees.{row_name_of};
 ghost use Rattle.rg_verify.specs.Settings.{StandsIn};
 ghost use Rattle.rg_verify.specs.Sides.{sides_of};
 
 use crate::setting::Setting;
 use crate::side::Side;
-use rg_cert::RowName;
 use rg_lts::Lts;
+use rg_reasons::RowName;
 use rg_theory::{Arc, Class, Problem};
 
 /// Whether the row stands in a case of a problem, below the sides above it.

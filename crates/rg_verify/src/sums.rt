@@ -4,17 +4,17 @@ ghost use Rattle.rg_integers.specs.Range.{InRange};
 ghost use Rattle.rg_refuting.specs.Expression.{same_variable};
 ghost use Rattle.rg_refuting.specs.Expression as linear;
 ghost use Rattle.rg_refuting.specs.Refutes.{max_number, IsAsked, IsSmall};
-ghost use Rattle.rg_cert.specs.Certificates.{IsRowOf};
-ghost use Rattle.rg_cert.specs.Trees.{named_row};
+ghost use Rattle.rg_reasons.specs.Certificates.{IsRowOf};
+ghost use Rattle.rg_reasons.specs.Trees.{named_row};
 ghost use Rattle.rg_verify.specs.Judged.{variable_of, ComesBefore};
 
 use crate::expression::{Expression, Term, row_expression};
 use crate::setting::Setting;
 use crate::side::Side;
 use crate::verdict::{Defect, Variable};
-use rg_cert::RowName;
 use rg_lts::Lts;
 use rg_memory::NoMemory;
+use rg_reasons::RowName;
 use std::alloc::{AllocError, AllocFailed, Global};
 
 // The greatest sum of absolute values, 2^127 - 1.

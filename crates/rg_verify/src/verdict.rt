@@ -2,7 +2,7 @@
 ghost use Rattle.std.specs.Prelude.{◌↔◌, IsTrue};
 ghost use Rattle.rg_verify.specs.Judged.{variable_of, ComesBefore};
 
-use rg_cert::Form;
+use rg_reasons::Form;
 
 /// An unknown of the rows: the tokens at a state, or the effect of a label. Tokens come first, by state, then effects, by
 /// label.
@@ -28,7 +28,7 @@ impl Variable {
 
 impl From<Form> for Variable {
     ghost use Rattle.std.specs.Prelude.{◌≡◌};
-    ghost use Rattle.rg_cert.specs.Trees as cert;
+    ghost use Rattle.rg_reasons.specs.Trees as cert;
     ghost use Rattle.rg_verify.specs.Judged.{variable_of};
 
     ghost from_gives = { λ form v. variable_of v ≡ cert.variable_of form };

@@ -1,5 +1,5 @@
 use Rattle.std.proofs.Common.{arith}
-use Rattle.rg_cert.specs.Trees.{nodes_of}
+use Rattle.rg_reasons.specs.Trees.{nodes_of}
 use Rattle.rg_cert.specs.Drafts.{nodes_lines, IsCase}
 use Rattle.rg_cert.proofs.Printed.{all_at, more_lines}
 use Rattle.rg_cert.proofs.printing.push_cases.Goals as goal

@@ -3,10 +3,10 @@ use Rattle.std.specs.Fmt.{signed_decimal}
 use Rattle.std.proofs.lemmas.Int.{ints}
 use mir.Syntax.{w128}
 use mir.Val.{to_z, of_z}
-use Rattle.rg_cert.specs.declared.certificate.RowName.{RowName}
-use Rattle.rg_cert.specs.declared.certificate.RowName.TheVariants.{Arc}
-use Rattle.rg_cert.specs.Trees.{named_row, row_name_of}
-use Rattle.rg_cert.specs.Certificates.{IsRowOf}
+use Rattle.rg_reasons.specs.declared.certificate.RowName.{RowName}
+use Rattle.rg_reasons.specs.declared.certificate.RowName.TheVariants.{Arc}
+use Rattle.rg_reasons.specs.Trees.{named_row, row_name_of}
+use Rattle.rg_reasons.specs.Certificates.{IsRowOf}
 use Rattle.rg_cert.specs.Text.{row_fields, named_fields, spaced}
 use Rattle.rg_cert.proofs.Printed.{row_at, more_rows}
 use Rattle.rg_cert.proofs.printing.push_rows.Goals as goal

@@ -3,7 +3,7 @@ use Rattle.rg_integers.specs.Range.{InRange}
 use Rattle.rg_refuting.specs.Row.{row_expression}
 use Rattle.rg_cycles.specs.View.{cycle_of}
 use Rattle.rg_cycles.specs.declared.substitution.FoldStop.TheVariants as stop
-use Rattle.rg_cert.specs.Trees.{named_row}
+use Rattle.rg_reasons.specs.Trees.{named_row}
 use Rattle.rg_folds.specs.Fold.{ratio_of}
 use Rattle.rg_folds.specs.Rewriting.{scaled_fold}
 use Rattle.rg_folds.specs.Spreading.{chord_arcs, tree_fold, checked_leaf}

@@ -1,7 +1,7 @@
 use Rattle.std.proofs.Common.{map}
 use Rattle.rg_refuting.specs.Row.{RowStands, row_expression}
 use Rattle.rg_cycles.specs.View.{cycle_of}
-use Rattle.rg_cert.specs.Trees.{named_row}
+use Rattle.rg_reasons.specs.Trees.{named_row}
 use Rattle.rg_expressions.specs.View.{side_of}
 use Rattle.rg_farkas.specs.Leaves.{share_of}
 use Rattle.rg_farkas.proofs.Asked.{rows_within, has_label, says_arcs, arcs_stand, leaf_names, all_rows, row_numbers, bottoms}

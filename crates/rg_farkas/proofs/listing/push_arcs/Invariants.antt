@@ -1,5 +1,5 @@
 use Rattle.std.proofs.Common.{◌≡◌, ◌++◌, map, drop}
-use Rattle.rg_cert.specs.Trees.{named_row}
+use Rattle.rg_reasons.specs.Trees.{named_row}
 use Rattle.rg_folds.specs.Spreading.{not_zero, multiplier_among, arc_name}
 use Rattle.rg_farkas.proofs.listing.push_arcs.Given as goal
 

@@ -1,7 +1,7 @@
 use Rattle.std.proofs.Common.{rules, map, ◌≡◌, Err, ap, ◌∙◌}
 use Rattle.std.specs.Int.{w128, cast_signed}
 use Rattle.rg_integers.proofs.Casts.{back}
-use Rattle.rg_cert.specs.Trees.{variable_of}
+use Rattle.rg_reasons.specs.Trees.{variable_of}
 use Rattle.rg_expressions.specs.View.{term_of}
 use Rattle.rg_farkas.specs.View.{coefficient_at}
 use Rattle.rg_refuting.specs.Expression.{coefficient_in}

@@ -1,11 +1,11 @@
 use Rattle.std.proofs.Common.{◌+◌, ap, refl, arith}
 use Rattle.std.specs.Prelude.{◌+ℤ◌, slice_index_or}
 use Rattle.rg_expressions.specs.declared.term.Term.TheVariants.{Plus}
-use Rattle.rg_cert.specs.declared.certificate.Form.TheVariants.{Tokens}
+use Rattle.rg_reasons.specs.declared.certificate.Form.TheVariants.{Tokens}
 use Rattle.std.specs.Int.{w128, cast_signed}
 use Rattle.std.proofs.lemmas.Int.{ints}
 use Rattle.rg_integers.proofs.Casts.{back}
-use Rattle.rg_cert.specs.Trees.{variable_of}
+use Rattle.rg_reasons.specs.Trees.{variable_of}
 use Rattle.rg_expressions.proofs.Counting.{in_range_between, coefficient_next}
 use Rattle.rg_farkas.proofs.sums.coefficient.Goals as goal
 

@@ -1,7 +1,7 @@
 use Rattle.std.proofs.Common.{◌≡◌, map, drop}
 use Rattle.std.specs.Prelude.{pos, neg_ℤ, ◌+ℤ◌, ◌≤ℤ◌}
 use Rattle.rg_refuting.specs.Expression.{coefficient_in}
-use Rattle.rg_cert.specs.Trees.{variable_of}
+use Rattle.rg_reasons.specs.Trees.{variable_of}
 use Rattle.rg_expressions.specs.View.{term_of}
 use Rattle.rg_farkas.proofs.sums.coefficient.Given as goal
 

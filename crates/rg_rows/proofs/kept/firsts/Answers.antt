@@ -2,7 +2,7 @@ use Rattle.std.proofs.Common.{◌≡◌, ◌<◌, ◌++◌, ◌∷◌, [], map, 
 use Rattle.std.proofs.lemmas.Bool.{false≢true}
 use Rattle.std.proofs.lemmas.List.{length-map}
 use Rattle.rg_folds.specs.Fold.{ratio_of}
-use Rattle.rg_cert.specs.Trees.{row_name_of}
+use Rattle.rg_reasons.specs.Trees.{row_name_of}
 use Rattle.rg_feasible.specs.View.{linear_row}
 use Rattle.rg_cycles.proofs.Firsts.{has_numbers}
 use Rattle.rg_rows.specs.View.{numbers_of, kept_row}

@@ -2,7 +2,7 @@ use Rattle.std.proofs.Common.{◌≡◌, map, drop, length, List, Result, All}
 use Rattle.rg_fraction.specs.declared.term.Wide.{Wide}
 use Rattle.rg_folds.specs.Fold.{each}
 use Rattle.rg_folds.specs.Rewriting.{KeptRow, column_count}
-use Rattle.rg_cert.specs.Trees.{row_name_of}
+use Rattle.rg_reasons.specs.Trees.{row_name_of}
 use Rattle.rg_cycles.specs.View.{cycle_of}
 use Rattle.rg_cycles.proofs.Folding.{behind}
 use Rattle.rg_rows.specs.View.{kept_row, fold_of}

@@ -5,7 +5,7 @@ use Rattle.rg_integers.proofs.Casts.{back}
 use Rattle.rg_fraction.specs.Fractions.{IsValue}
 use Rattle.rg_folds.specs.Fold.{ratio_of, whole, mul}
 use Rattle.rg_folds.specs.Rewriting.{terms_fold, IsDivided}
-use Rattle.rg_cert.specs.Trees.{row_name_of}
+use Rattle.rg_reasons.specs.Trees.{row_name_of}
 use Rattle.rg_cycles.specs.declared.substitution.FoldStop.TheVariants as stop
 use Rattle.rg_cycles.specs.View.{cycle_of}
 use Rattle.rg_expressions.specs.View.{term_of, expression_of}

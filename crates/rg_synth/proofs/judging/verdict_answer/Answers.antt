@@ -1,5 +1,5 @@
 use Rattle.std.proofs.Common.{subst, ◌∙◌}
-use Rattle.rg_cert.specs.Certificates.{claim_of}
+use Rattle.rg_reasons.specs.Certificates.{claim_of}
 use Rattle.rg_verify.specs.declared.verdict.Verdict.{Verdict}
 use Rattle.rg_verify.specs.Judged.{Judges}
 use Rattle.rg_synth.proofs.Answered.{has_name, not_held}

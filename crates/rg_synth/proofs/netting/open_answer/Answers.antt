@@ -2,7 +2,7 @@ use Rattle.std.proofs.Common.{rules, ℕ, map, sym, subst}
 use Rattle.rg_theory.specs.Net.{Net}
 use Rattle.rg_net.specs.Range.{IsNetInRange}
 use Rattle.rg_net.specs.Shown.{shown_place}
-use Rattle.rg_cert.specs.Certificates.{reason_of}
+use Rattle.rg_reasons.specs.Certificates.{reason_of}
 use Rattle.rg_separate.specs.Answer.{IfPlaces, IfUnsolvable, AreSeparating, IsGoodCertificate}
 use Rattle.rg_synth.proofs.Nets.{IsFound, found_if, reason_is}
 use Rattle.rg_synth.proofs.netting.open_answer.Goals as goal

@@ -1,5 +1,5 @@
 use Rattle.std.proofs.Common.{ℕ, List, sym, subst, ◌∙◌}
-use Rattle.rg_cert.specs.Certificates.{reason_of}
+use Rattle.rg_reasons.specs.Certificates.{reason_of}
 use Rattle.rg_cert.specs.Spells.{Spells}
 use Rattle.rg_synth.proofs.Nets.{refutes}
 use Rattle.rg_synth.proofs.netting.refutation.Goals as goal

@@ -4,10 +4,10 @@ use Rattle.std.proofs.lemmas.Int.{to_z-of_z, fits_signed_from_abs}
 use Rattle.std.proofs.lemmas.List.{map-append, length-map}
 use Rattle.std.proofs.Math.ListN.{drop_of_length-le}
 use Rattle.rg_refuting.specs.Row as row
-use Rattle.rg_cert.specs.declared.certificate.Node.{Node}
-use Rattle.rg_cert.specs.Certificates.{case_tree, IsNodeOf}
-use Rattle.rg_cert.specs.Trees.{TreeNode, TreeNode.leaf_node, named_row, node_of, nodes_of}
-use Rattle.rg_cert.specs.Trees as cert
+use Rattle.rg_reasons.specs.declared.certificate.Node.{Node}
+use Rattle.rg_reasons.specs.Certificates.{case_tree, IsNodeOf}
+use Rattle.rg_reasons.specs.Trees.{TreeNode, TreeNode.leaf_node, named_row, node_of, nodes_of}
+use Rattle.rg_reasons.specs.Trees as cert
 use Rattle.rg_verify.specs.declared.side.Side.{Side}
 use Rattle.rg_verify.specs.Sides.{side_of, sides_of}
 use Rattle.rg_verify.proofs.Walking.{IsAtNode, at_first, node_in_range, after_split, after_leaf, found_at, at_last}

@@ -1,6 +1,6 @@
 use Rattle.std.proofs.Common.{◌≡◌}
-use Rattle.rg_cert.specs.Certificates.{case_tree}
-use Rattle.rg_cert.specs.Trees.{nodes_of}
+use Rattle.rg_reasons.specs.Certificates.{case_tree}
+use Rattle.rg_reasons.specs.Trees.{nodes_of}
 use Rattle.rg_verify.specs.Sides.{sides_of}
 use Rattle.rg_verify.specs.Sums.{IsClear}
 use Rattle.rg_verify.proofs.Walking.{IsAtNode}

@@ -8,11 +8,11 @@ use Rattle.rg_refuting.specs.Expression.{Variable, Variable.tokens_at, Variable.
 use Rattle.rg_refuting.specs.Row as row
 use Rattle.rg_refuting.specs.Refutes as refutes
 use Rattle.rg_refuting.specs.Refutes.{NamedRow, Tree, max_number}
-use Rattle.rg_cert.specs.declared.certificate.Case.{Case}
-use Rattle.rg_cert.specs.declared.certificate.Reason.{Reason}
-use Rattle.rg_cert.specs.declared.certificate.Reason.TheVariants.{Unreachable, Fork, Event, States}
-use Rattle.rg_cert.specs.declared.certificate.Certificate.{Certificate}
-use Rattle.rg_cert.specs.Trees.{TreeNode, TreeNode.leaf_node, TreeNode.split_node, preorder, IsWholeTree, tree_of, nodes_of}
+use Rattle.rg_reasons.specs.declared.certificate.Case.{Case}
+use Rattle.rg_reasons.specs.declared.certificate.Reason.{Reason}
+use Rattle.rg_reasons.specs.declared.certificate.Reason.TheVariants.{Unreachable, Fork, Event, States}
+use Rattle.rg_reasons.specs.declared.certificate.Certificate.{Certificate}
+use Rattle.rg_reasons.specs.Trees.{TreeNode, TreeNode.leaf_node, TreeNode.split_node, preorder, IsWholeTree, tree_of, nodes_of}
 
 -- a class, and why no net of it solves a system, in the words of the definitions
 pub record Claim : Type 0 where

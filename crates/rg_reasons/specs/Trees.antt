@@ -3,13 +3,13 @@ use Rattle.std.specs.Prelude.{◌≡◌, List, [], ◌∷◌, ◌++◌, map, ℤ
 use Rattle.rg_refuting.specs.Expression.{Variable, Variable.tokens_at, Variable.effect_of}
 use Rattle.rg_refuting.specs.Row as row
 use Rattle.rg_refuting.specs.Refutes.{NamedRow, Tree, Tree.leaf, Tree.split}
-use Rattle.rg_cert.specs.declared.certificate.RowName.{RowName}
-use Rattle.rg_cert.specs.declared.certificate.RowName.TheVariants as of_code
-use Rattle.rg_cert.specs.declared.certificate.Form.{Form}
-use Rattle.rg_cert.specs.declared.certificate.Form.TheVariants as form
-use Rattle.rg_cert.specs.declared.certificate.Node.{Node}
-use Rattle.rg_cert.specs.declared.certificate.Node.TheVariants.{Leaf, Split}
-use Rattle.rg_cert.specs.declared.certificate.Case.{Case}
+use Rattle.rg_reasons.specs.declared.certificate.RowName.{RowName}
+use Rattle.rg_reasons.specs.declared.certificate.RowName.TheVariants as of_code
+use Rattle.rg_reasons.specs.declared.certificate.Form.{Form}
+use Rattle.rg_reasons.specs.declared.certificate.Form.TheVariants as form
+use Rattle.rg_reasons.specs.declared.certificate.Node.{Node}
+use Rattle.rg_reasons.specs.declared.certificate.Node.TheVariants.{Leaf, Split}
+use Rattle.rg_reasons.specs.declared.certificate.Case.{Case}
 
 -- a node of a tree, without what is below it
 pub data TreeNode : Type 0 where
