@@ -4,6 +4,8 @@ pub mod Forms
 pub mod Outcomes
 pub mod Ones
 pub mod Twos
+pub mod Newton
+pub mod Signed
 pub mod Wholes
 pub mod Orders
 pub mod Floors

@@ -5,6 +5,7 @@
 
 mod binary;
 mod divisor;
+mod exact;
 mod fraction;
 mod order;
 mod row;

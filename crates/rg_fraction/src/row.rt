@@ -6,7 +6,8 @@ ghost use Rattle.rg_integers.specs.Range.{InRange};
 ghost use Rattle.rg_integers.specs.Sum.{number_at};
 ghost use Rattle.rg_fraction.specs.Rows.{RowFits, IsFirstWide, IsCrossed, IsRowGcd, IsPrimitivePart, IsEliminated, IsRefused};
 
-use crate::divisor::{gcd_of_sizes, part};
+use crate::divisor::gcd_of_sizes;
+use crate::exact::Divisor;
 use crate::term::{Wide, value};
 
 // Whether each term of the row fits; else the first that passes.
@@ -74,8 +75,9 @@ fn divide(q: &mut [i128], g: i128)
     ensures quotients { (k : ℕ) → k < length q.old → number_at q.new k *ℤ g ≡ number_at q.old k }
     ensures in_range { (k : ℕ) → k < length q.old → InRange (number_at q.new k) }
 {
+    let divisor = Divisor::new(g.unsigned_abs());
     for i in 0..q.len() {
-        let z = part(q[i], g);
+        let z = divisor.part(q[i]);
         q[i] = z;
     }
 }
