@@ -23,6 +23,7 @@ fn laws_of_trees_and_certificates(_rt: HostRuntime) {
     rg_refuting::accepted_is_no_net();
     rg_refuting::rows_are_exact();
     rg_cert::one_answer();
+    rg_cert::lines_go_on();
     rg_cert::certificate_is_told();
     rg_verify::one_verdict();
 }

@@ -5,7 +5,7 @@ use Rattle.std.proofs.lemmas.Option.{slice_get-get_or, slice_get_read, get_or_fr
 use Rattle.std.proofs.lemmas.Bool.{false_from_ne_true}
 use Rattle.std.proofs.lemmas.Bool.Decides.{nat_tests}
 use Rattle.rg_theory.specs.System.{System, arc, states, IsInRange, IsArcInRange, HasArc, Leads, IsReachable, IsAllReachable, IsLeastUnreachable, IsClosedWithout}
-use Rattle.rg_theory.proofs.Trees.{leads_more}
+use Rattle.rg_theory.proofs.Closed.{stays_inside, reached_more}
 use Rattle.rg_checks.specs.declared.walks.Step.{Step}
 use Rattle.rg_checks.specs.Met.{AreSteps, is_met}
 use Rattle.rg_checks.proofs.Walking.{initial_met, unmet_none, met_reached}
@@ -14,11 +14,6 @@ use Rattle.rg_checks.proofs.Walking.{initial_met, unmet_none, met_reached}
 pub record TellsReachable (lts : System) (inside : ℕ → Bool) : Type 0 where
   pub initial : inside lts.initial ≡ true
   pub each : (s : ℕ) → s < states lts → (inside s ≡ false) ↔ (IsReachable lts s → ⊥)
-
-stays : (lts : System) (inside : ℕ → Bool) (q : ℕ) (ts : List ℕ) (s : ℕ) → ((q t q' : ℕ) → HasArc lts q t q' → inside q ≡ true → inside q' ≡ true) → Leads lts q ts s → inside q ≡ true
-    → inside s ≡ true
-stays lts inside q [] s closed here is = subst (λ k. inside k ≡ true) here is
-stays lts inside q (t ∷ ts) s closed (mid, has, rest) is = stays lts inside mid ts s closed rest (closed q t mid has is)
 
 -- a state that can't be reached is one that some closed set is without
 pub shut_out : (lts : System) (inside : ℕ → Bool) (s : ℕ) → IsInRange lts → TellsReachable lts inside → s < states lts
@@ -35,12 +30,12 @@ shut_out lts inside s fine tells lt = (λ out. (inside, record { initial = tells
         by true e = refl
         by false e =
             let far = (tells.each q' range.2).0 e in
-            let near = (tells.each q range.0).1 (λ (ts, path). far (ts ++ t ∷ [], leads_more lts lts.initial ts q t q' path has)) in
+            let near = (tells.each q range.0).1 (λ reached. far (reached_more lts q t q' reached has)) in
             absurd (true≢false (sym is ∙ near))
 
     back : (without : ℕ → Bool) × IsClosedWithout lts s without → inside s ≡ false
     back (without, c) =
-        (tells.each s lt).1 (λ (ts, path). true≢false (sym (stays lts without lts.initial ts s c.closed path c.initial) ∙ c.without))
+        (tells.each s lt).1 (λ (ts, path). true≢false (sym (stays_inside lts without c.closed lts.initial ts s path c.initial) ∙ c.without))
 
 -- the steps tell which states can be reached
 pub told : (lts : System) (steps : List (Option Step)) → AreSteps lts steps → TellsReachable lts (is_met lts steps)

@@ -7,8 +7,8 @@ use Rattle.std.proofs.lemmas.List.Elements.{Contains-push, Contains-push_cases, 
 use Rattle.std.proofs.lemmas.List.Sums.{sum_by-set}
 use Rattle.std.proofs.lemmas.Option.{none-some, slice_get-get_or, slice_get_within, get_or_from_slice_get}
 use Rattle.rg_theory.specs.declared.Arc.{Arc}
-use Rattle.rg_theory.specs.System.{System, states, arc, HasArc, IsReachable, Leads, IsInRange, IsArcInRange}
-use Rattle.rg_theory.proofs.Trees.{leads_more}
+use Rattle.rg_theory.specs.System.{System, states, arc, HasArc, IsReachable, IsInRange, IsArcInRange}
+use Rattle.rg_theory.proofs.Closed.{stays_inside, reached_more}
 use Rattle.rg_checks.specs.declared.walks.Step.{Step}
 use Rattle.rg_checks.specs.Met.{IsEntered, begin, then, AreSteps, is_met}
 use Rattle.rg_checks.specs.Walk.{IsWalk, GoesOn}
@@ -44,10 +44,6 @@ met_in_range lts steps s inside long met = by (met_cases lts steps s met) (cases
     by (inl same) _ = omega (arith, inside, same)
     by (inr found) (inl lt) = omega (arith, lt, long)
     by (inr found) (inr le) = absurd (none-some found.0 (sym (get_or_past steps s None le) ∙ found.1))
-
--- one arc more
-pub reached_more : (lts : System) (q t q' : ℕ) → IsReachable lts q → HasArc lts q t q' → IsReachable lts q'
-reached_more lts q t q' reached has = (reached.0 ++ t ∷ [], leads_more lts lts.initial reached.0 q t q' reached.1 has)
 
 -- a state that is entered can be reached
 pub entered_reached : (lts : System) (steps : List (Option Step)) (s : ℕ) → IsEntered lts steps s → IsReachable lts s
@@ -231,16 +227,15 @@ popped lts steps before waiting s is w = (
 
 -- where no state waits, the steps are right
 module _ (lts : System) (steps : List (Option Step)) (w : IsWalk lts steps []) (followed : AreFollowed lts steps []) where
-  led_met : (q : ℕ) (ts : List ℕ) (s : ℕ) → Leads lts q ts s → is_met lts steps q ≡ true → is_met lts steps s ≡ true
-  led_met q [] s e met = subst (λ k. is_met lts steps k ≡ true) e met
-  led_met q (t ∷ ts) s (mid, has, rest) met = led_met mid ts s rest (next (followed (arc q t mid) has met))
+  closed : (q t q' : ℕ) → HasArc lts q t q' → is_met lts steps q ≡ true → is_met lts steps q' ≡ true
+  closed q t q' has met = next (followed (arc q t q') has met)
     where
-      next : Contains [] q ⊎ (is_met lts steps mid ≡ true) → is_met lts steps mid ≡ true
+      next : Contains [] q ⊎ (is_met lts steps q' ≡ true) → is_met lts steps q' ≡ true
       next (inl (k, lt, at)) = absurd (omega arith)
       next (inr here) = here
 
   reached_met : (s : ℕ) → IsReachable lts s → is_met lts steps s ≡ true
-  reached_met s reached = led_met lts.initial reached.0 s reached.1 (initial_met lts steps)
+  reached_met s reached = stays_inside lts (is_met lts steps) closed lts.initial reached.0 s reached.1 (initial_met lts steps)
 
   at : (s : ℕ) → s < states lts → slice_get steps s ≡ Some (get_or steps s None)
   at s lt = slice_get-get_or steps s None (let n = w.long in omega arith)

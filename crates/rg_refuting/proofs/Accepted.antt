@@ -11,6 +11,7 @@ use Rattle.rg_theory.specs.Region.{RegionIn}
 use Rattle.rg_theory.specs.declared.Problem.{Problem}
 use Rattle.rg_theory.specs.declared.Problem.TheVariants.{Event, States}
 use Rattle.rg_theory.specs.Problem.{IsInseparable}
+use Rattle.rg_theory.proofs.Closed.{stays_inside}
 use Rattle.rg_theory.proofs.Lists.{slice_get_some}
 use Rattle.rg_theory.proofs.No.{no_from_unreachable, no_from_fork, no_from_inseparable}
 use Rattle.rg_refuting.specs.Row.{cases_of, order_of, consumer_of}
@@ -27,11 +28,6 @@ find_below P dec (suc n) = go (find_below P dec n) (dec n)
     go (inl (k, lt, h)) here = inl (k, omega arith, h)
     go (inr none) (inl h) = inl (n, omega arith, h)
     go (inr none) (inr not_here) = inr (λ k lt h. ⊎_elim (λ less. none k less h) (λ more. (let e : k ≡ n = omega arith in not_here (subst P e h))) (cases_lt k n))
-
--- arcs don't lead out of a closed set
-pub stays_inside : (lts : System) (inside : ℕ → Bool) → ((q t q' : ℕ) → HasArc lts q t q' → IsTrue (inside q) → IsTrue (inside q')) → (q : ℕ) (ts : List ℕ) (q' : ℕ) → Leads lts q ts q' → IsTrue (inside q) → IsTrue (inside q')
-stays_inside lts inside closed q [] q' e is = subst (λ k. IsTrue (inside k)) e is
-stays_inside lts inside closed q (t ∷ ts) q' (mid, has, rest) is = stays_inside lts inside closed mid ts q' rest (closed q t mid has is)
 
 pub no_sides : (p : Place) (m : ℕ → ℕ) → AreOnSides (numbers_of p m) []
 no_sides p m d side e = absurd (none-some side e)

@@ -9,11 +9,12 @@ use Rattle.rg_theory.specs.Class.{IsBounded}
 use Rattle.rg_theory.specs.declared.Class.{Class}
 use Rattle.rg_theory.specs.Region.{IsRegionIn}
 use Rattle.rg_theory.proofs.Classes.{yes_in_class}
+use Rattle.rg_theory.proofs.Closed.{stays_inside}
 use Rattle.rg_theory.proofs.Solution.{solution_of, places_are_regions, solved_reachable}
 use Rattle.rg_theory.proofs.Yes.{region_unique}
 use Rattle.rg_net.specs.Range.{largest, IsNetInRange}
 use Rattle.rg_net.specs.NetText.{net_text}
-use Rattle.rg_refuting.proofs.Accepted.{accepted, stays_inside}
+use Rattle.rg_refuting.proofs.Accepted.{accepted}
 use Rattle.rg_refuting.specs.Refutes.{Reason, Reason.unreachable, Reason.fork, Reason.refuted, Accepts}
 use Rattle.rg_cert.specs.Text.{cert_text}
 use Rattle.rg_cert.specs.Spells.{Spells}
