@@ -1,6 +1,6 @@
 mod Shutting
 mod Arcs
-mod Expressions
+mod Cancelling
 mod Places
 mod Variables
 mod Tables
