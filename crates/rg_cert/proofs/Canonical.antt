@@ -11,13 +11,13 @@ use Rattle.rg_theory.specs.declared.Class.{Class}
 use Rattle.rg_theory.specs.declared.Problem.TheVariants.{Event, States}
 use Rattle.rg_theory.specs.ClassWords.{NamesClass}
 use Rattle.rg_lts.specs.WellFormed.{AreNames, IsWellFormed}
-use Rattle.rg_refuting.specs.Expression.{Variable, Variable.tokens_at, Variable.effect_of}
+use Rattle.rg_refuting.specs.Row.{Form, Form.on_tokens, Form.on_effect}
 use Rattle.rg_refuting.specs.Row.{RowName, RowName.arc_row, RowName.tokens_row, RowName.cap_row, RowName.up_row, RowName.down_row, RowName.makes_row, RowName.stop_row, RowName.block_row, RowName.empty_row, RowName.full_row, RowName.keep_row, RowName.apart_row, RowName.above_row}
 use Rattle.rg_refuting.specs.Refutes as refutes
 use Rattle.rg_refuting.specs.Refutes.{NamedRow, Tree, Tree.leaf, Tree.split}
 use Rattle.rg_reasons.specs.Trees.{TreeNode, leaf_node, split_node, preorder}
 use Rattle.rg_reasons.specs.Certificates.{IsRowOf, IsNodeOf, IsTreeOf, IsReasonOf}
-use Rattle.rg_cert.specs.Text.{state_name, label_name, named_fields, variable_fields, node_lines, case_lines, reason_lines, spaced, cert_lines}
+use Rattle.rg_cert.specs.Text.{state_name, label_name, named_fields, form_fields, node_lines, case_lines, reason_lines, spaced, cert_lines}
 use Rattle.rg_cert.specs.Lines.{HasFieldForm, AreAsked, LineForm, heading_line, class_line, unreachable_line, fork_line, event_line, states_line, case_line, split_tokens_line, split_effect_line, leaf_line, row_line, end_line, arc_form, tokens_form, cap_form, up_form, down_form, makes_form, stop_form, block_form, empty_form, full_form, keep_form, apart_form, above_form, fields_of, Count, one, several, Position, at_heading, at_class, at_reason, at_last, at_one_case, at_cases, at_node, at_row, at_end, to, follows}
 use Rattle.rg_cert.specs.Faults.{IsRight, Leads, LeadAll}
 use Rattle.rg_cert.specs.Drafts.{Head, of_unreachable, of_fork, of_event, of_states, head_fields, IsHeadOf, after_head}
@@ -210,15 +210,15 @@ due_node count due = record { tokens = refl; effect = refl; leaf = refl }
 due_row : (count : Count) (due : ℕ) → IsDue (at_row count (suc due)) count due
 due_row count due = record { tokens = refl; effect = refl; leaf = refl }
 
-split_leads : (lts : System) (position : Position) (count : Count) (due : ℕ) (form : Variable) (at : ℤ) → IsWellFormed lts → IsDue position count due → IsNodeOf lts (split_node form at)
-    → TextsLead lts position (codes "split" ∷ (variable_fields lts form ++ signed_decimal at ∷ [])) (at_node count (suc due))
-split_leads lts position count due (tokens_at q) at fine is of_system = record {
+split_leads : (lts : System) (position : Position) (count : Count) (due : ℕ) (form : Form) (at : ℤ) → IsWellFormed lts → IsDue position count due → IsNodeOf lts (split_node form at)
+    → TextsLead lts position (codes "split" ∷ (form_fields lts form ++ signed_decimal at ∷ [])) (at_node count (suc due))
+split_leads lts position count due (on_tokens q) at fine is of_system = record {
   form = split_tokens_line;
   fields = (refl, (refl, (state_is lts q fine of_system.0, ((at, written_numeral at (small_split at of_system.1)), tt))));
   right = ((tt, (tt, (tt, ((at, written_numeral at (small_split at of_system.1), of_system.1), tt)))), (tt, (tt, (there_at lts.state_names q of_system.0, (tt, tt)))));
   leads = is.tokens;
 }
-split_leads lts position count due (effect_of t) at fine is of_system = record {
+split_leads lts position count due (on_effect t) at fine is of_system = record {
   form = split_effect_line;
   fields = (refl, (refl, (label_is lts t fine of_system.0, ((at, written_numeral at (small_split at of_system.1)), tt))));
   right = ((tt, (tt, (tt, ((at, written_numeral at (small_split at of_system.1), of_system.1), tt)))), (tt, (tt, (there_at lts.label_names t of_system.0, (tt, tt)))));

@@ -6,7 +6,7 @@ use Rattle.std.proofs.lemmas.Grind.{flat_map-append}
 use Rattle.std.proofs.lemmas.List.{map-append}
 use Rattle.std.proofs.lemmas.List.Elements.{All-push, All-nil}
 use Rattle.rg_theory.specs.System.{System}
-use Rattle.rg_refuting.specs.Expression.{Variable}
+use Rattle.rg_refuting.specs.Row.{Form}
 use Rattle.rg_refuting.specs.Refutes.{NamedRow}
 use Rattle.rg_reasons.specs.Trees.{TreeNode, leaf_node, split_node}
 use Rattle.rg_reasons.specs.Certificates.{IsRowOf, IsNodeOf}
@@ -31,7 +31,7 @@ add_case : (lts : System) (cases : List (List TreeNode)) (nodes : List TreeNode)
     → flat_map (nodes_lines lts) (cases ++ nodes ∷ []) ≡ flat_map (nodes_lines lts) cases ++ nodes_lines lts nodes
 add_case lts cases nodes = flat_map-append (nodes_lines lts) cases (nodes ∷ []) ∙ ap (λ l. flat_map (nodes_lines lts) cases ++ l) (append-nil (nodes_lines lts nodes))
 
-split_lines : (lts : System) (texts : List (List ℕ)) (form : Variable) (at : ℤ) → IsSplitLine lts texts form at → node_lines lts (split_node form at) ≡ texts ∷ []
+split_lines : (lts : System) (texts : List (List ℕ)) (form : Form) (at : ℤ) → IsSplitLine lts texts form at → node_lines lts (split_node form at) ≡ texts ∷ []
 split_lines lts texts form at is = ap (λ l. l ∷ []) (sym is.are)
 
 -- a line of one word
@@ -41,7 +41,7 @@ one_word w (t ∷ []) are = ap (λ l. l ∷ []) are.0
 one_word w (t ∷ u ∷ more) are = absurd are.1
 
 -- a split in an open tree
-in_split : (lts : System) (head : Head) (count : Count) (d : Draft) (due : ℕ) (texts : List (List ℕ)) (form : Variable) (at : ℤ)
+in_split : (lts : System) (head : Head) (count : Count) (d : Draft) (due : ℕ) (texts : List (List ℕ)) (form : Form) (at : ℤ)
     → IsInTree lts head count d (suc due) → IsSplitLine lts texts form at → IsInTree lts head count (with_split d form at) (suc (suc due))
 in_split lts head count d due texts form at is line = record {
   asked = is.asked;
@@ -83,7 +83,7 @@ drafted_by : (lts : System) (head : Head) (p : Position) (d new : Draft) (lines 
 drafted_by lts head p d new lines e is = subst (λ x. IsDrafted lts head p x lines) (sym e) is
 
 -- a split where a node is due
-node_split : (lts : System) (head : Head) (count : Count) (due : ℕ) (texts : List (List ℕ)) (form : Variable) (at : ℤ) (d : Draft)
+node_split : (lts : System) (head : Head) (count : Count) (due : ℕ) (texts : List (List ℕ)) (form : Form) (at : ℤ) (d : Draft)
     → IsInTree lts head count d (suc due) → d.rows ≡ [] → IsSplitLine lts texts form at
     → IsDrafted lts head (at_node count (suc due)) (with_split d form at) ((flat_map (nodes_lines lts) d.cases ++ nodes_lines lts d.nodes) ++ texts ∷ [])
 node_split lts head count due texts form at d is none line =

@@ -15,13 +15,13 @@ use Rattle.rg_theory.specs.declared.Problem.TheVariants.{Event, States}
 use Rattle.rg_theory.specs.ClassWords.{NamesClass}
 use Rattle.rg_theory.proofs.ClassTold.{one_class}
 use Rattle.rg_lts.specs.WellFormed.{AreNames, IsWellFormed}
-use Rattle.rg_refuting.specs.Expression.{Variable, Variable.tokens_at, Variable.effect_of}
+use Rattle.rg_refuting.specs.Row.{Form, Form.on_tokens, Form.on_effect}
 use Rattle.rg_refuting.specs.Row.{RowName, RowName.arc_row, RowName.tokens_row, RowName.cap_row, RowName.up_row, RowName.down_row, RowName.makes_row, RowName.stop_row, RowName.block_row, RowName.empty_row, RowName.full_row, RowName.keep_row, RowName.apart_row, RowName.above_row}
 use Rattle.rg_refuting.specs.Refutes as refutes
 use Rattle.rg_refuting.specs.Refutes.{NamedRow, Tree, Tree.leaf, Tree.split}
 use Rattle.rg_reasons.specs.Trees.{leaf_node, split_node, preorder}
-use Rattle.rg_reasons.specs.Certificates.{Claim, IsRowNameOf, IsRowOf, IsVariableOf, IsNodeOf, IsTreeOf, IsReasonOf, IsClaimOf}
-use Rattle.rg_cert.specs.Text.{state_name, label_name, row_fields, named_fields, variable_fields, node_lines, case_lines, reason_lines, spaced, cert_lines, text_with, cert_text}
+use Rattle.rg_reasons.specs.Certificates.{Claim, IsRowNameOf, IsRowOf, IsFormOf, IsNodeOf, IsTreeOf, IsReasonOf, IsClaimOf}
+use Rattle.rg_cert.specs.Text.{state_name, label_name, row_fields, named_fields, form_fields, node_lines, case_lines, reason_lines, spaced, cert_lines, text_with, cert_text}
 use Rattle.rg_cert.specs.Spells.{Spells}
 use Rattle.rg_cert.specs.Numerals.{IsNumeral}
 use Rattle.rg_cert.specs.Lines.{at_heading, at_end}
@@ -250,14 +250,14 @@ one_row lts r s fine x y e =
     let n = one_name lts r.name s.name fine x.name y.name name in
     (λ i. record { multiplier = k i; name = n i })
 
-one_variable : (lts : System) (v w : Variable) (a b : List ℕ) → IsWellFormed lts → IsVariableOf lts v → IsVariableOf lts w
-    → variable_fields lts v ++ a ∷ [] ≡ variable_fields lts w ++ b ∷ [] → (v ≡ w) × (a ≡ b)
-one_variable lts (tokens_at q) (tokens_at r) a b fine x y e =
-    let same : state_name lts q ≡ state_name lts r = cc in (ap tokens_at (one_number lts.state_names q r fine.state_names x y same), cc)
-one_variable lts (tokens_at q) (effect_of u) a b fine x y e = absurd (other_words (codes "tokens") (codes "effect") _ _ refl e)
-one_variable lts (effect_of t) (tokens_at r) a b fine x y e = absurd (other_words (codes "effect") (codes "tokens") _ _ refl e)
-one_variable lts (effect_of t) (effect_of u) a b fine x y e =
-    let same : label_name lts t ≡ label_name lts u = cc in (ap effect_of (one_number lts.label_names t u fine.label_names x y same), cc)
+one_form_of_split : (lts : System) (v w : Form) (a b : List ℕ) → IsWellFormed lts → IsFormOf lts v → IsFormOf lts w
+    → form_fields lts v ++ a ∷ [] ≡ form_fields lts w ++ b ∷ [] → (v ≡ w) × (a ≡ b)
+one_form_of_split lts (on_tokens q) (on_tokens r) a b fine x y e =
+    let same : state_name lts q ≡ state_name lts r = cc in (ap on_tokens (one_number lts.state_names q r fine.state_names x y same), cc)
+one_form_of_split lts (on_tokens q) (on_effect u) a b fine x y e = absurd (other_words (codes "tokens") (codes "effect") _ _ refl e)
+one_form_of_split lts (on_effect t) (on_tokens r) a b fine x y e = absurd (other_words (codes "effect") (codes "tokens") _ _ refl e)
+one_form_of_split lts (on_effect t) (on_effect u) a b fine x y e =
+    let same : label_name lts t ≡ label_name lts u = cc in (ap on_effect (one_number lts.label_names t u fine.label_names x y same), cc)
 
 -- the lines don't begin with a row
 abbrev starts_word : List (List ℕ) → Bool
@@ -314,13 +314,13 @@ one_tree lts (leaf rows) (leaf others) xs ys fine x y nx ny e =
 one_tree lts (leaf rows) (split form at low high) xs ys fine x y nx ny e = absurd (other_words (codes "leaf") (codes "split") _ _ refl (first_same _ _ _ _ e))
 one_tree lts (split form at low high) (leaf rows) xs ys fine x y nx ny e = absurd (other_words (codes "split") (codes "leaf") _ _ refl (first_same _ _ _ _ e))
 one_tree lts (split f a low high) (split g b low' high') xs ys fine x y nx ny e =
-    let first : variable_fields lts f ++ signed_decimal a ∷ [] ≡ variable_fields lts g ++ signed_decimal b ∷ [] = cc in
+    let first : form_fields lts f ++ signed_decimal a ∷ [] ≡ form_fields lts g ++ signed_decimal b ∷ [] = cc in
     let rest : flat_map (node_lines lts) (preorder low ++ preorder high) ++ xs ≡ flat_map (node_lines lts) (preorder low' ++ preorder high') ++ ys = cc in
     let x₀ = All-head (IsNodeOf lts) (split_node f a) (preorder low ++ preorder high) x in
     let y₀ = All-head (IsNodeOf lts) (split_node g b) (preorder low' ++ preorder high') y in
     let x₁ = sides (IsNodeOf lts) (preorder low) (preorder high) (All-tail (IsNodeOf lts) (split_node f a) (preorder low ++ preorder high) x) in
     let y₁ = sides (IsNodeOf lts) (preorder low') (preorder high') (All-tail (IsNodeOf lts) (split_node g b) (preorder low' ++ preorder high') y) in
-    let v = one_variable lts f g (signed_decimal a) (signed_decimal b) fine x₀.0 y₀.0 first in
+    let v = one_form_of_split lts f g (signed_decimal a) (signed_decimal b) fine x₀.0 y₀.0 first in
     let n = one_signed a b (omega (arith, x₀.1)) (omega (arith, y₀.1)) v.1 in
     let l = one_tree lts low low' (flat_map (node_lines lts) (preorder high) ++ xs) (flat_map (node_lines lts) (preorder high') ++ ys) fine x₁.0 y₁.0
     (tree_no_row lts high xs) (tree_no_row lts high' ys) (sym (split_parts lts low high xs) ∙ rest ∙ split_parts lts low' high' ys) in

@@ -2,7 +2,7 @@
 use Rattle.std.proofs.Common.{ℕ, suc, List, [], ◌∷◌, ◌++◌, append-nil, append_assoc, refl, sym, ap, ◌∙◌, arith}
 use Rattle.std.specs.List.{flat_map}
 use Rattle.std.specs.Prelude.{ℤ}
-use Rattle.rg_refuting.specs.Expression.{Variable}
+use Rattle.rg_refuting.specs.Row.{Form}
 use Rattle.rg_refuting.specs.Refutes.{NamedRow, Tree, Tree.leaf, Tree.split}
 use Rattle.rg_reasons.specs.Trees.{TreeNode, TreeNode.leaf_node, TreeNode.split_node, preorder, IsWholeTree}
 use Rattle.rg_cert.specs.Drafts.{IsOpen}
@@ -20,7 +20,7 @@ open_leaf nodes rows due is trees long =
     (whole.0, append_assoc nodes (leaf_node rows ∷ []) (flat_map preorder trees) ∙ whole.1)
 
 -- a split makes one tree of two
-pub open_split : (nodes : List TreeNode) (form : Variable) (at : ℤ) (due : ℕ) → IsOpen nodes (suc due) → IsOpen (nodes ++ split_node form at ∷ []) (suc (suc due))
+pub open_split : (nodes : List TreeNode) (form : Form) (at : ℤ) (due : ℕ) → IsOpen nodes (suc due) → IsOpen (nodes ++ split_node form at ∷ []) (suc (suc due))
 open_split nodes form at due is [] long = absurd (omega (arith, long))
 open_split nodes form at due is (tree ∷ []) long = absurd (omega (arith, long))
 open_split nodes form at due is (low ∷ high ∷ more) long =

@@ -10,7 +10,7 @@ use Rattle.rg_theory.specs.declared.Problem.TheVariants.{Event, States}
 use Rattle.rg_theory.specs.ClassWords.{NamesClass}
 use Rattle.rg_theory.proofs.ClassBytes.{named_bound}
 use Rattle.rg_theory.proofs.ClassDecided.{Decided}
-use Rattle.rg_refuting.specs.Expression.{Variable, Variable.tokens_at, Variable.effect_of}
+use Rattle.rg_refuting.specs.Row.{Form, Form.on_tokens, Form.on_effect}
 use Rattle.rg_refuting.specs.Row.{RowName.arc_row, RowName.tokens_row, RowName.cap_row, RowName.up_row, RowName.down_row, RowName.makes_row, RowName.stop_row, RowName.block_row, RowName.empty_row, RowName.full_row, RowName.keep_row, RowName.apart_row, RowName.above_row}
 use Rattle.rg_refuting.specs.Refutes as refutes
 use Rattle.rg_refuting.specs.Refutes.{NamedRow, Tree}
@@ -122,13 +122,13 @@ row_there lts above_form texts good =
     let d = depth_there (get_or texts 2 []) (good_at lts (row_line above_form) texts 2 (number depth) good refl).in_range in
     (record { multiplier = m.0; name = above_row d.0 }, record { multiplier = m.1; name = d.1 }, three_texts HasFieldForm (number multiplier) (word (codes "above")) (number depth) texts good.fields ∙ (λ i. m.2 i ∷ v i ∷ d.2 i ∷ []))
 
-split_tokens_there : (lts : System) (texts : List (List ℕ)) → IsGood lts split_tokens_line texts → (form : Variable) × (at : ℤ) × IsSplitLine lts texts form at
+split_tokens_there : (lts : System) (texts : List (List ℕ)) → IsGood lts split_tokens_line texts → (form : Form) × (at : ℤ) × IsSplitLine lts texts form at
 split_tokens_there lts texts good =
     let u = (good_at lts split_tokens_line texts 0 (word (codes "split")) good refl).form in
     let v = (good_at lts split_tokens_line texts 1 (word (codes "tokens")) good refl).form in
     let n = name_there lts.state_names (get_or texts 2 []) (good_at lts split_tokens_line texts 2 state good refl).known in
     let z = split_there (get_or texts 3 []) (good_at lts split_tokens_line texts 3 (number split_value) good refl).in_range in (
-      tokens_at n.0,
+      on_tokens n.0,
       z.0,
       record {
         variable = n.1;
@@ -137,13 +137,13 @@ split_tokens_there lts texts good =
       },
     )
 
-split_effect_there : (lts : System) (texts : List (List ℕ)) → IsGood lts split_effect_line texts → (form : Variable) × (at : ℤ) × IsSplitLine lts texts form at
+split_effect_there : (lts : System) (texts : List (List ℕ)) → IsGood lts split_effect_line texts → (form : Form) × (at : ℤ) × IsSplitLine lts texts form at
 split_effect_there lts texts good =
     let u = (good_at lts split_effect_line texts 0 (word (codes "split")) good refl).form in
     let v = (good_at lts split_effect_line texts 1 (word (codes "effect")) good refl).form in
     let n = name_there lts.label_names (get_or texts 2 []) (good_at lts split_effect_line texts 2 label good refl).known in
     let z = split_there (get_or texts 3 []) (good_at lts split_effect_line texts 3 (number split_value) good refl).in_range in (
-      effect_of n.0,
+      on_effect n.0,
       z.0,
       record {
         variable = n.1;

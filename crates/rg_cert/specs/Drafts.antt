@@ -3,12 +3,12 @@ use Rattle.std.specs.Prelude.{◌≡◌, ℕ, suc, ◌<◌, List, [], ◌∷◌,
 use Rattle.std.specs.List.{flat_map}
 use Rattle.std.specs.Fmt.{signed_decimal}
 use Rattle.rg_theory.specs.System.{System, states, labels}
-use Rattle.rg_refuting.specs.Expression.{Variable}
+use Rattle.rg_refuting.specs.Row.{Form}
 use Rattle.rg_refuting.specs.Refutes.{NamedRow, Tree}
 use Rattle.rg_reasons.specs.Trees.{TreeNode, leaf_node, split_node, preorder, IsWholeTree}
-use Rattle.rg_reasons.specs.Certificates.{IsRowOf, IsVariableOf, IsSplitInRange, IsNodeOf}
+use Rattle.rg_reasons.specs.Certificates.{IsRowOf, IsFormOf, IsSplitInRange, IsNodeOf}
 use Rattle.rg_text.specs.Line.{fed}
-use Rattle.rg_cert.specs.Text.{spaced, state_name, label_name, named_fields, variable_fields, node_lines}
+use Rattle.rg_cert.specs.Text.{spaced, state_name, label_name, named_fields, form_fields, node_lines}
 use Rattle.rg_cert.specs.declared.fault.CertFault.{CertFault}
 use Rattle.rg_cert.specs.declared.fault.CertFault.TheVariants.{NumberPasses, UnknownName}
 use Rattle.rg_cert.specs.Faults.{IsRight, HasNumberOut, HasUnknownName}
@@ -66,17 +66,17 @@ case_closed (at_row count due) d = record { cases = d.cases ++ (d.nodes ++ leaf_
 case_closed _ d = d
 
 -- these are the fields of a split of the system
-pub record IsSplitLine (lts : System) (texts : List (List ℕ)) (form : Variable) (at : ℤ) : Type 0 where
-  pub variable : IsVariableOf lts form
+pub record IsSplitLine (lts : System) (texts : List (List ℕ)) (form : Form) (at : ℤ) : Type 0 where
+  pub variable : IsFormOf lts form
   pub in_range : IsSplitInRange at
-  pub are : texts ≡ codes "split" ∷ (variable_fields lts form ++ signed_decimal at ∷ [])
+  pub are : texts ≡ codes "split" ∷ (form_fields lts form ++ signed_decimal at ∷ [])
 
-abbrev pub with_split : Draft → Variable → ℤ → Draft
+abbrev pub with_split : Draft → Form → ℤ → Draft
 with_split d form at = record d { nodes = d.nodes ++ split_node form at ∷ [] }
 
 -- the draft has one more node
 abbrev pub AddsSplit : System → List (List ℕ) → Draft → Draft → Type 0
-AddsSplit lts texts d new = (form : Variable) × (at : ℤ) × IsSplitLine lts texts form at × (new ≡ with_split d form at)
+AddsSplit lts texts d new = (form : Form) × (at : ℤ) × IsSplitLine lts texts form at × (new ≡ with_split d form at)
 
 -- one more row
 abbrev pub AddsRow : System → List (List ℕ) → Draft → Draft → Type 0

@@ -7,7 +7,7 @@ use Rattle.rg_theory.specs.System.{System}
 use Rattle.rg_theory.specs.ClassWords.{class_text}
 use Rattle.rg_theory.specs.declared.Problem.{Problem}
 use Rattle.rg_theory.specs.declared.Problem.TheVariants.{Event, States}
-use Rattle.rg_refuting.specs.Expression.{Variable, Variable.tokens_at, Variable.effect_of}
+use Rattle.rg_refuting.specs.Row.{Form, Form.on_tokens, Form.on_effect}
 use Rattle.rg_refuting.specs.Row as row
 use Rattle.rg_refuting.specs.Refutes as refutes
 use Rattle.rg_refuting.specs.Refutes.{NamedRow, Tree}
@@ -40,14 +40,14 @@ row_fields lts (row.above_row d) = codes "above" ∷ decimal d ∷ []
 abbrev pub named_fields : System → NamedRow → List (List ℕ)
 named_fields lts r = signed_decimal r.multiplier ∷ row_fields lts r.name
 
-abbrev pub variable_fields : System → Variable → List (List ℕ)
-variable_fields lts (tokens_at q) = codes "tokens" ∷ state_name lts q ∷ []
-variable_fields lts (effect_of t) = codes "effect" ∷ label_name lts t ∷ []
+abbrev pub form_fields : System → Form → List (List ℕ)
+form_fields lts (on_tokens q) = codes "tokens" ∷ state_name lts q ∷ []
+form_fields lts (on_effect t) = codes "effect" ∷ label_name lts t ∷ []
 
 -- the fields of the lines of a node
 abbrev pub node_lines : System → TreeNode → List (List (List ℕ))
 node_lines lts (leaf_node rows) = (codes "leaf" ∷ []) ∷ map (named_fields lts) rows
-node_lines lts (split_node form at) = (codes "split" ∷ (variable_fields lts form ++ signed_decimal at ∷ [])) ∷ []
+node_lines lts (split_node form at) = (codes "split" ∷ (form_fields lts form ++ signed_decimal at ∷ [])) ∷ []
 
 -- the fields of the lines of a case
 abbrev pub case_lines : System → Tree → List (List (List ℕ))

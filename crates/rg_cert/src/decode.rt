@@ -2,7 +2,7 @@
 ghost use Rattle.std.specs.Prelude.{◌≡◌, ◌<◌, ◌++◌, ◌∷◌, [], length, slice_index_or};
 ghost use Rattle.std.specs.Fmt.{signed_decimal};
 ghost use Rattle.rg_theory.specs.System.{states, labels};
-ghost use Rattle.rg_reasons.specs.Trees.{row_name_of, named_row, variable_of};
+ghost use Rattle.rg_reasons.specs.Trees.{row_name_of, named_row, form_of};
 ghost use Rattle.rg_reasons.specs.Certificates.{IsMultiplierInRange, IsSplitInRange, IsRowNameOf, IsRowOf};
 ghost use Rattle.rg_cert.specs.Text.{state_name, label_name, row_fields, named_fields};
 ghost use Rattle.rg_cert.specs.Lines.{Position.at_reason, Next.to, follows, Field.state as state_field, Field.label as label_field, Field.number as number_field, Range.multiplier as multiplier_range, Range.split_value as split_range, Range.depth as depth_range};
@@ -81,7 +81,7 @@ pub(crate) fn row_of(row: RowForm, texts: &[&[u8]], lts: &Lts) -> (RowName, i128
 // What a split of tokens says.
 pub(crate) fn tokens_split(texts: &[&[u8]], lts: &Lts) -> (Form, i64)
     requires { IsGood lts.now (line_form_in of_line.SplitTokens) (texts_in texts.now) }
-    ensures { IsSplitLine lts.now (texts_in texts.now) (variable_of result.0) result.1 }
+    ensures { IsSplitLine lts.now (texts_in texts.now) (form_of result.0) result.1 }
 {
     (
         Form::Tokens(state_at(texts, 2, lts)),
@@ -92,7 +92,7 @@ pub(crate) fn tokens_split(texts: &[&[u8]], lts: &Lts) -> (Form, i64)
 // What a split of an effect says.
 pub(crate) fn effect_split(texts: &[&[u8]], lts: &Lts) -> (Form, i64)
     requires { IsGood lts.now (line_form_in of_line.SplitEffect) (texts_in texts.now) }
-    ensures { IsSplitLine lts.now (texts_in texts.now) (variable_of result.0) result.1 }
+    ensures { IsSplitLine lts.now (texts_in texts.now) (form_of result.0) result.1 }
 {
     (
         Form::Effect(label_at(texts, 2, lts)),

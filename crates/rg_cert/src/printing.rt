@@ -4,9 +4,9 @@ ghost use Rattle.std.specs.List.{flat_map};
 ghost use Rattle.std.specs.Fmt.{signed_decimal};
 ghost use Rattle.rg_text.specs.Line.{fed};
 ghost use Rattle.rg_theory.specs.System.{states, labels};
-ghost use Rattle.rg_reasons.specs.Trees.{TreeNode.split_node, row_name_of, variable_of, named_row, node_of, nodes_of};
-ghost use Rattle.rg_reasons.specs.Certificates.{claim_of, IsCertificateOf, IsRowNameOf, IsVariableOf, IsRowOf, IsNodeOf};
-ghost use Rattle.rg_cert.specs.Text.{state_name, label_name, row_fields, named_fields, variable_fields, node_lines, spaced, cert_text};
+ghost use Rattle.rg_reasons.specs.Trees.{TreeNode.split_node, row_name_of, form_of, named_row, node_of, nodes_of};
+ghost use Rattle.rg_reasons.specs.Certificates.{claim_of, IsCertificateOf, IsRowNameOf, IsFormOf, IsRowOf, IsNodeOf};
+ghost use Rattle.rg_cert.specs.Text.{state_name, label_name, row_fields, named_fields, form_fields, node_lines, spaced, cert_text};
 ghost use Rattle.rg_cert.specs.Spells.{Spells};
 ghost use Rattle.rg_cert.specs.Drafts.{head_fields, IsHeadOf, nodes_lines, IsCase};
 ghost use Rattle.rg_cert.specs.View.{reason_head, reason_cases};
@@ -118,8 +118,8 @@ fn push_node(text: &mut Vec<u8>, node: &Node, lts: &Lts) -> Result<(), NoMemory>
 
 // The line of a split.
 fn push_split(text: &mut Vec<u8>, form: Form, at: i64, lts: &Lts) -> Result<(), NoMemory>
-    requires { IsVariableOf lts.now (variable_of form) }
-    ensures { OnOk result (text.new.items ≡ text.old.items ++ fed (map spaced (node_lines lts.now (split_node (variable_of form) at)))) }
+    requires { IsFormOf lts.now (form_of form) }
+    ensures { OnOk result (text.new.items ≡ text.old.items ++ fed (map spaced (node_lines lts.now (split_node (form_of form) at)))) }
 {
     let mut buffer = Buffer::new();
     push_form(text, form, lts)?;
@@ -131,8 +131,8 @@ fn push_split(text: &mut Vec<u8>, form: Form, at: i64, lts: &Lts) -> Result<(), 
 
 // What a split speaks of.
 fn push_form(text: &mut Vec<u8>, form: Form, lts: &Lts) -> Result<(), NoMemory>
-    requires { IsVariableOf lts.now (variable_of form) }
-    ensures { OnOk result (text.new.items ≡ text.old.items ++ spaced (codes "split" ∷ variable_fields lts.now (variable_of form))) }
+    requires { IsFormOf lts.now (form_of form) }
+    ensures { OnOk result (text.new.items ≡ text.old.items ++ spaced (codes "split" ∷ form_fields lts.now (form_of form))) }
 {
     match form {
         Form::Tokens(q) => push_with_state(text, b"split tokens", lts, q),

@@ -1,60 +1,84 @@
 -- Counts of labels and of Start, and coefficients, in a sum of terms, term by term.
-use Rattle.std.proofs.Common.{◌≡◌, ℕ, ◌+◌, ◌^◌, ◌<◌, if◌then◌else◌, List, ◌∷◌, map, drop, length, All, ap, sym, subst, ◌∙◌, arith, add-one}
+use Rattle.std.proofs.Common.{◌≡◌, ℕ, ◌+◌, ◌^◌, ◌<◌, ◌≤◌, zero, suc, if◌then◌else◌, List, [], ◌∷◌, drop, length, All, Option, Some, None, refl, ap, sym, subst, ◌∙◌, arith, add-one}
 use Rattle.std.specs.Prelude.{ℤ, pos, negsuc, neg_ℤ, ◌+ℤ◌, ◌-ℤ◌, ◌*ℤ◌, ◌≤ℤ◌, slice_index_or}
 use Rattle.std.proofs.lemmas.Int.{ints}
-use Rattle.std.proofs.lemmas.List.{length-map, get_or-map}
-use Rattle.std.proofs.Math.Seq.{drop-cons}
+use Rattle.std.proofs.lemmas.List.Elements.{All-head, All-tail}
+use Rattle.std.proofs.lemmas.Option.{same_Some, none-some}
 use Rattle.rg_theory.specs.declared.Arc.{Arc}
 use Rattle.rg_integers.specs.Range.{InRange}
-use Rattle.rg_integers.proofs.Ring.{one-mul}
-use Rattle.rg_refuting.specs.Expression.{Variable, same_variable, coefficient_in}
+use Rattle.rg_refuting.specs.Expression.{Term as SumTerm, Variable, same_variable, coefficient_in}
 use Rattle.rg_folds.specs.Rewriting.{variable_start, variable_count, start_of, count_of}
-use Rattle.rg_reasons.specs.Trees.{variable_of}
-use Rattle.rg_reasons.specs.declared.certificate.Form.{Form}
-use Rattle.rg_expressions.specs.declared.term.Term.{Term}
-use Rattle.rg_expressions.specs.declared.term.Term.TheVariants.{Plus, Minus}
-use Rattle.rg_expressions.specs.View.{term_of, IsVariableWithin, IsTermWithin}
+use Rattle.rg_reasons.specs.declared.variable.Term.{Term}
+use Rattle.rg_reasons.specs.Sums.{term_of, terms_in}
 
 part : (a b c : ℤ) → (a +ℤ b) +ℤ c ≡ a +ℤ (b +ℤ c)
 part a b c = omega (arith, ints)
 
--- the sum so far, and what the terms from i on add
-module _ (terms : List Term) (i : ℕ) (d t : Term) (lt : i < length terms) (is : slice_index_or terms i d ≡ t) where
-  here : drop i terms ≡ t ∷ drop (i + 1) terms
-  here = drop-cons terms i d lt ∙ ap (λ n. slice_index_or terms i d ∷ drop n terms) (sym (add-one i)) ∙ ap (λ x. x ∷ drop (i + 1) terms) is
+-- ---- the terms at the places of a list
 
-  pub count_next : (tree : List Arc) (u : ℕ) (sum more total : ℤ) → more ≡ sum +ℤ ((term_of t).coefficient *ℤ variable_count tree (term_of t).variable u) → sum +ℤ count_of tree (map term_of (drop i terms)) u ≡ total → more +ℤ count_of tree (map term_of (drop (i + 1) terms)) u ≡ total
-  count_next tree u sum more total m e = ap (λ z. z +ℤ count_of tree (map term_of (drop (i + 1) terms)) u) m ∙ part sum _ _ ∙ sym (ap (λ l. sum +ℤ count_of tree (map term_of l) u) here) ∙ e
+-- where a term stands, the terms from there on are it and those after it
+term_here : (places : List (Option Term)) (i : ℕ) (t : Term) → slice_index_or places i None ≡ Some t → terms_in (drop i places) ≡ term_of t ∷ terms_in (drop (suc i) places)
+term_here [] i t is = absurd (none-some t is)
+term_here (o ∷ more) zero t is = ap (λ o. terms_in (o ∷ more)) is
+term_here (o ∷ more) (suc i) t is = term_here more i t is
 
-  pub start_next : (sum more total : ℤ) → more ≡ sum +ℤ ((term_of t).coefficient *ℤ variable_start (term_of t).variable) → sum +ℤ start_of (map term_of (drop i terms)) ≡ total → more +ℤ start_of (map term_of (drop (i + 1) terms)) ≡ total
-  start_next sum more total m e = ap (λ z. z +ℤ start_of (map term_of (drop (i + 1) terms))) m ∙ part sum _ _ ∙ sym (ap (λ l. sum +ℤ start_of (map term_of l)) here) ∙ e
+-- where none stands, they are those after it
+none_here : (places : List (Option Term)) (i : ℕ) → slice_index_or places i None ≡ None → terms_in (drop i places) ≡ terms_in (drop (suc i) places)
+none_here [] zero is = refl
+none_here [] (suc i) is = refl
+none_here (o ∷ more) zero is = ap (λ o. terms_in (o ∷ more)) is
+none_here (o ∷ more) (suc i) is = none_here more i is
 
-  pub coefficient_next : (v : Variable) (sum more total : ℤ) → more ≡ sum +ℤ (if same_variable (term_of t).variable v then (term_of t).coefficient else pos 0) → sum +ℤ coefficient_in (map term_of (drop i terms)) v ≡ total → more +ℤ coefficient_in (map term_of (drop (i + 1) terms)) v ≡ total
-  coefficient_next v sum more total m e = ap (λ z. z +ℤ coefficient_in (map term_of (drop (i + 1) terms)) v) m ∙ part sum (if same_variable (term_of t).variable v then (term_of t).coefficient else pos 0) (coefficient_in (map term_of (drop (i + 1) terms)) v) ∙ sym (ap (λ l. sum +ℤ coefficient_in (map term_of l) v) here) ∙ e
+-- behind the last place there are none
+none_behind : (places : List (Option Term)) (i : ℕ) → length places ≤ i → terms_in (drop i places) ≡ []
+none_behind [] zero le = refl
+none_behind [] (suc i) le = refl
+none_behind (o ∷ more) zero le = absurd (omega arith)
+none_behind (o ∷ more) (suc i) le = none_behind more i (omega arith)
+
+-- what holds of all terms holds of the one at a place
+pub term_at : (P : SumTerm → Type 0) (places : List (Option Term)) (i : ℕ) (t : Term) → slice_index_or places i None ≡ Some t → All P (terms_in places) → P (term_of t)
+term_at P [] i t is all = absurd (none-some t is)
+term_at P (None ∷ more) zero t is all = absurd (none-some t is)
+term_at P (None ∷ more) (suc i) t is all = term_at P more i t is all
+term_at P (Some u ∷ more) zero t is all = subst (λ x. P (term_of x)) (same_Some u t is) (All-head P (term_of u) (terms_in more) all)
+term_at P (Some u ∷ more) (suc i) t is all = term_at P more i t is (All-tail P (term_of u) (terms_in more) all)
+
+-- ---- the sum so far, and what the places from i on add
+
+module _ (places : List (Option Term)) (i : ℕ) where
+  abbrev rest : List SumTerm
+  rest = terms_in (drop (i + 1) places)
+
+  next : terms_in (drop (suc i) places) ≡ rest
+  next = ap (λ n. terms_in (drop n places)) (sym (add-one i))
+
+  here : (t : Term) → slice_index_or places i None ≡ Some t → terms_in (drop i places) ≡ term_of t ∷ rest
+  here t is = term_here places i t is ∙ ap (λ l. term_of t ∷ l) next
+
+  module _ (t : Term) (is : slice_index_or places i None ≡ Some t) where
+    pub count_next : (tree : List Arc) (u : ℕ) (sum more total : ℤ) → more ≡ sum +ℤ ((term_of t).coefficient *ℤ variable_count tree (term_of t).variable u) → sum +ℤ count_of tree (terms_in (drop i places)) u ≡ total → more +ℤ count_of tree rest u ≡ total
+    count_next tree u sum more total m e = ap (λ z. z +ℤ count_of tree rest u) m ∙ part sum _ _ ∙ sym (ap (λ l. sum +ℤ count_of tree l u) (here t is)) ∙ e
+
+    pub start_next : (sum more total : ℤ) → more ≡ sum +ℤ ((term_of t).coefficient *ℤ variable_start (term_of t).variable) → sum +ℤ start_of (terms_in (drop i places)) ≡ total → more +ℤ start_of rest ≡ total
+    start_next sum more total m e = ap (λ z. z +ℤ start_of rest) m ∙ part sum _ _ ∙ sym (ap (λ l. sum +ℤ start_of l) (here t is)) ∙ e
+
+    pub coefficient_next : (v : Variable) (sum more total : ℤ) → more ≡ sum +ℤ (if same_variable (term_of t).variable v then (term_of t).coefficient else pos 0) → sum +ℤ coefficient_in (terms_in (drop i places)) v ≡ total → more +ℤ coefficient_in rest v ≡ total
+    coefficient_next v sum more total m e = ap (λ z. z +ℤ coefficient_in rest v) m ∙ part sum (if same_variable (term_of t).variable v then (term_of t).coefficient else pos 0) (coefficient_in rest v) ∙ sym (ap (λ l. sum +ℤ coefficient_in l v) (here t is)) ∙ e
+
+  -- where no term stands, nothing is added
+  pub nothing_next : (f : List SumTerm → ℤ) (sum more total : ℤ) → more ≡ sum → slice_index_or places i None ≡ None → sum +ℤ f (terms_in (drop i places)) ≡ total → more +ℤ f rest ≡ total
+  nothing_next f sum more total same is e = ap (λ z. z +ℤ f rest) same ∙ sym (ap (λ l. sum +ℤ f l) (none_here places i is ∙ next)) ∙ e
+
+  -- behind the last place the sum is the whole
+  pub whole_sum : (f : List SumTerm → ℤ) (sum total : ℤ) → f [] ≡ pos 0 → length places ≤ i → sum +ℤ f (terms_in (drop i places)) ≡ total → sum ≡ total
+  whole_sum f sum total nothing le e = close sum (f []) nothing ∙ sym (ap (λ l. sum +ℤ f l) (none_behind places i le)) ∙ e
+    where
+      close : (s z : ℤ) → z ≡ pos 0 → s ≡ s +ℤ z
+      close s z is = omega (arith, ints)
 
 -- ---- the sums in code
 
 pub in_range_between : (z : ℤ) (n : ℕ) → n < 2 ^ 127 → neg_ℤ (pos n) ≤ℤ z → z ≤ℤ pos n → InRange z
 in_range_between (pos m) n lt low high = omega (arith, ints)
 in_range_between (negsuc m) n lt low high = omega (arith, ints)
-
-pub plus_more : (sum r x more : ℤ) → more ≡ sum +ℤ r → r ≡ x → more ≡ sum +ℤ (pos 1 *ℤ x)
-plus_more sum r x more e f = e ∙ ap (λ z. sum +ℤ z) (f ∙ sym (one-mul x))
-
-pub minus_more : (sum r x more : ℤ) → more ≡ sum -ℤ r → r ≡ x → more ≡ sum +ℤ (negsuc 0 *ℤ x)
-minus_more sum r x more e f = e ∙ ap (λ z. sum -ℤ z) f ∙ turned sum x
-  where
-    turned : (a b : ℤ) → a -ℤ b ≡ a +ℤ (negsuc 0 *ℤ b)
-    turned a b = omega (arith, ints)
-
--- ---- a term of the list
-
-module _ (n : ℕ) (terms : List Term) (i : ℕ) (d : Term) (lt : i < length terms) (within : All (IsTermWithin n) (map term_of terms)) where
-  pub term_within : IsTermWithin n (term_of (slice_index_or terms i d))
-  term_within = subst (IsTermWithin n) (get_or-map term_of terms i d (term_of d) lt) (within i (term_of d) (simp length-map lt))
-
-  pub plus_within : (f : Form) → slice_index_or terms i d ≡ Plus f → IsVariableWithin n (variable_of f)
-  plus_within f e = subst (λ t. IsTermWithin n (term_of t)) e term_within
-
-  pub minus_within : (f : Form) → slice_index_or terms i d ≡ Minus f → IsVariableWithin n (variable_of f)
-  minus_within f e = subst (λ t. IsTermWithin n (term_of t)) e term_within

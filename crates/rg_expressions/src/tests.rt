@@ -1,11 +1,11 @@
 //! Rows and counts of a small system, worked by hand.
 ghost use Rattle.rg_spanning.specs.Spanning.{IsTreeOf};
 
-use crate::Term::{self, Minus, Plus};
-use crate::{ProblemCase, count, expression, start};
+use crate::{count, start};
 use rg_lts::{BuildFault, Lts, LtsBuilder};
-use rg_reasons::Form::{Effect, Tokens};
-use rg_reasons::RowName;
+use rg_reasons::Term::{Minus, Plus};
+use rg_reasons::Variable::{Effect, Tokens};
+use rg_reasons::{Expression, Form, ProblemCase, RowName, Side, expression};
 use rg_spanning::Tree;
 use rg_theory::Class;
 use rg_theory::Problem::{Event, States};
@@ -51,9 +51,6 @@ fn the_order_and_the_consumer_are_told(rt: HostRuntime) -> Result<(), Fail> {
         problem: States(0, 2),
         number: 3,
     };
-    if lts.labels() == 0 {
-        return Err(Fail::from(AllocError));
-    }
     assert_eq!(rt; case.order(&lts), 1);
     assert_eq!(rt; case.consumer(&lts), 1);
     Ok(())
@@ -68,12 +65,16 @@ fn a_stop_is_told_and_counted(rt: HostRuntime) -> Result<(), Fail> {
         problem: Event(1, 0),
         number: 0,
     };
-    let row = expression(rt.alloc(), &lts, case, &[], RowName::Stop(2))?;
+    let row = expression(&lts, case, &[], RowName::Stop(2));
     assert_eq!(rt; row.constant, -1);
-    assert_eq!(rt; row.terms.len(), 2);
-    assert_eq!(rt; start(&row.terms), 0);
-    let side = [(Effect(1), 4i64, true)];
-    let above = expression(rt.alloc(), &lts, case, &side, RowName::Above(0))?;
+    assert_eq!(rt; row.terms, [Some(Plus(Tokens(2))), Some(Minus(Tokens(1))), None]);
+    assert_eq!(rt; start(&row), 0);
+    let side = [Side {
+        form: Form::Effect(1),
+        at: 4,
+        high: true,
+    }];
+    let above = expression(&lts, case, &side, RowName::Above(0));
     assert_eq!(rt; above.constant, -5);
     Ok(())
 }
@@ -85,8 +86,11 @@ fn labels_count_along_the_tree(rt: HostRuntime) -> Result<(), Fail> {
     if lts.labels() < 2 || lts.states() < 3 {
         return Err(Fail::from(AllocError));
     }
-    let terms = [Plus(Tokens(2)), Minus(Effect(1))];
-    assert_eq!(rt; count(&tree, &terms, 0), 1);
-    assert_eq!(rt; count(&tree, &terms, 1), 0);
+    let sum = Expression {
+        terms: [Some(Plus(Tokens(2))), Some(Minus(Effect(1))), None],
+        constant: 0,
+    };
+    assert_eq!(rt; count(&tree, &sum, 0), 1);
+    assert_eq!(rt; count(&tree, &sum, 1), 0);
     Ok(())
 }

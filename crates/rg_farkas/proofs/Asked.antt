@@ -13,115 +13,20 @@ use Rattle.rg_fraction.specs.declared.fraction.Fraction.{Fraction}
 use Rattle.rg_linear.specs.Cycle.{CycleBasis}
 use Rattle.rg_refuting.specs.Expression.{Variable, Variable.tokens_at, Variable.effect_of, Term, Expression, plus, minus, sum_of}
 use Rattle.rg_refuting.specs.Row.{Side, RowName, RowName.arc_row, RowName.tokens_row, RowName.cap_row, RowName.up_row, RowName.down_row, RowName.makes_row, RowName.stop_row, RowName.block_row, RowName.empty_row, RowName.full_row, RowName.keep_row, RowName.apart_row, RowName.above_row, RowStands, side_expression, shared_expression, event_expression, state_expression, apart_expression, row_expression, order_of, cases_of}
-use Rattle.rg_refuting.specs.Refutes.{NamedRow, IsAsked}
+use Rattle.rg_refuting.specs.Refutes.{NamedRow, IsSeparationProblem}
 use Rattle.rg_reasons.specs.declared.certificate.RowName.{RowName as CodeName}
 use Rattle.rg_reasons.specs.Trees.{named_row}
-use Rattle.rg_reasons.specs.Certificates.{IsVariableOf, IsRowNameOf, IsRowOf}
+use Rattle.rg_reasons.specs.Certificates.{IsFormOf, IsRowNameOf, IsRowOf, IsTermWithin}
+use Rattle.rg_reasons.proofs.Within.{row_within}
 use Rattle.rg_folds.specs.Spreading.{Share, arc_name, named_from, multiplier_among, chord_arcs, leaf_fold}
 use Rattle.rg_farkas.specs.Leaves.{share_of}
-use Rattle.rg_farkas.specs.View.{IsTermWithin, AreRowsWithin}
+use Rattle.rg_farkas.specs.View.{AreRowsWithin}
 use Rattle.rg_farkas.proofs.LeafSteps.{not_zero_all}
 use Rattle.rg_farkas.proofs.TreeSums.{SaysArcs}
 
--- ---- the rows' terms
-
 module _ (lts : System) where
-  abbrev Within : Term → Type 0
-  Within = IsTermWithin (states lts) (labels lts)
-
-  none : All Within []
-  none = All-nil Within
-
-  one : (a : Term) → Within a → All Within (a ∷ [])
-  one a p = All-cons Within a [] p none
-
-  two : (a b : Term) → Within a → Within b → All Within (a ∷ b ∷ [])
-  two a b p q = All-cons Within a (b ∷ []) p (one b q)
-
-  three : (a b c : Term) → Within a → Within b → Within c → All Within (a ∷ b ∷ c ∷ [])
-  three a b c p q r = All-cons Within a (b ∷ c ∷ []) p (two b c q r)
-
-  variable_within : (v : Variable) → IsVariableOf lts v → Within (plus v) × Within (minus v)
-  variable_within (tokens_at q) p = (p, p)
-  variable_within (effect_of t) p = (p, p)
-
-  side_within : (s : Side) → IsVariableOf lts s.form → All Within (side_expression (Some s)).terms
-  side_within s p = go s.high
-    where
-      go : (b : Bool) → All Within (if◌then◌else◌ {A = Expression} b (sum_of (plus s.form ∷ []) (neg_ℤ s.at -ℤ pos 1)) (sum_of (minus s.form ∷ []) s.at)).terms
-      go true = one (plus s.form) (variable_within s.form p).0
-      go false = one (minus s.form) (variable_within s.form p).1
-
-  above_within : (above : List Side) (d : ℕ) → All (λ s. IsVariableOf lts s.form) above → All Within (side_expression (slice_get above d)).terms
-  above_within [] d all = none
-  above_within (s ∷ above) zero all = side_within s (All-head (λ s. IsVariableOf lts s.form) s above all)
-  above_within (s ∷ above) (suc d) all = above_within above d (All-tail (λ s. IsVariableOf lts s.form) s above all)
-
-  module _ (class : Class) (above : List Side) (sides : All (λ s. IsVariableOf lts s.form) above) where
-    shared_within : (name : RowName) → IsRowNameOf lts name → All Within (shared_expression class above name).terms
-    shared_within (arc_row q t q') (a, b, c) = three (plus (tokens_at q)) (plus (effect_of t)) (minus (tokens_at q')) a b c
-    shared_within (tokens_row q) p = one (plus (tokens_at q)) p
-    shared_within (cap_row q) p = one (minus (tokens_at q)) p
-    shared_within (up_row t) p = one (minus (effect_of t)) p
-    shared_within (down_row t) p = one (plus (effect_of t)) p
-    shared_within (makes_row t) p = one (plus (effect_of t)) p
-    shared_within (stop_row q) p = none
-    shared_within block_row p = none
-    shared_within empty_row p = none
-    shared_within (full_row q) p = none
-    shared_within keep_row p = none
-    shared_within apart_row p = none
-    shared_within (above_row d) p = above_within above d sides
-
-    event_within : (s t : ℕ) → s < states lts → t < labels lts → (name : RowName) → IsRowNameOf lts name → All Within (event_expression class s t above name).terms
-    event_within s t a b (stop_row q) p = two (plus (tokens_at q)) (minus (tokens_at s)) p a
-    event_within s t a b block_row p = two (minus (tokens_at s)) (minus (effect_of t)) a b
-    event_within s t a b empty_row p = one (minus (tokens_at s)) a
-    event_within s t a b (full_row q) p = one (plus (tokens_at q)) p
-    event_within s t a b keep_row p = one (minus (effect_of t)) b
-    event_within s t a b (arc_row q u q') p = shared_within (arc_row q u q') p
-    event_within s t a b (tokens_row q) p = shared_within (tokens_row q) p
-    event_within s t a b (cap_row q) p = shared_within (cap_row q) p
-    event_within s t a b (up_row u) p = shared_within (up_row u) p
-    event_within s t a b (down_row u) p = shared_within (down_row u) p
-    event_within s t a b (makes_row u) p = shared_within (makes_row u) p
-    event_within s t a b apart_row p = shared_within apart_row p
-    event_within s t a b (above_row d) p = shared_within (above_row d) p
-
-    apart_within : (s s' order : ℕ) → s < states lts → s' < states lts → All Within (apart_expression s s' order).terms
-    apart_within s s' zero a b = two (plus (tokens_at s')) (minus (tokens_at s)) b a
-    apart_within s s' (suc order) a b = two (plus (tokens_at s)) (minus (tokens_at s')) a b
-
-    state_within : (s s' order : ℕ) → s < states lts → s' < states lts → (name : RowName) → IsRowNameOf lts name → All Within (state_expression class s s' order above name).terms
-    state_within s s' order a b apart_row p = apart_within s s' order a b
-    state_within s s' order a b (stop_row q) p = shared_within (stop_row q) p
-    state_within s s' order a b block_row p = shared_within block_row p
-    state_within s s' order a b empty_row p = shared_within empty_row p
-    state_within s s' order a b (full_row q) p = shared_within (full_row q) p
-    state_within s s' order a b keep_row p = shared_within keep_row p
-    state_within s s' order a b (arc_row q u q') p = shared_within (arc_row q u q') p
-    state_within s s' order a b (tokens_row q) p = shared_within (tokens_row q) p
-    state_within s s' order a b (cap_row q) p = shared_within (cap_row q) p
-    state_within s s' order a b (up_row u) p = shared_within (up_row u) p
-    state_within s s' order a b (down_row u) p = shared_within (down_row u) p
-    state_within s s' order a b (makes_row u) p = shared_within (makes_row u) p
-    state_within s s' order a b (above_row d) p = shared_within (above_row d) p
-
-    row_within : (problem : Problem) (number : ℕ) → IsAsked lts problem → (name : RowName) → IsRowNameOf lts name → All Within (row_expression lts class problem number above name).terms
-    row_within (Event s t) number asked = event_within s t asked.0 asked.1
-    row_within (States s s') number asked = state_within s s' (order_of lts class number) asked.0 asked.1
-
-    pub rows_within : (problem : Problem) (number : ℕ) → IsAsked lts problem → (shares : List Share) → All (λ s. IsRowNameOf lts s.name) shares → AreRowsWithin lts (row_expression lts class problem number above) shares
-    rows_within problem number asked shares names = All-weaker (λ s. IsRowNameOf lts s.name) (λ s. All Within (row_expression lts class problem number above s.name).terms) (λ s p. row_within problem number asked s.name p) shares names
-
-  -- a case has a label that alone may take from the place
-  pub has_label : (class : Class) (problem : Problem) (case : ℕ) → IsAsked lts problem → case < cases_of lts class problem → IsTrue class.nonbranching → 0 < labels lts
-  has_label class (Event s t) case asked lt single = let h = asked.1 in omega arith
-  has_label class (States s s') case asked lt single = go class.nonbranching single lt
-    where
-      go : (b : Bool) → IsTrue b → case < (if b then 2 * labels lts else 2) → 0 < labels lts
-      go true single lt = omega arith
-      go false single lt = absurd (false≢true single)
+  pub rows_within : (class : Class) (above : List Side) → All (λ s. IsFormOf lts s.form) above → (problem : Problem) (number : ℕ) → IsSeparationProblem lts problem → (shares : List Share) → All (λ s. IsRowNameOf lts s.name) shares → AreRowsWithin lts (row_expression lts class problem number above) shares
+  rows_within class above sides problem number asked shares names = All-weaker (λ s. IsRowNameOf lts s.name) (λ s. All (IsTermWithin (states lts) (labels lts)) (row_expression lts class problem number above s.name).terms) (λ s p. row_within lts class above sides problem number asked s.name p) shares names
 
   -- ---- the arcs
 

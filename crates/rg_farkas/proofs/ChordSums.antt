@@ -27,7 +27,8 @@ use Rattle.rg_folds.proofs.RowValues.{IsOver, rewritten, quotient_over}
 use Rattle.rg_folds.proofs.Scaling.{Divides, AllDivide}
 use Rattle.rg_folds.proofs.ChordRows.{effects_exact}
 use Rattle.rg_farkas.specs.Refuting.{KeepsEachArc, terms_sum, RefuteOnArcs, AreShares}
-use Rattle.rg_farkas.specs.View.{AreRowsWithin, IsTermWithin, arc_times}
+use Rattle.rg_farkas.specs.View.{AreRowsWithin, arc_times}
+use Rattle.rg_reasons.specs.Certificates.{IsTermWithin}
 use Rattle.rg_farkas.proofs.Fractions.{product_over, whole_over_one, joined_sum, negated_over, whole_in, whole_in_over}
 use Rattle.rg_farkas.proofs.Relations.{used_chord, taken, taken_follows, chords_at, counts_away}
 use Rattle.rg_farkas.proofs.Variables.{within_names}

@@ -8,9 +8,9 @@ use Rattle.rg_theory.specs.declared.Problem.TheVariants.{Event, States}
 use Rattle.rg_theory.specs.System.{System, HasArc, states, labels}
 use Rattle.rg_theory.proofs.Lists.{Contains-cons_cases}
 use Rattle.rg_refuting.specs.Expression.{Variable, Variable.tokens_at, Variable.effect_of, Term, plus, minus}
-use Rattle.rg_refuting.specs.Row.{RowName, RowName.tokens_row, RowName.cap_row, RowName.up_row, RowName.down_row, RowName.makes_row, RowName.apart_row, row_expression, apart_expression, order_of}
-use Rattle.rg_refuting.specs.Refutes.{IsAsked}
-use Rattle.rg_folds.specs.Rewriting.{has_label, has_label_at, numbers_where, has_start, used_labels, all_numbers, states_with, problem_rows, case_consumer, names_of}
+use Rattle.rg_refuting.specs.Row.{RowName, RowName.tokens_row, RowName.cap_row, RowName.up_row, RowName.down_row, RowName.makes_row, RowName.apart_row, row_expression, apart_expression, order_of, case_consumer}
+use Rattle.rg_refuting.specs.Refutes.{IsSeparationProblem}
+use Rattle.rg_folds.specs.Rewriting.{has_label, has_label_at, numbers_where, has_start, used_labels, all_numbers, states_with, problem_rows, names_of}
 use Rattle.rg_folds.specs.Shown.{IsLive}
 use Rattle.rg_meaning.proofs.Lists.{nothing, Contains-of_map, where_is, of_optional, in_one_of}
 use Rattle.rg_meaning.proofs.Names.{each_problem_name}
@@ -93,7 +93,7 @@ apart_used : (lts : System) (s s' order : ℕ) → s < states lts → s' < state
 apart_used lts s s' zero lt lt' = two_used lts (plus (tokens_at s')) (minus (tokens_at s)) lt' lt
 apart_used lts s s' (suc order) lt lt' = two_used lts (plus (tokens_at s)) (minus (tokens_at s')) lt lt'
 
-pub names_used : (lts : System) (class : Class) (problem : Problem) (number : ℕ) (name : RowName) → IsAsked lts problem → IsLive lts problem → Contains (names_of lts class problem number) name → NamesUsed lts (row_expression lts class problem number [] name).terms
+pub names_used : (lts : System) (class : Class) (problem : Problem) (number : ℕ) (name : RowName) → IsSeparationProblem lts problem → IsLive lts problem → Contains (names_of lts class problem number) name → NamesUsed lts (row_expression lts class problem number [] name).terms
 names_used lts class (Event s t) number name (lt, lt', _) live has =
     each_name lts class (Event s t) number (λ n. NamesUsed lts (row_expression lts class (Event s t) number [] n).terms)
     (each_problem_name lts class s t (λ n. NamesUsed lts (row_expression lts class (Event s t) number [] n).terms)

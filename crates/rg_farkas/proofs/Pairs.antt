@@ -16,10 +16,10 @@ use Rattle.rg_folds.specs.Fold.{ratio_of}
 use Rattle.rg_folds.specs.Rewriting.{is_in, dependent_labels}
 use Rattle.rg_folds.specs.Spreading.{pairs_of}
 use Rattle.rg_farkas.specs.Leaves.{share_of}
-use Rattle.rg_expressions.specs.declared.term.Expression.{Expression as CodeExpression}
-use Rattle.rg_expressions.specs.declared.term.Term.{Term as CodeTerm}
-use Rattle.rg_expressions.specs.View.{expression_of, term_of}
-use Rattle.rg_farkas.specs.View.{LabelCount, pair_count, label_count, IsTermWithin, AreRowsWithin}
+use Rattle.rg_reasons.specs.declared.sum.Expression.{Expression as CodeExpression}
+use Rattle.rg_reasons.specs.Sums.{terms_in, expression_of}
+use Rattle.rg_farkas.specs.View.{LabelCount, pair_count, label_count, AreRowsWithin}
+use Rattle.rg_reasons.specs.Certificates.{IsTermWithin}
 use Rattle.rg_scaling.proofs.Items.{from_place}
 
 -- labels that aren't free are labels, and no members
@@ -33,14 +33,13 @@ all_below n m basis seen ts e e' same = All-from_get_or (λ t. t < m) seen 0 (λ
 
 -- a named row's terms are within the system
 module _ (lts : System) (expression : RowName → Expression) (named : List (CodeName × Fraction)) (i : ℕ) (d : CodeName × Fraction) (lt : i < length named) (is : d ≡ slice_index_or named i d) where
-  pub row_within : (n m : ℕ) (e : CodeExpression) (seen : List CodeTerm) → AreRowsWithin lts expression (map share_of named) → n ≡ states lts → m ≡ labels lts → expression_of e ≡ expression (row_name_of d.0) → seen ≡ e.terms.items → All (IsTermWithin n m) (map term_of seen)
-  row_within n m e seen within same_n same_m told same =
-      subst (λ l. All (IsTermWithin n m) (map term_of l)) (sym same)
-      (subst (λ (x : Expression). All (IsTermWithin n m) x.terms) (sym told)
+  pub row_within : (n m : ℕ) (e : CodeExpression) → AreRowsWithin lts expression (map share_of named) → n ≡ states lts → m ≡ labels lts → expression_of e ≡ expression (row_name_of d.0) → All (IsTermWithin n m) (expression_of e).terms
+  row_within n m e within same_n same_m told =
+      subst (λ (x : Expression). All (IsTermWithin n m) x.terms) (sym told)
       (subst (λ k. All (IsTermWithin k m) (expression (row_name_of d.0)).terms) (sym same_n)
       (subst (λ k. All (IsTermWithin (states lts) k) (expression (row_name_of d.0)).terms) (sym same_m)
       (subst (λ x. All (IsTermWithin (states lts) (labels lts)) (expression (row_name_of x.0)).terms) (sym is)
-      (subst (λ s. All (IsTermWithin (states lts) (labels lts)) (expression s.name).terms) (get_or-map share_of named i d (share_of d) lt) (within i (share_of d) (simp length-map lt)))))))
+      (subst (λ s. All (IsTermWithin (states lts) (labels lts)) (expression s.name).terms) (get_or-map share_of named i d (share_of d) lt) (within i (share_of d) (simp length-map lt))))))
 
   -- the counts of one row
   row_pairs : (tree : List Arc) (ts : List ℕ) → map (pair_count tree expression) (pairs_of (map share_of (drop i named)) ts) ≡ map (label_count tree (expression (row_name_of d.0)).terms (ratio_of d.1)) ts ++ map (pair_count tree expression) (pairs_of (map share_of (drop (i + 1) named)) ts)
@@ -53,9 +52,9 @@ module _ (lts : System) (expression : RowName → Expression) (named : List (Cod
       pair_counts tree [] = refl
       pair_counts tree (t ∷ ts) = ap (λ l. label_count tree (expression (row_name_of d.0)).terms (ratio_of d.1) t ∷ l) (pair_counts tree ts)
 
-  pub counts_next : (tree : List Arc) (ts seen : List ℕ) (e : CodeExpression) (terms : List CodeTerm) (out out' whole : List LabelCount) → seen ≡ ts → terms ≡ e.terms.items → expression_of e ≡ expression (row_name_of d.0) → out' ≡ out ++ map (label_count tree (map term_of terms) (ratio_of d.1)) seen → out ++ map (pair_count tree expression) (pairs_of (map share_of (drop i named)) ts) ≡ whole → out' ++ map (pair_count tree expression) (pairs_of (map share_of (drop (i + 1) named)) ts) ≡ whole
-  counts_next tree ts seen e terms out out' whole same same_terms told pushed so_far =
-      ap (λ l. l ++ map (pair_count tree expression) (pairs_of (map share_of (drop (i + 1) named)) ts)) (pushed ∙ ap (λ l. out ++ map (label_count tree (map term_of terms) (ratio_of d.1)) l) same ∙ ap (λ l. out ++ map (label_count tree (map term_of l) (ratio_of d.1)) ts) same_terms ∙ ap (λ (x : Expression). out ++ map (label_count tree x.terms (ratio_of d.1)) ts) told)
+  pub counts_next : (tree : List Arc) (ts seen : List ℕ) (e : CodeExpression) (out out' whole : List LabelCount) → seen ≡ ts → expression_of e ≡ expression (row_name_of d.0) → out' ≡ out ++ map (label_count tree (expression_of e).terms (ratio_of d.1)) seen → out ++ map (pair_count tree expression) (pairs_of (map share_of (drop i named)) ts) ≡ whole → out' ++ map (pair_count tree expression) (pairs_of (map share_of (drop (i + 1) named)) ts) ≡ whole
+  counts_next tree ts seen e out out' whole same told pushed so_far =
+      ap (λ l. l ++ map (pair_count tree expression) (pairs_of (map share_of (drop (i + 1) named)) ts)) (pushed ∙ ap (λ l. out ++ map (label_count tree (expression_of e).terms (ratio_of d.1)) l) same ∙ ap (λ (x : Expression). out ++ map (label_count tree x.terms (ratio_of d.1)) ts) told)
       ∙ append_assoc out (map (label_count tree (expression (row_name_of d.0)).terms (ratio_of d.1)) ts) (map (pair_count tree expression) (pairs_of (map share_of (drop (i + 1) named)) ts))
       ∙ ap (λ l. out ++ l) (sym (row_pairs tree ts))
       ∙ so_far

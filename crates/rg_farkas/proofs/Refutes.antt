@@ -37,7 +37,8 @@ use Rattle.rg_folds.proofs.Scaling.{Divides, AllDivide}
 use Rattle.rg_folds.proofs.Signs.{AllPositive}
 use Rattle.rg_folds.proofs.ExactRows.{common_bottom}
 use Rattle.rg_farkas.specs.Refuting.{terms_sum, RefuteOnArcs, SharesRefute}
-use Rattle.rg_farkas.specs.View.{AreRowsWithin, IsTermWithin, arc_times}
+use Rattle.rg_farkas.specs.View.{AreRowsWithin, arc_times}
+use Rattle.rg_reasons.specs.Certificates.{IsTermWithin}
 use Rattle.rg_farkas.proofs.Fractions.{part_is, whole_in, scaled_are, scaled_divide, scaled_positive, divide_both}
 use Rattle.rg_farkas.proofs.Relations.{used_chord, relation_row}
 use Rattle.rg_farkas.proofs.ChordSums.{weighted, are_shares, divides_share, chord_bottom, rows_cancel}

@@ -7,18 +7,18 @@ use Rattle.std.proofs.lemmas.List.Sums.{sum_by-cons}
 use Rattle.std.proofs.lemmas.List.Elements.{All-head, All-tail, All-weaker, Contains-append_left, Contains-append_right}
 use Rattle.rg_theory.specs.System.{System, states, labels}
 use Rattle.rg_theory.proofs.Lists.{Contains-cons_cases}
-use Rattle.rg_integers.specs.Range.{InRange}
+use Rattle.rg_integers.specs.Range.{InRange, greatest}
 use Rattle.rg_integers.specs.Sign.{size}
 use Rattle.rg_integers.specs.Sum.{sum_over}
 use Rattle.rg_fraction.specs.declared.term.Wide.{Wide}
 use Rattle.rg_refuting.specs.Expression.{Variable, Variable.tokens_at, Variable.effect_of, Expression, coefficient_in}
 use Rattle.rg_refuting.specs.Row.{RowName}
-use Rattle.rg_refuting.specs.Refutes.{NamedRow, IsSmall, max_number}
+use Rattle.rg_refuting.specs.Refutes.{NamedRow, IsSmall}
 use Rattle.rg_folds.specs.Fold.{and_then, gives, each, further, whole_sum, whole_product}
 use Rattle.rg_folds.specs.Rewriting.{all_numbers}
 use Rattle.rg_folds.specs.Spreading.{sizes_fold, variables_of, checked_leaf}
 use Rattle.rg_meaning.proofs.Lists.{Contains-map, where_has}
-use Rattle.rg_farkas.specs.View.{IsVariableWithin, IsTermWithin}
+use Rattle.rg_reasons.specs.Certificates.{IsVariableWithin, IsTermWithin}
 use Rattle.rg_farkas.proofs.TreeSums.{whole_product_is, joined_whole}
 use Rattle.rg_farkas.proofs.Variables.{outside, RowsWithin}
 
@@ -49,7 +49,7 @@ size_range : (c : RowName → ℤ) (rows : List NamedRow) (h : ℤ) → sizes_fo
 size_range c [] h e = subst InRange (sym e) (omega arith)
 size_range c (r ∷ rows) h (k, made, rest) = further_range (λ r. and_then (whole_product r.multiplier (c r.name)) (λ z. gives (size z))) k h rows (made_range c r k made) rest
 
-pub size_fits : (c : RowName → ℤ) (rows : List NamedRow) (h : ℤ) → sizes_fold c rows (Ok h) → sum_by (λ r. nat_abs (r.multiplier *ℤ c r.name)) rows ≤ max_number
+pub size_fits : (c : RowName → ℤ) (rows : List NamedRow) (h : ℤ) → sizes_fold c rows (Ok h) → sum_by (λ r. nat_abs (r.multiplier *ℤ c r.name)) rows ≤ greatest
 size_fits c rows h fold =
     let is : h ≡ pos (sum_by (λ r. nat_abs (r.multiplier *ℤ c r.name)) rows) = joined_whole (λ r. and_then (whole_product r.multiplier (c r.name)) (λ z. gives (size z))) (λ r. pos (nat_abs (r.multiplier *ℤ c r.name))) (made_size c) h rows fold ∙ sum_is c rows in
     let range : InRange (pos (sum_by (λ r. nat_abs (r.multiplier *ℤ c r.name)) rows)) = subst InRange is (size_range c rows h fold) in
@@ -84,7 +84,7 @@ within_or_not n l (effect_of u) = below_or_not u l
 
 pub is_small : (lts : System) (expression : RowName → Expression) (rows all : List NamedRow) → RowsWithin (states lts) (labels lts) expression rows → All (λ r. InRange r.multiplier) rows → checked_leaf lts expression rows (Ok all) → IsSmall expression rows
 is_small lts expression rows all within range (sums, each_is, (sum, constants, e)) = record {
-  multipliers = All-weaker (λ r. InRange r.multiplier) (λ r. nat_abs r.multiplier ≤ max_number) (λ r h. below (nat_abs r.multiplier) h) rows range;
+  multipliers = All-weaker (λ r. InRange r.multiplier) (λ r. nat_abs r.multiplier ≤ greatest) (λ r h. below (nat_abs r.multiplier) h) rows range;
   coefficients = λ v. ⊎_elim (λ lt. (let (h, fold) = each_made (λ u. sizes_fold (λ name. coefficient_in (expression name).terms u) rows) (variables_of lts) sums v each_is (has_variable lts v lt) in size_fits (λ name. coefficient_in (expression name).terms v) rows h fold)) (λ out. none (sum_by (λ r. nat_abs (r.multiplier *ℤ coefficient_in (expression r.name).terms v)) rows) (none_outside (states lts) (labels lts) expression rows v within out)) (within_or_not (states lts) (labels lts) v);
   constants = size_fits (λ name. (expression name).constant) rows sum constants;
 }

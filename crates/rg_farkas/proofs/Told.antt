@@ -17,14 +17,14 @@ use Rattle.rg_refuting.specs.Row.{RowName}
 use Rattle.rg_refuting.specs.Refutes.{NamedRow}
 use Rattle.rg_folds.specs.Fold.{gives, and_then, each, further, joined, whole_sum, whole_product}
 use Rattle.rg_folds.specs.Spreading.{ArcTimes, Addend, Addend.number, Addend.product, addend_fold, leaving, addends_at, tree_fold, sizes_fold, variables_of, checked_leaf}
-use Rattle.rg_reasons.specs.Trees.{row_name_of, variable_of}
+use Rattle.rg_reasons.specs.Trees.{row_name_of}
 use Rattle.rg_farkas.specs.declared.multiplied.Row.{Row}
-use Rattle.rg_expressions.specs.View.{expression_of}
+use Rattle.rg_reasons.specs.Sums.{expression_of, variable_of}
 use Rattle.rg_farkas.specs.View.{named_of, Tells, row_addend, size_fold, coefficient_at, arc_times}
 use Rattle.rg_scaling.proofs.Items.{from_place, item_next, item_fails, items_end}
 use Rattle.rg_farkas.proofs.Steps.{from_neutral}
 use Rattle.rg_cycles.proofs.Folding.{behind}
-use Rattle.rg_reasons.specs.declared.certificate.Form.{Form}
+use Rattle.rg_reasons.specs.declared.variable.Variable.{Variable as CodeVariable}
 
 -- ---- sums over other items
 
@@ -174,7 +174,7 @@ module _ (rows : List Row) (tree : List Arc) (ms : List ℤ) (i : ℕ) (d : Arc)
 
 -- ---- the sums of absolute values in code
 
-module _ (rows : List Row) (variables : List Form) (i : ℕ) (d : Form) (lt : i < length variables) (sums : List ℤ) (so_far : (r : Result (List ℤ) Wide) → each (λ v. further whole_sum (size_fold (coefficient_at v)) (pos 0) rows) (drop i (map variable_of variables)) r → each (λ v. further whole_sum (size_fold (coefficient_at v)) (pos 0) rows) (map variable_of variables) (behind sums r)) where
+module _ (rows : List Row) (variables : List CodeVariable) (i : ℕ) (d : CodeVariable) (lt : i < length variables) (sums : List ℤ) (so_far : (r : Result (List ℤ) Wide) → each (λ v. further whole_sum (size_fold (coefficient_at v)) (pos 0) rows) (drop i (map variable_of variables)) r → each (λ v. further whole_sum (size_fold (coefficient_at v)) (pos 0) rows) (map variable_of variables) (behind sums r)) where
   variable_is : variable_of (slice_index_or variables i d) ≡ slice_index_or (map variable_of variables) i (variable_of d)
   variable_is = sym (get_or-map variable_of variables i d (variable_of d) lt)
 
@@ -184,5 +184,5 @@ module _ (rows : List Row) (variables : List Form) (i : ℕ) (d : Form) (lt : i 
   pub variable_next : (x : ℤ) → further whole_sum (size_fold (coefficient_at (variable_of (slice_index_or variables i d)))) (pos 0) rows (Ok x) → (r : Result (List ℤ) Wide) → each (λ v. further whole_sum (size_fold (coefficient_at v)) (pos 0) rows) (drop (i + 1) (map variable_of variables)) r → each (λ v. further whole_sum (size_fold (coefficient_at v)) (pos 0) rows) (map variable_of variables) (behind (sums ++ x ∷ []) r)
   variable_next x made = item_next (λ v. further whole_sum (size_fold (coefficient_at v)) (pos 0) rows) (map variable_of variables) i (variable_of d) sums so_far (simp length-map lt) x (subst (λ v. further whole_sum (size_fold (coefficient_at v)) (pos 0) rows (Ok x)) variable_is made)
 
-pub variables_end : (rows : List Row) (variables : List Form) (i : ℕ) (sums : List ℤ) → ((r : Result (List ℤ) Wide) → each (λ v. further whole_sum (size_fold (coefficient_at v)) (pos 0) rows) (drop i (map variable_of variables)) r → each (λ v. further whole_sum (size_fold (coefficient_at v)) (pos 0) rows) (map variable_of variables) (behind sums r)) → length variables ≤ i → each (λ v. further whole_sum (size_fold (coefficient_at v)) (pos 0) rows) (map variable_of variables) (Ok sums)
+pub variables_end : (rows : List Row) (variables : List CodeVariable) (i : ℕ) (sums : List ℤ) → ((r : Result (List ℤ) Wide) → each (λ v. further whole_sum (size_fold (coefficient_at v)) (pos 0) rows) (drop i (map variable_of variables)) r → each (λ v. further whole_sum (size_fold (coefficient_at v)) (pos 0) rows) (map variable_of variables) (behind sums r)) → length variables ≤ i → each (λ v. further whole_sum (size_fold (coefficient_at v)) (pos 0) rows) (map variable_of variables) (Ok sums)
 variables_end rows variables i sums so_far past = items_end (λ v. further whole_sum (size_fold (coefficient_at v)) (pos 0) rows) (map variable_of variables) i (tokens_at 0) sums so_far (simp length-map past)

@@ -12,7 +12,7 @@ use Rattle.rg_refuting.specs.Row.{RowName}
 use Rattle.rg_refuting.specs.Refutes.{NamedRow, coefficient_sum}
 use Rattle.rg_folds.specs.Values.{NamesLabels}
 use Rattle.rg_farkas.specs.Refuting.{terms_sum}
-use Rattle.rg_farkas.specs.View.{IsVariableWithin, IsTermWithin}
+use Rattle.rg_reasons.specs.Certificates.{IsVariableWithin, IsTermWithin}
 
 -- terms within name labels
 pub within_names : (n l : ℕ) (terms : List Term) → All (IsTermWithin n l) terms → NamesLabels l terms

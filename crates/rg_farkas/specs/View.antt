@@ -8,22 +8,15 @@ use Rattle.rg_refuting.specs.Expression.{Variable, Variable.tokens_at, Variable.
 use Rattle.rg_refuting.specs.Row.{RowName}
 use Rattle.rg_refuting.specs.Refutes.{NamedRow}
 use Rattle.rg_integers.specs.Sign.{size}
+use Rattle.rg_reasons.specs.Certificates.{IsTermWithin}
 use Rattle.rg_reasons.specs.Trees.{row_name_of}
 use Rattle.rg_folds.specs.Fold.{gives, and_then, joined, Ratio, whole, ratio_of, quotient, add, mul, whole_product}
 use Rattle.rg_folds.specs.Rewriting.{count_of}
 use Rattle.rg_folds.specs.Placing.{negated}
 use Rattle.rg_folds.specs.Spreading.{Share, Pair, ArcTimes, Addend, Addend.product}
-use Rattle.rg_expressions.specs.View.{term_of, expression_of}
+use Rattle.rg_reasons.specs.Sums.{terms_in, expression_of}
 use Rattle.rg_farkas.specs.declared.multiplied.Row.{Row}
 use Rattle.rg_farkas.specs.declared.multiplied.Counted.{Counted}
-
--- the state or label is one of so many
-abbrev pub IsVariableWithin : ℕ → ℕ → Variable → Type 0
-IsVariableWithin states labels (tokens_at q) = q < states
-IsVariableWithin states labels (effect_of t) = t < labels
-
-abbrev pub IsTermWithin : ℕ → ℕ → SumTerm → Type 0
-IsTermWithin states labels t = IsVariableWithin states labels t.variable
 
 -- the terms of the shares' rows name states and labels of the system
 abbrev pub AreRowsWithin : System → (RowName → Sum) → List Share → Type 0
@@ -69,7 +62,7 @@ Tells expression r = expression_of r.expression ≡ expression (row_name_of r.na
 
 -- what the row gives the tokens at the state
 abbrev pub row_addend : ℕ → Row → Addend
-row_addend s r = product r.multiplier (coefficient_in (map term_of r.expression.terms.items) (tokens_at s))
+row_addend s r = product r.multiplier (coefficient_in (terms_in r.expression.terms) (tokens_at s))
 
 -- the absolute value of the row's multiplied number
 abbrev pub size_fold : (Row → ℤ) → Row → Result ℤ Wide → Type 0
@@ -77,7 +70,7 @@ size_fold number r = and_then (whole_product r.multiplier (number r)) (λ z. giv
 
 -- the row's coefficient of the variable
 abbrev pub coefficient_at : Variable → Row → ℤ
-coefficient_at v r = coefficient_in (map term_of r.expression.terms.items) v
+coefficient_at v r = coefficient_in (terms_in r.expression.terms) v
 
 -- arcs with their multipliers
 abbrev pub arc_times : List Arc → List ℤ → List ArcTimes

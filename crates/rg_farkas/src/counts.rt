@@ -8,16 +8,17 @@ ghost use Rattle.rg_folds.specs.Fold.{ratio_of};
 ghost use Rattle.rg_folds.specs.Rewriting.{is_in, dependent_labels};
 ghost use Rattle.rg_folds.specs.Spreading.{pairs_of};
 ghost use Rattle.rg_reasons.specs.Trees.{row_name_of};
-ghost use Rattle.rg_expressions.specs.View.{term_of, side_of};
+ghost use Rattle.rg_reasons.specs.Sums.{side_of, expression_of};
 ghost use Rattle.rg_farkas.specs.Leaves.{share_of};
-ghost use Rattle.rg_farkas.specs.View.{counted_of, pair_count, label_count, IsTermWithin, AreRowsWithin};
+ghost use Rattle.rg_farkas.specs.View.{counted_of, pair_count, label_count, AreRowsWithin};
+ghost use Rattle.rg_reasons.specs.Certificates.{IsTermWithin};
 
 use crate::multiplied::Counted;
 use rg_cycles::Basis;
-use rg_expressions::{ProblemCase, Term, count, expression};
+use rg_expressions::count;
 use rg_fraction::Fraction;
 use rg_lts::Lts;
-use rg_reasons::{Form, RowName};
+use rg_reasons::{Expression, ProblemCase, RowName, Side, expression};
 use rg_spanning::Tree;
 use std::alloc::{AllocError, Global};
 
@@ -29,19 +30,18 @@ pub(crate) fn row_counts(
     basis: &Basis,
     case: ProblemCase,
     named: &[(RowName, Fraction)],
-    above: &[(Form, i64, bool)],
+    above: &[Side],
 ) -> Result<Vec<Counted>, AllocError>
     requires tree { IsTreeOf lts.now tree.now }
     requires labels { labels_of basis.now ≡ labels lts.now }
-    requires consumer { IsTrue case.class.nonbranching → 0 < labels lts.now }
     requires within { AreRowsWithin lts.now (row_expression lts.now case.class case.problem case.number (map side_of above.now)) (map share_of named.now) }
     ensures { IfOk result (λ v. map counted_of v.items ≡ map (pair_count tree.now.arcs (row_expression lts.now case.class case.problem case.number (map side_of above.now))) (pairs_of (map share_of named.now) (dependent_labels (labels lts.now) (cycle_of basis.now)))) }
 {
     let labels = dependent(alloc, basis, lts.labels())?;
     let mut counts = Vec::new(alloc);
     for &(name, multiplier) in named {
-        let row = expression(alloc, lts, case, above, name)?;
-        push_counts(&mut counts, tree, &labels, multiplier, &row.terms)?;
+        let row = expression(lts, case, above, name);
+        push_counts(&mut counts, tree, &labels, multiplier, &row)?;
     }
     Ok(counts)
 }
@@ -77,15 +77,14 @@ fn push_counts(
     tree: &Tree,
     labels: &[u32],
     multiplier: Fraction,
-    terms: &[Term],
+    expression: &Expression,
 ) -> Result<(), AllocError>
     requires labels { All (λ t. t < tree.now.labels) labels.now }
-    requires few { length terms.now ≤ 3 }
-    requires within { All (IsTermWithin tree.now.states tree.now.labels) (map term_of terms.now) }
-    ensures { OnOk result (map counted_of counts.new.items ≡ map counted_of counts.old.items ++ map (label_count tree.now.arcs (map term_of terms.now) (ratio_of multiplier)) labels.now) }
+    requires within { All (IsTermWithin tree.now.states tree.now.labels) (expression_of expression.now).terms }
+    ensures { OnOk result (map counted_of counts.new.items ≡ map counted_of counts.old.items ++ map (label_count tree.now.arcs (expression_of expression.now).terms (ratio_of multiplier)) labels.now) }
 {
     for &label in labels {
-        let count = count(tree, terms, label);
+        let count = count(tree, expression, label);
         counts.push(Counted {
             multiplier,
             label,

@@ -2,7 +2,7 @@
 ghost use Rattle.std.specs.Prelude.{◌≡◌, ◌<◌, ◌^◌, ◌++◌, map, length, All, Ok, Err, IfOk, IsErrOf, IsTrue};
 ghost use Rattle.rg_theory.specs.System.{labels, IsAllReachable};
 ghost use Rattle.rg_refuting.specs.Row.{RowStands, row_expression, cases_of};
-ghost use Rattle.rg_refuting.specs.Refutes.{IsAsked, LeafRefutes};
+ghost use Rattle.rg_refuting.specs.Refutes.{IsSeparationProblem, LeafRefutes};
 ghost use Rattle.rg_fraction.specs.declared.term.Wide.{Wide};
 ghost use Rattle.rg_spanning.specs.Spanning.{IsTreeOf};
 ghost use Rattle.rg_cycles.specs.View.{labels_of, cycle_of};
@@ -10,8 +10,8 @@ ghost use Rattle.rg_cycles.specs.declared.substitution.FoldStop.TheVariants as s
 ghost use Rattle.rg_folds.specs.Chords.{IsBasis};
 ghost use Rattle.rg_folds.specs.Spreading.{leaf_fold};
 ghost use Rattle.rg_reasons.specs.Trees.{named_row, node_of};
-ghost use Rattle.rg_reasons.specs.Certificates.{IsVariableOf, IsRowNameOf, IsNodeOf};
-ghost use Rattle.rg_expressions.specs.View.{side_of};
+ghost use Rattle.rg_reasons.specs.Certificates.{IsFormOf, IsRowNameOf, IsNodeOf};
+ghost use Rattle.rg_reasons.specs.Sums.{side_of};
 ghost use Rattle.rg_farkas.specs.Leaves.{share_of, IsLeafWith};
 ghost use Rattle.rg_integers.specs.Range.{InRange};
 ghost use Rattle.rg_farkas.specs.Refuting.{SharesRefute};
@@ -25,17 +25,16 @@ use crate::rows::{numbered, with_expressions};
 use crate::sizes::check_sizes;
 use crate::sums::tree_multipliers;
 use rg_cycles::{Basis, FoldStop};
-use rg_expressions::ProblemCase;
 use rg_fraction::Fraction;
 use rg_lts::Lts;
-use rg_reasons::{Form, Node, RowName};
+use rg_reasons::{Node, ProblemCase, RowName, Side};
 use rg_scaling::without_denominators;
 use rg_spanning::Tree;
 use rg_theory::{Arc, Class, Problem};
 use std::alloc::{AllocError, Global};
 
 /// The leaf of named rows, each with its multiplier, which refute in the case below the splits above it, given
-/// outermost first as the form, the number, and whether the leaf is on the high side.
+/// outermost first.
 ///
 /// Each chord that the basis uses gets a multiplier: the named rows' multipliers times their counts of labels that
 /// aren't free, times the chord's numbers in the labels' relations, negated. All are multiplied by the
@@ -56,15 +55,15 @@ pub fn spread(
     problem: Problem,
     case: u32,
     named: &[(RowName, Fraction)],
-    above: &[(Form, i64, bool)],
+    above: &[Side],
 ) -> Result<Node, FoldStop>
     requires reachable { IsAllReachable lts.now }
     requires tree { IsTreeOf lts.now tree.now }
     requires labels { labels_of basis.now ≡ labels lts.now }
     requires basis { IsBasis lts.now tree.now.arcs (cycle_of basis.now) }
-    requires asked { IsAsked lts.now problem }
+    requires asked { IsSeparationProblem lts.now problem }
     requires case { case < cases_of lts.now class problem }
-    requires sides { All (λ s. IsVariableOf lts.now s.form) (map side_of above.now) }
+    requires sides { All (λ s. IsFormOf lts.now s.form) (map side_of above.now) }
     requires stand { All (λ s. RowStands lts.now class problem case (map side_of above.now) s.name) (map share_of named.now) }
     requires names { All (λ s. IsRowNameOf lts.now s.name) (map share_of named.now) }
     requires refute { SharesRefute lts.now (row_expression lts.now class problem case (map side_of above.now)) (map share_of named.now) }
@@ -93,12 +92,11 @@ pub(crate) fn leaf_rows(
     basis: &Basis,
     case: ProblemCase,
     named: &[(RowName, Fraction)],
-    above: &[(Form, i64, bool)],
+    above: &[Side],
 ) -> Result<Vec<(RowName, i128)>, FoldStop>
     requires tree { IsTreeOf lts.now tree.now }
     requires labels { labels_of basis.now ≡ labels lts.now }
     requires basis { IsBasis lts.now tree.now.arcs (cycle_of basis.now) }
-    requires consumer { IsTrue case.class.nonbranching → 0 < labels lts.now }
     requires within { AreRowsWithin lts.now (row_expression lts.now case.class case.problem case.number (map side_of above.now)) (map share_of named.now) }
     ensures leaf { IfOk result (λ v. leaf_fold lts.now tree.now.arcs (cycle_of basis.now) (row_expression lts.now case.class case.problem case.number (map side_of above.now)) (map share_of named.now) (Ok (map named_row v.items))) }
     ensures in_range { IfOk result (λ v. All (λ r. InRange r.1) v.items) }

@@ -1,9 +1,8 @@
 //! What has a multiplier: named rows, and counts in them.
 ghost use Rattle.rg_integers.specs.Range.{InRange};
 
-use rg_expressions::Expression;
 use rg_fraction::Fraction;
-use rg_reasons::RowName;
+use rg_reasons::{Expression, RowName};
 
 /// A named row times a number, with what the row says.
 #[derive(Drop)]

@@ -5,15 +5,14 @@ ghost use Rattle.rg_integers.specs.Range.{InRange};
 ghost use Rattle.rg_refuting.specs.Row.{row_expression};
 ghost use Rattle.rg_reasons.specs.Trees.{row_name_of, named_row};
 ghost use Rattle.rg_folds.specs.Spreading.{named_from, arc_name};
-ghost use Rattle.rg_expressions.specs.View.{side_of};
+ghost use Rattle.rg_reasons.specs.Sums.{side_of};
 ghost use Rattle.rg_farkas.specs.Leaves.{share_of};
 ghost use Rattle.rg_farkas.specs.View.{named_of, Tells};
 
 use crate::multiplied::Row;
-use rg_expressions::{ProblemCase, expression};
 use rg_fraction::Fraction;
 use rg_lts::Lts;
-use rg_reasons::{Form, RowName};
+use rg_reasons::{ProblemCase, RowName, Side, expression};
 use rg_theory::Arc;
 use std::alloc::{AllocError, Global};
 
@@ -42,17 +41,16 @@ pub(crate) fn with_expressions(
     alloc: Global,
     lts: &Lts,
     case: ProblemCase,
-    above: &[(Form, i64, bool)],
+    above: &[Side],
     listed: &[(RowName, i128)],
 ) -> Result<Vec<Row>, AllocError>
-    requires consumer { IsTrue case.class.nonbranching → 0 < labels lts.now }
-    requires in_range { All (λ r. InRange r.1) listed.now }
+    requires { All (λ r. InRange r.1) listed.now }
     ensures rows { IfOk result (λ v. map named_of v.items ≡ map named_row listed.now) }
     ensures told { IfOk result (λ v. All (Tells (row_expression lts.now case.class case.problem case.number (map side_of above.now))) v.items) }
 {
     let mut rows = Vec::new(alloc);
     for &(name, multiplier) in listed {
-        let expression = expression(alloc, lts, case, above, name)?;
+        let expression = expression(lts, case, above, name);
         rows.push(Row {
             name,
             multiplier,

@@ -3,7 +3,7 @@ ghost use Rattle.std.specs.Prelude.{◌≡◌, pos, map, All, Ok, Err, IfOk, IsE
 ghost use Rattle.rg_fraction.specs.declared.term.Wide.{Wide};
 ghost use Rattle.rg_refuting.specs.Expression.{Expression};
 ghost use Rattle.rg_refuting.specs.Row.{RowName};
-ghost use Rattle.rg_reasons.specs.Trees.{variable_of};
+ghost use Rattle.rg_reasons.specs.Sums.{variable_of};
 ghost use Rattle.rg_folds.specs.Fold.{further, whole_sum};
 ghost use Rattle.rg_folds.specs.Spreading.{variables_of, checked_leaf};
 ghost use Rattle.rg_cycles.specs.declared.substitution.FoldStop.TheVariants as stop;
@@ -14,7 +14,7 @@ use crate::sums::{coefficient, plus, size_times};
 use rg_cycles::FoldStop;
 use rg_fraction::Wide;
 use rg_lts::Lts;
-use rg_reasons::Form;
+use rg_reasons::Variable;
 use std::alloc::{AllocError, Global};
 
 // Refused where for some state or label, or for the constants, the sum of the absolute values of the rows'
@@ -32,26 +32,26 @@ pub(crate) fn check_sizes(alloc: Global, lts: &Lts, rows: &[Row]) -> Result<(), 
 }
 
 // The states and the labels.
-fn variables(alloc: Global, lts: &Lts) -> Result<Vec<Form>, AllocError>
+fn variables(alloc: Global, lts: &Lts) -> Result<Vec<Variable>, AllocError>
     ensures { IfOk result (λ v. map variable_of v.items ≡ variables_of lts.now) }
 {
     let mut variables = Vec::new(alloc);
     for q in 0..lts.states() {
-        variables.push(Form::Tokens(q))?;
+        variables.push(Variable::Tokens(q))?;
     }
     for t in 0..lts.labels() {
-        variables.push(Form::Effect(t))?;
+        variables.push(Variable::Effect(t))?;
     }
     Ok(variables)
 }
 
 // The sum of the absolute values of the variable's multiplied coefficients.
-fn coefficient_sizes(rows: &[Row], variable: Form) -> Result<i128, Wide>
+fn coefficient_sizes(rows: &[Row], variable: Variable) -> Result<i128, Wide>
     ensures { further whole_sum (size_fold (coefficient_at (variable_of variable))) (pos 0) rows.now result }
 {
     let mut sum = 0;
     for row in rows {
-        let number = coefficient(&row.expression.terms, variable);
+        let number = coefficient(&row.expression, variable);
         let size = size_times(row.multiplier, number)?;
         sum = plus(sum, size)?;
     }

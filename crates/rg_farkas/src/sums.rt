@@ -3,20 +3,19 @@ ghost use Rattle.std.specs.Prelude.{◌≡◌, ◌≤◌, [], ◌++◌, ◌≤�
 ghost use Rattle.rg_integers.specs.Range.{InRange};
 ghost use Rattle.rg_integers.specs.Sign.{size};
 ghost use Rattle.rg_fraction.specs.declared.term.Wide.{Wide};
-ghost use Rattle.rg_refuting.specs.Expression.{Expression, same_variable, coefficient_in};
+ghost use Rattle.rg_refuting.specs.Expression.{Expression as Sum, same_variable, coefficient_in};
 ghost use Rattle.rg_refuting.specs.Row.{RowName};
-ghost use Rattle.rg_reasons.specs.Trees.{variable_of};
 ghost use Rattle.rg_cycles.specs.declared.substitution.FoldStop.TheVariants as stop;
 ghost use Rattle.rg_folds.specs.Fold.{gives, and_then, further, whole_sum, whole_product};
 ghost use Rattle.rg_folds.specs.Spreading.{tree_fold, addend_fold, leaving};
-ghost use Rattle.rg_expressions.specs.View.{term_of};
+ghost use Rattle.rg_reasons.specs.Sums.{variable_of, term_of, expression_of};
 ghost use Rattle.rg_farkas.specs.View.{named_of, Tells, arc_times, row_addend};
 
 use crate::multiplied::Row;
 use rg_cycles::FoldStop;
-use rg_expressions::Term::{self, Minus, Plus};
 use rg_fraction::Wide;
-use rg_reasons::Form;
+use rg_reasons::Term::{self, Minus, Plus};
+use rg_reasons::{Expression, Variable};
 use rg_theory::Arc;
 use std::alloc::Global;
 
@@ -27,10 +26,10 @@ pub(crate) fn tree_multipliers(
     tree: &[Arc],
     rows: &[Row],
 ) -> Result<Vec<i128>, FoldStop>
-    ensures value { IfOk result (λ v. (expression : RowName → Expression) → All (Tells expression) rows.now → tree_fold expression (map named_of rows.now) [] (reverse tree.now) (Ok (arc_times tree.now v.items))) }
+    ensures value { IfOk result (λ v. (expression : RowName → Sum) → All (Tells expression) rows.now → tree_fold expression (map named_of rows.now) [] (reverse tree.now) (Ok (arc_times tree.now v.items))) }
     ensures one_each { IfOk result (λ v. length v.items ≡ length tree.now) }
     ensures in_range { IfOk result (λ v. All InRange v.items) }
-    ensures wide { (w : Wide) → IsErrOf result (stop.Wide w) → (expression : RowName → Expression) → All (Tells expression) rows.now → tree_fold expression (map named_of rows.now) [] (reverse tree.now) (Err w) }
+    ensures wide { (w : Wide) → IsErrOf result (stop.Wide w) → (expression : RowName → Sum) → All (Tells expression) rows.now → tree_fold expression (map named_of rows.now) [] (reverse tree.now) (Err w) }
 {
     let mut multipliers = vec![in alloc; 0i128; tree.len()]?;
     for i in (0..tree.len()).rev() {
@@ -59,7 +58,7 @@ fn rows_sum(rows: &[Row], state: u32) -> Result<i128, Wide>
 {
     let mut sum = 0;
     for row in rows {
-        let number = coefficient(&row.expression.terms, Form::Tokens(state));
+        let number = coefficient(&row.expression, Variable::Tokens(state));
         let product = times(row.multiplier, number)?;
         sum = plus(sum, product)?;
     }
@@ -84,27 +83,28 @@ fn leaving_sum(start: i128, arcs: &[Arc], multipliers: &[i128], state: u32) -> R
 }
 
 // The coefficient of the variable in the terms.
-pub(crate) fn coefficient(terms: &[Term], form: Form) -> i128
-    requires { length terms.now ≤ 3 }
-    ensures value { result ≡ coefficient_in (map term_of terms.now) (variable_of form) }
+pub(crate) fn coefficient(expression: &Expression, variable: Variable) -> i128
+    ensures value { result ≡ coefficient_in (expression_of expression.now).terms (variable_of variable) }
     ensures in_range { InRange result }
 {
     let mut sum = 0;
-    for term in terms {
-        sum += coefficient_of(*term, form);
+    for place in &expression.terms {
+        if let Some(term) = place {
+            sum += coefficient_of(*term, variable);
+        }
     }
     sum
 }
 
 // The coefficient of the variable in the term.
-fn coefficient_of(term: Term, form: Form) -> i128
-    ensures value { result ≡ (if same_variable (term_of term).variable (variable_of form) then (term_of term).coefficient else pos 0) }
+fn coefficient_of(term: Term, variable: Variable) -> i128
+    ensures value { result ≡ (if same_variable (term_of term).variable (variable_of variable) then (term_of term).coefficient else pos 0) }
     ensures low { neg_ℤ (pos 1) ≤ℤ result }
     ensures high { result ≤ℤ pos 1 }
 {
     match term {
-        Plus(f) if f == form => 1,
-        Minus(f) if f == form => -1,
+        Plus(v) if v == variable => 1,
+        Minus(v) if v == variable => -1,
         _ => 0,
     }
 }

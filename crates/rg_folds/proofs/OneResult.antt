@@ -8,7 +8,7 @@ use Rattle.rg_theory.specs.System.{System, labels}
 use Rattle.rg_theory.specs.declared.Class.{Class}
 use Rattle.rg_theory.specs.declared.Problem.{Problem}
 use Rattle.rg_refuting.specs.Expression.{Term, Expression, Variable, plus}
-use Rattle.rg_refuting.specs.Row.{RowName, Side, row_expression}
+use Rattle.rg_refuting.specs.Row.{Form as SplitForm, form_variable, RowName, Side, row_expression}
 use Rattle.rg_refuting.specs.Refutes.{NamedRow}
 use Rattle.rg_linear.specs.System.{LinearRow}
 use Rattle.rg_linear.specs.Branching.{Form, Weight, SplitSide}
@@ -17,7 +17,7 @@ use Rattle.rg_fraction.specs.declared.term.Wide.{Wide}
 use Rattle.rg_fraction.specs.Rows.{IsRowGcd}
 use Rattle.rg_folds.specs.Fold.{either, IsOne, Ratio, whole, IsRatio, add, mul, whole_sum}
 use Rattle.rg_linear.specs.Cycle.{CycleBasis}
-use Rattle.rg_folds.specs.Rewriting.{dependent_term, coefficient_fold, substitute_fold, dependent_labels, free_labels, Scaled, scaled_fold, terms_fold, KeptRow, divided, row_fold, IsIdle, form_fold, CaseSystem, kept_of, system_fold, has_label, is_in, names_of, form_variables}
+use Rattle.rg_folds.specs.Rewriting.{dependent_term, coefficient_fold, substitute_fold, dependent_labels, free_labels, Scaled, scaled_fold, terms_fold, KeptRow, divided, row_fold, IsIdle, form_fold, CaseSystem, kept_of, system_fold, has_label, is_in, names_of, split_forms}
 use Rattle.rg_folds.specs.Placing.{effect_fold, made_whole, along_tree, shift_fold, is_shifted, place_fold}
 use Rattle.rg_folds.specs.Spreading.{Share, share_fold, Pair, pair_fold, chord_fold, ArcTimes, Addend, Addend.number, Addend.product, addend_fold, tree_fold, parts_of, sizes_fold, checked_leaf, used_chords, chord_arcs, named_from, arc_name, multiplier_among, not_zero, leaf_fold, spread_fold}
 use Rattle.rg_linear.proofs.Firsts.{same_kept}
@@ -91,8 +91,8 @@ terms_one lts tree basis class terms = and_then_one _ _ (substitute_one (labels 
 pub row_one : (lts : System) (tree : List Arc) (basis : CycleBasis) (class : Class) (name : RowName) (e : Expression) → IsOne (row_fold lts tree basis class name e)
 row_one lts tree basis class name e = and_then_one _ _ (terms_one lts tree basis class e.terms) (λ scaled. and_then_one _ _ (two_terms_one _ _ _ _) (λ constant. divided_one name scaled constant.top))
 
-pub form_one : (lts : System) (tree : List Arc) (basis : CycleBasis) (class : Class) (v : Variable) → IsOne (form_fold lts tree basis class v)
-form_one lts tree basis class v = and_then_one _ _ (terms_one lts tree basis class (plus v ∷ [])) (λ scaled. gives_one _)
+pub form_one : (lts : System) (tree : List Arc) (basis : CycleBasis) (class : Class) (form : SplitForm) → IsOne (form_fold lts tree basis class form)
+form_one lts tree basis class form = and_then_one _ _ (terms_one lts tree basis class (plus (form_variable lts.initial form) ∷ [])) (λ scaled. gives_one _)
 
 same_case : (c c' : CaseSystem) → c.columns ≡ c'.columns → c.kept ≡ c'.kept → c.forms ≡ c'.forms → c ≡ c'
 same_case c c' e f g = λ i. record { columns = e i; kept = f i; forms = g i }
@@ -106,7 +106,7 @@ pub kept_one : (lts : System) (basis : CycleBasis) (class : Class) (all : List K
 kept_one lts basis class all forms = record { one = kept_same lts basis class all forms }
 
 pub system_one : (lts : System) (tree : List Arc) (basis : CycleBasis) (class : Class) (problem : Problem) (number : ℕ) → IsOne (system_fold lts tree basis class problem number)
-system_one lts tree basis class problem n = and_then_one _ _ (each_one _ (λ name. row_one lts tree basis class name (row_expression lts class problem n [] name)) (names_of lts class problem n)) (λ all. and_then_one _ _ (each_one _ (form_one lts tree basis class) (form_variables lts class)) (λ forms. kept_one lts basis class all forms))
+system_one lts tree basis class problem n = and_then_one _ _ (each_one _ (λ name. row_one lts tree basis class name (row_expression lts class problem n [] name)) (names_of lts class problem n)) (λ all. and_then_one _ _ (each_one _ (form_one lts tree basis class) (split_forms lts class)) (λ forms. kept_one lts basis class all forms))
 
 -- ---- places
 

@@ -6,7 +6,7 @@ use Rattle.rg_theory.specs.declared.Class.{Class}
 use Rattle.rg_theory.specs.declared.Problem.{Problem}
 use Rattle.rg_theory.specs.declared.Problem.TheVariants.{Event, States}
 use Rattle.rg_refuting.specs.Expression.{Variable, Variable.tokens_at, Variable.effect_of, Term, Expression, plus}
-use Rattle.rg_refuting.specs.Row.{RowName, RowName.tokens_row, RowName.cap_row, RowName.up_row, RowName.down_row, RowName.makes_row, RowName.stop_row, RowName.block_row, RowName.empty_row, RowName.full_row, RowName.keep_row, RowName.apart_row, row_expression, consumer_of}
+use Rattle.rg_refuting.specs.Row.{RowName, RowName.tokens_row, RowName.cap_row, RowName.up_row, RowName.down_row, RowName.makes_row, RowName.stop_row, RowName.block_row, RowName.empty_row, RowName.full_row, RowName.keep_row, RowName.apart_row, row_expression, case_consumer, Form as SplitForm, Form.on_tokens, Form.on_effect, form_variable}
 use Rattle.rg_linear.specs.System.{LinearRow, LinearSystem}
 use Rattle.rg_linear.specs.Branching.{Form}
 use Rattle.rg_fraction.specs.declared.term.Wide.{Wide}
@@ -152,10 +152,6 @@ problem_rows lts class (Event s t) =
     else map stop_row (states_with lts t))
 problem_rows lts class (States s s') = apart_row ∷ []
 
-abbrev pub case_consumer : System → Problem → ℕ → ℕ
-case_consumer lts (Event s t) number = t
-case_consumer lts (States s s') number = consumer_of lts number
-
 -- the named rows of a case but arc and above, in their order
 abbrev pub names_of : System → Class → Problem → ℕ → List RowName
 names_of lts class problem number =
@@ -169,10 +165,11 @@ names_of lts class problem number =
 abbrev pub IsIdle : KeptRow → Type 0
 IsIdle kept = IsZeroVector kept.row.coeffs × (pos 0 ≤ℤ kept.row.constant)
 
-abbrev pub form_variables : System → Class → List Variable
-form_variables lts class =
-    if is_some class.bound then map tokens_at (all_numbers (states lts))
-    else (if class.plain then map effect_of (used_labels lts) else [])
+-- what the splits of a case may be on, in their order
+abbrev pub split_forms : System → Class → List SplitForm
+split_forms lts class =
+    if is_some class.bound then map on_tokens (all_numbers (states lts))
+    else (if class.plain then map on_effect (used_labels lts) else [])
 
 abbrev pub form_low : Class → ℤ
 form_low class = if is_some class.bound then pos 0 else negsuc 0
@@ -180,8 +177,8 @@ form_low class = if is_some class.bound then pos 0 else negsuc 0
 abbrev pub form_high : Class → ℤ
 form_high class = if is_some class.bound then pos (unwrap_or class.bound 0) else pos 1
 
-abbrev pub form_fold : System → List Arc → CycleBasis → Class → Variable → Result Form Wide → Type 0
-form_fold lts tree basis class v = and_then (terms_fold lts tree basis class (plus v ∷ [])) (λ scaled. gives (record { scale = scaled.multiple; coeffs = scaled.numbers; low = form_low class; high = form_high class }))
+abbrev pub form_fold : System → List Arc → CycleBasis → Class → SplitForm → Result Form Wide → Type 0
+form_fold lts tree basis class form = and_then (terms_fold lts tree basis class (plus (form_variable lts.initial form) ∷ [])) (λ scaled. gives (record { scale = scaled.multiple; coeffs = scaled.numbers; low = form_low class; high = form_high class }))
 
 -- the rows and forms of a case
 pub record CaseSystem : Type 0 where
@@ -200,4 +197,4 @@ kept_of lts basis class all forms (Err w) = ⊥
 abbrev pub system_fold : System → List Arc → CycleBasis → Class → Problem → ℕ → Result CaseSystem Wide → Type 0
 system_fold lts tree basis class problem number =
     and_then (each (λ name. row_fold lts tree basis class name (row_expression lts class problem number [] name)) (names_of lts class problem number))
-    (λ all. and_then (each (form_fold lts tree basis class) (form_variables lts class)) (λ forms. kept_of lts basis class all forms))
+    (λ all. and_then (each (form_fold lts tree basis class) (split_forms lts class)) (λ forms. kept_of lts basis class all forms))

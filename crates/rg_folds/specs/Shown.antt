@@ -6,8 +6,7 @@ use Rattle.rg_theory.specs.declared.Class.{Class}
 use Rattle.rg_theory.specs.declared.Problem.{Problem}
 use Rattle.rg_theory.specs.declared.Problem.TheVariants.{Event, States}
 use Rattle.rg_theory.specs.Problem.{IsProblem}
-use Rattle.rg_refuting.specs.Expression.{Variable.tokens_at}
-use Rattle.rg_refuting.specs.Row.{Side, cases_of}
+use Rattle.rg_refuting.specs.Row.{Form.on_tokens, Side, cases_of}
 use Rattle.rg_linear.specs.System.{LinearSystem}
 use Rattle.rg_linear.specs.Dictionary.{Relation, DictionaryRow}
 use Rattle.rg_linear.specs.Descent.{WideAt}
@@ -17,7 +16,7 @@ use Rattle.rg_fraction.specs.declared.term.Wide.{Wide}
 use Rattle.rg_folds.specs.Fold.{Ratio, whole, IsRatio}
 use Rattle.rg_theory.specs.Tree.{IsTree}
 use Rattle.rg_folds.specs.Chords.{KeepsChords, chord_system, IsBasis}
-use Rattle.rg_folds.specs.Rewriting.{has_start, free_columns, form_variables, CaseSystem, rows_of, system_fold}
+use Rattle.rg_folds.specs.Rewriting.{has_start, free_columns, split_forms, CaseSystem, rows_of, system_fold}
 use Rattle.rg_folds.specs.Placing.{place_fold}
 use Rattle.rg_folds.specs.Spreading.{spread_fold}
 
@@ -72,7 +71,7 @@ pub record StandsIn (lts : System) (class : Class) (w : Shown) (problem : Proble
 
 -- the sides of the splits, their forms by name
 abbrev pub named_side : System → Class → SplitSide → Side
-named_side lts class side = record { form = slice_index_or (form_variables lts class) side.form (tokens_at 0); at = side.at; high = side.high }
+named_side lts class side = record { form = slice_index_or (split_forms lts class) side.form (on_tokens 0); at = side.at; high = side.high }
 
 abbrev pub named_sides : System → Class → List SplitSide → List Side
 named_sides lts class sides = map (named_side lts class) sides

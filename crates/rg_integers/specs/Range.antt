@@ -1,5 +1,9 @@
 -- The range of the numbers with which relations and places are computed.
-use Rattle.std.specs.Prelude.{◌^◌, ◌<◌, ℤ, ◌-ℤ◌, ◌*ℤ◌, unsigned_abs}
+use Rattle.std.specs.Prelude.{ℕ, ◌-◌, ◌^◌, ◌<◌, ℤ, ◌-ℤ◌, ◌*ℤ◌, unsigned_abs}
+
+-- the greatest number in range
+abbrev pub greatest : ℕ
+greatest = 2 ^ 127 - 1
 
 -- from -(2^127 - 1) to 2^127 - 1
 abbrev pub InRange : ℤ → Type 0

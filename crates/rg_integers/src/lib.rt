@@ -9,6 +9,9 @@ ghost use Rattle.rg_integers.specs.Divisor.{gcd_of, int_gcd, IsGcdBelow};
 ghost use Rattle.rg_integers.specs.Value.{SameValue, IsReducedForm};
 ghost use Rattle.rg_integers.specs.Sum.{number_at, dot, sum_below};
 
+/// The greatest number in range, `2^127 - 1`.
+pub const GREATEST: i128 = i128::MAX;
+
 /// What Euclid's steps give is the greatest common divisor: it divides both numbers, each number
 /// that divides both divides it, and no other number does so.
 pub fn gcd_is_greatest()

@@ -12,7 +12,7 @@ use Rattle.rg_theory.specs.Tree.{KeepsArcs}
 use Rattle.rg_theory.proofs.Arcs.{arc_in_range}
 use Rattle.rg_refuting.specs.Expression.{Variable, Variable.tokens_at, Variable.effect_of}
 use Rattle.rg_refuting.specs.Row.{RowName, RowName.arc_row, RowName.tokens_row, RowName.cap_row, RowName.up_row, RowName.down_row, RowName.makes_row, RowName.stop_row, RowName.block_row, RowName.empty_row, RowName.full_row, RowName.keep_row, RowName.apart_row, RowName.above_row, SharedStands, RowStands, shared_expression, apart_expression, order_of, consumer_of, Says}
-use Rattle.rg_refuting.specs.Refutes.{IsAsked}
+use Rattle.rg_refuting.specs.Refutes.{IsSeparationProblem}
 use Rattle.rg_linear.specs.Cycle.{FollowsRelations, CycleBasis}
 use Rattle.rg_folds.specs.Potentials.{potential}
 use Rattle.rg_folds.specs.Chords.{chord_system}
@@ -98,7 +98,7 @@ effect_stays lts c k x y t same weak h = ⊎_elim (λ e. one_term c k (x (effect
     none : (c k : ℤ) → pos 0 ≤ℤ k → pos 0 ≤ℤ (((c *ℤ pos 0) +ℤ pos 0) +ℤ k)
     none c k h = omega (arith, ints)
 
-shared_stays : (lts : System) (class : Class) (consumer : ℕ) (scale : ℤ) (x y : Variable → ℤ) (name : RowName) → IsInRange lts → SameUsed lts x y → pos 0 <ℤ scale → ((q : ℕ) → pos 0 ≤ℤ y (tokens_at q)) → SharedStands lts class consumer [] name → Says name (value_over scale x (shared_expression class [] name)) → Says name (value_over scale y (shared_expression class [] name))
+shared_stays : (lts : System) (class : Class) (consumer : ℕ) (scale : ℤ) (x y : Variable → ℤ) (name : RowName) → IsInRange lts → SameUsed lts x y → pos 0 <ℤ scale → ((q : ℕ) → pos 0 ≤ℤ y (tokens_at q)) → SharedStands lts class consumer [] name → Says name (value_over scale x (shared_expression lts class [] name)) → Says name (value_over scale y (shared_expression lts class [] name))
 shared_stays lts class consumer scale x y (arc_row q t q') fine same positive tokens has h =
     let ranges = arc_in_range lts fine q t q' has in
     arc_terms (pos 0 *ℤ scale) (x (tokens_at q)) (y (tokens_at q)) (x (effect_of t)) (y (effect_of t)) (x (tokens_at q')) (y (tokens_at q')) (same.tokens q ranges.0) (same.used t (finds_label (record { from = q; label = t; to = q' }) lts.arcs has)) (same.tokens q' ranges.2) h
@@ -131,7 +131,7 @@ state_stays : (lts : System) (class : Class) (s s' number : ℕ) (scale : ℤ) (
 state_stays lts class s s' number scale x y apart_row fine lt lt' same positive tokens stands h = apart_stays lts s s' (order_of lts class number) scale x y lt lt' same h
 state_stays lts class s s' number scale x y name fine lt lt' same positive tokens stands h = shared_stays lts class (consumer_of lts number) scale x y name fine same positive tokens stands h
 
-rows_stay : (lts : System) (class : Class) (problem : Problem) (number : ℕ) (scale : ℤ) (x y : Variable → ℤ) → IsInRange lts → IsAsked lts problem → IsLive lts problem → SameUsed lts x y → pos 0 <ℤ scale → KeepsRowsOver lts class problem number scale x → KeepsRowsOver lts class problem number scale y
+rows_stay : (lts : System) (class : Class) (problem : Problem) (number : ℕ) (scale : ℤ) (x y : Variable → ℤ) → IsInRange lts → IsSeparationProblem lts problem → IsLive lts problem → SameUsed lts x y → pos 0 <ℤ scale → KeepsRowsOver lts class problem number scale x → KeepsRowsOver lts class problem number scale y
 rows_stay lts class (Event s t) number scale x y fine (lt, _, _) live same positive keeps name stands = event_stays lts class s t number scale x y name fine lt (live_label lts t live) same positive (λ q. tokens_stay lts class (Event s t) number scale x y q fine.initial same keeps) stands (keeps name stands)
 rows_stay lts class (States s s') number scale x y fine (lt, lt', _) live same positive keeps name stands = state_stays lts class s s' number scale x y name fine lt lt' same positive (λ q. tokens_stay lts class (States s s') number scale x y q fine.initial same keeps) stands (keeps name stands)
 

@@ -9,8 +9,8 @@ use Rattle.rg_theory.specs.declared.Problem.TheVariants.{Event, States}
 use Rattle.rg_theory.specs.System.{System, IsInRange, states, labels}
 use Rattle.rg_theory.proofs.Arcs.{arc_in_range}
 use Rattle.rg_theory.proofs.Lists.{Contains-cons_cases}
-use Rattle.rg_refuting.specs.Row.{RowName, RowName.arc_row, RowName.tokens_row, RowName.cap_row, RowName.up_row, RowName.down_row, RowName.makes_row, RowName.stop_row, RowName.block_row, RowName.empty_row, RowName.full_row, RowName.keep_row, RowName.apart_row, RowName.above_row, HasArcAt, SharedStands, RowStands}
-use Rattle.rg_folds.specs.Rewriting.{numbers_where, has_label, has_label_at, used_labels, has_start, all_numbers, states_with, problem_rows, case_consumer, names_of}
+use Rattle.rg_refuting.specs.Row.{RowName, RowName.arc_row, RowName.tokens_row, RowName.cap_row, RowName.up_row, RowName.down_row, RowName.makes_row, RowName.stop_row, RowName.block_row, RowName.empty_row, RowName.full_row, RowName.keep_row, RowName.apart_row, RowName.above_row, HasArcAt, SharedStands, RowStands, case_consumer}
+use Rattle.rg_folds.specs.Rewriting.{numbers_where, has_label, has_label_at, used_labels, has_start, all_numbers, states_with, problem_rows, names_of}
 use Rattle.rg_meaning.specs.Meaning.{IsLeftOut}
 use Rattle.rg_meaning.proofs.Lists.{nothing, first, behind, Contains-map, where_has, if_true, if_false, from_one_of}
 

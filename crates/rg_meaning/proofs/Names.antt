@@ -7,9 +7,9 @@ use Rattle.rg_theory.specs.declared.Problem.{Problem}
 use Rattle.rg_theory.specs.declared.Problem.TheVariants.{Event, States}
 use Rattle.rg_theory.specs.System.{System, states, labels}
 use Rattle.rg_theory.proofs.Lists.{Contains-cons_cases}
-use Rattle.rg_refuting.specs.Row.{RowName, RowName.tokens_row, RowName.cap_row, RowName.up_row, RowName.down_row, RowName.makes_row, RowName.stop_row, RowName.block_row, RowName.empty_row, RowName.full_row, RowName.keep_row, RowName.apart_row, HasArcAt, RowStands, row_expression, apart_expression, order_of}
-use Rattle.rg_refuting.specs.Refutes.{IsAsked}
-use Rattle.rg_folds.specs.Rewriting.{numbers_where, has_label, has_label_at, used_labels, has_start, all_numbers, states_with, problem_rows, case_consumer, names_of}
+use Rattle.rg_refuting.specs.Row.{RowName, RowName.tokens_row, RowName.cap_row, RowName.up_row, RowName.down_row, RowName.makes_row, RowName.stop_row, RowName.block_row, RowName.empty_row, RowName.full_row, RowName.keep_row, RowName.apart_row, HasArcAt, RowStands, row_expression, apart_expression, order_of, case_consumer}
+use Rattle.rg_refuting.specs.Refutes.{IsSeparationProblem}
+use Rattle.rg_folds.specs.Rewriting.{numbers_where, has_label, has_label_at, used_labels, has_start, all_numbers, states_with, problem_rows, names_of}
 use Rattle.rg_folds.specs.Values.{NamesLabels}
 use Rattle.std.proofs.lemmas.List.Elements.{Contains-append_cases}
 use Rattle.rg_meaning.proofs.Lists.{nothing, first, behind, Contains-of_map, where_is, of_if, of_optional, in_one_of}
@@ -148,7 +148,7 @@ apart_names : (n s s' order : ℕ) → NamesLabels n (apart_expression s s' orde
 apart_names n s s' zero = tt
 apart_names n s s' (suc order) = tt
 
-pub names_labels : (lts : System) (class : Class) (problem : Problem) (number : ℕ) (name : RowName) → IsAsked lts problem → Contains (names_of lts class problem number) name → NamesLabels (labels lts) (row_expression lts class problem number [] name).terms
+pub names_labels : (lts : System) (class : Class) (problem : Problem) (number : ℕ) (name : RowName) → IsSeparationProblem lts problem → Contains (names_of lts class problem number) name → NamesLabels (labels lts) (row_expression lts class problem number [] name).terms
 names_labels lts class (Event s t) number name (_, label, _) has =
     each_name lts class (Event s t) number (λ n. NamesLabels (labels lts) (row_expression lts class (Event s t) number [] n).terms)
     (λ n h. each_problem_name lts class s t (λ n. NamesLabels (labels lts) (row_expression lts class (Event s t) number [] n).terms) (λ pure. (label, tt)) (λ pure plain. tt) (λ pure plain q has'. tt) (λ pure plain. (label, tt)) (λ pure plain q has'. tt) n h)

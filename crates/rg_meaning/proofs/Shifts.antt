@@ -38,7 +38,7 @@ three k by a e b x f y p r q = omega (arith, ints)
 one_effect : (k e f : ℤ) → f ≡ e → ((pos 1 *ℤ e) +ℤ pos 0) +ℤ k ≡ ((pos 1 *ℤ f) +ℤ pos 0) +ℤ k
 one_effect k e f p = omega (arith, ints)
 
-shared_value : (lts : System) (class : Class) (consumer : ℕ) (scale by : ℤ) (x y : Variable → ℤ) (name : RowName) → has_start class ≡ false → IsShift by x y → SharedStands lts class consumer [] name → ¬ IsTokensRow name → value_over scale x (shared_expression class [] name) ≡ value_over scale y (shared_expression class [] name)
+shared_value : (lts : System) (class : Class) (consumer : ℕ) (scale by : ℤ) (x y : Variable → ℤ) (name : RowName) → has_start class ≡ false → IsShift by x y → SharedStands lts class consumer [] name → ¬ IsTokensRow name → value_over scale x (shared_expression lts class [] name) ≡ value_over scale y (shared_expression lts class [] name)
 shared_value lts class consumer scale by x y (arc_row q t q') none (tokens, effects) stands other = three (pos 0 *ℤ scale) by (x (tokens_at q)) (x (effect_of t)) (x (tokens_at q')) (y (tokens_at q)) (y (effect_of t)) (y (tokens_at q')) (tokens q) (effects t) (tokens q')
 shared_value lts class consumer scale by x y (tokens_row q) none shift stands other = absurd (other tt)
 shared_value lts class consumer scale by x y (cap_row q) none shift (lt, some) other = both (is_some class.bound) (no_words class none).2 some

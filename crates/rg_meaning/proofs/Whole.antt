@@ -33,7 +33,7 @@ not_some (Some k) e f = cc
 abbrev pub IsLow : ℤ → Type 0
 IsLow z = (z ≡ pos 0) ⊎ (z ≡ negsuc 0)
 
-shared_low : (lts : System) (class : Class) (consumer : ℕ) (name : RowName) → class.plain ≡ false → IsNone class.bound → SharedStands lts class consumer [] name → IsLow (shared_expression class [] name).constant
+shared_low : (lts : System) (class : Class) (consumer : ℕ) (name : RowName) → class.plain ≡ false → IsNone class.bound → SharedStands lts class consumer [] name → IsLow (shared_expression lts class [] name).constant
 shared_low lts class consumer (arc_row q t q') plain bound stands = inl refl
 shared_low lts class consumer (tokens_row q) plain bound stands = inl refl
 shared_low lts class consumer (cap_row q) plain bound (lt, some) = absurd (not_some class.bound bound some)
@@ -73,11 +73,11 @@ not_negative_row v c k (inr e) positive h = subst (λ z. pos 0 ≤ℤ (v +ℤ (z
     close v k positive h = omega (arith, ints)
 
 arc_at_one : (lts : System) (class : Class) (problem : Problem) (number : ℕ) (scale : ℤ) (x : Variable → ℤ) (q t q' : ℕ) → RowHolds lts class problem number scale x (arc_row q t q') → RowHolds lts class problem number (pos 1) x (arc_row q t q')
-arc_at_one lts class (Event s u) number scale x q t q' h = close (value_in x (shared_expression class [] (arc_row q t q')).terms) scale h
+arc_at_one lts class (Event s u) number scale x q t q' h = close (value_in x (shared_expression lts class [] (arc_row q t q')).terms) scale h
   where
     close : (v k : ℤ) → v +ℤ (pos 0 *ℤ k) ≡ pos 0 → v +ℤ (pos 0 *ℤ pos 1) ≡ pos 0
     close v k h = omega (arith, ints)
-arc_at_one lts class (States s s') number scale x q t q' h = close (value_in x (shared_expression class [] (arc_row q t q')).terms) scale h
+arc_at_one lts class (States s s') number scale x q t q' h = close (value_in x (shared_expression lts class [] (arc_row q t q')).terms) scale h
   where
     close : (v k : ℤ) → v +ℤ (pos 0 *ℤ k) ≡ pos 0 → v +ℤ (pos 0 *ℤ pos 1) ≡ pos 0
     close v k h = omega (arith, ints)

@@ -7,7 +7,7 @@ use Rattle.rg_theory.specs.declared.Class.{Class}
 use Rattle.rg_theory.specs.declared.Problem.{Problem}
 use Rattle.rg_refuting.specs.Expression.{Variable, Variable.tokens_at, Variable.effect_of, Expression, value_in, numbers_by}
 use Rattle.rg_refuting.specs.Row.{RowName, RowName.arc_row, RowName.tokens_row, RowName.up_row, RowName.down_row, RowName.makes_row, RowStands, row_expression, cases_of, Says, KeepsRows}
-use Rattle.rg_refuting.specs.Refutes.{IsAsked}
+use Rattle.rg_refuting.specs.Refutes.{IsSeparationProblem}
 use Rattle.rg_integers.specs.Sum.{number_at}
 use Rattle.rg_linear.specs.System.{IsPoint, MeetsRows}
 use Rattle.rg_linear.specs.Cycle.{FollowsRelations, CycleBasis}
@@ -60,7 +60,7 @@ pub record IsCaseOver (lts : System) (tree : List Arc) (basis : CycleBasis) (cla
   pub reachable : IsAllReachable lts
   pub is_tree : IsTree lts tree
   pub is_basis : IsBasis lts tree basis
-  pub asked : IsAsked lts problem
+  pub asked : IsSeparationProblem lts problem
   pub is_case : system_fold lts tree basis class problem number (Ok case)
 
 -- the effects follow the relations of the basis, and those of labels without an arc are 0

@@ -10,7 +10,7 @@ ghost use Rattle.std.specs.Prelude.{◌≡◌, ◌⊎◌, ◌↔◌, ℕ, ◌+�
 ghost use Rattle.rg_theory.specs.System.{System, HasArc, IsInRange, IsAllReachable, states, labels};
 ghost use Rattle.rg_refuting.specs.Expression.{Variable};
 ghost use Rattle.rg_refuting.specs.Row.{RowName, RowStands, row_expression, cases_of, KeepsRows};
-ghost use Rattle.rg_refuting.specs.Refutes.{IsAsked, IsSeparable};
+ghost use Rattle.rg_refuting.specs.Refutes.{IsSeparationProblem, IsSeparable};
 ghost use Rattle.rg_integers.specs.Sum.{sum_below, number_at, dot};
 ghost use Rattle.rg_linear.specs.System.{IsPoint, MeetsRows};
 ghost use Rattle.rg_linear.specs.Cycle.{FollowsRelations, CycleBasis};
@@ -28,7 +28,7 @@ use rg_theory::{Arc, Class, Problem};
 /// is among them or left out.
 pub fn rows_are_named()
     ensures stand { (lts : System) (class : Class) (problem : Problem) (number : ℕ) (name : RowName) → Contains (names_of lts class problem number) name → RowStands lts class problem number [] name }
-    ensures labels { (lts : System) (class : Class) (problem : Problem) (number : ℕ) (name : RowName) → IsAsked lts problem → Contains (names_of lts class problem number) name → NamesLabels (labels lts) (row_expression lts class problem number [] name).terms }
+    ensures labels { (lts : System) (class : Class) (problem : Problem) (number : ℕ) (name : RowName) → IsSeparationProblem lts problem → Contains (names_of lts class problem number) name → NamesLabels (labels lts) (row_expression lts class problem number [] name).terms }
     ensures others { (lts : System) (class : Class) (problem : Problem) (number : ℕ) (name : RowName) → IsInRange lts → RowStands lts class problem number [] name → Contains (names_of lts class problem number) name ⊎ IsLeftOut lts class name }
 {}
 

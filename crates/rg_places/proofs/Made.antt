@@ -16,7 +16,7 @@ use Rattle.rg_theory.specs.Problem.{Separates}
 use Rattle.rg_theory.proofs.Arcs.{arc_in_range}
 use Rattle.rg_refuting.specs.Expression.{Variable, Variable.tokens_at, Variable.effect_of, numbers_by}
 use Rattle.rg_refuting.specs.Row.{RowName.tokens_row, RowName.stop_row, RowName.block_row, RowStands, KeepsRows, consumer_of}
-use Rattle.rg_refuting.specs.Refutes.{IsAsked}
+use Rattle.rg_refuting.specs.Refutes.{IsSeparationProblem}
 use Rattle.rg_refuting.proofs.Making.{place_by, weight_by, Suits, suited_region, Facts, below, event_facts, state_facts, effect_suits, at_label, at_label_other, stopping_suits, state_place}
 use Rattle.rg_integers.specs.Range.{InRange}
 use Rattle.rg_integers.proofs.Ranges.{zero_in_range, in_range-neg}
@@ -70,7 +70,7 @@ top_fits lts class problem number found numbers x scale k s = ⊎_elim
     (λ le. subst (λ (r : Ratio). InRange r.top) (sym (get_or_past numbers s (whole (pos 0)) (subst (λ n. n ≤ s) (sym k.at.0) le))) zero_in_range)
     (cases_lt s (states lts))
 
-separates_same : (lts : System) (p : Place) (m m' : ℕ → ℕ) (problem : Problem) → IsAsked lts problem → ((s : ℕ) → s < states lts → m s ≡ m' s) → Separates p m problem → Separates p m' problem
+separates_same : (lts : System) (p : Place) (m m' : ℕ → ℕ) (problem : Problem) → IsSeparationProblem lts problem → ((s : ℕ) → s < states lts → m s ≡ m' s) → Separates p m problem → Separates p m' problem
 separates_same lts p m m' (Event s t) asked same h = let e = same s asked.0 in omega arith
 separates_same lts p m m' (States s s') asked same h = λ e. h (same s asked.0 ∙ e ∙ sym (same s' asked.1))
 
@@ -81,7 +81,7 @@ pub record IsPlaceFor (lts : System) (class : Class) (problem : Problem) (number
   pub separates : Separates place (tokens_of numbers) problem
   pub fit : NumbersFit place (tokens_of numbers)
 
-finish : (lts : System) (class : Class) (problem : Problem) (number : ℕ) (found numbers : List Ratio) (x : Variable → ℤ) (scale : ℤ) (given : List ℤ) (pre post : ℕ → ℕ) → IsInRange lts → IsAsked lts problem → AreKept lts class problem number found numbers x scale → each (λ u. whole_sum (taken lts class problem numbers found u) (top_at found u)) (all_numbers (labels lts)) (Ok given) → ((i : ℕ) → i < labels lts → unsigned_abs (taken lts class problem numbers found i) ≡ pre i) → ((i : ℕ) → i < labels lts → unsigned_abs (taken lts class problem numbers found i +ℤ top_at found i) ≡ post i) → ((i : ℕ) → i < labels lts → InRange (taken lts class problem numbers found i)) → Suits lts class (tokens_in x) pre post → Separates (place_by (tokens_in x lts.initial) pre post (labels lts)) (tokens_in x) problem → IsPlaceFor lts class problem numbers (place_of lts numbers (map (taken lts class problem numbers found) (all_numbers (labels lts))) given)
+finish : (lts : System) (class : Class) (problem : Problem) (number : ℕ) (found numbers : List Ratio) (x : Variable → ℤ) (scale : ℤ) (given : List ℤ) (pre post : ℕ → ℕ) → IsInRange lts → IsSeparationProblem lts problem → AreKept lts class problem number found numbers x scale → each (λ u. whole_sum (taken lts class problem numbers found u) (top_at found u)) (all_numbers (labels lts)) (Ok given) → ((i : ℕ) → i < labels lts → unsigned_abs (taken lts class problem numbers found i) ≡ pre i) → ((i : ℕ) → i < labels lts → unsigned_abs (taken lts class problem numbers found i +ℤ top_at found i) ≡ post i) → ((i : ℕ) → i < labels lts → InRange (taken lts class problem numbers found i)) → Suits lts class (tokens_in x) pre post → Separates (place_by (tokens_in x lts.initial) pre post (labels lts)) (tokens_in x) problem → IsPlaceFor lts class problem numbers (place_of lts numbers (map (taken lts class problem numbers found) (all_numbers (labels lts))) given)
 finish lts class problem number found numbers x scale given pre post fine asked k made takes gives fits suits separates =
     record {
       region = subst (λ p. RegionIn lts class p (tokens_of numbers)) (sym is) (region_same lts class (place_by (tokens_in x lts.initial) pre post (labels lts)) (tokens_in x) (tokens_of numbers) fine same (suited_region lts class (tokens_in x) pre post fine suits));
@@ -102,7 +102,7 @@ finish lts class problem number found numbers x scale given pre post fine asked 
 
 -- ---- state problems
 
-state_made : (lts : System) (class : Class) (s s' number : ℕ) (found numbers : List Ratio) (x : Variable → ℤ) (scale : ℤ) (given : List ℤ) → class.plain ≡ false → IsNone class.bound → IsInRange lts → IsAsked lts (States s s') → ((t : ℕ) → InRange (top_at found t)) → AreKept lts class (States s s') number found numbers x scale → each (λ u. whole_sum (taken lts class (States s s') numbers found u) (top_at found u)) (all_numbers (labels lts)) (Ok given) → IsPlaceFor lts class (States s s') numbers (place_of lts numbers (map (taken lts class (States s s') numbers found) (all_numbers (labels lts))) given)
+state_made : (lts : System) (class : Class) (s s' number : ℕ) (found numbers : List Ratio) (x : Variable → ℤ) (scale : ℤ) (given : List ℤ) → class.plain ≡ false → IsNone class.bound → IsInRange lts → IsSeparationProblem lts (States s s') → ((t : ℕ) → InRange (top_at found t)) → AreKept lts class (States s s') number found numbers x scale → each (λ u. whole_sum (taken lts class (States s s') numbers found u) (top_at found u)) (all_numbers (labels lts)) (Ok given) → IsPlaceFor lts class (States s s') numbers (place_of lts numbers (map (taken lts class (States s s') numbers found) (all_numbers (labels lts))) given)
 state_made lts class s s' number found numbers x scale given plain bound fine asked in_range k made =
     let keeps = rows_kept lts class (States s s') number found numbers x scale plain bound k in
     finish lts class (States s s') number found numbers x scale given (λ t. down (effects_in x t)) (λ t. up (effects_in x t)) fine asked k made
@@ -129,7 +129,7 @@ pure_label lts class s t u found numbers pure same = ap₂ (λ a b. event_taken 
 stopped_label : (lts : System) (class : Class) (s t u : ℕ) (found numbers : List Ratio) → class.pure ≡ false → class.plain ≡ false → u ≡ t → taken lts class (Event s t) numbers found u ≡ (least_at lts numbers t).top
 stopped_label lts class s t u found numbers impure plain same = ap₂ (λ a b. event_taken a class.plain b (top_at found u) (least_at lts numbers t).top) impure (eq-eqb u t same) ∙ ap (λ c. event_taken false c true (top_at found u) (least_at lts numbers t).top) plain
 
-pure_made : (lts : System) (class : Class) (s t number : ℕ) (found numbers : List Ratio) (x : Variable → ℤ) (scale : ℤ) (given : List ℤ) → class.plain ≡ false → IsNone class.bound → class.pure ≡ true → IsInRange lts → IsAsked lts (Event s t) → ((u : ℕ) → InRange (top_at found u)) → AreKept lts class (Event s t) number found numbers x scale → each (λ u. whole_sum (taken lts class (Event s t) numbers found u) (top_at found u)) (all_numbers (labels lts)) (Ok given) → IsPlaceFor lts class (Event s t) numbers (place_of lts numbers (map (taken lts class (Event s t) numbers found) (all_numbers (labels lts))) given)
+pure_made : (lts : System) (class : Class) (s t number : ℕ) (found numbers : List Ratio) (x : Variable → ℤ) (scale : ℤ) (given : List ℤ) → class.plain ≡ false → IsNone class.bound → class.pure ≡ true → IsInRange lts → IsSeparationProblem lts (Event s t) → ((u : ℕ) → InRange (top_at found u)) → AreKept lts class (Event s t) number found numbers x scale → each (λ u. whole_sum (taken lts class (Event s t) numbers found u) (top_at found u)) (all_numbers (labels lts)) (Ok given) → IsPlaceFor lts class (Event s t) numbers (place_of lts numbers (map (taken lts class (Event s t) numbers found) (all_numbers (labels lts))) given)
 pure_made lts class s t number found numbers x scale given plain bound pure fine asked in_range k made =
     finish lts class (Event s t) number found numbers x scale given (λ u. down (effects_in x u)) (λ u. up (effects_in x u)) fine asked k made
     (λ i lt. ⊎_elim
@@ -202,7 +202,7 @@ stops_at lts class problem t number found numbers x scale fine live k =
         let (_, _, lt) = where_is (λ u. has_label_at u t lts.arcs) 0 (states lts) q within in
         ap (λ (f : Ratio). f.bottom) (sym is ∙ (k.at.1 q (omega arith)).0)
 
-stopped_made : (lts : System) (class : Class) (s t number : ℕ) (found numbers : List Ratio) (x : Variable → ℤ) (scale : ℤ) (given : List ℤ) → class.plain ≡ false → IsNone class.bound → class.pure ≡ false → IsInRange lts → IsAsked lts (Event s t) → ¬ IsDead lts t → ((u : ℕ) → InRange (top_at found u)) → AreKept lts class (Event s t) number found numbers x scale → each (λ u. whole_sum (taken lts class (Event s t) numbers found u) (top_at found u)) (all_numbers (labels lts)) (Ok given) → IsPlaceFor lts class (Event s t) numbers (place_of lts numbers (map (taken lts class (Event s t) numbers found) (all_numbers (labels lts))) given)
+stopped_made : (lts : System) (class : Class) (s t number : ℕ) (found numbers : List Ratio) (x : Variable → ℤ) (scale : ℤ) (given : List ℤ) → class.plain ≡ false → IsNone class.bound → class.pure ≡ false → IsInRange lts → IsSeparationProblem lts (Event s t) → ¬ IsDead lts t → ((u : ℕ) → InRange (top_at found u)) → AreKept lts class (Event s t) number found numbers x scale → each (λ u. whole_sum (taken lts class (Event s t) numbers found u) (top_at found u)) (all_numbers (labels lts)) (Ok given) → IsPlaceFor lts class (Event s t) numbers (place_of lts numbers (map (taken lts class (Event s t) numbers found) (all_numbers (labels lts))) given)
 stopped_made lts class s t number found numbers x scale given plain bound impure fine asked live in_range k made =
     finish lts class (Event s t) number found numbers x scale given pre post fine asked k made
     (λ i lt. ⊎_elim
@@ -267,7 +267,7 @@ stopped_made lts class s t number found numbers x scale given plain bound impure
 
 -- ---- the whole fold
 
-made_for : (lts : System) (class : Class) (problem : Problem) (number : ℕ) (found numbers : List Ratio) (x : Variable → ℤ) (scale : ℤ) (given : List ℤ) → class.plain ≡ false → IsNone class.bound → IsInRange lts → IsAsked lts problem → IsLive lts problem → ((u : ℕ) → InRange (top_at found u)) → AreKept lts class problem number found numbers x scale → each (λ u. whole_sum (taken lts class problem numbers found u) (top_at found u)) (all_numbers (labels lts)) (Ok given) → IsPlaceFor lts class problem numbers (place_of lts numbers (map (taken lts class problem numbers found) (all_numbers (labels lts))) given)
+made_for : (lts : System) (class : Class) (problem : Problem) (number : ℕ) (found numbers : List Ratio) (x : Variable → ℤ) (scale : ℤ) (given : List ℤ) → class.plain ≡ false → IsNone class.bound → IsInRange lts → IsSeparationProblem lts problem → IsLive lts problem → ((u : ℕ) → InRange (top_at found u)) → AreKept lts class problem number found numbers x scale → each (λ u. whole_sum (taken lts class problem numbers found u) (top_at found u)) (all_numbers (labels lts)) (Ok given) → IsPlaceFor lts class problem numbers (place_of lts numbers (map (taken lts class problem numbers found) (all_numbers (labels lts))) given)
 made_for lts class (Event s t) number found numbers x scale given plain bound fine asked live in_range k made = ⊎_elim
     (λ pure. pure_made lts class s t number found numbers x scale given plain bound pure fine asked in_range k made)
     (λ impure. stopped_made lts class s t number found numbers x scale given plain bound impure fine asked live in_range k made)

@@ -14,10 +14,9 @@ use Rattle.rg_theory.specs.declared.Class.{Class}
 use Rattle.rg_theory.specs.Region.{RegionIn}
 use Rattle.rg_theory.proofs.Arcs.{arc_in_range}
 use Rattle.std.proofs.Common.{IfSome, Option, Some, None}
-use Rattle.rg_integers.specs.Range.{InRange}
+use Rattle.rg_integers.specs.Range.{InRange, greatest}
 use Rattle.rg_integers.proofs.Ranges.{zero_in_range, in_range-neg}
 use Rattle.rg_integers.specs.Sum.{number_at}
-use Rattle.rg_refuting.specs.Refutes.{max_number}
 use Rattle.rg_refuting.proofs.Making.{place_by}
 use Rattle.rg_folds.specs.Fold.{each, whole_sum}
 use Rattle.rg_folds.specs.Rewriting.{all_numbers}
@@ -79,7 +78,7 @@ taken_fits e fits = go (int_lt e (pos 0))
 at_most : (n k : ℕ) → n < k → n ≤ k - 1
 at_most n k lt = omega arith
 
-pub fits_most : (z : ℤ) → InRange z → unsigned_abs z ≤ max_number
+pub fits_most : (z : ℤ) → InRange z → unsigned_abs z ≤ greatest
 fits_most z h = at_most (unsigned_abs z) (2 ^ 127) h
 
 -- ---- lists of weights
@@ -93,11 +92,11 @@ listed xs f n count same = ext_get_or 0 (map unsigned_abs xs) (map f (range_with
     at : (i : ℕ) → i < n → slice_index_or (map unsigned_abs xs) i 0 ≡ slice_index_or (map f (range_with_len 0 n)) i 0
     at i lt = get_or-map unsigned_abs xs i (pos 0) 0 (subst (λ k. i < k) (sym count) lt) ∙ same i lt ∙ sym (get_or-map-range_with_len f 0 n i i 0 lt (start i))
 
-pub all_most : (xs : List ℤ) → ((i : ℕ) → i < length xs → InRange (number_at xs i)) → All (λ n. n ≤ max_number) (map unsigned_abs xs)
-all_most xs fits = All-from_get_or (λ n. n ≤ max_number) (map unsigned_abs xs) 0 (λ i lt. at i (subst (λ k. i < k) (length-map xs unsigned_abs) lt))
+pub all_most : (xs : List ℤ) → ((i : ℕ) → i < length xs → InRange (number_at xs i)) → All (λ n. n ≤ greatest) (map unsigned_abs xs)
+all_most xs fits = All-from_get_or (λ n. n ≤ greatest) (map unsigned_abs xs) 0 (λ i lt. at i (subst (λ k. i < k) (length-map xs unsigned_abs) lt))
   where
-    at : (i : ℕ) → i < length xs → slice_index_or (map unsigned_abs xs) i 0 ≤ max_number
-    at i lt = subst (λ n. n ≤ max_number) (sym (get_or-map unsigned_abs xs i (pos 0) 0 lt)) (fits_most (number_at xs i) (fits i lt))
+    at : (i : ℕ) → i < length xs → slice_index_or (map unsigned_abs xs) i 0 ≤ greatest
+    at i lt = subst (λ n. n ≤ greatest) (sym (get_or-map unsigned_abs xs i (pos 0) 0 lt)) (fits_most (number_at xs i) (fits i lt))
 
 -- what is taken by label
 pub taken_at : (g : ℕ → ℤ) (n i : ℕ) → i < n → number_at (map g (all_numbers n)) i ≡ g i

@@ -7,7 +7,7 @@ use Rattle.rg_theory.specs.declared.Class.{Class}
 use Rattle.rg_theory.specs.Region.{RegionIn}
 use Rattle.rg_theory.specs.declared.Problem.{Problem}
 use Rattle.rg_theory.specs.Problem.{Separates}
-use Rattle.rg_refuting.specs.Refutes.{max_number}
+use Rattle.rg_integers.specs.Range.{greatest}
 use Rattle.rg_integers.specs.Value.{SameValue}
 use Rattle.rg_fraction.specs.declared.term.Wide.{Wide}
 use Rattle.rg_linear.specs.Cycle.{CycleBasis}
@@ -46,10 +46,10 @@ tokens_of numbers s = unsigned_abs (top_at numbers s)
 
 -- no number of the place or of the states is greater than the greatest number
 pub record NumbersFit (place : Place) (m : ℕ → ℕ) : Type 0 where
-  pub start : place.start ≤ max_number
-  pub pre : All (λ n. n ≤ max_number) place.pre
-  pub post : All (λ n. n ≤ max_number) place.post
-  pub tokens : (s : ℕ) → m s ≤ max_number
+  pub start : place.start ≤ greatest
+  pub pre : All (λ n. n ≤ greatest) place.pre
+  pub post : All (λ n. n ≤ greatest) place.post
+  pub tokens : (s : ℕ) → m s ≤ greatest
 
 -- the place, with the numbers of the states that are made on the way to it, is a region of the class that separates, and its numbers fit
 pub record PlaceIsMade (lts : System) (tree : List Arc) (basis : CycleBasis) (class : Class) (problem : Problem) (start : Ratio) (value : ℕ → Ratio) (place : Place) : Type 0 where

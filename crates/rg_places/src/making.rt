@@ -1,6 +1,6 @@
 //! From a point to its place.
 ghost use Rattle.std.specs.Prelude.{◌≡◌, ℕ, ◌+◌, ◌<◌, length, map, drop, unsigned_abs, Ok, Err, IfOk, IsErrOf, IsTrue, IsFalse, IsNone};
-ghost use Rattle.rg_refuting.specs.Refutes.{IsAsked};
+ghost use Rattle.rg_refuting.specs.Refutes.{IsSeparationProblem};
 ghost use Rattle.rg_theory.specs.System.{states, labels};
 ghost use Rattle.rg_fraction.specs.declared.term.Wide.{Wide};
 ghost use Rattle.rg_spanning.specs.Spanning.{IsTreeOf};
@@ -55,7 +55,7 @@ pub fn make_place(
 ) -> Result<RegionPlace, FoldStop>
     requires tree { IsTreeOf lts.now tree.now }
     requires labels { labels_of basis.now ≡ labels lts.now }
-    requires asked { IsAsked lts.now problem }
+    requires asked { IsSeparationProblem lts.now problem }
     requires columns { length point.now ≡ column_count lts.now (cycle_of basis.now) class }
     ensures place { IfOk result (λ r. place_fold lts.now tree.now.arcs (cycle_of basis.now) class problem (point_start class point.now) (point_value lts.now (cycle_of basis.now) class point.now) (Ok (shown_place r.place))) }
     ensures tokens { IfOk result (λ r. AreTokensMade lts.now tree.now.arcs (cycle_of basis.now) class (point_start class point.now) (point_value lts.now (cycle_of basis.now) class point.now) r.tokens.items) }
@@ -119,7 +119,7 @@ fn place_of(
     found: &[Fraction],
     numbers: &[Fraction],
 ) -> Result<RegionPlace, FoldStop>
-    requires asked { IsAsked lts.now problem }
+    requires asked { IsSeparationProblem lts.now problem }
     requires found { length found.now ≡ labels lts.now + 1 }
     requires numbers { length numbers.now ≡ states lts.now }
     ensures place { IfOk result (λ r. weights_fold lts.now class problem (ratios_of found.now) (ratios_of numbers.now) (Ok (shown_place r.place))) }

@@ -1,7 +1,7 @@
 //! Places of small systems, worked by hand.
 ghost use Rattle.std.specs.Prelude.{◌≡◌, ◌<◌, length, All, IsTrue, IfOk, count_by, slice_index_or, false};
 ghost use Rattle.rg_theory.specs.System.{labels};
-ghost use Rattle.rg_refuting.specs.Refutes.{IsAsked};
+ghost use Rattle.rg_refuting.specs.Refutes.{IsSeparationProblem};
 ghost use Rattle.rg_integers.specs.Range.{InRange};
 ghost use Rattle.rg_folds.specs.Rewriting.{column_count};
 ghost use Rattle.rg_cycles.specs.Vectors.{numbers_in, AreVectors};
@@ -88,7 +88,7 @@ fn solved(alloc: Global, labels: u32, chords: &[Vec<i128>]) -> Result<Basis, Sto
 }
 
 fn is_asked(lts: &Lts, problem: Problem) -> bool
-    ensures { IsTrue result → IsAsked lts.now problem }
+    ensures { IsTrue result → IsSeparationProblem lts.now problem }
 {
     match problem {
         Problem::Event(s, t) => {

@@ -1,7 +1,7 @@
 //! What the labels take from a place and put on it.
 ghost use Rattle.std.specs.Prelude.{◌≡◌, ℕ, ◌<◌, ◌≤◌, ◌+◌, ℤ, pos, length, map, All, Ok, Err, IfOk, IsErrOf, unsigned_abs};
 ghost use Rattle.rg_theory.specs.System.{states, labels};
-ghost use Rattle.rg_refuting.specs.Refutes.{IsAsked};
+ghost use Rattle.rg_refuting.specs.Refutes.{IsSeparationProblem};
 ghost use Rattle.rg_integers.specs.Range.{InRange};
 ghost use Rattle.rg_integers.specs.Sum.{number_at};
 ghost use Rattle.rg_fraction.specs.declared.term.Wide.{Wide};
@@ -30,7 +30,7 @@ pub(crate) fn taken(
     numbers: &[Fraction],
     found: &[Fraction],
 ) -> Result<Vec<i128>, AllocError>
-    requires asked { IsAsked lts.now problem }
+    requires asked { IsSeparationProblem lts.now problem }
     requires numbers { length numbers.now ≡ states lts.now }
     requires found { length found.now ≡ labels lts.now + 1 }
     ensures value { IfOk result (λ pre. pre.items ≡ map (taken lts.now class problem (ratios_of numbers.now) (ratios_of found.now)) (all_numbers (labels lts.now))) }

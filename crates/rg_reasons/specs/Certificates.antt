@@ -1,13 +1,14 @@
 -- What certificates claim, and which numbers they may have.
-use Rattle.std.specs.Prelude.{◌≡◌, ◌^◌, ◌<◌, ◌≤◌, [], ◌∷◌, map, length, All, ℤ, nat_abs}
+use Rattle.std.specs.Prelude.{◌≡◌, ℕ, ◌^◌, ◌<◌, ◌≤◌, [], ◌∷◌, map, length, All, ℤ, nat_abs}
 use Rattle.rg_theory.specs.System.{System, states, labels}
 use Rattle.rg_theory.specs.declared.Class.{Class}
 use Rattle.rg_theory.specs.declared.Problem.TheVariants as problem
 use Rattle.rg_theory.specs.ClassWords.{HasBoundInRange}
-use Rattle.rg_refuting.specs.Expression.{Variable, Variable.tokens_at, Variable.effect_of}
+use Rattle.rg_refuting.specs.Expression.{Term, Variable, Variable.tokens_at, Variable.effect_of}
 use Rattle.rg_refuting.specs.Row as row
 use Rattle.rg_refuting.specs.Refutes as refutes
-use Rattle.rg_refuting.specs.Refutes.{NamedRow, Tree, max_number}
+use Rattle.rg_refuting.specs.Refutes.{NamedRow, Tree}
+use Rattle.rg_integers.specs.Range.{greatest}
 use Rattle.rg_reasons.specs.declared.certificate.Case.{Case}
 use Rattle.rg_reasons.specs.declared.certificate.Reason.{Reason}
 use Rattle.rg_reasons.specs.declared.certificate.Reason.TheVariants.{Unreachable, Fork, Event, States}
@@ -61,7 +62,7 @@ IsRowNameOf lts (row.above_row d) = d < 2 ^ 32
 
 -- a multiplier is from -(2^127 - 1) to 2^127 - 1
 abbrev pub IsMultiplierInRange : ℤ → Type 0
-IsMultiplierInRange z = nat_abs z ≤ max_number
+IsMultiplierInRange z = nat_abs z ≤ greatest
 
 -- the number of a split is from -(2^63 - 1) to 2^63 - 1
 abbrev pub IsSplitInRange : ℤ → Type 0
@@ -71,14 +72,26 @@ pub record IsRowOf (lts : System) (r : NamedRow) : Type 0 where
   pub multiplier : IsMultiplierInRange r.multiplier
   pub name : IsRowNameOf lts r.name
 
+abbrev pub IsFormOf : System → row.Form → Type 0
+IsFormOf lts (row.on_tokens q) = q < states lts
+IsFormOf lts (row.on_effect t) = t < labels lts
+
+-- the state or label is one of so many
+abbrev pub IsVariableWithin : ℕ → ℕ → Variable → Type 0
+IsVariableWithin states labels (tokens_at q) = q < states
+IsVariableWithin states labels (effect_of t) = t < labels
+
+abbrev pub IsTermWithin : ℕ → ℕ → Term → Type 0
+IsTermWithin states labels t = IsVariableWithin states labels t.variable
+
+-- the state or label is the system's
 abbrev pub IsVariableOf : System → Variable → Type 0
-IsVariableOf lts (tokens_at q) = q < states lts
-IsVariableOf lts (effect_of t) = t < labels lts
+IsVariableOf lts v = IsVariableWithin (states lts) (labels lts) v
 
 -- the numbers of a node are in range
 abbrev pub IsNodeOf : System → TreeNode → Type 0
 IsNodeOf lts (leaf_node rows) = All (IsRowOf lts) rows
-IsNodeOf lts (split_node form at) = IsVariableOf lts form × IsSplitInRange at
+IsNodeOf lts (split_node form at) = IsFormOf lts form × IsSplitInRange at
 
 -- the numbers of all nodes of a tree are in range
 abbrev pub IsTreeOf : System → Tree → Type 0

@@ -1,6 +1,5 @@
 -- The trees of certificates, and the lists of nodes that stand for them.
 use Rattle.std.specs.Prelude.{◌≡◌, List, [], ◌∷◌, ◌++◌, map, ℤ}
-use Rattle.rg_refuting.specs.Expression.{Variable, Variable.tokens_at, Variable.effect_of}
 use Rattle.rg_refuting.specs.Row as row
 use Rattle.rg_refuting.specs.Refutes.{NamedRow, Tree, Tree.leaf, Tree.split}
 use Rattle.rg_reasons.specs.declared.certificate.RowName.{RowName}
@@ -14,7 +13,7 @@ use Rattle.rg_reasons.specs.declared.certificate.Case.{Case}
 -- a node of a tree, without what is below it
 pub data TreeNode : Type 0 where
   leaf_node : List NamedRow → TreeNode
-  split_node : Variable → ℤ → TreeNode
+  split_node : row.Form → ℤ → TreeNode
 
 -- the nodes of a tree: each split, then its low side, then its high side
 abbrev pub preorder : Tree → List TreeNode
@@ -26,7 +25,7 @@ abbrev pub IsWholeTree : List TreeNode → Tree → Type 0
 IsWholeTree nodes tree = nodes ≡ preorder tree
 
 -- the first two trees become the sides of a split
-abbrev pub joined : Variable → ℤ → List Tree → List Tree
+abbrev pub joined : row.Form → ℤ → List Tree → List Tree
 joined form at (low ∷ high ∷ more) = split form at low high ∷ more
 joined form at trees = trees
 
@@ -60,16 +59,16 @@ row_name_of of_code.Keep = row.keep_row
 row_name_of of_code.Apart = row.apart_row
 row_name_of (of_code.Above d) = row.above_row d
 
-abbrev pub variable_of : Form → Variable
-variable_of (form.Tokens q) = tokens_at q
-variable_of (form.Effect t) = effect_of t
+abbrev pub form_of : Form → row.Form
+form_of (form.Tokens q) = row.on_tokens q
+form_of (form.Effect t) = row.on_effect t
 
 abbrev pub named_row : RowName × ℤ → NamedRow
 named_row r = record { multiplier = r.1; name = row_name_of r.0 }
 
 abbrev pub node_of : Node → TreeNode
 node_of (Leaf rows) = leaf_node (map named_row rows.items)
-node_of (Split form at) = split_node (variable_of form) at
+node_of (Split form at) = split_node (form_of form) at
 
 -- the nodes of a case
 abbrev pub nodes_of : Case → List TreeNode

@@ -1,7 +1,21 @@
-//! Certificates that a system has no net, in memory.
+//! Certificates that a system has no net, in memory, and what their rows say.
+//!
+//! A separation problem is a system of linear inequalities over the tokens of states and the effects of labels
+//! (Badouel, Bernardinello and Darondeau, *Petri Net Synthesis*). A certificate names them; here a name becomes a sum
+//! of terms.
 #![tactic(auto)]
 
 mod certificate;
+mod problem_case;
+mod rows;
+mod side;
+mod sum;
+mod variable;
 
 pub use certificate::{Case, Certificate, Form, Node, Reason, RowName};
+pub use problem_case::ProblemCase;
 pub use rg_theory::Problem;
+pub use rows::expression;
+pub use side::Side;
+pub use sum::Expression;
+pub use variable::{Term, Variable};

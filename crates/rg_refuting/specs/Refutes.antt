@@ -1,5 +1,6 @@
 -- When a certificate is accepted.
-use Rattle.std.specs.Prelude.{◌≡◌, ◌≢◌, ℕ, ◌-◌, ◌^◌, ◌<◌, ◌≤◌, Bool, true, false, List, [], ◌∷◌, ◌++◌, length, All, IsTrue, IsFalse, ℤ, pos, ◌*ℤ◌, ◌≤ℤ◌, ◌<ℤ◌, nat_abs, slice_get, Some, sum_by}
+use Rattle.std.specs.Prelude.{◌≡◌, ◌≢◌, ℕ, ◌<◌, ◌≤◌, Bool, true, false, List, [], ◌∷◌, ◌++◌, length, All, IsTrue, IsFalse, ℤ, pos, ◌*ℤ◌, ◌≤ℤ◌, ◌<ℤ◌, nat_abs, slice_get, Some, sum_by}
+use Rattle.rg_integers.specs.Range.{greatest}
 use Rattle.rg_integers.specs.Sum.{sum_over}
 use Rattle.rg_theory.specs.System.{System, states, labels, HasArc, IsFork, IsClosedWithout}
 use Rattle.rg_theory.specs.declared.Class.{Class}
@@ -9,16 +10,12 @@ use Rattle.rg_theory.specs.declared.Problem.{Problem}
 use Rattle.rg_theory.specs.declared.Problem.TheVariants.{Event, States}
 use Rattle.rg_theory.specs.Problem.{Separates}
 use Rattle.rg_refuting.specs.Expression.{Variable, Expression, coefficient_in, numbers_by}
-use Rattle.rg_refuting.specs.Row.{Side, RowName, RowName.arc_row, RowStands, row_expression, KeepsRows, cases_of}
+use Rattle.rg_refuting.specs.Row.{Form, Side, RowName, RowName.arc_row, RowStands, row_expression, KeepsRows, cases_of}
 
 -- a row of a leaf, times a number
 pub record NamedRow : Type 0 where
   pub multiplier : ℤ
   pub name : RowName
-
--- the greatest number in range
-abbrev pub max_number : ℕ
-max_number = 2 ^ 127 - 1
 
 -- a row that says "at least 0" has a positive multiplier
 abbrev pub IsMultiplier : ℤ → RowName → Type 0
@@ -35,9 +32,9 @@ constant_sum expression rows = sum_over (λ r. r.multiplier *ℤ (expression r.n
 
 -- no sum of absolute values passes the greatest number, for any variable nor for the constants
 pub record IsSmall (expression : RowName → Expression) (rows : List NamedRow) : Type 0 where
-  pub multipliers : All (λ r. nat_abs r.multiplier ≤ max_number) rows
-  pub coefficients : (v : Variable) → sum_by (λ r. nat_abs (r.multiplier *ℤ coefficient_in (expression r.name).terms v)) rows ≤ max_number
-  pub constants : sum_by (λ r. nat_abs (r.multiplier *ℤ (expression r.name).constant)) rows ≤ max_number
+  pub multipliers : All (λ r. nat_abs r.multiplier ≤ greatest) rows
+  pub coefficients : (v : Variable) → sum_by (λ r. nat_abs (r.multiplier *ℤ coefficient_in (expression r.name).terms v)) rows ≤ greatest
+  pub constants : sum_by (λ r. nat_abs (r.multiplier *ℤ (expression r.name).constant)) rows ≤ greatest
 
 -- the rows stand, and their sum says that a negative number is at least 0
 pub record LeafRefutes (stands : RowName → Type 0) (expression : RowName → Expression) (rows : List NamedRow) : Type 0 where
@@ -50,7 +47,7 @@ pub record LeafRefutes (stands : RowName → Type 0) (expression : RowName → E
 -- a tree of splits, with rows at its leaves
 pub data Tree : Type 0 where
   leaf : List NamedRow → Tree
-  split : Variable → ℤ → Tree → Tree → Tree
+  split : Form → ℤ → Tree → Tree → Tree
 
 -- every leaf refutes, below the sides that lead to it, outermost first
 abbrev pub TreeRefutes : System → Class → Problem → ℕ → List Side → Tree → Type 0
@@ -66,9 +63,9 @@ pub data Reason : Type 0 where
   refuted : Problem → List Tree → Reason
 
 -- the label has no arc at the state; the two states differ
-abbrev pub IsAsked : System → Problem → Type 0
-IsAsked lts (Event s t) = (s < states lts) × (t < labels lts) × ((s' : ℕ) → ¬ HasArc lts s t s')
-IsAsked lts (States s s') = (s < states lts) × (s' < states lts) × (s ≢ s')
+abbrev pub IsSeparationProblem : System → Problem → Type 0
+IsSeparationProblem lts (Event s t) = (s < states lts) × (t < labels lts) × ((s' : ℕ) → ¬ HasArc lts s t s')
+IsSeparationProblem lts (States s s') = (s < states lts) × (s' < states lts) × (s ≢ s')
 
 -- some region of the class separates
 abbrev pub IsSeparable : System → Class → Problem → Type 0
@@ -80,7 +77,7 @@ HasWholeSolution lts class problem = (number : ℕ) × (number < cases_of lts cl
 
 -- one tree for each case of the problem, and each of them refutes
 pub record IsRefuted (lts : System) (class : Class) (problem : Problem) (trees : List Tree) : Type 0 where
-  pub asked : IsAsked lts problem
+  pub asked : IsSeparationProblem lts problem
   pub cases : length trees ≡ cases_of lts class problem
   pub some : 0 < length trees
   pub each : (number : ℕ) (tree : Tree) → slice_get trees number ≡ Some tree → TreeRefutes lts class problem number [] tree

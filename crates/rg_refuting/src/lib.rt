@@ -5,7 +5,7 @@ ghost use Rattle.std.specs.Prelude.{ℕ, ◌<◌, ◌↔◌};
 ghost use Rattle.rg_theory.specs.System.{System, IsInRange};
 ghost use Rattle.rg_theory.specs.Class.{NoNet};
 ghost use Rattle.rg_refuting.specs.Row.{cases_of};
-ghost use Rattle.rg_refuting.specs.Refutes.{Reason, Accepts, IsAsked, IsSeparable, HasWholeSolution};
+ghost use Rattle.rg_refuting.specs.Refutes.{Reason, Accepts, IsSeparationProblem, IsSeparable, HasWholeSolution};
 
 use rg_theory::{Class, Problem};
 
@@ -17,5 +17,5 @@ pub fn accepted_is_no_net()
 /// Some region of the class separates a problem exactly where whole numbers keep all the rows of one
 /// of its cases.
 pub fn rows_are_exact()
-    ensures { (lts : System) (class : Class) (problem : Problem) → IsInRange lts → IsAsked lts problem → 0 < cases_of lts class problem → IsSeparable lts class problem ↔ HasWholeSolution lts class problem }
+    ensures { (lts : System) (class : Class) (problem : Problem) → IsInRange lts → IsSeparationProblem lts problem → 0 < cases_of lts class problem → IsSeparable lts class problem ↔ HasWholeSolution lts class problem }
 {}

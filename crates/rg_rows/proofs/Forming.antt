@@ -8,11 +8,11 @@ use Rattle.rg_theory.specs.declared.Class.{Class}
 use Rattle.rg_theory.specs.declared.Problem.{Problem}
 use Rattle.rg_theory.specs.declared.Problem.TheVariants.{Event, States}
 use Rattle.rg_theory.specs.System.{System, states, labels}
-use Rattle.rg_refuting.specs.Row.{RowName, RowName.tokens_row, RowName.makes_row, RowName.stop_row, RowName.block_row, RowName.empty_row, RowName.full_row, RowName.keep_row, RowName.cap_row, RowName.up_row, RowName.down_row}
+use Rattle.rg_refuting.specs.Row.{RowName, RowName.tokens_row, RowName.makes_row, RowName.stop_row, RowName.block_row, RowName.empty_row, RowName.full_row, RowName.keep_row, RowName.cap_row, RowName.up_row, RowName.down_row, case_consumer}
 use Rattle.rg_linear.specs.System.{LinearRow, row_at}
 use Rattle.rg_linear.specs.Firsts.{KeepsFirsts}
 use Rattle.rg_linear.proofs.Firsts.{kept_is}
-use Rattle.rg_folds.specs.Rewriting.{numbers_where, used_labels, has_label, has_label_at, states_with, has_start, all_numbers, problem_rows, case_consumer, names_of, KeptRow, IsIdle}
+use Rattle.rg_folds.specs.Rewriting.{numbers_where, used_labels, has_label, has_label_at, states_with, has_start, all_numbers, problem_rows, names_of, KeptRow, IsIdle}
 use Rattle.rg_feasible.specs.declared.system.Row.{Row}
 use Rattle.rg_feasible.specs.View.{linear_row, linear_system, IsWellFormed}
 use Rattle.rg_rows.specs.declared.named_row.NamedRow.{NamedRow}

@@ -9,14 +9,14 @@ use Rattle.rg_theory.specs.System.{System, states, labels}
 use Rattle.rg_fraction.specs.declared.term.Wide.{Wide}
 use Rattle.rg_linear.specs.Cycle.{CycleBasis}
 use Rattle.rg_refuting.specs.Expression.{Term, Expression, Variable.tokens_at, Variable.effect_of}
-use Rattle.rg_refuting.specs.Row.{RowName, row_expression}
+use Rattle.rg_refuting.specs.Row.{RowName, row_expression, Form.on_tokens, Form.on_effect}
 use Rattle.rg_reasons.specs.declared.certificate.RowName.{RowName as CodeName}
 use Rattle.rg_reasons.specs.Trees.{row_name_of}
 use Rattle.rg_fraction.specs.declared.fraction.Fraction.{Fraction}
 use Rattle.rg_fraction.specs.Fractions.{numerator_of, denominator_of, IsValue, IsProduct}
 use Rattle.rg_folds.proofs.FoldLemmas.{mul_step}
 use Rattle.rg_folds.specs.Fold.{shown_result, ratio_of, each, Ratio, whole, mul}
-use Rattle.rg_folds.specs.Rewriting.{start_of, count_of, substitute_fold, columns_of, Scaled, scaled_fold, terms_fold, KeptRow, IsDivided, row_fold, used_labels, all_numbers, names_of, form_variables, form_fold, column_count, CaseSystem, IsIdle, system_fold}
+use Rattle.rg_folds.specs.Rewriting.{start_of, count_of, substitute_fold, columns_of, Scaled, scaled_fold, terms_fold, KeptRow, IsDivided, row_fold, used_labels, all_numbers, names_of, split_forms, form_fold, column_count, CaseSystem, IsIdle, system_fold}
 use Rattle.rg_linear.specs.Firsts.{KeepsFirsts}
 use Rattle.rg_rows.specs.View.{fold_of}
 use Rattle.rg_rows.proofs.Counted.{substitute_same}
@@ -85,8 +85,8 @@ module _ (lts : System) (tree : List Arc) (basis : CycleBasis) (class : Class) (
   case_fails w h = inl (subst (λ l. each (fold_of lts tree basis class problem number) l (Err w)) named h)
 
   module _ (not_plain : class.plain ≡ false) (unbounded : class.bound ≡ None) where
-    no_variables : form_variables lts class ≡ []
-    no_variables = ap (λ (o : Option ℕ). if is_some o then map tokens_at (all_numbers (states lts)) else (if class.plain then map effect_of (used_labels lts) else [])) unbounded ∙ ap (λ b. if b then map effect_of (used_labels lts) else []) not_plain
+    no_variables : split_forms lts class ≡ []
+    no_variables = ap (λ (o : Option ℕ). if is_some o then map on_tokens (all_numbers (states lts)) else (if class.plain then map on_effect (used_labels lts) else [])) unbounded ∙ ap (λ b. if b then map on_effect (used_labels lts) else []) not_plain
 
     pub case_made : (all : List KeptRow) (shown : CaseSystem) → each (fold_of lts tree basis class problem number) names (Ok all) → shown.columns ≡ column_count lts basis class → KeepsFirsts (λ k. k.row) IsIdle [] all shown.kept → shown.forms ≡ [] → system_fold lts tree basis class problem number (Ok shown)
     case_made all shown made columns firsts none = (all, subst (λ l. each (fold_of lts tree basis class problem number) l (Ok all)) named made, ([], subst (λ l. each (form_fold lts tree basis class) l (Ok [])) (sym no_variables) refl, (columns, firsts, none)))

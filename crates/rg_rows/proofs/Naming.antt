@@ -10,8 +10,8 @@ use Rattle.rg_theory.specs.declared.Class.{Class}
 use Rattle.rg_theory.specs.declared.Problem.{Problem}
 use Rattle.rg_theory.specs.System.{System, states, labels, HasArc, arc}
 use Rattle.rg_theory.proofs.Lists.{Contains-cons_cases}
-use Rattle.rg_refuting.specs.Row.{RowName, RowName.tokens_row, RowName.cap_row, RowName.up_row, RowName.down_row, RowName.makes_row}
-use Rattle.rg_folds.specs.Rewriting.{numbers_where, has_label, has_label_at, used_labels, has_start, all_numbers, problem_rows, case_consumer, names_of}
+use Rattle.rg_refuting.specs.Row.{RowName, RowName.tokens_row, RowName.cap_row, RowName.up_row, RowName.down_row, RowName.makes_row, case_consumer}
+use Rattle.rg_folds.specs.Rewriting.{numbers_where, has_label, has_label_at, used_labels, has_start, all_numbers, problem_rows, names_of}
 use Rattle.rg_cycles.proofs.Folding.{where_taken, where_left, where_ends}
 use Rattle.rg_rows.specs.declared.columns.Columns.{Columns}
 use Rattle.rg_rows.specs.View.{TellsUsed, AreColumns, makers}

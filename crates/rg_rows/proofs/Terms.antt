@@ -8,24 +8,24 @@ use Rattle.rg_theory.specs.declared.Problem.{Problem}
 use Rattle.rg_theory.specs.declared.Problem.TheVariants.{Event, States}
 use Rattle.rg_theory.specs.System.{System, states, labels}
 use Rattle.rg_refuting.specs.Expression.{Term as SumTerm, Variable.tokens_at, Variable.effect_of, plus, minus}
-use Rattle.rg_refuting.specs.Row.{RowName, RowName.tokens_row, RowName.makes_row, RowName.stop_row, RowName.block_row, RowName.apart_row, RowName.empty_row, RowName.full_row, RowName.keep_row, RowName.cap_row, RowName.up_row, RowName.down_row, row_expression, apart_expression, order_of}
-use Rattle.rg_refuting.specs.Refutes.{IsAsked}
-use Rattle.rg_folds.specs.Rewriting.{numbers_where, used_labels, has_label, has_label_at, states_with, has_start, all_numbers, problem_rows, case_consumer, names_of}
+use Rattle.rg_refuting.specs.Row.{RowName, RowName.tokens_row, RowName.makes_row, RowName.stop_row, RowName.block_row, RowName.apart_row, RowName.empty_row, RowName.full_row, RowName.keep_row, RowName.cap_row, RowName.up_row, RowName.down_row, row_expression, apart_expression, order_of, case_consumer}
+use Rattle.rg_refuting.specs.Refutes.{IsSeparationProblem}
+use Rattle.rg_folds.specs.Rewriting.{numbers_where, used_labels, has_label, has_label_at, states_with, has_start, all_numbers, problem_rows, names_of}
 use Rattle.rg_cycles.proofs.Labels.{where_from}
 use Rattle.rg_reasons.specs.declared.certificate.RowName.{RowName as CodeName}
 use Rattle.rg_reasons.specs.Trees.{row_name_of}
-use Rattle.rg_expressions.specs.View.{IsTermWithin}
+use Rattle.rg_expressions.specs.View.{TermNamesStateBelow}
 use Rattle.rg_rows.specs.View.{AreNamesWithin}
 
-one : (n : ℕ) (t : SumTerm) → IsTermWithin n t → All (IsTermWithin n) (t ∷ [])
-one n t h = All-cons (IsTermWithin n) t [] h (All-nil (IsTermWithin n))
+one : (n : ℕ) (t : SumTerm) → TermNamesStateBelow n t → All (TermNamesStateBelow n) (t ∷ [])
+one n t h = All-cons (TermNamesStateBelow n) t [] h (All-nil (TermNamesStateBelow n))
 
-two : (n : ℕ) (t u : SumTerm) → IsTermWithin n t → IsTermWithin n u → All (IsTermWithin n) (t ∷ u ∷ [])
-two n t u h k = All-cons (IsTermWithin n) t (u ∷ []) h (one n u k)
+two : (n : ℕ) (t u : SumTerm) → TermNamesStateBelow n t → TermNamesStateBelow n u → All (TermNamesStateBelow n) (t ∷ u ∷ [])
+two n t u h k = All-cons (TermNamesStateBelow n) t (u ∷ []) h (one n u k)
 
 module _ (lts : System) (class : Class) (problem : Problem) (number : ℕ) where
   abbrev Within : RowName → Type 0
-  Within name = All (IsTermWithin (states lts)) (row_expression lts class problem number [] name).terms
+  Within name = All (TermNamesStateBelow (states lts)) (row_expression lts class problem number [] name).terms
 
   optional : (b : Bool) (names : List RowName) → All Within names → All Within (if b then names else [])
   optional true names h = h
@@ -43,11 +43,11 @@ makes_within : (lts : System) (class : Class) (problem : Problem) (number : ℕ)
 makes_within lts class (Event s t) number u = one (states lts) (plus (effect_of u)) tt
 makes_within lts class (States s s') number u = one (states lts) (plus (effect_of u)) tt
 
-apart_within : (n s s' order : ℕ) → s < n → s' < n → All (IsTermWithin n) (apart_expression s s' order).terms
+apart_within : (n s s' order : ℕ) → s < n → s' < n → All (TermNamesStateBelow n) (apart_expression s s' order).terms
 apart_within n s s' zero h k = two n (plus (tokens_at s')) (minus (tokens_at s)) k h
 apart_within n s s' (suc order) h k = two n (plus (tokens_at s)) (minus (tokens_at s')) h k
 
-problem_within : (lts : System) (class : Class) (problem : Problem) (number : ℕ) → class.plain ≡ false → IsAsked lts problem → All (Within lts class problem number) (problem_rows lts class problem)
+problem_within : (lts : System) (class : Class) (problem : Problem) (number : ℕ) → class.plain ≡ false → IsSeparationProblem lts problem → All (Within lts class problem number) (problem_rows lts class problem)
 problem_within lts class (Event s t) number not_plain asked = go class.pure class.plain not_plain
   where
     go : (pure plain : Bool) → plain ≡ false → All (Within lts class (Event s t) number) (if pure then (block_row ∷ []) else (if plain then (empty_row ∷ map full_row (states_with lts t) ++ keep_row ∷ []) else map stop_row (states_with lts t)))
@@ -56,7 +56,7 @@ problem_within lts class (Event s t) number not_plain asked = go class.pure clas
     go false false e = All-map (Within lts class (Event s t) number) stop_row (states_with lts t) (below lts class (Event s t) number (λ q. has_label_at q t lts.arcs) (states lts) (λ q. Within lts class (Event s t) number (stop_row q)) (λ q lt. two (states lts) (plus (tokens_at q)) (minus (tokens_at s)) lt asked.0))
 problem_within lts class (States s s') number not_plain asked = All-cons (Within lts class (States s s') number) apart_row [] (apart_within (states lts) s s' (order_of lts class number) asked.0 asked.1) (All-nil (Within lts class (States s s') number))
 
-pub names_within : (lts : System) (class : Class) (problem : Problem) (number : ℕ) → class.plain ≡ false → class.bound ≡ None → IsAsked lts problem → AreNamesWithin lts class problem number (names_of lts class problem number)
+pub names_within : (lts : System) (class : Class) (problem : Problem) (number : ℕ) → class.plain ≡ false → class.bound ≡ None → IsSeparationProblem lts problem → AreNamesWithin lts class problem number (names_of lts class problem number)
 names_within lts class problem number not_plain unbounded asked =
     All-append within (problem_rows lts class problem ++ tokens ++ caps ++ sides) makes
     (All-append within (problem_rows lts class problem ++ tokens ++ caps) sides
@@ -86,8 +86,8 @@ names_within lts class problem number not_plain unbounded asked =
     plain_part false e = All-nil (Within lts class problem number)
 
 -- what the code writes of a row names states of the system
-pub name_within : (lts : System) (class : Class) (problem : Problem) (number : ℕ) (names : List CodeName) (i : ℕ) (d : CodeName) (terms : List SumTerm) (n : ℕ) → AreNamesWithin lts class problem number (map row_name_of names) → i < length names → terms ≡ (row_expression lts class problem number [] (row_name_of (slice_index_or names i d))).terms → n ≡ states lts → All (IsTermWithin n) terms
+pub name_within : (lts : System) (class : Class) (problem : Problem) (number : ℕ) (names : List CodeName) (i : ℕ) (d : CodeName) (terms : List SumTerm) (n : ℕ) → AreNamesWithin lts class problem number (map row_name_of names) → i < length names → terms ≡ (row_expression lts class problem number [] (row_name_of (slice_index_or names i d))).terms → n ≡ states lts → All (TermNamesStateBelow n) terms
 name_within lts class problem number names i d terms n within lt is same =
-    subst (λ l. All (IsTermWithin n) l) (sym is)
-    (subst (λ k. All (IsTermWithin k) (row_expression lts class problem number [] (row_name_of (slice_index_or names i d))).terms) (sym same)
+    subst (λ l. All (TermNamesStateBelow n) l) (sym is)
+    (subst (λ k. All (TermNamesStateBelow k) (row_expression lts class problem number [] (row_name_of (slice_index_or names i d))).terms) (sym same)
     (subst (Within lts class problem number) (get_or-map row_name_of names i d (row_name_of d) lt) (within i (row_name_of d) (simp length-map lt))))

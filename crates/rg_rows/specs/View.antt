@@ -11,7 +11,7 @@ use Rattle.rg_refuting.specs.Row.{RowName, row_expression}
 use Rattle.rg_folds.specs.Fold.{ratio_of}
 use Rattle.rg_folds.specs.Rewriting.{has_label, has_start, numbers_where, KeptRow, row_fold}
 use Rattle.rg_reasons.specs.Trees.{row_name_of}
-use Rattle.rg_expressions.specs.View.{IsTermWithin}
+use Rattle.rg_expressions.specs.View.{TermNamesStateBelow}
 use Rattle.rg_feasible.specs.View.{linear_row}
 use Rattle.rg_rows.specs.declared.columns.Columns.{Columns}
 use Rattle.rg_rows.specs.declared.named_row.NamedRow.{NamedRow}
@@ -47,7 +47,7 @@ pub record ShowsRows (r : NamedRows) (kept : List KeptRow) : Type 0 where
 
 -- the row's terms name states of the system
 abbrev pub AreNamesWithin : System → Class → Problem → ℕ → List RowName → Type 0
-AreNamesWithin lts class problem number names = All (λ name. All (IsTermWithin (states lts)) (row_expression lts class problem number [] name).terms) names
+AreNamesWithin lts class problem number names = All (λ name. All (TermNamesStateBelow (states lts)) (row_expression lts class problem number [] name).terms) names
 
 -- the named row over the columns
 abbrev pub fold_of : System → List Arc → CycleBasis → Class → Problem → ℕ → RowName → Result KeptRow Wide → Type 0

@@ -3,9 +3,11 @@ ghost use Rattle.std.specs.Prelude.{◌≡◌, ℕ, ◌<◌, ◌≤◌, length, 
 ghost use Rattle.rg_integers.specs.Range.{InRange};
 ghost use Rattle.rg_integers.specs.Sum.{number_at};
 ghost use Rattle.rg_folds.specs.Rewriting.{count_of};
-ghost use Rattle.rg_expressions.specs.View.{term_of, IsTermWithin};
+ghost use Rattle.rg_reasons.specs.Sums.{expression_of};
+ghost use Rattle.rg_expressions.specs.View.{TermNamesStateBelow};
 
-use rg_expressions::{Term, count};
+use rg_expressions::count;
+use rg_reasons::Expression;
 use rg_spanning::Tree;
 use std::alloc::{AllocError, Global};
 
@@ -14,18 +16,17 @@ pub(crate) fn counts(
     alloc: Global,
     tree: &Tree,
     labels: u32,
-    terms: &[Term],
+    expression: &Expression,
 ) -> Result<Vec<i128>, AllocError>
     requires labels { labels ≡ tree.now.labels }
-    requires few { length terms.now ≤ 3 }
-    requires within { All (IsTermWithin tree.now.states) (map term_of terms.now) }
+    requires within { All (TermNamesStateBelow tree.now.states) (expression_of expression.now).terms }
     ensures one_each { IfOk result (λ v. length v.items ≡ labels) }
-    ensures counts { IfOk result (λ v. (t : ℕ) → t < labels → number_at v.items t ≡ count_of tree.now.arcs (map term_of terms.now) t) }
+    ensures counts { IfOk result (λ v. (t : ℕ) → t < labels → number_at v.items t ≡ count_of tree.now.arcs (expression_of expression.now).terms t) }
     ensures in_range { IfOk result (λ v. (t : ℕ) → t < labels → InRange (number_at v.items t)) }
 {
     let mut counts = Vec::new(alloc);
     for t in 0..labels {
-        counts.push(count(tree, terms, t))?;
+        counts.push(count(tree, expression, t))?;
     }
     Ok(counts)
 }

@@ -2,7 +2,7 @@
 ghost use Rattle.std.specs.Prelude.{◌≡◌, ◌<◌, false, length, All, IsTrue, map, None, Ok, Err, IfOk, IsErrOf};
 ghost use Rattle.rg_theory.specs.System.{labels};
 ghost use Rattle.rg_fraction.specs.declared.term.Wide.{Wide};
-ghost use Rattle.rg_refuting.specs.Refutes.{IsAsked};
+ghost use Rattle.rg_refuting.specs.Refutes.{IsSeparationProblem};
 ghost use Rattle.rg_refuting.specs.Row.{cases_of};
 ghost use Rattle.rg_spanning.specs.Spanning.{IsTreeOf};
 ghost use Rattle.rg_folds.specs.Rewriting.{CaseSystem, column_count, system_fold};
@@ -19,11 +19,10 @@ use crate::named_row::NamedRow;
 use crate::names::names;
 use crate::rewriting::row;
 use rg_cycles::{Basis, FoldStop};
-use rg_expressions::{ProblemCase, expression};
 use rg_feasible::System;
 use rg_fraction::Fraction;
 use rg_lts::Lts;
-use rg_reasons::RowName;
+use rg_reasons::{ProblemCase, RowName, expression};
 use rg_spanning::Tree;
 use rg_theory::{Class, Problem};
 use std::alloc::Global;
@@ -58,7 +57,7 @@ pub fn system(
     problem: Problem,
     case: u32,
 ) -> Result<NamedSystem, FoldStop>
-    requires asked { IsAsked lts.now problem }
+    requires asked { IsSeparationProblem lts.now problem }
     requires case { case < cases_of lts.now class problem }
     requires not_plain { class.plain ≡ false }
     requires unbounded { class.bound ≡ None }
@@ -109,7 +108,7 @@ fn rows(
 {
     let mut rows = Vec::new(alloc);
     for &name in names {
-        let expression = expression(alloc, lts, case, &[], name)?;
+        let expression = expression(lts, case, &[], name);
         rows.push(row(alloc, tree, basis, columns, name, &expression)?)?;
     }
     Ok(rows)

@@ -1,16 +1,15 @@
 //! The named rows of a case.
 ghost use Rattle.std.specs.Prelude.{◌≡◌, ◌<◌, ◌++◌, false, length, map, None, IfOk, OnOk, IsTrue};
 ghost use Rattle.rg_theory.specs.System.{states, labels};
-ghost use Rattle.rg_refuting.specs.Refutes.{IsAsked};
+ghost use Rattle.rg_refuting.specs.Refutes.{IsSeparationProblem};
 ghost use Rattle.rg_refuting.specs.Row.{RowName.tokens_row, RowName.stop_row, RowName.makes_row};
 ghost use Rattle.rg_reasons.specs.Trees.{row_name_of};
 ghost use Rattle.rg_folds.specs.Rewriting.{all_numbers, states_with, has_label, numbers_where, problem_rows, names_of};
 ghost use Rattle.rg_rows.specs.View.{AreColumns, makers};
 
 use crate::columns::Columns;
-use rg_expressions::ProblemCase;
 use rg_lts::Lts;
-use rg_reasons::RowName;
+use rg_reasons::{ProblemCase, RowName};
 use rg_theory::Problem;
 use std::alloc::{AllocError, Global};
 
@@ -22,7 +21,7 @@ pub(crate) fn names(
     case: ProblemCase,
     columns: &Columns,
 ) -> Result<Vec<RowName>, AllocError>
-    requires asked { IsAsked lts.now case.problem }
+    requires asked { IsSeparationProblem lts.now case.problem }
     requires labels { IsTrue case.class.nonbranching → 0 < labels lts.now }
     requires not_plain { case.class.plain ≡ false }
     requires unbounded { case.class.bound ≡ None }
@@ -41,7 +40,7 @@ pub(crate) fn names(
 
 // The rows of the problem itself.
 fn problem_rows(alloc: Global, lts: &Lts, case: ProblemCase) -> Result<Vec<RowName>, AllocError>
-    requires asked { IsAsked lts.now case.problem }
+    requires asked { IsSeparationProblem lts.now case.problem }
     requires not_plain { case.class.plain ≡ false }
     ensures { IfOk result (λ v. map row_name_of v.items ≡ problem_rows lts.now case.class case.problem) }
 {

@@ -10,7 +10,8 @@ ghost use Rattle.rg_folds.specs.Rewriting.{terms_fold, row_fold, IsDivided, colu
 ghost use Rattle.rg_reasons.specs.Trees.{row_name_of};
 ghost use Rattle.rg_cycles.specs.View.{labels_of, cycle_of};
 ghost use Rattle.rg_cycles.specs.declared.substitution.FoldStop.TheVariants as stop;
-ghost use Rattle.rg_expressions.specs.View.{IsTermWithin, term_of, expression_of};
+ghost use Rattle.rg_reasons.specs.Sums.{expression_of};
+ghost use Rattle.rg_expressions.specs.View.{TermNamesStateBelow};
 ghost use Rattle.rg_scaling.specs.View.{scaled_of};
 ghost use Rattle.rg_rows.specs.View.{AreColumns, kept_row};
 
@@ -18,9 +19,9 @@ use crate::columns::Columns;
 use crate::counts::counts;
 use crate::named_row::NamedRow;
 use rg_cycles::{Basis, FoldStop, substitute};
-use rg_expressions::{Expression, Term, start};
+use rg_expressions::start;
 use rg_fraction::{Fraction, gcd, reduce};
-use rg_reasons::RowName;
+use rg_reasons::{Expression, RowName};
 use rg_scaling::{Scaled, without_denominators};
 use rg_spanning::Tree;
 use std::alloc::Global;
@@ -36,12 +37,12 @@ pub(crate) fn row(
 ) -> Result<NamedRow, FoldStop>
     requires labels { tree.now.labels ≡ labels_of basis.now }
     requires columns { length columns.now.used.items ≡ labels_of basis.now }
-    requires within { All (IsTermWithin tree.now.states) (expression_of expression.now).terms }
+    requires within { All (TermNamesStateBelow tree.now.states) (expression_of expression.now).terms }
     ensures value { IfOk result (λ r. (lts : System) (class : Class) → labels lts ≡ labels_of basis.now → AreColumns lts class columns.now → row_fold lts tree.now.arcs (cycle_of basis.now) class (row_name_of name) (expression_of expression.now) (Ok (kept_row r))) }
     ensures one_each { IfOk result (λ r. (lts : System) (class : Class) → labels lts ≡ labels_of basis.now → AreColumns lts class columns.now → length r.coeffs.items ≡ column_count lts (cycle_of basis.now) class) }
     ensures wide { (w : Wide) → IsErrOf result (stop.Wide w) → (lts : System) (class : Class) → labels lts ≡ labels_of basis.now → AreColumns lts class columns.now → row_fold lts tree.now.arcs (cycle_of basis.now) class (row_name_of name) (expression_of expression.now) (Err w) }
 {
-    let scaled = over_columns(alloc, tree, basis, columns, &expression.terms)?;
+    let scaled = over_columns(alloc, tree, basis, columns, expression)?;
     let multiple = Fraction::new(scaled.multiple, 1);
     let constant = Fraction::new(expression.constant, 1).mul(multiple)?;
     divided(name, scaled, constant.numerator())
@@ -53,20 +54,19 @@ fn over_columns(
     tree: &Tree,
     basis: &Basis,
     columns: &Columns,
-    terms: &[Term],
+    expression: &Expression,
 ) -> Result<Scaled, FoldStop>
     requires labels { tree.now.labels ≡ labels_of basis.now }
     requires columns { length columns.now.used.items ≡ labels_of basis.now }
-    requires few { length terms.now ≤ 3 }
-    requires within { All (IsTermWithin tree.now.states) (map term_of terms.now) }
-    ensures value { IfOk result (λ s. (lts : System) (class : Class) → labels lts ≡ labels_of basis.now → AreColumns lts class columns.now → terms_fold lts tree.now.arcs (cycle_of basis.now) class (map term_of terms.now) (Ok (scaled_of s))) }
+    requires within { All (TermNamesStateBelow tree.now.states) (expression_of expression.now).terms }
+    ensures value { IfOk result (λ s. (lts : System) (class : Class) → labels lts ≡ labels_of basis.now → AreColumns lts class columns.now → terms_fold lts tree.now.arcs (cycle_of basis.now) class (expression_of expression.now).terms (Ok (scaled_of s))) }
     ensures one_each { IfOk result (λ s. (lts : System) (class : Class) → labels lts ≡ labels_of basis.now → AreColumns lts class columns.now → length s.numbers.items ≡ column_count lts (cycle_of basis.now) class) }
-    ensures wide { (w : Wide) → IsErrOf result (stop.Wide w) → (lts : System) (class : Class) → labels lts ≡ labels_of basis.now → AreColumns lts class columns.now → terms_fold lts tree.now.arcs (cycle_of basis.now) class (map term_of terms.now) (Err w) }
+    ensures wide { (w : Wide) → IsErrOf result (stop.Wide w) → (lts : System) (class : Class) → labels lts ≡ labels_of basis.now → AreColumns lts class columns.now → terms_fold lts tree.now.arcs (cycle_of basis.now) class (expression_of expression.now).terms (Err w) }
 {
     let labels = columns.used.len() as u32;
-    let counts = counts(alloc, tree, labels, terms)?;
+    let counts = counts(alloc, tree, labels, expression)?;
     let free = substitute(alloc, basis, &counts)?;
-    let numbers = columns.pick(alloc, basis, start(terms), &free.coeffs)?;
+    let numbers = columns.pick(alloc, basis, start(expression), &free.coeffs)?;
     without_denominators(alloc, &numbers)
 }
 

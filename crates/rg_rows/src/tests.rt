@@ -3,7 +3,7 @@ ghost use Rattle.std.specs.Prelude.{All, IsTrue};
 ghost use Rattle.rg_integers.specs.Range.{InRange};
 ghost use Rattle.rg_cycles.specs.Vectors.{numbers_in, AreVectors};
 ghost use Rattle.rg_spanning.specs.Spanning.{IsTreeOf};
-ghost use Rattle.rg_refuting.specs.Refutes.{IsAsked};
+ghost use Rattle.rg_refuting.specs.Refutes.{IsSeparationProblem};
 
 use crate::{NamedSystem, cases, system};
 use rg_cycles::reduce;
@@ -101,7 +101,7 @@ fn are_vectors(labels: u32, chords: &[Vec<i128>]) -> bool
 }
 
 fn is_asked(lts: &Lts, problem: Problem) -> bool
-    ensures { IsTrue result → IsAsked lts.now problem }
+    ensures { IsTrue result → IsSeparationProblem lts.now problem }
 {
     match problem {
         Event(s, t) => s < lts.states() && t < lts.labels() && lts.arc_at(s, t).is_none(),

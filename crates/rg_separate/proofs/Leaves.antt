@@ -28,7 +28,7 @@ use Rattle.rg_reasons.specs.Certificates.{IsNodeOf}
 use Rattle.rg_farkas.specs.Leaves.{IsLeafWith}
 use Rattle.rg_rows.specs.declared.named_system.NamedSystem.{NamedSystem}
 use Rattle.rg_separate.specs.declared.wide_at.Stage.TheVariants.{Spread}
-use Rattle.rg_separate.specs.declared.setting.ProblemCase.{ProblemCase}
+use Rattle.rg_separate.specs.declared.setting.CaseSetting.{CaseSetting}
 use Rattle.rg_separate.specs.Casing.{IsCase, IsNamedSystem, IsRefutedBy}
 use Rattle.rg_separate.specs.Passing.{passed_at}
 use Rattle.rg_separate.specs.Deciding.{RefutesCase}
@@ -61,14 +61,14 @@ module _ (system : LinearSystem) (d : Contents) (fixed : List ℕ) (i : ℕ) (wh
   }
 
 -- the multipliers of a refuted descent refute the system of the case
-pub farkas : (c : ProblemCase) (named : NamedSystem) (d : DescentState) (i : ℕ) → (system : IsNamedSystem c named) → IsRefutedBy named.system d i → AreFarkasMultipliers (rows_of system.case) (multiplier_with d.table i)
+pub farkas : (c : CaseSetting) (named : NamedSystem) (d : DescentState) (i : ℕ) → (system : IsNamedSystem c named) → IsRefutedBy named.system d i → AreFarkasMultipliers (rows_of system.case) (multiplier_with d.table i)
 farkas c named d i system refuted_by =
     let (fixed, outcome) = refuted_by.outcome in
     subst (λ s. AreFarkasMultipliers s (multiplier_with d.table i)) system.shows.system (multipliers_refute named.system d.table fixed i refuted_by.dictionary outcome)
 
 -- ---- what is shown where a share or the leaf passes
 
-pub spread_shown : (c : ProblemCase) (named : NamedSystem) (d : DescentState) (i : ℕ) (w : Wide) → IsCase c → (system : IsNamedSystem c named) → IsRefutedBy named.system d i → spread_fold c.setting.lts.now c.setting.tree.now.arcs (cycle_of c.setting.basis.now) c.setting.class c.problem c.number system.case [] [] (weights_from (multiplier_with d.table i) 0 (length (rows_of system.case).rows)) (Err w) → SpreadShown c.setting.lts.now c.setting.class (passed_at Spread c w)
+pub spread_shown : (c : CaseSetting) (named : NamedSystem) (d : DescentState) (i : ℕ) (w : Wide) → IsCase c → (system : IsNamedSystem c named) → IsRefutedBy named.system d i → spread_fold c.setting.lts.now c.setting.tree.now.arcs (cycle_of c.setting.basis.now) c.setting.class c.problem c.number system.case [] [] (weights_from (multiplier_with d.table i) 0 (length (rows_of system.case).rows)) (Err w) → SpreadShown c.setting.lts.now c.setting.class (passed_at Spread c w)
 spread_shown c named d i w is system refuted_by passes =
     let (fixed, outcome) = refuted_by.outcome in
     let relation = subst (λ s. FailingRelation s d.table i) system.shows.system (failing_relation named.system d.table fixed i refuted_by.dictionary outcome) in

@@ -16,13 +16,13 @@ use Rattle.rg_feasible.specs.declared.settled.PivotWide.{PivotWide}
 use Rattle.rg_feasible.specs.Settling.{wide_at}
 use Rattle.rg_rows.specs.declared.named_system.NamedSystem.{NamedSystem}
 use Rattle.rg_separate.specs.declared.wide_at.Stage.TheVariants.{Row}
-use Rattle.rg_separate.specs.declared.setting.ProblemCase.{ProblemCase}
+use Rattle.rg_separate.specs.declared.setting.CaseSetting.{CaseSetting}
 use Rattle.rg_separate.specs.Casing.{IsCase, IsNamedSystem}
 use Rattle.rg_separate.specs.Passing.{passed_at, pivot_at, cycle_passed}
 use Rattle.rg_separate.proofs.Branches.{stopped_alone}
 
 -- the term that an exchange of the case's descent shows
-pub pivot_shown : (c : ProblemCase) (named : NamedSystem) (members : List ℕ) (at : PivotWide) → IsCase c → IsNamedSystem c named → DescentFromStart named.system (wide (wide_at members at)) → PivotShown c.setting.lts.now c.setting.class (pivot_at c members at)
+pub pivot_shown : (c : CaseSetting) (named : NamedSystem) (members : List ℕ) (at : PivotWide) → IsCase c → IsNamedSystem c named → DescentFromStart named.system (wide (wide_at members at)) → PivotShown c.setting.lts.now c.setting.class (pivot_at c members at)
 pivot_shown c named members at is system stops = record {
   case = system.case;
   of_case = record {
@@ -42,7 +42,7 @@ pivot_shown c named members at is system stops = record {
 }
 
 -- the step that the rows of the case show
-pub row_shown : (c : ProblemCase) (w : Wide) → IsCase c → system_fold c.setting.lts.now c.setting.tree.now.arcs (cycle_of c.setting.basis.now) c.setting.class c.problem c.number (Err w) → RowShown c.setting.lts.now c.setting.class (passed_at Row c w)
+pub row_shown : (c : CaseSetting) (w : Wide) → IsCase c → system_fold c.setting.lts.now c.setting.tree.now.arcs (cycle_of c.setting.basis.now) c.setting.class c.problem c.number (Err w) → RowShown c.setting.lts.now c.setting.class (passed_at Row c w)
 row_shown c w is passes = record {
   arcs = c.setting.tree.now.arcs;
   basis = cycle_of c.setting.basis.now;

@@ -7,7 +7,7 @@ use Rattle.rg_theory.specs.declared.Class.{Class}
 use Rattle.rg_theory.specs.declared.Problem.{Problem}
 use Rattle.rg_theory.specs.declared.Problem.TheVariants.{Event, States}
 use Rattle.rg_theory.specs.Problem.{IsProblem}
-use Rattle.rg_refuting.specs.Refutes.{IsAsked}
+use Rattle.rg_refuting.specs.Refutes.{IsSeparationProblem}
 use Rattle.rg_integers.specs.Value.{SameValue}
 use Rattle.rg_fraction.specs.declared.term.Wide.{Wide}
 use Rattle.rg_fraction.specs.declared.fraction.Fraction.{Fraction}
@@ -27,18 +27,18 @@ use Rattle.rg_feasible.specs.Settling.{IsBasicPoint}
 use Rattle.rg_rows.specs.declared.named_system.NamedSystem.{NamedSystem}
 use Rattle.rg_places.specs.PointValues.{ratios_of, point_start, point_value, HasValues, SolvesCase}
 use Rattle.rg_separate.specs.declared.wide_at.Stage.TheVariants.{Place}
-use Rattle.rg_separate.specs.declared.setting.ProblemCase.{ProblemCase}
+use Rattle.rg_separate.specs.declared.setting.CaseSetting.{CaseSetting}
 use Rattle.rg_separate.specs.Casing.{IsCase, IsNamedSystem, IsAtPoint, AreColumnValues}
 use Rattle.rg_separate.specs.Passing.{passed_at}
 use Rattle.rg_separate.proofs.Branches.{found_alone, root_is}
 use Rattle.rg_separate.proofs.PointValues.{value_at, beside_at}
 
 -- a problem of the system is asked
-pub asked : (lts : System) (problem : Problem) → IsProblem lts problem → IsAsked lts problem
+pub asked : (lts : System) (problem : Problem) → IsProblem lts problem → IsSeparationProblem lts problem
 asked lts (Event s t) h = h
 asked lts (States s s') (less, lt) = ((let l = less in omega arith), lt, λ e. (omega arith))
 
-pub case_over : (c : ProblemCase) (named : NamedSystem) → IsCase c → (system : IsNamedSystem c named) → IsCaseOver c.setting.lts.now c.setting.tree.now.arcs (cycle_of c.setting.basis.now) c.setting.class c.problem c.number system.case
+pub case_over : (c : CaseSetting) (named : NamedSystem) → IsCase c → (system : IsNamedSystem c named) → IsCaseOver c.setting.lts.now c.setting.tree.now.arcs (cycle_of c.setting.basis.now) c.setting.class c.problem c.number system.case
 case_over c named is system = record {
   in_range = is.setting.in_range;
   reachable = is.setting.reachable;
@@ -49,7 +49,7 @@ case_over c named is system = record {
 }
 
 -- the system has as many columns as the class and the basis say
-pub case_columns : (c : ProblemCase) (named : NamedSystem) → (system : IsNamedSystem c named) → named.system.columns ≡ column_count c.setting.lts.now (cycle_of c.setting.basis.now) c.setting.class
+pub case_columns : (c : CaseSetting) (named : NamedSystem) → (system : IsNamedSystem c named) → named.system.columns ≡ column_count c.setting.lts.now (cycle_of c.setting.basis.now) c.setting.class
 case_columns c named system = ap (λ s. s.columns) system.shows.system ∙ columns_of_case c.setting.lts.now c.setting.tree.now.arcs (cycle_of c.setting.basis.now) c.setting.class c.problem c.number system.case system.made
 
 -- the ratio of a column
@@ -61,7 +61,7 @@ has_values : (system : LinearSystem) (d : DescentState) (point : List Fraction) 
 has_values system d point scale v are basic j lt = ratio_is point j (λ r. SameValue r.top r.bottom (v j) scale) lt (λ f. are.values j f lt scale v basic)
 
 -- the point solves the case
-pub solves : (c : ProblemCase) (named : NamedSystem) (d : DescentState) (point : List Fraction) → IsCase c → IsNamedSystem c named → IsAtPoint named.system d → AreColumnValues named.system d point → SolvesCase c.setting.lts.now c.setting.tree.now.arcs (cycle_of c.setting.basis.now) c.setting.class c.problem point
+pub solves : (c : CaseSetting) (named : NamedSystem) (d : DescentState) (point : List Fraction) → IsCase c → IsNamedSystem c named → IsAtPoint named.system d → AreColumnValues named.system d point → SolvesCase c.setting.lts.now c.setting.tree.now.arcs (cycle_of c.setting.basis.now) c.setting.class c.problem point
 solves c named d point is system at are = record {
   number = c.number;
   case = system.case;
@@ -113,7 +113,7 @@ module _ (lts : System) (basis : CycleBasis) (class : Class) (system : LinearSys
   }
 
 -- the step that the place of the point shows
-pub place_shown : (c : ProblemCase) (named : NamedSystem) (d : DescentState) (fractions : List Fraction) (w : Wide) → IsCase c → IsNamedSystem c named → IsAtPoint named.system d → AreColumnValues named.system d fractions → named.system.columns ≡ column_count c.setting.lts.now (cycle_of c.setting.basis.now) c.setting.class → place_fold c.setting.lts.now c.setting.tree.now.arcs (cycle_of c.setting.basis.now) c.setting.class c.problem (point_start c.setting.class fractions) (point_value c.setting.lts.now (cycle_of c.setting.basis.now) c.setting.class fractions) (Err w) → PlaceShown c.setting.lts.now c.setting.class (passed_at Place c w)
+pub place_shown : (c : CaseSetting) (named : NamedSystem) (d : DescentState) (fractions : List Fraction) (w : Wide) → IsCase c → IsNamedSystem c named → IsAtPoint named.system d → AreColumnValues named.system d fractions → named.system.columns ≡ column_count c.setting.lts.now (cycle_of c.setting.basis.now) c.setting.class → place_fold c.setting.lts.now c.setting.tree.now.arcs (cycle_of c.setting.basis.now) c.setting.class c.problem (point_start c.setting.class fractions) (point_value c.setting.lts.now (cycle_of c.setting.basis.now) c.setting.class fractions) (Err w) → PlaceShown c.setting.lts.now c.setting.class (passed_at Place c w)
 place_shown c named d fractions w is system at are count passes = record {
   case = system.case;
   of_case = record {

@@ -19,18 +19,18 @@ use Rattle.rg_rows.specs.Shown.{ShowsCase}
 use Rattle.rg_rows.specs.declared.named_system.NamedSystem.{NamedSystem}
 use Rattle.rg_reasons.specs.declared.certificate.RowName.{RowName}
 use Rattle.rg_farkas.specs.Leaves.{share_of}
-use Rattle.rg_separate.specs.declared.setting.ProblemCase.{ProblemCase}
+use Rattle.rg_separate.specs.declared.setting.CaseSetting.{CaseSetting}
 use Rattle.rg_separate.specs.Keeping.{IsSetting}
 
 -- the problem is of the system, its label has an arc, and the case is one of its cases
-pub record IsCase (c : ProblemCase) : Type 0 where
+pub record IsCase (c : CaseSetting) : Type 0 where
   pub setting : IsSetting c.setting
   pub has : IsProblem c.setting.lts.now c.problem
   pub live : IsLive c.setting.lts.now c.problem
   pub below : c.number < cases_of c.setting.lts.now c.setting.class c.problem
 
 -- the named system is that of the case
-pub record IsNamedSystem (c : ProblemCase) (named : NamedSystem) : Type 0 where
+pub record IsNamedSystem (c : CaseSetting) (named : NamedSystem) : Type 0 where
   pub case : CaseSystem
   pub made : system_fold c.setting.lts.now c.setting.tree.now.arcs (cycle_of c.setting.basis.now) c.setting.class c.problem c.number (Ok case)
   pub shows : ShowsCase named case

@@ -5,12 +5,12 @@ use Rattle.rg_folds.specs.Shown as shown
 use Rattle.rg_folds.specs.Shown.{Shown}
 use Rattle.rg_cycles.specs.declared.stop.CycleWide.{CycleWide}
 use Rattle.rg_feasible.specs.declared.settled.PivotWide.{PivotWide}
-use Rattle.rg_separate.specs.declared.setting.ProblemCase.{ProblemCase}
+use Rattle.rg_separate.specs.declared.setting.CaseSetting.{CaseSetting}
 use Rattle.rg_separate.specs.declared.wide_at.Stage.{Stage}
 use Rattle.rg_separate.specs.View.{stage_of}
 
 -- the first step out of range in this stage of a case
-abbrev pub passed_at : Stage → ProblemCase → Wide → Shown
+abbrev pub passed_at : Stage → CaseSetting → Wide → Shown
 passed_at stage c w = record {
   stage = stage_of stage;
   problem = Some c.problem;
@@ -40,7 +40,7 @@ cycle_passed w = record {
 }
 
 -- the term of an exchange in the descent of a case, at this set
-abbrev pub pivot_at : ProblemCase → List ℕ → PivotWide → Shown
+abbrev pub pivot_at : CaseSetting → List ℕ → PivotWide → Shown
 pivot_at c members at = record {
   stage = shown.Stage.pivot;
   problem = Some c.problem;

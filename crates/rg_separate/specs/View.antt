@@ -2,7 +2,7 @@
 use Rattle.std.specs.Prelude.{map}
 use Rattle.rg_folds.specs.Shown as shown
 use Rattle.rg_folds.specs.Shown.{Shown}
-use Rattle.rg_expressions.specs.View.{side_of}
+use Rattle.rg_reasons.specs.Sums.{side_of}
 use Rattle.rg_separate.specs.declared.wide_at.Stage.{Stage}
 use Rattle.rg_separate.specs.declared.wide_at.Stage.TheVariants.{Cycle, Row, Pivot, Place, Spread}
 use Rattle.rg_separate.specs.declared.wide_at.WideAt.{WideAt}

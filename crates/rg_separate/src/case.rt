@@ -7,7 +7,7 @@ ghost use Rattle.rg_separate.specs.Passing.{passed_at, pivot_at};
 
 use crate::placing::placed;
 use crate::refuting::refuted;
-use crate::setting::{ProblemCase, Setting};
+use crate::setting::{CaseSetting, Setting};
 use crate::wide_at::{Stage, WideAt};
 use rg_cycles::FoldStop;
 use rg_feasible::{Dictionary, PivotWide, Settled};
@@ -26,7 +26,7 @@ pub(crate) enum CaseAnswer {
 }
 
 // A place that separates the problem in this case, what refutes the case, or the first term out of range.
-pub(crate) fn solve_case(alloc: Global, c: ProblemCase<'_>) -> Result<CaseAnswer, AllocError>
+pub(crate) fn solve_case(alloc: Global, c: CaseSetting<'_>) -> Result<CaseAnswer, AllocError>
     requires { IsCase c }
     ensures { IfOk result (CaseTells c.entry.setting.lts.now c.entry.setting.class c.entry.problem c.entry.number) }
 {
@@ -44,7 +44,7 @@ pub(crate) fn solve_case(alloc: Global, c: ProblemCase<'_>) -> Result<CaseAnswer
 }
 
 // What the descent on the case's system comes to.
-fn settled(alloc: Global, c: ProblemCase<'_>, named: &NamedSystem) -> Result<CaseAnswer, AllocError>
+fn settled(alloc: Global, c: CaseSetting<'_>, named: &NamedSystem) -> Result<CaseAnswer, AllocError>
     requires case { IsCase c }
     requires system { IsNamedSystem c named.now }
     ensures { IfOk result (CaseTells c.entry.setting.lts.now c.entry.setting.class c.entry.problem c.entry.number) }
@@ -60,7 +60,7 @@ fn settled(alloc: Global, c: ProblemCase<'_>, named: &NamedSystem) -> Result<Cas
 }
 
 // The first step of a fold that is out of range.
-pub(crate) fn passed(alloc: Global, stage: Stage, c: ProblemCase<'_>, wide: Wide) -> WideAt
+pub(crate) fn passed(alloc: Global, stage: Stage, c: CaseSetting<'_>, wide: Wide) -> WideAt
     ensures { shown_of result ≡ passed_at stage c.entry wide }
 {
     WideAt {
@@ -80,7 +80,7 @@ pub(crate) fn passed(alloc: Global, stage: Stage, c: ProblemCase<'_>, wide: Wide
 // The term of an exchange that is out of range.
 fn stopped(
     alloc: Global,
-    c: ProblemCase<'_>,
+    c: CaseSetting<'_>,
     named: &NamedSystem,
     dictionary: &Dictionary,
     at: PivotWide,

@@ -4,7 +4,7 @@ ghost use Rattle.rg_separate.specs.Casing.{IsCase, IsNamedSystem, IsAtPoint, Are
 ghost use Rattle.rg_separate.specs.Deciding.{CaseTells};
 
 use crate::case::{CaseAnswer, passed};
-use crate::setting::{ProblemCase, Setting};
+use crate::setting::{CaseSetting, Setting};
 use crate::wide_at::Stage;
 use rg_cycles::FoldStop;
 use rg_feasible::Dictionary;
@@ -16,7 +16,7 @@ use std::alloc::{AllocError, Global};
 // The place of the point at which the descent has ended.
 pub(crate) fn placed(
     alloc: Global,
-    c: ProblemCase<'_>,
+    c: CaseSetting<'_>,
     named: &NamedSystem,
     dictionary: &Dictionary,
 ) -> Result<CaseAnswer, AllocError>

@@ -9,7 +9,7 @@ ghost use Rattle.rg_separate.specs.Keeping.{IsSetting};
 ghost use Rattle.rg_separate.specs.Deciding.{RefutesCase, AreTried, IsGoodReason, ProblemTells};
 
 use crate::case::{CaseAnswer, solve_case};
-use crate::setting::{ProblemCase, Setting};
+use crate::setting::{CaseSetting, Setting};
 use crate::wide_at::WideAt;
 use rg_lts::Lts;
 use rg_places::RegionPlace;
@@ -50,7 +50,7 @@ pub(crate) fn solve_problem(
         passed: None,
     };
     for case in 0..cases(setting.lts, setting.class, problem) {
-        let c = ProblemCase {
+        let c = CaseSetting {
             setting,
             problem,
             number: case,

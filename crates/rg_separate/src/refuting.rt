@@ -12,7 +12,7 @@ ghost use Rattle.rg_separate.specs.Casing.{IsCase, IsNamedSystem, IsRefutedBy, S
 ghost use Rattle.rg_separate.specs.Deciding.{CaseTells};
 
 use crate::case::{CaseAnswer, passed};
-use crate::setting::{ProblemCase, Setting};
+use crate::setting::{CaseSetting, Setting};
 use crate::wide_at::Stage;
 use rg_cycles::FoldStop;
 use rg_farkas::spread;
@@ -25,7 +25,7 @@ use std::alloc::{AllocError, Global};
 // The leaf of the multipliers with which the descent has ended.
 pub(crate) fn refuted(
     alloc: Global,
-    c: ProblemCase<'_>,
+    c: CaseSetting<'_>,
     named: &NamedSystem,
     dictionary: &Dictionary,
 ) -> Result<CaseAnswer, AllocError>
@@ -44,7 +44,7 @@ pub(crate) fn refuted(
 // The leaf of these shares.
 fn leaf(
     alloc: Global,
-    c: ProblemCase<'_>,
+    c: CaseSetting<'_>,
     named: &NamedSystem,
     dictionary: &Dictionary,
     shares: &[(RowName, Fraction)],

@@ -16,7 +16,7 @@ pub(crate) struct Setting<'a> {
 
 // A problem of the system, and the number of one of its cases.
 #[derive(Clone, Copy)]
-pub(crate) struct ProblemCase<'a> {
+pub(crate) struct CaseSetting<'a> {
     pub(crate) setting: Setting<'a>,
     pub(crate) problem: Problem,
     pub(crate) number: u32,

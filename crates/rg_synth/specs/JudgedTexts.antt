@@ -7,9 +7,9 @@ use Rattle.rg_cert.specs.declared.fault.CertFault.{CertFault}
 use Rattle.rg_cert.specs.declared.fault.CertFault.TheVariants.{Expected, UnknownName, NumberPasses, TreeShort, TreeLong, NoMemory}
 use Rattle.rg_reasons.specs.Certificates.{IsVariableOf}
 use Rattle.rg_cert.specs.Text.{state_name, label_name}
-use Rattle.rg_verify.specs.declared.verdict.Variable.{Variable}
-use Rattle.rg_verify.specs.declared.verdict.Variable.TheVariants.{Tokens, Effect}
-use Rattle.rg_verify.specs.Judged.{variable_of}
+use Rattle.rg_reasons.specs.declared.variable.Variable.{Variable}
+use Rattle.rg_reasons.specs.declared.variable.Variable.TheVariants.{Tokens, Effect}
+use Rattle.rg_reasons.specs.Sums.{variable_of}
 use Rattle.rg_verify.specs.declared.verdict.Defect.{Defect}
 use Rattle.rg_verify.specs.declared.verdict.Defect.TheVariants.{WrongRow, NotPositive, LeftOver, SumPasses, CaseMissing, NotSo}
 

@@ -8,26 +8,27 @@ use Rattle.rg_integers.proofs.ListSums.{sum_over-append}
 use Rattle.rg_integers.proofs.Ring.{mul-add}
 use Rattle.rg_refuting.specs.Expression as linear
 use Rattle.rg_refuting.specs.Expression.{same_variable, coefficient_in}
-use Rattle.rg_refuting.specs.Refutes.{max_number}
-use Rattle.rg_verify.specs.declared.expression.Term.{Term}
+use Rattle.rg_integers.specs.Range.{greatest}
+use Rattle.rg_reasons.specs.declared.variable.Term.{Term}
 use Rattle.rg_verify.specs.declared.sums.Sum.{Sum}
 use Rattle.rg_verify.specs.declared.sums.Sums.{Sums}
-use Rattle.rg_verify.specs.Terms.{term_of, terms_in, size_in}
+use Rattle.rg_verify.specs.Terms.{size_in}
+use Rattle.rg_reasons.specs.Sums.{terms_in, term_of}
 use Rattle.rg_verify.specs.Sums.{signed_of, size_of, entry_of, signed_at, size_at, HasEntry, HasSameEntries, AddsTerms, PassesByTerms}
 use Rattle.rg_verify.proofs.Variables.{same_variable_is, same_variable_refl}
 use Rattle.rg_verify.proofs.Tables.{same_entry}
 
 -- ---- the terms of a list
 
-terms_in-append : (ts us : List (Option Term)) → terms_in (ts ++ us) ≡ terms_in ts ++ terms_in us
+pub terms_in-append : (ts us : List (Option Term)) → terms_in (ts ++ us) ≡ terms_in ts ++ terms_in us
 terms_in-append [] us = refl
 terms_in-append (None ∷ ts) us = terms_in-append ts us
 terms_in-append (Some t ∷ ts) us = ap (λ ts. term_of t ∷ ts) (terms_in-append ts us)
 
-coefficient_in-append : (ts us : List linear.Term) (v : linear.Variable) → coefficient_in (ts ++ us) v ≡ coefficient_in ts v +ℤ coefficient_in us v
+pub coefficient_in-append : (ts us : List linear.Term) (v : linear.Variable) → coefficient_in (ts ++ us) v ≡ coefficient_in ts v +ℤ coefficient_in us v
 coefficient_in-append ts us v = sum_over-append (λ t. if same_variable t.variable v then t.coefficient else pos 0) ts us
 
-size_in-append : (ts us : List linear.Term) (v : linear.Variable) → size_in (ts ++ us) v ≡ size_in ts v + size_in us v
+pub size_in-append : (ts us : List linear.Term) (v : linear.Variable) → size_in (ts ++ us) v ≡ size_in ts v + size_in us v
 size_in-append ts us v = sum_by-append (λ t. if same_variable t.variable v then nat_abs t.coefficient else 0) ts us
 
 -- ---- one term
@@ -67,7 +68,7 @@ adds_term k t number old mid new before after is was signed size same kept entri
         let p = ap size_of (at w false e) in
         rw (e, p) (omega arith)
 
-pub passes_by_term : (k : ℤ) (t : linear.Term) (number : ℤ) (old : Sums) (before : Sum) → number ≡ k *ℤ t.coefficient → entry_of old t.variable ≡ Some before → max_number < before.size + nat_abs number → PassesByTerms k (t ∷ []) old
+pub passes_by_term : (k : ℤ) (t : linear.Term) (number : ℤ) (old : Sums) (before : Sum) → number ≡ k *ℤ t.coefficient → entry_of old t.variable ≡ Some before → greatest < before.size + nat_abs number → PassesByTerms k (t ∷ []) old
 passes_by_term k t number old before is was more =
     let q = ap size_of was in
     let m = ap nat_abs is ∙ unsigned_abs-mul k t.coefficient in

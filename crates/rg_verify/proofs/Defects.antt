@@ -11,7 +11,8 @@ use Rattle.rg_reasons.specs.Certificates.{IsVariableOf, IsRowOf}
 use Rattle.rg_verify.specs.declared.verdict.Defect.{Defect}
 use Rattle.rg_verify.specs.declared.verdict.Defect.TheVariants.{WrongRow, NotPositive, LeftOver, NoContradiction, SumPasses, CaseMissing, NotSo}
 use Rattle.rg_verify.specs.declared.sums.Sums.{Sums}
-use Rattle.rg_verify.specs.Judged.{IsReached, variable_of, IsRight, IsDefectOf}
+use Rattle.rg_verify.specs.Judged.{IsReached, IsRight, IsDefectOf}
+use Rattle.rg_reasons.specs.Sums.{variable_of}
 use Rattle.rg_verify.specs.Sums.{entry_of, HasEntry, IsTableOf, AreSumsOf, HasNoDefect, IsSumDefect}
 use Rattle.rg_verify.proofs.Tables.{size_small}
 

@@ -3,9 +3,10 @@ use Rattle.std.proofs.Common.{◌≡◌, ◌≢◌, ◌⊎◌, ℕ, ◌<◌, Lis
 use Rattle.std.proofs.lemmas.List.{map-append}
 use Rattle.std.proofs.lemmas.List.Elements.{Contains-push_cases}
 use Rattle.rg_refuting.specs.Expression as linear
-use Rattle.rg_verify.specs.declared.verdict.Variable.{Variable}
+use Rattle.rg_reasons.specs.declared.variable.Variable.{Variable}
 use Rattle.rg_verify.specs.declared.sums.Sums.{Sums}
-use Rattle.rg_verify.specs.Judged.{variable_of, ComesBefore}
+use Rattle.rg_verify.specs.Judged.{ComesBefore}
+use Rattle.rg_reasons.specs.Sums.{variable_of}
 use Rattle.rg_verify.specs.Sums.{entry_of, signed_at, size_at, HasEntry, IsTidy, IsLeftFirst}
 use Rattle.rg_verify.proofs.Places.{image_at}
 use Rattle.rg_verify.proofs.Variables.{before_or_not, before-trans, not_before_itself}

@@ -1,5 +1,5 @@
 mod Arcs
-mod Expressions
+mod Cancelling
 mod Places
 mod Variables
 mod Tables

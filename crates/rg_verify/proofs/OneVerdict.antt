@@ -10,18 +10,19 @@ use Rattle.rg_theory.specs.declared.Problem.{Problem}
 use Rattle.rg_refuting.specs.Expression as linear
 use Rattle.rg_refuting.specs.Expression.{Expression}
 use Rattle.rg_refuting.specs.Row.{Side, RowName, RowStands, row_expression}
-use Rattle.rg_refuting.specs.Refutes.{NamedRow, IsSmall, LeafRefutes, Tree, Tree.leaf, Tree.split, TreeRefutes, IsAsked, IsRefuted, Accepts}
+use Rattle.rg_refuting.specs.Refutes.{NamedRow, IsSmall, LeafRefutes, Tree, Tree.leaf, Tree.split, TreeRefutes, IsSeparationProblem, IsRefuted, Accepts}
 use Rattle.rg_refuting.specs.Refutes as refutes
 use Rattle.rg_reasons.specs.Trees.{preorder}
 use Rattle.rg_reasons.specs.Certificates.{Claim, IsVariableOf}
-use Rattle.rg_verify.specs.declared.verdict.Variable.{Variable}
-use Rattle.rg_verify.specs.declared.verdict.Variable.TheVariants.{Tokens, Effect}
+use Rattle.rg_reasons.specs.declared.variable.Variable.{Variable}
+use Rattle.rg_reasons.specs.declared.variable.Variable.TheVariants.{Tokens, Effect}
 use Rattle.rg_verify.specs.declared.verdict.Defect.{Defect}
 use Rattle.rg_verify.specs.declared.verdict.Defect.TheVariants.{WrongRow, NotPositive, LeftOver, NoContradiction, SumPasses, CaseMissing, NotSo}
 use Rattle.rg_verify.specs.declared.verdict.Verdict.{Verdict}
 use Rattle.rg_verify.specs.declared.verdict.Verdict.TheVariants.{Accepted, Refused}
-use Rattle.rg_verify.specs.Judged.{IsReached, variable_of, ComesBefore, IsRight, IsFirstLeft, IsDefectOf, PlacedLeaf, leaves_of, Refutes, IsDefectIn, HasAllCases, IsDefectAmong, IsDefectFor, IsFirstDefect, Holds, Judges}
-use Rattle.rg_verify.proofs.Variables.{before_or_not}
+use Rattle.rg_verify.specs.Judged.{IsReached, ComesBefore, IsRight, IsFirstLeft, IsDefectOf, PlacedLeaf, leaves_of, Refutes, IsDefectIn, HasAllCases, IsDefectAmong, IsDefectFor, IsFirstDefect, Holds, Judges}
+use Rattle.rg_reasons.specs.Sums.{variable_of}
+use Rattle.rg_verify.proofs.Variables.{same_variable_of, before_or_not}
 
 -- ---- the first item for which a fact doesn't hold
 
@@ -55,12 +56,6 @@ no_defect lts stands expression rows (LeftOver v) (summed, left) good = left.lef
 no_defect lts stands expression rows NoContradiction (summed, cancels, not) good = not good.contradicts
 no_defect lts stands expression rows CaseMissing wrong good = wrong
 no_defect lts stands expression rows NotSo wrong good = wrong
-
-same_variable_of : (v w : Variable) → variable_of v ≡ variable_of w → v ≡ w
-same_variable_of (Tokens q) (Tokens r) e = let f : q ≡ r = cc in ap Tokens f
-same_variable_of (Effect t) (Effect u) e = let f : t ≡ u = cc in ap Effect f
-same_variable_of (Tokens q) (Effect t) e = absurd cc
-same_variable_of (Effect t) (Tokens q) e = absurd cc
 
 first_once : (lts : System) (expression : RowName → Expression) (rows : List NamedRow) (v w : linear.Variable) → IsFirstLeft lts expression rows v → IsFirstLeft lts expression rows w → v ≡ w
 first_once lts expression rows v w one other = by (before_or_not v w)
@@ -154,8 +149,8 @@ one_among lts class problem trees c n b m d e one other = by (cases_order c b)
 -- a defect of trees is one of three kinds
 abbrev IsOfKind : System → Class → Problem → List Tree → ℕ → ℕ → Defect → Type 0
 IsOfKind lts class problem trees case node defect =
-    ((case ≡ 0) × (node ≡ 0) × (defect ≡ NotSo) × (IsAsked lts problem → ⊥))
-    ⊎ (((case ≡ 0) × (node ≡ 0) × (defect ≡ CaseMissing) × IsAsked lts problem × (HasAllCases lts class problem trees → ⊥))
+    ((case ≡ 0) × (node ≡ 0) × (defect ≡ NotSo) × (IsSeparationProblem lts problem → ⊥))
+    ⊎ (((case ≡ 0) × (node ≡ 0) × (defect ≡ CaseMissing) × IsSeparationProblem lts problem × (HasAllCases lts class problem trees → ⊥))
     ⊎ IsDefectAmong lts class problem trees case node defect)
 
 kind_of : (lts : System) (class : Class) (problem : Problem) (trees : List Tree) (case node : ℕ) (defect : Defect) → IsDefectFor lts class problem trees case node defect → IsOfKind lts class problem trees case node defect

@@ -2,22 +2,25 @@
 use Rattle.std.proofs.Common.{◌≡◌, ℕ, ◌+◌, ◌*◌, ◌<◌, List, [], ◌∷◌, ◌++◌, map, length, take, drop, get_or, All, inl, inr, sym, subst, ap, ◌∙◌, arith, ℤ, pos, ◌*ℤ◌, nat_abs}
 use Rattle.std.proofs.lemmas.Int.{ints, unsigned_abs-mul}
 use Rattle.std.proofs.lemmas.List.{map-append, drop_more, take-append-drop}
+use Rattle.std.proofs.lemmas.List.Elements.{All-weaker}
 use Rattle.std.proofs.lemmas.List.Sums.{sum_by-append, sum_by-cons}
 use Rattle.rg_integers.proofs.ListSums.{sum_over-append}
-use Rattle.rg_theory.specs.System.{System}
+use Rattle.rg_theory.specs.System.{System, states, labels}
 use Rattle.rg_refuting.specs.Expression as linear
 use Rattle.rg_refuting.specs.Expression.{coefficient_in}
-use Rattle.rg_refuting.specs.Row.{RowName}
+use Rattle.rg_refuting.specs.Row.{RowName, Side}
 use Rattle.rg_refuting.specs.Refutes.{NamedRow, IsSmall}
 use Rattle.rg_integers.specs.Range.{InRange}
-use Rattle.rg_reasons.specs.Certificates.{IsRowOf}
+use Rattle.rg_reasons.specs.Certificates.{IsRowOf, IsFormOf, IsTermWithin}
 use Rattle.rg_reasons.specs.Trees.{named_row}
 use Rattle.rg_reasons.specs.declared.certificate.RowName.{RowName as Row}
 use Rattle.rg_reasons.specs.declared.certificate.RowName.TheVariants.{Arc}
-use Rattle.rg_verify.specs.declared.expression.Expression.{Expression}
+use Rattle.rg_reasons.specs.declared.sum.Expression.{Expression}
 use Rattle.rg_verify.specs.declared.sums.Sums.{Sums}
 use Rattle.rg_verify.proofs.Places.{image_at}
-use Rattle.rg_verify.specs.Terms.{terms_in, size_in, IsExpressionOf}
+use Rattle.rg_verify.specs.Terms.{size_in, IsReducedSum, IsExpressionOf}
+use Rattle.rg_verify.specs.Sides.{IsSideOf}
+use Rattle.rg_reasons.specs.Sums.{terms_in, expression_of}
 use Rattle.rg_verify.specs.Sums.{IsTidy, HasSameVariables, IsTableOf, AreSumsOf, AddsRow, PassesByRow}
 
 -- what a loop over rows reads past their end
@@ -26,6 +29,21 @@ no_row = (Arc (record { from = 0; label = 0; to = 0 }), pos 0)
 
 pub table_kept : (lts : System) (old new : Sums) → IsTableOf lts old → HasSameVariables old new → IsTidy new → IsTableOf lts new
 table_kept lts old new table same tidy = record { tokens = same.tokens ∙ table.tokens; effects = same.effects ∙ table.effects; tidy = tidy }
+
+-- the sides' forms are of states and labels of the system
+pub all_forms : (lts : System) (above : List Side) → All (IsSideOf lts) above → All (λ s. IsFormOf lts s.form) above
+all_forms lts above each = All-weaker (IsSideOf lts) (λ s. IsFormOf lts s.form) (λ s is. is.0) above each
+
+-- an expression without opposite terms is that of its row
+pub reduced_row : (lts : System) (e new : Expression) (row : linear.Expression) → expression_of e ≡ row → IsReducedSum (terms_in e.terms) (terms_in new.terms) → new.constant ≡ e.constant → All (IsTermWithin (states lts) (labels lts)) row.terms
+    → IsExpressionOf lts new row
+reduced_row lts e new row is reduced constant within =
+    let terms : terms_in e.terms ≡ row.terms = ap (λ (x : linear.Expression). x.terms) is in record {
+      in_range = reduced.within (states lts) (labels lts) (subst (All (IsTermWithin (states lts) (labels lts))) (sym terms) within);
+      coefficients = λ v. reduced.coefficients v ∙ ap (λ ts. coefficient_in ts v) terms;
+      sizes = λ v. reduced.sizes v ∙ ap (λ ts. nat_abs (coefficient_in ts v)) terms;
+      constant = constant ∙ ap (λ (x : linear.Expression). x.constant) is;
+    }
 
 -- what a row adds to a sum of absolute values
 added_size : (lts : System) (e : Expression) (row : linear.Expression) (k : ℤ) (v : linear.Variable) → IsExpressionOf lts e row → nat_abs k * size_in (terms_in e.terms) v ≡ nat_abs (k *ℤ coefficient_in row.terms v)

@@ -6,11 +6,11 @@ use Rattle.std.proofs.lemmas.List.Elements.{All-nil, All-push, All-contains, Con
 use Rattle.rg_theory.specs.System.{System, states, labels}
 use Rattle.rg_refuting.specs.Expression as linear
 use Rattle.rg_refuting.specs.Expression.{Variable.tokens_at, Variable.effect_of, same_variable}
-use Rattle.rg_refuting.specs.Refutes.{max_number}
-use Rattle.rg_verify.specs.declared.verdict.Variable.{Variable}
+use Rattle.rg_integers.specs.Range.{greatest}
+use Rattle.rg_reasons.specs.declared.variable.Variable.{Variable}
 use Rattle.rg_verify.specs.declared.sums.Sum.{Sum}
 use Rattle.rg_verify.specs.declared.sums.Sums.{Sums}
-use Rattle.rg_verify.specs.Judged.{variable_of}
+use Rattle.rg_reasons.specs.Sums.{variable_of}
 use Rattle.rg_verify.specs.Sums.{signed_of, size_of, entry_of, size_at, HasEntry, IsTidy, HasSameVariables, HasSameEntries, IsClear}
 use Rattle.rg_verify.proofs.Places.{some_item}
 use Rattle.rg_verify.proofs.Variables.{same_variable_is, same_variable_refl}
@@ -21,7 +21,7 @@ pub signed_zero : (o : Option Sum) → size_of o ≡ 0 → signed_of o ≡ pos 0
 signed_zero None e = refl
 signed_zero (Some s) e = let w = s.within in omega (arith, ints)
 
-pub size_small : (o : Option Sum) → size_of o ≤ max_number
+pub size_small : (o : Option Sum) → size_of o ≤ greatest
 size_small None = omega arith
 size_small (Some s) = let w = s.small in omega arith
 

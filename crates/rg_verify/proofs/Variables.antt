@@ -2,6 +2,9 @@
 use Rattle.std.proofs.Common.{◌≡◌, ◌⊎◌, ◌<◌, true, inl, inr, refl, ap, arith, eqb-true, eq-eqb}
 use Rattle.std.proofs.lemmas.Bool.{cases_order}
 use Rattle.rg_refuting.specs.Expression.{Variable, Variable.tokens_at, Variable.effect_of, same_variable}
+use Rattle.rg_reasons.specs.declared.variable.Variable.{Variable as CodeVariable}
+use Rattle.rg_reasons.specs.declared.variable.Variable.TheVariants.{Tokens, Effect}
+use Rattle.rg_reasons.specs.Sums.{variable_of}
 use Rattle.rg_verify.specs.Judged.{ComesBefore}
 
 pub same_variable_is : (v w : Variable) → same_variable v w ≡ true → v ≡ w
@@ -42,3 +45,10 @@ before-trans (effect_of t) (effect_of u) (effect_of s) h k = omega arith
 pub not_before_itself : (v : Variable) → ComesBefore v v → ⊥
 not_before_itself (tokens_at q) h = omega arith
 not_before_itself (effect_of t) h = omega arith
+
+-- variables of the code with one meaning are one
+pub same_variable_of : (v w : CodeVariable) → variable_of v ≡ variable_of w → v ≡ w
+same_variable_of (Tokens q) (Tokens r) e = let f : q ≡ r = cc in ap Tokens f
+same_variable_of (Effect t) (Effect u) e = let f : t ≡ u = cc in ap Effect f
+same_variable_of (Tokens q) (Effect t) e = absurd cc
+same_variable_of (Effect t) (Tokens q) e = absurd cc

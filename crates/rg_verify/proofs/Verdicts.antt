@@ -10,7 +10,7 @@ use Rattle.rg_theory.specs.Class.{NoNet}
 use Rattle.rg_theory.specs.declared.Problem.{Problem}
 use Rattle.rg_theory.specs.declared.Problem.TheVariants.{Event, States}
 use Rattle.rg_refuting.specs.Row.{HasArcAt, cases_of}
-use Rattle.rg_refuting.specs.Refutes.{Tree, TreeRefutes, IsAsked, IsRefuted}
+use Rattle.rg_refuting.specs.Refutes.{Tree, TreeRefutes, IsSeparationProblem, IsRefuted}
 use Rattle.rg_refuting.proofs.Accepted.{accepted}
 use Rattle.rg_reasons.specs.declared.certificate.Case.{Case}
 use Rattle.rg_reasons.specs.declared.certificate.Certificate.{Certificate}
@@ -38,17 +38,17 @@ image_is f xs i x lt is = slice_get-map f xs i ∙ ap (option_map f) (slice_get_
 
 -- ---- events
 
-pub asked_event : (lts : System) (s t : ℕ) (b : Bool) → s < states lts → t < labels lts → IsTrue b ↔ HasArcAt lts s t → b ≡ false → IsAsked lts (Event s t)
+pub asked_event : (lts : System) (s t : ℕ) (b : Bool) → s < states lts → t < labels lts → IsTrue b ↔ HasArcAt lts s t → b ≡ false → IsSeparationProblem lts (Event s t)
 asked_event lts s t b state label told none = (state, label, λ s' has. true≢false (sym (told.1 (s', has)) ∙ none))
 
-pub refuted_event : (lts : System) (class : Class) (s t : ℕ) (tree : Tree) → IsAsked lts (Event s t) → TreeRefutes lts class (Event s t) 0 [] tree → IsRefuted lts class (Event s t) (tree ∷ [])
+pub refuted_event : (lts : System) (class : Class) (s t : ℕ) (tree : Tree) → IsSeparationProblem lts (Event s t) → TreeRefutes lts class (Event s t) 0 [] tree → IsRefuted lts class (Event s t) (tree ∷ [])
 refuted_event lts class s t tree asked refutes = record { asked = asked; cases = refl; some = omega arith; each = each }
   where
     each : (number : ℕ) (other : Tree) → slice_get (tree ∷ []) number ≡ Some other → TreeRefutes lts class (Event s t) number [] other
     each zero other e = subst (TreeRefutes lts class (Event s t) 0 []) (same_Some tree other e) refutes
     each (suc number) other e = absurd (none-some other e)
 
-pub defect_event : (lts : System) (class : Class) (s t : ℕ) (tree : Tree) (node : ℕ) (defect : Defect) → IsAsked lts (Event s t) → IsDefectIn lts class (Event s t) 0 tree node defect → IsDefectFor lts class (Event s t) (tree ∷ []) 0 node defect
+pub defect_event : (lts : System) (class : Class) (s t : ℕ) (tree : Tree) (node : ℕ) (defect : Defect) → IsSeparationProblem lts (Event s t) → IsDefectIn lts class (Event s t) 0 tree node defect → IsDefectFor lts class (Event s t) (tree ∷ []) 0 node defect
 defect_event lts class s t tree node defect asked found = defect_for lts class (Event s t) (tree ∷ []) 0 node defect (record {
   asked = asked;
   cases = (refl, omega arith);
@@ -80,7 +80,7 @@ more_refute lts class problem f xs i x lt is before here number tree less at = b
         let e = sym (image_is f xs i x lt is) ∙ ap (slice_get (map f xs)) (sym same) ∙ at in
         rw (same, ← same_Some (f x) tree e) here
 
-pub defect_states : {X : Type 0} (lts : System) (class : Class) (problem : Problem) (f : X → Tree) (xs : List X) (i : ℕ) (x : X) (node : ℕ) (defect : Defect) → IsAsked lts problem → HasAllCases lts class problem (map f xs) → i < length xs → x ≡ get_or xs i x
+pub defect_states : {X : Type 0} (lts : System) (class : Class) (problem : Problem) (f : X → Tree) (xs : List X) (i : ℕ) (x : X) (node : ℕ) (defect : Defect) → IsSeparationProblem lts problem → HasAllCases lts class problem (map f xs) → i < length xs → x ≡ get_or xs i x
     → ((number : ℕ) (tree : Tree) → number < i → slice_get (map f xs) number ≡ Some tree → TreeRefutes lts class problem number [] tree) → IsDefectIn lts class problem i (f x) node defect → IsDefectFor lts class problem (map f xs) i node defect
 defect_states lts class problem f xs i x node defect asked cases lt is before found = defect_for lts class problem (map f xs) i node defect (record {
   asked = asked;
@@ -91,7 +91,7 @@ defect_states lts class problem f xs i x node defect asked cases lt is before fo
   found = found;
 })
 
-pub refuted_states : {X : Type 0} (lts : System) (class : Class) (problem : Problem) (f : X → Tree) (xs : List X) (i : ℕ) → IsAsked lts problem → HasAllCases lts class problem (map f xs) → length xs ≤ i
+pub refuted_states : {X : Type 0} (lts : System) (class : Class) (problem : Problem) (f : X → Tree) (xs : List X) (i : ℕ) → IsSeparationProblem lts problem → HasAllCases lts class problem (map f xs) → length xs ≤ i
     → ((number : ℕ) (tree : Tree) → number < i → slice_get (map f xs) number ≡ Some tree → TreeRefutes lts class problem number [] tree) → IsRefuted lts class problem (map f xs)
 refuted_states lts class problem f xs i asked cases past before = record {
   asked = asked;

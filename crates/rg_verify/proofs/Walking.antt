@@ -6,7 +6,7 @@ use Rattle.std.proofs.lemmas.List.Elements.{All-contains, Contains-get_or, Conta
 use Rattle.rg_theory.specs.System.{System}
 use Rattle.rg_theory.specs.declared.Class.{Class}
 use Rattle.rg_theory.specs.declared.Problem.{Problem}
-use Rattle.rg_refuting.specs.Expression as linear
+use Rattle.rg_refuting.specs.Row as row
 use Rattle.rg_refuting.specs.Row.{Side, RowStands, row_expression}
 use Rattle.rg_refuting.specs.Refutes.{NamedRow, LeafRefutes, Tree, Tree.leaf, Tree.split, TreeRefutes}
 use Rattle.rg_reasons.specs.declared.certificate.Case.{Case}
@@ -20,18 +20,18 @@ use Rattle.rg_verify.specs.Sides.{turned_back, turned, IsSideOf}
 
 -- ---- the sides above the next node
 
-abbrev low_side : linear.Variable → ℤ → Side
+abbrev low_side : row.Form → ℤ → Side
 low_side form at = record { form = form; at = at; high = false }
 
-abbrev high_side : linear.Variable → ℤ → Side
+abbrev high_side : row.Form → ℤ → Side
 high_side form at = record { form = form; at = at; high = true }
 
-turned_low : (above : List Side) (form : linear.Variable) (at : ℤ) → turned (above ++ low_side form at ∷ []) ≡ above ++ high_side form at ∷ []
+turned_low : (above : List Side) (form : row.Form) (at : ℤ) → turned (above ++ low_side form at ∷ []) ≡ above ++ high_side form at ∷ []
 turned_low above form at =
     ap (λ sides. reverse (turned_back sides)) (reverse-append above (low_side form at ∷ []))
     ∙ reverse-append (high_side form at ∷ []) (reverse above) ∙ ap (λ sides. sides ++ high_side form at ∷ []) (reverse-reverse above)
 
-turned_high : (above : List Side) (form : linear.Variable) (at : ℤ) → turned (above ++ high_side form at ∷ []) ≡ turned above
+turned_high : (above : List Side) (form : row.Form) (at : ℤ) → turned (above ++ high_side form at ∷ []) ≡ turned above
 turned_high above form at = ap (λ sides. reverse (turned_back sides)) (reverse-append above (high_side form at ∷ []))
 
 -- they are sides of the system
@@ -58,7 +58,7 @@ leaves_due node above [] = []
 leaves_due node above (tree ∷ more) = leaves_of node above tree ++ leaves_due (node + length (preorder tree)) (turned above) more
 
 -- a split: its two sides are due before the rest
-pub past_split : (node : ℕ) (above : List Side) (form : linear.Variable) (at : ℤ) (due : List Tree) (rest : List TreeNode) → split_node form at ∷ rest ≡ flat_map preorder due
+pub past_split : (node : ℕ) (above : List Side) (form : row.Form) (at : ℤ) (due : List Tree) (rest : List TreeNode) → split_node form at ∷ rest ≡ flat_map preorder due
     → (later : List Tree) × (rest ≡ flat_map preorder later) × (leaves_due node above due ≡ leaves_due (node + 1) (above ++ low_side form at ∷ []) later)
 past_split node above form at [] rest is = absurd cc
 past_split node above form at (leaf rows ∷ more) rest is = absurd cc
@@ -145,7 +145,7 @@ at_first lts class problem number tree nodes whole = record {
 }
 
 module _ (lts : System) (class : Class) (problem : Problem) (number : ℕ) (tree : Tree) (nodes : List TreeNode) (node : ℕ) (above : List Side) (at_node : IsAtNode lts class problem number tree nodes node above) where
-  pub after_split : (form : linear.Variable) (at : ℤ) → drop node nodes ≡ split_node form at ∷ drop (node + 1) nodes → IsSideOf lts (low_side form at) → IsAtNode lts class problem number tree nodes (node + 1) (above ++ low_side form at ∷ [])
+  pub after_split : (form : row.Form) (at : ℤ) → drop node nodes ≡ split_node form at ∷ drop (node + 1) nodes → IsSideOf lts (low_side form at) → IsAtNode lts class problem number tree nodes (node + 1) (above ++ low_side form at ∷ [])
   after_split form at is side =
       let past = past_split node above form at at_node.due (drop (node + 1) nodes) (sym is ∙ at_node.nodes_due) in
       record {

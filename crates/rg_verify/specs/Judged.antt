@@ -6,12 +6,11 @@ use Rattle.rg_theory.specs.declared.Problem.{Problem}
 use Rattle.rg_refuting.specs.Expression.{Variable.tokens_at, Variable.effect_of, Expression}
 use Rattle.rg_refuting.specs.Expression as linear
 use Rattle.rg_refuting.specs.Row.{Side, RowName, RowStands, row_expression, cases_of}
-use Rattle.rg_refuting.specs.Refutes.{NamedRow, IsMultiplier, IsSmall, coefficient_sum, constant_sum, LeafRefutes, Tree, Tree.leaf, Tree.split, TreeRefutes, IsAsked, IsRefuted, Accepts}
+use Rattle.rg_refuting.specs.Refutes.{NamedRow, IsMultiplier, IsSmall, coefficient_sum, constant_sum, LeafRefutes, Tree, Tree.leaf, Tree.split, TreeRefutes, IsSeparationProblem, IsRefuted, Accepts}
 use Rattle.rg_refuting.specs.Refutes as refutes
 use Rattle.rg_reasons.specs.Trees.{preorder}
 use Rattle.rg_reasons.specs.Certificates.{Claim, IsVariableOf}
-use Rattle.rg_verify.specs.declared.verdict.Variable.{Variable}
-use Rattle.rg_verify.specs.declared.verdict.Variable.TheVariants.{Tokens, Effect}
+use Rattle.rg_reasons.specs.Sums.{variable_of}
 use Rattle.rg_verify.specs.declared.verdict.Defect.{Defect}
 use Rattle.rg_verify.specs.declared.verdict.Defect.TheVariants.{WrongRow, NotPositive, LeftOver, NoContradiction, SumPasses, CaseMissing, NotSo}
 use Rattle.rg_verify.specs.declared.verdict.Verdict.{Verdict}
@@ -25,11 +24,6 @@ Holds lts claim = Accepts lts claim.class claim.reason
 pub record IsReached {X : Type 0} (P : X → Type 0) (xs : List X) (place : ℕ) (x : X) : Type 0 where
   pub here : slice_get xs place ≡ Some x
   pub before : All P (take place xs)
-
--- a variable of the verdict, in the words of the definitions
-abbrev pub variable_of : Variable → linear.Variable
-variable_of (Tokens q) = tokens_at q
-variable_of (Effect t) = effect_of t
 
 -- tokens come before effects, tokens by state and effects by label
 abbrev pub ComesBefore : linear.Variable → linear.Variable → Type 0
@@ -92,7 +86,7 @@ HasAllCases lts class problem trees = (length trees ≡ cases_of lts class probl
 
 -- the problem is asked, there are all cases, and the first tree that doesn't refute is the case, with the defect at the node
 pub record IsDefectAmong (lts : System) (class : Class) (problem : Problem) (trees : List Tree) (case node : ℕ) (defect : Defect) : Type 0 where
-  pub asked : IsAsked lts problem
+  pub asked : IsSeparationProblem lts problem
   pub cases : HasAllCases lts class problem trees
   pub tree : Tree
   pub here : slice_get trees case ≡ Some tree
@@ -101,8 +95,8 @@ pub record IsDefectAmong (lts : System) (class : Class) (problem : Problem) (tre
 
 -- the first defect of trees for a problem
 abbrev pub IsDefectFor : System → Class → Problem → List Tree → ℕ → ℕ → Defect → Type 0
-IsDefectFor lts class problem trees case node NotSo = (case ≡ 0) × (node ≡ 0) × (¬ IsAsked lts problem)
-IsDefectFor lts class problem trees case node CaseMissing = (case ≡ 0) × (node ≡ 0) × IsAsked lts problem × (¬ HasAllCases lts class problem trees)
+IsDefectFor lts class problem trees case node NotSo = (case ≡ 0) × (node ≡ 0) × (¬ IsSeparationProblem lts problem)
+IsDefectFor lts class problem trees case node CaseMissing = (case ≡ 0) × (node ≡ 0) × IsSeparationProblem lts problem × (¬ HasAllCases lts class problem trees)
 IsDefectFor lts class problem trees case node defect = IsDefectAmong lts class problem trees case node defect
 
 -- the verdict on trees for a problem

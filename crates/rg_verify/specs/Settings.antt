@@ -3,14 +3,14 @@ use Rattle.std.specs.Prelude.{List}
 use Rattle.rg_theory.specs.System.{System}
 use Rattle.rg_refuting.specs.Expression.{Expression}
 use Rattle.rg_refuting.specs.Row.{RowName, RowStands, row_expression}
-use Rattle.rg_verify.specs.declared.side.Side.{Side}
-use Rattle.rg_verify.specs.declared.setting.Setting.{Setting}
+use Rattle.rg_reasons.specs.declared.side.Side.{Side}
+use Rattle.rg_reasons.specs.declared.problem_case.ProblemCase.{ProblemCase}
 use Rattle.rg_verify.specs.Sides.{sides_of}
 
 -- where a row stands
-abbrev pub StandsIn : System → Setting → List Side → RowName → Type 0
-StandsIn lts setting above = RowStands lts setting.class setting.problem setting.number (sides_of above)
+abbrev pub StandsIn : System → ProblemCase → List Side → RowName → Type 0
+StandsIn lts case above = RowStands lts case.class case.problem case.number (sides_of above)
 
 -- what a row says
-abbrev pub expression_in : System → Setting → List Side → RowName → Expression
-expression_in lts setting above = row_expression lts setting.class setting.problem setting.number (sides_of above)
+abbrev pub expression_in : System → ProblemCase → List Side → RowName → Expression
+expression_in lts case above = row_expression lts case.class case.problem case.number (sides_of above)

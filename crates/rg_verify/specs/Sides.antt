@@ -2,20 +2,17 @@
 use Rattle.std.specs.Prelude.{true, List, [], ◌∷◌, map, reverse, All, if◌then◌else◌}
 use Rattle.rg_theory.specs.System.{System}
 use Rattle.rg_refuting.specs.Row as row
-use Rattle.rg_reasons.specs.Certificates.{IsVariableOf, IsSplitInRange}
-use Rattle.rg_reasons.specs.Trees.{variable_of}
-use Rattle.rg_verify.specs.declared.side.Side.{Side}
+use Rattle.rg_reasons.specs.Certificates.{IsFormOf, IsSplitInRange}
+use Rattle.rg_reasons.specs.Sums.{side_of}
+use Rattle.rg_reasons.specs.declared.side.Side.{Side}
 
--- a side of the code in the words of the definitions
-abbrev pub side_of : Side → row.Side
-side_of side = record { form = variable_of side.form; at = side.at; high = side.high }
-
+-- sides of the code in the words of the definitions
 abbrev pub sides_of : List Side → List row.Side
 sides_of above = map side_of above
 
 -- the form is of a state or label of the system, and the number is in range
 abbrev pub IsSideOf : System → row.Side → Type 0
-IsSideOf lts side = IsVariableOf lts side.form × IsSplitInRange side.at
+IsSideOf lts side = IsFormOf lts side.form × IsSplitInRange side.at
 
 -- the sides are splits of the system
 abbrev pub AreSidesOf : System → List Side → Type 0

@@ -4,12 +4,14 @@ use Rattle.rg_theory.specs.System.{System, states, labels}
 use Rattle.rg_refuting.specs.Expression as linear
 use Rattle.rg_refuting.specs.Expression.{Variable.tokens_at, Variable.effect_of, Expression, coefficient_in}
 use Rattle.rg_refuting.specs.Row.{RowName}
-use Rattle.rg_refuting.specs.Refutes.{NamedRow, max_number, coefficient_sum, constant_sum}
+use Rattle.rg_refuting.specs.Refutes.{NamedRow, coefficient_sum, constant_sum}
+use Rattle.rg_integers.specs.Range.{greatest}
 use Rattle.rg_verify.specs.declared.verdict.Defect.{Defect}
 use Rattle.rg_verify.specs.declared.verdict.Defect.TheVariants.{LeftOver, NoContradiction}
 use Rattle.rg_verify.specs.declared.sums.Sum.{Sum}
 use Rattle.rg_verify.specs.declared.sums.Sums.{Sums}
-use Rattle.rg_verify.specs.Judged.{variable_of, ComesBefore}
+use Rattle.rg_verify.specs.Judged.{ComesBefore}
+use Rattle.rg_reasons.specs.Sums.{variable_of}
 use Rattle.rg_verify.specs.Terms.{size_in}
 
 abbrev pub signed_of : Option Sum → ℤ
@@ -92,7 +94,7 @@ pub record AddsTerms (k : ℤ) (terms : List linear.Term) (old new : Sums) : Typ
 
 -- with the terms, times k, some sum of absolute values passes
 abbrev pub PassesByTerms : ℤ → List linear.Term → Sums → Type 0
-PassesByTerms k terms old = (v : linear.Variable) × (max_number < size_at old v + nat_abs k * size_in terms v)
+PassesByTerms k terms old = (v : linear.Variable) × (greatest < size_at old v + nat_abs k * size_in terms v)
 
 -- the terms and the constant were added, times k
 pub record AddsRow (k : ℤ) (terms : List linear.Term) (number : ℤ) (old new : Sums) : Type 0 where
@@ -103,7 +105,7 @@ pub record AddsRow (k : ℤ) (terms : List linear.Term) (number : ℤ) (old new 
 
 -- with the terms or the constant, times k, some sum of absolute values passes
 abbrev pub PassesByRow : ℤ → List linear.Term → ℤ → Sums → Type 0
-PassesByRow k terms constant old = PassesByTerms k terms old ⊎ (max_number < old.constant.size + nat_abs (k *ℤ constant))
+PassesByRow k terms constant old = PassesByTerms k terms old ⊎ (greatest < old.constant.size + nat_abs (k *ℤ constant))
 
 -- the first variable whose sum isn't 0
 pub record IsLeftFirst (sums : Sums) (v : linear.Variable) : Type 0 where

@@ -1,24 +1,13 @@
 -- Expressions of at most three terms.
-use Rattle.std.specs.Prelude.{◌≡◌, ℕ, List, [], ◌∷◌, Option, Some, None, All, nat_abs, sum_by, if◌then◌else◌}
+use Rattle.std.specs.Prelude.{◌≡◌, ℕ, List, Option, Some, None, All, nat_abs, sum_by, if◌then◌else◌}
 use Rattle.rg_theory.specs.System.{System}
 use Rattle.rg_refuting.specs.Expression as linear
-use Rattle.rg_refuting.specs.Expression.{same_variable, coefficient_in, plus, minus}
-use Rattle.rg_reasons.specs.Certificates.{IsVariableOf}
-use Rattle.rg_verify.specs.declared.expression.Term.{Term}
-use Rattle.rg_verify.specs.declared.expression.Term.TheVariants.{Plus, Minus}
-use Rattle.rg_verify.specs.declared.expression.Expression.{Expression}
-use Rattle.rg_verify.specs.Judged.{variable_of}
-
--- a term of the code in the words of the definitions
-abbrev pub term_of : Term → linear.Term
-term_of (Plus v) = plus (variable_of v)
-term_of (Minus v) = minus (variable_of v)
-
--- the terms that are there
-abbrev pub terms_in : List (Option Term) → List linear.Term
-terms_in [] = []
-terms_in (None ∷ more) = terms_in more
-terms_in (Some t ∷ more) = term_of t ∷ terms_in more
+use Rattle.rg_refuting.specs.Expression.{same_variable, coefficient_in}
+use Rattle.rg_reasons.specs.Certificates.{IsVariableOf, IsTermWithin}
+use Rattle.rg_reasons.specs.declared.variable.Term.{Term}
+use Rattle.rg_reasons.specs.declared.variable.Term.TheVariants.{Plus, Minus}
+use Rattle.rg_reasons.specs.declared.sum.Expression.{Expression}
+use Rattle.rg_reasons.specs.Sums.{terms_in}
 
 -- what the absolute values of a variable's coefficients add up to
 abbrev pub size_in : List linear.Term → linear.Variable → ℕ
@@ -30,3 +19,22 @@ pub record IsExpressionOf (lts : System) (e : Expression) (row : linear.Expressi
   pub coefficients : (v : linear.Variable) → coefficient_in (terms_in e.terms) v ≡ coefficient_in row.terms v
   pub sizes : (v : linear.Variable) → size_in (terms_in e.terms) v ≡ nat_abs (coefficient_in row.terms v)
   pub constant : e.constant ≡ row.constant
+
+-- ---- opposite terms
+
+-- the same variable, taken away in place of added
+abbrev pub opposite : Term → Term
+opposite (Plus v) = Minus v
+opposite (Minus v) = Plus v
+
+-- both places have a term, and the terms are opposite
+abbrev pub AreOpposite : Option Term → Option Term → Type 0
+AreOpposite None other = ⊥
+AreOpposite (Some t) other = other ≡ Some (opposite t)
+
+-- some of the terms, with the same coefficients, and no two of them are opposite: their absolute values add up to the
+-- coefficient's
+pub record IsReducedSum (old new : List linear.Term) : Type 0 where
+  pub within : (states labels : ℕ) → All (IsTermWithin states labels) old → All (IsTermWithin states labels) new
+  pub coefficients : (v : linear.Variable) → coefficient_in new v ≡ coefficient_in old v
+  pub sizes : (v : linear.Variable) → size_in new v ≡ nat_abs (coefficient_in old v)

@@ -1,6 +1,6 @@
 //! What is wrong with a case.
 ghost use Rattle.std.specs.Prelude.{◌≡◌, [], IfOk, MatchOption};
-ghost use Rattle.rg_refuting.specs.Refutes.{TreeRefutes, IsAsked};
+ghost use Rattle.rg_refuting.specs.Refutes.{TreeRefutes, IsSeparationProblem};
 ghost use Rattle.rg_reasons.specs.Certificates.{case_tree, IsWhole, IsTreeOf};
 ghost use Rattle.rg_verify.specs.Judged.{IsDefectIn};
 ghost use Rattle.rg_verify.specs.Sides.{sides_of, AreSidesOf, turned};
@@ -8,13 +8,11 @@ ghost use Rattle.rg_verify.specs.Sums.{IsClear};
 ghost use Rattle.rg_verify.specs.declared.verdict.Verdict.TheVariants as verdict;
 
 use crate::leaves::leaf_defect;
-use crate::setting::Setting;
-use crate::side::Side;
 use crate::sums::Sums;
 use crate::verdict::{Defect, Verdict};
 use rg_lts::Lts;
 use rg_memory::NoMemory;
-use rg_reasons::{Case, Node};
+use rg_reasons::{Case, Node, ProblemCase, Side};
 use std::alloc::Global;
 
 /// A defect and the node that has it.
@@ -42,15 +40,15 @@ pub(crate) fn case_defect(
     alloc: Global,
     sums: &mut Sums,
     lts: &Lts,
-    setting: &Setting,
+    problem_case: ProblemCase,
     case: &Case,
 ) -> Result<Option<Found>, NoMemory>
-    requires asked { IsAsked lts.now setting.now.problem }
+    requires asked { IsSeparationProblem lts.now problem_case.problem }
     requires whole { IsWhole case.now }
     requires in_range { IsTreeOf lts.now (case_tree case.now) }
     requires clear { IsClear lts.now sums.old }
     ensures clear { IfOk result (λ _. IsClear lts.now sums.new) }
-    ensures judged { IfOk result (λ o. MatchOption o (TreeRefutes lts.now setting.now.class setting.now.problem setting.now.number [] (case_tree case.now)) (λ f. IsDefectIn lts.now setting.now.class setting.now.problem setting.now.number (case_tree case.now) f.node f.defect)) }
+    ensures judged { IfOk result (λ o. MatchOption o (TreeRefutes lts.now problem_case.class problem_case.problem problem_case.number [] (case_tree case.now)) (λ f. IsDefectIn lts.now problem_case.class problem_case.problem problem_case.number (case_tree case.now) f.node f.defect)) }
 {
     let mut above = Vec::new(alloc);
     for (node, content) in case.nodes.iter().enumerate() {
@@ -61,7 +59,7 @@ pub(crate) fn case_defect(
                 high: false,
             })?,
             Node::Leaf(rows) => {
-                if let Some(defect) = leaf_defect(sums, lts, setting, &above, rows)? {
+                if let Some(defect) = leaf_defect(sums, lts, problem_case, &above, rows)? {
                     return Ok(Some(Found {
                         node: node as u64,
                         defect,

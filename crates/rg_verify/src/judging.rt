@@ -10,14 +10,13 @@ ghost use Rattle.rg_verify.specs.declared.verdict.Verdict.TheVariants as verdict
 ghost use Rattle.rg_verify.specs.declared.verdict.Defect.TheVariants as defect;
 
 use crate::cases::case_defect;
-use crate::setting::Setting;
 use crate::standing::{has_arc, has_arc_at};
 use crate::sums::Sums;
 use crate::verdict::{Defect, Verdict};
 use rg_checks::reach;
 use rg_lts::Lts;
 use rg_memory::NoMemory;
-use rg_reasons::{Case, Certificate, Reason};
+use rg_reasons::{Case, Certificate, ProblemCase, Reason};
 use rg_theory::{Arc, Class, Problem};
 use std::alloc::Global;
 
@@ -91,13 +90,13 @@ fn event_verdict(
     if has_arc_at(lts, s, t) {
         return Ok(refused(Defect::NotSo));
     }
-    let setting = Setting {
+    let problem_case = ProblemCase {
         class,
         problem: Problem::Event(s, t),
         number: 0,
     };
     let mut sums = Sums::new(alloc, lts)?;
-    match case_defect(alloc, &mut sums, lts, &setting, case)? {
+    match case_defect(alloc, &mut sums, lts, problem_case, case)? {
         Some(found) => Ok(found.refused(0)),
         None => Ok(Verdict::Accepted),
     }
@@ -126,13 +125,13 @@ fn states_verdict(
     }
     let mut sums = Sums::new(alloc, lts)?;
     for (number, case) in cases.iter().enumerate() {
-        let setting = Setting {
+        let problem_case = ProblemCase {
             class,
             problem: Problem::States(s, other),
             number: number as u32,
         };
-        if let Some(found) = case_defect(alloc, &mut sums, lts, &setting, case)? {
-            return Ok(found.refused(setting.number));
+        if let Some(found) = case_defect(alloc, &mut sums, lts, problem_case, case)? {
+            return Ok(found.refused(problem_case.number));
         }
     }
     Ok(Verdict::Accepted)

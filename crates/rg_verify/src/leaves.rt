@@ -1,6 +1,6 @@
 //! What is wrong with a leaf.
 ghost use Rattle.std.specs.Prelude.{◌↔◌, IfOk, IsTrue, MatchOption, map, All};
-ghost use Rattle.rg_refuting.specs.Refutes.{IsMultiplier, LeafRefutes, IsAsked};
+ghost use Rattle.rg_refuting.specs.Refutes.{IsMultiplier, LeafRefutes, IsSeparationProblem};
 ghost use Rattle.rg_reasons.specs.Certificates.{IsRowOf};
 ghost use Rattle.rg_reasons.specs.Trees.{named_row, row_name_of};
 ghost use Rattle.rg_verify.specs.Judged.{IsRight, IsDefectOf};
@@ -8,34 +8,32 @@ ghost use Rattle.rg_verify.specs.Settings.{StandsIn, expression_in};
 ghost use Rattle.rg_verify.specs.Sides.{AreSidesOf};
 ghost use Rattle.rg_verify.specs.Sums.{IsClear};
 
-use crate::setting::Setting;
-use crate::side::Side;
 use crate::standing::stands;
 use crate::sums::{Stop, Sums};
 use crate::verdict::Defect;
 use rg_lts::Lts;
 use rg_memory::NoMemory;
-use rg_reasons::RowName;
+use rg_reasons::{ProblemCase, RowName, Side};
 
 /// What is wrong with the rows of a leaf; None where they refute. The sums are the table for the leaf, and are 0 before and after.
 pub(crate) fn leaf_defect(
     sums: &mut Sums,
     lts: &Lts,
-    setting: &Setting,
+    problem_case: ProblemCase,
     above: &[Side],
     rows: &[(RowName, i128)],
 ) -> Result<Option<Defect>, NoMemory>
-    requires asked { IsAsked lts.now setting.now.problem }
+    requires asked { IsSeparationProblem lts.now problem_case.problem }
     requires sides { AreSidesOf lts.now above.now }
     requires rows { All (IsRowOf lts.now) (map named_row rows.now) }
     requires clear { IsClear lts.now sums.old }
     ensures clear { IfOk result (λ _. IsClear lts.now sums.new) }
-    ensures judged { IfOk result (λ o. MatchOption o (LeafRefutes (StandsIn lts.now setting.now above.now) (expression_in lts.now setting.now above.now) (map named_row rows.now)) (IsDefectOf lts.now (StandsIn lts.now setting.now above.now) (expression_in lts.now setting.now above.now) (map named_row rows.now))) }
+    ensures judged { IfOk result (λ o. MatchOption o (LeafRefutes (StandsIn lts.now problem_case above.now) (expression_in lts.now problem_case above.now) (map named_row rows.now)) (IsDefectOf lts.now (StandsIn lts.now problem_case above.now) (expression_in lts.now problem_case above.now) (map named_row rows.now))) }
 {
-    if let Some(defect) = row_defect(lts, setting, above, rows) {
+    if let Some(defect) = row_defect(lts, problem_case, above, rows) {
         return Ok(Some(defect));
     }
-    let defect = match sums.add_rows(lts, setting, above, rows) {
+    let defect = match sums.add_rows(lts, problem_case, above, rows) {
         Ok(()) => sums.defect(),
         Err(Stop::Passes) => Some(Defect::SumPasses),
         Err(Stop::NoMemory) => return Err(NoMemory),
@@ -47,16 +45,16 @@ pub(crate) fn leaf_defect(
 // What is wrong with the first row that doesn't stand or owes a positive multiplier.
 fn row_defect(
     lts: &Lts,
-    setting: &Setting,
+    problem_case: ProblemCase,
     above: &[Side],
     rows: &[(RowName, i128)],
 ) -> Option<Defect>
-    requires asked { IsAsked lts.now setting.now.problem }
+    requires asked { IsSeparationProblem lts.now problem_case.problem }
     requires rows { All (IsRowOf lts.now) (map named_row rows.now) }
-    ensures { MatchOption result (All (IsRight (StandsIn lts.now setting.now above.now)) (map named_row rows.now)) (IsDefectOf lts.now (StandsIn lts.now setting.now above.now) (expression_in lts.now setting.now above.now) (map named_row rows.now)) }
+    ensures { MatchOption result (All (IsRight (StandsIn lts.now problem_case above.now)) (map named_row rows.now)) (IsDefectOf lts.now (StandsIn lts.now problem_case above.now) (expression_in lts.now problem_case above.now) (map named_row rows.now)) }
 {
     for (name, multiplier) in rows {
-        if !stands(lts, setting, above, *name) {
+        if !stands(lts, problem_case, above, *name) {
             return Some(Defect::WrongRow);
         }
         if !is_multiplier(*name, *multiplier) {

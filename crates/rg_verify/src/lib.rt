@@ -2,12 +2,10 @@
 #![tactic(auto)]
 
 mod cases;
-mod expression;
 mod judging;
 mod laws;
 mod leaves;
-mod setting;
-mod side;
+mod opposites;
 mod standing;
 mod sums;
 mod verdict;
@@ -15,4 +13,5 @@ mod verdict;
 pub use judging::verify;
 pub use laws::one_verdict;
 pub use rg_memory::NoMemory;
-pub use verdict::{Defect, Variable, Verdict};
+pub use rg_reasons::Variable;
+pub use verdict::{Defect, Verdict};

@@ -2,29 +2,27 @@
 ghost use Rattle.std.specs.Prelude.{◌≡◌, ◌<◌, ◌↔◌, AllPairs, Contains, IsTrue};
 ghost use Rattle.rg_theory.specs.System.{arc, states, labels, IsArcBefore};
 ghost use Rattle.rg_refuting.specs.Row.{HasArcAt, SharedStands, EventStands};
-ghost use Rattle.rg_refuting.specs.Refutes.{IsAsked};
+ghost use Rattle.rg_refuting.specs.Refutes.{IsSeparationProblem};
 ghost use Rattle.rg_reasons.specs.Certificates.{IsRowNameOf};
 ghost use Rattle.rg_reasons.specs.Trees.{row_name_of};
 ghost use Rattle.rg_verify.specs.Settings.{StandsIn};
 ghost use Rattle.rg_verify.specs.Sides.{sides_of};
 
-use crate::setting::Setting;
-use crate::side::Side;
 use rg_lts::Lts;
-use rg_reasons::RowName;
+use rg_reasons::{ProblemCase, RowName, Side};
 use rg_theory::{Arc, Class, Problem};
 
 /// Whether the row stands in a case of a problem, below the sides above it.
-pub(crate) fn stands(lts: &Lts, setting: &Setting, above: &[Side], name: RowName) -> bool
-    requires asked { IsAsked lts.now setting.now.problem }
+pub(crate) fn stands(lts: &Lts, problem_case: ProblemCase, above: &[Side], name: RowName) -> bool
+    requires asked { IsSeparationProblem lts.now problem_case.problem }
     requires name { IsRowNameOf lts.now (row_name_of name) }
-    ensures { IsTrue result ↔ StandsIn lts.now setting.now above.now (row_name_of name) }
+    ensures { IsTrue result ↔ StandsIn lts.now problem_case above.now (row_name_of name) }
 {
-    match setting.problem {
-        Problem::Event(_, t) => event_stands(lts, setting.class, t, above, name),
+    match problem_case.problem {
+        Problem::Event(_, t) => event_stands(lts, problem_case.class, t, above, name),
         Problem::States(_, _) => match name {
             RowName::Apart => true,
-            _ => shared_stands(lts, setting.class, setting.consumer(lts), above, name),
+            _ => shared_stands(lts, problem_case.class, problem_case.consumer(lts), above, name),
         },
     }
 }

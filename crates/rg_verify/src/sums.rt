@@ -1,24 +1,21 @@
 //! The sums of rows, multiplied and added up.
 ghost use Rattle.std.specs.Prelude.{◌≡◌, ◌↔◌, ◌+◌, ◌<◌, ◌^◌, ◌≤◌, ◌⊎◌, [], ◌∷◌, if◌then◌else◌, IsTrue, IfOk, IfErr, OnOk, MatchOption, Some, pos, ◌+ℤ◌, nat_abs, map, All, Contains, length};
-ghost use Rattle.rg_integers.specs.Range.{InRange};
+ghost use Rattle.rg_integers.specs.Range.{InRange, greatest};
 ghost use Rattle.rg_refuting.specs.Expression.{same_variable};
 ghost use Rattle.rg_refuting.specs.Expression as linear;
-ghost use Rattle.rg_refuting.specs.Refutes.{max_number, IsAsked, IsSmall};
+ghost use Rattle.rg_refuting.specs.Refutes.{IsSeparationProblem, IsSmall};
 ghost use Rattle.rg_reasons.specs.Certificates.{IsRowOf};
 ghost use Rattle.rg_reasons.specs.Trees.{named_row};
-ghost use Rattle.rg_verify.specs.Judged.{variable_of, ComesBefore};
+ghost use Rattle.rg_verify.specs.Judged.{ComesBefore};
+ghost use Rattle.rg_reasons.specs.Sums.{variable_of};
 
-use crate::expression::{Expression, Term, row_expression};
-use crate::setting::Setting;
-use crate::side::Side;
-use crate::verdict::{Defect, Variable};
+use crate::opposites::row_expression;
+use crate::verdict::{Defect, comes_before};
 use rg_lts::Lts;
+use rg_integers::GREATEST;
 use rg_memory::NoMemory;
-use rg_reasons::RowName;
+use rg_reasons::{Expression, ProblemCase, RowName, Side, Term, Variable};
 use std::alloc::{AllocError, AllocFailed, Global};
-
-// The greatest sum of absolute values, 2^127 - 1.
-const MOST: u128 = 170141183460469231731687303715884105727;
 
 /// A sum of numbers, and that of their absolute values.
 #[derive(Clone, Copy, Debug)]
@@ -46,10 +43,10 @@ impl Sum {
 
     // The sum with one number more; None where the absolute values pass.
     fn plus(self, number: i128) -> Option<Sum>
-        ensures { MatchOption result (max_number < self.size + nat_abs number) (λ s. (s.signed ≡ self.signed +ℤ number) × (s.size ≡ self.size + nat_abs number)) }
+        ensures { MatchOption result (greatest < self.size + nat_abs number) (λ s. (s.signed ≡ self.signed +ℤ number) × (s.size ≡ self.size + nat_abs number)) }
     {
         let size = self.size + number.unsigned_abs();
-        if size > MOST {
+        if size > GREATEST.unsigned_abs() {
             return None;
         }
         Some(Sum {
@@ -101,7 +98,8 @@ pub(crate) struct Sums {
 impl Sums {
     ghost use Rattle.rg_verify.specs.Settings.{expression_in};
     ghost use Rattle.rg_verify.specs.Sides.{AreSidesOf};
-    ghost use Rattle.rg_verify.specs.Terms.{term_of, terms_in};
+    ghost use Rattle.rg_reasons.specs.Sums.{terms_in};
+    ghost use Rattle.rg_reasons.specs.Sums.{term_of};
     ghost use Rattle.rg_verify.specs.Sums.{entry_of, signed_at, HasEntry, IsTidy, HasSameVariables, HasSameEntries, IsTableOf, IsZero, IsClear, AreSumsOf, AddsTerms, AddsRow, PassesByTerms, PassesByRow, IsLeftFirst, HasNoDefect, IsSumDefect};
     ghost use Rattle.rg_verify.specs.declared.sums.Stop.TheVariants as stop;
 
@@ -219,20 +217,20 @@ impl Sums {
     pub(crate) fn add_rows(
         &mut self,
         lts: &Lts,
-        setting: &Setting,
+        problem_case: ProblemCase,
         above: &[Side],
         rows: &[(RowName, i128)],
     ) -> Result<(), Stop>
-        requires asked { IsAsked lts.now setting.now.problem }
+        requires asked { IsSeparationProblem lts.now problem_case.problem }
         requires sides { AreSidesOf lts.now above.now }
         requires rows { All (IsRowOf lts.now) (map named_row rows.now) }
         requires clear { IsClear lts.now self.old }
         ensures table { IsTableOf lts.now self.new }
-        ensures ok { OnOk result (AreSumsOf (expression_in lts.now setting.now above.now) (map named_row rows.now) self.new) }
-        ensures passes { IfErr result (λ e. e ≡ stop.Passes → ¬ IsSmall (expression_in lts.now setting.now above.now) (map named_row rows.now)) }
+        ensures ok { OnOk result (AreSumsOf (expression_in lts.now problem_case above.now) (map named_row rows.now) self.new) }
+        ensures passes { IfErr result (λ e. e ≡ stop.Passes → ¬ IsSmall (expression_in lts.now problem_case above.now) (map named_row rows.now)) }
     {
         for (name, multiplier) in rows {
-            self.add_row(&row_expression(lts, setting, above, *name), *multiplier)?;
+            self.add_row(&row_expression(lts, problem_case, above, *name), *multiplier)?;
         }
         Ok(())
     }
@@ -282,7 +280,7 @@ fn first_of(first: Option<Variable>, other: Variable) -> Variable
     ensures { MatchOption first (result ≡ other) (λ v. ((result ≡ v) × ComesBefore (variable_of v) (variable_of other)) ⊎ ((result ≡ other) × (¬ ComesBefore (variable_of v) (variable_of other)))) }
 {
     match first {
-        Some(variable) if variable.comes_before(other) => variable,
+        Some(variable) if comes_before(variable, other) => variable,
         _ => other,
     }
 }

@@ -1,43 +1,19 @@
 //! What is said of a certificate.
 ghost use Rattle.std.specs.Prelude.{◌↔◌, IsTrue};
-ghost use Rattle.rg_verify.specs.Judged.{variable_of, ComesBefore};
+ghost use Rattle.rg_verify.specs.Judged.{ComesBefore};
+ghost use Rattle.rg_reasons.specs.Sums.{variable_of};
 
-use rg_reasons::Form;
+use rg_reasons::Variable;
 
-/// An unknown of the rows: the tokens at a state, or the effect of a label. Tokens come first, by state, then effects, by
-/// label.
-#[derive(Clone, Copy, Debug, PartialEq, Eq)]
-pub enum Variable {
-    Tokens(u32),
-    Effect(u32),
-}
-
-impl Variable {
-    // Whether it comes before the other.
-    pub(crate) fn comes_before(self, other: Variable) -> bool
-        ensures { IsTrue result ↔ ComesBefore (variable_of self) (variable_of other) }
-    {
-        match (self, other) {
-            (Variable::Tokens(q), Variable::Tokens(r)) => q < r,
-            (Variable::Tokens(_), Variable::Effect(_)) => true,
-            (Variable::Effect(_), Variable::Tokens(_)) => false,
-            (Variable::Effect(t), Variable::Effect(u)) => t < u,
-        }
-    }
-}
-
-impl From<Form> for Variable {
-    ghost use Rattle.std.specs.Prelude.{◌≡◌};
-    ghost use Rattle.rg_reasons.specs.Trees as cert;
-    ghost use Rattle.rg_verify.specs.Judged.{variable_of};
-
-    ghost from_gives = { λ form v. variable_of v ≡ cert.variable_of form };
-
-    fn from(form: Form) -> Variable {
-        match form {
-            Form::Tokens(q) => Variable::Tokens(q),
-            Form::Effect(t) => Variable::Effect(t),
-        }
+// Whether the one variable comes before the other: tokens come first, by state, then effects, by label.
+pub(crate) fn comes_before(one: Variable, other: Variable) -> bool
+    ensures { IsTrue result ↔ ComesBefore (variable_of one) (variable_of other) }
+{
+    match (one, other) {
+        (Variable::Tokens(q), Variable::Tokens(r)) => q < r,
+        (Variable::Tokens(_), Variable::Effect(_)) => true,
+        (Variable::Effect(_), Variable::Tokens(_)) => false,
+        (Variable::Effect(t), Variable::Effect(u)) => t < u,
     }
 }
 

@@ -1,43 +1,43 @@
-use Rattle.std.proofs.Common.{◌+◌, ◌*◌, ◌^◌, arith}
-use Rattle.std.specs.Prelude.{◌+ℤ◌, ◌-ℤ◌}
+use Rattle.std.proofs.Common.{◌+◌, ◌*◌, ◌^◌, refl, ap, ◌∙◌, arith}
+use Rattle.std.specs.Prelude.{◌+ℤ◌}
 use Rattle.std.specs.Int.{w128, cast_signed}
 use Rattle.std.proofs.lemmas.Int.{ints}
 use Rattle.rg_integers.proofs.Casts.{back}
-use Rattle.rg_expressions.specs.declared.term.Term.TheVariants.{Plus, Minus}
-use Rattle.rg_expressions.proofs.Counting.{in_range_between, plus_more, minus_more, count_next, plus_within, minus_within}
+use Rattle.rg_folds.specs.Rewriting.{count_of}
+use Rattle.rg_expressions.specs.View.{TermNamesStateBelow}
+use Rattle.rg_expressions.proofs.Counting.{in_range_between, count_next, nothing_next, term_at, whole_sum}
 use Rattle.rg_expressions.proofs.counts.count.Goals as goal
-use Rattle.rg_expressions.proofs.counts.count.Goals.{in-Plus, in-Minus}
+use Rattle.rg_expressions.proofs.counts.count.Goals.{in-Some, in_default}
 
 pub count_in-sum-requires-clause-within : goal.count_in-sum-requires-clause-within
-count_in-sum-requires-clause-within c = plus_within c.args.tree.now.states c.args.terms.now c.loop-term.term-index _ c.loop-term-test.true c.requires.within c.in-Plus.form c.in-Plus.is
+count_in-sum-requires-clause-within c = term_at (TermNamesStateBelow c.args.tree.now.states) c.args.expression.now.terms c.loop-place.place-index c.in-Some.term c.in-Some.is c.requires.within
 
-pub count_in-sum-requires-in-Minus-clause-within : goal.count_in-sum-requires-in-Minus-clause-within
-count_in-sum-requires-in-Minus-clause-within c = minus_within c.args.tree.now.states c.args.terms.now c.loop-term.term-index _ c.loop-term-test.true c.requires.within c.in-Minus.form c.in-Minus.is
-
-pub loop-term-preserved : goal.loop-term-preserved
-loop-term-preserved c =
-    let sum = cast_signed w128 c.loop-term.sum-bits in
-    elim c.match-term.branch [
-      | in-Plus w ↦
+pub loop-place-preserved : goal.loop-place-preserved
+loop-place-preserved c =
+    let sum = cast_signed w128 c.loop-place.sum-bits in
+    elim c.match-place.branch [
+      | in-Some w ↦
           let r = w.count_in-sum.result in
           let small = w.count_in-sum.ensures.bounds in
           let n = back r (in_range_between r (2 ^ 32) (omega arith) (let h = small.0 in omega (arith, ints)) (let h = small.1 in omega (arith, ints))) in
-          let s = back (sum +ℤ r) (in_range_between (sum +ℤ r) ((c.loop-term.term-index + 1) * 2 ^ 32) (omega arith) (let h = small in omega (arith, ints)) (let h = small in omega (arith, ints))) in
+          let s = back (sum +ℤ r) (in_range_between (sum +ℤ r) ((c.loop-place.place-index + 1) * 2 ^ 32) (omega arith) (let h = small in omega (arith, ints)) (let h = small in omega (arith, ints))) in
           let e = rw (n, s) at w.sum-is in
           record {
-            total = count_next c.args.terms.now c.loop-term.term-index _ (Plus w.in-Plus.form) c.loop-term-test.true w.in-Plus.is c.args.tree.now.arcs c.args.t sum _ _ (plus_more sum r _ _ e w.count_in-sum.ensures.value) c.loop-term.invariant.total;
+            total = count_next c.args.expression.now.terms c.loop-place.place-index w.in-Some.term w.in-Some.is c.args.tree.now.arcs c.args.t sum _ _ (e ∙ ap (λ z. sum +ℤ z) w.count_in-sum.ensures.value) c.loop-place.invariant.total;
             low = let h = small in omega (arith, ints, e);
             high = let h = small in omega (arith, ints, e);
           }
-      | in-Minus w ↦
-          let r = w.count_in-sum-in-Minus.result in
-          let small = w.count_in-sum-in-Minus.ensures.bounds in
-          let n = back r (in_range_between r (2 ^ 32) (omega arith) (let h = small.0 in omega (arith, ints)) (let h = small.1 in omega (arith, ints))) in
-          let s = back (sum -ℤ r) (in_range_between (sum -ℤ r) ((c.loop-term.term-index + 1) * 2 ^ 32) (omega arith) (let h = small in omega (arith, ints)) (let h = small in omega (arith, ints))) in
-          let e = rw (n, s) at w.sum-is in
+      | in_default w ↦
+          let e = w.sum-is in
           record {
-            total = count_next c.args.terms.now c.loop-term.term-index _ (Minus w.in-Minus.form) c.loop-term-test.true w.in-Minus.is c.args.tree.now.arcs c.args.t sum _ _ (minus_more sum r _ _ e w.count_in-sum-in-Minus.ensures.value) c.loop-term.invariant.total;
-            low = let h = small in omega (arith, ints, e);
-            high = let h = small in omega (arith, ints, e);
+            total = nothing_next c.args.expression.now.terms c.loop-place.place-index (λ ts. count_of c.args.tree.now.arcs ts c.args.t) sum _ _ e w.in_default.is c.loop-place.invariant.total;
+            low = let h = c.loop-place.invariant.low in omega (arith, ints, e);
+            high = let h = c.loop-place.invariant.high in omega (arith, ints, e);
           }
     ]
+
+pub returns-clause-value : goal.returns-clause-value
+returns-clause-value c =
+    let places = c.args.expression.now.places in
+    let past = c.loop-place-test.false in
+    whole_sum c.args.expression.now.terms c.loop-place.place-index (λ ts. count_of c.args.tree.now.arcs ts c.args.t) _ _ refl (omega arith) c.loop-place.invariant.total

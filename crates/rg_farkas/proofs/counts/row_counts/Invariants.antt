@@ -4,7 +4,7 @@ use Rattle.rg_refuting.specs.Row.{row_expression}
 use Rattle.rg_cycles.specs.View.{cycle_of}
 use Rattle.rg_folds.specs.Rewriting.{dependent_labels}
 use Rattle.rg_folds.specs.Spreading.{pairs_of}
-use Rattle.rg_expressions.specs.View.{side_of}
+use Rattle.rg_reasons.specs.Sums.{side_of}
 use Rattle.rg_farkas.specs.Leaves.{share_of}
 use Rattle.rg_farkas.specs.View.{counted_of, pair_count}
 use Rattle.rg_farkas.proofs.counts.row_counts.Given as goal

@@ -7,7 +7,7 @@ use Rattle.rg_reasons.specs.Trees.{named_row}
 use Rattle.rg_folds.specs.Fold.{ratio_of}
 use Rattle.rg_folds.specs.Rewriting.{scaled_fold}
 use Rattle.rg_folds.specs.Spreading.{chord_arcs, tree_fold, checked_leaf}
-use Rattle.rg_expressions.specs.View.{side_of}
+use Rattle.rg_reasons.specs.Sums.{side_of}
 use Rattle.rg_farkas.specs.Leaves.{share_of}
 use Rattle.rg_scaling.specs.View.{scaled_of}
 use Rattle.rg_farkas.specs.View.{counted_of, named_of, arc_times}
@@ -41,8 +41,8 @@ returns-in_err-scaled-clause-wide c = λ w e.
 pub numbered-requires : goal.numbered-requires
 numbered-requires c = numbered_length c.args.named.now c.args.lts.now c.args.tree.now.arcs (cycle_of c.args.basis.now) c.deref-2.result.now c.in_ok-used.used.items c.in_ok-shares.shares.items c.deref-3.result.now c.in_ok-fractions.fractions.items c.deref-4.result.now c.in_ok-scaled.scaled.numbers.items c.deref-7.result.now c.in_ok-chords.chords.items c.deref-6.result.now (shares_length c.args.lts.now (cycle_of c.args.basis.now) (map counted_of c.deref.result.now) c.deref-2.result.now c.in_ok-shares.shares.items c.in_ok-shares.ensures.value) c.deref-2.ensures.value c.in_ok-used.ensures c.deref-3.ensures.value c.in_ok-fractions.ensures c.deref-4.ensures.value c.in_ok-scaled.ensures.one_each c.deref-7.ensures.value c.in_ok-chords.ensures c.deref-6.ensures.value
 
-pub with_expressions-requires-clause-in_range : goal.with_expressions-requires-clause-in_range
-with_expressions-requires-clause-in_range c = listed_range c.args.lts.now c.args.tree.now.arcs (cycle_of c.args.basis.now) c.args.named.now c.in_ok-scaled.scaled.numbers.items c.in_ok-listed.listed.items c.deref-8.result.now c.deref-8.ensures.value (listed_are c.args.lts.now c.args.tree.now.arcs (cycle_of c.args.basis.now) c.args.named.now c.in_ok-chords.chords.items c.deref-6.result.now c.in_ok-scaled.scaled.numbers.items c.deref-7.result.now c.in_ok-listed.listed.items c.deref-6.ensures.value c.in_ok-chords.ensures c.deref-7.ensures.value c.in_ok-listed.ensures) c.in_ok-scaled.scaled.numbers_in_range
+pub with_expressions-requires : goal.with_expressions-requires
+with_expressions-requires c = listed_range c.args.lts.now c.args.tree.now.arcs (cycle_of c.args.basis.now) c.args.named.now c.in_ok-scaled.scaled.numbers.items c.in_ok-listed.listed.items c.deref-8.result.now c.deref-8.ensures.value (listed_are c.args.lts.now c.args.tree.now.arcs (cycle_of c.args.basis.now) c.args.named.now c.in_ok-chords.chords.items c.deref-6.result.now c.in_ok-scaled.scaled.numbers.items c.deref-7.result.now c.in_ok-listed.listed.items c.deref-6.ensures.value c.in_ok-chords.ensures c.deref-7.ensures.value c.in_ok-listed.ensures) c.in_ok-scaled.scaled.numbers_in_range
 
 pub returns-in_err-multipliers-clause-wide : goal.returns-in_err-multipliers-clause-wide
 returns-in_err-multipliers-clause-wide c = λ w e.
@@ -53,8 +53,8 @@ returns-in_err-multipliers-clause-wide c = λ w e.
 pub push_arcs-requires : goal.push_arcs-requires
 push_arcs-requires c = enough_parts c.args.named.now c.arcs.result.now c.arcs-2.result.now c.in_ok-arcs.arcs.items c.deref-14.result.now c.in_ok-chords.chords.items c.deref-13.result.now c.deref-6.result.now c.in_ok-scaled.scaled.numbers.items c.deref-10.result.now c.deref-7.result.now c.in_ok-multipliers.multipliers.items c.deref-11.result.now c.in_ok-parts.parts.items c.deref-15.result.now (numbered_length c.args.named.now c.args.lts.now c.args.tree.now.arcs (cycle_of c.args.basis.now) c.deref-2.result.now c.in_ok-used.used.items c.in_ok-shares.shares.items c.deref-3.result.now c.in_ok-fractions.fractions.items c.deref-4.result.now c.in_ok-scaled.scaled.numbers.items c.deref-7.result.now c.in_ok-chords.chords.items c.deref-6.result.now (shares_length c.args.lts.now (cycle_of c.args.basis.now) (map counted_of c.deref.result.now) c.deref-2.result.now c.in_ok-shares.shares.items c.in_ok-shares.ensures.value) c.deref-2.ensures.value c.in_ok-used.ensures c.deref-3.ensures.value c.in_ok-fractions.ensures c.deref-4.ensures.value c.in_ok-scaled.ensures.one_each c.deref-7.ensures.value c.in_ok-chords.ensures c.deref-6.ensures.value) c.deref-7.ensures.value c.deref-6.ensures.value c.deref-10.ensures.value c.deref-11.ensures.value c.in_ok-multipliers.ensures.one_each (c.arcs.ensures ∙ sym c.arcs-2.ensures) c.in_ok-parts.ensures.parts c.deref-13.ensures.value c.in_ok-arcs.ensures c.deref-14.ensures.value c.deref-15.ensures.value
 
-pub with_expressions-requires-2-clause-in_range : goal.with_expressions-requires-2-clause-in_range
-with_expressions-requires-2-clause-in_range c = subst (All (λ r. InRange r.1)) (sym c.deref-16.ensures.value) (leaf_range c.args.lts.now c.args.tree.now.arcs (cycle_of c.args.basis.now) c.args.named.now (chord_arcs c.args.lts.now c.args.tree.now.arcs (cycle_of c.args.basis.now) ++ map (λ x. x.arc) (arc_times c.args.tree.now.arcs c.in_ok-multipliers.multipliers.items)) c.in_ok-parts.parts.items c.in_ok-parts.parts.items c.push_arcs.new.rows.items (leaf_is c.args.lts.now c.args.tree.now.arcs (cycle_of c.args.basis.now) c.args.named.now c.arcs.result.now c.arcs-2.result.now c.in_ok-arcs.arcs.items c.deref-14.result.now c.in_ok-chords.chords.items c.deref-13.result.now c.arcs-system.result.now c.in_ok-multipliers.multipliers.items c.in_ok-parts.parts.items c.deref-12.result.now c.deref-15.result.now c.in_ok-leaf.leaf.items c.push_arcs.new.rows.items c.arcs.ensures c.arcs-2.ensures c.in_ok-multipliers.ensures.one_each c.deref-13.ensures.value c.in_ok-chords.ensures c.in_ok-arcs.ensures c.deref-14.ensures.value c.arcs-system.ensures.value c.deref-12.ensures.value c.deref-15.ensures.value c.in_ok-leaf.ensures c.in_ok-push_arcs.ensures) c.in_ok-parts.ensures.in_range)
+pub with_expressions-requires-2 : goal.with_expressions-requires-2
+with_expressions-requires-2 c = subst (All (λ r. InRange r.1)) (sym c.deref-16.ensures.value) (leaf_range c.args.lts.now c.args.tree.now.arcs (cycle_of c.args.basis.now) c.args.named.now (chord_arcs c.args.lts.now c.args.tree.now.arcs (cycle_of c.args.basis.now) ++ map (λ x. x.arc) (arc_times c.args.tree.now.arcs c.in_ok-multipliers.multipliers.items)) c.in_ok-parts.parts.items c.in_ok-parts.parts.items c.push_arcs.new.rows.items (leaf_is c.args.lts.now c.args.tree.now.arcs (cycle_of c.args.basis.now) c.args.named.now c.arcs.result.now c.arcs-2.result.now c.in_ok-arcs.arcs.items c.deref-14.result.now c.in_ok-chords.chords.items c.deref-13.result.now c.arcs-system.result.now c.in_ok-multipliers.multipliers.items c.in_ok-parts.parts.items c.deref-12.result.now c.deref-15.result.now c.in_ok-leaf.leaf.items c.push_arcs.new.rows.items c.arcs.ensures c.arcs-2.ensures c.in_ok-multipliers.ensures.one_each c.deref-13.ensures.value c.in_ok-chords.ensures c.in_ok-arcs.ensures c.deref-14.ensures.value c.arcs-system.ensures.value c.deref-12.ensures.value c.deref-15.ensures.value c.in_ok-leaf.ensures c.in_ok-push_arcs.ensures) c.in_ok-parts.ensures.in_range)
 
 pub returns-in_err-check_sizes-clause-wide : goal.returns-in_err-check_sizes-clause-wide
 returns-in_err-check_sizes-clause-wide c = λ w e.

@@ -2,14 +2,11 @@ use Rattle.std.proofs.Common.{map}
 use Rattle.rg_refuting.specs.Row.{RowStands, row_expression}
 use Rattle.rg_cycles.specs.View.{cycle_of}
 use Rattle.rg_reasons.specs.Trees.{named_row}
-use Rattle.rg_expressions.specs.View.{side_of}
+use Rattle.rg_reasons.specs.Sums.{side_of}
 use Rattle.rg_farkas.specs.Leaves.{share_of}
-use Rattle.rg_farkas.proofs.Asked.{rows_within, has_label, says_arcs, arcs_stand, leaf_names, all_rows, row_numbers, bottoms}
+use Rattle.rg_farkas.proofs.Asked.{rows_within, says_arcs, arcs_stand, leaf_names, all_rows, row_numbers, bottoms}
 use Rattle.rg_farkas.proofs.Refutes.{leaf_refutes}
 use Rattle.rg_farkas.proofs.leaf.spread.Goals as goal
-
-pub leaf_rows-requires-clause-consumer : goal.leaf_rows-requires-clause-consumer
-leaf_rows-requires-clause-consumer c = has_label c.args.lts.now c.args.class c.args.problem c.args.case c.requires.asked c.requires.case
 
 pub leaf_rows-requires-clause-within : goal.leaf_rows-requires-clause-within
 leaf_rows-requires-clause-within c = rows_within c.args.lts.now c.args.class (map side_of c.args.above.now) c.requires.sides c.args.problem c.args.case c.requires.asked (map share_of c.args.named.now) c.requires.names

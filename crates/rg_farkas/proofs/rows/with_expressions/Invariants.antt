@@ -1,7 +1,7 @@
 use Rattle.std.proofs.Common.{◌≡◌, ◌++◌, map, drop, All}
 use Rattle.rg_refuting.specs.Row.{row_expression}
 use Rattle.rg_reasons.specs.Trees.{named_row}
-use Rattle.rg_expressions.specs.View.{side_of}
+use Rattle.rg_reasons.specs.Sums.{side_of}
 use Rattle.rg_farkas.specs.View.{named_of, Tells}
 use Rattle.rg_farkas.proofs.rows.with_expressions.Given as goal
 

@@ -1,7 +1,7 @@
 use Rattle.std.proofs.Common.{rules, ◌≡◌, ◌∙◌, ◌++◌, ◌∷◌, [], Err, map, ap}
 use Rattle.std.specs.Prelude.{pos}
-use Rattle.rg_reasons.specs.Trees.{variable_of}
-use Rattle.rg_reasons.specs.declared.certificate.Form.TheVariants.{Tokens}
+use Rattle.rg_reasons.specs.Sums.{variable_of}
+use Rattle.rg_reasons.specs.declared.variable.Variable.TheVariants.{Tokens}
 use Rattle.rg_cycles.specs.declared.substitution.FoldStop.TheVariants as stop
 use Rattle.rg_cycles.proofs.Folding.{each_start}
 use Rattle.rg_folds.specs.Fold.{further, whole_sum}

@@ -1,8 +1,7 @@
 use Rattle.std.proofs.Common.{rules, map, ◌≡◌, Err, ap, ◌∙◌}
 use Rattle.std.specs.Int.{w128, cast_signed}
 use Rattle.rg_integers.proofs.Casts.{back}
-use Rattle.rg_reasons.specs.Trees.{variable_of}
-use Rattle.rg_expressions.specs.View.{term_of}
+use Rattle.rg_reasons.specs.Sums.{variable_of}
 use Rattle.rg_farkas.specs.View.{coefficient_at}
 use Rattle.rg_refuting.specs.Expression.{coefficient_in}
 use Rattle.rg_farkas.proofs.RowSteps.{size_unmade, size_unjoined, size_next, size_ends}
@@ -12,7 +11,7 @@ pub returns-in_err-size : goal.returns-in_err-size
 returns-in_err-size c =
     let same : c.from_residual.result ≡ Err c.in_err-size.field-0.0 = search rules in
     let m = back c.row-item.result.multiplier c.row-item.result.multiplier_in_range in
-    let k = back c.coefficient-number.result c.coefficient-number.ensures.in_range ∙ c.coefficient-number.ensures.value ∙ ap (λ l. coefficient_in (map term_of l) (variable_of c.args.variable)) c.deref.ensures.value in
+    let k = back c.coefficient-number.result c.coefficient-number.ensures.in_range ∙ c.coefficient-number.ensures.value in
     let made = rw (m, k) at c.in_err-size.ensures.value in
     rw same (size_unmade (coefficient_at (variable_of c.args.variable)) c.args.rows.now c.loop-row.row-index c.row-item.result c.loop-row-test.true c.row-item.is (cast_signed w128 c.loop-row.sum-bits) c.loop-row.invariant.so_far c.in_err-size.field-0.0 made)
 
@@ -20,7 +19,7 @@ pub returns-in_err-sum : goal.returns-in_err-sum
 returns-in_err-sum c =
     let same : c.from_residual-in_err-sum.result ≡ Err c.in_err-sum.field-0.0 = search rules in
     let m = back c.row-item.result.multiplier c.row-item.result.multiplier_in_range in
-    let k = back c.coefficient-number.result c.coefficient-number.ensures.in_range ∙ c.coefficient-number.ensures.value ∙ ap (λ l. coefficient_in (map term_of l) (variable_of c.args.variable)) c.deref.ensures.value in
+    let k = back c.coefficient-number.result c.coefficient-number.ensures.in_range ∙ c.coefficient-number.ensures.value in
     let made = rw (m, k) at c.in_ok-size.ensures.value in
     let joins = rw (back c.in_ok-size.size c.in_ok-size.ensures.in_range) at c.in_err-sum.ensures.value in
     rw same (size_unjoined (coefficient_at (variable_of c.args.variable)) c.args.rows.now c.loop-row.row-index c.row-item.result c.loop-row-test.true c.row-item.is (cast_signed w128 c.loop-row.sum-bits) c.loop-row.invariant.so_far c.in_ok-size.size c.in_err-sum.field-0.0 made joins)
@@ -28,7 +27,7 @@ returns-in_err-sum c =
 pub loop-row-preserved : goal.loop-row-preserved
 loop-row-preserved c =
     let m = back c.row-item.result.multiplier c.row-item.result.multiplier_in_range in
-    let k = back c.coefficient-number.result c.coefficient-number.ensures.in_range ∙ c.coefficient-number.ensures.value ∙ ap (λ l. coefficient_in (map term_of l) (variable_of c.args.variable)) c.deref.ensures.value in
+    let k = back c.coefficient-number.result c.coefficient-number.ensures.in_range ∙ c.coefficient-number.ensures.value in
     let made = rw (m, k) at c.in_ok-size.ensures.value in
     let joins = rw (back c.in_ok-size.size c.in_ok-size.ensures.in_range) at c.in_ok-sum.ensures.value in
     rw (back c.in_ok-sum.sum c.in_ok-sum.ensures.in_range) (record {

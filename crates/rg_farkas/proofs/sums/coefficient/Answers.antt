@@ -1,25 +1,42 @@
-use Rattle.std.proofs.Common.{◌+◌, ap, refl, arith}
-use Rattle.std.specs.Prelude.{◌+ℤ◌, slice_index_or}
-use Rattle.rg_expressions.specs.declared.term.Term.TheVariants.{Plus}
-use Rattle.rg_reasons.specs.declared.certificate.Form.TheVariants.{Tokens}
+use Rattle.std.proofs.Common.{◌+◌, refl, ap, ◌∙◌, arith}
+use Rattle.std.specs.Prelude.{◌+ℤ◌}
 use Rattle.std.specs.Int.{w128, cast_signed}
 use Rattle.std.proofs.lemmas.Int.{ints}
 use Rattle.rg_integers.proofs.Casts.{back}
-use Rattle.rg_reasons.specs.Trees.{variable_of}
-use Rattle.rg_expressions.proofs.Counting.{in_range_between, coefficient_next}
+use Rattle.rg_refuting.specs.Expression.{coefficient_in}
+use Rattle.rg_reasons.specs.Sums.{variable_of}
+use Rattle.rg_expressions.proofs.Counting.{in_range_between, coefficient_next, nothing_next, whole_sum}
 use Rattle.rg_farkas.proofs.sums.coefficient.Goals as goal
+use Rattle.rg_farkas.proofs.sums.coefficient.Goals.{in-Some, in_default}
 
-pub loop-term-preserved : goal.loop-term-preserved
-loop-term-preserved c =
-    let sum = cast_signed w128 c.loop-term.sum-bits in
-    let r = c.coefficient_of-sum.result in
-    let low = c.coefficient_of-sum.ensures.low in
-    let high = c.coefficient_of-sum.ensures.high in
-    let few = c.requires in
-    let n = back r (in_range_between r 1 (omega arith) low high) in
-    let s = back (sum +ℤ r) (in_range_between (sum +ℤ r) (c.loop-term.term-index + 1) (omega arith) (omega (arith, ints)) (omega (arith, ints))) in
-    rw (n, s) (record {
-      total = coefficient_next c.args.terms.now c.loop-term.term-index (Plus (Tokens 0)) (slice_index_or c.args.terms.now c.loop-term.term-index (Plus (Tokens 0))) c.loop-term-test.true refl (variable_of c.args.form) sum (sum +ℤ r) _ (ap (λ z. sum +ℤ z) c.coefficient_of-sum.ensures.value) c.loop-term.invariant.total;
-      low = omega (arith, ints);
-      high = omega (arith, ints);
-    })
+pub loop-place-preserved : goal.loop-place-preserved
+loop-place-preserved c =
+    let sum = cast_signed w128 c.loop-place.sum-bits in
+    let v = variable_of c.args.variable in
+    elim c.match-place.branch [
+      | in-Some w ↦
+          let r = w.coefficient_of-sum.result in
+          let low = w.coefficient_of-sum.ensures.low in
+          let high = w.coefficient_of-sum.ensures.high in
+          let n = back r (in_range_between r 1 (omega arith) low high) in
+          let s = back (sum +ℤ r) (in_range_between (sum +ℤ r) (c.loop-place.place-index + 1) (omega arith) (omega (arith, ints)) (omega (arith, ints))) in
+          let e = rw (n, s) at w.sum-is in
+          record {
+            total = coefficient_next c.args.expression.now.terms c.loop-place.place-index w.in-Some.term w.in-Some.is v sum _ _ (e ∙ ap (λ z. sum +ℤ z) w.coefficient_of-sum.ensures.value) c.loop-place.invariant.total;
+            low = omega (arith, ints, e);
+            high = omega (arith, ints, e);
+          }
+      | in_default w ↦
+          let e = w.sum-is in
+          record {
+            total = nothing_next c.args.expression.now.terms c.loop-place.place-index (λ ts. coefficient_in ts v) sum _ _ e w.in_default.is c.loop-place.invariant.total;
+            low = let h = c.loop-place.invariant.low in omega (arith, ints, e);
+            high = let h = c.loop-place.invariant.high in omega (arith, ints, e);
+          }
+    ]
+
+pub returns-clause-value : goal.returns-clause-value
+returns-clause-value c =
+    let places = c.args.expression.now.places in
+    let past = c.loop-place-test.false in
+    whole_sum c.args.expression.now.terms c.loop-place.place-index (λ ts. coefficient_in ts (variable_of c.args.variable)) _ _ refl (omega arith) c.loop-place.invariant.total

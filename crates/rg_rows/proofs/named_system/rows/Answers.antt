@@ -7,7 +7,7 @@ use Rattle.rg_reasons.specs.Trees.{row_name_of}
 use Rattle.rg_cycles.specs.declared.substitution.FoldStop.TheVariants as stop
 use Rattle.rg_cycles.specs.View.{cycle_of}
 use Rattle.rg_rows.specs.declared.named_row.NamedRow.{NamedRow}
-use Rattle.rg_expressions.specs.View.{expression_of}
+use Rattle.rg_reasons.specs.Sums.{expression_of}
 use Rattle.rg_rows.specs.View.{kept_row, fold_of}
 use Rattle.rg_scaling.proofs.Items.{map_push}
 use Rattle.rg_rows.proofs.Terms.{name_within}
@@ -16,13 +16,13 @@ use Rattle.rg_rows.proofs.Making.{fold_told}
 use Rattle.rg_rows.proofs.named_system.rows.Goals as goal
 
 pub row-requires-clause-within : goal.row-requires-clause-within
-row-requires-clause-within c = name_within c.args.lts.now c.args.case.class c.args.case.problem c.args.case.number c.args.names.now c.loop-name.name-index _ _ c.args.tree.now.states c.requires.names c.loop-name-test.true (ap (λ e. e.terms) c.in_ok-expression.ensures) c.requires.tree.states
+row-requires-clause-within c = name_within c.args.lts.now c.args.case.class c.args.case.problem c.args.case.number c.args.names.now c.loop-name.name-index _ _ c.args.tree.now.states c.requires.names c.loop-name-test.true (ap (λ e. e.terms) c.expression-expression.ensures) c.requires.tree.states
 
 pub returns-in_err-row-clause-wide : goal.returns-in_err-row-clause-wide
 returns-in_err-row-clause-wide c = λ w e.
-    let result : c.from_residual-in_err-row.result ≡ Err c.in_err-row.field-0.0 = search rules in
+    let result : c.from_residual.result ≡ Err c.in_err-row.field-0.0 = search rules in
     let is : c.in_err-row.field-0.0 ≡ stop.Wide w = cc in
-    let made = fold_told c.args.lts.now c.args.tree.now.arcs (cycle_of c.args.basis.now) c.args.case.class c.args.case.problem c.args.case.number c.args.names.now c.loop-name.name-index _ (expression_of c.in_ok-expression.expression) c.loop-name-test.true c.in_ok-expression.ensures (Err w) (c.in_err-row.ensures.wide w (ap (λ x. Err x) is) c.args.lts.now c.args.case.class (sym c.requires.labels) c.requires.columns) in
+    let made = fold_told c.args.lts.now c.args.tree.now.arcs (cycle_of c.args.basis.now) c.args.case.class c.args.case.problem c.args.case.number c.args.names.now c.loop-name.name-index _ (expression_of c.expression-expression.result) c.loop-name-test.true c.expression-expression.ensures (Err w) (c.in_err-row.ensures.wide w (ap (λ x. Err x) is) c.args.lts.now c.args.case.class (sym c.requires.labels) c.requires.columns) in
     item_fails (fold_of c.args.lts.now c.args.tree.now.arcs (cycle_of c.args.basis.now) c.args.case.class c.args.case.problem c.args.case.number) (map row_name_of c.args.names.now) c.loop-name.name-index _ (map kept_row c.loop-name.rows.items) c.loop-name.invariant.so_far (simp length-map c.loop-name-test.true) w made
 
 pub loop-name-preserved : goal.loop-name-preserved
@@ -31,7 +31,7 @@ loop-name-preserved c =
     let row = c.in_ok-row.field-0 in
     let lengths = λ (r : NamedRow). length r.coeffs.items ≡ column_count c.args.lts.now (cycle_of c.args.basis.now) c.args.case.class in
     let same = sym c.requires.labels in
-    let made = fold_told c.args.lts.now c.args.tree.now.arcs (cycle_of c.args.basis.now) c.args.case.class c.args.case.problem c.args.case.number c.args.names.now c.loop-name.name-index _ (expression_of c.in_ok-expression.expression) c.loop-name-test.true c.in_ok-expression.ensures (Ok (kept_row row)) (c.in_ok-row.ensures.value c.args.lts.now c.args.case.class same c.requires.columns) in
+    let made = fold_told c.args.lts.now c.args.tree.now.arcs (cycle_of c.args.basis.now) c.args.case.class c.args.case.problem c.args.case.number c.args.names.now c.loop-name.name-index _ (expression_of c.expression-expression.result) c.loop-name-test.true c.expression-expression.ensures (Ok (kept_row row)) (c.in_ok-row.ensures.value c.args.lts.now c.args.case.class same c.requires.columns) in
     record {
       so_far = rw (map_push kept_row rows c.push.new.self.items row c.in_ok-push.ensures.items) (item_next (fold_of c.args.lts.now c.args.tree.now.arcs (cycle_of c.args.basis.now) c.args.case.class c.args.case.problem c.args.case.number) (map row_name_of c.args.names.now) c.loop-name.name-index _ (map kept_row rows) c.loop-name.invariant.so_far (simp length-map c.loop-name-test.true) (kept_row row) made);
       one_each = subst (All lengths) (sym c.in_ok-push.ensures.items) (All-append lengths rows (row ∷ []) c.loop-name.invariant.one_each (All-cons lengths row [] (c.in_ok-row.ensures.one_each c.args.lts.now c.args.case.class same c.requires.columns) (All-nil lengths)));

@@ -7,7 +7,7 @@ use Rattle.rg_folds.specs.Fold.{ratio_of}
 use Rattle.rg_folds.specs.Rewriting.{free_labels, columns_of, scaled_fold, coefficient_fold}
 use Rattle.rg_cycles.specs.declared.substitution.FoldStop.TheVariants as stop
 use Rattle.rg_cycles.specs.View.{labels_of, cycle_of}
-use Rattle.rg_expressions.specs.View.{term_of}
+use Rattle.rg_reasons.specs.Sums.{terms_in}
 use Rattle.rg_scaling.specs.View.{scaled_of}
 use Rattle.rg_scaling.proofs.Items.{each_length}
 use Rattle.rg_rows.proofs.Making.{if_ok_more, columns_unsubstituted, columns_scaled, columns_many}
@@ -19,7 +19,7 @@ returns-in_err-free-clause-wide c = λ w e lts class same are.
     let is : c.in_err-free.field-0.0 ≡ stop.Wide w = cc in
     let n = labels_of c.args.basis.now in
     let cycle = cycle_of c.args.basis.now in
-    let terms = map term_of c.args.terms.now in
+    let terms = terms_in c.args.expression.now.terms in
     let read : vec_len c.args.columns.now.used ≡ length c.args.columns.now.used.items = omega arith in
     let size : c.len-labels.result ≡ n = c.len-labels.ensures ∙ read ∙ c.requires.columns in
     columns_unsubstituted lts c.args.tree.now.arcs cycle class terms n same (number_at c.deref.result.now) (λ t lt. ap (λ l. number_at l t) c.deref.ensures.value ∙ c.in_ok-counts.ensures.counts t (subst (λ m. t < m) (sym size) lt)) w (c.in_err-free.ensures.wide w (ap (λ x. Err x) is))
@@ -31,7 +31,7 @@ pub returns-clause-value : goal.returns-clause-value
 returns-clause-value c =
     let n = labels_of c.args.basis.now in
     let cycle = cycle_of c.args.basis.now in
-    let terms = map term_of c.args.terms.now in
+    let terms = terms_in c.args.expression.now.terms in
     let free = map ratio_of c.in_ok-free.free.coeffs.items in
     let read : vec_len c.args.columns.now.used ≡ length c.args.columns.now.used.items = omega arith in
     let size : c.len-labels.result ≡ n = c.len-labels.ensures ∙ read ∙ c.requires.columns in
@@ -43,7 +43,7 @@ pub returns-clause-one_each : goal.returns-clause-one_each
 returns-clause-one_each c =
     let n = labels_of c.args.basis.now in
     let cycle = cycle_of c.args.basis.now in
-    let terms = map term_of c.args.terms.now in
+    let terms = terms_in c.args.expression.now.terms in
     let free = map ratio_of c.in_ok-free.free.coeffs.items in
     let read : vec_len c.args.columns.now.used ≡ length c.args.columns.now.used.items = omega arith in
     let size : c.len-labels.result ≡ n = c.len-labels.ensures ∙ read ∙ c.requires.columns in
@@ -55,7 +55,7 @@ pub returns-clause-wide : goal.returns-clause-wide
 returns-clause-wide c = λ w e lts class same are.
     let n = labels_of c.args.basis.now in
     let cycle = cycle_of c.args.basis.now in
-    let terms = map term_of c.args.terms.now in
+    let terms = terms_in c.args.expression.now.terms in
     let free = map ratio_of c.in_ok-free.free.coeffs.items in
     let read : vec_len c.args.columns.now.used ≡ length c.args.columns.now.used.items = omega arith in
     let size : c.len-labels.result ≡ n = c.len-labels.ensures ∙ read ∙ c.requires.columns in

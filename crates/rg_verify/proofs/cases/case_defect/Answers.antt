@@ -8,8 +8,9 @@ use Rattle.rg_reasons.specs.declared.certificate.Node.{Node}
 use Rattle.rg_reasons.specs.Certificates.{case_tree, IsNodeOf}
 use Rattle.rg_reasons.specs.Trees.{TreeNode, TreeNode.leaf_node, named_row, node_of, nodes_of}
 use Rattle.rg_reasons.specs.Trees as cert
-use Rattle.rg_verify.specs.declared.side.Side.{Side}
-use Rattle.rg_verify.specs.Sides.{side_of, sides_of}
+use Rattle.rg_reasons.specs.declared.side.Side.{Side}
+use Rattle.rg_verify.specs.Sides.{sides_of}
+use Rattle.rg_reasons.specs.Sums.{side_of}
 use Rattle.rg_verify.proofs.Walking.{IsAtNode, at_first, node_in_range, after_split, after_leaf, found_at, at_last}
 use Rattle.rg_verify.proofs.Places.{drop_image}
 use Rattle.rg_verify.proofs.cases.case_defect.Goals as goal
@@ -19,8 +20,8 @@ pub loop-node-init : goal.loop-node-init
 loop-node-init c = record {
   items = c.deref-content-items.ensures.value;
   clear = c.requires.clear;
-  at_node = subst (λ (sides : List Side). IsAtNode c.args.lts.now c.args.setting.now.class c.args.setting.now.problem c.args.setting.now.number (case_tree c.args.case.now) (nodes_of c.args.case.now) 0 (sides_of sides)) (sym c.new-above.ensures.items)
-      (at_first c.args.lts.now c.args.setting.now.class c.args.setting.now.problem c.args.setting.now.number (case_tree c.args.case.now) (nodes_of c.args.case.now) c.requires.whole);
+  at_node = subst (λ (sides : List Side). IsAtNode c.args.lts.now c.args.problem_case.class c.args.problem_case.problem c.args.problem_case.number (case_tree c.args.case.now) (nodes_of c.args.case.now) 0 (sides_of sides)) (sym c.new-above.ensures.items)
+      (at_first c.args.lts.now c.args.problem_case.class c.args.problem_case.problem c.args.problem_case.number (case_tree c.args.case.now) (nodes_of c.args.case.now) c.requires.whole);
 }
 
 pub leaf_defect-requires-clause-rows : goal.leaf_defect-requires-clause-rows
@@ -39,7 +40,7 @@ returns-in-Some-clause-judged c =
     let is = ap node_of c.in-Leaf.is ∙ ap (λ rows. leaf_node (map named_row rows)) (sym c.deref-in-Leaf.ensures.value) in
     let rest = drop_image node_of c.args.case.now.nodes.items c.loop-node.node c.content-item.result lt at ∙ ap (λ (n : TreeNode). n ∷ drop (c.loop-node.node + 1) (nodes_of c.args.case.now)) is in
     let judged = rw (c.in-Some.is, c.deref.ensures.value) at c.in_ok-defect-in-Leaf.ensures.judged in
-    found_at c.args.lts.now c.args.setting.now.class c.args.setting.now.problem c.args.setting.now.number (case_tree c.args.case.now) (nodes_of c.args.case.now) c.loop-node.node (sides_of c.loop-node.above.items) c.loop-node.invariant.at_node
+    found_at c.args.lts.now c.args.problem_case.class c.args.problem_case.problem c.args.problem_case.number (case_tree c.args.case.now) (nodes_of c.args.case.now) c.loop-node.node (sides_of c.loop-node.above.items) c.loop-node.invariant.at_node
     (map named_row c.deref-in-Leaf.result.now) c.in-Some.defect rest judged
 
 pub loop-node-preserved : goal.loop-node-preserved
@@ -49,7 +50,7 @@ loop-node-preserved c =
     let at = c.content-item.is ∙ ap (λ (xs : List Node). get_or xs c.loop-node.node c.content-item.result) items in
     let rest = drop_image node_of c.args.case.now.nodes.items c.loop-node.node c.content-item.result lt at in
     let good = node_in_range c.args.lts.now c.args.case.now c.loop-node.node c.content-item.result c.requires.whole c.requires.in_range lt at in
-    let at_next = λ (sides : List row.Side). IsAtNode c.args.lts.now c.args.setting.now.class c.args.setting.now.problem c.args.setting.now.number (case_tree c.args.case.now) (nodes_of c.args.case.now) (c.loop-node.node + 1) sides in
+    let at_next = λ (sides : List row.Side). IsAtNode c.args.lts.now c.args.problem_case.class c.args.problem_case.problem c.args.problem_case.number (case_tree c.args.case.now) (nodes_of c.args.case.now) (c.loop-node.node + 1) sides in
     elim c.match-content.branch [
       | in-Split+in_ok-push-in-Split w ↦
           let is = ap node_of w.in-Split.is in
@@ -60,8 +61,8 @@ loop-node-preserved c =
           rw (w.sums-is, w.above-is) (record {
             items = items;
             clear = c.loop-node.invariant.clear;
-            at_node = subst at_next (sym sides) (after_split c.args.lts.now c.args.setting.now.class c.args.setting.now.problem c.args.setting.now.number (case_tree c.args.case.now) (nodes_of c.args.case.now) c.loop-node.node (sides_of c.loop-node.above.items)
-                c.loop-node.invariant.at_node (cert.variable_of w.in-Split.form) w.in-Split.at (rest ∙ ap (λ (n : TreeNode). n ∷ drop (c.loop-node.node + 1) (nodes_of c.args.case.now)) is) range);
+            at_node = subst at_next (sym sides) (after_split c.args.lts.now c.args.problem_case.class c.args.problem_case.problem c.args.problem_case.number (case_tree c.args.case.now) (nodes_of c.args.case.now) c.loop-node.node (sides_of c.loop-node.above.items)
+                c.loop-node.invariant.at_node (cert.form_of w.in-Split.form) w.in-Split.at (rest ∙ ap (λ (n : TreeNode). n ∷ drop (c.loop-node.node + 1) (nodes_of c.args.case.now)) is) range);
           })
       | in-Leaf+in_ok-defect-in-Leaf+in_default w ↦
           let is = ap node_of w.in-Leaf.is ∙ ap (λ rows. leaf_node (map named_row rows)) (sym w.deref-in-Leaf.ensures.value) in
@@ -69,7 +70,7 @@ loop-node-preserved c =
           rw (w.sums-is, w.above-is) (record {
             items = items;
             clear = w.in_ok-defect-in-Leaf.ensures.clear;
-            at_node = subst at_next (sym w.turn.ensures) (after_leaf c.args.lts.now c.args.setting.now.class c.args.setting.now.problem c.args.setting.now.number (case_tree c.args.case.now) (nodes_of c.args.case.now) c.loop-node.node (sides_of c.loop-node.above.items)
+            at_node = subst at_next (sym w.turn.ensures) (after_leaf c.args.lts.now c.args.problem_case.class c.args.problem_case.problem c.args.problem_case.number (case_tree c.args.case.now) (nodes_of c.args.case.now) c.loop-node.node (sides_of c.loop-node.above.items)
                 c.loop-node.invariant.at_node (map named_row w.deref-in-Leaf.result.now) (rest ∙ ap (λ (n : TreeNode). n ∷ drop (c.loop-node.node + 1) (nodes_of c.args.case.now)) is) refutes);
           })
     ]
@@ -77,5 +78,5 @@ loop-node-preserved c =
 pub returns-clause-judged : goal.returns-clause-judged
 returns-clause-judged c =
     let past = subst (λ (xs : List Node). length xs ≤ c.loop-node.node) c.loop-node.invariant.items c.loop-node-test.false in
-    at_last c.args.lts.now c.args.setting.now.class c.args.setting.now.problem c.args.setting.now.number (case_tree c.args.case.now) (nodes_of c.args.case.now) c.loop-node.node (sides_of c.loop-node.above.items) c.loop-node.invariant.at_node
+    at_last c.args.lts.now c.args.problem_case.class c.args.problem_case.problem c.args.problem_case.number (case_tree c.args.case.now) (nodes_of c.args.case.now) c.loop-node.node (sides_of c.loop-node.above.items) c.loop-node.invariant.at_node
     (drop_of_length-le (nodes_of c.args.case.now) (rw length-map past))

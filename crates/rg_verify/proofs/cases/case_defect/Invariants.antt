@@ -10,5 +10,5 @@ abbrev pub invariant-loop-node : goal.invariant-loop-node
 invariant-loop-node l = record {
   items : l.content-items ≡ l.case.nodes.items;
   clear : IsClear l.lts l.sums;
-  at_node : IsAtNode l.lts l.setting.class l.setting.problem l.setting.number (case_tree l.case) (nodes_of l.case) l.node (sides_of l.above.items);
+  at_node : IsAtNode l.lts l.problem_case.class l.problem_case.problem l.problem_case.number (case_tree l.case) (nodes_of l.case) l.node (sides_of l.above.items);
 }

@@ -8,7 +8,7 @@ use Rattle.rg_verify.proofs.leaves.leaf_defect.Goals.{in-Ok, in-Err-Passes}
 pub returns-clause-judged : goal.returns-clause-judged
 returns-clause-judged c =
     let lts = c.args.lts.now in
-    let setting = c.args.setting.now in
+    let setting = c.args.problem_case in
     let above = c.args.above.now in
     elim c.match-add_rows.branch [
       | in-Ok w ↦ rw w.defect-is (leaf_judged lts (StandsIn lts setting above) (expression_in lts setting above) (map named_row c.args.rows.now) c.add_rows.new.self

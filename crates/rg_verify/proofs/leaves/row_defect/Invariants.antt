@@ -5,4 +5,4 @@ use Rattle.rg_verify.specs.Settings.{StandsIn}
 use Rattle.rg_verify.proofs.leaves.row_defect.Given as goal
 
 abbrev pub invariant-loop-name : goal.invariant-loop-name
-invariant-loop-name l = All (IsRight (StandsIn l.lts l.setting l.above)) (map named_row (take l.name-index l.rows))
+invariant-loop-name l = All (IsRight (StandsIn l.lts l.problem_case l.above)) (map named_row (take l.name-index l.rows))

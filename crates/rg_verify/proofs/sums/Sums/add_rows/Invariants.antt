@@ -7,5 +7,5 @@ use Rattle.rg_verify.proofs.sums.Sums.add_rows.Given as goal
 abbrev pub invariant-loop-name : goal.invariant-loop-name
 invariant-loop-name l = record {
   table : IsTableOf l.lts l.self;
-  sums : AreSumsOf (expression_in l.lts l.setting l.above) (map named_row (take l.name-index l.rows)) l.self;
+  sums : AreSumsOf (expression_in l.lts l.problem_case l.above) (map named_row (take l.name-index l.rows)) l.self;
 }

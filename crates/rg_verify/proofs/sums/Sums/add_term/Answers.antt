@@ -1,8 +1,7 @@
 use Rattle.std.proofs.Common.{Some, sym, ap, ◌∙◌, if◌then◌else◌}
 use Rattle.rg_integers.proofs.Casts.{back}
 use Rattle.rg_refuting.specs.Expression.{Variable, same_variable}
-use Rattle.rg_verify.specs.Judged.{variable_of}
-use Rattle.rg_verify.specs.Terms.{term_of}
+use Rattle.rg_reasons.specs.Sums.{variable_of, term_of}
 use Rattle.rg_verify.specs.Sums.{entry_of}
 use Rattle.rg_verify.proofs.Tables.{tidy_set}
 use Rattle.rg_verify.proofs.Adding.{adds_term}

@@ -1,6 +1,6 @@
 use Rattle.std.proofs.Common.{◌≡◌, [], append-nil, refl, ◌∙◌, sym}
 use Rattle.std.proofs.lemmas.List.{nil_from_length}
-use Rattle.rg_verify.specs.Judged.{variable_of}
+use Rattle.rg_reasons.specs.Sums.{variable_of}
 use Rattle.rg_verify.proofs.Tables.{has_entry, popped_entry, tidy_popped, tidy_same, zero_where_none}
 use Rattle.rg_verify.proofs.sums.Sums.clear.Goals as goal
 

@@ -1,6 +1,6 @@
 use Rattle.std.proofs.Common.{[], ◌∷◌, ◌++◌, take, get_or, sym, subst, ap, ◌∙◌}
 use Rattle.std.proofs.lemmas.List.{take_more, take_all}
-use Rattle.rg_verify.specs.declared.verdict.Variable.TheVariants.{Tokens}
+use Rattle.rg_reasons.specs.declared.variable.Variable.TheVariants.{Tokens}
 use Rattle.rg_verify.specs.Sums.{signed_of}
 use Rattle.rg_verify.proofs.Leftovers.{TellsFirst, tells_zero, tells_left, first_of_all, listed_entry}
 use Rattle.rg_verify.proofs.sums.Sums.left_over.Goals as goal

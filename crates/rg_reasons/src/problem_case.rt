@@ -1,8 +1,6 @@
 //! One case of a separation problem.
-ghost use Rattle.std.specs.Prelude.{◌≡◌, ◌<◌, ◌/◌, ◌%◌, IsTrue};
-ghost use Rattle.rg_theory.specs.System.{labels};
-ghost use Rattle.rg_refuting.specs.Row.{order_of};
-ghost use Rattle.rg_folds.specs.Rewriting.{case_consumer};
+ghost use Rattle.std.specs.Prelude.{◌≡◌};
+ghost use Rattle.rg_refuting.specs.Row.{order_of, case_consumer};
 
 use rg_lts::Lts;
 use rg_theory::{Class, Problem};
@@ -11,7 +9,7 @@ use rg_theory::{Class, Problem};
 /// states has one for each order of their tokens, and in an output-nonbranching class, where each place has one
 /// label that may take tokens from it, one for each order and each such label: the number is the order times the
 /// labels, plus the label (Badouel, Bernardinello and Darondeau, *Petri Net Synthesis*).
-#[derive(Clone, Copy)]
+#[derive(Clone, Copy, Debug, PartialEq, Eq)]
 pub struct ProblemCase {
     pub class: Class,
     pub problem: Problem,
@@ -21,11 +19,10 @@ pub struct ProblemCase {
 impl ProblemCase {
     /// The order of the case: 0 where the first of two states has fewer tokens.
     pub fn order(self, lts: &Lts) -> u32
-        requires { IsTrue self.class.nonbranching → 0 < labels lts.now }
         ensures { result ≡ order_of lts.now self.class self.number }
     {
         if self.class.nonbranching {
-            self.number / lts.labels()
+            self.number.checked_div(lts.labels()).unwrap_or(0)
         } else {
             self.number
         }
@@ -34,12 +31,11 @@ impl ProblemCase {
     /// The label that alone may take tokens, in an output-nonbranching class: the event's, or the one of the
     /// number.
     pub fn consumer(self, lts: &Lts) -> u32
-        requires { 0 < labels lts.now }
         ensures { result ≡ case_consumer lts.now self.problem self.number }
     {
         match self.problem {
             Problem::Event(_, t) => t,
-            Problem::States(..) => self.number % lts.labels(),
+            Problem::States(..) => self.number.checked_rem(lts.labels()).unwrap_or(self.number),
         }
     }
 }
