@@ -5,8 +5,8 @@ ghost use Rattle.rg_theory.specs.System.{IsArcInRange};
 ghost use Rattle.rg_apt.specs.Plain.{state_line, state_lines, arc_line, lts_text};
 ghost use Rattle.rg_apt.specs.Spells.{Spells};
 
-use rg_memory::NoMemory;
 use rg_lts::{Arc, Lts};
+use rg_memory::NoMemory;
 use std::alloc::Global;
 
 /// The text of the system in the plain layout, a text of lines that a line feed ends, each of them the

@@ -3,8 +3,8 @@ ghost use Rattle.std.specs.Prelude.{◌≡◌, ◌≢◌, IfOk, OnOk};
 ghost use Rattle.rg_theory.specs.ClassWords.{class_text, bounded_word};
 ghost use Rattle.rg_net.specs.ClassParts.{with_word, with_words, asked_words, bound_words};
 
-use rg_memory::NoMemory;
 use itoa::Buffer;
+use rg_memory::NoMemory;
 use rg_theory::Class;
 use std::alloc::Global;
 

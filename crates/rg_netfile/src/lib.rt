@@ -18,6 +18,6 @@ mod whole;
 
 pub use fault::NetFault;
 pub use laws::{one_answer, printed_is_spelled};
-pub use rg_memory::NoMemory;
 pub use print::print_net;
+pub use rg_memory::NoMemory;
 pub use whole::read_net;

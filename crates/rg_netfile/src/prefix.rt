@@ -4,9 +4,9 @@ ghost use Rattle.std.specs.List.{list_all, list_any};
 ghost use Rattle.std.specs.Char.{is_ascii_digit};
 ghost use Rattle.rg_net.specs.NetText.{blocks, candidate, place_prefix};
 
-use rg_memory::NoMemory;
 use itoa::Buffer;
 use rg_lts::Lts;
+use rg_memory::NoMemory;
 use std::alloc::Global;
 
 // The first of `p`, `p1_`, `p2_`, .., `p256_` that no label blocks.

@@ -5,10 +5,10 @@ ghost use Rattle.rg_text.specs.Line.{fed};
 ghost use Rattle.rg_theory.specs.System.{labels};
 ghost use Rattle.rg_net.specs.NetText.{place_name, set_text, flow_line, flow_lines, starts, net_text};
 
-use rg_memory::NoMemory;
 use crate::prefix::free_prefix;
 use crate::sets::{push_place, push_set, put_by, starts, taken_by};
 use rg_lts::Lts;
+use rg_memory::NoMemory;
 use rg_net::Net;
 use std::alloc::Global;
 

@@ -2,8 +2,8 @@
 ghost use Rattle.std.specs.Prelude.{◌≡◌, ◌++◌, ◌<◌, IfOk, OnOk};
 ghost use Rattle.rg_net.specs.NetText.{place_name, member_text, set_text, taken_by, put_by, starts};
 
-use rg_memory::NoMemory;
 use itoa::Buffer;
+use rg_memory::NoMemory;
 use rg_net::Net;
 use std::alloc::Global;
 

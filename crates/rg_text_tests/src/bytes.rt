@@ -5,21 +5,55 @@ use rg_text::{MOST_BYTES, is_blank_byte, is_name, is_name_byte, len_before, name
 use std::alloc::Global;
 use std::test::Fail;
 
+// The tokens of a text, each with its span.
+const SPANS: [(Kind, u32, u32); 15] = [
+    (Kind::Word, 0, 5),
+    (Kind::Name, 14, 16),
+    (Kind::Name, 17, 18),
+    (Kind::Arrow, 18, 20),
+    (Kind::LeftBrace, 20, 21),
+    (Kind::Name, 21, 22),
+    (Kind::Star, 22, 23),
+    (Kind::Name, 23, 24),
+    (Kind::RightBrace, 24, 25),
+    (Kind::Text, 35, 38),
+    (Kind::LeftBracket, 38, 39),
+    (Kind::Comma, 39, 40),
+    (Kind::RightBracket, 40, 41),
+    (Kind::Equals, 41, 42),
+    (Kind::Colon, 42, 43),
+];
+
+// Bytes, whether they may stand in a name, and whether they are blank.
+const BYTES: [(u8, bool, bool); 10] = [
+    (b'a', true, false),
+    (b'Z', true, false),
+    (b'0', true, false),
+    (b'_', true, false),
+    (b'.', false, false),
+    (0xe4, false, false),
+    (b' ', false, true),
+    (b'\t', false, true),
+    (b'\r', false, true),
+    (b'\n', false, true),
+];
+
+// Texts with a fault in their tokens.
+const FAULTS: [(&str, LexFault); 5] = [
+    ("ab $ \"", LexFault::BadByte(3)),
+    (". a", LexFault::BadByte(0)),
+    ("-", LexFault::BadByte(0)),
+    ("ab \" $", LexFault::OpenString(3)),
+    ("a/*/", LexFault::OpenComment(1)),
+];
+
 #[test]
 fn bytes_of_names(rt: HostRuntime) {
-    for (byte, names, blank) in [
-        (b'a', true, false),
-        (b'Z', true, false),
-        (b'0', true, false),
-        (b'_', true, false),
-        (b'.', false, false),
-        (0xe4, false, false),
-        (b' ', false, true),
-        (b'\t', false, true),
-        (b'\r', false, true),
-        (b'\n', false, true),
-    ] {
-        assert!(rt; is_name_byte(byte) == names && is_blank_byte(byte) == blank, "{byte}");
+    for (byte, names, blank) in BYTES {
+        assert!(rt;
+            is_name_byte(byte) == names && is_blank_byte(byte) == blank,
+            "{byte}"
+        );
     }
 }
 
@@ -36,27 +70,16 @@ fn names(rt: HostRuntime) -> Result<(), Fail> {
 
 #[test]
 fn kinds_and_spans(rt: HostRuntime) -> Result<(), Fail> {
-    let found = tokens(rt.alloc(), b".arcs // one\n q0 a->{2*p} /* * / */\"x\"[,]=:")?;
-    let wanted = [
-        (Kind::Word, 0, 5),
-        (Kind::Name, 14, 16),
-        (Kind::Name, 17, 18),
-        (Kind::Arrow, 18, 20),
-        (Kind::LeftBrace, 20, 21),
-        (Kind::Name, 21, 22),
-        (Kind::Star, 22, 23),
-        (Kind::Name, 23, 24),
-        (Kind::RightBrace, 24, 25),
-        (Kind::Text, 35, 38),
-        (Kind::LeftBracket, 38, 39),
-        (Kind::Comma, 39, 40),
-        (Kind::RightBracket, 40, 41),
-        (Kind::Equals, 41, 42),
-        (Kind::Colon, 42, 43),
-    ];
-    assert_eq!(rt; found.len(), wanted.len());
-    for (token, (kind, from, to)) in found.iter().zip(wanted.as_slice()) {
-        assert!(rt; token.kind == *kind && token.from == *from && token.to == *to, "{from}");
+    let found = tokens(
+        rt.alloc(),
+        b".arcs // one\n q0 a->{2*p} /* * / */\"x\"[,]=:",
+    )?;
+    assert_eq!(rt; found.len(), SPANS.len());
+    for (token, (kind, from, to)) in found.iter().zip(SPANS.as_slice()) {
+        assert!(rt;
+            token.kind == *kind && token.from == *from && token.to == *to,
+            "{from}"
+        );
     }
     one_answer();
     spans();
@@ -74,13 +97,7 @@ fn fault(alloc: Global, text: &[u8]) -> Option<LexFault> {
 #[test]
 fn faults_of_tokens(rt: HostRuntime) -> Result<(), Fail> {
     let alloc = rt.alloc();
-    for (text, wanted) in [
-        ("ab $ \"", LexFault::BadByte(3)),
-        (". a", LexFault::BadByte(0)),
-        ("-", LexFault::BadByte(0)),
-        ("ab \" $", LexFault::OpenString(3)),
-        ("a/*/", LexFault::OpenComment(1)),
-    ] {
+    for (text, wanted) in FAULTS {
         assert!(rt; fault(alloc, text.as_bytes()) == Some(wanted), "{text}");
     }
     assert!(rt; fault(alloc, &with_bytes(alloc, "a ", 255, " b")?) == None);

@@ -7,12 +7,61 @@ use rg_text::MOST_BYTES;
 use std::alloc::Global;
 use std::test::Fail;
 
+// Texts of nets of one place, its weight to the transition of the label a, and its start.
+const NUMBERS: [(&str, u128, u128); 4] = [
+    (
+        ".type PN .places a .transitions a .flows a: {007*a,a} -> {} a: {0*a} -> {} .initial_marking {3*a} .initial_marking {a}",
+        8,
+        4,
+    ),
+    (
+        ".type PN .places 3 .transitions x[label,label=a,label=b] .flows x: {3*3,3} -> {} .initial_marking {}",
+        4,
+        0,
+    ),
+    (
+        ".type PN .places p[] .transitions a[x=\"label\"] .initial_marking {170141183460469231731687303715884105726*p,p}",
+        0,
+        170141183460469231731687303715884105727,
+    ),
+    (
+        ".type LPN .transitions x[label=\"a\"] .flows x: {2*p, p} -> {} .places p .initial_marking {}",
+        3,
+        0,
+    ),
+];
+
+// Texts of systems, texts of nets, and these as they are printed.
+const PRINTED: [(&str, &str, &str); 3] = [
+    (
+        ".type TS .states s[initial] .labels a",
+        ".type PN .transitions a",
+        ".type PN\n.places\n.transitions\na\n.flows\na: {} -> {}\n.initial_marking {}\n",
+    ),
+    (
+        ".type TS .states s[initial] .labels a b",
+        ".type PN .places x .transitions b a .flows b: {x} -> {} a: {x} -> {x} .initial_marking {x}",
+        ".type PN\n.places\np0\n.transitions\na\nb\n.flows\na: {p0} -> {p0}\nb: {p0} -> {}\n.initial_marking {p0}\n",
+    ),
+    (
+        ".type TS .states s[initial] .labels p7 p",
+        ".type PN .places x y .transitions p7 p .flows p: {} -> {2*x, y} p7: {2*y, 170141183460469231731687303715884105727*x} -> {} .initial_marking {3*x}",
+        ".type PN\n.places\np1_0\np1_1\n.transitions\np7\np\n.flows\np7: {170141183460469231731687303715884105727*p1_0, 2*p1_1} -> {}\np: {} -> {2*p1_0, p1_1}\n.initial_marking {3*p1_0}\n",
+    ),
+];
+
 #[test]
 fn classes(rt: HostRuntime) -> Result<(), Fail> {
     for (pure, plain, bound, nonbranching, wanted) in [
         (false, false, None, false, "none"),
         (false, false, Some(1), false, "safe"),
-        (true, true, Some(255), true, "pure,plain,255-bounded,output-nonbranching"),
+        (
+            true,
+            true,
+            Some(255),
+            true,
+            "pure,plain,255-bounded,output-nonbranching",
+        ),
     ] {
         let class = Class {
             pure,
@@ -20,7 +69,10 @@ fn classes(rt: HostRuntime) -> Result<(), Fail> {
             bound,
             nonbranching,
         };
-        assert!(rt; class_text(rt.alloc(), class)?.as_slice() == wanted.as_bytes(), "{wanted}");
+        assert!(rt;
+            class_text(rt.alloc(), class)?.as_slice() == wanted.as_bytes(),
+            "{wanted}"
+        );
     }
     Ok(())
 }
@@ -63,13 +115,11 @@ fn is_net(alloc: Global, text: &[u8], lts: &Lts, weight: u128, start: u128) -> b
 fn numbers_add_up(rt: HostRuntime) -> Result<(), Fail> {
     let alloc = rt.alloc();
     let lts = system(alloc, b".type TS .states s[initial] .labels a").ok_or("a system")?;
-    for (text, weight, start) in [
-        (".type PN .places a .transitions a .flows a: {007*a,a} -> {} a: {0*a} -> {} .initial_marking {3*a} .initial_marking {a}", 8, 4),
-        (".type PN .places 3 .transitions x[label,label=a,label=b] .flows x: {3*3,3} -> {} .initial_marking {}", 4, 0),
-        (".type PN .places p[] .transitions a[x=\"label\"] .initial_marking {170141183460469231731687303715884105726*p,p}", 0, 170141183460469231731687303715884105727),
-        (".type LPN .transitions x[label=\"a\"] .flows x: {2*p, p} -> {} .places p .initial_marking {}", 3, 0),
-    ] {
-        assert!(rt; is_net(alloc, text.as_bytes(), &lts, weight, start), "{text}");
+    for (text, weight, start) in NUMBERS {
+        assert!(rt;
+            is_net(alloc, text.as_bytes(), &lts, weight, start),
+            "{text}"
+        );
     }
     Ok(())
 }
@@ -86,23 +136,7 @@ fn printed(alloc: Global, text: &[u8], lts: &Lts) -> Option<Vec<u8>> {
 #[test]
 fn prints_nets(rt: HostRuntime) -> Result<(), Fail> {
     let alloc = rt.alloc();
-    for (labels, text, wanted) in [
-        (
-            ".type TS .states s[initial] .labels a",
-            ".type PN .transitions a",
-            ".type PN\n.places\n.transitions\na\n.flows\na: {} -> {}\n.initial_marking {}\n",
-        ),
-        (
-            ".type TS .states s[initial] .labels a b",
-            ".type PN .places x .transitions b a .flows b: {x} -> {} a: {x} -> {x} .initial_marking {x}",
-            ".type PN\n.places\np0\n.transitions\na\nb\n.flows\na: {p0} -> {p0}\nb: {p0} -> {}\n.initial_marking {p0}\n",
-        ),
-        (
-            ".type TS .states s[initial] .labels p7 p",
-            ".type PN .places x y .transitions p7 p .flows p: {} -> {2*x, y} p7: {2*y, 170141183460469231731687303715884105727*x} -> {} .initial_marking {3*x}",
-            ".type PN\n.places\np1_0\np1_1\n.transitions\np7\np\n.flows\np7: {170141183460469231731687303715884105727*p1_0, 2*p1_1} -> {}\np: {} -> {2*p1_0, p1_1}\n.initial_marking {3*p1_0}\n",
-        ),
-    ] {
+    for (labels, text, wanted) in PRINTED {
         let lts = system(alloc, labels.as_bytes()).ok_or("a system")?;
         let made = printed(alloc, text.as_bytes(), &lts).ok_or("a text")?;
         assert!(rt; made.as_slice() == wanted.as_bytes(), "{text}");

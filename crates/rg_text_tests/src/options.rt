@@ -1,4 +1,6 @@
 //! The bytes of tokens, and the options that they complete.
+ghost use Rattle.std.specs.Prelude.{◌<◌};
+
 use rg_items::{
     FoundSetting, ListPosition, ListStep, completed, list_lead, list_wanted, name_of, text_of,
     value_of,

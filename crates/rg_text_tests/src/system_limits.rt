@@ -5,6 +5,39 @@ use rg_text::MOST_BYTES;
 use std::alloc::{AllocError, Global};
 use std::test::Fail;
 
+const STATES: &str = ".type TS .states ";
+
+const LABELS: &str = ".type TS .states s[initial] .labels ";
+
+// Heads of texts, how many bytes `x` follow, and the ends.
+const NAMES: [(&str, u32, &str, Option<TextFault>); 4] = [
+    (".type TS .states ", 255, "[initial]", None),
+    (
+        ".type TS .states ",
+        256,
+        "[initial]",
+        Some(TextFault::LongName(17)),
+    ),
+    (".", 255, " \"\" .type TS .states s[initial]", None),
+    (
+        ".",
+        256,
+        " \"\" .type TS .states s[initial]",
+        Some(TextFault::LongName(1)),
+    ),
+];
+
+// Heads of texts, how many names follow, and the ends.
+const ENTRIES: [(&str, u32, &str, Option<TextFault>); 7] = [
+    (STATES, 4_096, "", Some(TextFault::NoInitial)),
+    (STATES, 4_096, "aaa", Some(TextFault::TwiceState(16_401))),
+    (STATES, 4_097, "", Some(TextFault::TooManyStates(16_401))),
+    (LABELS, 256, "", None),
+    (LABELS, 256, "aaa", Some(TextFault::TwiceLabel(1_060))),
+    (LABELS, 257, "", Some(TextFault::TooManyLabels(1_060))),
+    (LABELS, 256, ".type PN", Some(TextFault::WrongType(1_066))),
+];
+
 // The first fault of a text.
 fn fault(alloc: Global, text: &[u8]) -> Option<TextFault> {
     if text.len() > MOST_BYTES {
@@ -16,13 +49,11 @@ fn fault(alloc: Global, text: &[u8]) -> Option<TextFault> {
 #[test]
 fn bytes_of_names(rt: HostRuntime) -> Result<(), Fail> {
     let alloc = rt.alloc();
-    for (head, bytes, tail, wanted) in [
-        (".type TS .states ", 255, "[initial]", None),
-        (".type TS .states ", 256, "[initial]", Some(TextFault::LongName(17))),
-        (".", 255, " \"\" .type TS .states s[initial]", None),
-        (".", 256, " \"\" .type TS .states s[initial]", Some(TextFault::LongName(1))),
-    ] {
-        assert!(rt; fault(alloc, &with_bytes(alloc, head, bytes, tail)?) == wanted, "{bytes}");
+    for (head, bytes, tail, wanted) in NAMES {
+        assert!(rt;
+            fault(alloc, &with_bytes(alloc, head, bytes, tail)?) == wanted,
+            "{bytes}"
+        );
     }
     Ok(())
 }
@@ -30,18 +61,11 @@ fn bytes_of_names(rt: HostRuntime) -> Result<(), Fail> {
 #[test]
 fn states_and_labels(rt: HostRuntime) -> Result<(), Fail> {
     let alloc = rt.alloc();
-    let states = ".type TS .states ";
-    let labels = ".type TS .states s[initial] .labels ";
-    for (head, names, tail, wanted) in [
-        (states, 4_096, "", Some(TextFault::NoInitial)),
-        (states, 4_096, "aaa", Some(TextFault::TwiceState(16_401))),
-        (states, 4_097, "", Some(TextFault::TooManyStates(16_401))),
-        (labels, 256, "", None),
-        (labels, 256, "aaa", Some(TextFault::TwiceLabel(1_060))),
-        (labels, 257, "", Some(TextFault::TooManyLabels(1_060))),
-        (labels, 256, ".type PN", Some(TextFault::WrongType(1_066))),
-    ] {
-        assert!(rt; fault(alloc, &with_names(alloc, head, names, tail)?) == wanted, "{names}{tail}");
+    for (head, names, tail, wanted) in ENTRIES {
+        assert!(rt;
+            fault(alloc, &with_names(alloc, head, names, tail)?) == wanted,
+            "{names}{tail}"
+        );
     }
     Ok(())
 }

@@ -7,6 +7,31 @@ use rg_lts::{Arc, BuildFault, LtsBuilder};
 use std::alloc::Global;
 use std::test::Fail;
 
+// Texts with options, and their initial states.
+const INITIAL: [(&str, u32); 4] = [
+    (".type TS .states a b[initial=true]", 1),
+    (".type TS .states a b[x,initial=\"true\",initial=false]", 1),
+    (".type TS .states a b[initial,initial]", 1),
+    (".type TS .states a[] b[initial]\r\n.states\r\nc", 1),
+];
+
+// Arcs that are added in turn.
+const ARCS: [(&str, &str, &str, Result<(), BuildFault>); 5] = [
+    ("s2", "c", "s2", Err(BuildFault::UnknownState)),
+    ("s0", "c", "s2", Err(BuildFault::UnknownLabel)),
+    ("s0", "a", "s2", Err(BuildFault::UnknownState)),
+    ("s1", "b", "s0", Ok(())),
+    ("s1", "b", "s0", Ok(())),
+];
+
+// States that are named initial in turn.
+const MARKS: [(&str, Result<(), BuildFault>); 4] = [
+    ("s2", Err(BuildFault::UnknownState)),
+    ("s1", Ok(())),
+    ("s0", Err(BuildFault::TwoInitial)),
+    ("s1", Ok(())),
+];
+
 #[test]
 fn reads_a_system(rt: HostRuntime) -> Result<(), Fail> {
     let lts = read_lts(
@@ -19,7 +44,11 @@ fn reads_a_system(rt: HostRuntime) -> Result<(), Fail> {
     let arcs = [(0, 0, 1), (0, 1, 1), (1, 0, 0)];
     assert_eq!(rt; lts.arcs().len(), arcs.len());
     for (arc, (from, label, to)) in lts.arcs().iter().zip(arcs.as_slice()) {
-        let wanted = Arc { from: *from, label: *label, to: *to };
+        let wanted = Arc {
+            from: *from,
+            label: *label,
+            to: *to,
+        };
         assert!(rt; *arc == wanted, "{from} {label} {to}");
     }
     assert!(rt; lts.arc_at(1, 0) == Some(0) && lts.arc_at(1, 1) == None);
@@ -30,12 +59,7 @@ fn reads_a_system(rt: HostRuntime) -> Result<(), Fail> {
 #[test]
 fn options_of_states(rt: HostRuntime) {
     let alloc = rt.alloc();
-    for (text, wanted) in [
-        (".type TS .states a b[initial=true]", 1),
-        (".type TS .states a b[x,initial=\"true\",initial=false]", 1),
-        (".type TS .states a b[initial,initial]", 1),
-        (".type TS .states a[] b[initial]\r\n.states\r\nc", 1),
-    ] {
+    for (text, wanted) in INITIAL {
         let initial = match system(alloc, text.as_bytes()) {
             Some(lts) => Some(lts.initial()),
             None => None,
@@ -78,21 +102,13 @@ fn builds_a_system(rt: HostRuntime) {
         panic!(rt; "the names weren't taken");
     };
     assert!(rt; builder.state_number("s1") == Some(1) && builder.label_number("c") == None);
-    for (from, label, to, wanted) in [
-        ("s2", "c", "s2", Err(BuildFault::UnknownState)),
-        ("s0", "c", "s2", Err(BuildFault::UnknownLabel)),
-        ("s0", "a", "s2", Err(BuildFault::UnknownState)),
-        ("s1", "b", "s0", Ok(())),
-        ("s1", "b", "s0", Ok(())),
-    ] {
-        assert!(rt; builder.arc(from, label, to) == wanted, "{from} {label} {to}");
+    for (from, label, to, wanted) in ARCS {
+        assert!(rt;
+            builder.arc(from, label, to) == wanted,
+            "{from} {label} {to}"
+        );
     }
-    for (name, wanted) in [
-        ("s2", Err(BuildFault::UnknownState)),
-        ("s1", Ok(())),
-        ("s0", Err(BuildFault::TwoInitial)),
-        ("s1", Ok(())),
-    ] {
+    for (name, wanted) in MARKS {
         assert!(rt; builder.initial(name) == wanted, "{name}");
     }
     match builder.finish() {
