@@ -1,5 +1,5 @@
 //! How often the labels that aren't free count in the named rows.
-ghost use Rattle.std.specs.Prelude.{◌≡◌, ◌<◌, ◌≤◌, ◌++◌, length, map, All, IfOk, OnOk, IsTrue};
+ghost use Rattle.std.specs.Prelude.{◌≡◌, ◌<◌, ◌≤◌, ◌++◌, length, map, All, IfOk, OnOk};
 ghost use Rattle.rg_theory.specs.System.{labels};
 ghost use Rattle.rg_refuting.specs.Row.{row_expression};
 ghost use Rattle.rg_spanning.specs.Spanning.{IsTreeOf};

@@ -1,5 +1,5 @@
 //! The leaf of named rows.
-ghost use Rattle.std.specs.Prelude.{◌≡◌, ◌<◌, ◌^◌, ◌++◌, map, length, All, Ok, Err, IfOk, IsErrOf, IsTrue};
+ghost use Rattle.std.specs.Prelude.{◌≡◌, ◌<◌, ◌^◌, ◌++◌, map, length, All, Ok, Err, IfOk, IsErrOf};
 ghost use Rattle.rg_theory.specs.System.{labels, IsAllReachable};
 ghost use Rattle.rg_refuting.specs.Row.{RowStands, row_expression, cases_of};
 ghost use Rattle.rg_refuting.specs.Refutes.{IsSeparationProblem, LeafRefutes};
@@ -12,7 +12,7 @@ ghost use Rattle.rg_folds.specs.Spreading.{leaf_fold};
 ghost use Rattle.rg_reasons.specs.Trees.{named_row, node_of};
 ghost use Rattle.rg_reasons.specs.Certificates.{IsFormOf, IsRowNameOf, IsNodeOf};
 ghost use Rattle.rg_reasons.specs.Sums.{side_of};
-ghost use Rattle.rg_farkas.specs.Leaves.{share_of, IsLeafWith};
+ghost use Rattle.rg_farkas.specs.Leaves.{share_of, IsLeafWith, RefutesCase};
 ghost use Rattle.rg_integers.specs.Range.{InRange};
 ghost use Rattle.rg_farkas.specs.Refuting.{SharesRefute};
 ghost use Rattle.rg_farkas.specs.View.{AreRowsWithin};
@@ -57,18 +57,7 @@ pub fn spread(
     named: &[(RowName, Fraction)],
     above: &[Side],
 ) -> Result<Node, FoldStop>
-    requires reachable { IsAllReachable lts.now }
-    requires tree { IsTreeOf lts.now tree.now }
-    requires labels { labels_of basis.now ≡ labels lts.now }
-    requires basis { IsBasis lts.now tree.now.arcs (cycle_of basis.now) }
-    requires asked { IsSeparationProblem lts.now problem }
-    requires case { case < cases_of lts.now class problem }
-    requires sides { All (λ s. IsFormOf lts.now s.form) (map side_of above.now) }
-    requires stand { All (λ s. RowStands lts.now class problem case (map side_of above.now) s.name) (map share_of named.now) }
-    requires names { All (λ s. IsRowNameOf lts.now s.name) (map share_of named.now) }
-    requires refute { SharesRefute lts.now (row_expression lts.now class problem case (map side_of above.now)) (map share_of named.now) }
-    requires few_rows { length named.now < 2 ^ 32 }
-    requires few_sides { length above.now < 2 ^ 32 }
+    requires { RefutesCase lts.now tree.now basis.now class problem case named.now above.now }
     ensures leaf { IfOk result (λ node. IsLeafWith (λ rows. leaf_fold lts.now tree.now.arcs (cycle_of basis.now) (row_expression lts.now class problem case (map side_of above.now)) (map share_of named.now) (Ok rows)) (node_of node)) }
     ensures refutes { IfOk result (λ node. IsLeafWith (LeafRefutes (RowStands lts.now class problem case (map side_of above.now)) (row_expression lts.now class problem case (map side_of above.now))) (node_of node)) }
     ensures in_range { IfOk result (λ node. IsNodeOf lts.now (node_of node)) }

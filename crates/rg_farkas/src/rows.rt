@@ -1,5 +1,5 @@
 //! Named rows with their multipliers, and what they say.
-ghost use Rattle.std.specs.Prelude.{◌≡◌, ◌<◌, ◌+◌, ◌++◌, length, map, All, IfOk, IsTrue};
+ghost use Rattle.std.specs.Prelude.{◌≡◌, ◌<◌, ◌+◌, ◌++◌, length, map, All, IfOk};
 ghost use Rattle.rg_theory.specs.System.{labels};
 ghost use Rattle.rg_integers.specs.Range.{InRange};
 ghost use Rattle.rg_refuting.specs.Row.{row_expression};

@@ -1,5 +1,5 @@
 //! The system of a case.
-ghost use Rattle.std.specs.Prelude.{◌≡◌, ◌<◌, false, length, All, IsTrue, map, None, Ok, Err, IfOk, IsErrOf};
+ghost use Rattle.std.specs.Prelude.{◌≡◌, ◌<◌, false, length, All, map, None, Ok, Err, IfOk, IsErrOf};
 ghost use Rattle.rg_theory.specs.System.{labels};
 ghost use Rattle.rg_fraction.specs.declared.term.Wide.{Wide};
 ghost use Rattle.rg_refuting.specs.Refutes.{IsSeparationProblem};
@@ -99,7 +99,6 @@ fn rows(
     requires tree { IsTreeOf lts.now tree.now }
     requires labels { labels_of basis.now ≡ labels lts.now }
     requires columns { AreColumns lts.now case.class columns.now }
-    requires consumer { IsTrue case.class.nonbranching → 0 < labels lts.now }
     requires names { AreNamesWithin lts.now case.class case.problem case.number (map row_name_of names.now) }
     ensures value { IfOk result (λ v. each (fold_of lts.now tree.now.arcs (cycle_of basis.now) case.class case.problem case.number) (map row_name_of names.now) (Ok (map kept_row v.items))) }
     ensures one_each { IfOk result (λ v. All (λ r. length r.coeffs.items ≡ column_count lts.now (cycle_of basis.now) case.class) v.items) }

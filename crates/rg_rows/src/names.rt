@@ -1,5 +1,5 @@
 //! The named rows of a case.
-ghost use Rattle.std.specs.Prelude.{◌≡◌, ◌<◌, ◌++◌, false, length, map, None, IfOk, OnOk, IsTrue};
+ghost use Rattle.std.specs.Prelude.{◌≡◌, ◌<◌, ◌++◌, false, length, map, None, IfOk, OnOk};
 ghost use Rattle.rg_theory.specs.System.{states, labels};
 ghost use Rattle.rg_refuting.specs.Refutes.{IsSeparationProblem};
 ghost use Rattle.rg_refuting.specs.Row.{RowName.tokens_row, RowName.stop_row, RowName.makes_row};
@@ -22,7 +22,6 @@ pub(crate) fn names(
     columns: &Columns,
 ) -> Result<Vec<RowName>, AllocError>
     requires asked { IsSeparationProblem lts.now case.problem }
-    requires labels { IsTrue case.class.nonbranching → 0 < labels lts.now }
     requires not_plain { case.class.plain ≡ false }
     requires unbounded { case.class.bound ≡ None }
     requires columns { AreColumns lts.now case.class columns.now }

@@ -11,7 +11,7 @@ use Rattle.rg_reasons.specs.Certificates.{IsVariableOf, IsRowOf}
 use Rattle.rg_verify.specs.declared.verdict.Defect.{Defect}
 use Rattle.rg_verify.specs.declared.verdict.Defect.TheVariants.{WrongRow, NotPositive, LeftOver, NoContradiction, SumPasses, CaseMissing, NotSo}
 use Rattle.rg_verify.specs.declared.sums.Sums.{Sums}
-use Rattle.rg_verify.specs.Judged.{IsReached, IsRight, IsDefectOf}
+use Rattle.rg_verify.specs.Judged.{IsReached, IsRightRow, IsDefectOf}
 use Rattle.rg_reasons.specs.Sums.{variable_of}
 use Rattle.rg_verify.specs.Sums.{entry_of, HasEntry, IsTableOf, AreSumsOf, HasNoDefect, IsSumDefect}
 use Rattle.rg_verify.proofs.Tables.{size_small}
@@ -36,7 +36,7 @@ in_range lts sums (tokens_at q) table has = let e = table.tokens in omega arith
 in_range lts sums (effect_of t) table has = let e = table.effects in omega arith
 
 -- what is wrong with the sums is what is wrong with the rows
-pub leaf_judged : (lts : System) (stands : RowName → Type 0) (expression : RowName → linear.Expression) (rows : List NamedRow) (sums : Sums) (o : Option Defect) → All (IsRight stands) rows → All (IsRowOf lts) rows → IsTableOf lts sums → AreSumsOf expression rows sums
+pub leaf_judged : (lts : System) (stands : RowName → Type 0) (expression : RowName → linear.Expression) (rows : List NamedRow) (sums : Sums) (o : Option Defect) → All (IsRightRow stands) rows → All (IsRowOf lts) rows → IsTableOf lts sums → AreSumsOf expression rows sums
     → MatchOption o (HasNoDefect sums) (IsSumDefect sums) → MatchOption o (LeafRefutes stands expression rows) (IsDefectOf lts stands expression rows)
 leaf_judged lts stands expression rows sums None right each table are none = record {
   stand = λ k d lt. (right k d lt).0;

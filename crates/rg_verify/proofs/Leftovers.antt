@@ -5,7 +5,7 @@ use Rattle.std.proofs.lemmas.List.Elements.{Contains-push_cases}
 use Rattle.rg_refuting.specs.Expression as linear
 use Rattle.rg_reasons.specs.declared.variable.Variable.{Variable}
 use Rattle.rg_verify.specs.declared.sums.Sums.{Sums}
-use Rattle.rg_verify.specs.Judged.{ComesBefore}
+use Rattle.rg_verify.specs.Judged.{IsVariableBefore}
 use Rattle.rg_reasons.specs.Sums.{variable_of}
 use Rattle.rg_verify.specs.Sums.{entry_of, signed_at, size_at, HasEntry, IsTidy, IsLeftFirst}
 use Rattle.rg_verify.proofs.Places.{image_at}
@@ -16,7 +16,7 @@ use Rattle.rg_verify.proofs.Tables.{signed_zero}
 pub record IsFirstAmong (sums : Sums) (vs : List Variable) (v : linear.Variable) : Type 0 where
   pub in_table : HasEntry sums v
   pub left : signed_at sums v ≢ pos 0
-  pub first : (w : linear.Variable) → Contains (map variable_of vs) w → ComesBefore w v → signed_at sums w ≡ pos 0
+  pub first : (w : linear.Variable) → Contains (map variable_of vs) w → IsVariableBefore w v → signed_at sums w ≡ pos 0
 
 -- it is the one found, if there is one
 abbrev pub TellsFirst : Sums → List Variable → Option Variable → Type 0
@@ -37,34 +37,34 @@ tells_zero sums vs None u told zero = λ w has. by w (cases_more vs u w has)
     by w (inr is) = subst (λ x. signed_at sums x ≡ pos 0) is zero
 tells_zero sums vs (Some v) u told zero = record { in_table = told.in_table; left = told.left; first = λ w has before. by w before (cases_more vs u w has) }
   where
-    by : (w : linear.Variable) → ComesBefore w (variable_of v) → Contains (map variable_of vs) w ⊎ (variable_of u ≡ w) → signed_at sums w ≡ pos 0
+    by : (w : linear.Variable) → IsVariableBefore w (variable_of v) → Contains (map variable_of vs) w ⊎ (variable_of u ≡ w) → signed_at sums w ≡ pos 0
     by w before (inl there) = told.first w there before
     by w before (inr is) = subst (λ x. signed_at sums x ≡ pos 0) is zero
 
 -- of the one found and another whose sum isn't 0 the first
 pub tells_left : (sums : Sums) (vs : List Variable) (o : Option Variable) (u r : Variable) → TellsFirst sums vs o → HasEntry sums (variable_of u) → signed_at sums (variable_of u) ≢ pos 0
-    → MatchOption o (r ≡ u) (λ v. ((r ≡ v) × ComesBefore (variable_of v) (variable_of u)) ⊎ ((r ≡ u) × (ComesBefore (variable_of v) (variable_of u) → ⊥)))
+    → MatchOption o (r ≡ u) (λ v. ((r ≡ v) × IsVariableBefore (variable_of v) (variable_of u)) ⊎ ((r ≡ u) × (IsVariableBefore (variable_of v) (variable_of u) → ⊥)))
     → TellsFirst sums (vs ++ u ∷ []) (Some r)
 tells_left sums vs None u r told has left is = rw is (record { in_table = has; left = left; first = λ w there before. by w before (cases_more vs u w there) })
   where
-    by : (w : linear.Variable) → ComesBefore w (variable_of u) → Contains (map variable_of vs) w ⊎ (variable_of u ≡ w) → signed_at sums w ≡ pos 0
+    by : (w : linear.Variable) → IsVariableBefore w (variable_of u) → Contains (map variable_of vs) w ⊎ (variable_of u ≡ w) → signed_at sums w ≡ pos 0
     by w before (inl there) = told w there
-    by w before (inr same) = absurd (not_before_itself w (subst (ComesBefore w) same before))
+    by w before (inr same) = absurd (not_before_itself w (subst (IsVariableBefore w) same before))
 tells_left sums vs (Some v) u r told has left (inl (is, earlier)) = rw is (record { in_table = told.in_table; left = told.left; first = λ w there before. by w before (cases_more vs u w there) })
   where
-    by : (w : linear.Variable) → ComesBefore w (variable_of v) → Contains (map variable_of vs) w ⊎ (variable_of u ≡ w) → signed_at sums w ≡ pos 0
+    by : (w : linear.Variable) → IsVariableBefore w (variable_of v) → Contains (map variable_of vs) w ⊎ (variable_of u ≡ w) → signed_at sums w ≡ pos 0
     by w before (inl there) = told.first w there before
-    by w before (inr same) = absurd (not_before_itself w (before-trans w (variable_of v) w before (subst (ComesBefore (variable_of v)) same earlier)))
+    by w before (inr same) = absurd (not_before_itself w (before-trans w (variable_of v) w before (subst (IsVariableBefore (variable_of v)) same earlier)))
 tells_left sums vs (Some v) u r told has left (inr (is, not_earlier)) = rw is (record { in_table = has; left = left; first = λ w there before. by w before (cases_more vs u w there) })
   where
-    earlier : (w : linear.Variable) → ComesBefore w (variable_of u) → ComesBefore (variable_of v) (variable_of u) ⊎ ((variable_of v ≡ variable_of u) ⊎ ComesBefore (variable_of u) (variable_of v)) → ComesBefore w (variable_of v)
+    earlier : (w : linear.Variable) → IsVariableBefore w (variable_of u) → IsVariableBefore (variable_of v) (variable_of u) ⊎ ((variable_of v ≡ variable_of u) ⊎ IsVariableBefore (variable_of u) (variable_of v)) → IsVariableBefore w (variable_of v)
     earlier w before (inl e) = absurd (not_earlier e)
-    earlier w before (inr (inl e)) = subst (ComesBefore w) (sym e) before
+    earlier w before (inr (inl e)) = subst (IsVariableBefore w) (sym e) before
     earlier w before (inr (inr l)) = before-trans w (variable_of u) (variable_of v) before l
 
-    by : (w : linear.Variable) → ComesBefore w (variable_of u) → Contains (map variable_of vs) w ⊎ (variable_of u ≡ w) → signed_at sums w ≡ pos 0
+    by : (w : linear.Variable) → IsVariableBefore w (variable_of u) → Contains (map variable_of vs) w ⊎ (variable_of u ≡ w) → signed_at sums w ≡ pos 0
     by w before (inl there) = told.first w there (earlier w before (before_or_not (variable_of v) (variable_of u)))
-    by w before (inr same) = absurd (not_before_itself w (subst (ComesBefore w) same before))
+    by w before (inr same) = absurd (not_before_itself w (subst (IsVariableBefore w) same before))
 
 -- the first among the listed variables is the first of all, since the others have the sum 0
 pub first_of_all : (sums : Sums) (vs : List Variable) (o : Option Variable) → IsTidy sums → vs ≡ sums.touched.items → TellsFirst sums vs o → MatchOption o ((v : linear.Variable) → signed_at sums v ≡ pos 0) (λ v. IsLeftFirst sums (variable_of v))
@@ -75,7 +75,7 @@ first_of_all sums vs None tidy is told = λ v. by v (tidy.others v)
     by v (inr zero) = signed_zero (entry_of sums v) zero
 first_of_all sums vs (Some u) tidy is told = record { in_table = told.in_table; left = told.left; first = λ w before. by w before (tidy.others w) }
   where
-    by : (w : linear.Variable) → ComesBefore w (variable_of u) → Contains (map variable_of sums.touched.items) w ⊎ (size_at sums w ≡ 0) → signed_at sums w ≡ pos 0
+    by : (w : linear.Variable) → IsVariableBefore w (variable_of u) → Contains (map variable_of sums.touched.items) w ⊎ (size_at sums w ≡ 0) → signed_at sums w ≡ pos 0
     by w before (inl has) = told.first w (subst (λ (us : List Variable). Contains (map variable_of us) w) (sym is) has) before
     by w before (inr zero) = signed_zero (entry_of sums w) zero
 

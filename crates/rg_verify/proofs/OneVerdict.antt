@@ -20,7 +20,7 @@ use Rattle.rg_verify.specs.declared.verdict.Defect.{Defect}
 use Rattle.rg_verify.specs.declared.verdict.Defect.TheVariants.{WrongRow, NotPositive, LeftOver, NoContradiction, SumPasses, CaseMissing, NotSo}
 use Rattle.rg_verify.specs.declared.verdict.Verdict.{Verdict}
 use Rattle.rg_verify.specs.declared.verdict.Verdict.TheVariants.{Accepted, Refused}
-use Rattle.rg_verify.specs.Judged.{IsReached, ComesBefore, IsRight, IsFirstLeft, IsDefectOf, PlacedLeaf, leaves_of, Refutes, IsDefectIn, HasAllCases, IsDefectAmong, IsDefectFor, IsFirstDefect, Holds, Judges}
+use Rattle.rg_verify.specs.Judged.{IsReached, IsVariableBefore, IsRightRow, IsFirstLeft, IsDefectOf, PlacedLeaf, leaves_of, Refutes, IsDefectIn, HasAllCases, IsDefectAmong, IsDefectFor, IsFirstDefect, Holds, Judges}
 use Rattle.rg_reasons.specs.Sums.{variable_of}
 use Rattle.rg_verify.proofs.Variables.{same_variable_of, before_or_not}
 
@@ -49,8 +49,8 @@ not_all P xs i x reached not each = not (subst P (get_or_from_slice_get xs i x x
 
 -- a leaf with a defect doesn't refute
 no_defect : (lts : System) (stands : RowName → Type 0) (expression : RowName → Expression) (rows : List NamedRow) (d : Defect) → IsDefectOf lts stands expression rows d → LeafRefutes stands expression rows → ⊥
-no_defect lts stands expression rows WrongRow (i, r, reached, not) good = not_all (IsRight stands) rows i r reached (λ right. not right.0) (λ k x lt. (good.stand k x lt, good.positive k x lt))
-no_defect lts stands expression rows NotPositive (i, r, reached, stand, not) good = not_all (IsRight stands) rows i r reached (λ right. not right.1) (λ k x lt. (good.stand k x lt, good.positive k x lt))
+no_defect lts stands expression rows WrongRow (i, r, reached, not) good = not_all (IsRightRow stands) rows i r reached (λ right. not right.0) (λ k x lt. (good.stand k x lt, good.positive k x lt))
+no_defect lts stands expression rows NotPositive (i, r, reached, stand, not) good = not_all (IsRightRow stands) rows i r reached (λ right. not right.1) (λ k x lt. (good.stand k x lt, good.positive k x lt))
 no_defect lts stands expression rows SumPasses (right, not) good = not good.small
 no_defect lts stands expression rows (LeftOver v) (summed, left) good = left.left (good.cancels (variable_of v))
 no_defect lts stands expression rows NoContradiction (summed, cancels, not) good = not good.contradicts
@@ -60,21 +60,21 @@ no_defect lts stands expression rows NotSo wrong good = wrong
 first_once : (lts : System) (expression : RowName → Expression) (rows : List NamedRow) (v w : linear.Variable) → IsFirstLeft lts expression rows v → IsFirstLeft lts expression rows w → v ≡ w
 first_once lts expression rows v w one other = by (before_or_not v w)
   where
-    by : ComesBefore v w ⊎ ((v ≡ w) ⊎ ComesBefore w v) → v ≡ w
+    by : IsVariableBefore v w ⊎ ((v ≡ w) ⊎ IsVariableBefore w v) → v ≡ w
     by (inl l) = absurd (one.left (other.first v l))
     by (inr (inl e)) = e
     by (inr (inr l)) = absurd (other.left (one.first w l))
 
 -- what a defect says of the rows: which kind comes first
-wrong_row : (lts : System) (stands : RowName → Type 0) (expression : RowName → Expression) (rows : List NamedRow) → IsDefectOf lts stands expression rows WrongRow → All (IsRight stands) rows → ⊥
-wrong_row lts stands expression rows (i, r, reached, not) each = not_all (IsRight stands) rows i r reached (λ right. not right.0) each
+wrong_row : (lts : System) (stands : RowName → Type 0) (expression : RowName → Expression) (rows : List NamedRow) → IsDefectOf lts stands expression rows WrongRow → All (IsRightRow stands) rows → ⊥
+wrong_row lts stands expression rows (i, r, reached, not) each = not_all (IsRightRow stands) rows i r reached (λ right. not right.0) each
 
-not_positive : (lts : System) (stands : RowName → Type 0) (expression : RowName → Expression) (rows : List NamedRow) → IsDefectOf lts stands expression rows NotPositive → All (IsRight stands) rows → ⊥
-not_positive lts stands expression rows (i, r, reached, stand, not) each = not_all (IsRight stands) rows i r reached (λ right. not right.1) each
+not_positive : (lts : System) (stands : RowName → Type 0) (expression : RowName → Expression) (rows : List NamedRow) → IsDefectOf lts stands expression rows NotPositive → All (IsRightRow stands) rows → ⊥
+not_positive lts stands expression rows (i, r, reached, stand, not) each = not_all (IsRightRow stands) rows i r reached (λ right. not right.1) each
 
 one_kind : (lts : System) (stands : RowName → Type 0) (expression : RowName → Expression) (rows : List NamedRow) → IsDefectOf lts stands expression rows WrongRow → IsDefectOf lts stands expression rows NotPositive → ⊥
 one_kind lts stands expression rows (i, r, reached, not) (j, q, reached', stand, not') =
-    not (subst (λ (x : NamedRow). stands x.name) (reached_once (IsRight stands) rows j i q r reached' (λ right. not' right.1) reached (λ right. not right.0)) stand)
+    not (subst (λ (x : NamedRow). stands x.name) (reached_once (IsRightRow stands) rows j i q r reached' (λ right. not' right.1) reached (λ right. not right.0)) stand)
 
 one_defect : (lts : System) (stands : RowName → Type 0) (expression : RowName → Expression) (rows : List NamedRow) (d e : Defect) → IsDefectOf lts stands expression rows d → IsDefectOf lts stands expression rows e → d ≡ e
 one_defect lts stands expression rows WrongRow WrongRow h k = refl

@@ -5,7 +5,7 @@ use Rattle.rg_refuting.specs.Expression.{Variable, Variable.tokens_at, Variable.
 use Rattle.rg_reasons.specs.declared.variable.Variable.{Variable as CodeVariable}
 use Rattle.rg_reasons.specs.declared.variable.Variable.TheVariants.{Tokens, Effect}
 use Rattle.rg_reasons.specs.Sums.{variable_of}
-use Rattle.rg_verify.specs.Judged.{ComesBefore}
+use Rattle.rg_verify.specs.Judged.{IsVariableBefore}
 
 pub same_variable_is : (v w : Variable) → same_variable v w ≡ true → v ≡ w
 same_variable_is (tokens_at q) (tokens_at r) e = ap tokens_at (eqb-true q r e)
@@ -17,7 +17,7 @@ pub same_variable_refl : (v : Variable) → same_variable v v ≡ true
 same_variable_refl (tokens_at q) = eq-eqb q q refl
 same_variable_refl (effect_of t) = eq-eqb t t refl
 
-pub before_or_not : (v w : Variable) → ComesBefore v w ⊎ ((v ≡ w) ⊎ ComesBefore w v)
+pub before_or_not : (v w : Variable) → IsVariableBefore v w ⊎ ((v ≡ w) ⊎ IsVariableBefore w v)
 before_or_not (tokens_at q) (tokens_at r) = by (cases_order q r)
   where
     by : (q ≡ r) ⊎ ((q < r) ⊎ (r < q)) → (q < r) ⊎ ((tokens_at q ≡ tokens_at r) ⊎ (r < q))
@@ -33,7 +33,7 @@ before_or_not (effect_of t) (effect_of u) = by (cases_order t u)
 before_or_not (tokens_at q) (effect_of t) = inl tt
 before_or_not (effect_of t) (tokens_at q) = inr (inr tt)
 
-pub before-trans : (u v w : Variable) → ComesBefore u v → ComesBefore v w → ComesBefore u w
+pub before-trans : (u v w : Variable) → IsVariableBefore u v → IsVariableBefore v w → IsVariableBefore u w
 before-trans (tokens_at p) (tokens_at q) (tokens_at r) h k = omega arith
 before-trans (tokens_at p) (tokens_at q) (effect_of t) h k = tt
 before-trans (tokens_at p) (effect_of t) (effect_of u) h k = tt
@@ -42,7 +42,7 @@ before-trans (effect_of t) (tokens_at q) w h k = absurd h
 before-trans (effect_of t) (effect_of u) (tokens_at r) h k = absurd k
 before-trans (effect_of t) (effect_of u) (effect_of s) h k = omega arith
 
-pub not_before_itself : (v : Variable) → ComesBefore v v → ⊥
+pub not_before_itself : (v : Variable) → IsVariableBefore v v → ⊥
 not_before_itself (tokens_at q) h = omega arith
 not_before_itself (effect_of t) h = omega arith
 

@@ -26,32 +26,32 @@ pub record IsReached {X : Type 0} (P : X → Type 0) (xs : List X) (place : ℕ)
   pub before : All P (take place xs)
 
 -- tokens come before effects, tokens by state and effects by label
-abbrev pub ComesBefore : linear.Variable → linear.Variable → Type 0
-ComesBefore (tokens_at q) (tokens_at r) = q < r
-ComesBefore (tokens_at q) (effect_of t) = Unit {0}
-ComesBefore (effect_of t) (tokens_at q) = ⊥
-ComesBefore (effect_of t) (effect_of u) = t < u
+abbrev pub IsVariableBefore : linear.Variable → linear.Variable → Type 0
+IsVariableBefore (tokens_at q) (tokens_at r) = q < r
+IsVariableBefore (tokens_at q) (effect_of t) = Unit {0}
+IsVariableBefore (effect_of t) (tokens_at q) = ⊥
+IsVariableBefore (effect_of t) (effect_of u) = t < u
 
 -- the row stands, and has a positive multiplier where it owes one
-abbrev pub IsRight : (RowName → Type 0) → NamedRow → Type 0
-IsRight stands r = stands r.name × IsMultiplier r.multiplier r.name
+abbrev pub IsRightRow : (RowName → Type 0) → NamedRow → Type 0
+IsRightRow stands r = stands r.name × IsMultiplier r.multiplier r.name
 
 -- the rows stand with their multipliers, and no sum of absolute values passes
 pub record AreSummed (stands : RowName → Type 0) (expression : RowName → Expression) (rows : List NamedRow) : Type 0 where
-  pub right : All (IsRight stands) rows
+  pub right : All (IsRightRow stands) rows
   pub small : IsSmall expression rows
 
 -- the first variable whose coefficients don't add up to 0
 pub record IsFirstLeft (lts : System) (expression : RowName → Expression) (rows : List NamedRow) (v : linear.Variable) : Type 0 where
   pub in_range : IsVariableOf lts v
   pub left : coefficient_sum expression rows v ≢ pos 0
-  pub first : (w : linear.Variable) → ComesBefore w v → coefficient_sum expression rows w ≡ pos 0
+  pub first : (w : linear.Variable) → IsVariableBefore w v → coefficient_sum expression rows w ≡ pos 0
 
 -- what is wrong with the first row that isn't right, or else with the sums of the rows
 abbrev pub IsDefectOf : System → (RowName → Type 0) → (RowName → Expression) → List NamedRow → Defect → Type 0
-IsDefectOf lts stands expression rows WrongRow = (place : ℕ) × (r : NamedRow) × IsReached (IsRight stands) rows place r × (¬ stands r.name)
-IsDefectOf lts stands expression rows NotPositive = (place : ℕ) × (r : NamedRow) × IsReached (IsRight stands) rows place r × stands r.name × (¬ IsMultiplier r.multiplier r.name)
-IsDefectOf lts stands expression rows SumPasses = All (IsRight stands) rows × (¬ IsSmall expression rows)
+IsDefectOf lts stands expression rows WrongRow = (place : ℕ) × (r : NamedRow) × IsReached (IsRightRow stands) rows place r × (¬ stands r.name)
+IsDefectOf lts stands expression rows NotPositive = (place : ℕ) × (r : NamedRow) × IsReached (IsRightRow stands) rows place r × stands r.name × (¬ IsMultiplier r.multiplier r.name)
+IsDefectOf lts stands expression rows SumPasses = All (IsRightRow stands) rows × (¬ IsSmall expression rows)
 IsDefectOf lts stands expression rows (LeftOver v) = AreSummed stands expression rows × IsFirstLeft lts expression rows (variable_of v)
 IsDefectOf lts stands expression rows NoContradiction = AreSummed stands expression rows × ((v : linear.Variable) → coefficient_sum expression rows v ≡ pos 0) × (¬ (constant_sum expression rows <ℤ pos 0))
 IsDefectOf lts stands expression rows CaseMissing = ⊥

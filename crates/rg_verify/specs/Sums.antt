@@ -10,7 +10,7 @@ use Rattle.rg_verify.specs.declared.verdict.Defect.{Defect}
 use Rattle.rg_verify.specs.declared.verdict.Defect.TheVariants.{LeftOver, NoContradiction}
 use Rattle.rg_verify.specs.declared.sums.Sum.{Sum}
 use Rattle.rg_verify.specs.declared.sums.Sums.{Sums}
-use Rattle.rg_verify.specs.Judged.{ComesBefore}
+use Rattle.rg_verify.specs.Judged.{IsVariableBefore}
 use Rattle.rg_reasons.specs.Sums.{variable_of}
 use Rattle.rg_verify.specs.Terms.{size_in}
 
@@ -111,7 +111,7 @@ PassesByRow k terms constant old = PassesByTerms k terms old ⊎ (greatest < old
 pub record IsLeftFirst (sums : Sums) (v : linear.Variable) : Type 0 where
   pub in_table : HasEntry sums v
   pub left : signed_at sums v ≢ pos 0
-  pub first : (w : linear.Variable) → ComesBefore w v → signed_at sums w ≡ pos 0
+  pub first : (w : linear.Variable) → IsVariableBefore w v → signed_at sums w ≡ pos 0
 
 -- every variable cancels, and the constants add up to less than 0
 pub record HasNoDefect (sums : Sums) : Type 0 where

@@ -3,7 +3,7 @@ ghost use Rattle.std.specs.Prelude.{◌↔◌, IfOk, IsTrue, MatchOption, map, A
 ghost use Rattle.rg_refuting.specs.Refutes.{IsMultiplier, LeafRefutes, IsSeparationProblem};
 ghost use Rattle.rg_reasons.specs.Certificates.{IsRowOf};
 ghost use Rattle.rg_reasons.specs.Trees.{named_row, row_name_of};
-ghost use Rattle.rg_verify.specs.Judged.{IsRight, IsDefectOf};
+ghost use Rattle.rg_verify.specs.Judged.{IsRightRow, IsDefectOf};
 ghost use Rattle.rg_verify.specs.Settings.{StandsIn, expression_in};
 ghost use Rattle.rg_verify.specs.Sides.{AreSidesOf};
 ghost use Rattle.rg_verify.specs.Sums.{IsClear};
@@ -51,7 +51,7 @@ fn row_defect(
 ) -> Option<Defect>
     requires asked { IsSeparationProblem lts.now problem_case.problem }
     requires rows { All (IsRowOf lts.now) (map named_row rows.now) }
-    ensures { MatchOption result (All (IsRight (StandsIn lts.now problem_case above.now)) (map named_row rows.now)) (IsDefectOf lts.now (StandsIn lts.now problem_case above.now) (expression_in lts.now problem_case above.now) (map named_row rows.now)) }
+    ensures { MatchOption result (All (IsRightRow (StandsIn lts.now problem_case above.now)) (map named_row rows.now)) (IsDefectOf lts.now (StandsIn lts.now problem_case above.now) (expression_in lts.now problem_case above.now) (map named_row rows.now)) }
 {
     for (name, multiplier) in rows {
         if !stands(lts, problem_case, above, *name) {

@@ -6,7 +6,7 @@ ghost use Rattle.rg_refuting.specs.Expression as linear;
 ghost use Rattle.rg_refuting.specs.Refutes.{IsSeparationProblem, IsSmall};
 ghost use Rattle.rg_reasons.specs.Certificates.{IsRowOf};
 ghost use Rattle.rg_reasons.specs.Trees.{named_row};
-ghost use Rattle.rg_verify.specs.Judged.{ComesBefore};
+ghost use Rattle.rg_verify.specs.Judged.{IsVariableBefore};
 ghost use Rattle.rg_reasons.specs.Sums.{variable_of};
 
 use crate::opposites::row_expression;
@@ -277,7 +277,7 @@ impl Sums {
 
 // The first of a variable, if there is one, and another.
 fn first_of(first: Option<Variable>, other: Variable) -> Variable
-    ensures { MatchOption first (result ≡ other) (λ v. ((result ≡ v) × ComesBefore (variable_of v) (variable_of other)) ⊎ ((result ≡ other) × (¬ ComesBefore (variable_of v) (variable_of other)))) }
+    ensures { MatchOption first (result ≡ other) (λ v. ((result ≡ v) × IsVariableBefore (variable_of v) (variable_of other)) ⊎ ((result ≡ other) × (¬ IsVariableBefore (variable_of v) (variable_of other)))) }
 {
     match first {
         Some(variable) if comes_before(variable, other) => variable,

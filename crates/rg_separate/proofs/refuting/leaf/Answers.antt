@@ -1,29 +1,42 @@
-use Rattle.std.proofs.Common.{map, Err, inr, sym, ap, subst}
+use Rattle.std.proofs.Common.{map, Err, inr, sym, ap, subst, arith}
+use Rattle.std.proofs.lemmas.List.Elements.{All-nil}
+use Rattle.rg_reasons.specs.Certificates.{IsFormOf}
 use Rattle.rg_folds.specs.Shown.{Shown, ShownWide}
 use Rattle.rg_cycles.specs.View.{cycle_of}
 use Rattle.rg_feasible.specs.Settling.{multiplier_with}
 use Rattle.rg_farkas.specs.Leaves.{share_of}
 use Rattle.rg_farkas.proofs.Multipliers.{stand_all, range_all, shares_refute}
 use Rattle.rg_separate.proofs.Leaves.{spread_shown, farkas}
-use Rattle.rg_separate.proofs.PlaceOfPoint.{case_over}
+use Rattle.rg_separate.proofs.PlaceOfPoint.{case_over, asked}
 use Rattle.rg_separate.proofs.refuting.leaf.Goals as goal
 
-pub spread-requires-clause-stand : goal.spread-requires-clause-stand
-spread-requires-clause-stand c =
-    stand_all c.args.c.setting.lts.now c.args.c.setting.tree.now.arcs (cycle_of c.args.c.setting.basis.now) c.args.c.setting.class c.args.c.problem c.args.c.number c.requires.system.case (case_over c.args.c c.args.named.now c.requires.case c.requires.system)
-    (multiplier_with c.args.dictionary.now.table c.requires.refuted.0) (map share_of c.args.shares.now) (c.requires.shares c.requires.system.case c.requires.refuted.0 c.requires.system.shows c.requires.refuted.1)
-
-pub spread-requires-clause-names : goal.spread-requires-clause-names
-spread-requires-clause-names c =
-    range_all c.args.c.setting.lts.now c.args.c.setting.tree.now.arcs (cycle_of c.args.c.setting.basis.now) c.args.c.setting.class c.args.c.problem c.args.c.number c.requires.system.case (case_over c.args.c c.args.named.now c.requires.case c.requires.system)
-    (multiplier_with c.args.dictionary.now.table c.requires.refuted.0) (map share_of c.args.shares.now) (c.requires.shares c.requires.system.case c.requires.refuted.0 c.requires.system.shows c.requires.refuted.1)
-
-pub spread-requires-clause-refute : goal.spread-requires-clause-refute
-spread-requires-clause-refute c =
-    shares_refute c.args.c.setting.lts.now c.args.c.setting.tree.now.arcs (cycle_of c.args.c.setting.basis.now) c.args.c.setting.class c.args.c.problem c.args.c.number c.requires.system.case (case_over c.args.c c.args.named.now c.requires.case c.requires.system)
-    c.requires.case.live (multiplier_with c.args.dictionary.now.table c.requires.refuted.0)
-    (farkas c.args.c c.args.named.now c.args.dictionary.now c.requires.refuted.0 c.requires.system c.requires.refuted.1)
-    (map share_of c.args.shares.now) (c.requires.shares c.requires.system.case c.requires.refuted.0 c.requires.system.shows c.requires.refuted.1)
+pub spread-requires : goal.spread-requires
+spread-requires c =
+    let lts = c.args.c.setting.lts.now in
+    let tree = c.args.c.setting.tree.now.arcs in
+    let cycle = cycle_of c.args.c.setting.basis.now in
+    let problem = c.args.c.problem in
+    let system = c.requires.system.case in
+    let over = case_over c.args.c c.args.named.now c.requires.case c.requires.system in
+    let refuted = c.requires.refuted.1 in
+    let multiplier = multiplier_with c.args.dictionary.now.table c.requires.refuted.0 in
+    let shares = map share_of c.args.shares.now in
+    let fold = c.requires.shares system c.requires.refuted.0 c.requires.system.shows refuted in
+    record {
+      reachable = c.requires.case.setting.reachable;
+      tree = c.requires.case.setting.tree;
+      labels = c.requires.case.setting.labels;
+      basis = c.requires.case.setting.basis;
+      asked = asked lts problem c.requires.case.has;
+      case = c.requires.case.below;
+      sides = All-nil (λ s. IsFormOf lts s.form);
+      stand = stand_all lts tree cycle c.args.c.setting.class problem c.args.c.number system over multiplier shares fold;
+      names = range_all lts tree cycle c.args.c.setting.class problem c.args.c.number system over multiplier shares fold;
+      refute = shares_refute lts tree cycle c.args.c.setting.class problem c.args.c.number system over c.requires.case.live multiplier
+          (farkas c.args.c c.args.named.now c.args.dictionary.now c.requires.refuted.0 c.requires.system refuted) shares fold;
+      few_rows = c.requires.few;
+      few_sides = omega arith;
+    }
 
 pub returns-in-Err-Wide : goal.returns-in-Err-Wide
 returns-in-Err-Wide c =

@@ -4,7 +4,7 @@ use Rattle.std.proofs.lemmas.List.Elements.{All-push}
 use Rattle.rg_integers.proofs.Casts.{back}
 use Rattle.rg_reasons.specs.Certificates.{IsRowOf}
 use Rattle.rg_reasons.specs.Trees.{named_row}
-use Rattle.rg_verify.specs.Judged.{IsRight}
+use Rattle.rg_verify.specs.Judged.{IsRightRow}
 use Rattle.rg_verify.specs.Settings.{StandsIn}
 use Rattle.rg_verify.proofs.Places.{image_at}
 use Rattle.rg_verify.proofs.Rows.{no_row, multiplier_at}
@@ -37,11 +37,11 @@ pub loop-name-preserved : goal.loop-name-preserved
 loop-name-preserved c =
     let k = back (get_or c.args.rows.now c.loop-name.name-index no_row).1 (multiplier_at c.args.lts.now c.args.rows.now c.loop-name.name-index c.requires.rows c.loop-name-test.true) in
     let told = rw k at c.is_multiplier.ensures in
-    let P = IsRight (StandsIn c.args.lts.now c.args.problem_case c.args.above.now) in
+    let P = IsRightRow (StandsIn c.args.lts.now c.args.problem_case c.args.above.now) in
     subst (All P) (sym (map_more named_row c.args.rows.now c.loop-name.name-index no_row c.loop-name-test.true))
     (All-push P (map named_row (take c.loop-name.name-index c.args.rows.now)) (named_row (get_or c.args.rows.now c.loop-name.name-index no_row)) c.loop-name.invariant (c.stands.ensures.0 c.if-not-stands.false, told.0 c.if-not-is_multiplier.false))
 
 pub returns : goal.returns
 returns c =
-    let P = IsRight (StandsIn c.args.lts.now c.args.problem_case c.args.above.now) in
+    let P = IsRightRow (StandsIn c.args.lts.now c.args.problem_case c.args.above.now) in
     subst (λ rows. All P (map named_row rows)) (take_all c.loop-name.name-index c.args.rows.now c.loop-name-test.false) c.loop-name.invariant
