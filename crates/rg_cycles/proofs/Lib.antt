@@ -7,3 +7,4 @@ pub mod Showing
 pub mod Filling
 pub mod Equations
 pub mod Folding
+pub mod Items

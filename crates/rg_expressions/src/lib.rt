@@ -14,6 +14,3 @@ pub use case::ProblemCase;
 pub use counts::{count, start};
 pub use rows::expression;
 pub use term::{Expression, Term};
-
-#[cfg(test)]
-mod tests;

@@ -6,7 +6,7 @@ ghost use Rattle.rg_fraction.specs.declared.term.Wide.{Wide};
 ghost use Rattle.rg_refuting.specs.Expression.{Expression, same_variable, coefficient_in};
 ghost use Rattle.rg_refuting.specs.Row.{RowName};
 ghost use Rattle.rg_cert.specs.Trees.{variable_of};
-ghost use Rattle.rg_cycles.specs.declared.substitution.FoldStop.TheVariants as stop;
+ghost use Rattle.rg_fraction.specs.declared.fold_stop.FoldStop.TheVariants as stop;
 ghost use Rattle.rg_folds.specs.Fold.{gives, and_then, further, whole_sum, whole_product};
 ghost use Rattle.rg_folds.specs.Spreading.{tree_fold, addend_fold, leaving};
 ghost use Rattle.rg_expressions.specs.View.{term_of};
@@ -14,9 +14,8 @@ ghost use Rattle.rg_farkas.specs.View.{named_of, Tells, arc_times, row_addend};
 
 use crate::multiplied::Row;
 use rg_cert::Form;
-use rg_cycles::FoldStop;
 use rg_expressions::Term::{self, Minus, Plus};
-use rg_fraction::Wide;
+use rg_fraction::{FoldStop, Wide, whole_product, whole_sum};
 use rg_theory::Arc;
 use std::alloc::Global;
 
@@ -60,8 +59,8 @@ fn rows_sum(rows: &[Row], state: u32) -> Result<i128, Wide>
     let mut sum = 0;
     for row in rows {
         let number = coefficient(&row.expression.terms, Form::Tokens(state));
-        let product = times(row.multiplier, number)?;
-        sum = plus(sum, product)?;
+        let product = whole_product(row.multiplier, number)?;
+        sum = whole_sum(sum, product)?;
     }
     Ok(sum)
 }
@@ -77,7 +76,7 @@ fn leaving_sum(start: i128, arcs: &[Arc], multipliers: &[i128], state: u32) -> R
     let mut sum = start;
     for (k, arc) in arcs.iter().enumerate() {
         if arc.from == state {
-            sum = plus(sum, multipliers[k])?;
+            sum = whole_sum(sum, multipliers[k])?;
         }
     }
     Ok(sum)
@@ -109,41 +108,12 @@ fn coefficient_of(term: Term, form: Form) -> i128
     }
 }
 
-// The sum, where it is in range.
-pub(crate) fn plus(x: i128, y: i128) -> Result<i128, Wide>
-    requires { InRange y }
-    ensures value { whole_sum x y result }
-    ensures in_range { IfOk result InRange }
-{
-    Wide {
-        a: x,
-        b: 1,
-        c: -y,
-        d: 1,
-    }
-    .evaluate()
-}
-
-// The product, where it is in range.
-pub(crate) fn times(x: i128, y: i128) -> Result<i128, Wide>
-    ensures value { whole_product x y result }
-    ensures in_range { IfOk result InRange }
-{
-    Wide {
-        a: x,
-        b: y,
-        c: 0,
-        d: 0,
-    }
-    .evaluate()
-}
-
 // The absolute value of the product, where the product is in range.
 pub(crate) fn size_times(x: i128, y: i128) -> Result<i128, Wide>
     ensures value { and_then (whole_product x y) (λ z. gives (size z)) result }
     ensures in_range { IfOk result InRange }
 {
-    let product = times(x, y)?;
+    let product = whole_product(x, y)?;
     Ok(absolute(product))
 }
 

@@ -6,8 +6,8 @@ ghost use Rattle.rg_rows.specs.View.{numbers_of, kept_row, ShowsRows};
 
 use crate::named_row::NamedRow;
 use rg_cert::RowName;
-use rg_feasible::Row;
 use rg_fraction::Fraction;
+use rg_linear::Row;
 use std::alloc::{AllocError, Global};
 use std::collections::HashSet;
 
