@@ -1,7 +1,7 @@
 //! The descent told plainly, for tests: a recursion that copies its relations, with so few exchanges that
 //! its numbers stay small.
 
-use crate::Row;
+use rg_linear::Row;
 use std::alloc::{AllocError, Global};
 
 // The variable times `d` is the constant and the sum of all variables, each times its coefficient. Members

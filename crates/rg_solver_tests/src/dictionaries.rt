@@ -1,4 +1,5 @@
-use crate::{Dictionary, ExchangeWide};
+//! Exchanges in a dictionary.
+use rg_dictionary::{Dictionary, ExchangeWide};
 use rg_fraction::Wide;
 use std::process::Abort;
 use std::test::Fail;

@@ -1,22 +1,16 @@
 //! Small systems worked by hand, and the descent told a second time, plainly.
-ghost use Rattle.std.specs.Prelude.{◌≡◌, ℕ, ◌+◌, ◌<◌, ◌≤◌, All, IsTrue, length};
-ghost use Rattle.rg_integers.specs.Range.{InRange};
-ghost use Rattle.rg_feasible.specs.View.{linear_system, IsWellFormed};
+ghost use Rattle.std.specs.Prelude.{◌≡◌, ℕ, ◌+◌, ◌<◌, ◌≤◌, IsTrue, length};
+ghost use Rattle.rg_linear.specs.View.{linear_system, IsWellFormed};
 ghost use Rattle.rg_feasible.specs.Settling.{IsWhole, IsRefutation};
 
-use crate::{Dictionary, PivotWide, Row, Settled, System, plain};
+use crate::bases::is_in_range;
+use crate::plain;
+use rg_feasible::{Dictionary, PivotWide, Settled};
 use rg_fraction::Wide;
+use rg_linear::{Row, System};
 use std::alloc::{AllocError, Global};
 use std::process::Abort;
 use std::test::Fail;
-
-fn is_in_range(coeffs: &[i128]) -> bool
-    ensures { IsTrue result → All InRange coeffs.now }
-{
-    coeffs
-        .iter()
-        .all(|z| z.unsigned_abs() <= i128::MAX.unsigned_abs())
-}
 
 fn is_well_formed(columns: u32, rows: &[Row]) -> bool
     ensures { IsTrue result → IsWellFormed (linear_system columns rows.now) }
@@ -141,14 +135,8 @@ fn settles<const N: usize>(
 fn one_column(rt: HostRuntime) -> Result<(), Fail> {
     // x - 1 and 3 - x; x - 1 and -x
     let point = [([1], -1), ([-1], 3)];
-    settles(
-        &rt,
-        &point,
-        Settled::Point,
-        &[1],
-        &[(1, 1), (0, 1), (2, 1)],
-        &[],
-    )?;
+    let values = [(1, 1), (0, 1), (2, 1)];
+    settles(&rt, &point, Settled::Point, &[1], &values, &[])?;
     let refuted = [([1], -1), ([-1], 0)];
     settles(&rt, &refuted, Settled::Refuted(0), &[2], &[], &[1, 1])
 }
@@ -209,44 +197,45 @@ fn agrees(
 
 #[test]
 fn plain_descent_agrees(rt: HostRuntime) -> Result<(), Fail> {
-    agrees(
-        &rt,
-        &[
-            ([-2, 2, 1], -2),
-            ([2, 2, 2], 0),
-            ([0, 2, 0], -1),
-            ([2, -1, 0], -1),
-        ],
-        None,
-    )?;
-    agrees(
-        &rt,
-        &[
-            ([-2, 1, -1], -2),
-            ([-2, -1, 1], 1),
-            ([-1, 0, -2], -2),
-            ([0, 0, -2], -2),
-        ],
-        None,
-    )?;
-    agrees(
-        &rt,
-        &[
-            ([0, 2, 0], 0),
-            ([-2, 2, 0], -2),
-            ([0, -1, -1], 0),
-            ([1, -1, 2], -2),
-        ],
-        Some(0),
-    )?;
-    agrees(
-        &rt,
-        &[
-            ([2, -2, 1], 1),
-            ([0, 2, -2], 1),
-            ([-2, -1, -1], 0),
-            ([0, 0, 1], -2),
-        ],
-        Some(0),
-    )
+    for (list, refuted) in [
+        (
+            [
+                ([-2, 2, 1], -2),
+                ([2, 2, 2], 0),
+                ([0, 2, 0], -1),
+                ([2, -1, 0], -1),
+            ],
+            None,
+        ),
+        (
+            [
+                ([-2, 1, -1], -2),
+                ([-2, -1, 1], 1),
+                ([-1, 0, -2], -2),
+                ([0, 0, -2], -2),
+            ],
+            None,
+        ),
+        (
+            [
+                ([0, 2, 0], 0),
+                ([-2, 2, 0], -2),
+                ([0, -1, -1], 0),
+                ([1, -1, 2], -2),
+            ],
+            Some(0),
+        ),
+        (
+            [
+                ([2, -2, 1], 1),
+                ([0, 2, -2], 1),
+                ([-2, -1, -1], 0),
+                ([0, 0, 1], -2),
+            ],
+            Some(0),
+        ),
+    ] {
+        agrees(&rt, &list, refuted)?;
+    }
+    Ok(())
 }

@@ -1,51 +1,17 @@
-//! Rows and counts of a small system, worked by hand.
-ghost use Rattle.rg_spanning.specs.Spanning.{IsTreeOf};
-
-use crate::Term::{self, Minus, Plus};
-use crate::{ProblemCase, count, expression, start};
+//! Rows and counts of the word a b a.
+use crate::systems::{ABA, NONBRANCHING, NONE, system};
 use rg_cert::Form::{Effect, Tokens};
 use rg_cert::RowName;
-use rg_lts::{BuildFault, Lts, LtsBuilder};
+use rg_expressions::Term::{Minus, Plus};
+use rg_expressions::{ProblemCase, count, expression, start};
 use rg_spanning::Tree;
-use rg_theory::Class;
 use rg_theory::Problem::{Event, States};
-use std::alloc::{AllocError, Global};
+use std::alloc::AllocError;
 use std::test::Fail;
-
-const NONE: Class = Class {
-    pure: false,
-    plain: false,
-    bound: None,
-    nonbranching: false,
-};
-
-const NONBRANCHING: Class = Class {
-    nonbranching: true,
-    ..NONE
-};
-
-// From state 0 label 0 leads to state 1, and label 1 on to state 2.
-fn line(alloc: Global) -> Result<Lts, BuildFault> {
-    let mut builder = LtsBuilder::new(alloc);
-    for name in ["a", "b", "c"] {
-        if builder.state_number(name).is_none() {
-            builder.state(name)?;
-        }
-    }
-    for name in ["go", "on"] {
-        if builder.label_number(name).is_none() {
-            builder.label(name)?;
-        }
-    }
-    builder.arc("a", "go", "b")?;
-    builder.arc("b", "on", "c")?;
-    builder.initial("a")?;
-    builder.finish()
-}
 
 #[test]
 fn the_order_and_the_consumer_are_told(rt: HostRuntime) -> Result<(), Fail> {
-    let lts = line(rt.alloc())?;
+    let lts = system(rt.alloc(), ABA)?;
     let case = ProblemCase {
         class: NONBRANCHING,
         problem: States(0, 2),
@@ -62,7 +28,7 @@ fn the_order_and_the_consumer_are_told(rt: HostRuntime) -> Result<(), Fail> {
 // The row `stop` at state 2 of the problem of label 0 at state 1: its tokens less those of state 1, less 1.
 #[test]
 fn a_stop_is_told_and_counted(rt: HostRuntime) -> Result<(), Fail> {
-    let lts = line(rt.alloc())?;
+    let lts = system(rt.alloc(), ABA)?;
     let case = ProblemCase {
         class: NONE,
         problem: Event(1, 0),
@@ -80,7 +46,7 @@ fn a_stop_is_told_and_counted(rt: HostRuntime) -> Result<(), Fail> {
 
 #[test]
 fn labels_count_along_the_tree(rt: HostRuntime) -> Result<(), Fail> {
-    let lts = line(rt.alloc())?;
+    let lts = system(rt.alloc(), ABA)?;
     let tree = Tree::grow(rt.alloc(), &lts)?;
     if lts.labels() < 2 || lts.states() < 3 {
         return Err(Fail::from(AllocError));

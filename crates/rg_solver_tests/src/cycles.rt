@@ -1,46 +1,12 @@
 //! Small bases worked by hand, and the walk at the limit of the range.
-ghost use Rattle.std.specs.Prelude.{◌≡◌, ◌<◌, All, IsTrue, IfOk};
-ghost use Rattle.rg_integers.specs.Range.{InRange};
-ghost use Rattle.rg_cycles.specs.Vectors.{numbers_in, AreVectors};
-ghost use Rattle.rg_cycles.specs.View.{labels_of};
-
-use crate::{Basis, CycleWide, FoldStop, Relation, Stop, reduce, substitute};
-use rg_fraction::{Fraction, Wide};
+use crate::bases::solved;
+use rg_cycles::{CycleWide, Relation, Stop, substitute};
+use rg_fraction::{FoldStop, Fraction, Wide};
 use std::alloc::{AllocError, Global};
 use std::test::Fail;
 
 // 2^126
 const HALF: i128 = 85070591730234615865843651857942052864;
-
-fn is_in_range(chord: &[i128]) -> bool
-    ensures { IsTrue result → All InRange chord.now }
-{
-    chord
-        .iter()
-        .all(|z| z.unsigned_abs() <= i128::MAX.unsigned_abs())
-}
-
-fn are_vectors(labels: u32, chords: &[Vec<i128>]) -> bool
-    ensures { IsTrue result → AreVectors labels (numbers_in chords.now) }
-{
-    for chord in chords {
-        if chord.len() != labels as usize || !is_in_range(chord) {
-            return false;
-        }
-    }
-    true
-}
-
-// The basis of chords that have one entry in range for each label.
-fn solved(alloc: Global, labels: u32, chords: &[Vec<i128>]) -> Result<Basis, Stop>
-    ensures { IfOk result (λ b. labels_of b ≡ labels) }
-{
-    if labels <= 256 && chords.len() <= 262144 && are_vectors(labels, chords) {
-        reduce(alloc, labels, chords)
-    } else {
-        Err(Stop::NoMemory)
-    }
-}
 
 // Chord i says that twice the effect of label i is the effect of label i + 1.
 fn doubling(alloc: Global, labels: u32) -> Result<Vec<Vec<i128>>, AllocError> {
