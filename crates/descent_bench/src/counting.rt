@@ -4,7 +4,7 @@ ghost use Rattle.std.specs.Prelude.{◌≢◌, ◌+◌, ◌<◌, ◌≤◌, leng
 ghost use Rattle.rg_integers.specs.Sum.{number_at};
 
 use rg_dictionary::Dictionary as Table;
-use rg_feasible::System;
+use rg_linear::System;
 use std::alloc::{AllocError, Global};
 
 // What came of a row.

@@ -12,7 +12,8 @@ mod random;
 
 use counting::{Ending, descend, table_of};
 use random::system;
-use rg_feasible::{Dictionary, Settled, System};
+use rg_feasible::{Dictionary, Settled};
+use rg_linear::System;
 use std::alloc::AllocError;
 use std::time::{Clock, Duration, Instant};
 use std::{env, io};

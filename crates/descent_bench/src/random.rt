@@ -3,7 +3,7 @@
 ghost use Rattle.std.specs.Prelude.{◌≡◌, ◌+◌, ◌<◌, ◌^◌, All, length, IfOk};
 ghost use Rattle.rg_integers.specs.Range.{InRange};
 
-use rg_feasible::{Row, System};
+use rg_linear::{Row, System};
 use std::alloc::{AllocError, Global};
 
 // An xorshift generator of 64 bits (Marsaglia, *Xorshift RNGs*).

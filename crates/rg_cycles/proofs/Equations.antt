@@ -23,7 +23,7 @@ use Rattle.rg_linear.proofs.Members.{length-numbers_from, Contains-numbers_from,
 use Rattle.rg_linear.proofs.Columns.{values_of, values_of-column, values_of-point, below_test, past_test}
 use Rattle.rg_linear.proofs.Unique.{same_relation}
 use Rattle.rg_linear.proofs.Cycles.{cycle_is_exact, same_cycle, no_constant}
-use Rattle.rg_linear.proofs.Firsts.{item_stays, same_kept}
+use Rattle.rg_linear.proofs.Firsts.{item_stays, same_kept, kept_count}
 use Rattle.rg_folds.specs.Rewriting.{is_in, numbers_where}
 use Rattle.rg_folds.proofs.Scaling.{both_sums}
 use Rattle.rg_cycles.specs.Vectors.{vector_sum, AllSumsAreZero}
@@ -226,12 +226,6 @@ solved labels vectors kept d keeps whole walk = record {
   dictionary = subst (λ n. IsDictionary (vector_system n vectors kept) d) (sym whole.columns) whole;
   walk = subst (λ n. CycleWalk (vector_system n vectors kept) (free_set d.members)) (sym whole.columns) walk;
 }
-
--- no more are kept than there are
-kept_count : {X K : Type 0} (key : X → K) (Drops : X → Type 0) (seen : List K) (xs kept : List X) → KeepsFirsts key Drops seen xs kept → length kept ≤ length xs
-kept_count key Drops seen [] kept is = let e = ap length is in omega arith
-kept_count key Drops seen (x ∷ xs) kept (inl (gone, k)) = let h = kept_count key Drops seen xs kept k in omega arith
-kept_count key Drops seen (x ∷ xs) kept (inr (stays, fresh, (rest, is, k))) = let h = kept_count key Drops (key x ∷ seen) xs rest k in let e = ap length is in omega arith
 
 pub kept_few : (vectors : List (List ℤ)) (kept : List ℕ) → KeepsVectors vectors kept → length kept ≤ length vectors
 kept_few vectors kept k = let h = kept_count (vector_at vectors) (λ i. IsZeroVector (vector_at vectors i)) [] (numbers_from 0 (length vectors)) kept k in let e = length-numbers_from 0 (length vectors) in omega arith

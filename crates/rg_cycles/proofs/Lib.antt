@@ -8,3 +8,4 @@ pub mod Filling
 pub mod Equations
 pub mod Folding
 pub mod AddsNothing
+pub mod Items

@@ -21,13 +21,15 @@ use Rattle.rg_linear.proofs.Members.{Contains-here, Contains-there, Contains-con
 use Rattle.rg_linear.proofs.Firsts.{kept_is}
 use Rattle.rg_linear.proofs.Columns.{below_test, past_test}
 use Rattle.rg_linear.proofs.Cycles.{no_constant}
+use Rattle.rg_linear.specs.Table.{number_beside}
+use Rattle.rg_linear.proofs.TableLemmas.{beside_map}
 use Rattle.rg_folds.specs.Rewriting.{is_in, free_labels}
 use Rattle.rg_dictionary.specs.Contents.{Contents, row_of}
 use Rattle.rg_cycles.specs.declared.relation.Relation.{Relation}
-use Rattle.rg_cycles.specs.Basis.{vector_numbers, ShowsRelation, IsRelationInRange, number_beside, number_with, row_number, relation_of, cycle_basis, AreRelations}
+use Rattle.rg_cycles.specs.Basis.{vector_numbers, ShowsRelation, IsRelationInRange, number_with, row_number, relation_of, cycle_basis, AreRelations}
 use Rattle.rg_cycles.specs.Reading.{HasNumbers, IsRead, AreRead}
 use Rattle.rg_cycles.specs.Walk.{IsSolved}
-use Rattle.rg_cycles.proofs.Steps.{shown_number}
+use Rattle.rg_dictionary.proofs.RowTerms.{shown_number}
 use Rattle.rg_cycles.proofs.Labels.{in_set, not_in_set, filter_has, filter_from, free_members}
 
 -- ---- the kept places
@@ -56,15 +58,6 @@ same_place (x ∷ xs) (suc i) zero h lt lt' e = absurd (let g = h.0 (slice_index
 same_place (x ∷ xs) (suc i) (suc j) h lt lt' e = ap suc (same_place xs i j h.1 (omega arith) (omega arith) e)
 
 -- ---- coefficients from the numbers
-
--- the number beside a label is its coefficient
-beside_is : (f : ℕ → ℤ) (free : List ℕ) (m : ℕ) → (¬ Contains free m → f m ≡ pos 0) → number_beside free (map f free) m ≡ f m
-beside_is f [] m none = sym (none (λ has. Contains-nil m has))
-beside_is f (x ∷ free) m none = go (x == m) refl (λ h. beside_is f free m h)
-  where
-    go : (b : Bool) → (x == m) ≡ b → ((¬ Contains free m → f m ≡ pos 0) → number_beside free (map f free) m ≡ f m) → (if b then f x else number_beside free (map f free) m) ≡ f m
-    go true e next = ap f (eqb-true x m e)
-    go false e next = next (λ lacks. none (λ has. ⊎_elim (λ same. false≢true (sym e ∙ (eq-eqb x m same))) lacks (Contains-cons_cases x m free has)))
 
 -- the number of a row among the pairs is its coefficient
 module _ (f : ℕ → ℤ) (labels : ℕ) (kept : List ℕ) (order : IsInOrder kept) (m : ℕ) (past : labels ≤ m) (lt : m - labels < length kept) where
@@ -131,7 +124,7 @@ module _ (labels : ℕ) (vectors : List (List ℤ)) (kept members : List ℕ) (o
   coefficient_is free r is has m = ⊎_elim label past (cases_lt m labels)
     where
       label : m < labels → (if nat_lt m labels then number_beside free r.free.items m else row_number r.chords.items (slice_get kept (m - labels))) ≡ k.coefficient m
-      label lt = rw (below_test m labels lt) (ap₂ (λ xs zs. number_beside xs zs m) is has.free ∙ beside_is k.coefficient (filter (λ u. nat_lt u labels) members) m (λ lacks. row.over m (λ member. lacks (filter_has (λ u. nat_lt u labels) members m member (below_test m labels lt)))))
+      label lt = rw (below_test m labels lt) (ap₂ (λ xs zs. number_beside xs zs m) is has.free ∙ beside_map k.coefficient (filter (λ u. nat_lt u labels) members) m (λ lacks. row.over m (λ member. lacks (filter_has (λ u. nat_lt u labels) members m member (below_test m labels lt)))))
 
       no_row : length kept ≤ m - labels → labels ≤ m → pos 0 ≡ k.coefficient m
       no_row none above = sym (row.over m (λ member. (let h = within m member above in omega arith)))

@@ -14,19 +14,10 @@ use Rattle.rg_linear.specs.Cycle.{CycleOutcome, CycleOutcome.free_set, CycleOutc
 use Rattle.rg_linear.proofs.Members.{is_member, exchanged-Contains, numbers_from-Contains}
 use Rattle.rg_integers.proofs.Order.{is_zero_or_not}
 use Rattle.rg_dictionary.specs.Contents.{Contents, IsDictionary, IsOutside, SameShape}
+use Rattle.rg_dictionary.proofs.RowTerms.{shown_number}
 use Rattle.rg_cycles.specs.Walk.{NamesLabel, IsWhole, RowsAhead}
 
 -- ---- numbers by their places
-
-two_more : (a b : ℤ) (xs : List ℤ) (p : ℕ) → number_at (a ∷ b ∷ xs) (p + 2) ≡ number_at xs p
-two_more a b xs p = ap (number_at (a ∷ b ∷ xs)) (two p)
-  where
-    two : (p : ℕ) → p + 2 ≡ suc (suc p)
-    two p = omega arith
-
--- the number of the member at a place
-pub shown_number : (members : List ℕ) (k : Relation) (numbers : List ℤ) (p : ℕ) → numbers ≡ numbers_of members k → p < length members → number_at numbers (p + 2) ≡ k.coefficient (slice_index members p)
-shown_number members k numbers p e lt = ap (λ xs. number_at xs (p + 2)) e ∙ two_more k.d k.constant (map k.coefficient members) p ∙ get_or-map k.coefficient members p 0 (pos 0) lt
 
 -- ---- which label the relation of a row names
 

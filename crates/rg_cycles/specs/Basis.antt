@@ -5,6 +5,7 @@ use Rattle.rg_integers.specs.Range.{InRange}
 use Rattle.rg_integers.specs.Sum.{number_at}
 use Rattle.rg_linear.specs.Dictionary.{Relation as LinearRelation}
 use Rattle.rg_linear.specs.Cycle.{CycleBasis, no_relation}
+use Rattle.rg_linear.specs.Table.{number_beside}
 use Rattle.rg_cycles.specs.declared.relation.Relation.{Relation}
 use Rattle.rg_folds.specs.Rewriting.{is_in, free_labels}
 
@@ -26,12 +27,6 @@ pub record IsRelationInRange (r : Relation) : Type 0 where
   pub chords : (n : ℕ) → InRange (slice_index_or r.chords.items n (0, pos 0)).1
 
 -- ---- from the numbers that code keeps
-
--- the number beside the label, 0 where it is not listed
-abbrev pub number_beside : List ℕ → List ℤ → ℕ → ℤ
-number_beside [] numbers f = pos 0
-number_beside (x ∷ labels) [] f = pos 0
-number_beside (x ∷ labels) (z ∷ numbers) f = if x == f then z else number_beside labels numbers f
 
 -- the number of the vector at this place, 0 where it is not listed
 abbrev pub number_with : List (ℕ × ℤ) → ℕ → ℤ

@@ -18,7 +18,4 @@ pub use basis::Basis;
 pub use relation::Relation;
 pub use solving::reduce;
 pub use stop::{CycleWide, Stop};
-pub use substitution::{FoldStop, FreeRow, substitute};
-
-#[cfg(test)]
-mod tests;
+pub use substitution::{FreeRow, substitute};

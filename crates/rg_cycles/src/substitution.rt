@@ -5,47 +5,14 @@ ghost use Rattle.rg_integers.specs.Sum.{number_at};
 ghost use Rattle.rg_fraction.specs.declared.term.Wide.{Wide};
 ghost use Rattle.rg_folds.specs.Fold.{whole, ratio_of, shown_result, quotient, add, mul, and_then};
 ghost use Rattle.rg_folds.specs.Rewriting.{free_labels, coefficient_fold, substitute_fold};
-ghost use Rattle.rg_cycles.specs.declared.substitution.FoldStop.TheVariants as stop;
+ghost use Rattle.rg_fraction.specs.declared.fold_stop.FoldStop.TheVariants as stop;
 ghost use Rattle.rg_cycles.specs.Basis.{IsRelationInRange};
 ghost use Rattle.rg_cycles.specs.View.{labels_of, cycle_of};
 
 use crate::basis::Basis;
 use crate::relation::Relation;
-use rg_fraction::{Fraction, Wide};
-use std::alloc::{AllocError, AllocFailed, Global};
-
-/// Why a sum wasn't written over the free labels.
-#[derive(Clone, Copy, PartialEq, Eq, Debug)]
-pub enum FoldStop {
-    /// A step is out of range: the four numbers of the first such one.
-    Wide(Wide),
-    /// There is no memory left.
-    NoMemory,
-}
-
-impl<T: Drop> From<AllocFailed<T>> for FoldStop {
-    ghost from_gives = { λ _ e. e ≡ stop.NoMemory };
-
-    fn from(_: AllocFailed<T>) -> FoldStop {
-        FoldStop::NoMemory
-    }
-}
-
-impl From<AllocError> for FoldStop {
-    ghost from_gives = { λ _ e. e ≡ stop.NoMemory };
-
-    fn from(_: AllocError) -> FoldStop {
-        FoldStop::NoMemory
-    }
-}
-
-impl From<Wide> for FoldStop {
-    ghost from_gives = { λ w e. e ≡ stop.Wide w };
-
-    fn from(w: Wide) -> FoldStop {
-        FoldStop::Wide(w)
-    }
-}
+use rg_fraction::{FoldStop, Fraction, Wide};
+use std::alloc::Global;
 
 /// A sum over the free labels: one coefficient for each, in order.
 #[derive(PartialEq, Debug, Drop)]

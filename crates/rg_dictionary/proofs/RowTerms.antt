@@ -1,5 +1,5 @@
 -- The terms of a relation, as the renewal of its row forms them.
-use Rattle.std.proofs.Common.{◌≡◌, ⊎_elim, ℕ, zero, suc, ◌+◌, ◌<◌, ◌≤◌, List, [], ◌∷◌, ◌++◌, map, length, get_or, Some, slice_get, ap, refl, subst, sym, ◌∙◌, arith}
+use Rattle.std.proofs.Common.{◌≡◌, ⊎_elim, ℕ, zero, suc, ◌+◌, ◌<◌, ◌≤◌, List, [], ◌∷◌, ◌++◌, map, length, get_or, slice_index, Some, slice_get, ap, refl, subst, sym, ◌∙◌, arith}
 use Rattle.std.specs.Prelude.{ℤ, pos, neg_ℤ, ◌*ℤ◌}
 use Rattle.std.specs.List.{remove}
 use Rattle.std.specs.List.Sorted.{IsStrictlyIncreasing}
@@ -25,6 +25,13 @@ length-numbers members l = ap (λ n. suc (suc n)) (length-map members l.coeffici
 
 pub number_shown : (members : List ℕ) (l : Relation) (n : ℕ) → n < length members → number_at (numbers_of members l) (suc (suc n)) ≡ l.coefficient (get_or members n 0)
 number_shown members l n lt = get_or-map l.coefficient members n 0 (pos 0) lt
+
+-- the number of the member at a place
+pub shown_number : (members : List ℕ) (k : Relation) (numbers : List ℤ) (p : ℕ) → numbers ≡ numbers_of members k → p < length members → number_at numbers (p + 2) ≡ k.coefficient (slice_index members p)
+shown_number members k numbers p e lt = ap (λ xs. number_at xs (p + 2)) e ∙ ap (number_at (numbers_of members k)) (two p) ∙ number_shown members k p lt
+  where
+    two : (p : ℕ) → p + 2 ≡ suc (suc p)
+    two p = omega arith
 
 -- ---- the signed row of the pivot
 

@@ -7,6 +7,3 @@ mod table;
 
 pub use dictionary::Dictionary;
 pub use table::ExchangeWide;
-
-#[cfg(test)]
-mod tests;

@@ -7,6 +7,3 @@
 mod counts;
 
 pub use counts::{count, start};
-
-#[cfg(test)]
-mod tests;

@@ -30,7 +30,7 @@ use Rattle.rg_farkas.specs.View.{LabelCount, pair_count, count_fold, counts_fold
 use Rattle.rg_farkas.proofs.ChordSums.{in_pairs}
 use Rattle.rg_farkas.proofs.ChordNumbers.{IsDependent}
 use Rattle.rg_farkas.proofs.Listed.{zeros-append}
-use Rattle.rg_scaling.proofs.Items.{each_length}
+use Rattle.rg_cycles.proofs.Items.{each_length}
 use Rattle.rg_farkas.proofs.Steps.{joined-map}
 use Rattle.rg_farkas.proofs.Told.{each_told}
 

@@ -16,7 +16,7 @@ use Rattle.rg_refuting.specs.Refutes.{NamedRow}
 use Rattle.rg_folds.specs.Spreading.{named_from, not_zero, multiplier_among, arc_name}
 use Rattle.rg_folds.proofs.Potentials.{among_is}
 use Rattle.rg_farkas.specs.View.{arc_times}
-use Rattle.rg_scaling.proofs.Items.{from_place}
+use Rattle.rg_cycles.proofs.Items.{from_place}
 
 -- what g of the rows' names adds up to, each times its multiplier
 abbrev pub rows_sum : (RowName → ℤ) → List NamedRow → ℤ

@@ -20,7 +20,7 @@ use Rattle.rg_reasons.specs.declared.sum.Expression.{Expression as CodeExpressio
 use Rattle.rg_reasons.specs.Sums.{terms_in, expression_of}
 use Rattle.rg_farkas.specs.View.{LabelCount, pair_count, label_count, AreRowsWithin}
 use Rattle.rg_reasons.specs.Certificates.{IsTermWithin}
-use Rattle.rg_scaling.proofs.Items.{from_place}
+use Rattle.rg_cycles.proofs.Items.{from_place}
 
 -- labels that aren't free are labels, and no members
 pub dependent_at : (n : ℕ) (basis : CycleBasis) (ts : List ℕ) (i : ℕ) → ts ≡ dependent_labels n basis → i < length ts → (not (is_in basis.members (slice_index_or ts i 0)) ≡ true) × (slice_index_or ts i 0 < n)

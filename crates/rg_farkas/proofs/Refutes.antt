@@ -47,7 +47,7 @@ use Rattle.rg_farkas.proofs.TreeSums.{SaysArcs, Runs, tree_runs, arc_at, arc_coe
 use Rattle.rg_farkas.proofs.Variables.{RowsWithin, by_variable, terms_split, outside_sum}
 use Rattle.rg_farkas.proofs.Distinct.{given_differ, given_inside}
 use Rattle.rg_farkas.proofs.Small.{is_small}
-use Rattle.rg_scaling.proofs.Items.{each_length}
+use Rattle.rg_cycles.proofs.Items.{each_length}
 
 -- ---- what holds of all rows of a leaf
 

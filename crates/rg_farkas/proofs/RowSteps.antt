@@ -9,7 +9,7 @@ use Rattle.rg_folds.specs.Fold.{further, whole_sum, whole_product}
 use Rattle.rg_folds.specs.Spreading.{Addend.number, addend_fold, leaving}
 use Rattle.rg_farkas.specs.declared.multiplied.Row.{Row}
 use Rattle.rg_farkas.specs.View.{row_addend, size_fold, coefficient_at, arc_times}
-use Rattle.rg_scaling.proofs.Items.{from_place}
+use Rattle.rg_cycles.proofs.Items.{from_place}
 use Rattle.rg_farkas.proofs.Steps.{sum_next, sum_unmade, sum_unjoined, sum_ends}
 
 -- ---- absolute values

@@ -6,7 +6,7 @@ use Rattle.rg_fraction.specs.declared.term.Wide.{Wide}
 use Rattle.rg_folds.specs.Fold.{further, joined}
 use Rattle.rg_folds.specs.Rewriting.{numbers_where}
 use Rattle.rg_cycles.proofs.Folding.{further_next, further_unmade, further_unjoined}
-use Rattle.rg_scaling.proofs.Items.{from_place}
+use Rattle.rg_cycles.proofs.Items.{from_place}
 
 -- ---- a sum, item by item
 

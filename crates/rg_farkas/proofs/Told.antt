@@ -21,7 +21,7 @@ use Rattle.rg_reasons.specs.Trees.{row_name_of}
 use Rattle.rg_farkas.specs.declared.multiplied.Row.{Row}
 use Rattle.rg_reasons.specs.Sums.{expression_of, variable_of}
 use Rattle.rg_farkas.specs.View.{named_of, Tells, row_addend, size_fold, coefficient_at, arc_times}
-use Rattle.rg_scaling.proofs.Items.{from_place, item_next, item_fails, items_end}
+use Rattle.rg_cycles.proofs.Items.{from_place, item_next, item_fails, items_end}
 use Rattle.rg_farkas.proofs.Steps.{from_neutral}
 use Rattle.rg_cycles.proofs.Folding.{behind}
 use Rattle.rg_reasons.specs.declared.variable.Variable.{Variable as CodeVariable}

@@ -20,6 +20,3 @@ mod sums;
 
 pub use laws::multipliers_refute;
 pub use leaf::spread;
-
-#[cfg(test)]
-mod tests;

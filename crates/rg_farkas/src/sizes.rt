@@ -6,13 +6,12 @@ ghost use Rattle.rg_refuting.specs.Row.{RowName};
 ghost use Rattle.rg_reasons.specs.Sums.{variable_of};
 ghost use Rattle.rg_folds.specs.Fold.{further, whole_sum};
 ghost use Rattle.rg_folds.specs.Spreading.{variables_of, checked_leaf};
-ghost use Rattle.rg_cycles.specs.declared.substitution.FoldStop.TheVariants as stop;
+ghost use Rattle.rg_fraction.specs.declared.fold_stop.FoldStop.TheVariants as stop;
 ghost use Rattle.rg_farkas.specs.View.{named_of, Tells, size_fold, coefficient_at};
 
 use crate::multiplied::Row;
-use crate::sums::{coefficient, plus, size_times};
-use rg_cycles::FoldStop;
-use rg_fraction::Wide;
+use crate::sums::{coefficient, size_times};
+use rg_fraction::{FoldStop, Wide, whole_sum};
 use rg_lts::Lts;
 use rg_reasons::Variable;
 use std::alloc::{AllocError, Global};
@@ -53,7 +52,7 @@ fn coefficient_sizes(rows: &[Row], variable: Variable) -> Result<i128, Wide>
     for row in rows {
         let number = coefficient(&row.expression, variable);
         let size = size_times(row.multiplier, number)?;
-        sum = plus(sum, size)?;
+        sum = whole_sum(sum, size)?;
     }
     Ok(sum)
 }
@@ -65,7 +64,7 @@ fn constant_sizes(rows: &[Row]) -> Result<i128, Wide>
     let mut sum = 0;
     for row in rows {
         let size = size_times(row.multiplier, row.expression.constant)?;
-        sum = plus(sum, size)?;
+        sum = whole_sum(sum, size)?;
     }
     Ok(sum)
 }

@@ -5,15 +5,14 @@ ghost use Rattle.rg_integers.specs.Sign.{size};
 ghost use Rattle.rg_fraction.specs.declared.term.Wide.{Wide};
 ghost use Rattle.rg_refuting.specs.Expression.{Expression as Sum, same_variable, coefficient_in};
 ghost use Rattle.rg_refuting.specs.Row.{RowName};
-ghost use Rattle.rg_cycles.specs.declared.substitution.FoldStop.TheVariants as stop;
+ghost use Rattle.rg_fraction.specs.declared.fold_stop.FoldStop.TheVariants as stop;
 ghost use Rattle.rg_folds.specs.Fold.{gives, and_then, further, whole_sum, whole_product};
 ghost use Rattle.rg_folds.specs.Spreading.{tree_fold, addend_fold, leaving};
 ghost use Rattle.rg_reasons.specs.Sums.{variable_of, term_of, expression_of};
 ghost use Rattle.rg_farkas.specs.View.{named_of, Tells, arc_times, row_addend};
 
 use crate::multiplied::Row;
-use rg_cycles::FoldStop;
-use rg_fraction::Wide;
+use rg_fraction::{FoldStop, Wide, whole_product, whole_sum};
 use rg_reasons::Term::{self, Minus, Plus};
 use rg_reasons::{Expression, Variable};
 use rg_theory::Arc;
@@ -59,8 +58,8 @@ fn rows_sum(rows: &[Row], state: u32) -> Result<i128, Wide>
     let mut sum = 0;
     for row in rows {
         let number = coefficient(&row.expression, Variable::Tokens(state));
-        let product = times(row.multiplier, number)?;
-        sum = plus(sum, product)?;
+        let product = whole_product(row.multiplier, number)?;
+        sum = whole_sum(sum, product)?;
     }
     Ok(sum)
 }
@@ -76,7 +75,7 @@ fn leaving_sum(start: i128, arcs: &[Arc], multipliers: &[i128], state: u32) -> R
     let mut sum = start;
     for (k, arc) in arcs.iter().enumerate() {
         if arc.from == state {
-            sum = plus(sum, multipliers[k])?;
+            sum = whole_sum(sum, multipliers[k])?;
         }
     }
     Ok(sum)
@@ -109,41 +108,12 @@ fn coefficient_of(term: Term, variable: Variable) -> i128
     }
 }
 
-// The sum, where it is in range.
-pub(crate) fn plus(x: i128, y: i128) -> Result<i128, Wide>
-    requires { InRange y }
-    ensures value { whole_sum x y result }
-    ensures in_range { IfOk result InRange }
-{
-    Wide {
-        a: x,
-        b: 1,
-        c: -y,
-        d: 1,
-    }
-    .evaluate()
-}
-
-// The product, where it is in range.
-pub(crate) fn times(x: i128, y: i128) -> Result<i128, Wide>
-    ensures value { whole_product x y result }
-    ensures in_range { IfOk result InRange }
-{
-    Wide {
-        a: x,
-        b: y,
-        c: 0,
-        d: 0,
-    }
-    .evaluate()
-}
-
 // The absolute value of the product, where the product is in range.
 pub(crate) fn size_times(x: i128, y: i128) -> Result<i128, Wide>
     ensures value { and_then (whole_product x y) (λ z. gives (size z)) result }
     ensures in_range { IfOk result InRange }
 {
-    let product = times(x, y)?;
+    let product = whole_product(x, y)?;
     Ok(absolute(product))
 }
 

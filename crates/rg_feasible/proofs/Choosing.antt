@@ -17,17 +17,10 @@ use Rattle.rg_linear.specs.Table.{numbers_of, ShowsRow}
 use Rattle.rg_linear.specs.Descent.{IsStuck, Chooses}
 use Rattle.rg_linear.specs.Stack.{fixed_of}
 use Rattle.rg_dictionary.specs.Contents.{Contents, IsDictionary}
-use Rattle.rg_dictionary.proofs.RowTerms.{number_shown}
+use Rattle.rg_dictionary.proofs.RowTerms.{shown_number}
 use Rattle.rg_dictionary.proofs.Searching.{member_at, not_falling}
 use Rattle.rg_feasible.specs.Steps.{NamesFree}
 use Rattle.rg_feasible.proofs.Fixed.{fixed_row, row_fixed}
-
--- the number of the member at a place
-pub shown_number : (members : List ℕ) (k : Relation) (numbers : List ℤ) (p : ℕ) → numbers ≡ numbers_of members k → p < length members → number_at numbers (p + 2) ≡ k.coefficient (slice_index members p)
-shown_number members k numbers p e lt = ap (λ xs. number_at xs (p + 2)) e ∙ ap (number_at (numbers_of members k)) (two p) ∙ number_shown members k p lt
-  where
-    two : (p : ℕ) → p + 2 ≡ suc (suc p)
-    two p = omega arith
 
 -- a number that failed the test of the code is negative
 pub negative_number : (z : ℤ) → InRange z → int_le (pos 0) (cast_signed w128 (cast_unsigned w128 z)) ≡ false → z <ℤ pos 0

@@ -4,4 +4,3 @@ pub mod Descending
 pub mod Shown
 pub mod Filling
 pub mod Ends
-pub mod Testing

@@ -16,24 +16,17 @@ use Rattle.rg_fraction.specs.declared.fraction.Fraction.{Fraction}
 use Rattle.rg_fraction.specs.Fractions.{IsValue, numerator_of, denominator_of}
 use Rattle.rg_linear.specs.System.{LinearSystem, AreFarkasMultipliers, variables, row_variable}
 use Rattle.rg_linear.specs.Dictionary.{Relation, DictionaryRow}
-use Rattle.rg_linear.specs.Table.{numbers_of, ShowsRow}
+use Rattle.rg_linear.specs.Table.{numbers_of, number_beside, ShowsRow}
 use Rattle.rg_linear.specs.Descent.{Outcome.point, Outcome.refuted, DescentFromStart, multiplier_of}
 use Rattle.rg_linear.proofs.Members.{same, differs, Contains-here, Contains-there, Contains-cons_cases}
 use Rattle.rg_linear.proofs.Points.{constant_left, point_is_sound, zero_point_of}
 use Rattle.rg_linear.proofs.Refuting.{start_refuted, refuted_is_sound}
+use Rattle.rg_linear.proofs.TableLemmas.{beside_map}
 use Rattle.rg_dictionary.specs.Contents.{Contents, row_of, IsDictionary}
 use Rattle.rg_feasible.specs.View.{DescentState}
-use Rattle.rg_feasible.specs.Settling.{IsBasicPoint, IsFeasibleAt, IsRefutation, number_beside, relation_of, multiplier_with}
+use Rattle.rg_feasible.specs.Settling.{IsBasicPoint, IsFeasibleAt, IsRefutation, relation_of, multiplier_with}
 
 -- ---- numbers beside members
-
-beside_map : (f : ℕ → ℤ) (members : List ℕ) (w : ℕ) → (¬ Contains members w → f w ≡ pos 0) → number_beside members (map f members) w ≡ f w
-beside_map f [] w over = sym (over (λ (k, lt, e). absurd (omega arith)))
-beside_map f (m ∷ members) w over = go (m == w) refl (λ rest. beside_map f members w rest)
-  where
-    go : (b : Bool) → (m == w) ≡ b → ((¬ Contains members w → f w ≡ pos 0) → number_beside members (map f members) w ≡ f w) → (if b then f m else number_beside members (map f members) w) ≡ f w
-    go true e more = ap f (eqb-true m w e)
-    go false e more = more (λ lacks. over (λ has. ⊎_elim (λ is. false≢true (sym e ∙ ap (λ x. x == w) is ∙ same w)) lacks (Contains-cons_cases m w members has)))
 
 beside_none : (members : List ℕ) (numbers : List ℤ) (w : ℕ) → ¬ Contains members w → number_beside members numbers w ≡ pos 0
 beside_none [] numbers w lacks = refl
@@ -74,6 +67,12 @@ point_feasible system d whole outcome =
 
 -- ---- multipliers
 
+-- the relation of the row that fails, and the multipliers that it gives
+pub record FailingRelation (system : LinearSystem) (d : Contents) (i : ℕ) : Type 0 where
+  pub k : Relation
+  pub row : DictionaryRow system d.members (row_variable system i) k
+  pub multipliers : multiplier_with d i ≡ multiplier_of system k i
+
 module _ (system : LinearSystem) (d : Contents) (fixed : List ℕ) (i : ℕ) (whole : IsDictionary system d) (outcome : DescentFromStart system (refuted d.members i fixed)) where
   pivot_is : d.columns + i ≡ row_variable system i
   pivot_is = ap (λ n. n + i) whole.columns
@@ -87,17 +86,18 @@ module _ (system : LinearSystem) (d : Contents) (fixed : List ℕ) (i : ℕ) (wh
   shown : ShowsRow system d.members (d.columns + i) (row_of d (d.columns + i))
   shown = row_shows d system whole (d.columns + i) (subst (λ w. w < variables system) (sym pivot_is) failing.1.variable) failing_row.1
 
-  relation : DictionaryRow system d.members (row_variable system i) shown.k
-  relation = subst (λ w. DictionaryRow system d.members w shown.k) pivot_is shown.row
-
   is_shown : relation_of d.members (row_of d (d.columns + i)) ≡ shown.k
   is_shown = relation_is d.members shown.k (row_of d (d.columns + i)) shown.row.over shown.shown
 
+  pub failing_relation : FailingRelation system d i
+  failing_relation = record {
+    k = shown.k;
+    row = subst (λ w. DictionaryRow system d.members w shown.k) pivot_is shown.row;
+    multipliers = λ j row. if row == i then (is_shown j).d else neg_ℤ ((is_shown j).coefficient (whole.columns j + row));
+  }
+
   pub multipliers_refute : AreFarkasMultipliers system (multiplier_with d i)
-  multipliers_refute = subst (AreFarkasMultipliers system) (sym all) (refuted_is_sound system d.members fixed i shown.k outcome relation)
-    where
-      all : multiplier_with d i ≡ multiplier_of system shown.k i
-      all = λ j row. if row == i then (is_shown j).d else neg_ℤ ((is_shown j).coefficient (whole.columns j + row))
+  multipliers_refute = subst (AreFarkasMultipliers system) (sym failing_relation.multipliers) (refuted_is_sound system d.members fixed i failing_relation.k outcome failing_relation.row)
 
 pub multiplier_not_negative : (d : DescentState) (i row : ℕ) → IsRefutation d i → row < d.table.rows → pos 0 ≤ℤ multiplier_with d.table i row
 multiplier_not_negative d i row is lt = (multipliers_refute is.system d.table is.outcome.0 i is.dictionary is.outcome.1).not_negative row (let e = is.dictionary.rows in omega arith)

@@ -4,6 +4,7 @@ use Rattle.rg_integers.specs.Sum.{number_at}
 use Rattle.rg_linear.specs.System.{LinearSystem, IsPoint, MeetsRows}
 use Rattle.rg_linear.specs.Dictionary.{Relation, numbers_from}
 use Rattle.rg_linear.specs.Descent.{WideAt, Outcome.point, Outcome.refuted, Outcome.wide, DescentFromStart, IsAtZero}
+use Rattle.rg_linear.specs.Table.{number_beside}
 use Rattle.rg_dictionary.specs.Contents.{Contents, row_of, IsDictionary}
 use Rattle.rg_feasible.specs.declared.settled.Settled.{Settled}
 use Rattle.rg_feasible.specs.declared.settled.Settled.TheVariants.{Point, Refuted, Wide}
@@ -51,12 +52,6 @@ pub record IsFeasibleAt (system : LinearSystem) (members : List ℕ) : Type 0 wh
   pub v : ℕ → ℤ
   pub basic : IsBasicPoint system members scale v
   pub meets : MeetsRows system v
-
--- the number beside a member, 0 where it is none
-abbrev pub number_beside : List ℕ → List ℤ → ℕ → ℤ
-number_beside [] numbers w = pos 0
-number_beside (m ∷ members) [] w = pos 0
-number_beside (m ∷ members) (z ∷ numbers) w = if m == w then z else number_beside members numbers w
 
 -- the relation that these numbers show: d, the constant, and the coefficients of the members in order
 abbrev pub relation_of : List ℕ → List ℤ → Relation

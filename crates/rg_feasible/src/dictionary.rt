@@ -9,11 +9,11 @@ ghost use Rattle.rg_feasible.specs.declared.settled.Settled.TheVariants as ends;
 ghost use Rattle.rg_feasible.specs.Settling.{IsDictionaryOf, IsWhole, IsFresh, IsOutcome, IsLeftBy, IsBasicPoint, IsFeasibleAt, IsRefutation, multiplier_with};
 
 use crate::descent::descend;
-use rg_memory::NoMemory;
 use crate::settled::Settled;
-use crate::system::System;
 use rg_dictionary::Dictionary as Table;
 use rg_fraction::Fraction;
+use rg_linear::System;
+use rg_memory::NoMemory;
 use std::alloc::{AllocError, Global};
 use std::marker::Model;
 

@@ -10,14 +10,7 @@ mod descent;
 mod dictionary;
 mod settled;
 mod step;
-mod system;
 
 pub use dictionary::Dictionary;
 pub use rg_memory::NoMemory;
 pub use settled::{PivotWide, Settled};
-pub use system::{Row, System};
-
-#[cfg(test)]
-mod plain;
-#[cfg(test)]
-mod tests;

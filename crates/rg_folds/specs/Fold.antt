@@ -1,11 +1,11 @@
 -- Computations that stop at their first step out of range, told by the results that they have.
-use Rattle.std.specs.Prelude.{◌≡◌, ◌≢◌, ◌⊎◌, Bool, true, false, List, [], ◌∷◌, ℤ, pos, neg_ℤ, ◌+ℤ◌, ◌*ℤ◌, ◌<ℤ◌, unsigned_abs, int_div, Result, Ok, Err}
+use Rattle.std.specs.Prelude.{◌≡◌, ◌≢◌, ◌⊎◌, Bool, true, false, List, [], ◌∷◌, ℤ, pos, ◌+ℤ◌, ◌*ℤ◌, ◌<ℤ◌, unsigned_abs, int_div, Result, Ok, Err}
 use Rattle.std.specs.Int.{IsGcd}
 use Rattle.rg_fraction.specs.declared.term.Wide.{Wide}
 use Rattle.rg_fraction.specs.declared.fraction.Fraction.{Fraction}
 use Rattle.rg_integers.specs.Range.{InRange}
 use Rattle.rg_integers.specs.Value.{SameValue}
-use Rattle.rg_fraction.specs.Terms.{FitsTerm, term_value, FirstPasses, sum_top, sum_bottom, product_top, product_bottom}
+use Rattle.rg_fraction.specs.Terms.{FitsTerm, term_value, sum_term, product_term, FirstPasses, sum_top, sum_bottom, product_top, product_bottom}
 use Rattle.rg_integers.specs.Divisor.{int_gcd}
 use Rattle.rg_fraction.specs.Fractions.{numerator_of, denominator_of}
 
@@ -103,15 +103,15 @@ mul f g = two_terms (product_top f.top f.bottom g.top g.bottom) (product_bottom 
 
 -- x + y, of whole numbers
 abbrev pub whole_sum : ℤ → ℤ → Result ℤ Wide → Type 0
-whole_sum x y = term (record { a = x; b = pos 1; c = neg_ℤ y; d = pos 1 })
+whole_sum x y = term (sum_term x y)
 
 -- x * y, of whole numbers
 abbrev pub whole_product : ℤ → ℤ → Result ℤ Wide → Type 0
-whole_product x y = term (record { a = x; b = y; c = pos 0; d = pos 0 })
+whole_product x y = term (product_term x y)
 
 -- the least common multiple of x and y
 abbrev pub common_multiple : ℤ → ℤ → Result ℤ Wide → Type 0
-common_multiple x y = term (record { a = int_div x (int_gcd x y); b = y; c = pos 0; d = pos 0 })
+common_multiple x y = whole_product (int_div x (int_gcd x y)) y
 
 -- the least common multiple of several numbers, two at a time; 1 of none
 abbrev pub multiple_of_all : List ℤ → Result ℤ Wide → Type 0

@@ -10,5 +10,3 @@ pub mod folds;
 pub mod rows;
 pub mod shown;
 pub mod spanning;
-#[cfg(test)]
-mod tests;

@@ -17,6 +17,10 @@ FitsTerm t = Fits t.a t.b t.c t.d
 abbrev pub product_term : ℤ → ℤ → Wide
 product_term a b = record { a = a; b = b; c = pos 0; d = pos 0 }
 
+-- the term that is the sum of x and y
+abbrev pub sum_term : ℤ → ℤ → Wide
+sum_term x y = record { a = x; b = pos 1; c = neg_ℤ y; d = pos 1 }
+
 -- w is the first of the two terms that passes
 abbrev pub FirstPasses : Wide → Wide → Wide → Type 0
 FirstPasses s t w = ((FitsTerm s → ⊥) × (w ≡ s)) ⊎ (FitsTerm s × (FitsTerm t → ⊥) × (w ≡ t))

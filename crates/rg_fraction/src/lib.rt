@@ -6,15 +6,16 @@
 mod binary;
 mod divisor;
 mod exact;
+mod fold_stop;
 mod fraction;
 mod order;
 mod row;
 mod term;
+mod whole;
 
 pub use divisor::gcd;
+pub use fold_stop::FoldStop;
 pub use fraction::Fraction;
-pub use row::{eliminate, reduce};
+pub use row::{eliminate, reduce, row_gcd};
 pub use term::Wide;
-
-#[cfg(test)]
-mod tests;
+pub use whole::{whole_product, whole_sum};

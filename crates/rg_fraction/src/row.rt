@@ -1,12 +1,12 @@
 //! Rows of numbers: their greatest common divisors, and the elimination of an entry.
 
-ghost use Rattle.std.specs.Prelude.{◌≡◌, ◌≢◌, ℕ, ◌<◌, ◌^◌, length, pos, ◌<ℤ◌, ◌*ℤ◌, unsigned_abs, MatchResult};
+ghost use Rattle.std.specs.Prelude.{◌≡◌, ◌≢◌, ℕ, ◌<◌, length, pos, ◌<ℤ◌, ◌≤ℤ◌, ◌*ℤ◌, unsigned_abs, MatchResult};
 ghost use Rattle.std.specs.Int.{◌∣◌};
 ghost use Rattle.rg_integers.specs.Range.{InRange};
 ghost use Rattle.rg_integers.specs.Sum.{number_at};
 ghost use Rattle.rg_fraction.specs.Rows.{RowFits, IsFirstWide, IsCrossed, IsRowGcd, IsPrimitivePart, IsEliminated, IsRefused};
 
-use crate::divisor::gcd_of_sizes;
+use crate::divisor::gcd;
 use crate::exact::Divisor;
 use crate::term::{Wide, value};
 
@@ -51,20 +51,22 @@ fn cross(p: &[i128], q: &mut [i128], b: i128, d: i128, j: usize)
     }
 }
 
-// The greatest common divisor of a row.
-fn row_gcd(q: &[i128]) -> u128
-    requires { (k : ℕ) → k < length q.now → InRange (number_at q.now k) }
-    ensures gcd { IsRowGcd q.now result }
-    ensures bound { result < 2 ^ 127 }
+/// The greatest common divisor of the numbers of a row: it is never negative, and 0 exactly where no number is
+/// other than 0.
+pub fn row_gcd(row: &[i128]) -> i128
+    requires { (k : ℕ) → k < length row.now → InRange (number_at row.now k) }
+    ensures value { IsRowGcd row.now (unsigned_abs result) }
+    ensures not_negative { pos 0 ≤ℤ result }
+    ensures in_range { InRange result }
 {
-    let mut g = 0u128;
-    for i in 0..q.len() {
-        g = gcd_of_sizes(q[i].unsigned_abs(), g);
-        if g == 1 {
+    let mut divisor = 0;
+    for &number in row {
+        divisor = gcd(number, divisor);
+        if divisor == 1 {
             return 1;
         }
     }
-    g
+    divisor
 }
 
 // Divides each number by a common divisor.
@@ -90,7 +92,7 @@ pub fn reduce(q: &mut [i128])
 {
     let g = row_gcd(q);
     if g > 1 {
-        divide(q, g as i128);
+        divide(q, g);
     }
 }
 

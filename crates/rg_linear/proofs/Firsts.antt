@@ -1,5 +1,5 @@
 -- What is kept of the items of a list, by a key.
-use Rattle.std.proofs.Common.{◌≡◌, ◌⊎◌, ⊎_elim, suc, List, [], ◌∷◌, Contains, inl, inr, ap, refl, subst, sym, ◌∙◌, arith}
+use Rattle.std.proofs.Common.{◌≡◌, ◌⊎◌, ⊎_elim, suc, ◌≤◌, List, [], ◌∷◌, length, Contains, inl, inr, ap, refl, subst, sym, ◌∙◌, arith}
 use Rattle.rg_linear.specs.Firsts.{KeepsFirsts}
 use Rattle.rg_linear.proofs.Members.{Contains-cons_cases}
 
@@ -11,6 +11,12 @@ kept_is {X} key Drops seen (y ∷ xs) kept x (inr (_, _, (rest, is, k))) has =
     (λ e. (0, omega arith, e))
     (λ there. (let (i, lt, e) = kept_is key Drops (key y ∷ seen) xs rest x k there in (suc i, omega arith, e)))
     (Contains-cons_cases y x rest (subst (λ l. Contains l x) is has))
+
+-- no more are kept than there are
+pub kept_count : {X K : Type 0} (key : X → K) (Drops : X → Type 0) (seen : List K) (xs kept : List X) → KeepsFirsts key Drops seen xs kept → length kept ≤ length xs
+kept_count key Drops seen [] kept is = let e = ap length is in omega arith
+kept_count key Drops seen (x ∷ xs) kept (inl (gone, k)) = let h = kept_count key Drops seen xs kept k in omega arith
+kept_count key Drops seen (x ∷ xs) kept (inr (stays, fresh, (rest, is, k))) = let h = kept_count key Drops (key x ∷ seen) xs rest k in let e = ap length is in omega arith
 
 -- an item is dropped, or its key is among those seen or those kept
 pub item_stays : {X K : Type 0} (key : X → K) (Drops : X → Type 0) (seen : List K) (xs kept : List X) (x : X) → KeepsFirsts key Drops seen xs kept → Contains xs x → Drops x ⊎ (Contains seen (key x) ⊎ ((y : X) × Contains kept y × (key y ≡ key x)))

@@ -22,3 +22,4 @@ pub mod Stacks
 pub mod Ranges
 pub mod SampleLemmas
 pub mod TableLemmas
+pub mod KeptRows

@@ -118,7 +118,7 @@ tree_leaves_none system forms above (split f u low high) positive (lt, in_low, i
 
 -- ---- the weights of a leaf
 
-nonzero_test : (z : ℤ) → (int_lt z (pos 0) || int_lt (pos 0) z) ≡ false → z ≡ pos 0
+pub nonzero_test : (z : ℤ) → (int_lt z (pos 0) || int_lt (pos 0) z) ≡ false → z ≡ pos 0
 nonzero_test z e = grind (arith, ints)
 
 -- a row before the first has no weight

@@ -1,4 +1,5 @@
 pub mod System
+pub mod View
 pub mod Dictionary
 pub mod Exchange
 pub mod Descent

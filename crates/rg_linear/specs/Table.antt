@@ -1,11 +1,17 @@
 -- The relations of a free set as one flat list of numbers.
-use Rattle.std.specs.Prelude.{◌≡◌, ℕ, ◌+◌, ◌*◌, ◌<◌, nat_lt, if◌then◌else◌, List, [], ◌∷◌, length, map, slice_range, Contains, ℤ}
+use Rattle.std.specs.Prelude.{◌≡◌, ℕ, ◌+◌, ◌*◌, ◌<◌, ◌==◌, nat_lt, if◌then◌else◌, List, [], ◌∷◌, length, map, slice_range, Contains, ℤ, pos}
 use Rattle.rg_linear.specs.System.{LinearSystem, variables}
 use Rattle.rg_linear.specs.Dictionary.{Relation, DictionaryRow}
 
 -- d, the constant, and the coefficients of the members in order
 abbrev pub numbers_of : List ℕ → Relation → List ℤ
 numbers_of members k = k.d ∷ k.constant ∷ map k.coefficient members
+
+-- the number beside a member, 0 where it is none
+abbrev pub number_beside : List ℕ → List ℤ → ℕ → ℤ
+number_beside [] numbers w = pos 0
+number_beside (m ∷ members) [] w = pos 0
+number_beside (m ∷ members) (z ∷ numbers) w = if m == w then z else number_beside members numbers w
 
 -- the numbers are those of the relation of variable w
 pub record ShowsRow (system : LinearSystem) (members : List ℕ) (w : ℕ) (numbers : List ℤ) : Type 0 where

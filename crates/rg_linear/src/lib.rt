@@ -14,6 +14,7 @@ pub mod cycle;
 pub mod descent;
 pub mod samples;
 pub mod stack;
+mod system;
 pub mod table;
 
 ghost use Rattle.std.specs.Prelude.{◌≡◌, ◌≢◌, ℕ, ◌<◌, List, [], ◌∷◌, ◌++◌, length, map, Contains, ℤ, pos, ◌*ℤ◌};
@@ -23,6 +24,8 @@ ghost use Rattle.rg_fraction.specs.declared.term.Wide.{Wide};
 ghost use Rattle.rg_fraction.specs.Terms.{term_value};
 ghost use Rattle.rg_linear.specs.Exchange.{without, exchanged, terms, AllFit, FirstWide, renewed, turned, IsReduced, SetFits};
 ghost use Rattle.rg_linear.specs.Descent.{IsAtZero};
+
+pub use system::{Row, System};
 
 /// A variable has one relation over a free set.
 pub fn relation_is_one()
@@ -58,6 +61,3 @@ pub fn exchange_is_exact()
 pub fn wide_is_one()
     ensures { (system : LinearSystem) (members : List ℕ) (i j w n w' n' : ℕ) (t t' : Wide) → FirstWide system members i j w n t → FirstWide system members i j w' n' t' → (w ≡ w') × (n ≡ n') × (t ≡ t') }
 {}
-
-#[cfg(test)]
-mod tests;

@@ -90,6 +90,3 @@ pub fn points_separate()
     ensures whole { (lts : System) (class : Class) (problem : Problem) (number : ℕ) → IsFalse class.plain → IsNone class.bound → HasSolution lts class problem number → HasWholeSolutionIn lts class problem number }
     ensures separable { (lts : System) (tree : List Arc) (basis : CycleBasis) (class : Class) (problem : Problem) (case : ℕ → CaseSystem) → IsFalse class.plain → IsNone class.bound → IsLive lts problem → 0 < cases_of lts class problem → ((number : ℕ) → number < cases_of lts class problem → IsCaseOver lts tree basis class problem number (case number)) → SomeCaseHasPoint lts class problem case ↔ IsSeparable lts class problem }
 {}
-
-#[cfg(test)]
-mod tests;

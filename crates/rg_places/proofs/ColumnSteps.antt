@@ -9,7 +9,8 @@ use Rattle.rg_theory.specs.System.{System, labels}
 use Rattle.rg_fraction.specs.declared.fraction.Fraction.{Fraction}
 use Rattle.rg_linear.specs.Cycle.{CycleBasis}
 use Rattle.rg_folds.specs.Rewriting.{is_in, numbers_where, has_label, free_labels, free_columns}
-use Rattle.rg_places.specs.Steps.{labels_in, AreUsed, IsPlaced, AreColumns}
+use Rattle.rg_columns.specs.View.{TellsUsedLabels}
+use Rattle.rg_places.specs.Steps.{labels_in, IsPlaced, AreFreeColumns}
 use Rattle.rg_places.specs.declared.columns.Column.{Column}
 use Rattle.rg_places.proofs.FoldSteps.{left_at}
 
@@ -37,7 +38,7 @@ pub columns_start : (lts : System) (basis : CycleBasis) (values : List Fraction)
 columns_start lts basis values = record { labels_are = sym (columns_are lts basis); placed = λ k d lt. absurd (omega arith); values_are = refl }
 
 module _ (lts : System) (basis : CycleBasis) (values : List Fraction) (place : ℕ) (columns : List Column) (so_far : ColumnsSoFar lts basis values place columns) (one_each : length values ≡ length (free_columns lts basis)) where
-  pub columns_end : length (free_labels (labels lts) basis) ≤ place → AreColumns lts basis columns
+  pub columns_end : length (free_labels (labels lts) basis) ≤ place → AreFreeColumns lts basis columns
   columns_end past = record { labels_are = all_labels; placed = so_far.placed }
     where
       all_labels : labels_in columns ≡ free_columns lts basis
@@ -86,17 +87,3 @@ module _ (lts : System) (basis : CycleBasis) (values : List Fraction) (place : �
 
           more : take (length columns) values ++ value ∷ [] ≡ take (length (columns ++ record { label = label; place = place; value = value } ∷ [])) values
           more = ap (λ v. take (length columns) values ++ v ∷ []) at ∙ sym (take_more values (length columns) value value_within) ∙ ap (λ n. take n values) (sym (length-append columns (record { label = label; place = place; value = value } ∷ [])))
-
--- the used labels among the free ones are counted by the columns
-pub used_count : (lts : System) (basis : CycleBasis) (used : List Bool) → AreUsed lts used → count_by (λ t. slice_index_or used t false) (free_labels (labels lts) basis) ≡ length (free_columns lts basis)
-used_count lts basis used are = sym (length-filter (λ t. slice_index_or used t false) (free_labels (labels lts) basis)) ∙ ap length (same (free_labels (labels lts) basis) (λ t has. are.each t (below t has)) ∙ sym (columns_are lts basis))
-  where
-    below : (t : ℕ) → Contains (free_labels (labels lts) basis) t → t < labels lts
-    below t has = let w = where_from (λ u. is_in basis.members u) 0 (labels lts) t has in let b = w.below in omega arith
-
-    same : (ts : List ℕ) → ((t : ℕ) → Contains ts t → slice_index_or used t false ≡ has_label t lts.arcs) → filter (λ t. slice_index_or used t false) ts ≡ filter (λ t. has_label t lts.arcs) ts
-    same [] at = refl
-    same (t ∷ ts) at = ap (λ b. cond b (t ∷ filter (λ u. slice_index_or used u false) ts) (filter (λ u. slice_index_or used u false) ts)) (at t (0, omega arith, refl)) ∙ ap (λ l. cond (has_label t lts.arcs) (t ∷ l) l) (same ts (λ u (i, lt, e). at u (suc i, omega arith, e)))
-
-pub free_within : (lts : System) (basis : CycleBasis) → All (λ t. t < labels lts) (free_labels (labels lts) basis)
-free_within lts basis k d lt = let w = where_from (λ u. is_in basis.members u) 0 (labels lts) (slice_index_or (free_labels (labels lts) basis) k d) (k, lt, get_or_default (free_labels (labels lts) basis) k (slice_index_or (free_labels (labels lts) basis) k d) d lt) in let b = w.below in omega arith

@@ -29,7 +29,7 @@ use Rattle.rg_meaning.specs.Meaning.{AreEffects, MeetsCase}
 use Rattle.rg_meaning.proofs.Lists.{where_is}
 use Rattle.rg_places.specs.Places.{AreValuesOf}
 use Rattle.rg_folds.proofs.Signs.{AllPositive, all_multiple}
-use Rattle.rg_scaling.proofs.Items.{each_length}
+use Rattle.rg_cycles.proofs.Items.{each_length}
 use Rattle.rg_places.proofs.Wholes.{product_fits, each_at, divides_at}
 use Rattle.rg_places.proofs.EffectValues.{effect_is}
 

@@ -18,7 +18,7 @@ use Rattle.rg_folds.specs.Values.{numbers_along}
 use Rattle.rg_folds.specs.Placing.{negated, ratio_at, along_tree, least_of, is_shifted, shift_fold, top_at}
 use Rattle.rg_meaning.specs.Meaning.{KeepsRowsOver, shifted, IsCaseOver, AreEffects, MeetsCase}
 use Rattle.rg_meaning.proofs.CaseMeaning.{start_means, no_start_means, shift_means}
-use Rattle.rg_scaling.proofs.Items.{each_length}
+use Rattle.rg_cycles.proofs.Items.{each_length}
 use Rattle.rg_places.proofs.Wholes.{add_whole, each_at}
 use Rattle.rg_places.proofs.Found.{all_length, all_at, not_bounded, AreFound, found_effect, same_effect, found_effects, found_meets}
 use Rattle.rg_places.proofs.Moved.{IsWholeAt, along_gives, AllWhole, least_is}

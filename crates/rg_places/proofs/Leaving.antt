@@ -1,4 +1,4 @@
--- The numbers of the states that a label leaves, state by state; and which labels have an arc.
+-- The numbers of the states that a label leaves, state by state.
 use Rattle.std.proofs.Common.{◌≡◌, ⊎_elim, Option, Some, None, is_some, IfSome, IfNone, ℕ, ◌+◌, ◌-◌, ◌<◌, ◌≤◌, ◌==◌, Bool, set, eq-eqb, eqb-true, true, false, if◌then◌else◌, List, [], ◌∷◌, ◌++◌, length, map, take, slice_index_or, ap, refl, sym, ◌∙◌, arith, append_assoc}
 use Rattle.std.proofs.lemmas.Bool.{cases_Bool, true≢false}
 use Rattle.std.proofs.lemmas.List.{append-nil, take_more, get_or-set_other}
@@ -41,33 +41,6 @@ none_at lts q t none = go (has_label_at q t lts.arcs) refl
     go : (b : Bool) → has_label_at q t lts.arcs ≡ b → b ≡ false
     go true e = let (q', has) = found_at q t lts.arcs e in absurd (none q' has)
     go false e = refl
-
--- ---- labels with an arc
-
--- one arc more
-label_more : (t : ℕ) (arcs : List Arc) (a : Arc) → has_label t (arcs ++ a ∷ []) ≡ (if a.label == t then true else has_label t arcs)
-label_more t [] a = refl
-label_more t (b ∷ arcs) a = ap (λ x. if b.label == t then true else x) (label_more t arcs a) ∙ swap (b.label == t) (a.label == t) (has_label t arcs)
-  where
-    swap : (x y z : Bool) → (if x then true else (if y then true else z)) ≡ (if y then true else (if x then true else z))
-    swap true true z = refl
-    swap true false z = refl
-    swap false true z = refl
-    swap false false z = refl
-
--- the next arc, whose label is then marked
-pub label_next : (t i : ℕ) (arcs : List Arc) (a : Arc) → i < length arcs → a ≡ slice_index_or arcs i a → has_label t (take (i + 1) arcs) ≡ (if a.label == t then true else has_label t (take i arcs))
-label_next t i arcs a lt at = ap (has_label t) (take_more arcs i a lt) ∙ ap (λ b. has_label t (take i arcs ++ b ∷ [])) (sym at) ∙ label_more t (take i arcs) a
-
--- the marks of the labels of the arcs so far
-pub marked_next : (used : List Bool) (arcs : List Arc) (i n : ℕ) (a : Arc) → i < length arcs → a ≡ slice_index_or arcs i a → a.label < length used → ((t : ℕ) → t < n → slice_index_or used t false ≡ has_label t (take i arcs)) → (t : ℕ) → t < n → slice_index_or (set used a.label true) t false ≡ has_label t (take (i + 1) arcs)
-marked_next used arcs i n a lt at within so_far t below = ⊎_elim here other (cases_Bool (a.label == t)) ∙ sym (label_next t i arcs a lt at)
-  where
-    here : (a.label == t) ≡ true → slice_index_or (set used a.label true) t false ≡ (if a.label == t then true else has_label t (take i arcs))
-    here e = get_or-set_at used a.label t true false (sym (eqb-true a.label t e)) within ∙ sym (ap (λ b. if b then true else has_label t (take i arcs)) e)
-
-    other : (a.label == t) ≡ false → slice_index_or (set used a.label true) t false ≡ (if a.label == t then true else has_label t (take i arcs))
-    other e = get_or-set_other used a.label t true false (λ same. true≢false (sym (eq-eqb a.label t (sym same)) ∙ e)) ∙ so_far t below ∙ sym (ap (λ b. if b then true else has_label t (take i arcs)) e)
 
 -- what the first target of the label at a state tells
 pub some_at : (lts : System) (q t : ℕ) (o : Option ℕ) → is_some o ≡ true → IfSome o (λ to. HasArc lts q t to) → has_label_at q t lts.arcs ≡ true

@@ -16,7 +16,7 @@ use Rattle.rg_folds.specs.Rewriting.{all_numbers}
 use Rattle.rg_folds.specs.Placing.{effect_fold, negated, made_whole, ratio_at, along_tree, least_of, is_shifted, shift_fold, top_at, taken, place_fold}
 use Rattle.rg_places.specs.Places.{numbers_fold}
 use Rattle.rg_places.specs.Steps.{IsAlongTree, found_fold, weights_fold}
-use Rattle.rg_scaling.proofs.Items.{each_length}
+use Rattle.rg_cycles.proofs.Items.{each_length}
 use Rattle.rg_places.proofs.PlaceWeights.{taken_length, given_length}
 use Rattle.rg_places.proofs.Found.{all_length}
 

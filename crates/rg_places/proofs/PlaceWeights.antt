@@ -21,7 +21,7 @@ use Rattle.rg_refuting.proofs.Making.{place_by}
 use Rattle.rg_folds.specs.Fold.{each, whole_sum}
 use Rattle.rg_folds.specs.Rewriting.{all_numbers}
 use Rattle.rg_folds.specs.Placing.{taken_by_effect}
-use Rattle.rg_scaling.proofs.Items.{each_length}
+use Rattle.rg_cycles.proofs.Items.{each_length}
 use Rattle.rg_places.proofs.Wholes.{each_at}
 use Rattle.rg_places.proofs.Found.{all_length, all_at}
 

@@ -20,7 +20,7 @@ use Rattle.rg_meaning.specs.Meaning.{first_column}
 use Rattle.rg_cycles.proofs.Labels.{where_order}
 use Rattle.rg_places.specs.Places.{AreAtPoint}
 use Rattle.rg_places.specs.PointValues.{ratios_of, ratio_beside, point_start, point_value, HasValues}
-use Rattle.rg_places.specs.Steps.{value_by, AreColumns}
+use Rattle.rg_places.specs.Steps.{value_by, AreFreeColumns}
 use Rattle.rg_places.specs.declared.columns.Column.{Column}
 
 -- ---- the value of a column
@@ -58,7 +58,7 @@ module _ (lts : System) (basis : CycleBasis) (class : Class) (point : List Fract
   start_is_there e = let a = count_is lts basis class in let b = columns in let c : first_column class ≡ 1 = ap (λ b. if b then 1 else 0) e in omega arith
 
 -- the columns of code with the point's values
-pub value_is : (lts : System) (basis : CycleBasis) (class : Class) (point : List Fraction) (columns : List Column) → AreColumns lts basis columns → map (λ c. c.value) columns ≡ drop (first_column class) point → value_by columns ≡ point_value lts basis class point
+pub value_is : (lts : System) (basis : CycleBasis) (class : Class) (point : List Fraction) (columns : List Column) → AreFreeColumns lts basis columns → map (λ c. c.value) columns ≡ drop (first_column class) point → value_by columns ≡ point_value lts basis class point
 value_is lts basis class point columns are values = ap₂ ratio_beside are.labels_are (sym (map-map ratio_of (λ c. c.value) columns) ∙ ap ratios_of values ∙ sym (drop-map ratio_of (first_column class) point))
 
 -- ---- a point of a system

@@ -13,7 +13,7 @@ use Rattle.rg_folds.specs.Placing.{effect_fold}
 use Rattle.rg_cycles.specs.declared.relation.Relation.{Relation}
 use Rattle.rg_cycles.specs.Basis.{ShowsRelation}
 use Rattle.rg_cycles.proofs.Labels.{in_set, not_in_set, where_order}
-use Rattle.rg_places.specs.Steps.{labels_in, value_by, IsPlaced, AreColumns, column_share, share_fold, used_effect_fold}
+use Rattle.rg_places.specs.Steps.{labels_in, value_by, IsPlaced, AreFreeColumns, column_share, share_fold, used_effect_fold}
 use Rattle.rg_places.specs.declared.columns.Column.{Column}
 use Rattle.rg_places.proofs.FoldSteps.{map_at, all_made, joined_same}
 use Rattle.rg_places.proofs.ColumnLists.{value_here, value_past}
@@ -36,7 +36,7 @@ column_value lts basis columns are i c lt at = value_in_order columns (subst IsI
 
 -- ---- a label that isn't free
 
-module _ (lts : System) (basis : CycleBasis) (columns : List Column) (t : ℕ) (relation : Relation) (are : AreColumns lts basis columns) (shows : ShowsRelation (labels lts) basis t relation) where
+module _ (lts : System) (basis : CycleBasis) (columns : List Column) (t : ℕ) (relation : Relation) (are : AreFreeColumns lts basis columns) (shows : ShowsRelation (labels lts) basis t relation) where
   number_is : (c : Column) → IsPlaced (free_labels (labels lts) basis) c → number_at relation.free.items c.place ≡ (basis.relation t).coefficient c.label
   number_is c placed = ap (λ l. number_at l c.place) shows.free ∙ get_or-map (basis.relation t).coefficient (free_labels (labels lts) basis) c.place 0 (pos 0) placed.within ∙ ap (basis.relation t).coefficient placed.label_is
 

@@ -17,11 +17,6 @@ use Rattle.rg_places.specs.declared.columns.Column.{Column}
 
 -- ---- columns
 
--- for each label whether it has an arc
-pub record AreUsed (lts : System) (used : List Bool) : Type 0 where
-  pub one_each : length used ≡ labels lts
-  pub each : (t : ℕ) → t < labels lts → slice_index_or used t false ≡ has_label t lts.arcs
-
 abbrev pub labels_in : List Column → List ℕ
 labels_in columns = map (λ c. c.label) columns
 
@@ -38,7 +33,7 @@ pub record IsPlaced (free : List ℕ) (c : Column) : Type 0 where
   pub label_is : slice_index free c.place ≡ c.label
 
 -- the columns are the free labels with an arc, in order
-pub record AreColumns (lts : System) (basis : CycleBasis) (columns : List Column) : Type 0 where
+pub record AreFreeColumns (lts : System) (basis : CycleBasis) (columns : List Column) : Type 0 where
   pub labels_are : labels_in columns ≡ free_columns lts basis
   pub placed : All (IsPlaced (free_labels (labels lts) basis)) columns
 

@@ -3,7 +3,8 @@ ghost use Rattle.std.specs.Prelude.{◌≡◌, length, map, IfOk};
 ghost use Rattle.rg_theory.specs.System.{labels};
 ghost use Rattle.rg_folds.specs.Rewriting.{free_columns};
 ghost use Rattle.rg_cycles.specs.View.{labels_of, cycle_of};
-ghost use Rattle.rg_places.specs.Steps.{AreUsed, AreColumns};
+ghost use Rattle.rg_columns.specs.View.{TellsUsedLabels};
+ghost use Rattle.rg_places.specs.Steps.{AreFreeColumns};
 
 use rg_cycles::Basis;
 use rg_fraction::Fraction;
@@ -18,17 +19,6 @@ pub(crate) struct Column {
     pub(crate) value: Fraction,
 }
 
-// Whether each label has an arc.
-pub(crate) fn used_labels(alloc: Global, lts: &Lts) -> Result<Vec<bool>, AllocError>
-    ensures { IfOk result (λ used. AreUsed lts.now used.items) }
-{
-    let mut used = vec![in alloc; false; lts.labels() as usize]?;
-    for a in lts.arcs() {
-        used[a.label as usize] = true;
-    }
-    Ok(used)
-}
-
 // The columns with these effects, in order.
 pub(crate) fn columns_with(
     alloc: Global,
@@ -38,9 +28,9 @@ pub(crate) fn columns_with(
     values: &[Fraction],
 ) -> Result<Vec<Column>, AllocError>
     requires labels { labels_of basis.now ≡ labels lts.now }
-    requires used { AreUsed lts.now used.now }
+    requires used { TellsUsedLabels lts.now used.now }
     requires one_each { length values.now ≡ length (free_columns lts.now (cycle_of basis.now)) }
-    ensures columns { IfOk result (λ columns. AreColumns lts.now (cycle_of basis.now) columns.items) }
+    ensures columns { IfOk result (λ columns. AreFreeColumns lts.now (cycle_of basis.now) columns.items) }
     ensures values { IfOk result (λ columns. map (λ c. c.value) columns.items ≡ values.now) }
 {
     let mut columns = Vec::new(alloc);

@@ -5,15 +5,16 @@ ghost use Rattle.rg_fraction.specs.declared.term.Wide.{Wide};
 ghost use Rattle.rg_folds.specs.Fold.{each, joined, add, whole, ratio_of, shown_result};
 ghost use Rattle.rg_folds.specs.Rewriting.{all_numbers};
 ghost use Rattle.rg_folds.specs.Placing.{effect_fold};
-ghost use Rattle.rg_cycles.specs.declared.substitution.FoldStop.TheVariants as stop;
+ghost use Rattle.rg_fraction.specs.declared.fold_stop.FoldStop.TheVariants as stop;
 ghost use Rattle.rg_cycles.specs.Basis.{IsRelationInRange};
 ghost use Rattle.rg_cycles.specs.View.{labels_of, cycle_of};
 ghost use Rattle.rg_places.specs.PointValues.{ratios_of};
-ghost use Rattle.rg_places.specs.Steps.{AreUsed, AreColumns, value_by, column_share, used_effect_fold};
+ghost use Rattle.rg_columns.specs.View.{TellsUsedLabels};
+ghost use Rattle.rg_places.specs.Steps.{AreFreeColumns, value_by, column_share, used_effect_fold};
 
 use crate::columns::Column;
-use rg_cycles::{Basis, FoldStop, Relation};
-use rg_fraction::{Fraction, Wide};
+use rg_cycles::{Basis, Relation};
+use rg_fraction::{FoldStop, Fraction, Wide};
 use rg_lts::Lts;
 use std::alloc::Global;
 
@@ -26,8 +27,8 @@ pub(crate) fn effects(
     columns: &[Column],
 ) -> Result<Vec<Fraction>, FoldStop>
     requires labels { labels_of basis.now ≡ labels lts.now }
-    requires used { AreUsed lts.now used.now }
-    requires columns { AreColumns lts.now (cycle_of basis.now) columns.now }
+    requires used { TellsUsedLabels lts.now used.now }
+    requires columns { AreFreeColumns lts.now (cycle_of basis.now) columns.now }
     ensures value { IfOk result (λ effects. each (effect_fold lts.now (cycle_of basis.now) (value_by columns.now)) (all_numbers (labels lts.now)) (Ok (ratios_of effects.items))) }
     ensures wide { (w : Wide) → IsErrOf result (stop.Wide w) → each (effect_fold lts.now (cycle_of basis.now) (value_by columns.now)) (all_numbers (labels lts.now)) (Err w) }
 {
@@ -46,8 +47,8 @@ pub(crate) fn effects(
 // The effect of label t, which has an arc.
 fn effect(basis: &Basis, columns: &[Column], t: u32) -> Result<Fraction, Wide>
     requires label { t < labels_of basis.now }
-    requires columns { (lts : System) × (labels lts ≡ labels_of basis.now) × AreColumns lts (cycle_of basis.now) columns.now }
-    ensures { (lts : System) → labels lts ≡ labels_of basis.now → AreColumns lts (cycle_of basis.now) columns.now → used_effect_fold lts (cycle_of basis.now) (value_by columns.now) t (shown_result ratio_of result) }
+    requires columns { (lts : System) × (labels lts ≡ labels_of basis.now) × AreFreeColumns lts (cycle_of basis.now) columns.now }
+    ensures { (lts : System) → labels lts ≡ labels_of basis.now → AreFreeColumns lts (cycle_of basis.now) columns.now → used_effect_fold lts (cycle_of basis.now) (value_by columns.now) t (shown_result ratio_of result) }
 {
     match basis.relation(t) {
         Some(relation) => sum_of_shares(relation, columns),

@@ -16,6 +16,3 @@ mod whole;
 pub use laws::{place_is_region, points_make_places};
 pub use making::make_place;
 pub use region_place::RegionPlace;
-
-#[cfg(test)]
-mod tests;

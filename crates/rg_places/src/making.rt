@@ -4,7 +4,7 @@ ghost use Rattle.rg_refuting.specs.Refutes.{IsSeparationProblem};
 ghost use Rattle.rg_theory.specs.System.{states, labels};
 ghost use Rattle.rg_fraction.specs.declared.term.Wide.{Wide};
 ghost use Rattle.rg_spanning.specs.Spanning.{IsTreeOf};
-ghost use Rattle.rg_cycles.specs.declared.substitution.FoldStop.TheVariants as stop;
+ghost use Rattle.rg_fraction.specs.declared.fold_stop.FoldStop.TheVariants as stop;
 ghost use Rattle.rg_cycles.specs.View.{labels_of, cycle_of};
 ghost use Rattle.rg_folds.specs.Rewriting.{has_start, column_count};
 ghost use Rattle.rg_folds.specs.Placing.{place_fold};
@@ -16,14 +16,15 @@ ghost use Rattle.rg_places.specs.PointValues.{ratios_of, point_start, point_valu
 ghost use Rattle.rg_places.specs.Steps.{found_fold, weights_fold};
 ghost use Rattle.rg_places.specs.RegionPlaces.{IsRegionPlace, PlaceSeparates, AreTokensMade};
 
-use crate::columns::{columns_with, used_labels};
+use crate::columns::columns_with;
 use crate::effects::effects;
 use crate::numbers::{along_tree, shifted};
 use crate::region_place::RegionPlace;
 use crate::weights::{put, sizes, taken, whole_sizes};
 use crate::whole::made_whole;
-use rg_cycles::{Basis, FoldStop};
-use rg_fraction::Fraction;
+use rg_columns::{has_start, used_labels};
+use rg_cycles::Basis;
+use rg_fraction::{FoldStop, Fraction};
 use rg_lts::Lts;
 use rg_net::Place;
 use rg_spanning::Tree;
@@ -101,13 +102,6 @@ fn parted(class: Class, point: &[Fraction]) -> (Fraction, &[Fraction])
     } else {
         (Fraction::new(0, 1), point)
     }
-}
-
-// Whether Start is a column.
-pub(crate) fn has_start(class: Class) -> bool
-    ensures { result ≡ has_start class }
-{
-    class.pure || class.plain || class.bound.is_some()
 }
 
 // The place with these numbers of the states and these effects.

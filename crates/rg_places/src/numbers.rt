@@ -6,12 +6,11 @@ ghost use Rattle.rg_fraction.specs.declared.term.Wide.{Wide};
 ghost use Rattle.rg_folds.specs.Fold.{each, add, Ratio, ratio_of};
 ghost use Rattle.rg_folds.specs.Rewriting.{all_numbers};
 ghost use Rattle.rg_folds.specs.Placing.{along_tree, ratio_at, negated, lesser, least_of, is_shifted, shift_fold};
-ghost use Rattle.rg_cycles.specs.declared.substitution.FoldStop.TheVariants as stop;
+ghost use Rattle.rg_fraction.specs.declared.fold_stop.FoldStop.TheVariants as stop;
 ghost use Rattle.rg_places.specs.PointValues.{ratios_of};
 ghost use Rattle.rg_places.specs.Steps.{IsAlongTree};
 
-use rg_cycles::FoldStop;
-use rg_fraction::Fraction;
+use rg_fraction::{FoldStop, Fraction};
 use rg_lts::{Arc, Lts};
 use rg_theory::Class;
 use std::alloc::Global;

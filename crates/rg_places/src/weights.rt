@@ -9,13 +9,12 @@ ghost use Rattle.rg_fraction.specs.Fractions.{numerator_of};
 ghost use Rattle.rg_folds.specs.Fold.{each, whole_sum, ratio_of};
 ghost use Rattle.rg_folds.specs.Rewriting.{all_numbers, states_with};
 ghost use Rattle.rg_folds.specs.Placing.{ratio_at, top_at, taken_by_effect, taken};
-ghost use Rattle.rg_cycles.specs.declared.substitution.FoldStop.TheVariants as stop;
+ghost use Rattle.rg_fraction.specs.declared.fold_stop.FoldStop.TheVariants as stop;
 ghost use Rattle.rg_places.specs.PointValues.{ratios_of};
 ghost use Rattle.rg_places.specs.Steps.{taken_to_stop};
 
 use crate::numbers::least;
-use rg_cycles::FoldStop;
-use rg_fraction::{Fraction, Wide};
+use rg_fraction::{FoldStop, Fraction, whole_sum};
 use rg_lts::Lts;
 use rg_theory::{Class, Problem};
 use std::alloc::{AllocError, Global};
@@ -112,26 +111,10 @@ pub(crate) fn put(alloc: Global, taken: &[i128], found: &[Fraction]) -> Result<V
 {
     let mut put = Vec::new(alloc);
     for (u, &pre) in taken.iter().enumerate() {
-        let post = sum(pre, found[u].numerator())?;
+        let post = whole_sum(pre, found[u].numerator())?;
         put.push(post)?;
     }
     Ok(put)
-}
-
-// The sum of two whole numbers.
-fn sum(a: i128, b: i128) -> Result<i128, Wide>
-    requires a_in_range { InRange a }
-    requires b_in_range { InRange b }
-    ensures value { whole_sum a b result }
-    ensures in_range { IfOk result InRange }
-{
-    Wide {
-        a,
-        b: 1,
-        c: -b,
-        d: 1,
-    }
-    .evaluate()
 }
 
 // The numbers without their signs.

@@ -2,12 +2,11 @@
 ghost use Rattle.std.specs.Prelude.{◌≡◌, ◌||◌, is_some, Ok, Err, IfOk, IsErrOf};
 ghost use Rattle.rg_fraction.specs.declared.term.Wide.{Wide};
 ghost use Rattle.rg_folds.specs.Placing.{made_whole};
-ghost use Rattle.rg_cycles.specs.declared.substitution.FoldStop.TheVariants as stop;
+ghost use Rattle.rg_fraction.specs.declared.fold_stop.FoldStop.TheVariants as stop;
 ghost use Rattle.rg_places.specs.PointValues.{ratios_of};
 
-use rg_cycles::FoldStop;
-use rg_fraction::Fraction;
-use rg_scaling::{common_denominator, products};
+use rg_denominators::{common_denominator, products};
+use rg_fraction::{FoldStop, Fraction};
 use rg_theory::Class;
 use std::alloc::Global;
 

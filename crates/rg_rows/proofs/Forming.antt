@@ -11,13 +11,13 @@ use Rattle.rg_theory.specs.System.{System, states, labels}
 use Rattle.rg_refuting.specs.Row.{RowName, RowName.tokens_row, RowName.makes_row, RowName.stop_row, RowName.block_row, RowName.empty_row, RowName.full_row, RowName.keep_row, RowName.cap_row, RowName.up_row, RowName.down_row, case_consumer}
 use Rattle.rg_linear.specs.System.{LinearRow, row_at}
 use Rattle.rg_linear.specs.Firsts.{KeepsFirsts}
-use Rattle.rg_linear.proofs.Firsts.{kept_is}
+use Rattle.rg_linear.proofs.Firsts.{kept_is, kept_count}
 use Rattle.rg_folds.specs.Rewriting.{numbers_where, used_labels, has_label, has_label_at, states_with, has_start, all_numbers, problem_rows, names_of, KeptRow, IsIdle}
-use Rattle.rg_feasible.specs.declared.system.Row.{Row}
-use Rattle.rg_feasible.specs.View.{linear_row, linear_system, IsWellFormed}
+use Rattle.rg_linear.specs.declared.system.Row.{Row}
+use Rattle.rg_linear.specs.View.{linear_row, linear_system, IsWellFormed}
 use Rattle.rg_rows.specs.declared.named_row.NamedRow.{NamedRow}
 use Rattle.rg_rows.specs.View.{kept_row}
-use Rattle.rg_rows.proofs.Picking.{where_few}
+use Rattle.rg_columns.proofs.Picking.{where_few}
 
 -- ---- how many rows are named
 
@@ -54,11 +54,6 @@ from_map : {A B : Type 0} (f : A → B) (xs : List A) (y : B) → Contains (map 
 from_map f [] y (k, lt, e) = absurd (omega arith)
 from_map f (x ∷ xs) y (zero, lt, e) = (x, (0, omega arith, refl), e)
 from_map f (x ∷ xs) y (suc k, lt, e) = let (z, (j, below, is), same) = from_map f xs y (k, omega arith, e) in (z, (suc j, omega arith, is), same)
-
-kept_count : {X K : Type 0} (key : X → K) (Drops : X → Type 0) (seen : List K) (xs kept : List X) → KeepsFirsts key Drops seen xs kept → length kept ≤ length xs
-kept_count key Drops seen [] kept is = let e = ap length is in omega arith
-kept_count key Drops seen (x ∷ xs) kept (inl (gone, k)) = let h = kept_count key Drops seen xs kept k in omega arith
-kept_count key Drops seen (x ∷ xs) kept (inr (stays, fresh, (rest, is, k))) = let h = kept_count key Drops (key x ∷ seen) xs rest k in let e = ap length is in omega arith
 
 module _ (columns : ℕ) (all : List NamedRow) (rows : List Row) (kept : List KeptRow) (shown : map linear_row rows ≡ map (λ k. k.row) kept) (firsts : KeepsFirsts (λ k. k.row) IsIdle [] (map kept_row all) kept) (lengths : All (λ r. length r.coeffs.items ≡ columns) all) where
   named_fits : (r : NamedRow) → Contains all r → Fits columns (kept_row r).row

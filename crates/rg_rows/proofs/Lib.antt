@@ -1,5 +1,4 @@
 mod Naming
-mod Picking
 mod Making
 mod Keeping
 mod Terms

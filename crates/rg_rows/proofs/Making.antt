@@ -20,7 +20,7 @@ use Rattle.rg_folds.specs.Rewriting.{start_of, count_of, substitute_fold, column
 use Rattle.rg_linear.specs.Firsts.{KeepsFirsts}
 use Rattle.rg_rows.specs.View.{fold_of}
 use Rattle.rg_rows.proofs.Counted.{substitute_same}
-use Rattle.rg_rows.proofs.Picking.{columns_length}
+use Rattle.rg_columns.proofs.Picking.{columns_length}
 use Rattle.rg_cycles.proofs.Folding.{whole_is}
 
 -- ---- from the counts of labels to the columns

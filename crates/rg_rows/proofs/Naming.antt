@@ -13,8 +13,9 @@ use Rattle.rg_theory.proofs.Lists.{Contains-cons_cases}
 use Rattle.rg_refuting.specs.Row.{RowName, RowName.tokens_row, RowName.cap_row, RowName.up_row, RowName.down_row, RowName.makes_row, case_consumer}
 use Rattle.rg_folds.specs.Rewriting.{numbers_where, has_label, has_label_at, used_labels, has_start, all_numbers, problem_rows, names_of}
 use Rattle.rg_cycles.proofs.Folding.{where_taken, where_left, where_ends}
-use Rattle.rg_rows.specs.declared.columns.Columns.{Columns}
-use Rattle.rg_rows.specs.View.{TellsUsed, AreColumns, makers}
+use Rattle.rg_columns.specs.declared.columns.Columns.{Columns}
+use Rattle.rg_columns.specs.View.{TellsUsedLabels, AreColumns}
+use Rattle.rg_rows.specs.View.{makers}
 
 -- so far the rows of the numbers before i that pass the test are named
 module _ (make : ℕ → RowName) (test : ℕ → Bool) (i n : ℕ) (done all : List RowName) (so_far : done ++ map make (numbers_where test i (n - i)) ≡ all) where
@@ -62,28 +63,6 @@ pub label_at_is : (lts : System) (q t : ℕ) (o : Option ℕ) → IfSome o (λ t
 label_at_is lts q t (Some to) found none = finds_label_at q t to lts.arcs found
 label_at_is lts q t None found none = misses_label_at q t lts.arcs none
 
--- ---- a label among arcs
-
--- one arc more
-pub label_more : (t : ℕ) (arcs : List Arc) (a : Arc) → has_label t (arcs ++ a ∷ []) ≡ (if a.label == t then true else has_label t arcs)
-label_more t [] a = refl
-label_more t (b ∷ arcs) a = ap (λ x. if b.label == t then true else x) (label_more t arcs a) ∙ swap (b.label == t) (a.label == t) (has_label t arcs)
-  where
-    swap : (x y z : Bool) → (if x then true else (if y then true else z)) ≡ (if y then true else (if x then true else z))
-    swap true true z = refl
-    swap true false z = refl
-    swap false true z = refl
-    swap false false z = refl
-
--- the label of an arc more is used
-module _ (used : List Bool) (arcs : List Arc) (i : ℕ) (a d : Arc) (lt : i < length arcs) (is : slice_index_or arcs i d ≡ a) (below : a.label < length used) where
-  pub used_more : (t : ℕ) → slice_index_or used t false ≡ has_label t (take i arcs) → slice_index_or (set used a.label true) t false ≡ has_label t (take (i + 1) arcs)
-  used_more t e = go (a.label == t) refl ∙ sym (ap (has_label t) (take_more arcs i d lt ∙ ap (λ x. take i arcs ++ x ∷ []) is) ∙ label_more t (take i arcs) a)
-    where
-      go : (b : Bool) → (a.label == t) ≡ b → slice_index_or (set used a.label true) t false ≡ (if b then true else has_label t (take i arcs))
-      go true same = get_or-set_at used a.label t true false (sym (eqb-true a.label t same)) below
-      go false same = get_or-set_other used a.label t true false (λ f. false≢true (sym same ∙ eq-eqb a.label t (sym f))) ∙ e
-
 -- ---- a label that makes tokens
 
 pub makes_test : (has : Bool) (u consumer : ℕ) → has ≡ true → (u ≡ consumer → ⊥) → (has && not (u == consumer)) ≡ true
@@ -106,7 +85,7 @@ where_same : (p q : ℕ → Bool) (a n : ℕ) → ((t : ℕ) → t < a + n → p
 where_same p q a zero h = refl
 where_same p q a (suc n) h = ap (λ b. if b then (a ∷ numbers_where p (suc a) n) else numbers_where p (suc a) n) (h a (omega arith)) ∙ ap (λ l. if q a then (a ∷ l) else l) (where_same p q (suc a) n (λ t lt. h t (omega arith)))
 
-makers_are : (lts : System) (used : List Bool) (consumer : ℕ) → TellsUsed (labels lts) lts.arcs used → makers used consumer ≡ numbers_where (λ u. has_label u lts.arcs && not (u == consumer)) 0 (labels lts)
+makers_are : (lts : System) (used : List Bool) (consumer : ℕ) → TellsUsedLabels lts used → makers used consumer ≡ numbers_where (λ u. has_label u lts.arcs && not (u == consumer)) 0 (labels lts)
 makers_are lts used consumer tells = ap (λ n. numbers_where (λ u. slice_index_or used u false && not (u == consumer)) 0 n) tells.one_each ∙ where_same (λ u. slice_index_or used u false && not (u == consumer)) (λ u. has_label u lts.arcs && not (u == consumer)) 0 (labels lts) (λ t lt. ap (λ b. b && not (t == consumer)) (tells.each t (omega arith)))
 
 -- rows that are named where the test holds

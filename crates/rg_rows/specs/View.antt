@@ -9,23 +9,12 @@ use Rattle.rg_fraction.specs.declared.term.Wide.{Wide}
 use Rattle.rg_theory.specs.declared.Problem.{Problem}
 use Rattle.rg_refuting.specs.Row.{RowName, row_expression}
 use Rattle.rg_folds.specs.Fold.{ratio_of}
-use Rattle.rg_folds.specs.Rewriting.{has_label, has_start, numbers_where, KeptRow, row_fold}
+use Rattle.rg_folds.specs.Rewriting.{numbers_where, KeptRow, row_fold}
 use Rattle.rg_reasons.specs.Trees.{row_name_of}
 use Rattle.rg_expressions.specs.View.{TermNamesStateBelow}
-use Rattle.rg_feasible.specs.View.{linear_row}
-use Rattle.rg_rows.specs.declared.columns.Columns.{Columns}
+use Rattle.rg_linear.specs.View.{linear_row}
 use Rattle.rg_rows.specs.declared.named_row.NamedRow.{NamedRow}
 use Rattle.rg_rows.specs.declared.kept.NamedRows.{NamedRows}
-
--- of each label whether an arc has it
-pub record TellsUsed (labels : ℕ) (arcs : List Arc) (used : List Bool) : Type 0 where
-  pub one_each : length used ≡ labels
-  pub each : (t : ℕ) → t < labels → slice_index_or used t false ≡ has_label t arcs
-
--- the columns are those of the system in the class
-pub record AreColumns (lts : System) (class : Class) (columns : Columns) : Type 0 where
-  pub start : columns.start ≡ has_start class
-  pub used : TellsUsed (labels lts) lts.arcs columns.used.items
 
 -- the labels with an arc, but this one
 abbrev pub makers : List Bool → ℕ → List ℕ

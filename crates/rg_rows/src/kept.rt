@@ -5,8 +5,8 @@ ghost use Rattle.rg_folds.specs.Rewriting.{KeptRow, IsIdle};
 ghost use Rattle.rg_rows.specs.View.{numbers_of, kept_row, ShowsRows};
 
 use crate::named_row::NamedRow;
-use rg_feasible::Row;
 use rg_fraction::Fraction;
+use rg_linear::Row;
 use rg_reasons::RowName;
 use std::alloc::{AllocError, Global};
 use std::collections::HashSet;

@@ -6,7 +6,6 @@
 #![tactic(auto)]
 
 mod case;
-mod columns;
 mod counts;
 mod kept;
 mod named_row;
@@ -16,6 +15,3 @@ mod rewriting;
 
 pub use case::cases;
 pub use named_system::{NamedSystem, system};
-
-#[cfg(test)]
-mod tests;

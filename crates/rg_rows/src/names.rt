@@ -5,9 +5,10 @@ ghost use Rattle.rg_refuting.specs.Refutes.{IsSeparationProblem};
 ghost use Rattle.rg_refuting.specs.Row.{RowName.tokens_row, RowName.stop_row, RowName.makes_row};
 ghost use Rattle.rg_reasons.specs.Trees.{row_name_of};
 ghost use Rattle.rg_folds.specs.Rewriting.{all_numbers, states_with, has_label, numbers_where, problem_rows, names_of};
-ghost use Rattle.rg_rows.specs.View.{AreColumns, makers};
+ghost use Rattle.rg_columns.specs.View.{AreColumns};
+ghost use Rattle.rg_rows.specs.View.{makers};
 
-use crate::columns::Columns;
+use rg_columns::Columns;
 use rg_lts::Lts;
 use rg_reasons::{ProblemCase, RowName};
 use rg_theory::Problem;

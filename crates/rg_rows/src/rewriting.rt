@@ -9,20 +9,21 @@ ghost use Rattle.rg_spanning.specs.Spanning.{IsTreeOf};
 ghost use Rattle.rg_folds.specs.Rewriting.{terms_fold, row_fold, IsDivided, column_count};
 ghost use Rattle.rg_reasons.specs.Trees.{row_name_of};
 ghost use Rattle.rg_cycles.specs.View.{labels_of, cycle_of};
-ghost use Rattle.rg_cycles.specs.declared.substitution.FoldStop.TheVariants as stop;
+ghost use Rattle.rg_fraction.specs.declared.fold_stop.FoldStop.TheVariants as stop;
 ghost use Rattle.rg_reasons.specs.Sums.{expression_of};
 ghost use Rattle.rg_expressions.specs.View.{TermNamesStateBelow};
-ghost use Rattle.rg_scaling.specs.View.{scaled_of};
-ghost use Rattle.rg_rows.specs.View.{AreColumns, kept_row};
+ghost use Rattle.rg_denominators.specs.View.{scaled_of};
+ghost use Rattle.rg_columns.specs.View.{AreColumns};
+ghost use Rattle.rg_rows.specs.View.{kept_row};
 
-use crate::columns::Columns;
 use crate::counts::counts;
 use crate::named_row::NamedRow;
-use rg_cycles::{Basis, FoldStop, substitute};
+use rg_columns::Columns;
+use rg_cycles::{Basis, substitute};
+use rg_denominators::{Scaled, without_denominators};
 use rg_expressions::start;
-use rg_fraction::{Fraction, gcd, reduce};
+use rg_fraction::{FoldStop, Fraction, reduce, row_gcd};
 use rg_reasons::{Expression, RowName};
-use rg_scaling::{Scaled, without_denominators};
 use rg_spanning::Tree;
 use std::alloc::Global;
 
@@ -80,7 +81,7 @@ fn divided(name: RowName, scaled: Scaled, constant: i128) -> Result<NamedRow, Fo
     let multiple = scaled.multiple;
     let mut numbers = scaled.numbers;
     numbers.push(constant)?;
-    let divisor = row_divisor(&numbers);
+    let divisor = row_gcd(&numbers);
     reduce(&mut numbers);
     let (coeffs, constant) = parted(numbers);
     Ok(NamedRow {
@@ -89,20 +90,6 @@ fn divided(name: RowName, scaled: Scaled, constant: i128) -> Result<NamedRow, Fo
         constant,
         factor: Fraction::new(multiple, divisor.max(1)),
     })
-}
-
-// The greatest common divisor of the numbers.
-fn row_divisor(numbers: &[i128]) -> i128
-    requires { All InRange numbers.now }
-    ensures value { IsRowGcd numbers.now (unsigned_abs result) }
-    ensures not_negative { pos 0 ≤ℤ result }
-    ensures in_range { InRange result }
-{
-    let mut divisor = 0;
-    for &number in numbers {
-        divisor = gcd(number, divisor);
-    }
-    divisor
 }
 
 // All numbers but the last, and the last.

@@ -16,7 +16,7 @@ use Rattle.rg_linear.proofs.Refuting.{start_refuted}
 use Rattle.rg_dictionary.specs.Contents.{Contents, row_of, IsDictionary}
 use Rattle.rg_feasible.specs.View.{DescentState}
 use Rattle.rg_feasible.specs.Settling.{relation_of, multiplier_with}
-use Rattle.rg_feasible.proofs.Shown.{row_shows, relation_is, multipliers_refute}
+use Rattle.rg_feasible.proofs.Shown.{FailingRelation, failing_relation, multipliers_refute}
 use Rattle.rg_folds.specs.Rewriting.{rows_of}
 use Rattle.rg_folds.specs.Spreading.{spread_fold}
 use Rattle.rg_folds.specs.Shown.{SpreadShown}
@@ -33,32 +33,6 @@ use Rattle.rg_separate.specs.Casing.{IsCase, IsNamedSystem, IsRefutedBy}
 use Rattle.rg_separate.specs.Passing.{passed_at}
 use Rattle.rg_separate.specs.Deciding.{RefutesCase}
 use Rattle.rg_separate.proofs.Branches.{tree_alone}
-
--- the relation of the row that fails, and the multipliers that it gives
-pub record FailingRelation (system : LinearSystem) (d : Contents) (i : ℕ) : Type 0 where
-  pub k : Relation
-  pub row : DictionaryRow system d.members (row_variable system i) k
-  pub multipliers : multiplier_with d i ≡ multiplier_of system k i
-
-module _ (system : LinearSystem) (d : Contents) (fixed : List ℕ) (i : ℕ) (whole : IsDictionary system d) (outcome : DescentFromStart system (refuted d.members i fixed)) where
-  pivot_is : d.columns + i ≡ row_variable system i
-  pivot_is = ap (λ n. n + i) whole.columns
-
-  failing : (k : Relation) × DictionaryRow system d.members (row_variable system i) k
-  failing = let at = (start_refuted system d.members fixed i outcome).stuck in (at.k, at.row)
-
-  shown : ShowsRow system d.members (d.columns + i) (row_of d (d.columns + i))
-  shown = row_shows d system whole (d.columns + i) (subst (λ w. w < variables system) (sym pivot_is) failing.1.variable) (λ has. failing.1.outside (subst (Contains d.members) pivot_is has))
-
-  is_shown : relation_of d.members (row_of d (d.columns + i)) ≡ shown.k
-  is_shown = relation_is d.members shown.k (row_of d (d.columns + i)) shown.row.over shown.shown
-
-  pub failing_relation : FailingRelation system d i
-  failing_relation = record {
-    k = shown.k;
-    row = subst (λ w. DictionaryRow system d.members w shown.k) pivot_is shown.row;
-    multipliers = λ j row. if row == i then (is_shown j).d else neg_ℤ ((is_shown j).coefficient (whole.columns j + row));
-  }
 
 -- the multipliers of a refuted descent refute the system of the case
 pub farkas : (c : CaseSetting) (named : NamedSystem) (d : DescentState) (i : ℕ) → (system : IsNamedSystem c named) → IsRefutedBy named.system d i → AreFarkasMultipliers (rows_of system.case) (multiplier_with d.table i)

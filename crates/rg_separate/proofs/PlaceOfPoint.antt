@@ -26,12 +26,13 @@ use Rattle.rg_feasible.specs.View.{DescentState}
 use Rattle.rg_feasible.specs.Settling.{IsBasicPoint}
 use Rattle.rg_rows.specs.declared.named_system.NamedSystem.{NamedSystem}
 use Rattle.rg_places.specs.PointValues.{ratios_of, point_start, point_value, HasValues, SolvesCase}
+use Rattle.rg_places.proofs.PointPlaces.{point_of}
 use Rattle.rg_separate.specs.declared.wide_at.Stage.TheVariants.{Place}
 use Rattle.rg_separate.specs.declared.setting.CaseSetting.{CaseSetting}
 use Rattle.rg_separate.specs.Casing.{IsCase, IsNamedSystem, IsAtPoint, AreColumnValues}
 use Rattle.rg_separate.specs.Passing.{passed_at}
 use Rattle.rg_separate.proofs.Branches.{found_alone, root_is}
-use Rattle.rg_separate.proofs.PointValues.{value_at, beside_at}
+use Rattle.rg_separate.proofs.PointValues.{value_at}
 
 -- a problem of the system is asked
 pub asked : (lts : System) (problem : Problem) → IsProblem lts problem → IsSeparationProblem lts problem
@@ -79,38 +80,9 @@ column_value system d point at are j lt =
     let below : j < length point = (let e = are.one_each in omega arith) in
     ratio_is point j (IsValueAt system d.table.members j) below (λ f. value_at system d.table at.dictionary j (get_or point j f) (omega arith) (λ scale v basic. are.values j f below scale v basic))
 
--- how many columns there are
-counted : (fs : List ℕ) (b : Bool) → length ((if b then (pos 0 ∷ []) else []) ++ map pos fs) ≡ (if b then 1 else 0) + length fs
-counted fs true = let e = length-map fs pos in omega arith
-counted fs false = let e = length-map fs pos in omega arith
-
-module _ (lts : System) (basis : CycleBasis) (class : Class) (system : LinearSystem) (d : DescentState) (point : List Fraction) (at : IsAtPoint system d) (are : AreColumnValues system d point) (count : system.columns ≡ column_count lts basis class) where
-  columns_are : system.columns ≡ first_column class + length (free_columns lts basis)
-  columns_are = count ∙ counted (free_columns lts basis) (has_start class)
-
-  start_value : IsTrue (has_start class) → IsValueAt system d.table.members 0 (point_start class point)
-  start_value h =
-      let e = h in
-      let lt : 0 < system.columns = subst (λ (n : ℕ). 0 < n) (sym (columns_are ∙ ap (λ b. (if b then 1 else 0) + length (free_columns lts basis)) e)) (omega arith) in
-      subst (λ b. IsValueAt system d.table.members 0 (if b then ratio_at (ratios_of point) 0 else whole (pos 0))) (sym e) (column_value system d point at are 0 lt)
-
-  long_enough : length (free_columns lts basis) ≤ length (drop (first_column class) (ratios_of point))
-  long_enough = let a = columns_are in let b = are.one_each in let l = length-drop (first_column class) (ratios_of point) in let m = length-map point ratio_of in omega arith
-
-  free_is : (i : ℕ) → i < length (free_columns lts basis) → point_value lts basis class point (get_or (free_columns lts basis) i 0) ≡ ratio_at (ratios_of point) (first_column class + i)
-  free_is i lt = beside_at (λ t. is_in basis.members t && has_label t lts.arcs) 0 (labels lts) (drop (first_column class) (ratios_of point)) i lt long_enough ∙ get_or-drop (first_column class) (ratios_of point) i (whole (pos 0))
-
-  free_value : (i f : ℕ) → i < length (free_columns lts basis) → get_or (free_columns lts basis) i 0 ≡ f → IsValueAt system d.table.members (first_column class + i) (point_value lts basis class point f)
-  free_value i f lt e =
-      subst (λ t. IsValueAt system d.table.members (first_column class + i) (point_value lts basis class point t)) e
-      (subst (IsValueAt system d.table.members (first_column class + i)) (sym (free_is i lt)) (column_value system d point at are (first_column class + i) (let a = columns_are in omega arith)))
-
-  pub point_of : PointOf lts basis class system d.table.members (point_start class point) (point_value lts basis class point)
-  point_of = record {
-    start_is = start_value;
-    no_start = λ h. ap (λ b. if b then ratio_at (ratios_of point) 0 else whole (pos 0)) h;
-    values = free_value;
-  }
+-- Start and the values of the labels are those of the columns at the set
+point_is : (lts : System) (basis : CycleBasis) (class : Class) (system : LinearSystem) (d : DescentState) (point : List Fraction) → IsAtPoint system d → AreColumnValues system d point → system.columns ≡ column_count lts basis class → PointOf lts basis class system d.table.members (point_start class point) (point_value lts basis class point)
+point_is lts basis class system d point at are count = point_of lts basis class point (are.one_each ∙ count) system d.table.members (λ j lt. column_value system d point at are j (let e = are.one_each in omega arith))
 
 -- the step that the place of the point shows
 pub place_shown : (c : CaseSetting) (named : NamedSystem) (d : DescentState) (fractions : List Fraction) (w : Wide) → IsCase c → IsNamedSystem c named → IsAtPoint named.system d → AreColumnValues named.system d fractions → named.system.columns ≡ column_count c.setting.lts.now (cycle_of c.setting.basis.now) c.setting.class → place_fold c.setting.lts.now c.setting.tree.now.arcs (cycle_of c.setting.basis.now) c.setting.class c.problem (point_start c.setting.class fractions) (point_value c.setting.lts.now (cycle_of c.setting.basis.now) c.setting.class fractions) (Err w) → PlaceShown c.setting.lts.now c.setting.class (passed_at Place c w)
@@ -136,6 +108,6 @@ place_shown c named d fractions w is system at are count passes = record {
   nowhere = record { members = refl; pivot = refl; leaves = refl; target = refl; entry = refl };
   point = subst (λ s. PointOf c.setting.lts.now (cycle_of c.setting.basis.now) c.setting.class s d.table.members (point_start c.setting.class fractions) (point_value c.setting.lts.now (cycle_of c.setting.basis.now) c.setting.class fractions))
       (system.shows.system ∙ sym (root_is (rows_of system.case) system.case.forms system.shows.forms))
-      (point_of c.setting.lts.now (cycle_of c.setting.basis.now) c.setting.class named.system d fractions at are count);
+      (point_is c.setting.lts.now (cycle_of c.setting.basis.now) c.setting.class named.system d fractions at are count);
   passes = passes;
 }

@@ -23,16 +23,6 @@ use Rattle.rg_folds.proofs.FoldLemmas.{ratio_one, new_step}
 use Rattle.rg_folds.proofs.Scaling.{whole_ratio}
 use Rattle.rg_places.specs.PointValues.{ratio_beside}
 
--- the numbers that pass the test are not below the first
-where_from : (test : ℕ → Bool) (a n i : ℕ) → i < length (numbers_where test a n) → a ≤ get_or (numbers_where test a n) i 0
-where_from test a zero i lt = absurd (omega arith)
-where_from test a (suc n) i lt = go (test a) i lt (where_from test (suc a) n)
-  where
-    go : (b : Bool) (i : ℕ) → i < length (if b then (a ∷ numbers_where test (suc a) n) else numbers_where test (suc a) n) → ((i : ℕ) → i < length (numbers_where test (suc a) n) → suc a ≤ get_or (numbers_where test (suc a) n) i 0) → a ≤ get_or (if b then (a ∷ numbers_where test (suc a) n) else numbers_where test (suc a) n) i 0
-    go false i lt more = let h = more i lt in omega arith
-    go true zero lt more = omega arith
-    go true (suc i) lt more = let h = more i (omega arith) in omega arith
-
 -- one value more
 pub value_more : (P : ℕ → Fraction → Type 0) (xs : List Fraction) (x : Fraction) → ((j : ℕ) (f : Fraction) → j < length xs → P j (get_or xs j f)) → P (length xs) x → (j : ℕ) (f : Fraction) → j < length (xs ++ x ∷ []) → P j (get_or (xs ++ x ∷ []) j f)
 value_more P xs x each here j f lt = go (cases_lt j (length xs))
@@ -67,24 +57,3 @@ module _ (system : LinearSystem) (d : Contents) (whole_one : IsDictionary system
       (λ has. inl (has, value_member j f scale v basic (is scale v basic) has))
       (λ out. (let row = row_shows d system whole_one j lt out in inr (row.k, row.row, value_relation j f row.k scale v basic (is scale v basic) row.row)))
       (is_member d.members j)
-
--- ---- Start and the free labels
-
--- the number beside a label is that of its place
-pub beside_at : (test : ℕ → Bool) (a n : ℕ) (rs : List Ratio) (i : ℕ) → i < length (numbers_where test a n) → length (numbers_where test a n) ≤ length rs → ratio_beside (numbers_where test a n) rs (get_or (numbers_where test a n) i 0) ≡ ratio_at rs i
-beside_at test a zero rs i lt long = absurd (omega arith)
-beside_at test a (suc n) rs i lt long = go (test a) lt long (beside_at test (suc a) n)
-  where
-    go : (b : Bool) → i < length (if b then (a ∷ numbers_where test (suc a) n) else numbers_where test (suc a) n) → length (if b then (a ∷ numbers_where test (suc a) n) else numbers_where test (suc a) n) ≤ length rs
-        → ((rs : List Ratio) (i : ℕ) → i < length (numbers_where test (suc a) n) → length (numbers_where test (suc a) n) ≤ length rs → ratio_beside (numbers_where test (suc a) n) rs (get_or (numbers_where test (suc a) n) i 0) ≡ ratio_at rs i)
-        → ratio_beside (if b then (a ∷ numbers_where test (suc a) n) else numbers_where test (suc a) n) rs (get_or (if b then (a ∷ numbers_where test (suc a) n) else numbers_where test (suc a) n) i 0) ≡ ratio_at rs i
-    go false lt long more = more rs i lt long
-    go true lt long more = by rs i lt long
-      where
-        by : (rs : List Ratio) (i : ℕ) → i < length (a ∷ numbers_where test (suc a) n) → length (a ∷ numbers_where test (suc a) n) ≤ length rs → ratio_beside (a ∷ numbers_where test (suc a) n) rs (get_or (a ∷ numbers_where test (suc a) n) i 0) ≡ ratio_at rs i
-        by [] i lt long = absurd (omega arith)
-        by (r ∷ rs) zero lt long = ap (λ b. if b then r else ratio_beside (numbers_where test (suc a) n) rs a) (eq-eqb a a refl)
-        by (r ∷ rs) (suc i) lt long =
-            let f = get_or (numbers_where test (suc a) n) i 0 in
-            let above : suc a ≤ f = where_from test (suc a) n i (omega arith) in
-            ap (λ b. if b then r else ratio_beside (numbers_where test (suc a) n) rs f) (differs a f (λ e. (omega arith))) ∙ more rs i (omega arith) (omega arith)

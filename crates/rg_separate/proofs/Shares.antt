@@ -6,7 +6,7 @@ use Rattle.std.proofs.lemmas.Bool.{lt-ltb}
 use Rattle.std.proofs.lemmas.Int.{ints}
 use Rattle.std.specs.Int.{w128}
 use Rattle.std.specs.Int.Signed.{mag}
-use Rattle.rg_cycles.specs.declared.substitution.FoldStop.TheVariants as stop
+use Rattle.rg_fraction.specs.declared.fold_stop.FoldStop.TheVariants as stop
 use Rattle.std.proofs.Common.{to_z, of_z}
 use Rattle.rg_fraction.specs.declared.term.Wide.{Wide}
 use Rattle.rg_fraction.specs.declared.fraction.Fraction.{Fraction}
@@ -24,6 +24,7 @@ use Rattle.rg_reasons.specs.declared.certificate.RowName.{RowName as NameOfCode}
 use Rattle.rg_reasons.specs.Trees.{row_name_of}
 use Rattle.rg_feasible.specs.View.{DescentState}
 use Rattle.rg_linear.specs.System.{LinearSystem}
+use Rattle.rg_linear.proofs.Splits.{nonzero_test}
 use Rattle.rg_feasible.specs.Settling.{IsRefutation, multiplier_with}
 use Rattle.rg_rows.specs.declared.named_system.NamedSystem.{NamedSystem}
 use Rattle.rg_rows.specs.Shown.{ShowsCase}
@@ -31,9 +32,6 @@ use Rattle.rg_farkas.specs.Leaves.{share_of}
 use Rattle.rg_separate.specs.Casing.{IsRefutedBy, put_behind, SharesFold, SharesFrom}
 
 -- ---- weights
-
-nonzero_test : (z : ℤ) → (int_lt z (pos 0) || int_lt (pos 0) z) ≡ false → z ≡ pos 0
-nonzero_test z e = grind (arith, ints)
 
 used : (z : ℤ) → z ≢ pos 0 → int_lt z (pos 0) || int_lt (pos 0) z ≡ true
 used z ne = go (int_lt z (pos 0) || int_lt (pos 0) z) refl

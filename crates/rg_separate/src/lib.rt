@@ -17,6 +17,3 @@ mod wide_at;
 
 pub use separation::{Separation, separate};
 pub use wide_at::{Stage, WideAt};
-
-#[cfg(test)]
-mod tests;

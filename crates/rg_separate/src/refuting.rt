@@ -1,7 +1,7 @@
 //! The leaf of a case that is refuted.
 ghost use Rattle.std.specs.Prelude.{◌≡◌, ◌<◌, ◌^◌, ℕ, length, [], ◌∷◌, map, Ok, Err, IfOk, IsErrOf};
 ghost use Rattle.rg_fraction.specs.declared.term.Wide.{Wide};
-ghost use Rattle.rg_cycles.specs.declared.substitution.FoldStop.TheVariants as stop;
+ghost use Rattle.rg_fraction.specs.declared.fold_stop.FoldStop.TheVariants as stop;
 ghost use Rattle.rg_integers.specs.Range.{InRange};
 ghost use Rattle.rg_folds.specs.Fold.{shown_result};
 ghost use Rattle.rg_folds.specs.Rewriting.{CaseSystem};
@@ -14,10 +14,9 @@ ghost use Rattle.rg_separate.specs.Deciding.{CaseTells};
 use crate::case::{CaseAnswer, passed};
 use crate::setting::{CaseSetting, Setting};
 use crate::wide_at::Stage;
-use rg_cycles::FoldStop;
 use rg_farkas::spread;
 use rg_feasible::Dictionary;
-use rg_fraction::{Fraction, Wide};
+use rg_fraction::{FoldStop, Fraction, Wide};
 use rg_reasons::{Case, Node, RowName};
 use rg_rows::NamedSystem;
 use std::alloc::{AllocError, Global};

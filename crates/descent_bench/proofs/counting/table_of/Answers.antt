@@ -1,7 +1,7 @@
 use Rattle.std.proofs.Common.{ap, subst, sym, ◌∙◌, length}
 use Rattle.rg_integers.specs.Range.{InRange}
 use Rattle.rg_integers.proofs.Casts.{back}
-use Rattle.rg_feasible.proofs.Filling.{row_length, row_in_range, constant_in_range}
+use Rattle.rg_linear.proofs.KeptRows.{row_length, row_in_range, constant_in_range}
 use Rattle.descent_bench.proofs.counting.table_of.Goals as goal
 
 pub push_row-requires-clause-one_each : goal.push_row-requires-clause-one_each

@@ -2,8 +2,8 @@ use Rattle.std.proofs.Common.{◌+◌, ◌<◌, ◌≤◌, ◌^◌, [], length, 
 use Rattle.std.specs.Prelude.{pos}
 use Rattle.std.proofs.lemmas.List.{length-map}
 use Rattle.std.proofs.lemmas.List.Elements.{All-map}
-use Rattle.rg_feasible.specs.View.{linear_row}
-use Rattle.rg_feasible.proofs.Testing.{IsFine, all_fine}
+use Rattle.rg_linear.specs.View.{linear_row}
+use Rattle.rg_linear.proofs.KeptRows.{IsFine, all_fine}
 use Rattle.descent_bench.proofs.random.system.Goals as goal
 
 pub new-requires : goal.new-requires

@@ -1,6 +1,6 @@
 use Rattle.std.proofs.Common.{◌≡◌, All, length}
-use Rattle.rg_feasible.specs.View.{linear_row}
-use Rattle.rg_feasible.proofs.Testing.{IsFine}
+use Rattle.rg_linear.specs.View.{linear_row}
+use Rattle.rg_linear.proofs.KeptRows.{IsFine}
 use Rattle.descent_bench.proofs.random.system.Given as goal
 
 abbrev pub invariant-loop : goal.invariant-loop

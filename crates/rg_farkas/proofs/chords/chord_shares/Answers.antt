@@ -2,9 +2,9 @@ use Rattle.std.proofs.Common.{rules, ◌≡◌, ◌+◌, Err, map, subst}
 use Rattle.rg_theory.specs.System.{labels}
 use Rattle.rg_folds.specs.Fold.{each, ratio_of}
 use Rattle.rg_cycles.specs.View.{cycle_of}
-use Rattle.rg_cycles.specs.declared.substitution.FoldStop.TheVariants as stop
+use Rattle.rg_fraction.specs.declared.fold_stop.FoldStop.TheVariants as stop
 use Rattle.rg_farkas.specs.View.{counted_of, counts_fold}
-use Rattle.rg_scaling.proofs.Items.{item_next, item_fails, items_end, map_push}
+use Rattle.rg_cycles.proofs.Items.{item_next, item_fails, items_end, map_push}
 use Rattle.rg_farkas.proofs.chords.chord_shares.Goals as goal
 
 pub returns-in_err-share-clause-wide : goal.returns-in_err-share-clause-wide

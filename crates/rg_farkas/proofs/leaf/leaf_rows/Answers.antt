@@ -2,14 +2,14 @@ use Rattle.std.proofs.Common.{rules, ◌≡◌, ◌∙◌, ◌++◌, [], Ok, Err
 use Rattle.rg_integers.specs.Range.{InRange}
 use Rattle.rg_refuting.specs.Row.{row_expression}
 use Rattle.rg_cycles.specs.View.{cycle_of}
-use Rattle.rg_cycles.specs.declared.substitution.FoldStop.TheVariants as stop
+use Rattle.rg_fraction.specs.declared.fold_stop.FoldStop.TheVariants as stop
 use Rattle.rg_reasons.specs.Trees.{named_row}
 use Rattle.rg_folds.specs.Fold.{ratio_of}
 use Rattle.rg_folds.specs.Rewriting.{scaled_fold}
 use Rattle.rg_folds.specs.Spreading.{chord_arcs, tree_fold, checked_leaf}
 use Rattle.rg_reasons.specs.Sums.{side_of}
 use Rattle.rg_farkas.specs.Leaves.{share_of}
-use Rattle.rg_scaling.specs.View.{scaled_of}
+use Rattle.rg_denominators.specs.View.{scaled_of}
 use Rattle.rg_farkas.specs.View.{counted_of, named_of, arc_times}
 use Rattle.rg_farkas.proofs.ChordNumbers.{all_used}
 use Rattle.rg_farkas.proofs.LeafSteps.{few_kept, all_dependent, chords_told, leaf_unshared, leaf_unscaled, leaf_untreed, leaf_rows_of, leaf_unchecked, leaf_made, fractions_are, numbered_length, shares_length, listed_are, listed_range, tree_made, parted, leaf_is, leaf_range, checked_as, enough_parts}

@@ -2,7 +2,7 @@ use Rattle.std.proofs.Common.{rules, ◌≡◌, ◌∙◌, ◌++◌, ◌∷◌, 
 use Rattle.std.specs.Prelude.{pos}
 use Rattle.rg_reasons.specs.Sums.{variable_of}
 use Rattle.rg_reasons.specs.declared.variable.Variable.TheVariants.{Tokens}
-use Rattle.rg_cycles.specs.declared.substitution.FoldStop.TheVariants as stop
+use Rattle.rg_fraction.specs.declared.fold_stop.FoldStop.TheVariants as stop
 use Rattle.rg_cycles.proofs.Folding.{each_start}
 use Rattle.rg_folds.specs.Fold.{further, whole_sum}
 use Rattle.rg_farkas.specs.View.{size_fold, coefficient_at}

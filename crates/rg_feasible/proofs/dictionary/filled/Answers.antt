@@ -1,8 +1,9 @@
 use Rattle.std.proofs.Common.{ap, subst, sym, ◌∙◌, arith, length}
 use Rattle.rg_integers.specs.Range.{InRange}
 use Rattle.rg_integers.proofs.Casts.{back}
+use Rattle.rg_linear.proofs.KeptRows.{row_length, row_in_range, constant_in_range, behind_rows}
 use Rattle.rg_dictionary.specs.Contents.{IsDictionary}
-use Rattle.rg_feasible.proofs.Filling.{row_length, row_in_range, constant_in_range, row_pushed, behind_rows, all_rows}
+use Rattle.rg_feasible.proofs.Filling.{row_pushed, all_rows}
 use Rattle.rg_feasible.proofs.dictionary.filled.Goals as goal
 
 pub push_row-requires-clause-one_each : goal.push_row-requires-clause-one_each

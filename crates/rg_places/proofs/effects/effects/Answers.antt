@@ -5,7 +5,7 @@ use Rattle.rg_theory.specs.System.{labels}
 use Rattle.rg_folds.specs.Fold.{each, ratio_of, shown_result}
 use Rattle.rg_folds.specs.Rewriting.{all_numbers}
 use Rattle.rg_folds.specs.Placing.{effect_fold}
-use Rattle.rg_cycles.specs.declared.substitution.FoldStop.TheVariants as stop
+use Rattle.rg_fraction.specs.declared.fold_stop.FoldStop.TheVariants as stop
 use Rattle.rg_cycles.specs.View.{cycle_of}
 use Rattle.rg_cycles.proofs.Folding.{whole_is}
 use Rattle.rg_places.specs.PointValues.{ratios_of}

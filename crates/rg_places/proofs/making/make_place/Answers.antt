@@ -4,7 +4,7 @@ use Rattle.rg_folds.specs.Fold.{Ratio, ratio_of}
 use Rattle.rg_folds.specs.Shown.{IsLive}
 use Rattle.rg_folds.specs.Placing.{place_fold}
 use Rattle.rg_cycles.specs.View.{cycle_of}
-use Rattle.rg_cycles.specs.declared.substitution.FoldStop.TheVariants as stop
+use Rattle.rg_fraction.specs.declared.fold_stop.FoldStop.TheVariants as stop
 use Rattle.rg_net.specs.Shown.{shown_place}
 use Rattle.rg_places.specs.PointValues.{ratios_of, point_start, point_value, SolvesCase}
 use Rattle.rg_places.specs.Steps.{weights_fold}

@@ -4,7 +4,7 @@ use Rattle.rg_theory.specs.declared.Arc.{Arc}
 use Rattle.rg_theory.specs.System.{labels}
 use Rattle.rg_folds.specs.Fold.{ratio_of}
 use Rattle.rg_folds.specs.Placing.{along_tree, ratio_at}
-use Rattle.rg_cycles.specs.declared.substitution.FoldStop.TheVariants as stop
+use Rattle.rg_fraction.specs.declared.fold_stop.FoldStop.TheVariants as stop
 use Rattle.rg_places.specs.PointValues.{ratios_of}
 use Rattle.rg_places.proofs.AlongTree.{tree_arc_in_range, along_first, along_end, step_fails, step_next}
 use Rattle.rg_places.proofs.numbers.along_tree.Goals as goal

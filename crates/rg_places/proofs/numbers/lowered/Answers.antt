@@ -3,7 +3,7 @@ use Rattle.std.proofs.lemmas.List.{map-append}
 use Rattle.rg_folds.specs.Fold.{ratio_of, each, add}
 use Rattle.rg_folds.specs.Placing.{negated}
 use Rattle.rg_places.proofs.FractionSteps.{sub_step}
-use Rattle.rg_cycles.specs.declared.substitution.FoldStop.TheVariants as stop
+use Rattle.rg_fraction.specs.declared.fold_stop.FoldStop.TheVariants as stop
 use Rattle.rg_places.specs.PointValues.{ratios_of}
 use Rattle.rg_places.proofs.FoldSteps.{mapped_next, mapped_fails, mapped_end}
 use Rattle.rg_places.proofs.numbers.lowered.Goals as goal

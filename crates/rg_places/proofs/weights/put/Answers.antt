@@ -5,7 +5,7 @@ use Rattle.rg_integers.proofs.Casts.{back}
 use Rattle.rg_folds.specs.Fold.{each, whole_sum}
 use Rattle.rg_folds.specs.Rewriting.{all_numbers}
 use Rattle.rg_folds.specs.Placing.{top_at}
-use Rattle.rg_cycles.specs.declared.substitution.FoldStop.TheVariants as stop
+use Rattle.rg_fraction.specs.declared.fold_stop.FoldStop.TheVariants as stop
 use Rattle.rg_places.specs.PointValues.{ratios_of}
 use Rattle.rg_places.proofs.Counting.{counted_next, counted_fails, counted_end}
 use Rattle.rg_places.proofs.FractionSteps.{top_there}
@@ -19,7 +19,7 @@ returns-in_err-post-clause-wide c = λ w e.
     let lt : c.loop-u.u < length c.args.found.now = omega arith in
     let top = top_there c.args.found.now c.loop-u.u c.index-found-u.result lt c.index-found-u.is in
     let n = back c.numerator.result c.numerator.ensures.in_range in
-    let made = rw (pre, n, c.numerator.ensures.value, top) at c.sum.ensures.value in
+    let made = rw (pre, n, c.numerator.ensures.value, top) at c.whole_sum.ensures.value in
     subst (λ v. each (λ u. whole_sum (number_at c.args.taken.now u) (top_at (ratios_of c.args.found.now) u)) (all_numbers (length c.args.taken.now)) (Err v)) is
     (counted_fails (λ u. whole_sum (number_at c.args.taken.now u) (top_at (ratios_of c.args.found.now) u)) (length c.args.taken.now) c.loop-u.u c.loop-u.put.items c.loop-u.invariant c.loop-u-test.true c.in_err-post.field-0.0 (rw c.in_err-post.was at made))
 
@@ -29,7 +29,7 @@ loop-u-preserved c =
     let lt : c.loop-u.u < length c.args.found.now = omega arith in
     let top = top_there c.args.found.now c.loop-u.u c.index-found-u.result lt c.index-found-u.is in
     let n = back c.numerator.result c.numerator.ensures.in_range in
-    let made = rw (pre, n, c.numerator.ensures.value, top) at c.sum.ensures.value in
+    let made = rw (pre, n, c.numerator.ensures.value, top) at c.whole_sum.ensures.value in
     let post = back c.in_ok-post.post c.in_ok-post.ensures.in_range in
     rw (c.in_ok-push.ensures.items, post) (counted_next (λ u. whole_sum (number_at c.args.taken.now u) (top_at (ratios_of c.args.found.now) u)) (length c.args.taken.now) c.loop-u.u c.loop-u.put.items c.loop-u.invariant c.loop-u-test.true c.in_ok-post.post (rw c.in_ok-post.was at made))
 

@@ -5,8 +5,8 @@ use Rattle.rg_fraction.specs.declared.fraction.Fraction.{Fraction}
 use Rattle.rg_fraction.specs.Fractions.{denominator_of}
 use Rattle.rg_folds.specs.Fold.{each, mul, whole, ratio_of, multiple_of_all}
 use Rattle.rg_folds.specs.Placing.{made_whole}
-use Rattle.rg_cycles.specs.declared.substitution.FoldStop.TheVariants as stop
-use Rattle.rg_scaling.proofs.Multiples.{bottoms}
+use Rattle.rg_fraction.specs.declared.fold_stop.FoldStop.TheVariants as stop
+use Rattle.rg_denominators.proofs.Multiples.{bottoms}
 use Rattle.rg_places.specs.PointValues.{ratios_of}
 use Rattle.rg_places.proofs.PlaceSteps.{if_ok, made_kept, multiple_fails, multiple_makes}
 use Rattle.rg_places.proofs.whole.made_whole.Goals as goal

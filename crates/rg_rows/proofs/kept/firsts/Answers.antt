@@ -3,7 +3,7 @@ use Rattle.std.proofs.lemmas.Bool.{false≢true}
 use Rattle.std.proofs.lemmas.List.{length-map}
 use Rattle.rg_folds.specs.Fold.{ratio_of}
 use Rattle.rg_reasons.specs.Trees.{row_name_of}
-use Rattle.rg_feasible.specs.View.{linear_row}
+use Rattle.rg_linear.specs.View.{linear_row}
 use Rattle.rg_cycles.proofs.Firsts.{has_numbers}
 use Rattle.rg_rows.specs.View.{numbers_of, kept_row}
 use Rattle.rg_rows.proofs.Keeping.{kept-start, kept-end, kept-drop, row_next, key_is, asked-new, asked-old}

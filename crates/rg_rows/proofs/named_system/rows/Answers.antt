@@ -4,14 +4,14 @@ use Rattle.std.proofs.lemmas.List.Elements.{All-nil, All-cons, All-append}
 use Rattle.rg_folds.specs.Rewriting.{column_count}
 use Rattle.rg_refuting.specs.Row.{RowName.block_row}
 use Rattle.rg_reasons.specs.Trees.{row_name_of}
-use Rattle.rg_cycles.specs.declared.substitution.FoldStop.TheVariants as stop
+use Rattle.rg_fraction.specs.declared.fold_stop.FoldStop.TheVariants as stop
 use Rattle.rg_cycles.specs.View.{cycle_of}
 use Rattle.rg_rows.specs.declared.named_row.NamedRow.{NamedRow}
 use Rattle.rg_reasons.specs.Sums.{expression_of}
 use Rattle.rg_rows.specs.View.{kept_row, fold_of}
-use Rattle.rg_scaling.proofs.Items.{map_push}
+use Rattle.rg_cycles.proofs.Items.{map_push}
 use Rattle.rg_rows.proofs.Terms.{name_within}
-use Rattle.rg_scaling.proofs.Items.{item_next, item_fails, items_end}
+use Rattle.rg_cycles.proofs.Items.{item_next, item_fails, items_end}
 use Rattle.rg_rows.proofs.Making.{fold_told}
 use Rattle.rg_rows.proofs.named_system.rows.Goals as goal
 

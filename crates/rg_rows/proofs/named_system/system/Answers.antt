@@ -6,7 +6,7 @@ use Rattle.rg_folds.specs.Rewriting.{CaseSystem, IsIdle, column_count, names_of}
 use Rattle.rg_reasons.specs.Trees.{row_name_of}
 use Rattle.rg_cycles.specs.View.{cycle_of}
 use Rattle.rg_rows.specs.View.{kept_row, AreNamesWithin}
-use Rattle.rg_rows.proofs.Picking.{columns_few}
+use Rattle.rg_columns.proofs.Picking.{columns_few}
 use Rattle.rg_rows.proofs.Terms.{names_within}
 use Rattle.rg_rows.proofs.Making.{case_made}
 use Rattle.rg_rows.proofs.Forming.{names_few, well_formed}

@@ -2,7 +2,7 @@ use Rattle.std.proofs.Common.{ap, map, length, subst, sym, ◌<◌, false, not, 
 use Rattle.std.specs.Prelude.{slice_index_or}
 use Rattle.rg_refuting.specs.Row.{RowName.makes_row}
 use Rattle.rg_reasons.specs.Trees.{row_name_of}
-use Rattle.rg_scaling.proofs.Items.{map_push}
+use Rattle.rg_cycles.proofs.Items.{map_push}
 use Rattle.rg_rows.proofs.Naming.{name_taken, name_left, makes_test, consumer_test}
 use Rattle.rg_rows.proofs.names.push_makes.Goals as goal
 use Rattle.rg_rows.proofs.names.push_makes.Goals.{then-used-u+then-u-consumer+in_ok-push, else-used-u, else-used-u-via-then-used-u+else-u-consumer, else-used-u-via-else-used-u}

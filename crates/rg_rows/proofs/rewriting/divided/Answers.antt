@@ -8,7 +8,7 @@ use Rattle.rg_integers.proofs.Order.{positive_differs}
 use Rattle.rg_fraction.specs.Fractions.{IsValue}
 use Rattle.rg_fraction.specs.Rows.{IsRowGcd, IsPrimitivePart}
 use Rattle.rg_folds.proofs.FoldLemmas.{new_step}
-use Rattle.rg_scaling.specs.View.{scaled_of}
+use Rattle.rg_denominators.specs.View.{scaled_of}
 use Rattle.rg_rows.proofs.Dividing.{written_back, parts_in_range, bigger_is, row_divided}
 use Rattle.rg_rows.proofs.rewriting.divided.Goals as goal
 
@@ -34,17 +34,17 @@ returns-clause-value c =
     let items : old ≡ numbers ++ c.args.constant ∷ [] = c.in_ok-push.ensures.items ∙ ap (λ z. numbers ++ z ∷ []) (back c.args.constant c.requires) in
     let parted = c.parted-coeffs.ensures ∙ written_back new old c.push.new.self.len (part.same_length ∙ ap length given) whole in
     let (coeffs, constant) = parts_in_range c.parted-coeffs.result.0.items c.parted-coeffs.result.1 new (length c.deref_mut.result.now) parted part.same_length c.reduce.ensures.in_range in
-    let divisor = c.row_divisor-divisor.result in
-    let small = c.row_divisor-divisor.ensures.in_range in
+    let divisor = c.row_gcd-divisor.result in
+    let small = c.row_gcd-divisor.ensures.in_range in
     let g = unsigned_abs divisor in
-    let size : c.max.result ≡ pos (max g 1) = c.max.ensures.value ∙ ap (λ z. int_max z (pos 1)) (back divisor small) ∙ bigger_is divisor c.row_divisor-divisor.ensures.not_negative in
+    let size : c.max.result ≡ pos (max g 1) = c.max.ensures.value ∙ ap (λ z. int_max z (pos 1)) (back divisor small) ∙ bigger_is divisor c.row_gcd-divisor.ensures.not_negative in
     let fits : InRange (pos (max g 1)) = let s : g < 2 ^ 127 = small in omega (arith, ints) in
     let most = back c.max.result (subst InRange (sym size) fits) ∙ size in
     let value = subst (λ z. IsValue c.new.result z (pos (max g 1))) (back c.args.scaled.multiple c.args.scaled.multiple_in_range) (subst (λ z. IsValue c.new.result (cast_signed w128 (cast_unsigned w128 c.args.scaled.multiple)) z) most c.new.ensures) in
     let positive : pos 0 <ℤ pos (max g 1) = omega (arith, ints) in (
       refl,
       row_divided (scaled_of c.args.scaled) c.args.constant new g h _
-          (subst (λ l. IsRowGcd l g) (c.deref.ensures.value ∙ items) c.row_divisor-divisor.ensures.value)
+          (subst (λ l. IsRowGcd l g) (c.deref.ensures.value ∙ items) c.row_gcd-divisor.ensures.value)
           (subst (λ l. IsPrimitivePart l new h) (given ∙ items) part)
           (ap (λ z. c.parted-coeffs.result.0.items ++ z ∷ []) (back c.parted-coeffs.result.1 constant) ∙ parted)
           (new_step c.new.result c.args.scaled.multiple (pos (max g 1)) (positive_differs (pos (max g 1)) positive) value),

@@ -5,11 +5,11 @@ use Rattle.rg_integers.specs.Sum.{number_at}
 use Rattle.rg_integers.proofs.Casts.{back}
 use Rattle.rg_folds.specs.Fold.{ratio_of}
 use Rattle.rg_folds.specs.Rewriting.{free_labels, columns_of, scaled_fold, coefficient_fold}
-use Rattle.rg_cycles.specs.declared.substitution.FoldStop.TheVariants as stop
+use Rattle.rg_fraction.specs.declared.fold_stop.FoldStop.TheVariants as stop
 use Rattle.rg_cycles.specs.View.{labels_of, cycle_of}
 use Rattle.rg_reasons.specs.Sums.{terms_in}
-use Rattle.rg_scaling.specs.View.{scaled_of}
-use Rattle.rg_scaling.proofs.Items.{each_length}
+use Rattle.rg_denominators.specs.View.{scaled_of}
+use Rattle.rg_cycles.proofs.Items.{each_length}
 use Rattle.rg_rows.proofs.Making.{if_ok_more, columns_unsubstituted, columns_scaled, columns_many}
 use Rattle.rg_rows.proofs.rewriting.over_columns.Goals as goal
 

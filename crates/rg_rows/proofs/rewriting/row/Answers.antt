@@ -6,10 +6,10 @@ use Rattle.rg_fraction.specs.Fractions.{IsValue}
 use Rattle.rg_folds.specs.Fold.{ratio_of, whole, mul}
 use Rattle.rg_folds.specs.Rewriting.{terms_fold, IsDivided}
 use Rattle.rg_reasons.specs.Trees.{row_name_of}
-use Rattle.rg_cycles.specs.declared.substitution.FoldStop.TheVariants as stop
+use Rattle.rg_fraction.specs.declared.fold_stop.FoldStop.TheVariants as stop
 use Rattle.rg_cycles.specs.View.{cycle_of}
 use Rattle.rg_reasons.specs.Sums.{expression_of}
-use Rattle.rg_scaling.specs.View.{scaled_of}
+use Rattle.rg_denominators.specs.View.{scaled_of}
 use Rattle.rg_rows.specs.View.{kept_row}
 use Rattle.rg_rows.proofs.Making.{whole_step, if_ok_more, row_unscaled, row_unmade, row_made}
 use Rattle.rg_rows.proofs.rewriting.row.Goals as goal

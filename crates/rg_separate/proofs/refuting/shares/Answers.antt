@@ -7,7 +7,7 @@ use Rattle.rg_fraction.specs.declared.fraction.Fraction.{Fraction}
 use Rattle.rg_linear.specs.System.{LinearRow}
 use Rattle.rg_folds.specs.Spreading.{share_fold}
 use Rattle.rg_reasons.specs.declared.certificate.RowName.{RowName}
-use Rattle.rg_feasible.specs.View.{linear_row}
+use Rattle.rg_linear.specs.View.{linear_row}
 use Rattle.rg_feasible.specs.Settling.{multiplier_with}
 use Rattle.rg_farkas.specs.Leaves.{share_of}
 use Rattle.rg_separate.specs.Casing.{SharesFrom, SharesFold}

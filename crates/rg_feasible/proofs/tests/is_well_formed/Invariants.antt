@@ -1,8 +1,0 @@
-use Rattle.std.proofs.Common.{ℕ, ◌<◌}
-use Rattle.rg_linear.specs.System.{row_at}
-use Rattle.rg_feasible.specs.View.{linear_system}
-use Rattle.rg_feasible.proofs.Testing.{IsFine}
-use Rattle.rg_feasible.proofs.tests.is_well_formed.Given as goal
-
-abbrev pub invariant-loop-row : goal.invariant-loop-row
-invariant-loop-row l = (i : ℕ) → i < l.row-index → IsFine l.columns (row_at (linear_system l.columns l.rows) i)

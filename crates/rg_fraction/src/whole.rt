@@ -1,0 +1,40 @@
+//! Sums and products of whole numbers, which stop where they are out of range.
+
+ghost use Rattle.std.specs.Prelude.{◌≡◌, ◌+ℤ◌, ◌*ℤ◌, IfOk, MatchResult};
+ghost use Rattle.rg_integers.specs.Range.{InRange};
+ghost use Rattle.rg_fraction.specs.Terms.{FitsTerm, term_value, sum_term, product_term};
+
+use crate::term::Wide;
+
+/// The sum of two whole numbers. Refused exactly where it is out of range, with the numbers `x`, 1, `-y` and 1 of
+/// the term `x*1 - -y*1`.
+pub fn whole_sum(x: i128, y: i128) -> Result<i128, Wide>
+    requires { InRange y }
+    ensures value { MatchResult result (λ z. FitsTerm (sum_term x y) × (z ≡ term_value (sum_term x y))) (λ w. (FitsTerm (sum_term x y) → ⊥) × (w ≡ sum_term x y)) }
+    ensures sum { IfOk result (λ z. z ≡ x +ℤ y) }
+    ensures in_range { IfOk result InRange }
+{
+    Wide {
+        a: x,
+        b: 1,
+        c: -y,
+        d: 1,
+    }
+    .evaluate()
+}
+
+/// The product of two whole numbers. Refused exactly where it is out of range, with the numbers `x`, `y`, 0 and 0 of
+/// the term `x*y - 0*0`.
+pub fn whole_product(x: i128, y: i128) -> Result<i128, Wide>
+    ensures value { MatchResult result (λ z. FitsTerm (product_term x y) × (z ≡ term_value (product_term x y))) (λ w. (FitsTerm (product_term x y) → ⊥) × (w ≡ product_term x y)) }
+    ensures product { IfOk result (λ z. z ≡ x *ℤ y) }
+    ensures in_range { IfOk result InRange }
+{
+    Wide {
+        a: x,
+        b: y,
+        c: 0,
+        d: 0,
+    }
+    .evaluate()
+}

@@ -1,8 +1,0 @@
-use Rattle.std.proofs.Common.{◌≡◌, ℕ, ◌<◌, All, length}
-use Rattle.rg_integers.specs.Range.{InRange}
-use Rattle.rg_linear.specs.Cycle.{vector_at}
-use Rattle.rg_cycles.specs.Vectors.{numbers_in}
-use Rattle.rg_rows.proofs.tests.are_vectors.Given as goal
-
-abbrev pub invariant-loop-chord : goal.invariant-loop-chord
-invariant-loop-chord l = (c : ℕ) → c < l.chord-index → (length (vector_at (numbers_in l.chords) c) ≡ l.labels) × All InRange (vector_at (numbers_in l.chords) c)

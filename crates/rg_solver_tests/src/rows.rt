@@ -1,0 +1,142 @@
+//! The systems of problems, with rows, names and factors worked by hand.
+use crate::bases::basis;
+use crate::systems::{
+    ABA, CHOICE, NONBRANCHING, NONE, PURE, PURE_NONBRANCHING, SIDE, is_asked, system,
+};
+use rg_rows::{NamedSystem, cases};
+use rg_spanning::Tree;
+use rg_theory::Class;
+use rg_theory::Problem::{self, Event, States};
+use std::alloc::{AllocError, Global};
+use std::test::Fail;
+
+// Each of two users is idle, asks for the lock, gets it and puts it back.
+const LOCK: &str =
+    ".type LTS .states ii[initial] wi iw ww ic wc ci cw .labels ask1 ask2 get2 put2 get1 put1 .arcs ii ask1 wi ii ask2 iw iw ask1 ww iw get2 ic ic ask1 wc ic put2 ii wi get1 ci wi ask2 ww ww get1 cw ww get2 wc wc put2 wi ci put1 ii ci ask2 cw cw put1 iw";
+
+// Two states, and a label from each to the other.
+const PAIR: &str = ".type LTS .states s0[initial] s1 .labels a b .arcs s0 a s1 s1 b s0";
+
+// One a or two b lead from s0 to s1.
+const TWICE: &str = ".type LTS .states s0[initial] s1 s2 .labels a b .arcs s0 a s1 s0 b s2 s2 b s1";
+
+// A cycle of two a and one b.
+const RING: &str = ".type LTS .states s0[initial] s1 s2 .labels a b .arcs s0 a s1 s1 a s2 s2 b s0";
+
+// The effect of a is 0, so s1 and s2 have equal tokens.
+const IDLE: &str = ".type LTS .states s0[initial] s1 s2 .labels a b .arcs s0 a s0 s0 b s1 s1 a s2";
+
+// What the system of a case says, in one of the four classes.
+fn told(
+    alloc: Global,
+    text: &str,
+    class: Class,
+    problem: Problem,
+    number: u32,
+) -> Result<String, Fail> {
+    let lts = system(alloc, text)?;
+    let tree = Tree::grow(alloc, &lts)?;
+    if class.plain
+        || class.bound.is_some()
+        || !is_asked(&lts, problem)
+        || number >= cases(&lts, class, problem)
+    {
+        return Err(Fail::from(AllocError));
+    }
+    let basis = basis(alloc, &lts, &tree)?;
+    let named = rg_rows::system(alloc, &lts, &tree, &basis, class, problem, number)?;
+    Ok(text_of(alloc, cases(&lts, class, problem), &named)?)
+}
+
+// How many cases and columns there are, and then each row as its name, its coefficients, its constant and its
+// factor.
+fn text_of(alloc: Global, cases: u32, named: &NamedSystem) -> Result<String, AllocError> {
+    let columns = named.system.columns();
+    let mut text = format!(in alloc; "{cases} {columns}")?;
+    for ((name, factor), row) in named
+        .names
+        .iter()
+        .zip(&named.factors)
+        .zip(named.system.rows())
+    {
+        let constant = row.constant;
+        let top = factor.numerator();
+        let bottom = factor.denominator();
+        write!(
+            text,
+            "; {:?} {:?} {constant} {top}/{bottom}",
+            name, row.coeffs
+        )?;
+    }
+    Ok(text)
+}
+
+#[test]
+fn systems_of_cases(rt: HostRuntime) -> Result<(), Fail> {
+    for (text, class, problem, number, rows) in [
+        (
+            SIDE,
+            PURE,
+            Event(1, 0),
+            0,
+            "1 2; Block [-1, -1] -1 1/1; Tokens(0) [1, 0] 0 1/1; Tokens(1) [1, 1] 0 1/1",
+        ),
+        (
+            SIDE,
+            PURE,
+            States(0, 1),
+            1,
+            "2 2; Apart [0, -1] -1 1/1; Tokens(0) [1, 0] 0 1/1; Tokens(1) [1, 1] 0 1/1",
+        ),
+        (
+            ABA,
+            NONE,
+            Event(1, 0),
+            0,
+            "1 2; Stop(0) [-1, 0] -1 1/1; Stop(2) [0, 1] -1 1/1",
+        ),
+        (PAIR, NONE, States(0, 1), 0, "2 1; Apart [-1] -1 1/1"),
+        (
+            CHOICE,
+            NONBRANCHING,
+            States(1, 2),
+            3,
+            "4 2; Apart [1, -1] -1 1/1; Makes(0) [1, 0] 0 1/1",
+        ),
+        (
+            CHOICE,
+            PURE_NONBRANCHING,
+            Event(1, 0),
+            0,
+            "1 3; Block [-1, -2, 0] -1 1/1; Tokens(0) [1, 0, 0] 0 1/1; Tokens(1) [1, 1, 0] 0 1/1; Tokens(2) [1, 0, 1] 0 1/1; Makes(1) [0, 0, 1] 0 1/1",
+        ),
+        // a row that is divided, and one that is multiplied
+        (
+            TWICE,
+            NONBRANCHING,
+            States(0, 1),
+            1,
+            "4 1; Apart [2] -1 1/1; Makes(0) [1] 0 1/2",
+        ),
+        (RING, NONE, States(0, 1), 0, "2 1; Apart [-1] -2 2/1"),
+        // idle and equal rows are left out
+        (
+            IDLE,
+            PURE_NONBRANCHING,
+            States(1, 2),
+            1,
+            "4 2; Apart [0, 0] -1 1/1; Tokens(0) [1, 0] 0 1/1; Tokens(1) [1, 1] 0 1/1",
+        ),
+        (
+            LOCK,
+            NONE,
+            Event(5, 4),
+            0,
+            "1 4; Stop(1) [0, 1, 0, 0] -1 1/1; Stop(3) [-1, 0, 0, 0] -1 1/1",
+        ),
+    ] {
+        let told = told(rt.alloc(), text, class, problem, number)?;
+        assert_eq!(rt; told.as_str(), rows);
+    }
+    Ok(())
+}

@@ -1,0 +1,59 @@
+//! Systems that are read from short texts, classes, and problems that may be asked.
+ghost use Rattle.std.specs.Prelude.{IsTrue};
+ghost use Rattle.rg_refuting.specs.Refutes.{IsAsked};
+
+use rg_apt::read_lts;
+use rg_lts::Lts;
+use rg_theory::{Class, Problem};
+use std::alloc::{AllocError, Global};
+use std::test::Fail;
+
+pub(crate) const NONE: Class = Class {
+    pure: false,
+    plain: false,
+    bound: None,
+    nonbranching: false,
+};
+
+pub(crate) const PURE: Class = Class { pure: true, ..NONE };
+
+pub(crate) const NONBRANCHING: Class = Class {
+    nonbranching: true,
+    ..NONE
+};
+
+pub(crate) const PURE_NONBRANCHING: Class = Class {
+    pure: true,
+    ..NONBRANCHING
+};
+
+/// A loop and a step.
+pub(crate) const SIDE: &str = ".type LTS .states s0[initial] s1 .labels a b .arcs s0 a s0 s0 b s1";
+
+/// The word a b a.
+pub(crate) const ABA: &str =
+    ".type LTS .states s0[initial] s1 s2 s3 .labels a b .arcs s0 a s1 s1 b s2 s2 a s3";
+
+/// Two labels in choice.
+pub(crate) const CHOICE: &str =
+    ".type LTS .states s0[initial] s1 s2 .labels a b .arcs s0 a s1 s0 b s2";
+
+/// The system that a text spells.
+pub(crate) fn system(alloc: Global, text: &str) -> Result<Lts, Fail> {
+    if text.len() > 16777216 {
+        return Err(Fail::from(AllocError));
+    }
+    Ok(read_lts(alloc, text.as_bytes())?)
+}
+
+/// Whether the problem is one of the system.
+pub(crate) fn is_asked(lts: &Lts, problem: Problem) -> bool
+    ensures { IsTrue result → IsAsked lts.now problem }
+{
+    match problem {
+        Problem::Event(s, t) => {
+            s < lts.states() && t < lts.labels() && lts.arc_at(s, t).is_none()
+        }
+        Problem::States(s, other) => s < lts.states() && other < lts.states() && s != other,
+    }
+}
