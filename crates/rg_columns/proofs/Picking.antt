@@ -7,8 +7,8 @@ use Rattle.std.proofs.Math.Seq.{drop-cons}
 use Rattle.rg_theory.specs.declared.Class.{Class}
 use Rattle.rg_theory.specs.System.{System, labels}
 use Rattle.rg_linear.specs.Cycle.{CycleBasis}
-use Rattle.rg_folds.specs.Fold.{Ratio, whole}
-use Rattle.rg_folds.specs.Rewriting.{is_in, has_label, numbers_where, free_labels, free_columns, has_start, pick, coefficient_fold, substitute_fold, columns_of, column_count}
+use Rattle.rg_order_of_work.specs.Fold.{Ratio, whole}
+use Rattle.rg_order_of_work.specs.Rewriting.{is_in, has_label, numbers_where, free_labels, free_columns, has_start, pick, coefficient_fold, substitute_fold, columns_of, column_count}
 use Rattle.rg_cycles.proofs.Items.{each_length}
 use Rattle.rg_columns.specs.declared.columns.Columns.{Columns}
 use Rattle.rg_columns.specs.View.{AreColumns}

@@ -4,8 +4,8 @@ ghost use Rattle.rg_integers.specs.Range.{InRange};
 ghost use Rattle.rg_theory.specs.declared.Class.{Class};
 ghost use Rattle.rg_theory.specs.System.{System, labels};
 ghost use Rattle.rg_lts.specs.WellFormed.{IsWellFormed};
-ghost use Rattle.rg_folds.specs.Fold.{ratio_of};
-ghost use Rattle.rg_folds.specs.Rewriting.{has_label, free_labels, has_start, columns_of, column_count};
+ghost use Rattle.rg_order_of_work.specs.Fold.{ratio_of};
+ghost use Rattle.rg_order_of_work.specs.Rewriting.{has_label, free_labels, has_start, columns_of, column_count};
 ghost use Rattle.rg_cycles.specs.View.{labels_of, cycle_of};
 ghost use Rattle.rg_columns.specs.View.{TellsUsedLabels, AreColumns};
 

@@ -6,8 +6,8 @@ use Rattle.rg_integers.specs.Range.{InRange}
 use Rattle.rg_integers.proofs.Casts.{back}
 use Rattle.rg_fraction.specs.declared.term.Wide.{Wide}
 use Rattle.rg_fraction.specs.declared.fraction.Fraction.{Fraction}
-use Rattle.rg_folds.specs.Fold.{and_then, Ratio, whole, ratio_of, shown_result, quotient, add, mul}
-use Rattle.rg_folds.proofs.Zeros.{count_adds_nothing, entry_adds_nothing, plus_zero, fraction_within}
+use Rattle.rg_order_of_work.specs.Fold.{and_then, Ratio, whole, ratio_of, shown_result, quotient, add, mul}
+use Rattle.rg_order_of_work.proofs.Zeros.{count_adds_nothing, entry_adds_nothing, plus_zero, fraction_within}
 
 -- a number whose bits are 0
 zero_of_bits : (z : ℤ) → InRange z → cast_unsigned w128 z ≡ 0 → z ≡ pos 0

@@ -10,14 +10,14 @@ use Rattle.std.proofs.Math.Seq.{drop-cons}
 use Rattle.rg_fraction.specs.declared.term.Wide.{Wide}
 use Rattle.rg_fraction.specs.declared.fraction.Fraction.{Fraction}
 use Rattle.rg_fraction.specs.Fractions.{numerator_of, denominator_of, IsValue, IsProduct}
-use Rattle.rg_folds.specs.Fold.{and_then, each, further, Ratio, whole, ratio_of, shown_result, IsRatio, quotient, add, mul}
-use Rattle.rg_folds.specs.Rewriting.{is_in, numbers_where, free_labels, dependent_term, coefficient_fold}
+use Rattle.rg_order_of_work.specs.Fold.{and_then, each, further, Ratio, whole, ratio_of, shown_result, IsRatio, quotient, add, mul}
+use Rattle.rg_order_of_work.specs.Rewriting.{is_in, numbers_where, free_labels, dependent_term, coefficient_fold}
 use Rattle.rg_integers.specs.Sum.{number_at}
 use Rattle.rg_linear.specs.Cycle.{CycleBasis}
 use Rattle.rg_cycles.specs.declared.relation.Relation.{Relation}
 use Rattle.rg_cycles.specs.Basis.{ShowsRelation}
 use Rattle.rg_cycles.proofs.Labels.{in_set, not_in_set, where_from}
-use Rattle.rg_folds.proofs.FoldLemmas.{ratio_one, new_step, mul_step}
+use Rattle.rg_order_of_work.proofs.FoldLemmas.{ratio_one, new_step, mul_step}
 
 -- ---- fractions
 

@@ -4,7 +4,7 @@ use Rattle.std.specs.Prelude.{slice_index_or}
 use Rattle.std.proofs.lemmas.List.{drop_all, map-append}
 use Rattle.std.proofs.Math.Seq.{drop-cons}
 use Rattle.rg_fraction.specs.declared.term.Wide.{Wide}
-use Rattle.rg_folds.specs.Fold.{each}
+use Rattle.rg_order_of_work.specs.Fold.{each}
 use Rattle.rg_cycles.proofs.Folding.{behind, each_next, each_fails, each_ends}
 
 -- the list from place i on

@@ -3,8 +3,8 @@ ghost use Rattle.std.specs.Prelude.{◌≡◌, ℕ, ◌<◌, map, length, slice_
 ghost use Rattle.rg_integers.specs.Range.{InRange};
 ghost use Rattle.rg_integers.specs.Sum.{number_at};
 ghost use Rattle.rg_fraction.specs.declared.term.Wide.{Wide};
-ghost use Rattle.rg_folds.specs.Fold.{whole, ratio_of, shown_result, quotient, add, mul, and_then};
-ghost use Rattle.rg_folds.specs.Rewriting.{free_labels, coefficient_fold, substitute_fold};
+ghost use Rattle.rg_order_of_work.specs.Fold.{whole, ratio_of, shown_result, quotient, add, mul, and_then};
+ghost use Rattle.rg_order_of_work.specs.Rewriting.{free_labels, coefficient_fold, substitute_fold};
 ghost use Rattle.rg_fraction.specs.declared.fold_stop.FoldStop.TheVariants as stop;
 ghost use Rattle.rg_cycles.specs.Basis.{IsRelationInRange};
 ghost use Rattle.rg_cycles.specs.View.{labels_of, cycle_of};

@@ -5,8 +5,8 @@ use Rattle.std.proofs.Math.Seq.{drop-cons}
 use Rattle.rg_fraction.specs.declared.term.Wide.{Wide}
 use Rattle.rg_fraction.specs.declared.fraction.Fraction.{Fraction}
 use Rattle.rg_fraction.specs.Fractions.{numerator_of, denominator_of}
-use Rattle.rg_folds.specs.Fold.{gives, each, further, common_multiple, multiple_of_all, Ratio, ratio_of, whole, mul}
-use Rattle.rg_folds.specs.Rewriting.{scaled_fold}
+use Rattle.rg_order_of_work.specs.Fold.{gives, each, further, common_multiple, multiple_of_all, Ratio, ratio_of, whole, mul}
+use Rattle.rg_order_of_work.specs.Rewriting.{scaled_fold}
 use Rattle.rg_cycles.proofs.Folding.{further_next, further_unjoined}
 
 -- the multiple so far, and the numbers from i on

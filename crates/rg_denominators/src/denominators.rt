@@ -3,8 +3,8 @@ ghost use Rattle.std.specs.Prelude.{◌≡◌, ℕ, ◌<◌, ◌<ℤ◌, pos, ma
 ghost use Rattle.rg_integers.specs.Range.{InRange};
 ghost use Rattle.rg_fraction.specs.declared.term.Wide.{Wide};
 ghost use Rattle.rg_fraction.specs.Fractions.{numerator_of, denominator_of};
-ghost use Rattle.rg_folds.specs.Fold.{ratio_of, whole, each, mul, common_multiple, multiple_of_all};
-ghost use Rattle.rg_folds.specs.Rewriting.{scaled_fold};
+ghost use Rattle.rg_order_of_work.specs.Fold.{ratio_of, whole, each, mul, common_multiple, multiple_of_all};
+ghost use Rattle.rg_order_of_work.specs.Rewriting.{scaled_fold};
 ghost use Rattle.rg_fraction.specs.declared.fold_stop.FoldStop.TheVariants as stop;
 ghost use Rattle.rg_denominators.specs.View.{scaled_of};
 

@@ -1,7 +1,7 @@
 //! How often Start and a label count in terms: the tokens at a state are Start and the effects on the way to it.
 ghost use Rattle.std.specs.Prelude.{◌≡◌, ◌<◌, ◌^◌, pos, negsuc, neg_ℤ, ◌*ℤ◌, ◌≤ℤ◌, ◌<ℤ◌, All};
 ghost use Rattle.rg_integers.specs.Range.{InRange};
-ghost use Rattle.rg_folds.specs.Rewriting.{variable_start, variable_count, start_of, count_of};
+ghost use Rattle.rg_order_of_work.specs.Rewriting.{variable_start, variable_count, start_of, count_of};
 ghost use Rattle.rg_reasons.specs.Sums.{variable_of, term_of, expression_of};
 ghost use Rattle.rg_expressions.specs.View.{NamesStateBelow, TermNamesStateBelow};
 

@@ -18,7 +18,7 @@ use Rattle.rg_reasons.specs.declared.certificate.RowName.{RowName as CodeName}
 use Rattle.rg_reasons.specs.Trees.{named_row}
 use Rattle.rg_reasons.specs.Certificates.{IsFormOf, IsRowNameOf, IsRowOf, IsTermWithin}
 use Rattle.rg_reasons.proofs.Within.{row_within}
-use Rattle.rg_folds.specs.Spreading.{Share, arc_name, named_from, multiplier_among, chord_arcs, leaf_fold}
+use Rattle.rg_order_of_work.specs.Spreading.{Share, arc_name, named_from, multiplier_among, chord_arcs, leaf_fold}
 use Rattle.rg_farkas.specs.Leaves.{share_of}
 use Rattle.rg_farkas.specs.View.{AreRowsWithin}
 use Rattle.rg_farkas.proofs.LeafSteps.{not_zero_all}

@@ -14,9 +14,9 @@ use Rattle.rg_integers.proofs.Divisors.{IsGcd-neg_first}
 use Rattle.rg_fraction.specs.declared.term.Wide.{Wide}
 use Rattle.rg_fraction.specs.declared.fraction.Fraction.{Fraction}
 use Rattle.rg_fraction.specs.Fractions.{numerator_of, denominator_of, IsValue, IsProduct}
-use Rattle.rg_folds.specs.Fold.{further, joined, Ratio, whole, ratio_of, shown_result, quotient, add, mul}
-use Rattle.rg_folds.specs.Placing.{negated}
-use Rattle.rg_folds.proofs.FoldLemmas.{ratio_one, new_step, mul_step}
+use Rattle.rg_order_of_work.specs.Fold.{further, joined, Ratio, whole, ratio_of, shown_result, quotient, add, mul}
+use Rattle.rg_order_of_work.specs.Placing.{negated}
+use Rattle.rg_order_of_work.proofs.FoldLemmas.{ratio_one, new_step, mul_step}
 use Rattle.rg_cycles.specs.declared.relation.Relation.{Relation}
 use Rattle.rg_cycles.specs.Basis.{ShowsRelation, number_with}
 use Rattle.rg_cycles.proofs.Labels.{filter_has, filter_from}
@@ -28,10 +28,10 @@ use Rattle.std.proofs.lemmas.List.{length-map, get_or-map}
 use Rattle.rg_theory.proofs.Lists.{Contains-cons_cases}
 use Rattle.std.proofs.lemmas.List.Elements.{Contains-get_or, All-from_get_or, All-head, All-tail}
 use Rattle.rg_theory.specs.System.{System, labels}
-use Rattle.rg_folds.specs.Rewriting.{is_in}
-use Rattle.rg_folds.specs.Spreading.{used_chords}
-use Rattle.rg_meaning.proofs.Lists.{where_is}
-use Rattle.rg_meaning.proofs.PointEffects.{in_has}
+use Rattle.rg_order_of_work.specs.Rewriting.{is_in}
+use Rattle.rg_order_of_work.specs.Spreading.{used_chords}
+use Rattle.rg_order_of_work.proofs.Lists.{where_is}
+use Rattle.rg_order_of_work.proofs.PointEffects.{in_has}
 use Rattle.rg_farkas.proofs.Distinct.{kept_rises}
 
 -- ---- the number at a place

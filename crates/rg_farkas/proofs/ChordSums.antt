@@ -4,7 +4,7 @@ use Rattle.std.specs.Prelude.{ℤ, pos, neg_ℤ, ◌+ℤ◌, ◌*ℤ◌, ◌<ℤ
 use Rattle.std.proofs.lemmas.Int.{ints}
 use Rattle.std.proofs.lemmas.List.Elements.{All-contains, Contains-append_cases}
 use Rattle.rg_theory.proofs.Lists.{Contains-cons_cases}
-use Rattle.rg_meaning.proofs.Lists.{Contains-of_map}
+use Rattle.rg_order_of_work.proofs.Lists.{Contains-of_map}
 use Rattle.rg_theory.specs.declared.Arc.{Arc}
 use Rattle.rg_theory.specs.System.{System, IsInRange, states, labels}
 use Rattle.rg_theory.specs.Tree.{IsTree}
@@ -17,15 +17,15 @@ use Rattle.rg_refuting.specs.Expression.{Variable, Expression, value_in}
 use Rattle.rg_refuting.specs.Row.{RowName}
 use Rattle.rg_refuting.specs.Refutes.{NamedRow}
 use Rattle.rg_linear.specs.Cycle.{CycleBasis}
-use Rattle.rg_folds.specs.Fold.{each, further, joined, Ratio, whole, add}
-use Rattle.rg_folds.specs.Potentials.{chord_sum}
-use Rattle.rg_folds.specs.Chords.{IsBasis}
-use Rattle.rg_folds.specs.Rewriting.{start_of, count_of, dependent_labels}
-use Rattle.rg_folds.specs.Values.{NamesLabels, numbers_along}
-use Rattle.rg_folds.specs.Spreading.{Share, Pair, pairs_of, pair_fold, used_chords, chord_fold}
-use Rattle.rg_folds.proofs.RowValues.{IsOver, rewritten, quotient_over}
-use Rattle.rg_folds.proofs.Scaling.{Divides, AllDivide}
-use Rattle.rg_folds.proofs.ChordRows.{effects_exact}
+use Rattle.rg_order_of_work.specs.Fold.{each, further, joined, Ratio, whole, add}
+use Rattle.rg_order_of_work.specs.Potentials.{chord_sum}
+use Rattle.rg_order_of_work.specs.Chords.{IsBasis}
+use Rattle.rg_order_of_work.specs.Rewriting.{start_of, count_of, dependent_labels}
+use Rattle.rg_order_of_work.specs.Values.{NamesLabels, numbers_along}
+use Rattle.rg_order_of_work.specs.Spreading.{Share, Pair, pairs_of, pair_fold, used_chords, chord_fold}
+use Rattle.rg_order_of_work.proofs.RowValues.{IsOver, rewritten, quotient_over}
+use Rattle.rg_order_of_work.proofs.Scaling.{Divides, AllDivide}
+use Rattle.rg_order_of_work.proofs.ChordRows.{effects_exact}
 use Rattle.rg_farkas.specs.Refuting.{KeepsEachArc, terms_sum, RefuteOnArcs, AreShares}
 use Rattle.rg_farkas.specs.View.{AreRowsWithin, arc_times}
 use Rattle.rg_reasons.specs.Certificates.{IsTermWithin}

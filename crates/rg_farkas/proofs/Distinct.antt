@@ -12,12 +12,12 @@ use Rattle.rg_linear.specs.Firsts.{KeepsFirsts}
 use Rattle.rg_linear.specs.Cycle.{vector_at, IsZeroVector, CycleBasis}
 use Rattle.rg_linear.proofs.Firsts.{kept_is}
 use Rattle.rg_linear.proofs.Members.{numbers_from-Contains}
-use Rattle.rg_folds.specs.Chords.{chord_vectors, IsBasis}
-use Rattle.rg_folds.specs.Rewriting.{is_in, numbers_where}
-use Rattle.rg_folds.specs.Spreading.{used_chords, chord_arcs}
-use Rattle.rg_folds.proofs.Potentials.{chord_is_arc}
+use Rattle.rg_order_of_work.specs.Chords.{chord_vectors, IsBasis}
+use Rattle.rg_order_of_work.specs.Rewriting.{is_in, numbers_where}
+use Rattle.rg_order_of_work.specs.Spreading.{used_chords, chord_arcs}
+use Rattle.rg_order_of_work.proofs.Potentials.{chord_is_arc}
 use Rattle.rg_spanning.proofs.TreeTables.{among}
-use Rattle.rg_meaning.proofs.Lists.{Contains-of_map, where_is}
+use Rattle.rg_order_of_work.proofs.Lists.{Contains-of_map, where_is}
 use Rattle.rg_farkas.proofs.Listed.{Differ}
 use Rattle.rg_farkas.proofs.Relations.{used_chord, kept_place}
 

@@ -13,8 +13,8 @@ use Rattle.rg_integers.proofs.Ring.{ring}
 use Rattle.rg_integers.proofs.ListSums.{sum_over-same, sum_over-zero, sum_over-append, sum_over-map, sum_over-plus}
 use Rattle.rg_refuting.specs.Row.{RowName}
 use Rattle.rg_refuting.specs.Refutes.{NamedRow}
-use Rattle.rg_folds.specs.Spreading.{named_from, not_zero, multiplier_among, arc_name}
-use Rattle.rg_folds.proofs.Potentials.{among_is}
+use Rattle.rg_order_of_work.specs.Spreading.{named_from, not_zero, multiplier_among, arc_name}
+use Rattle.rg_order_of_work.proofs.Potentials.{among_is}
 use Rattle.rg_farkas.specs.View.{arc_times}
 use Rattle.rg_cycles.proofs.Items.{from_place}
 

@@ -23,22 +23,22 @@ use Rattle.rg_linear.proofs.Firsts.{kept_is}
 use Rattle.rg_refuting.specs.Expression.{Variable, Variable.tokens_at, Variable.effect_of, Term, value_in}
 use Rattle.rg_refuting.specs.Row.{RowName, RowName.above_row, RowStands, row_expression}
 use Rattle.rg_refuting.specs.Refutes.{NamedRow, constant_sum}
-use Rattle.rg_folds.specs.Fold.{each, whole, mul}
-use Rattle.rg_folds.specs.Chords.{chord_system}
-use Rattle.rg_folds.specs.Rewriting.{has_label, has_start, names_of, KeptRow, IsIdle, row_fold, CaseSystem, rows_of, system_fold}
-use Rattle.rg_folds.specs.Values.{numbers_along, column_values, UnusedAreZero}
-use Rattle.rg_folds.specs.Shown.{IsLive}
-use Rattle.rg_folds.specs.Spreading.{Share, kept_at, side_at, share_fold}
-use Rattle.rg_folds.proofs.SystemRows.{made_from}
-use Rattle.rg_folds.proofs.ExactRows.{row_value_is}
-use Rattle.rg_folds.proofs.Signs.{factor_is_positive}
-use Rattle.rg_meaning.specs.Meaning.{IsCaseOver, value_over}
-use Rattle.rg_meaning.proofs.Given.{own_number, own_effects}
-use Rattle.rg_meaning.proofs.LeftOut.{finds_label}
-use Rattle.rg_meaning.proofs.Names.{names_stand, names_labels}
-use Rattle.rg_meaning.proofs.CaseRows.{name_no_tokens}
-use Rattle.rg_meaning.proofs.Shifts.{same_value}
-use Rattle.rg_meaning.proofs.ColumnValues.{row_sum}
+use Rattle.rg_order_of_work.specs.Fold.{each, whole, mul}
+use Rattle.rg_order_of_work.specs.Chords.{chord_system}
+use Rattle.rg_order_of_work.specs.Rewriting.{has_label, has_start, names_of, KeptRow, IsIdle, row_fold, CaseSystem, rows_of, system_fold}
+use Rattle.rg_order_of_work.specs.Values.{numbers_along, column_values, UnusedAreZero}
+use Rattle.rg_order_of_work.specs.Shown.{IsLive}
+use Rattle.rg_order_of_work.specs.Spreading.{Share, kept_at, side_at, share_fold}
+use Rattle.rg_order_of_work.proofs.SystemRows.{made_from}
+use Rattle.rg_order_of_work.proofs.ExactRows.{row_value_is}
+use Rattle.rg_order_of_work.proofs.Signs.{factor_is_positive}
+use Rattle.rg_order_of_work.specs.Meaning.{IsCaseOver, value_over}
+use Rattle.rg_order_of_work.proofs.Given.{own_number, own_effects}
+use Rattle.rg_order_of_work.proofs.LeftOut.{finds_label}
+use Rattle.rg_order_of_work.proofs.Names.{names_stand, names_labels}
+use Rattle.rg_order_of_work.proofs.CaseRows.{name_no_tokens}
+use Rattle.rg_order_of_work.proofs.Shifts.{same_value}
+use Rattle.rg_order_of_work.proofs.ColumnValues.{row_sum}
 use Rattle.rg_reasons.specs.Certificates.{IsRowNameOf}
 use Rattle.rg_farkas.specs.Refuting.{KeepsEachArc, AreShares, SharesRefute}
 use Rattle.rg_farkas.proofs.Listed.{rows_sum, zero_of}

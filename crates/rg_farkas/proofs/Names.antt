@@ -10,11 +10,11 @@ use Rattle.rg_theory.proofs.Lists.{Contains-cons_cases}
 use Rattle.rg_refuting.specs.Expression.{Variable, Variable.tokens_at, Variable.effect_of, Term, plus, minus}
 use Rattle.rg_refuting.specs.Row.{RowName, RowName.tokens_row, RowName.cap_row, RowName.up_row, RowName.down_row, RowName.makes_row, RowName.apart_row, row_expression, apart_expression, order_of, case_consumer}
 use Rattle.rg_refuting.specs.Refutes.{IsSeparationProblem}
-use Rattle.rg_folds.specs.Rewriting.{has_label, has_label_at, numbers_where, has_start, used_labels, all_numbers, states_with, problem_rows, names_of}
-use Rattle.rg_folds.specs.Shown.{IsLive}
-use Rattle.rg_meaning.proofs.Lists.{nothing, Contains-of_map, where_is, of_optional, in_one_of}
-use Rattle.rg_meaning.proofs.Names.{each_problem_name}
-use Rattle.rg_meaning.proofs.LeftOut.{finds_label}
+use Rattle.rg_order_of_work.specs.Rewriting.{has_label, has_label_at, numbers_where, has_start, used_labels, all_numbers, states_with, problem_rows, names_of}
+use Rattle.rg_order_of_work.specs.Shown.{IsLive}
+use Rattle.rg_order_of_work.proofs.Lists.{nothing, Contains-of_map, where_is, of_optional, in_one_of}
+use Rattle.rg_order_of_work.proofs.Names.{each_problem_name}
+use Rattle.rg_order_of_work.proofs.LeftOut.{finds_label}
 use Rattle.rg_reasons.specs.Certificates.{IsRowNameOf}
 
 -- a state, or a label with an arc

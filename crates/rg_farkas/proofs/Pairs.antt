@@ -6,15 +6,15 @@ use Rattle.std.proofs.lemmas.List.Elements.{All-from_get_or, Contains-get_or}
 use Rattle.rg_theory.specs.declared.Arc.{Arc}
 use Rattle.rg_theory.specs.System.{System, states, labels}
 use Rattle.rg_linear.specs.Cycle.{CycleBasis}
-use Rattle.rg_meaning.proofs.Lists.{where_is}
+use Rattle.rg_order_of_work.proofs.Lists.{where_is}
 use Rattle.rg_fraction.specs.declared.fraction.Fraction.{Fraction}
 use Rattle.rg_refuting.specs.Expression.{Expression}
 use Rattle.rg_refuting.specs.Row.{RowName}
 use Rattle.rg_reasons.specs.declared.certificate.RowName.{RowName as CodeName}
 use Rattle.rg_reasons.specs.Trees.{row_name_of}
-use Rattle.rg_folds.specs.Fold.{ratio_of}
-use Rattle.rg_folds.specs.Rewriting.{is_in, dependent_labels}
-use Rattle.rg_folds.specs.Spreading.{pairs_of}
+use Rattle.rg_order_of_work.specs.Fold.{ratio_of}
+use Rattle.rg_order_of_work.specs.Rewriting.{is_in, dependent_labels}
+use Rattle.rg_order_of_work.specs.Spreading.{pairs_of}
 use Rattle.rg_farkas.specs.Leaves.{share_of}
 use Rattle.rg_reasons.specs.declared.sum.Expression.{Expression as CodeExpression}
 use Rattle.rg_reasons.specs.Sums.{terms_in, expression_of}

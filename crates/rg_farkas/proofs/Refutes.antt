@@ -11,7 +11,7 @@ use Rattle.rg_theory.specs.System.{System, IsInRange, IsAllReachable, states, la
 use Rattle.rg_theory.specs.Tree.{Grows, IsTree, parikh}
 use Rattle.rg_theory.proofs.Arcs.{arc_in_range}
 use Rattle.rg_theory.proofs.Lists.{Contains-cons_cases}
-use Rattle.rg_meaning.proofs.Lists.{Contains-map}
+use Rattle.rg_order_of_work.proofs.Lists.{Contains-map}
 use Rattle.rg_theory.proofs.Trees.{reachable_is_met}
 use Rattle.rg_lts.specs.WellFormed.{IsWellFormed}
 use Rattle.rg_integers.specs.Range.{InRange}
@@ -26,16 +26,16 @@ use Rattle.rg_refuting.specs.Expression.{Variable, Variable.tokens_at, Variable.
 use Rattle.rg_refuting.specs.Row.{RowName}
 use Rattle.rg_refuting.specs.Row.RowName.{arc_row, tokens_row, cap_row, up_row, down_row, makes_row, stop_row, block_row, empty_row, full_row, keep_row, apart_row, above_row}
 use Rattle.rg_refuting.specs.Refutes.{NamedRow, IsMultiplier, LeafRefutes, coefficient_sum, constant_sum}
-use Rattle.rg_folds.specs.Fold.{each, Ratio}
-use Rattle.rg_folds.specs.Potentials.{chord_sum, potential}
-use Rattle.rg_folds.specs.Chords.{IsBasis}
-use Rattle.rg_folds.specs.Rewriting.{dependent_labels}
-use Rattle.rg_folds.specs.Values.{numbers_along}
-use Rattle.rg_folds.specs.Spreading.{tree_fold, checked_leaf, Share, ArcTimes, arc_name, named_from, not_zero, multiplier_among, chord_fold, chord_arcs, used_chords, leaf_fold}
-use Rattle.rg_folds.proofs.Potentials.{arc_sum, tree_sum, arc_label}
-use Rattle.rg_folds.proofs.Scaling.{Divides, AllDivide}
-use Rattle.rg_folds.proofs.Signs.{AllPositive}
-use Rattle.rg_folds.proofs.ExactRows.{common_bottom}
+use Rattle.rg_order_of_work.specs.Fold.{each, Ratio}
+use Rattle.rg_order_of_work.specs.Potentials.{chord_sum, potential}
+use Rattle.rg_order_of_work.specs.Chords.{IsBasis}
+use Rattle.rg_order_of_work.specs.Rewriting.{dependent_labels}
+use Rattle.rg_order_of_work.specs.Values.{numbers_along}
+use Rattle.rg_order_of_work.specs.Spreading.{tree_fold, checked_leaf, Share, ArcTimes, arc_name, named_from, not_zero, multiplier_among, chord_fold, chord_arcs, used_chords, leaf_fold}
+use Rattle.rg_order_of_work.proofs.Potentials.{arc_sum, tree_sum, arc_label}
+use Rattle.rg_order_of_work.proofs.Scaling.{Divides, AllDivide}
+use Rattle.rg_order_of_work.proofs.Signs.{AllPositive}
+use Rattle.rg_order_of_work.proofs.ExactRows.{common_bottom}
 use Rattle.rg_farkas.specs.Refuting.{terms_sum, RefuteOnArcs, SharesRefute}
 use Rattle.rg_farkas.specs.View.{AreRowsWithin, arc_times}
 use Rattle.rg_reasons.specs.Certificates.{IsTermWithin}

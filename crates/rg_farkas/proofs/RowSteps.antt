@@ -5,8 +5,8 @@ use Rattle.std.proofs.lemmas.List.{length-map, get_or-map, drop_all}
 use Rattle.rg_theory.specs.declared.Arc.{Arc}
 use Rattle.rg_fraction.specs.declared.term.Wide.{Wide}
 use Rattle.rg_refuting.specs.Expression.{Variable.tokens_at}
-use Rattle.rg_folds.specs.Fold.{further, whole_sum, whole_product}
-use Rattle.rg_folds.specs.Spreading.{Addend.number, addend_fold, leaving}
+use Rattle.rg_order_of_work.specs.Fold.{further, whole_sum, whole_product}
+use Rattle.rg_order_of_work.specs.Spreading.{Addend.number, addend_fold, leaving}
 use Rattle.rg_farkas.specs.declared.multiplied.Row.{Row}
 use Rattle.rg_farkas.specs.View.{row_addend, size_fold, coefficient_at, arc_times}
 use Rattle.rg_cycles.proofs.Items.{from_place}

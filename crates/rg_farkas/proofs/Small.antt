@@ -14,10 +14,10 @@ use Rattle.rg_fraction.specs.declared.term.Wide.{Wide}
 use Rattle.rg_refuting.specs.Expression.{Variable, Variable.tokens_at, Variable.effect_of, Expression, coefficient_in}
 use Rattle.rg_refuting.specs.Row.{RowName}
 use Rattle.rg_refuting.specs.Refutes.{NamedRow, IsSmall}
-use Rattle.rg_folds.specs.Fold.{and_then, gives, each, further, whole_sum, whole_product}
-use Rattle.rg_folds.specs.Rewriting.{all_numbers}
-use Rattle.rg_folds.specs.Spreading.{sizes_fold, variables_of, checked_leaf}
-use Rattle.rg_meaning.proofs.Lists.{Contains-map, where_has}
+use Rattle.rg_order_of_work.specs.Fold.{and_then, gives, each, further, whole_sum, whole_product}
+use Rattle.rg_order_of_work.specs.Rewriting.{all_numbers}
+use Rattle.rg_order_of_work.specs.Spreading.{sizes_fold, variables_of, checked_leaf}
+use Rattle.rg_order_of_work.proofs.Lists.{Contains-map, where_has}
 use Rattle.rg_reasons.specs.Certificates.{IsVariableWithin, IsTermWithin}
 use Rattle.rg_farkas.proofs.TreeSums.{whole_product_is, joined_whole}
 use Rattle.rg_farkas.proofs.Variables.{outside, RowsWithin}

@@ -3,8 +3,8 @@ use Rattle.std.proofs.Common.{◌≡◌, ℕ, suc, ◌+◌, ◌-◌, ◌<◌, �
 use Rattle.std.specs.Prelude.{slice_index_or}
 use Rattle.std.proofs.lemmas.List.{drop_all, append-nil}
 use Rattle.rg_fraction.specs.declared.term.Wide.{Wide}
-use Rattle.rg_folds.specs.Fold.{further, joined}
-use Rattle.rg_folds.specs.Rewriting.{numbers_where}
+use Rattle.rg_order_of_work.specs.Fold.{further, joined}
+use Rattle.rg_order_of_work.specs.Rewriting.{numbers_where}
 use Rattle.rg_cycles.proofs.Folding.{further_next, further_unmade, further_unjoined}
 use Rattle.rg_cycles.proofs.Items.{from_place}
 

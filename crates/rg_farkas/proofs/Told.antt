@@ -15,8 +15,8 @@ use Rattle.rg_fraction.specs.declared.term.Wide.{Wide}
 use Rattle.rg_refuting.specs.Expression.{Variable, Variable.tokens_at, Expression, coefficient_in}
 use Rattle.rg_refuting.specs.Row.{RowName}
 use Rattle.rg_refuting.specs.Refutes.{NamedRow}
-use Rattle.rg_folds.specs.Fold.{gives, and_then, each, further, joined, whole_sum, whole_product}
-use Rattle.rg_folds.specs.Spreading.{ArcTimes, Addend, Addend.number, Addend.product, addend_fold, leaving, addends_at, tree_fold, sizes_fold, variables_of, checked_leaf}
+use Rattle.rg_order_of_work.specs.Fold.{gives, and_then, each, further, joined, whole_sum, whole_product}
+use Rattle.rg_order_of_work.specs.Spreading.{ArcTimes, Addend, Addend.number, Addend.product, addend_fold, leaving, addends_at, tree_fold, sizes_fold, variables_of, checked_leaf}
 use Rattle.rg_reasons.specs.Trees.{row_name_of}
 use Rattle.rg_farkas.specs.declared.multiplied.Row.{Row}
 use Rattle.rg_reasons.specs.Sums.{expression_of, variable_of}

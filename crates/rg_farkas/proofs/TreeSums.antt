@@ -16,8 +16,8 @@ use Rattle.rg_fraction.specs.declared.term.Wide.{Wide}
 use Rattle.rg_refuting.specs.Expression.{Variable.tokens_at, Variable.effect_of, Expression, plus, minus, sum_of, coefficient_in}
 use Rattle.rg_refuting.specs.Row.{RowName}
 use Rattle.rg_refuting.specs.Refutes.{NamedRow}
-use Rattle.rg_folds.specs.Fold.{further, joined, whole_sum, whole_product}
-use Rattle.rg_folds.specs.Spreading.{ArcTimes, arc_name, Addend, Addend.number, Addend.product, addend_fold, leaving, addends_at, tree_fold}
+use Rattle.rg_order_of_work.specs.Fold.{further, joined, whole_sum, whole_product}
+use Rattle.rg_order_of_work.specs.Spreading.{ArcTimes, arc_name, Addend, Addend.number, Addend.product, addend_fold, leaving, addends_at, tree_fold}
 
 -- ---- sums of whole numbers
 

@@ -10,7 +10,7 @@ use Rattle.rg_integers.proofs.Sums.{sum_below-same, sum_below-zero, sum_below-pl
 use Rattle.rg_refuting.specs.Expression.{Variable, Variable.tokens_at, Variable.effect_of, Term, Expression, same_variable, coefficient_in, value_in}
 use Rattle.rg_refuting.specs.Row.{RowName}
 use Rattle.rg_refuting.specs.Refutes.{NamedRow, coefficient_sum}
-use Rattle.rg_folds.specs.Values.{NamesLabels}
+use Rattle.rg_order_of_work.specs.Values.{NamesLabels}
 use Rattle.rg_farkas.specs.Refuting.{terms_sum}
 use Rattle.rg_reasons.specs.Certificates.{IsVariableWithin, IsTermWithin}
 

@@ -14,9 +14,9 @@ use Rattle.rg_reasons.specs.declared.side.Side.{Side}
 use Rattle.rg_reasons.specs.Sums.{side_of}
 use Rattle.rg_cycles.specs.declared.basis.Basis.{Basis}
 use Rattle.rg_cycles.specs.View.{labels_of, cycle_of}
-use Rattle.rg_folds.specs.Chords.{IsBasis}
-use Rattle.rg_folds.specs.Fold.{ratio_of}
-use Rattle.rg_folds.specs.Spreading.{Share}
+use Rattle.rg_order_of_work.specs.Chords.{IsBasis}
+use Rattle.rg_order_of_work.specs.Fold.{ratio_of}
+use Rattle.rg_order_of_work.specs.Spreading.{Share}
 use Rattle.rg_farkas.specs.Refuting.{SharesRefute}
 
 -- a named row times a fraction

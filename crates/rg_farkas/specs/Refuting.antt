@@ -6,7 +6,7 @@ use Rattle.rg_integers.specs.Sum.{sum_over}
 use Rattle.rg_refuting.specs.Expression.{Variable, Variable.tokens_at, Variable.effect_of, Expression, value_in}
 use Rattle.rg_refuting.specs.Row.{RowName}
 use Rattle.rg_refuting.specs.Refutes.{NamedRow, constant_sum}
-use Rattle.rg_folds.specs.Spreading.{Share}
+use Rattle.rg_order_of_work.specs.Spreading.{Share}
 
 -- each arc moves the tokens by its label's effect
 abbrev pub KeepsEachArc : System → (Variable → ℤ) → Type 0

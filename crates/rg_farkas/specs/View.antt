@@ -10,10 +10,10 @@ use Rattle.rg_refuting.specs.Refutes.{NamedRow}
 use Rattle.rg_integers.specs.Sign.{size}
 use Rattle.rg_reasons.specs.Certificates.{IsTermWithin}
 use Rattle.rg_reasons.specs.Trees.{row_name_of}
-use Rattle.rg_folds.specs.Fold.{gives, and_then, joined, Ratio, whole, ratio_of, quotient, add, mul, whole_product}
-use Rattle.rg_folds.specs.Rewriting.{count_of}
-use Rattle.rg_folds.specs.Placing.{negated}
-use Rattle.rg_folds.specs.Spreading.{Share, Pair, ArcTimes, Addend, Addend.product}
+use Rattle.rg_order_of_work.specs.Fold.{gives, and_then, joined, Ratio, whole, ratio_of, quotient, add, mul, whole_product}
+use Rattle.rg_order_of_work.specs.Rewriting.{count_of}
+use Rattle.rg_order_of_work.specs.Placing.{negated}
+use Rattle.rg_order_of_work.specs.Spreading.{Share, Pair, ArcTimes, Addend, Addend.product}
 use Rattle.rg_reasons.specs.Sums.{terms_in, expression_of}
 use Rattle.rg_farkas.specs.declared.multiplied.Row.{Row}
 use Rattle.rg_farkas.specs.declared.multiplied.Counted.{Counted}

@@ -10,11 +10,11 @@ ghost use Rattle.rg_linear.specs.Cycle.{IsCycleBasis};
 ghost use Rattle.rg_cycles.specs.Basis.{number_with, IsRelationInRange};
 ghost use Rattle.rg_cycles.specs.View.{labels_of, cycle_of};
 ghost use Rattle.rg_fraction.specs.declared.fold_stop.FoldStop.TheVariants as stop;
-ghost use Rattle.rg_folds.specs.Chords.{IsBasis};
-ghost use Rattle.rg_folds.specs.Fold.{each, joined, add, whole, ratio_of, shown_result};
-ghost use Rattle.rg_folds.specs.Placing.{negated};
-ghost use Rattle.rg_folds.specs.Rewriting.{is_in, dependent_labels};
-ghost use Rattle.rg_folds.specs.Spreading.{used_chords, chord_arcs};
+ghost use Rattle.rg_order_of_work.specs.Chords.{IsBasis};
+ghost use Rattle.rg_order_of_work.specs.Fold.{each, joined, add, whole, ratio_of, shown_result};
+ghost use Rattle.rg_order_of_work.specs.Placing.{negated};
+ghost use Rattle.rg_order_of_work.specs.Rewriting.{is_in, dependent_labels};
+ghost use Rattle.rg_order_of_work.specs.Spreading.{used_chords, chord_arcs};
 ghost use Rattle.rg_farkas.specs.View.{counted_of, counts_fold, count_fold};
 
 use crate::multiplied::Counted;

@@ -5,11 +5,11 @@ ghost use Rattle.rg_refuting.specs.Row.{RowStands, row_expression};
 ghost use Rattle.rg_linear.specs.System.{AreFarkasMultipliers};
 ghost use Rattle.rg_linear.specs.Cycle.{CycleBasis};
 ghost use Rattle.rg_linear.specs.Branching.{weights_from};
-ghost use Rattle.rg_folds.specs.Fold.{each};
-ghost use Rattle.rg_folds.specs.Rewriting.{CaseSystem, rows_of};
-ghost use Rattle.rg_folds.specs.Shown.{IsLive};
-ghost use Rattle.rg_folds.specs.Spreading.{Share, share_fold};
-ghost use Rattle.rg_meaning.specs.Meaning.{IsCaseOver};
+ghost use Rattle.rg_order_of_work.specs.Fold.{each};
+ghost use Rattle.rg_order_of_work.specs.Rewriting.{CaseSystem, rows_of};
+ghost use Rattle.rg_order_of_work.specs.Shown.{IsLive};
+ghost use Rattle.rg_order_of_work.specs.Spreading.{Share, share_fold};
+ghost use Rattle.rg_order_of_work.specs.Meaning.{IsCaseOver};
 ghost use Rattle.rg_reasons.specs.Certificates.{IsRowNameOf};
 ghost use Rattle.rg_farkas.specs.Refuting.{SharesRefute};
 

@@ -2,7 +2,7 @@
 ghost use Rattle.std.specs.Prelude.{◌≡◌, ◌≤◌, ◌++◌, length, map, All, IfOk, OnOk};
 ghost use Rattle.rg_integers.specs.Range.{InRange};
 ghost use Rattle.rg_reasons.specs.Trees.{named_row};
-ghost use Rattle.rg_folds.specs.Spreading.{named_from, not_zero, multiplier_among, arc_name};
+ghost use Rattle.rg_order_of_work.specs.Spreading.{named_from, not_zero, multiplier_among, arc_name};
 ghost use Rattle.rg_farkas.specs.Leaves.{share_of};
 
 use rg_fraction::Fraction;

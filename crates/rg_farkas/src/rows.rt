@@ -4,7 +4,7 @@ ghost use Rattle.rg_theory.specs.System.{labels};
 ghost use Rattle.rg_integers.specs.Range.{InRange};
 ghost use Rattle.rg_refuting.specs.Row.{row_expression};
 ghost use Rattle.rg_reasons.specs.Trees.{row_name_of, named_row};
-ghost use Rattle.rg_folds.specs.Spreading.{named_from, arc_name};
+ghost use Rattle.rg_order_of_work.specs.Spreading.{named_from, arc_name};
 ghost use Rattle.rg_reasons.specs.Sums.{side_of};
 ghost use Rattle.rg_farkas.specs.Leaves.{share_of};
 ghost use Rattle.rg_farkas.specs.View.{named_of, Tells};

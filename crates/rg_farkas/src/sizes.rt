@@ -4,8 +4,8 @@ ghost use Rattle.rg_fraction.specs.declared.term.Wide.{Wide};
 ghost use Rattle.rg_refuting.specs.Expression.{Expression};
 ghost use Rattle.rg_refuting.specs.Row.{RowName};
 ghost use Rattle.rg_reasons.specs.Sums.{variable_of};
-ghost use Rattle.rg_folds.specs.Fold.{further, whole_sum};
-ghost use Rattle.rg_folds.specs.Spreading.{variables_of, checked_leaf};
+ghost use Rattle.rg_order_of_work.specs.Fold.{further, whole_sum};
+ghost use Rattle.rg_order_of_work.specs.Spreading.{variables_of, checked_leaf};
 ghost use Rattle.rg_fraction.specs.declared.fold_stop.FoldStop.TheVariants as stop;
 ghost use Rattle.rg_farkas.specs.View.{named_of, Tells, size_fold, coefficient_at};
 

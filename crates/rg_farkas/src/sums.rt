@@ -6,8 +6,8 @@ ghost use Rattle.rg_fraction.specs.declared.term.Wide.{Wide};
 ghost use Rattle.rg_refuting.specs.Expression.{Expression as Sum, same_variable, coefficient_in};
 ghost use Rattle.rg_refuting.specs.Row.{RowName};
 ghost use Rattle.rg_fraction.specs.declared.fold_stop.FoldStop.TheVariants as stop;
-ghost use Rattle.rg_folds.specs.Fold.{gives, and_then, further, whole_sum, whole_product};
-ghost use Rattle.rg_folds.specs.Spreading.{tree_fold, addend_fold, leaving};
+ghost use Rattle.rg_order_of_work.specs.Fold.{gives, and_then, further, whole_sum, whole_product};
+ghost use Rattle.rg_order_of_work.specs.Spreading.{tree_fold, addend_fold, leaving};
 ghost use Rattle.rg_reasons.specs.Sums.{variable_of, term_of, expression_of};
 ghost use Rattle.rg_farkas.specs.View.{named_of, Tells, arc_times, row_addend};
 

@@ -4,8 +4,8 @@ use Rattle.std.specs.Prelude.{pos}
 use Rattle.std.proofs.lemmas.Bool.{cases_Bool}
 use Rattle.std.proofs.lemmas.List.{drop_all}
 use Rattle.rg_fraction.specs.declared.fraction.Fraction.{Fraction}
-use Rattle.rg_folds.specs.Fold.{whole, ratio_of}
-use Rattle.rg_folds.specs.Placing.{least_of}
+use Rattle.rg_order_of_work.specs.Fold.{whole, ratio_of}
+use Rattle.rg_order_of_work.specs.Placing.{least_of}
 use Rattle.rg_places.specs.PointValues.{ratios_of}
 use Rattle.rg_places.specs.Steps.{value_by}
 use Rattle.rg_places.specs.declared.columns.Column.{Column}

@@ -8,7 +8,7 @@ use Rattle.rg_cycles.proofs.Labels.{where_from}
 use Rattle.rg_theory.specs.System.{System, labels}
 use Rattle.rg_fraction.specs.declared.fraction.Fraction.{Fraction}
 use Rattle.rg_linear.specs.Cycle.{CycleBasis}
-use Rattle.rg_folds.specs.Rewriting.{is_in, numbers_where, has_label, free_labels, free_columns}
+use Rattle.rg_order_of_work.specs.Rewriting.{is_in, numbers_where, has_label, free_labels, free_columns}
 use Rattle.rg_columns.specs.View.{TellsUsedLabels}
 use Rattle.rg_places.specs.Steps.{labels_in, IsPlaced, AreFreeColumns}
 use Rattle.rg_places.specs.declared.columns.Column.{Column}

@@ -18,17 +18,17 @@ use Rattle.rg_integers.proofs.Sums.{sum_below-same, sum_below-times}
 use Rattle.rg_integers.proofs.Dots.{dot_comm, dot-times}
 use Rattle.rg_linear.specs.Cycle.{CycleBasis, FollowsRelations}
 use Rattle.rg_linear.specs.System.{LinearRow}
-use Rattle.rg_folds.specs.Fold.{each, Ratio, whole, mul, multiple_of_all}
-use Rattle.rg_folds.specs.Chords.{chord_system, IsBasis}
-use Rattle.rg_folds.specs.Rewriting.{is_in, numbers_where, all_numbers, has_label, free_labels, has_start, CaseSystem}
-use Rattle.rg_folds.specs.Values.{picked, column_values}
-use Rattle.rg_folds.specs.Placing.{effect_fold, made_whole, ratio_at, top_at}
-use Rattle.rg_folds.proofs.RowValues.{IsOver}
-use Rattle.rg_folds.proofs.Scaling.{all_divide}
-use Rattle.rg_meaning.specs.Meaning.{AreEffects, MeetsCase}
-use Rattle.rg_meaning.proofs.Lists.{where_is}
+use Rattle.rg_order_of_work.specs.Fold.{each, Ratio, whole, mul, multiple_of_all}
+use Rattle.rg_order_of_work.specs.Chords.{chord_system, IsBasis}
+use Rattle.rg_order_of_work.specs.Rewriting.{is_in, numbers_where, all_numbers, has_label, free_labels, has_start, CaseSystem}
+use Rattle.rg_order_of_work.specs.Values.{picked, column_values}
+use Rattle.rg_order_of_work.specs.Placing.{effect_fold, made_whole, ratio_at, top_at}
+use Rattle.rg_order_of_work.proofs.RowValues.{IsOver}
+use Rattle.rg_order_of_work.proofs.Scaling.{all_divide}
+use Rattle.rg_order_of_work.specs.Meaning.{AreEffects, MeetsCase}
+use Rattle.rg_order_of_work.proofs.Lists.{where_is}
 use Rattle.rg_places.specs.Places.{AreValuesOf}
-use Rattle.rg_folds.proofs.Signs.{AllPositive, all_multiple}
+use Rattle.rg_order_of_work.proofs.Signs.{AllPositive, all_multiple}
 use Rattle.rg_cycles.proofs.Items.{each_length}
 use Rattle.rg_places.proofs.Wholes.{product_fits, each_at, divides_at}
 use Rattle.rg_places.proofs.EffectValues.{effect_is}
@@ -88,7 +88,7 @@ not_bounded None e = refl
 not_bounded (Some k) e = absurd (true≢false e)
 
 abbrev pub whole_by : Bool → List Ratio → List Ratio → Type 0
-whole_by b numbers found = Rattle.rg_folds.specs.Fold.either b (Rattle.rg_folds.specs.Fold.gives numbers) (Rattle.rg_folds.specs.Fold.and_then (multiple_of_all (map (λ r. r.bottom) numbers)) (λ m. each (λ r. mul r (whole m)) numbers)) (Ok found)
+whole_by b numbers found = Rattle.rg_order_of_work.specs.Fold.either b (Rattle.rg_order_of_work.specs.Fold.gives numbers) (Rattle.rg_order_of_work.specs.Fold.and_then (multiple_of_all (map (λ r. r.bottom) numbers)) (λ m. each (λ r. mul r (whole m)) numbers)) (Ok found)
 
 pub found_is : (lts : System) (tree : List Arc) (basis : CycleBasis) (class : Class) (start : Ratio) (value : ℕ → Ratio) (first : ℤ) (effect : ℕ → ℤ) (scale : ℤ) (effects found : List Ratio) → class.plain ≡ false → IsNone class.bound → IsBasis lts tree basis → AreEffects lts tree basis effect → AreValuesOf lts basis start value first effect scale → each (effect_fold lts basis value) (all_numbers (labels lts)) (Ok effects) → made_whole class (effects ++ start ∷ []) (Ok found) → (m : ℤ) × AreFound lts found first effect scale m
 found_is lts tree basis class start value first effect scale effects found plain bound is e v made whole_made =

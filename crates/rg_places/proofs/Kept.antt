@@ -11,13 +11,13 @@ use Rattle.rg_theory.specs.declared.Problem.{Problem}
 use Rattle.rg_theory.specs.System.{System, states, labels}
 use Rattle.rg_refuting.specs.Expression.{Variable, Variable.tokens_at, Variable.effect_of}
 use Rattle.rg_linear.specs.Cycle.{CycleBasis}
-use Rattle.rg_folds.specs.Fold.{gives, either, each, Ratio, whole, add}
-use Rattle.rg_folds.specs.Potentials.{potential}
-use Rattle.rg_folds.specs.Rewriting.{all_numbers, has_start, CaseSystem}
-use Rattle.rg_folds.specs.Values.{numbers_along}
-use Rattle.rg_folds.specs.Placing.{negated, ratio_at, along_tree, least_of, is_shifted, shift_fold, top_at}
-use Rattle.rg_meaning.specs.Meaning.{KeepsRowsOver, shifted, IsCaseOver, AreEffects, MeetsCase}
-use Rattle.rg_meaning.proofs.CaseMeaning.{start_means, no_start_means, shift_means}
+use Rattle.rg_order_of_work.specs.Fold.{gives, either, each, Ratio, whole, add}
+use Rattle.rg_order_of_work.specs.Potentials.{potential}
+use Rattle.rg_order_of_work.specs.Rewriting.{all_numbers, has_start, CaseSystem}
+use Rattle.rg_order_of_work.specs.Values.{numbers_along}
+use Rattle.rg_order_of_work.specs.Placing.{negated, ratio_at, along_tree, least_of, is_shifted, shift_fold, top_at}
+use Rattle.rg_order_of_work.specs.Meaning.{KeepsRowsOver, shifted, IsCaseOver, AreEffects, MeetsCase}
+use Rattle.rg_order_of_work.proofs.CaseMeaning.{start_means, no_start_means, shift_means}
 use Rattle.rg_cycles.proofs.Items.{each_length}
 use Rattle.rg_places.proofs.Wholes.{add_whole, each_at}
 use Rattle.rg_places.proofs.Found.{all_length, all_at, not_bounded, AreFound, found_effect, same_effect, found_effects, found_meets}

@@ -5,11 +5,11 @@ use Rattle.std.proofs.lemmas.List.{append-nil, take_more, get_or-set_other}
 use Rattle.std.proofs.lemmas.Grind.{get_or-set_at}
 use Rattle.rg_theory.specs.declared.Arc.{Arc}
 use Rattle.rg_theory.specs.System.{System, HasArc}
-use Rattle.rg_folds.specs.Fold.{Ratio}
-use Rattle.rg_folds.specs.Rewriting.{numbers_where, has_label, has_label_at}
+use Rattle.rg_order_of_work.specs.Fold.{Ratio}
+use Rattle.rg_order_of_work.specs.Rewriting.{numbers_where, has_label, has_label_at}
 use Rattle.rg_cycles.proofs.Folding.{where_taken, where_left, where_ends}
-use Rattle.rg_meaning.proofs.Names.{found_at}
-use Rattle.rg_meaning.proofs.LeftOut.{finds_at}
+use Rattle.rg_order_of_work.proofs.Names.{found_at}
+use Rattle.rg_order_of_work.proofs.LeftOut.{finds_at}
 
 -- ---- the numbers that pass a test
 

@@ -21,17 +21,17 @@ use Rattle.rg_refuting.proofs.Making.{place_by, weight_by, Suits, suited_region,
 use Rattle.rg_integers.specs.Range.{InRange}
 use Rattle.rg_integers.proofs.Ranges.{zero_in_range, in_range-neg}
 use Rattle.rg_linear.specs.Cycle.{CycleBasis}
-use Rattle.rg_folds.specs.Fold.{each, Ratio, whole, whole_sum}
-use Rattle.rg_folds.specs.Rewriting.{has_label_at, all_numbers, states_with, CaseSystem}
-use Rattle.rg_folds.specs.Shown.{IsLive}
-use Rattle.rg_folds.specs.Placing.{ratio_at, least_of, top_at, taken_by_effect, taken, place_of, place_fold}
-use Rattle.rg_meaning.specs.Meaning.{IsCaseOver, AreEffects, MeetsCase}
-use Rattle.rg_meaning.proofs.Lists.{Contains-map, Contains-of_map, where_is, where_has}
-use Rattle.rg_meaning.proofs.Names.{found_at}
-use Rattle.rg_meaning.proofs.LeftOut.{finds_at}
-use Rattle.rg_meaning.proofs.CaseRows.{tokens_row_holds}
-use Rattle.rg_meaning.proofs.CaseMeaning.{whole_means}
-use Rattle.rg_meaning.proofs.Whole.{at_one, same_numbers, absolute}
+use Rattle.rg_order_of_work.specs.Fold.{each, Ratio, whole, whole_sum}
+use Rattle.rg_order_of_work.specs.Rewriting.{has_label_at, all_numbers, states_with, CaseSystem}
+use Rattle.rg_order_of_work.specs.Shown.{IsLive}
+use Rattle.rg_order_of_work.specs.Placing.{ratio_at, least_of, top_at, taken_by_effect, taken, place_of, place_fold}
+use Rattle.rg_order_of_work.specs.Meaning.{IsCaseOver, AreEffects, MeetsCase}
+use Rattle.rg_order_of_work.proofs.Lists.{Contains-map, Contains-of_map, where_is, where_has}
+use Rattle.rg_order_of_work.proofs.Names.{found_at}
+use Rattle.rg_order_of_work.proofs.LeftOut.{finds_at}
+use Rattle.rg_order_of_work.proofs.CaseRows.{tokens_row_holds}
+use Rattle.rg_order_of_work.proofs.CaseMeaning.{whole_means}
+use Rattle.rg_order_of_work.proofs.Whole.{at_one, same_numbers, absolute}
 use Rattle.rg_places.specs.Places.{AreValuesOf, tokens_of, NumbersFit, PlaceIsMade}
 use Rattle.rg_places.proofs.Found.{found_is}
 use Rattle.rg_places.proofs.Moved.{AllWhole, least_is}

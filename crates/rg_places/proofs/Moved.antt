@@ -11,11 +11,11 @@ use Rattle.rg_integers.specs.Range.{InRange}
 use Rattle.rg_integers.specs.Sum.{sum_over}
 use Rattle.rg_integers.proofs.Sums.{sum_below-same}
 use Rattle.rg_integers.proofs.ListSums.{sum_over-append}
-use Rattle.rg_folds.specs.Fold.{Ratio, whole, add}
-use Rattle.rg_folds.specs.Potentials.{potential}
-use Rattle.rg_folds.specs.Placing.{along_tree, lesser, least_from, least_of}
-use Rattle.rg_folds.proofs.Potentials.{counted, led_below}
-use Rattle.rg_meaning.proofs.Lists.{nothing, first, behind}
+use Rattle.rg_order_of_work.specs.Fold.{Ratio, whole, add}
+use Rattle.rg_order_of_work.specs.Potentials.{potential}
+use Rattle.rg_order_of_work.specs.Placing.{along_tree, lesser, least_from, least_of}
+use Rattle.rg_order_of_work.proofs.Potentials.{counted, led_below}
+use Rattle.rg_order_of_work.proofs.Lists.{nothing, first, behind}
 use Rattle.rg_places.proofs.Wholes.{add_whole}
 
 -- f is the whole number z, in range

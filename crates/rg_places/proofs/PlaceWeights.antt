@@ -18,9 +18,9 @@ use Rattle.rg_integers.specs.Range.{InRange, greatest}
 use Rattle.rg_integers.proofs.Ranges.{zero_in_range, in_range-neg}
 use Rattle.rg_integers.specs.Sum.{number_at}
 use Rattle.rg_refuting.proofs.Making.{place_by}
-use Rattle.rg_folds.specs.Fold.{each, whole_sum}
-use Rattle.rg_folds.specs.Rewriting.{all_numbers}
-use Rattle.rg_folds.specs.Placing.{taken_by_effect}
+use Rattle.rg_order_of_work.specs.Fold.{each, whole_sum}
+use Rattle.rg_order_of_work.specs.Rewriting.{all_numbers}
+use Rattle.rg_order_of_work.specs.Placing.{taken_by_effect}
 use Rattle.rg_cycles.proofs.Items.{each_length}
 use Rattle.rg_places.proofs.Wholes.{each_at}
 use Rattle.rg_places.proofs.Found.{all_length, all_at}

@@ -20,15 +20,15 @@ use Rattle.rg_linear.specs.Branching.{Form, SplitSide, node_system, AllWhole, Br
 use Rattle.rg_linear.proofs.Points.{constant_left}
 use Rattle.rg_linear.proofs.Splits.{found_is_sound}
 use Rattle.rg_linear.specs.Cycle.{CycleBasis}
-use Rattle.rg_folds.specs.Fold.{Ratio, whole, IsRatio}
-use Rattle.rg_folds.specs.Shown.{IsLive, IsValueAt, PointOf}
-use Rattle.rg_folds.specs.Rewriting.{has_label, free_labels, free_columns, has_start, CaseSystem, rows_of}
-use Rattle.rg_folds.specs.Values.{picked}
-use Rattle.rg_folds.specs.Placing.{place_fold}
-use Rattle.rg_meaning.specs.Meaning.{IsCaseOver, AreGivenBy, first_column}
-use Rattle.rg_meaning.proofs.PointEffects.{point_gives}
-use Rattle.rg_meaning.proofs.Points.{point_meets}
-use Rattle.rg_meaning.proofs.ColumnValues.{first_value, free_value, start_below, free_below}
+use Rattle.rg_order_of_work.specs.Fold.{Ratio, whole, IsRatio}
+use Rattle.rg_order_of_work.specs.Shown.{IsLive, IsValueAt, PointOf}
+use Rattle.rg_order_of_work.specs.Rewriting.{has_label, free_labels, free_columns, has_start, CaseSystem, rows_of}
+use Rattle.rg_order_of_work.specs.Values.{picked}
+use Rattle.rg_order_of_work.specs.Placing.{place_fold}
+use Rattle.rg_order_of_work.specs.Meaning.{IsCaseOver, AreGivenBy, first_column}
+use Rattle.rg_order_of_work.proofs.PointEffects.{point_gives}
+use Rattle.rg_order_of_work.proofs.Points.{point_meets}
+use Rattle.rg_order_of_work.proofs.ColumnValues.{first_value, free_value, start_below, free_below}
 use Rattle.rg_places.specs.Places.{AreValuesOf, AreAtPoint, PlaceIsMade}
 use Rattle.rg_places.proofs.Made.{place_made}
 

@@ -11,9 +11,9 @@ use Rattle.rg_integers.specs.Sum.{number_at}
 use Rattle.rg_fraction.specs.declared.term.Wide.{Wide}
 use Rattle.rg_fraction.specs.declared.fraction.Fraction.{Fraction}
 use Rattle.rg_fraction.specs.Fractions.{numerator_of}
-use Rattle.rg_folds.specs.Fold.{Ratio, each, whole_sum, ratio_of}
-use Rattle.rg_folds.specs.Rewriting.{all_numbers}
-use Rattle.rg_folds.specs.Placing.{top_at, taken, place_of}
+use Rattle.rg_order_of_work.specs.Fold.{Ratio, each, whole_sum, ratio_of}
+use Rattle.rg_order_of_work.specs.Rewriting.{all_numbers}
+use Rattle.rg_order_of_work.specs.Placing.{top_at, taken, place_of}
 use Rattle.rg_places.specs.PointValues.{ratios_of}
 use Rattle.rg_places.specs.Steps.{weights_fold}
 use Rattle.rg_places.proofs.PlaceWeights.{taken_at, taken_length}

@@ -12,9 +12,9 @@ use Rattle.rg_integers.proofs.Signs.{abs_is}
 use Rattle.rg_integers.proofs.Order.{mul-cancel, positive_differs}
 use Rattle.rg_integers.proofs.Divisors.{gcd_of-only, exact}
 use Rattle.rg_fraction.specs.declared.term.Wide.{Wide}
-use Rattle.rg_folds.specs.Fold.{each, Ratio, whole, add, mul}
-use Rattle.rg_folds.proofs.FoldLemmas.{ratio_one}
-use Rattle.rg_folds.proofs.Scaling.{Divides, AllDivide, whole_ratio, product_whole}
+use Rattle.rg_order_of_work.specs.Fold.{each, Ratio, whole, add, mul}
+use Rattle.rg_order_of_work.proofs.FoldLemmas.{ratio_one}
+use Rattle.rg_order_of_work.proofs.Scaling.{Divides, AllDivide, whole_ratio, product_whole}
 
 -- ---- parts by common divisors
 

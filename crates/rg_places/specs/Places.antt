@@ -11,10 +11,10 @@ use Rattle.rg_integers.specs.Range.{greatest}
 use Rattle.rg_integers.specs.Value.{SameValue}
 use Rattle.rg_fraction.specs.declared.term.Wide.{Wide}
 use Rattle.rg_linear.specs.Cycle.{CycleBasis}
-use Rattle.rg_folds.specs.Fold.{and_then, each, Ratio, whole}
-use Rattle.rg_folds.specs.Rewriting.{free_columns, all_numbers, has_start}
-use Rattle.rg_meaning.specs.Meaning.{first_column}
-use Rattle.rg_folds.specs.Placing.{effect_fold, made_whole, ratio_at, along_tree, shift_fold, top_at}
+use Rattle.rg_order_of_work.specs.Fold.{and_then, each, Ratio, whole}
+use Rattle.rg_order_of_work.specs.Rewriting.{free_columns, all_numbers, has_start}
+use Rattle.rg_order_of_work.specs.Meaning.{first_column}
+use Rattle.rg_order_of_work.specs.Placing.{effect_fold, made_whole, ratio_at, along_tree, shift_fold, top_at}
 
 -- Start and the values of the free labels with an arc are this number and these effects, over the scale
 pub record AreValuesOf (lts : System) (basis : CycleBasis) (start : Ratio) (value : ℕ → Ratio) (number : ℤ) (effect : ℕ → ℤ) (scale : ℤ) : Type 0 where

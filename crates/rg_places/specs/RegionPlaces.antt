@@ -7,7 +7,7 @@ use Rattle.rg_theory.specs.Region.{RegionIn}
 use Rattle.rg_theory.specs.declared.Problem.{Problem}
 use Rattle.rg_theory.specs.Problem.{Separates}
 use Rattle.rg_linear.specs.Cycle.{CycleBasis}
-use Rattle.rg_folds.specs.Fold.{Ratio}
+use Rattle.rg_order_of_work.specs.Fold.{Ratio}
 use Rattle.rg_net.specs.Range.{largest, IsPlaceInRange}
 use Rattle.rg_net.specs.Shown.{shown_place}
 use Rattle.rg_places.specs.declared.region_place.RegionPlace.{RegionPlace}

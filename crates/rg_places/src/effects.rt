@@ -2,9 +2,9 @@
 ghost use Rattle.std.specs.Prelude.{◌≡◌, ◌<◌, pos, length, All, Ok, Err, IfOk, IsErrOf};
 ghost use Rattle.rg_theory.specs.System.{System, labels};
 ghost use Rattle.rg_fraction.specs.declared.term.Wide.{Wide};
-ghost use Rattle.rg_folds.specs.Fold.{each, joined, add, whole, ratio_of, shown_result};
-ghost use Rattle.rg_folds.specs.Rewriting.{all_numbers};
-ghost use Rattle.rg_folds.specs.Placing.{effect_fold};
+ghost use Rattle.rg_order_of_work.specs.Fold.{each, joined, add, whole, ratio_of, shown_result};
+ghost use Rattle.rg_order_of_work.specs.Rewriting.{all_numbers};
+ghost use Rattle.rg_order_of_work.specs.Placing.{effect_fold};
 ghost use Rattle.rg_fraction.specs.declared.fold_stop.FoldStop.TheVariants as stop;
 ghost use Rattle.rg_cycles.specs.Basis.{IsRelationInRange};
 ghost use Rattle.rg_cycles.specs.View.{labels_of, cycle_of};

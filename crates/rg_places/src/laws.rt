@@ -7,11 +7,11 @@ ghost use Rattle.rg_theory.specs.Net.{Place};
 ghost use Rattle.rg_linear.specs.System.{IsPoint, MeetsRows};
 ghost use Rattle.rg_linear.specs.Branching.{SplitSide, BranchOutcome, node_system, Branching};
 ghost use Rattle.rg_linear.specs.Cycle.{CycleBasis};
-ghost use Rattle.rg_folds.specs.Fold.{IsOne, Ratio};
-ghost use Rattle.rg_folds.specs.Shown.{IsLive, PointOf};
-ghost use Rattle.rg_folds.specs.Rewriting.{CaseSystem, rows_of};
-ghost use Rattle.rg_folds.specs.Placing.{place_fold};
-ghost use Rattle.rg_meaning.specs.Meaning.{IsCaseOver, AreEffects, MeetsCase};
+ghost use Rattle.rg_order_of_work.specs.Fold.{IsOne, Ratio};
+ghost use Rattle.rg_order_of_work.specs.Shown.{IsLive, PointOf};
+ghost use Rattle.rg_order_of_work.specs.Rewriting.{CaseSystem, rows_of};
+ghost use Rattle.rg_order_of_work.specs.Placing.{place_fold};
+ghost use Rattle.rg_order_of_work.specs.Meaning.{IsCaseOver, AreEffects, MeetsCase};
 ghost use Rattle.rg_places.specs.Places.{AreValuesOf, AreAtPoint, numbers_fold, PlaceIsMade};
 
 use rg_theory::{Arc, Class, Problem};

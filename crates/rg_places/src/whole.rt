@@ -1,7 +1,7 @@
 //! Fractions without denominators.
 ghost use Rattle.std.specs.Prelude.{◌≡◌, ◌||◌, is_some, Ok, Err, IfOk, IsErrOf};
 ghost use Rattle.rg_fraction.specs.declared.term.Wide.{Wide};
-ghost use Rattle.rg_folds.specs.Placing.{made_whole};
+ghost use Rattle.rg_order_of_work.specs.Placing.{made_whole};
 ghost use Rattle.rg_fraction.specs.declared.fold_stop.FoldStop.TheVariants as stop;
 ghost use Rattle.rg_places.specs.PointValues.{ratios_of};
 

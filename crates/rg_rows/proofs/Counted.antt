@@ -3,8 +3,8 @@ use Rattle.std.proofs.Common.{◌≡◌, ℕ, suc, ◌<◌, not, Bool, List, [],
 use Rattle.std.specs.Prelude.{ℤ}
 use Rattle.rg_fraction.specs.declared.term.Wide.{Wide}
 use Rattle.rg_linear.specs.Cycle.{CycleBasis}
-use Rattle.rg_folds.specs.Fold.{and_then, each, further, Ratio, whole, quotient, add, mul}
-use Rattle.rg_folds.specs.Rewriting.{is_in, numbers_where, free_labels, dependent_labels, dependent_term, coefficient_fold, substitute_fold}
+use Rattle.rg_order_of_work.specs.Fold.{and_then, each, further, Ratio, whole, quotient, add, mul}
+use Rattle.rg_order_of_work.specs.Rewriting.{is_in, numbers_where, free_labels, dependent_labels, dependent_term, coefficient_fold, substitute_fold}
 use Rattle.rg_cycles.proofs.Labels.{where_from}
 
 module _ {A X : Type 0} (make make' : A → Result X Wide → Type 0) where

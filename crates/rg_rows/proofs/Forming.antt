@@ -12,7 +12,7 @@ use Rattle.rg_refuting.specs.Row.{RowName, RowName.tokens_row, RowName.makes_row
 use Rattle.rg_linear.specs.System.{LinearRow, row_at}
 use Rattle.rg_linear.specs.Firsts.{KeepsFirsts}
 use Rattle.rg_linear.proofs.Firsts.{kept_is, kept_count}
-use Rattle.rg_folds.specs.Rewriting.{numbers_where, used_labels, has_label, has_label_at, states_with, has_start, all_numbers, problem_rows, names_of, KeptRow, IsIdle}
+use Rattle.rg_order_of_work.specs.Rewriting.{numbers_where, used_labels, has_label, has_label_at, states_with, has_start, all_numbers, problem_rows, names_of, KeptRow, IsIdle}
 use Rattle.rg_linear.specs.declared.system.Row.{Row}
 use Rattle.rg_linear.specs.View.{linear_row, linear_system, IsWellFormed}
 use Rattle.rg_rows.specs.declared.named_row.NamedRow.{NamedRow}

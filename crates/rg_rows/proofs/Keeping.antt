@@ -13,7 +13,7 @@ use Rattle.std.proofs.Math.Seq.{drop-cons}
 use Rattle.rg_linear.specs.System.{LinearRow}
 use Rattle.rg_linear.specs.Firsts.{KeepsFirsts}
 use Rattle.rg_linear.proofs.Members.{Contains-cons_cases}
-use Rattle.rg_folds.specs.Rewriting.{KeptRow, IsIdle}
+use Rattle.rg_order_of_work.specs.Rewriting.{KeptRow, IsIdle}
 use Rattle.rg_cycles.proofs.Firsts.{has_numbers}
 use Rattle.rg_rows.specs.declared.named_row.NamedRow.{NamedRow}
 use Rattle.rg_rows.specs.View.{numbers_of, kept_row}

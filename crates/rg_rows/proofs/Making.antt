@@ -14,9 +14,9 @@ use Rattle.rg_reasons.specs.declared.certificate.RowName.{RowName as CodeName}
 use Rattle.rg_reasons.specs.Trees.{row_name_of}
 use Rattle.rg_fraction.specs.declared.fraction.Fraction.{Fraction}
 use Rattle.rg_fraction.specs.Fractions.{numerator_of, denominator_of, IsValue, IsProduct}
-use Rattle.rg_folds.proofs.FoldLemmas.{mul_step}
-use Rattle.rg_folds.specs.Fold.{shown_result, ratio_of, each, Ratio, whole, mul}
-use Rattle.rg_folds.specs.Rewriting.{start_of, count_of, substitute_fold, columns_of, Scaled, scaled_fold, terms_fold, KeptRow, IsDivided, row_fold, used_labels, all_numbers, names_of, split_forms, form_fold, column_count, CaseSystem, IsIdle, system_fold}
+use Rattle.rg_order_of_work.proofs.FoldLemmas.{mul_step}
+use Rattle.rg_order_of_work.specs.Fold.{shown_result, ratio_of, each, Ratio, whole, mul}
+use Rattle.rg_order_of_work.specs.Rewriting.{start_of, count_of, substitute_fold, columns_of, Scaled, scaled_fold, terms_fold, KeptRow, IsDivided, row_fold, used_labels, all_numbers, names_of, split_forms, form_fold, column_count, CaseSystem, IsIdle, system_fold}
 use Rattle.rg_linear.specs.Firsts.{KeepsFirsts}
 use Rattle.rg_rows.specs.View.{fold_of}
 use Rattle.rg_rows.proofs.Counted.{substitute_same}

@@ -11,7 +11,7 @@ use Rattle.rg_theory.specs.declared.Problem.{Problem}
 use Rattle.rg_theory.specs.System.{System, states, labels, HasArc, arc}
 use Rattle.rg_theory.proofs.Lists.{Contains-cons_cases}
 use Rattle.rg_refuting.specs.Row.{RowName, RowName.tokens_row, RowName.cap_row, RowName.up_row, RowName.down_row, RowName.makes_row, case_consumer}
-use Rattle.rg_folds.specs.Rewriting.{numbers_where, has_label, has_label_at, used_labels, has_start, all_numbers, problem_rows, names_of}
+use Rattle.rg_order_of_work.specs.Rewriting.{numbers_where, has_label, has_label_at, used_labels, has_start, all_numbers, problem_rows, names_of}
 use Rattle.rg_cycles.proofs.Folding.{where_taken, where_left, where_ends}
 use Rattle.rg_columns.specs.declared.columns.Columns.{Columns}
 use Rattle.rg_columns.specs.View.{TellsUsedLabels, AreColumns}

@@ -1,7 +1,7 @@
 -- What a system with names and factors shows.
 use Rattle.std.specs.Prelude.{◌≡◌, [], map}
-use Rattle.rg_folds.specs.Fold.{ratio_of}
-use Rattle.rg_folds.specs.Rewriting.{CaseSystem, rows_of}
+use Rattle.rg_order_of_work.specs.Fold.{ratio_of}
+use Rattle.rg_order_of_work.specs.Rewriting.{CaseSystem, rows_of}
 use Rattle.rg_reasons.specs.Trees.{row_name_of}
 use Rattle.rg_rows.specs.declared.named_system.NamedSystem.{NamedSystem}
 

@@ -8,8 +8,8 @@ use Rattle.rg_linear.specs.Cycle.{CycleBasis}
 use Rattle.rg_fraction.specs.declared.term.Wide.{Wide}
 use Rattle.rg_theory.specs.declared.Problem.{Problem}
 use Rattle.rg_refuting.specs.Row.{RowName, row_expression}
-use Rattle.rg_folds.specs.Fold.{ratio_of}
-use Rattle.rg_folds.specs.Rewriting.{numbers_where, KeptRow, row_fold}
+use Rattle.rg_order_of_work.specs.Fold.{ratio_of}
+use Rattle.rg_order_of_work.specs.Rewriting.{numbers_where, KeptRow, row_fold}
 use Rattle.rg_reasons.specs.Trees.{row_name_of}
 use Rattle.rg_expressions.specs.View.{TermNamesStateBelow}
 use Rattle.rg_linear.specs.View.{linear_row}

@@ -2,7 +2,7 @@
 ghost use Rattle.std.specs.Prelude.{◌≡◌, ℕ, ◌<◌, ◌≤◌, length, map, All, IfOk};
 ghost use Rattle.rg_integers.specs.Range.{InRange};
 ghost use Rattle.rg_integers.specs.Sum.{number_at};
-ghost use Rattle.rg_folds.specs.Rewriting.{count_of};
+ghost use Rattle.rg_order_of_work.specs.Rewriting.{count_of};
 ghost use Rattle.rg_reasons.specs.Sums.{expression_of};
 ghost use Rattle.rg_expressions.specs.View.{TermNamesStateBelow};
 

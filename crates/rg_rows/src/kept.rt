@@ -1,7 +1,7 @@
 //! Which rows are kept.
 ghost use Rattle.std.specs.Prelude.{◌↔◌, ◌≡◌, ◌++◌, ◌∷◌, [], List, IsTrue, map, IfOk, OnOk};
 ghost use Rattle.rg_linear.specs.Firsts.{KeepsFirsts};
-ghost use Rattle.rg_folds.specs.Rewriting.{KeptRow, IsIdle};
+ghost use Rattle.rg_order_of_work.specs.Rewriting.{KeptRow, IsIdle};
 ghost use Rattle.rg_rows.specs.View.{numbers_of, kept_row, ShowsRows};
 
 use crate::named_row::NamedRow;

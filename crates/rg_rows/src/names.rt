@@ -4,7 +4,7 @@ ghost use Rattle.rg_theory.specs.System.{states, labels};
 ghost use Rattle.rg_refuting.specs.Refutes.{IsSeparationProblem};
 ghost use Rattle.rg_refuting.specs.Row.{RowName.tokens_row, RowName.stop_row, RowName.makes_row};
 ghost use Rattle.rg_reasons.specs.Trees.{row_name_of};
-ghost use Rattle.rg_folds.specs.Rewriting.{all_numbers, states_with, has_label, numbers_where, problem_rows, names_of};
+ghost use Rattle.rg_order_of_work.specs.Rewriting.{all_numbers, states_with, has_label, numbers_where, problem_rows, names_of};
 ghost use Rattle.rg_columns.specs.View.{AreColumns};
 ghost use Rattle.rg_rows.specs.View.{makers};
 

@@ -6,7 +6,7 @@ ghost use Rattle.rg_theory.specs.System.{System, labels};
 ghost use Rattle.rg_fraction.specs.declared.term.Wide.{Wide};
 ghost use Rattle.rg_fraction.specs.Rows.{IsRowGcd};
 ghost use Rattle.rg_spanning.specs.Spanning.{IsTreeOf};
-ghost use Rattle.rg_folds.specs.Rewriting.{terms_fold, row_fold, IsDivided, column_count};
+ghost use Rattle.rg_order_of_work.specs.Rewriting.{terms_fold, row_fold, IsDivided, column_count};
 ghost use Rattle.rg_reasons.specs.Trees.{row_name_of};
 ghost use Rattle.rg_cycles.specs.View.{labels_of, cycle_of};
 ghost use Rattle.rg_fraction.specs.declared.fold_stop.FoldStop.TheVariants as stop;

@@ -17,9 +17,9 @@ use Rattle.rg_dictionary.specs.Contents.{Contents, row_of, IsDictionary}
 use Rattle.rg_feasible.specs.View.{DescentState}
 use Rattle.rg_feasible.specs.Settling.{relation_of, multiplier_with}
 use Rattle.rg_feasible.proofs.Shown.{FailingRelation, failing_relation, multipliers_refute}
-use Rattle.rg_folds.specs.Rewriting.{rows_of}
-use Rattle.rg_folds.specs.Spreading.{spread_fold}
-use Rattle.rg_folds.specs.Shown.{SpreadShown}
+use Rattle.rg_order_of_work.specs.Rewriting.{rows_of}
+use Rattle.rg_order_of_work.specs.Spreading.{spread_fold}
+use Rattle.rg_order_of_work.specs.Shown.{SpreadShown}
 use Rattle.rg_cycles.specs.View.{cycle_of}
 use Rattle.rg_reasons.specs.declared.certificate.Case.{Case}
 use Rattle.rg_reasons.specs.declared.certificate.Node.{Node}

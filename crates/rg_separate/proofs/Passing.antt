@@ -3,9 +3,9 @@ use Rattle.std.proofs.Common.{◌≡◌, ℕ, List, [], Err, refl, subst}
 use Rattle.std.specs.Prelude.{ℤ}
 use Rattle.rg_fraction.specs.declared.term.Wide.{Wide}
 use Rattle.rg_linear.specs.Descent.{Outcome.wide, DescentFromStart}
-use Rattle.rg_folds.specs.Rewriting.{rows_of, system_fold}
-use Rattle.rg_folds.specs.Shown.{CycleShown, RowShown, PivotShown}
-use Rattle.rg_folds.specs.Chords.{chord_vectors}
+use Rattle.rg_order_of_work.specs.Rewriting.{rows_of, system_fold}
+use Rattle.rg_order_of_work.specs.Shown.{CycleShown, RowShown, PivotShown}
+use Rattle.rg_order_of_work.specs.Chords.{chord_vectors}
 use Rattle.rg_theory.specs.declared.Arc.{Arc}
 use Rattle.rg_theory.specs.System.{System, labels}
 use Rattle.rg_theory.specs.Tree.{IsTree}

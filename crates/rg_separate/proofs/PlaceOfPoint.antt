@@ -15,12 +15,12 @@ use Rattle.rg_linear.specs.System.{LinearSystem, IsPoint, MeetsRows}
 use Rattle.rg_linear.specs.Descent as descent
 use Rattle.rg_linear.specs.Descent.{DescentFromStart}
 use Rattle.rg_linear.specs.Cycle.{CycleBasis}
-use Rattle.rg_folds.specs.Fold.{Ratio, whole, ratio_of}
-use Rattle.rg_folds.specs.Rewriting.{is_in, has_label, free_columns, has_start, column_count, rows_of}
-use Rattle.rg_folds.specs.Placing.{ratio_at, place_fold}
-use Rattle.rg_folds.specs.Shown.{IsValueAt, PointOf, PlaceShown}
-use Rattle.rg_meaning.specs.Meaning.{IsCaseOver, first_column}
-use Rattle.rg_meaning.proofs.ColumnValues.{columns_of_case}
+use Rattle.rg_order_of_work.specs.Fold.{Ratio, whole, ratio_of}
+use Rattle.rg_order_of_work.specs.Rewriting.{is_in, has_label, free_columns, has_start, column_count, rows_of}
+use Rattle.rg_order_of_work.specs.Placing.{ratio_at, place_fold}
+use Rattle.rg_order_of_work.specs.Shown.{IsValueAt, PointOf, PlaceShown}
+use Rattle.rg_order_of_work.specs.Meaning.{IsCaseOver, first_column}
+use Rattle.rg_order_of_work.proofs.ColumnValues.{columns_of_case}
 use Rattle.rg_cycles.specs.View.{cycle_of}
 use Rattle.rg_feasible.specs.View.{DescentState}
 use Rattle.rg_feasible.specs.Settling.{IsBasicPoint}

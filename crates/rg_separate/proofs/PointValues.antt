@@ -15,12 +15,12 @@ use Rattle.rg_linear.proofs.Points.{constant_left, zero_point_of}
 use Rattle.rg_dictionary.specs.Contents.{Contents, IsDictionary}
 use Rattle.rg_feasible.specs.Settling.{IsBasicPoint}
 use Rattle.rg_feasible.proofs.Shown.{row_shows}
-use Rattle.rg_folds.specs.Fold.{Ratio, whole, ratio_of, IsRatio}
-use Rattle.rg_folds.specs.Shown.{IsValueAt}
-use Rattle.rg_folds.specs.Rewriting.{numbers_where}
-use Rattle.rg_folds.specs.Placing.{ratio_at}
-use Rattle.rg_folds.proofs.FoldLemmas.{ratio_one, new_step}
-use Rattle.rg_folds.proofs.Scaling.{whole_ratio}
+use Rattle.rg_order_of_work.specs.Fold.{Ratio, whole, ratio_of, IsRatio}
+use Rattle.rg_order_of_work.specs.Shown.{IsValueAt}
+use Rattle.rg_order_of_work.specs.Rewriting.{numbers_where}
+use Rattle.rg_order_of_work.specs.Placing.{ratio_at}
+use Rattle.rg_order_of_work.proofs.FoldLemmas.{ratio_one, new_step}
+use Rattle.rg_order_of_work.proofs.Scaling.{whole_ratio}
 use Rattle.rg_places.specs.PointValues.{ratio_beside}
 
 -- one value more

@@ -15,11 +15,11 @@ use Rattle.rg_integers.specs.Range.{InRange}
 use Rattle.rg_integers.proofs.Casts.{back}
 use Rattle.rg_refuting.specs.Row.{RowName.above_row}
 use Rattle.rg_linear.specs.Branching.{Weight, weights_from, form_at}
-use Rattle.rg_folds.specs.Fold.{each, Ratio, whole, ratio_of, shown_result, mul}
-use Rattle.rg_folds.specs.Rewriting.{CaseSystem, rows_of}
-use Rattle.rg_folds.specs.Spreading.{Share, share_fold, kept_at, name_of, side_at, factor_of}
-use Rattle.rg_folds.proofs.FoldLemmas.{ratio_one, new_step, mul_step}
-use Rattle.rg_folds.proofs.Scaling.{whole_ratio}
+use Rattle.rg_order_of_work.specs.Fold.{each, Ratio, whole, ratio_of, shown_result, mul}
+use Rattle.rg_order_of_work.specs.Rewriting.{CaseSystem, rows_of}
+use Rattle.rg_order_of_work.specs.Spreading.{Share, share_fold, kept_at, name_of, side_at, factor_of}
+use Rattle.rg_order_of_work.proofs.FoldLemmas.{ratio_one, new_step, mul_step}
+use Rattle.rg_order_of_work.proofs.Scaling.{whole_ratio}
 use Rattle.rg_reasons.specs.declared.certificate.RowName.{RowName as NameOfCode}
 use Rattle.rg_reasons.specs.Trees.{row_name_of}
 use Rattle.rg_feasible.specs.View.{DescentState}

@@ -6,7 +6,7 @@ use Rattle.std.proofs.lemmas.List.{get_or_append_left, get_or_push}
 use Rattle.rg_theory.specs.System.{System}
 use Rattle.rg_theory.specs.declared.Class.{Class}
 use Rattle.rg_theory.specs.declared.Problem.{Problem}
-use Rattle.rg_folds.specs.Shown.{ShownWide}
+use Rattle.rg_order_of_work.specs.Shown.{ShownWide}
 use Rattle.rg_reasons.specs.declared.certificate.Case.{Case}
 use Rattle.rg_separate.specs.declared.problem.Tried.{Tried}
 use Rattle.rg_separate.specs.declared.wide_at.WideAt.{WideAt}

@@ -11,7 +11,7 @@ use Rattle.rg_reasons.specs.declared.certificate.Certificate.{Certificate}
 use Rattle.rg_net.specs.Shown.{shown_place}
 use Rattle.rg_refuting.specs.Refutes.{Accepts}
 use Rattle.rg_reasons.specs.Certificates.{reason_of, IsCertificateOf}
-use Rattle.rg_folds.specs.Shown.{ShownWide}
+use Rattle.rg_order_of_work.specs.Shown.{ShownWide}
 use Rattle.rg_separate.specs.View.{shown_of}
 use Rattle.rg_separate.specs.declared.wide_at.WideAt.{WideAt}
 use Rattle.rg_separate.specs.declared.separation.Separation.{Separation}

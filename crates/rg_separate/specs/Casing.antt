@@ -7,10 +7,10 @@ use Rattle.rg_fraction.specs.declared.fraction.Fraction.{Fraction}
 use Rattle.rg_fraction.specs.Fractions.{IsValue}
 use Rattle.rg_linear.specs.System.{LinearSystem}
 use Rattle.rg_linear.specs.Branching.{weights_from}
-use Rattle.rg_folds.specs.Fold.{each}
-use Rattle.rg_folds.specs.Rewriting.{CaseSystem, rows_of, system_fold}
-use Rattle.rg_folds.specs.Spreading.{Share, share_fold}
-use Rattle.rg_folds.specs.Shown.{IsLive}
+use Rattle.rg_order_of_work.specs.Fold.{each}
+use Rattle.rg_order_of_work.specs.Rewriting.{CaseSystem, rows_of, system_fold}
+use Rattle.rg_order_of_work.specs.Spreading.{Share, share_fold}
+use Rattle.rg_order_of_work.specs.Shown.{IsLive}
 use Rattle.rg_cycles.specs.View.{cycle_of}
 use Rattle.rg_feasible.specs.View.{DescentState}
 use Rattle.rg_feasible.specs.Settling.{IsDictionaryOf, IsBasicPoint, IsFeasibleAt, IsOutcome, multiplier_with}

@@ -4,7 +4,7 @@ use Rattle.rg_theory.specs.System.{System}
 use Rattle.rg_theory.specs.declared.Class.{Class}
 use Rattle.rg_theory.specs.declared.Problem.{Problem}
 use Rattle.rg_refuting.specs.Refutes.{TreeRefutes, Accepts}
-use Rattle.rg_folds.specs.Shown.{ShownWide}
+use Rattle.rg_order_of_work.specs.Shown.{ShownWide}
 use Rattle.rg_reasons.specs.declared.certificate.Case.{Case}
 use Rattle.rg_reasons.specs.declared.certificate.Reason.{Reason}
 use Rattle.rg_reasons.specs.Certificates.{case_tree, reason_of, IsWhole, IsTreeOf, IsCertificateOf}

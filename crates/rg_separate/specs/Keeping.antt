@@ -5,8 +5,8 @@ use Rattle.rg_theory.specs.declared.Class.{Class}
 use Rattle.rg_theory.specs.declared.Problem.{Problem}
 use Rattle.rg_theory.specs.Problem.{IsProblem, ComesBefore}
 use Rattle.rg_spanning.specs.Spanning.{IsTreeOf}
-use Rattle.rg_folds.specs.Chords.{IsBasis}
-use Rattle.rg_folds.specs.Shown.{ShownWide}
+use Rattle.rg_order_of_work.specs.Chords.{IsBasis}
+use Rattle.rg_order_of_work.specs.Shown.{ShownWide}
 use Rattle.rg_cycles.specs.View.{labels_of, cycle_of}
 use Rattle.rg_places.specs.declared.region_place.RegionPlace.{RegionPlace}
 use Rattle.rg_places.specs.RegionPlaces.{IsRegionPlace, PlaceSeparates}

@@ -1,8 +1,8 @@
 -- What is shown of a number that passes.
 use Rattle.std.specs.Prelude.{ℕ, List, [], None, Some}
 use Rattle.rg_fraction.specs.declared.term.Wide.{Wide}
-use Rattle.rg_folds.specs.Shown as shown
-use Rattle.rg_folds.specs.Shown.{Shown}
+use Rattle.rg_order_of_work.specs.Shown as shown
+use Rattle.rg_order_of_work.specs.Shown.{Shown}
 use Rattle.rg_cycles.specs.declared.stop.CycleWide.{CycleWide}
 use Rattle.rg_feasible.specs.declared.settled.PivotWide.{PivotWide}
 use Rattle.rg_separate.specs.declared.setting.CaseSetting.{CaseSetting}

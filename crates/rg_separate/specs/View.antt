@@ -1,7 +1,7 @@
 -- What a term out of range shows.
 use Rattle.std.specs.Prelude.{map}
-use Rattle.rg_folds.specs.Shown as shown
-use Rattle.rg_folds.specs.Shown.{Shown}
+use Rattle.rg_order_of_work.specs.Shown as shown
+use Rattle.rg_order_of_work.specs.Shown.{Shown}
 use Rattle.rg_reasons.specs.Sums.{side_of}
 use Rattle.rg_separate.specs.declared.wide_at.Stage.{Stage}
 use Rattle.rg_separate.specs.declared.wide_at.Stage.TheVariants.{Cycle, Row, Pivot, Place, Spread}

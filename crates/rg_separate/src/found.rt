@@ -1,7 +1,7 @@
 //! What was found so far.
 ghost use Rattle.std.specs.Prelude.{◌≡◌, ◌+◌, ◌≤◌, length, OnOk, IfErr};
 ghost use Rattle.rg_theory.specs.Problem.{IsProblem};
-ghost use Rattle.rg_folds.specs.Shown.{IsLive};
+ghost use Rattle.rg_order_of_work.specs.Shown.{IsLive};
 ghost use Rattle.rg_separate.specs.declared.found.Ending.TheVariants as ending;
 ghost use Rattle.rg_separate.specs.Keeping.{IsSetting, IsFound, IsSettled, StaySettled};
 ghost use Rattle.rg_separate.specs.Deciding.{EndingTells};

@@ -4,7 +4,7 @@ ghost use Rattle.rg_refuting.specs.Row.{cases_of};
 ghost use Rattle.rg_reasons.specs.declared.certificate.Case.{Case};
 ghost use Rattle.rg_theory.specs.System.{IsAllReachable};
 ghost use Rattle.rg_theory.specs.Problem.{IsProblem};
-ghost use Rattle.rg_folds.specs.Shown.{IsLive};
+ghost use Rattle.rg_order_of_work.specs.Shown.{IsLive};
 ghost use Rattle.rg_separate.specs.Keeping.{IsSetting};
 ghost use Rattle.rg_separate.specs.Deciding.{RefutesCase, AreTried, IsGoodReason, ProblemTells};
 

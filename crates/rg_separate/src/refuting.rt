@@ -3,9 +3,9 @@ ghost use Rattle.std.specs.Prelude.{◌≡◌, ◌<◌, ◌^◌, ℕ, length, []
 ghost use Rattle.rg_fraction.specs.declared.term.Wide.{Wide};
 ghost use Rattle.rg_fraction.specs.declared.fold_stop.FoldStop.TheVariants as stop;
 ghost use Rattle.rg_integers.specs.Range.{InRange};
-ghost use Rattle.rg_folds.specs.Fold.{shown_result};
-ghost use Rattle.rg_folds.specs.Rewriting.{CaseSystem};
-ghost use Rattle.rg_folds.specs.Spreading.{share_fold};
+ghost use Rattle.rg_order_of_work.specs.Fold.{shown_result};
+ghost use Rattle.rg_order_of_work.specs.Rewriting.{CaseSystem};
+ghost use Rattle.rg_order_of_work.specs.Spreading.{share_fold};
 ghost use Rattle.rg_rows.specs.Shown.{ShowsCase};
 ghost use Rattle.rg_farkas.specs.Leaves.{share_of};
 ghost use Rattle.rg_separate.specs.Casing.{IsCase, IsNamedSystem, IsRefutedBy, SharesFold};

@@ -4,7 +4,7 @@ ghost use Rattle.rg_theory.specs.System.{IsAllReachable};
 ghost use Rattle.rg_theory.specs.declared.Problem.{Problem};
 ghost use Rattle.rg_theory.specs.Problem.{IsProblem};
 ghost use Rattle.rg_net.specs.Shown.{shown_place};
-ghost use Rattle.rg_folds.specs.Shown.{ShownWide};
+ghost use Rattle.rg_order_of_work.specs.Shown.{ShownWide};
 ghost use Rattle.rg_places.specs.RegionPlaces.{PlaceSeparates};
 ghost use Rattle.rg_separate.specs.View.{shown_of};
 ghost use Rattle.rg_separate.specs.Passing.{cycle_passed};

@@ -11,7 +11,7 @@ use Rattle.rg_net.specs.NetText.{net_text}
 use Rattle.rg_netfile.specs.Contents.{most_places}
 use Rattle.rg_netfile.specs.Spells.{Spells as NetSpells}
 use Rattle.rg_refuting.specs.Refutes.{Reason, Reason.unreachable, Reason.fork, Reason.refuted, Accepts}
-use Rattle.rg_folds.specs.Shown.{ShownWide}
+use Rattle.rg_order_of_work.specs.Shown.{ShownWide}
 use Rattle.rg_separate.specs.View.{shown_of}
 use Rattle.rg_separate.specs.Answer.{IsUnbranched}
 use Rattle.rg_cert.specs.Text.{cert_text}

@@ -2,8 +2,8 @@ use Rattle.std.proofs.Common.{rules, ◌≡◌, ◌<◌, ◌≤◌, Err, subst, 
 use Rattle.std.specs.Prelude.{slice_index}
 use Rattle.rg_integers.specs.Sum.{number_at}
 use Rattle.rg_integers.proofs.Casts.{back}
-use Rattle.rg_folds.specs.Fold.{ratio_of, shown_result}
-use Rattle.rg_folds.specs.Rewriting.{free_labels}
+use Rattle.rg_order_of_work.specs.Fold.{ratio_of, shown_result}
+use Rattle.rg_order_of_work.specs.Rewriting.{free_labels}
 use Rattle.rg_cycles.specs.View.{labels_of, cycle_of}
 use Rattle.rg_cycles.proofs.Folding.{whole_is, free_below, leads_start, leads_end, leads_past_free, leads_with, passes_with, stepped}
 use Rattle.rg_cycles.proofs.substitution.coefficient.Goals as goal

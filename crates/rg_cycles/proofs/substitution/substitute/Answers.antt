@@ -1,8 +1,8 @@
 use Rattle.std.proofs.Common.{rules, ◌≡◌, ◌<◌, ◌≤◌, Err, map, length, ap, subst, ◌∙◌}
 use Rattle.std.proofs.lemmas.List.{map-append}
 use Rattle.rg_integers.specs.Sum.{number_at}
-use Rattle.rg_folds.specs.Fold.{ratio_of}
-use Rattle.rg_folds.specs.Rewriting.{free_labels, coefficient_fold}
+use Rattle.rg_order_of_work.specs.Fold.{ratio_of}
+use Rattle.rg_order_of_work.specs.Rewriting.{free_labels, coefficient_fold}
 use Rattle.rg_fraction.specs.declared.fold_stop.FoldStop.TheVariants as stop
 use Rattle.rg_cycles.specs.View.{labels_of, cycle_of}
 use Rattle.rg_cycles.proofs.Folding.{place_next, place_fails, places_end}
@@ -13,7 +13,7 @@ returns-in_err-sum-clause-wide c = λ w e.
     let same : c.from_residual.result ≡ Err (stop.Wide c.in_err-sum.field-0.0) = search rules in
     let lt = subst (λ l. c.loop-place.place < length l) c.free-place-end.ensures c.loop-place-test.true in
     let is : c.in_err-sum.field-0.0 ≡ w = cc in
-    subst (λ v. Rattle.rg_folds.specs.Rewriting.substitute_fold (labels_of c.args.basis.now) (cycle_of c.args.basis.now) (number_at c.args.counts.now) (Err v)) is (place_fails (coefficient_fold (labels_of c.args.basis.now) (cycle_of c.args.basis.now) (number_at c.args.counts.now)) (free_labels (labels_of c.args.basis.now) (cycle_of c.args.basis.now)) c.loop-place.place (map ratio_of c.loop-place.coeffs.items) c.loop-place.invariant lt c.in_err-sum.field-0.0 c.in_err-sum.ensures)
+    subst (λ v. Rattle.rg_order_of_work.specs.Rewriting.substitute_fold (labels_of c.args.basis.now) (cycle_of c.args.basis.now) (number_at c.args.counts.now) (Err v)) is (place_fails (coefficient_fold (labels_of c.args.basis.now) (cycle_of c.args.basis.now) (number_at c.args.counts.now)) (free_labels (labels_of c.args.basis.now) (cycle_of c.args.basis.now)) c.loop-place.place (map ratio_of c.loop-place.coeffs.items) c.loop-place.invariant lt c.in_err-sum.field-0.0 c.in_err-sum.ensures)
 
 pub loop-place-preserved : goal.loop-place-preserved
 loop-place-preserved c =

@@ -2,8 +2,8 @@ use Rattle.std.proofs.Common.{rules, ◌≡◌, Ok, Err, map, ap, subst, sym, �
 use Rattle.std.specs.Int.{w128, cast_signed, cast_unsigned}
 use Rattle.std.proofs.lemmas.List.{length-map, get_or-map}
 use Rattle.rg_integers.proofs.Casts.{back}
-use Rattle.rg_folds.specs.Fold.{ratio_of, whole, each, mul, shown_result}
-use Rattle.rg_folds.proofs.FoldLemmas.{mul_step}
+use Rattle.rg_order_of_work.specs.Fold.{ratio_of, whole, each, mul, shown_result}
+use Rattle.rg_order_of_work.proofs.FoldLemmas.{mul_step}
 use Rattle.rg_fraction.specs.declared.fold_stop.FoldStop.TheVariants as stop
 use Rattle.rg_cycles.proofs.Folding.{whole_is}
 use Rattle.rg_cycles.proofs.Items.{map_push}

@@ -1,6 +1,6 @@
 use Rattle.std.proofs.Common.{map, drop, List, Result}
 use Rattle.rg_fraction.specs.declared.term.Wide.{Wide}
-use Rattle.rg_folds.specs.Fold.{Ratio, ratio_of, whole, each, mul}
+use Rattle.rg_order_of_work.specs.Fold.{Ratio, ratio_of, whole, each, mul}
 use Rattle.rg_cycles.proofs.Folding.{behind}
 use Rattle.rg_denominators.proofs.denominators.products.Given as goal
 

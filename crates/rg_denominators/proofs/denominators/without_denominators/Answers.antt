@@ -5,8 +5,8 @@ use Rattle.std.proofs.lemmas.List.{take_all, take_more, length-map}
 use Rattle.std.proofs.lemmas.List.Elements.{All-nil, All-cons, All-append}
 use Rattle.rg_integers.specs.Range.{InRange}
 use Rattle.rg_integers.proofs.Casts.{back}
-use Rattle.rg_folds.specs.Fold.{Ratio, ratio_of, whole, mul, each, multiple_of_all}
-use Rattle.rg_folds.specs.Rewriting.{scaled_fold}
+use Rattle.rg_order_of_work.specs.Fold.{Ratio, ratio_of, whole, mul, each, multiple_of_all}
+use Rattle.rg_order_of_work.specs.Rewriting.{scaled_fold}
 use Rattle.rg_fraction.specs.Fractions.{numerator_of}
 use Rattle.rg_fraction.specs.declared.fold_stop.FoldStop.TheVariants as stop
 use Rattle.rg_cycles.proofs.Items.{map_push}

@@ -1,6 +1,6 @@
 use Rattle.std.proofs.Common.{◌≡◌, ◌*◌, ◌^◌, drop}
 use Rattle.std.specs.Prelude.{pos, neg_ℤ, ◌+ℤ◌, ◌≤ℤ◌}
-use Rattle.rg_folds.specs.Rewriting.{count_of}
+use Rattle.rg_order_of_work.specs.Rewriting.{count_of}
 use Rattle.rg_reasons.specs.Sums.{terms_in}
 use Rattle.rg_expressions.proofs.counts.count.Given as goal
 

@@ -2,7 +2,7 @@ use Rattle.std.proofs.Common.{◌<◌, length, refl, subst, sym}
 use Rattle.std.specs.Prelude.{slice_index}
 use Rattle.std.proofs.lemmas.List.Elements.{Contains-get_or}
 use Rattle.rg_cycles.specs.View.{cycle_of}
-use Rattle.rg_folds.specs.Spreading.{chord_arcs}
+use Rattle.rg_order_of_work.specs.Spreading.{chord_arcs}
 use Rattle.rg_farkas.proofs.Relations.{used_chord, kept_place}
 use Rattle.rg_farkas.proofs.ChordNumbers.{used_at}
 use Rattle.rg_farkas.proofs.Steps.{mapped_next}

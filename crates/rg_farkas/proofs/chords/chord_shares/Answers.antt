@@ -1,6 +1,6 @@
 use Rattle.std.proofs.Common.{rules, ◌≡◌, ◌+◌, Err, map, subst}
 use Rattle.rg_theory.specs.System.{labels}
-use Rattle.rg_folds.specs.Fold.{each, ratio_of}
+use Rattle.rg_order_of_work.specs.Fold.{each, ratio_of}
 use Rattle.rg_cycles.specs.View.{cycle_of}
 use Rattle.rg_fraction.specs.declared.fold_stop.FoldStop.TheVariants as stop
 use Rattle.rg_farkas.specs.View.{counted_of, counts_fold}

@@ -1,7 +1,7 @@
 use Rattle.std.proofs.Common.{map, drop, List, ◌+◌, Result}
 use Rattle.rg_theory.specs.System.{labels}
 use Rattle.rg_fraction.specs.declared.term.Wide.{Wide}
-use Rattle.rg_folds.specs.Fold.{each, Ratio, ratio_of}
+use Rattle.rg_order_of_work.specs.Fold.{each, Ratio, ratio_of}
 use Rattle.rg_cycles.specs.View.{cycle_of}
 use Rattle.rg_cycles.proofs.Folding.{behind}
 use Rattle.rg_farkas.specs.View.{counted_of, counts_fold}

@@ -2,8 +2,8 @@ use Rattle.std.proofs.Common.{map, ◌∙◌, ap}
 use Rattle.rg_theory.specs.System.{labels}
 use Rattle.rg_refuting.specs.Row.{row_expression}
 use Rattle.rg_cycles.specs.View.{cycle_of}
-use Rattle.rg_folds.specs.Rewriting.{dependent_labels}
-use Rattle.rg_folds.specs.Spreading.{pairs_of}
+use Rattle.rg_order_of_work.specs.Rewriting.{dependent_labels}
+use Rattle.rg_order_of_work.specs.Spreading.{pairs_of}
 use Rattle.rg_reasons.specs.Sums.{side_of}
 use Rattle.rg_farkas.specs.Leaves.{share_of}
 use Rattle.rg_farkas.specs.View.{counted_of, pair_count}

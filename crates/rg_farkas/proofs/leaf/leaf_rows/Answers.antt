@@ -4,9 +4,9 @@ use Rattle.rg_refuting.specs.Row.{row_expression}
 use Rattle.rg_cycles.specs.View.{cycle_of}
 use Rattle.rg_fraction.specs.declared.fold_stop.FoldStop.TheVariants as stop
 use Rattle.rg_reasons.specs.Trees.{named_row}
-use Rattle.rg_folds.specs.Fold.{ratio_of}
-use Rattle.rg_folds.specs.Rewriting.{scaled_fold}
-use Rattle.rg_folds.specs.Spreading.{chord_arcs, tree_fold, checked_leaf}
+use Rattle.rg_order_of_work.specs.Fold.{ratio_of}
+use Rattle.rg_order_of_work.specs.Rewriting.{scaled_fold}
+use Rattle.rg_order_of_work.specs.Spreading.{chord_arcs, tree_fold, checked_leaf}
 use Rattle.rg_reasons.specs.Sums.{side_of}
 use Rattle.rg_farkas.specs.Leaves.{share_of}
 use Rattle.rg_denominators.specs.View.{scaled_of}

@@ -1,4 +1,4 @@
-use Rattle.rg_folds.specs.Spreading.{multiplier_among}
+use Rattle.rg_order_of_work.specs.Spreading.{multiplier_among}
 use Rattle.rg_farkas.proofs.Listed.{among_next}
 use Rattle.rg_farkas.proofs.listing.multiplier_among.Goals as goal
 

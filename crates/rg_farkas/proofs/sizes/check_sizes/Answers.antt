@@ -4,7 +4,7 @@ use Rattle.rg_reasons.specs.Sums.{variable_of}
 use Rattle.rg_reasons.specs.declared.variable.Variable.TheVariants.{Tokens}
 use Rattle.rg_fraction.specs.declared.fold_stop.FoldStop.TheVariants as stop
 use Rattle.rg_cycles.proofs.Folding.{each_start}
-use Rattle.rg_folds.specs.Fold.{further, whole_sum}
+use Rattle.rg_order_of_work.specs.Fold.{further, whole_sum}
 use Rattle.rg_farkas.specs.View.{size_fold, coefficient_at}
 use Rattle.rg_farkas.proofs.Told.{variable_fails, variable_next, variables_end, leaf_unsummed, leaf_too_great, leaf_checked}
 use Rattle.rg_farkas.proofs.sizes.check_sizes.Goals as goal

@@ -1,7 +1,7 @@
 use Rattle.std.proofs.Common.{map, drop, List, Result}
 use Rattle.std.specs.Prelude.{ℤ, pos}
 use Rattle.rg_fraction.specs.declared.term.Wide.{Wide}
-use Rattle.rg_folds.specs.Fold.{each, further, whole_sum}
+use Rattle.rg_order_of_work.specs.Fold.{each, further, whole_sum}
 use Rattle.rg_reasons.specs.Sums.{variable_of}
 use Rattle.rg_cycles.proofs.Folding.{behind}
 use Rattle.rg_farkas.specs.View.{size_fold, coefficient_at}

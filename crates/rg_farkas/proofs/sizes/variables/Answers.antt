@@ -4,7 +4,7 @@ use Rattle.rg_theory.specs.System.{states, labels}
 use Rattle.rg_refuting.specs.Expression.{Variable.tokens_at, Variable.effect_of}
 use Rattle.rg_reasons.specs.Sums.{variable_of}
 use Rattle.rg_reasons.specs.declared.variable.Variable.TheVariants.{Tokens, Effect}
-use Rattle.rg_folds.specs.Rewriting.{all_numbers}
+use Rattle.rg_order_of_work.specs.Rewriting.{all_numbers}
 use Rattle.rg_farkas.proofs.Steps.{all_next}
 use Rattle.rg_farkas.proofs.sizes.variables.Goals as goal
 

@@ -2,7 +2,7 @@ use Rattle.std.proofs.Common.{◌≡◌, ◌-◌, ◌++◌, map, true}
 use Rattle.rg_theory.specs.System.{states, labels}
 use Rattle.rg_refuting.specs.Expression.{Variable.tokens_at, Variable.effect_of}
 use Rattle.rg_reasons.specs.Sums.{variable_of}
-use Rattle.rg_folds.specs.Rewriting.{numbers_where, all_numbers}
+use Rattle.rg_order_of_work.specs.Rewriting.{numbers_where, all_numbers}
 use Rattle.rg_farkas.proofs.sizes.variables.Given as goal
 
 abbrev pub invariant-loop-q : goal.invariant-loop-q

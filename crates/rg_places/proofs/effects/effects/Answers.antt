@@ -2,9 +2,9 @@ use Rattle.std.proofs.Common.{rules, ◌≡◌, ◌<◌, ◌≤◌, Err, ap, sub
 use Rattle.std.specs.Prelude.{pos}
 use Rattle.std.proofs.lemmas.List.{map-append}
 use Rattle.rg_theory.specs.System.{labels}
-use Rattle.rg_folds.specs.Fold.{each, ratio_of, shown_result}
-use Rattle.rg_folds.specs.Rewriting.{all_numbers}
-use Rattle.rg_folds.specs.Placing.{effect_fold}
+use Rattle.rg_order_of_work.specs.Fold.{each, ratio_of, shown_result}
+use Rattle.rg_order_of_work.specs.Rewriting.{all_numbers}
+use Rattle.rg_order_of_work.specs.Placing.{effect_fold}
 use Rattle.rg_fraction.specs.declared.fold_stop.FoldStop.TheVariants as stop
 use Rattle.rg_cycles.specs.View.{cycle_of}
 use Rattle.rg_cycles.proofs.Folding.{whole_is}

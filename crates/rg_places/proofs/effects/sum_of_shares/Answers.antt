@@ -1,7 +1,7 @@
 use Rattle.std.proofs.Common.{rules, ◌≡◌, ◌<◌, Err, length, subst, sym}
 use Rattle.std.specs.Prelude.{pos}
-use Rattle.rg_folds.specs.Fold.{joined, add, whole, ratio_of}
-use Rattle.rg_folds.proofs.FoldLemmas.{add_step}
+use Rattle.rg_order_of_work.specs.Fold.{joined, add, whole, ratio_of}
+use Rattle.rg_order_of_work.proofs.FoldLemmas.{add_step}
 use Rattle.rg_cycles.proofs.Folding.{whole_is}
 use Rattle.rg_places.specs.Steps.{column_share}
 use Rattle.rg_places.proofs.FractionSteps.{joined_none}

@@ -2,9 +2,9 @@ use Rattle.std.proofs.Common.{rules, ◌≡◌, ◌+◌, [], ◌∷◌, ◌++◌
 use Rattle.std.proofs.lemmas.List.{length-map, map-append}
 use Rattle.rg_theory.specs.System.{labels}
 use Rattle.rg_fraction.specs.declared.fraction.Fraction.{Fraction}
-use Rattle.rg_folds.specs.Fold.{each, ratio_of}
-use Rattle.rg_folds.specs.Rewriting.{all_numbers}
-use Rattle.rg_folds.specs.Placing.{effect_fold, made_whole}
+use Rattle.rg_order_of_work.specs.Fold.{each, ratio_of}
+use Rattle.rg_order_of_work.specs.Rewriting.{all_numbers}
+use Rattle.rg_order_of_work.specs.Placing.{effect_fold, made_whole}
 use Rattle.rg_cycles.specs.View.{cycle_of}
 use Rattle.rg_places.specs.PointValues.{ratios_of, point_start, point_value}
 use Rattle.rg_places.specs.Steps.{found_fold}

@@ -1,8 +1,8 @@
 use Rattle.std.proofs.Common.{rules, ◌≡◌, ◌+◌, ℕ, List, Vec, Global, Result, Err, Ok, ap, length, map, unsigned_abs, refl, sym, subst, ◌∙◌}
 use Rattle.std.proofs.lemmas.List.{length-map}
-use Rattle.rg_folds.specs.Fold.{Ratio, ratio_of}
-use Rattle.rg_folds.specs.Shown.{IsLive}
-use Rattle.rg_folds.specs.Placing.{place_fold}
+use Rattle.rg_order_of_work.specs.Fold.{Ratio, ratio_of}
+use Rattle.rg_order_of_work.specs.Shown.{IsLive}
+use Rattle.rg_order_of_work.specs.Placing.{place_fold}
 use Rattle.rg_cycles.specs.View.{cycle_of}
 use Rattle.rg_fraction.specs.declared.fold_stop.FoldStop.TheVariants as stop
 use Rattle.rg_net.specs.Shown.{shown_place}

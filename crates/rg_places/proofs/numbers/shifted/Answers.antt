@@ -1,7 +1,7 @@
 use Rattle.std.proofs.Common.{Vec, Global, Err, Ok, sym, ◌∙◌}
 use Rattle.rg_fraction.specs.declared.fraction.Fraction.{Fraction}
-use Rattle.rg_folds.specs.Fold.{each, add, ratio_of}
-use Rattle.rg_folds.specs.Placing.{negated, shift_fold}
+use Rattle.rg_order_of_work.specs.Fold.{each, add, ratio_of}
+use Rattle.rg_order_of_work.specs.Placing.{negated, shift_fold}
 use Rattle.rg_places.specs.PointValues.{ratios_of}
 use Rattle.rg_places.proofs.PlaceSteps.{if_ok, shift_kept, shift_made}
 use Rattle.rg_places.proofs.numbers.shifted.Goals as goal

@@ -1,9 +1,9 @@
 use Rattle.std.proofs.Common.{◌≡◌, ℕ, ◌<◌, ap, subst, sym, ◌∙◌}
 use Rattle.std.proofs.lemmas.List.{map-append}
 use Rattle.rg_theory.specs.System.{states}
-use Rattle.rg_folds.specs.Fold.{ratio_of}
-use Rattle.rg_folds.specs.Rewriting.{has_label_at}
-use Rattle.rg_folds.specs.Placing.{ratio_at}
+use Rattle.rg_order_of_work.specs.Fold.{ratio_of}
+use Rattle.rg_order_of_work.specs.Rewriting.{has_label_at}
+use Rattle.rg_order_of_work.specs.Placing.{ratio_at}
 use Rattle.rg_places.specs.PointValues.{ratios_of}
 use Rattle.rg_places.proofs.FractionSteps.{ratio_there}
 use Rattle.rg_places.proofs.Leaving.{left_taken, left_passed, some_at, nothing_at}

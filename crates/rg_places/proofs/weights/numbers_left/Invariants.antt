@@ -1,6 +1,6 @@
 use Rattle.rg_theory.specs.System.{states}
-use Rattle.rg_folds.specs.Rewriting.{has_label_at}
-use Rattle.rg_folds.specs.Placing.{ratio_at}
+use Rattle.rg_order_of_work.specs.Rewriting.{has_label_at}
+use Rattle.rg_order_of_work.specs.Placing.{ratio_at}
 use Rattle.rg_places.specs.PointValues.{ratios_of}
 use Rattle.rg_places.proofs.Leaving.{LeftFrom}
 use Rattle.rg_places.proofs.weights.numbers_left.Given as goal

@@ -3,8 +3,8 @@ use Rattle.std.specs.Int.{w128, cast_signed, cast_unsigned}
 use Rattle.rg_integers.proofs.Casts.{back}
 use Rattle.rg_fraction.specs.declared.fraction.Fraction.{Fraction}
 use Rattle.rg_fraction.specs.Fractions.{denominator_of}
-use Rattle.rg_folds.specs.Fold.{each, mul, whole, ratio_of, multiple_of_all}
-use Rattle.rg_folds.specs.Placing.{made_whole}
+use Rattle.rg_order_of_work.specs.Fold.{each, mul, whole, ratio_of, multiple_of_all}
+use Rattle.rg_order_of_work.specs.Placing.{made_whole}
 use Rattle.rg_fraction.specs.declared.fold_stop.FoldStop.TheVariants as stop
 use Rattle.rg_denominators.proofs.Multiples.{bottoms}
 use Rattle.rg_places.specs.PointValues.{ratios_of}

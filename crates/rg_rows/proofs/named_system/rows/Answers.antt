@@ -1,7 +1,7 @@
 use Rattle.std.proofs.Common.{rules, ◌≡◌, ◌+◌, [], ◌∷◌, All, Ok, Err, map, length, ap, subst, sym, ◌∙◌}
 use Rattle.std.proofs.lemmas.List.{length-map, length-append}
 use Rattle.std.proofs.lemmas.List.Elements.{All-nil, All-cons, All-append}
-use Rattle.rg_folds.specs.Rewriting.{column_count}
+use Rattle.rg_order_of_work.specs.Rewriting.{column_count}
 use Rattle.rg_refuting.specs.Row.{RowName.block_row}
 use Rattle.rg_reasons.specs.Trees.{row_name_of}
 use Rattle.rg_fraction.specs.declared.fold_stop.FoldStop.TheVariants as stop

@@ -1,7 +1,7 @@
 use Rattle.std.proofs.Common.{◌≡◌, map, drop, length, List, Result, All}
 use Rattle.rg_fraction.specs.declared.term.Wide.{Wide}
-use Rattle.rg_folds.specs.Fold.{each}
-use Rattle.rg_folds.specs.Rewriting.{KeptRow, column_count}
+use Rattle.rg_order_of_work.specs.Fold.{each}
+use Rattle.rg_order_of_work.specs.Rewriting.{KeptRow, column_count}
 use Rattle.rg_reasons.specs.Trees.{row_name_of}
 use Rattle.rg_cycles.specs.View.{cycle_of}
 use Rattle.rg_cycles.proofs.Folding.{behind}

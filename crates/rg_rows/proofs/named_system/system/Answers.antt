@@ -2,7 +2,7 @@ use Rattle.std.proofs.Common.{◌≡◌, ◌+◌, ◌*◌, ◌^◌, ◌<◌, ◌
 use Rattle.std.proofs.lemmas.List.{length-map}
 use Rattle.rg_theory.specs.System.{states, labels}
 use Rattle.rg_linear.specs.Firsts.{KeepsFirsts}
-use Rattle.rg_folds.specs.Rewriting.{CaseSystem, IsIdle, column_count, names_of}
+use Rattle.rg_order_of_work.specs.Rewriting.{CaseSystem, IsIdle, column_count, names_of}
 use Rattle.rg_reasons.specs.Trees.{row_name_of}
 use Rattle.rg_cycles.specs.View.{cycle_of}
 use Rattle.rg_rows.specs.View.{kept_row, AreNamesWithin}

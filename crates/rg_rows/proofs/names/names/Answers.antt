@@ -2,7 +2,7 @@ use Rattle.std.proofs.Common.{◌≡◌, ◌++◌, [], if◌then◌else◌, map,
 use Rattle.rg_theory.specs.System.{states}
 use Rattle.rg_refuting.specs.Row.{RowName.tokens_row, RowName.makes_row, case_consumer}
 use Rattle.rg_reasons.specs.Trees.{row_name_of}
-use Rattle.rg_folds.specs.Rewriting.{all_numbers}
+use Rattle.rg_order_of_work.specs.Rewriting.{all_numbers}
 use Rattle.rg_rows.specs.View.{makers}
 use Rattle.rg_rows.proofs.Naming.{named_if, named_unless, names_told}
 use Rattle.rg_rows.proofs.names.names.Goals as goal

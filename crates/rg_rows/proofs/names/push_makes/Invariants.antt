@@ -2,7 +2,7 @@ use Rattle.std.proofs.Common.{◌≡◌, ◌-◌, ◌++◌, ◌==◌, ◌&&◌, 
 use Rattle.std.specs.Prelude.{slice_index_or}
 use Rattle.rg_refuting.specs.Row.{RowName.makes_row}
 use Rattle.rg_reasons.specs.Trees.{row_name_of}
-use Rattle.rg_folds.specs.Rewriting.{numbers_where}
+use Rattle.rg_order_of_work.specs.Rewriting.{numbers_where}
 use Rattle.rg_rows.specs.View.{makers}
 use Rattle.rg_rows.proofs.names.push_makes.Given as goal
 

@@ -1,7 +1,7 @@
 use Rattle.std.proofs.Common.{◌≡◌, ◌-◌, ◌++◌, true, map}
 use Rattle.rg_refuting.specs.Row.{RowName.tokens_row}
 use Rattle.rg_reasons.specs.Trees.{row_name_of}
-use Rattle.rg_folds.specs.Rewriting.{numbers_where, all_numbers}
+use Rattle.rg_order_of_work.specs.Rewriting.{numbers_where, all_numbers}
 use Rattle.rg_rows.proofs.names.push_tokens.Given as goal
 
 abbrev pub invariant-loop-q : goal.invariant-loop-q

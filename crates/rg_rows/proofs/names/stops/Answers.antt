@@ -2,7 +2,7 @@ use Rattle.std.proofs.Common.{map, subst, sym, ◌≡◌, ◌<◌, ◌∙◌}
 use Rattle.rg_theory.specs.System.{states}
 use Rattle.rg_refuting.specs.Row.{RowName.stop_row}
 use Rattle.rg_reasons.specs.Trees.{row_name_of}
-use Rattle.rg_folds.specs.Rewriting.{has_label_at}
+use Rattle.rg_order_of_work.specs.Rewriting.{has_label_at}
 use Rattle.rg_cycles.proofs.Items.{map_push}
 use Rattle.rg_rows.proofs.Naming.{name_taken, name_left, label_at_is}
 use Rattle.rg_rows.proofs.names.stops.Goals as goal

@@ -2,7 +2,7 @@ use Rattle.std.proofs.Common.{◌≡◌, ◌-◌, ◌++◌, map}
 use Rattle.rg_theory.specs.System.{states}
 use Rattle.rg_refuting.specs.Row.{RowName.stop_row}
 use Rattle.rg_reasons.specs.Trees.{row_name_of}
-use Rattle.rg_folds.specs.Rewriting.{numbers_where, has_label_at, states_with}
+use Rattle.rg_order_of_work.specs.Rewriting.{numbers_where, has_label_at, states_with}
 use Rattle.rg_rows.proofs.names.stops.Given as goal
 
 abbrev pub invariant-loop-q : goal.invariant-loop-q

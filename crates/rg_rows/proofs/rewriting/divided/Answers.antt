@@ -7,7 +7,7 @@ use Rattle.rg_integers.proofs.Casts.{back}
 use Rattle.rg_integers.proofs.Order.{positive_differs}
 use Rattle.rg_fraction.specs.Fractions.{IsValue}
 use Rattle.rg_fraction.specs.Rows.{IsRowGcd, IsPrimitivePart}
-use Rattle.rg_folds.proofs.FoldLemmas.{new_step}
+use Rattle.rg_order_of_work.proofs.FoldLemmas.{new_step}
 use Rattle.rg_denominators.specs.View.{scaled_of}
 use Rattle.rg_rows.proofs.Dividing.{written_back, parts_in_range, bigger_is, row_divided}
 use Rattle.rg_rows.proofs.rewriting.divided.Goals as goal

@@ -3,8 +3,8 @@ use Rattle.std.specs.Int.{w128, cast_signed, cast_unsigned}
 use Rattle.std.proofs.lemmas.List.{length-map}
 use Rattle.rg_integers.specs.Sum.{number_at}
 use Rattle.rg_integers.proofs.Casts.{back}
-use Rattle.rg_folds.specs.Fold.{ratio_of}
-use Rattle.rg_folds.specs.Rewriting.{free_labels, columns_of, scaled_fold, coefficient_fold}
+use Rattle.rg_order_of_work.specs.Fold.{ratio_of}
+use Rattle.rg_order_of_work.specs.Rewriting.{free_labels, columns_of, scaled_fold, coefficient_fold}
 use Rattle.rg_fraction.specs.declared.fold_stop.FoldStop.TheVariants as stop
 use Rattle.rg_cycles.specs.View.{labels_of, cycle_of}
 use Rattle.rg_reasons.specs.Sums.{terms_in}

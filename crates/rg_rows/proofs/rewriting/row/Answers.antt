@@ -3,8 +3,8 @@ use Rattle.std.specs.Prelude.{pos}
 use Rattle.std.specs.Int.{w128, cast_signed, cast_unsigned}
 use Rattle.rg_integers.proofs.Casts.{back}
 use Rattle.rg_fraction.specs.Fractions.{IsValue}
-use Rattle.rg_folds.specs.Fold.{ratio_of, whole, mul}
-use Rattle.rg_folds.specs.Rewriting.{terms_fold, IsDivided}
+use Rattle.rg_order_of_work.specs.Fold.{ratio_of, whole, mul}
+use Rattle.rg_order_of_work.specs.Rewriting.{terms_fold, IsDivided}
 use Rattle.rg_reasons.specs.Trees.{row_name_of}
 use Rattle.rg_fraction.specs.declared.fold_stop.FoldStop.TheVariants as stop
 use Rattle.rg_cycles.specs.View.{cycle_of}

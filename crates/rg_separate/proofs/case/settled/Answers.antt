@@ -1,5 +1,5 @@
 use Rattle.std.proofs.Common.{sym, subst}
-use Rattle.rg_folds.specs.Shown.{Shown, ShownWide}
+use Rattle.rg_order_of_work.specs.Shown.{Shown, ShownWide}
 use Rattle.rg_feasible.specs.Settling.{IsOutcome, IsLeftBy}
 use Rattle.rg_separate.proofs.Passing.{pivot_shown}
 use Rattle.rg_separate.proofs.case.settled.Goals as goal

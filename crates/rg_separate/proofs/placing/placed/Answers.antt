@@ -1,6 +1,6 @@
 use Rattle.std.proofs.Common.{ℕ, Option, Err, refl, sym, subst, ap}
 use Rattle.std.specs.Option.{IsNone}
-use Rattle.rg_folds.specs.Shown.{Shown, ShownWide}
+use Rattle.rg_order_of_work.specs.Shown.{Shown, ShownWide}
 use Rattle.rg_separate.specs.Casing.{AreColumnValues}
 use Rattle.rg_separate.proofs.PlaceOfPoint.{solves, case_columns, place_shown}
 use Rattle.rg_separate.proofs.placing.placed.Goals as goal

@@ -1,7 +1,7 @@
 use Rattle.std.proofs.Common.{map, Err, inr, sym, ap, subst, arith}
 use Rattle.std.proofs.lemmas.List.Elements.{All-nil}
 use Rattle.rg_reasons.specs.Certificates.{IsFormOf}
-use Rattle.rg_folds.specs.Shown.{Shown, ShownWide}
+use Rattle.rg_order_of_work.specs.Shown.{Shown, ShownWide}
 use Rattle.rg_cycles.specs.View.{cycle_of}
 use Rattle.rg_feasible.specs.Settling.{multiplier_with}
 use Rattle.rg_farkas.specs.Leaves.{share_of}

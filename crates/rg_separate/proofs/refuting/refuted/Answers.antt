@@ -1,5 +1,5 @@
 use Rattle.std.proofs.Common.{Err, inl, ap, sym, subst}
-use Rattle.rg_folds.specs.Shown.{Shown, ShownWide}
+use Rattle.rg_order_of_work.specs.Shown.{Shown, ShownWide}
 use Rattle.rg_separate.proofs.Leaves.{spread_shown}
 use Rattle.rg_separate.proofs.refuting.refuted.Goals as goal
 

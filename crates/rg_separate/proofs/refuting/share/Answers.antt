@@ -4,7 +4,7 @@ use Rattle.std.specs.Prelude.{ℤ, pos}
 use Rattle.rg_integers.proofs.Casts.{back}
 use Rattle.rg_fraction.specs.declared.fraction.Fraction.{Fraction}
 use Rattle.rg_fraction.specs.Fractions.{IsValue, IsProduct, numerator_of, denominator_of}
-use Rattle.rg_folds.specs.Spreading.{share_fold}
+use Rattle.rg_order_of_work.specs.Spreading.{share_fold}
 use Rattle.rg_reasons.specs.declared.certificate.RowName.{RowName}
 use Rattle.rg_farkas.specs.Leaves.{share_of}
 use Rattle.rg_separate.proofs.Shares.{share_made, share_fails, factors_many, names_many}

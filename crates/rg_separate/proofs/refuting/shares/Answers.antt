@@ -5,7 +5,7 @@ use Rattle.std.specs.Int.{w128}
 use Rattle.rg_fraction.specs.declared.term.Wide.{Wide}
 use Rattle.rg_fraction.specs.declared.fraction.Fraction.{Fraction}
 use Rattle.rg_linear.specs.System.{LinearRow}
-use Rattle.rg_folds.specs.Spreading.{share_fold}
+use Rattle.rg_order_of_work.specs.Spreading.{share_fold}
 use Rattle.rg_reasons.specs.declared.certificate.RowName.{RowName}
 use Rattle.rg_linear.specs.View.{linear_row}
 use Rattle.rg_feasible.specs.Settling.{multiplier_with}

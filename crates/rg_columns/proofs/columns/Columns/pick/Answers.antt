@@ -3,8 +3,8 @@ use Rattle.std.specs.Prelude.{pos, slice_index}
 use Rattle.std.specs.Int.{w128, cast_signed, cast_unsigned}
 use Rattle.std.proofs.lemmas.List.{length-map, get_or-map}
 use Rattle.rg_integers.proofs.Casts.{back}
-use Rattle.rg_folds.specs.Fold.{whole, ratio_of}
-use Rattle.rg_folds.specs.Rewriting.{has_label, free_labels}
+use Rattle.rg_order_of_work.specs.Fold.{whole, ratio_of}
+use Rattle.rg_order_of_work.specs.Rewriting.{has_label, free_labels}
 use Rattle.rg_cycles.specs.View.{labels_of, cycle_of}
 use Rattle.rg_cycles.proofs.Folding.{whole_is, free_below}
 use Rattle.rg_cycles.proofs.Items.{map_push}

@@ -1,0 +1,125 @@
+-- In a class that is neither plain nor bounded, solutions over a scale are whole.
+use Rattle.std.proofs.Common.{◌≡◌, ◌⊎◌, ◌↔◌, ℕ, zero, suc, ◌<◌, is_some, Option, Some, None, true, false, List, [], IsNone, inl, inr, refl, sym, ap, subst, ◌∙◌, arith}
+use Rattle.std.specs.Prelude.{ℤ, pos, negsuc, ◌+ℤ◌, ◌*ℤ◌, ◌<ℤ◌, ◌≤ℤ◌, unsigned_abs}
+use Rattle.std.proofs.lemmas.Int.{ints}
+use Rattle.std.proofs.lemmas.Bool.{true≢false}
+use Rattle.rg_theory.specs.declared.Arc.{Arc}
+use Rattle.rg_theory.specs.declared.Class.{Class}
+use Rattle.rg_theory.specs.declared.Problem.{Problem}
+use Rattle.rg_theory.specs.declared.Problem.TheVariants.{Event, States}
+use Rattle.rg_theory.specs.System.{System}
+use Rattle.rg_refuting.specs.Expression.{Variable, Variable.tokens_at, Variable.effect_of, Term, value_in, numbers_by}
+use Rattle.rg_refuting.specs.Row.{RowName, RowName.arc_row, RowName.tokens_row, RowName.cap_row, RowName.up_row, RowName.down_row, RowName.makes_row, RowName.stop_row, RowName.block_row, RowName.empty_row, RowName.full_row, RowName.keep_row, RowName.apart_row, RowName.above_row, SharedStands, RowStands, shared_expression, row_expression, apart_expression, order_of, consumer_of, cases_of, Says}
+use Rattle.rg_refuting.specs.Refutes.{IsSeparable}
+use Rattle.rg_refuting.proofs.Making.{rows_exact}
+use Rattle.rg_integers.proofs.ListSums.{sum_over-same}
+use Rattle.rg_linear.specs.Cycle.{CycleBasis}
+use Rattle.rg_order_of_work.specs.Rewriting.{CaseSystem}
+use Rattle.rg_order_of_work.specs.Shown.{IsLive}
+use Rattle.rg_order_of_work.specs.Meaning.{value_over, RowHolds, KeepsRowsOver, IsCaseOver, HasSolution, HasWholeSolutionIn, SomeCaseHasPoint}
+use Rattle.rg_order_of_work.proofs.CaseRows.{IsArcRow, says, said, tokens_row_holds}
+use Rattle.rg_order_of_work.proofs.CaseMeaning.{whole_means}
+use Rattle.rg_order_of_work.proofs.Points.{points_exact}
+
+pub solution_of_whole : (lts : System) (class : Class) (problem : Problem) (number : ℕ) → HasWholeSolutionIn lts class problem number → HasSolution lts class problem number
+solution_of_whole lts class problem number (tokens, effect, keeps) = (pos 1, numbers_by tokens effect, omega (arith, ints), (whole_means lts class problem number (numbers_by tokens effect)).1 keeps)
+
+-- ---- the constants of rows
+
+not_some : (o : Option ℕ) → IsNone o → is_some o ≡ true → ⊥
+not_some None e f = true≢false (sym f)
+not_some (Some k) e f = cc
+
+abbrev pub IsLow : ℤ → Type 0
+IsLow z = (z ≡ pos 0) ⊎ (z ≡ negsuc 0)
+
+shared_low : (lts : System) (class : Class) (consumer : ℕ) (name : RowName) → class.plain ≡ false → IsNone class.bound → SharedStands lts class consumer [] name → IsLow (shared_expression lts class [] name).constant
+shared_low lts class consumer (arc_row q t q') plain bound stands = inl refl
+shared_low lts class consumer (tokens_row q) plain bound stands = inl refl
+shared_low lts class consumer (cap_row q) plain bound (lt, some) = absurd (not_some class.bound bound some)
+shared_low lts class consumer (up_row t) plain bound (lt, is_plain) = absurd (true≢false (sym is_plain ∙ plain))
+shared_low lts class consumer (down_row t) plain bound (lt, is_plain) = absurd (true≢false (sym is_plain ∙ plain))
+shared_low lts class consumer (makes_row t) plain bound stands = inl refl
+shared_low lts class consumer (above_row d) plain bound stands = absurd (true≢false (sym stands))
+shared_low lts class consumer name plain bound stands = absurd stands
+
+event_low : (lts : System) (class : Class) (s t number : ℕ) (name : RowName) → class.plain ≡ false → IsNone class.bound → RowStands lts class (Event s t) number [] name → IsLow (row_expression lts class (Event s t) number [] name).constant
+event_low lts class s t number (stop_row q) plain bound stands = inr refl
+event_low lts class s t number block_row plain bound stands = inr refl
+event_low lts class s t number empty_row plain bound stands = inl refl
+event_low lts class s t number (full_row q) plain bound stands = inr refl
+event_low lts class s t number keep_row plain bound stands = inl refl
+event_low lts class s t number name plain bound stands = shared_low lts class t name plain bound stands
+
+apart_low : (s s' order : ℕ) → IsLow (apart_expression s s' order).constant
+apart_low s s' zero = inr refl
+apart_low s s' (suc order) = inr refl
+
+low : (lts : System) (class : Class) (problem : Problem) (number : ℕ) (name : RowName) → class.plain ≡ false → IsNone class.bound → RowStands lts class problem number [] name → IsLow (row_expression lts class problem number [] name).constant
+low lts class (Event s t) number name plain bound stands = event_low lts class s t number name plain bound stands
+low lts class (States s s') number apart_row plain bound stands = apart_low s s' (order_of lts class number)
+low lts class (States s s') number name plain bound stands = shared_low lts class (consumer_of lts number) name plain bound stands
+
+-- ---- the same numbers, over the scale 1
+
+not_negative_row : (v c k : ℤ) → IsLow c → pos 0 <ℤ k → pos 0 ≤ℤ (v +ℤ (c *ℤ k)) → pos 0 ≤ℤ (v +ℤ (c *ℤ pos 1))
+not_negative_row v c k (inl e) positive h = subst (λ z. pos 0 ≤ℤ (v +ℤ (z *ℤ pos 1))) (sym e) (close v k (subst (λ z. pos 0 ≤ℤ (v +ℤ (z *ℤ k))) e h))
+  where
+    close : (v k : ℤ) → pos 0 ≤ℤ (v +ℤ (pos 0 *ℤ k)) → pos 0 ≤ℤ (v +ℤ (pos 0 *ℤ pos 1))
+    close v k h = omega (arith, ints)
+not_negative_row v c k (inr e) positive h = subst (λ z. pos 0 ≤ℤ (v +ℤ (z *ℤ pos 1))) (sym e) (close v k positive (subst (λ z. pos 0 ≤ℤ (v +ℤ (z *ℤ k))) e h))
+  where
+    close : (v k : ℤ) → pos 0 <ℤ k → pos 0 ≤ℤ (v +ℤ (negsuc 0 *ℤ k)) → pos 0 ≤ℤ (v +ℤ (negsuc 0 *ℤ pos 1))
+    close v k positive h = omega (arith, ints)
+
+arc_at_one : (lts : System) (class : Class) (problem : Problem) (number : ℕ) (scale : ℤ) (x : Variable → ℤ) (q t q' : ℕ) → RowHolds lts class problem number scale x (arc_row q t q') → RowHolds lts class problem number (pos 1) x (arc_row q t q')
+arc_at_one lts class (Event s u) number scale x q t q' h = close (value_in x (shared_expression lts class [] (arc_row q t q')).terms) scale h
+  where
+    close : (v k : ℤ) → v +ℤ (pos 0 *ℤ k) ≡ pos 0 → v +ℤ (pos 0 *ℤ pos 1) ≡ pos 0
+    close v k h = omega (arith, ints)
+arc_at_one lts class (States s s') number scale x q t q' h = close (value_in x (shared_expression lts class [] (arc_row q t q')).terms) scale h
+  where
+    close : (v k : ℤ) → v +ℤ (pos 0 *ℤ k) ≡ pos 0 → v +ℤ (pos 0 *ℤ pos 1) ≡ pos 0
+    close v k h = omega (arith, ints)
+
+other_at_one : (lts : System) (class : Class) (problem : Problem) (number : ℕ) (scale : ℤ) (x : Variable → ℤ) (name : RowName) → ¬ IsArcRow name → class.plain ≡ false → IsNone class.bound → pos 0 <ℤ scale → RowStands lts class problem number [] name → RowHolds lts class problem number scale x name → RowHolds lts class problem number (pos 1) x name
+other_at_one lts class problem number scale x name not_arc plain bound positive stands h =
+    says name (value_over (pos 1) x (row_expression lts class problem number [] name)) not_arc
+    (not_negative_row (value_in x (row_expression lts class problem number [] name).terms) (row_expression lts class problem number [] name).constant scale (low lts class problem number name plain bound stands) positive (said name (value_over scale x (row_expression lts class problem number [] name)) h))
+
+pub at_one : (lts : System) (class : Class) (problem : Problem) (number : ℕ) (scale : ℤ) (x : Variable → ℤ) → class.plain ≡ false → IsNone class.bound → pos 0 <ℤ scale → KeepsRowsOver lts class problem number scale x → KeepsRowsOver lts class problem number (pos 1) x
+at_one lts class problem number scale x plain bound positive keeps (arc_row q t q') stands = arc_at_one lts class problem number scale x q t q' (keeps (arc_row q t q') stands)
+at_one lts class problem number scale x plain bound positive keeps name stands = other_at_one lts class problem number scale x name (λ h. h) plain bound positive stands (keeps name stands)
+
+-- ---- tokens that are not negative
+
+pub same_numbers : (lts : System) (class : Class) (problem : Problem) (number : ℕ) (x y : Variable → ℤ) → ((v : Variable) → x v ≡ y v) → KeepsRowsOver lts class problem number (pos 1) x → KeepsRowsOver lts class problem number (pos 1) y
+same_numbers lts class problem number x y same keeps name stands = subst (Says name) (ap (λ z. z +ℤ ((row_expression lts class problem number [] name).constant *ℤ pos 1)) (sum_over-same (λ (t : Term). t.coefficient *ℤ x t.variable) (λ (t : Term). t.coefficient *ℤ y t.variable) (row_expression lts class problem number [] name).terms (λ t has. ap (λ z. t.coefficient *ℤ z) (same t.variable)))) (keeps name stands)
+
+tokens_stand : (lts : System) (class : Class) (problem : Problem) (number q : ℕ) → RowStands lts class problem number [] (tokens_row q)
+tokens_stand lts class (Event s t) number q = tt
+tokens_stand lts class (States s s') number q = tt
+
+pub absolute : (z : ℤ) → pos 0 ≤ℤ z → z ≡ pos (unsigned_abs z)
+absolute (pos n) h = refl
+absolute (negsuc n) h = absurd (omega (arith, ints))
+
+pub whole_of_solution : (lts : System) (class : Class) (problem : Problem) (number : ℕ) → class.plain ≡ false → IsNone class.bound → HasSolution lts class problem number → HasWholeSolutionIn lts class problem number
+whole_of_solution lts class problem number plain bound (scale, x, positive, keeps) = (
+  λ q. unsigned_abs (x (tokens_at q)),
+  λ t. x (effect_of t),
+  (whole_means lts class problem number (numbers_by (λ q. unsigned_abs (x (tokens_at q))) (λ t. x (effect_of t)))).0 (same_numbers lts class problem number x (numbers_by (λ q. unsigned_abs (x (tokens_at q))) (λ t. x (effect_of t))) same (at_one lts class problem number scale x plain bound positive keeps)),
+)
+  where
+    same : (v : Variable) → x v ≡ numbers_by (λ q. unsigned_abs (x (tokens_at q))) (λ t. x (effect_of t)) v
+    same (tokens_at q) = absolute (x (tokens_at q)) ((tokens_row_holds lts class problem number scale x q).1 (keeps (tokens_row q) (tokens_stand lts class problem number q)))
+    same (effect_of t) = refl
+
+-- ---- regions
+
+pub point_separates : (lts : System) (tree : List Arc) (basis : CycleBasis) (class : Class) (problem : Problem) (case : ℕ → CaseSystem) → class.plain ≡ false → IsNone class.bound → IsLive lts problem → 0 < cases_of lts class problem → ((number : ℕ) → number < cases_of lts class problem → IsCaseOver lts tree basis class problem number (case number)) → SomeCaseHasPoint lts class problem case ↔ IsSeparable lts class problem
+point_separates lts tree basis class problem case plain bound live some c =
+    let exact = rows_exact lts class problem (c 0 some).in_range (c 0 some).asked some in (
+      (λ (number, lt, point). (let (tokens, effect, keeps) = whole_of_solution lts class problem number plain bound ((points_exact lts tree basis class problem number (case number) (c number lt) live).0 point) in exact.1 (number, lt, tokens, effect, keeps))),
+      (λ separable. (let (number, lt, tokens, effect, keeps) = exact.0 separable in (number, lt, (points_exact lts tree basis class problem number (case number) (c number lt) live).1 (solution_of_whole lts class problem number (tokens, effect, keeps))))),
+    )

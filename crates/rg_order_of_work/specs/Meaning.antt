@@ -1,0 +1,111 @@
+-- What the named rows of a case say of numbers of states and effects of labels.
+use Rattle.std.specs.Prelude.{◌≡◌, ◌⊎◌, ℕ, ◌<◌, ◌≤◌, ◌<ℤ◌, Contains, IsTrue, IsFalse, if◌then◌else◌, pos, List, [], Ok, ℤ, ◌+ℤ◌, ◌*ℤ◌}
+use Rattle.rg_theory.specs.declared.Arc.{Arc}
+use Rattle.rg_theory.specs.System.{System, IsInRange, IsAllReachable, states}
+use Rattle.rg_theory.specs.Tree.{IsTree}
+use Rattle.rg_theory.specs.declared.Class.{Class}
+use Rattle.rg_theory.specs.declared.Problem.{Problem}
+use Rattle.rg_refuting.specs.Expression.{Variable, Variable.tokens_at, Variable.effect_of, Expression, value_in, numbers_by}
+use Rattle.rg_refuting.specs.Row.{RowName, RowName.arc_row, RowName.tokens_row, RowName.up_row, RowName.down_row, RowName.makes_row, RowStands, row_expression, cases_of, Says, KeepsRows}
+use Rattle.rg_refuting.specs.Refutes.{IsSeparationProblem}
+use Rattle.rg_integers.specs.Sum.{number_at}
+use Rattle.rg_linear.specs.System.{IsPoint, MeetsRows}
+use Rattle.rg_linear.specs.Cycle.{FollowsRelations, CycleBasis}
+use Rattle.rg_order_of_work.specs.Chords.{chord_system, IsBasis}
+use Rattle.rg_order_of_work.specs.Rewriting.{has_label, has_start, KeptRow, CaseSystem, rows_of, system_fold}
+use Rattle.rg_order_of_work.specs.Values.{column_values, UnusedAreZero, RowIsMet}
+
+-- a row that stands in a case and is not among the names of its system: an arc's; the tokens of a state where Start is
+-- no column, or of a number that is no state; and rows of the effect of a label without an arc, which is 0
+abbrev pub IsLeftOut : System → Class → RowName → Type 0
+IsLeftOut lts class (arc_row q t q') = Unit {0}
+IsLeftOut lts class (tokens_row q) = IsFalse (has_start class) ⊎ (states lts ≤ q)
+IsLeftOut lts class (up_row t) = IsFalse (has_label t lts.arcs)
+IsLeftOut lts class (down_row t) = IsFalse (has_label t lts.arcs)
+IsLeftOut lts class (makes_row t) = IsFalse (has_label t lts.arcs)
+IsLeftOut lts class name = ⊥
+
+-- ---- rows that hold
+
+-- the value of an expression at numbers over the scale
+abbrev pub value_over : ℤ → (Variable → ℤ) → Expression → ℤ
+value_over scale x e = value_in x e.terms +ℤ (e.constant *ℤ scale)
+
+-- the row of the case holds of the numbers over the scale
+abbrev pub RowHolds : System → Class → Problem → ℕ → ℤ → (Variable → ℤ) → RowName → Type 0
+RowHolds lts class problem number scale x name = Says name (value_over scale x (row_expression lts class problem number [] name))
+
+-- every row that stands in the case holds of the numbers over the scale
+abbrev pub KeepsRowsOver : System → Class → Problem → ℕ → ℤ → (Variable → ℤ) → Type 0
+KeepsRowsOver lts class problem number scale x = (name : RowName) → RowStands lts class problem number [] name → RowHolds lts class problem number scale x name
+
+abbrev pub IsTokensRow : RowName → Type 0
+IsTokensRow (tokens_row q) = Unit {0}
+IsTokensRow name = ⊥
+
+-- every row that stands in the case does, but those of tokens
+abbrev pub KeepsAllButTokens : System → Class → Problem → ℕ → ℤ → (Variable → ℤ) → Type 0
+KeepsAllButTokens lts class problem number scale x = (name : RowName) → RowStands lts class problem number [] name → ¬ IsTokensRow name → RowHolds lts class problem number scale x name
+
+-- one number more at every state
+abbrev pub shifted : ℤ → (Variable → ℤ) → Variable → ℤ
+shifted by x (tokens_at q) = x (tokens_at q) +ℤ by
+shifted by x (effect_of t) = x (effect_of t)
+
+-- ---- the system of a case
+
+-- the system of a case of an asked problem, over the tree of the system and its basis; all states can be reached
+pub record IsCaseOver (lts : System) (tree : List Arc) (basis : CycleBasis) (class : Class) (problem : Problem) (number : ℕ) (case : CaseSystem) : Type 0 where
+  pub in_range : IsInRange lts
+  pub reachable : IsAllReachable lts
+  pub is_tree : IsTree lts tree
+  pub is_basis : IsBasis lts tree basis
+  pub asked : IsSeparationProblem lts problem
+  pub is_case : system_fold lts tree basis class problem number (Ok case)
+
+-- the effects follow the relations of the basis, and those of labels without an arc are 0
+pub record AreEffects (lts : System) (tree : List Arc) (basis : CycleBasis) (effect : ℕ → ℤ) : Type 0 where
+  pub follows : FollowsRelations (chord_system lts tree basis.kept) basis.members effect
+  pub unused : UnusedAreZero lts effect
+
+-- Start and the effects over the scale meet every row of the case's system
+abbrev pub MeetsCase : System → CycleBasis → Class → CaseSystem → ℤ → (ℕ → ℤ) → ℤ → Type 0
+MeetsCase lts basis class case start effect scale = (k : KeptRow) → Contains case.kept k → RowIsMet (column_values lts basis class start effect) scale k
+
+-- ---- all solutions
+
+-- the effects are those of the numbers, at labels with an arc
+abbrev pub AgreeOnUsed : System → (Variable → ℤ) → (ℕ → ℤ) → Type 0
+AgreeOnUsed lts x effect = (t : ℕ) → IsTrue (has_label t lts.arcs) → effect t ≡ x (effect_of t)
+
+-- the effects of the numbers, but 0 for labels without an arc
+abbrev pub used_effect : System → (Variable → ℤ) → ℕ → ℤ
+used_effect lts x t = if has_label t lts.arcs then x (effect_of t) else pos 0
+
+-- ---- points
+
+-- which column has the effect of the first free label with an arc
+abbrev pub first_column : Class → ℕ
+first_column class = if has_start class then 1 else 0
+
+-- the columns of the point have these values of Start and effects, over so many times the scale of the point
+pub record AreGivenBy (lts : System) (tree : List Arc) (basis : CycleBasis) (class : Class) (case : CaseSystem) (v : ℕ → ℤ) (times start : ℤ) (effect : ℕ → ℤ) : Type 0 where
+  pub positive : pos 0 <ℤ times
+  pub effects : AreEffects lts tree basis effect
+  pub columns : (j : ℕ) → j < case.columns → times *ℤ v j ≡ number_at (column_values lts basis class start effect) j
+
+-- some point over the columns meets every row of the case's system
+abbrev pub HasPoint : CaseSystem → Type 0
+HasPoint case = (scale : ℤ) × (v : ℕ → ℤ) × IsPoint (rows_of case) scale v × MeetsRows (rows_of case) v
+
+-- some numbers over a scale keep all rows of the case
+abbrev pub HasSolution : System → Class → Problem → ℕ → Type 0
+HasSolution lts class problem number = (scale : ℤ) × (x : Variable → ℤ) × (pos 0 <ℤ scale) × KeepsRowsOver lts class problem number scale x
+
+-- some whole numbers, the tokens at least 0, keep all rows of the case
+abbrev pub HasWholeSolutionIn : System → Class → Problem → ℕ → Type 0
+HasWholeSolutionIn lts class problem number = (tokens : ℕ → ℕ) × (effect : ℕ → ℤ) × KeepsRows lts class problem number (numbers_by tokens effect)
+
+-- the system of some case of the problem has a point
+abbrev pub SomeCaseHasPoint : System → Class → Problem → (ℕ → CaseSystem) → Type 0
+SomeCaseHasPoint lts class problem case = (number : ℕ) × (number < cases_of lts class problem) × HasPoint (case number)
