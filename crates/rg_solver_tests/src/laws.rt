@@ -1,9 +1,9 @@
 //! The laws are called as any function is, and do nothing.
 use rg_farkas::multipliers_refute;
-use rg_order_of_work::folds::{calls_are_steps, folds_are_one, steps_are_one};
+use rg_order_of_work::folds::{calls_are_steps, folds_are_one, steps_are_one, zeros_add_nothing};
 use rg_order_of_work::rows::{expression_is_rewritten, row_is_exact, system_is_exact};
 use rg_order_of_work::shown::shown_is_one;
-use rg_order_of_work::spanning::{basis_is_exact, chords_are_exact, tree_is_one, ways_are_one};
+use rg_order_of_work::spanning::{basis_is_exact, chords_are_exact, ways_are_one};
 use rg_linear::branching::{branching_is_one, branching_is_sound};
 use rg_linear::cycle::{cycle_basis_is_one, cycle_is_exact, kept_is_one};
 use rg_linear::descent::{descent_is_one, narrow_is_not_wide, point_is_sound, refuted_is_sound};
@@ -48,7 +48,7 @@ fn fold_laws_are_called(_rt: HostRuntime) {
     steps_are_one();
     calls_are_steps();
     folds_are_one();
-    tree_is_one();
+    zeros_add_nothing();
     ways_are_one();
     chords_are_exact();
     basis_is_exact();
