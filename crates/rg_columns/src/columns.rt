@@ -2,6 +2,7 @@
 ghost use Rattle.std.specs.Prelude.{◌≡◌, ℕ, ◌<◌, ◌≤◌, false, length, map, slice_index_or, ℤ, IfOk};
 ghost use Rattle.rg_integers.specs.Range.{InRange};
 ghost use Rattle.rg_theory.specs.declared.Class.{Class};
+ghost use Rattle.rg_theory.specs.Limits.{most_labels};
 ghost use Rattle.rg_theory.specs.System.{System, labels};
 ghost use Rattle.rg_lts.specs.WellFormed.{IsWellFormed};
 ghost use Rattle.rg_order_of_work.specs.Fold.{ratio_of};
@@ -38,7 +39,7 @@ impl Columns {
     /// How many there are.
     pub fn count(&self, basis: &Basis) -> u32
         requires labels { length self.now.used.items ≡ labels_of basis.now }
-        requires few { length self.now.used.items ≤ 256 }
+        requires few { length self.now.used.items ≤ most_labels }
         ensures { (lts : System) (class : Class) → labels lts ≡ labels_of basis.now → AreColumns lts class self.now → result ≡ column_count lts (cycle_of basis.now) class }
     {
         let mut count = u32::from(self.start);

@@ -1,5 +1,6 @@
 //! The walk over the chords.
 ghost use Rattle.std.specs.Prelude.{◌≡◌, ◌↔◌, ℕ, ℤ, ◌+◌, ◌<◌, ◌≤◌, ◌^◌, length, Contains, IfOk, IsErrOf};
+ghost use Rattle.rg_theory.specs.Limits.{most_labels, most_arcs};
 ghost use Rattle.rg_linear.specs.Cycle.{IsCycleBasis, vector_system};
 ghost use Rattle.rg_linear.specs.Dictionary.{numbers_from};
 ghost use Rattle.rg_dictionary.specs.Contents.{IsDictionary};
@@ -25,8 +26,8 @@ use std::alloc::{AllocError, Global};
 /// `Stop::Wide` comes exactly where a term on this walk is out of range, with the first such term.
 /// `Stop::NoMemory` where there is no memory.
 pub fn reduce(alloc: Global, labels: u32, chords: &[Vec<i128>]) -> Result<Basis, Stop>
-    requires labels { labels ≤ 256 }
-    requires chords { length chords.now ≤ 262144 }
+    requires labels { labels ≤ most_labels }
+    requires chords { length chords.now ≤ most_arcs }
     requires vectors { AreVectors labels (numbers_in chords.now) }
     ensures labels { IfOk result (λ b. labels_of b ≡ labels) }
     ensures basis { IfOk result (λ b. IsCycleBasis labels (numbers_in chords.now) (cycle_of b)) }

@@ -6,7 +6,8 @@ use Rattle.std.proofs.lemmas.List.Elements.{All-head, All-tail, All-get_or, All-
 use Rattle.std.proofs.lemmas.Bool.{cases_lt}
 use Rattle.rg_text.specs.Line.{fed}
 use Rattle.rg_theory.specs.Net.{Place, Net, pre_weight, post_weight}
-use Rattle.rg_net.specs.Range.{largest, IsPlaceInRange}
+use Rattle.rg_net.specs.Range.{IsPlaceInRange}
+use Rattle.rg_integers.specs.Range.{greatest}
 use Rattle.rg_net.specs.NetText.{place_name, set_text, taken_by, put_by, flow_line, flow_lines, starts}
 use Rattle.rg_net.proofs.Digits.{IsPrinted, same_rest, heads_apart}
 use Rattle.rg_net.proofs.Members.{ArePrinted, told_set}
@@ -32,14 +33,14 @@ printed : (f : Place → ℕ) (ps : List Place) → All (λ p. IsPrinted (f p)) 
 printed f [] h = tt
 printed f (p ∷ ps) h = (All-head (λ p. IsPrinted (f p)) p ps h, printed f ps (All-tail (λ p. IsPrinted (f p)) p ps h))
 
-printed_number : (w : ℕ) → w ≤ largest → IsPrinted w
+printed_number : (w : ℕ) → w ≤ greatest → IsPrinted w
 printed_number w h = omega arith
 
-printed_weight : (ws : List ℕ) (t : ℕ) → All (λ w. w ≤ largest) ws → IsPrinted (get_or ws t 0)
+printed_weight : (ws : List ℕ) (t : ℕ) → All (λ w. w ≤ greatest) ws → IsPrinted (get_or ws t 0)
 printed_weight ws t h = by (cases_lt t (length ws))
   where
     by : (t < length ws) ⊎ (length ws ≤ t) → IsPrinted (get_or ws t 0)
-    by (inl less) = printed_number _ (All-get_or (λ w. w ≤ largest) ws t 0 less h)
+    by (inl less) = printed_number _ (All-get_or (λ w. w ≤ greatest) ws t 0 less h)
     by (inr more) = rw (get_or_past ws t 0 more) (printed_number 0 (omega arith))
 
 printed_taken : (net : Net) (t : ℕ) → All IsPlaceInRange net.places → ArePrinted (taken_by net t)

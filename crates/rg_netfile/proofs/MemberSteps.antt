@@ -11,7 +11,7 @@ use Rattle.std.proofs.lemmas.Option.{slice_get-get_or, slice_get_within, get_or_
 use Rattle.std.proofs.lemmas.Slice.Eq.{bytes_eq-Decides}
 use Rattle.rg_theory.specs.Net.{Place, Net, HasAllWeights, IsPlaceAt}
 use Rattle.rg_lexer.specs.Lexeme.{Lexeme}
-use Rattle.rg_net.specs.Range.{largest}
+use Rattle.rg_integers.specs.Range.{greatest}
 use Rattle.rg_netitems.specs.Item.{Member}
 use Rattle.rg_netfile.specs.declared.fault.NetFault.{NetFault}
 use Rattle.rg_netfile.specs.declared.fault.NetFault.TheVariants.{UnknownTransition, UnknownPlace, NumberPasses}
@@ -51,23 +51,23 @@ flow_stops k net name absent = record {
 
 -- the tests of a member's fault
 abbrev sum_test : Cell → Member → List Step → Option NetFault
-sum_test cell m before = cond (nat_lt largest (total cell m.place.text before + count_of m.number)) (Some (NumberPasses (member_at m))) None
+sum_test cell m before = cond (nat_lt greatest (total cell m.place.text before + count_of m.number)) (Some (NumberPasses (member_at m))) None
 
 abbrev place_test : List (List ℕ) → Cell → Member → List Step → Option NetFault
 place_test places cell m before = cond (not (is_among places m.place.text)) (Some (UnknownPlace m.place.at)) (sum_test cell m before)
 
-to_place : (k : KnownNames) (before : List Step) (cell : Cell) (m : Member) → count_of m.number ≤ largest
+to_place : (k : KnownNames) (before : List Step) (cell : Cell) (m : Member) → count_of m.number ≤ greatest
     → step_fault k.places k.transitions before (adds cell m) ≡ place_test k.places cell m before
 to_place k before cell m within =
-    cond-false (nat_lt largest (count_of m.number)) (Some (NumberPasses (member_at m))) (place_test k.places cell m before) (lt_false largest (count_of m.number) within)
+    cond-false (nat_lt greatest (count_of m.number)) (Some (NumberPasses (member_at m))) (place_test k.places cell m before) (lt_false greatest (count_of m.number) within)
 
-to_sum : (k : KnownNames) (before : List Step) (cell : Cell) (m : Member) → count_of m.number ≤ largest → Contains k.places m.place.text
+to_sum : (k : KnownNames) (before : List Step) (cell : Cell) (m : Member) → count_of m.number ≤ greatest → Contains k.places m.place.text
     → step_fault k.places k.transitions before (adds cell m) ≡ sum_test cell m before
 to_sum k before cell m within has =
     to_place k before cell m within
     ∙ cond-false (not (is_among k.places m.place.text)) (Some (UnknownPlace m.place.at)) (sum_test cell m before) (ap not (among_true k.places m.place.text has))
 
-pub place_stops : (k : KnownNames) (net : Net) (cell : Cell) (m : Member) → count_of m.number ≤ largest → (Contains k.places m.place.text → ⊥)
+pub place_stops : (k : KnownNames) (net : Net) (cell : Cell) (m : Member) → count_of m.number ≤ greatest → (Contains k.places m.place.text → ⊥)
     → Stops k (adds cell m ∷ []) net (UnknownPlace m.place.at)
 place_stops k net cell m within absent = record {
   first = λ before h. first_one (step_fault k.places k.transitions) before (adds cell m) (UnknownPlace m.place.at)
@@ -76,14 +76,14 @@ place_stops k net cell m within absent = record {
 }
 
 pub sum_stops : (k : KnownNames) (net : Net) (i n : ℕ) (slot : Slot) (cell : Cell) (m : Member) → IsSlotFor k slot cell → slice_get k.places i ≡ Some m.place.text
-    → n ≡ count_of m.number → n ≤ largest → IsOver net i slot n largest → Stops k (adds cell m ∷ []) net (NumberPasses (member_at m))
+    → n ≡ count_of m.number → n ≤ greatest → IsOver net i slot n greatest → Stops k (adds cell m ∷ []) net (NumberPasses (member_at m))
 sum_stops k net i n slot cell m for at is within (p, place, over) = record {
   first = λ before h.
       let so_far = h.sums i m.place.text p slot cell at place for in
       first_one (step_fault k.places k.transitions) before (adds cell m) (NumberPasses (member_at m))
       (to_sum k before cell m (omega arith) (there k.places i m.place.text at)
-      ∙ cond-true (nat_lt largest (total cell m.place.text before + count_of m.number)) (Some (NumberPasses (member_at m))) None
-      (lt_true largest (total cell m.place.text before + count_of m.number) (omega arith)));
+      ∙ cond-true (nat_lt greatest (total cell m.place.text before + count_of m.number)) (Some (NumberPasses (member_at m))) None
+      (lt_true greatest (total cell m.place.text before + count_of m.number) (omega arith)));
 }
 
 -- what a step adds to a place and cell
@@ -131,8 +131,8 @@ pub record Adds (k : KnownNames) (old new : Net) (i n : ℕ) (slot : Slot) (cell
   pub for_cell : IsSlotFor k slot cell
   pub at_place : slice_get k.places i ≡ Some m.place.text
   pub number : n ≡ count_of m.number
-  pub small : n ≤ largest
-  pub within : IsWithin old i slot n largest
+  pub small : n ≤ greatest
+  pub within : IsWithin old i slot n greatest
   pub makes : AddsTo old i slot n new
 
 -- the numbers after one member more
@@ -192,8 +192,8 @@ member_passes k old new i n slot cell m a = record {
       let small = a.small in
       none_one (step_fault k.places k.transitions) before (adds cell m)
       (to_sum k before cell m (omega arith) (there k.places i m.place.text a.at_place)
-      ∙ cond-false (nat_lt largest (total cell m.place.text before + count_of m.number)) (Some (NumberPasses (member_at m))) None
-      (lt_false largest (total cell m.place.text before + count_of m.number) (omega arith)));
+      ∙ cond-false (nat_lt greatest (total cell m.place.text before + count_of m.number)) (Some (NumberPasses (member_at m))) None
+      (lt_false greatest (total cell m.place.text before + count_of m.number) (omega arith)));
   sums = λ before h. record { sums = sums_more k old new i n slot cell m before a h };
 }
 
@@ -209,9 +209,9 @@ flow_fine places transitions before name has =
     cond-true (is_among transitions name.text) None (Some (UnknownTransition name.at)) (among_true transitions name.text has)
 
 pub member_fine : (places transitions : List (List ℕ)) (before : List Step) (cell : Cell) (m : Member) → Contains places m.place.text
-    → total cell m.place.text before + count_of m.number ≤ largest → step_fault places transitions before (adds cell m) ≡ None
+    → total cell m.place.text before + count_of m.number ≤ greatest → step_fault places transitions before (adds cell m) ≡ None
 member_fine places transitions before cell m has within =
-    cond-false (nat_lt largest (count_of m.number)) (Some (NumberPasses (member_at m))) (place_test places cell m before) (lt_false largest (count_of m.number) (omega arith))
+    cond-false (nat_lt greatest (count_of m.number)) (Some (NumberPasses (member_at m))) (place_test places cell m before) (lt_false greatest (count_of m.number) (omega arith))
     ∙ cond-false (not (is_among places m.place.text)) (Some (UnknownPlace m.place.at)) (sum_test cell m before) (ap not (among_true places m.place.text has))
-    ∙ cond-false (nat_lt largest (total cell m.place.text before + count_of m.number)) (Some (NumberPasses (member_at m))) None
-    (lt_false largest (total cell m.place.text before + count_of m.number) within)
+    ∙ cond-false (nat_lt greatest (total cell m.place.text before + count_of m.number)) (Some (NumberPasses (member_at m))) None
+    (lt_false greatest (total cell m.place.text before + count_of m.number) within)

@@ -9,7 +9,7 @@ use Rattle.std.proofs.lemmas.Option.{slice_get-map, slice_get-get_or}
 use Rattle.std.proofs.lemmas.Slice.Eq.{bytes_eq-Decides}
 use Rattle.rg_lexer.specs.Lexeme.{Lexeme}
 use Rattle.rg_text.specs.Faults.{faults_after, AreNone}
-use Rattle.rg_net.specs.Range.{largest}
+use Rattle.rg_integers.specs.Range.{greatest}
 use Rattle.rg_netitems.specs.Contents.{Transition}
 use Rattle.rg_netfile.specs.Contents.{most_places, place_fault, transition_fault, is_among, have_each_once, Step, flow_of, adds, added, total, step_fault}
 use Rattle.rg_netfile.specs.Built.{AreApart}
@@ -108,7 +108,7 @@ once names ts is apart =
 -- steps that are fine beside all steps
 abbrev pub IsFine : List (List ℕ) → List (List ℕ) → List Step → Step → Type 0
 IsFine places transitions all (flow_of name) = Contains transitions name.text
-IsFine places transitions all (adds cell m) = Contains places m.place.text × (total cell m.place.text all ≤ largest)
+IsFine places transitions all (adds cell m) = Contains places m.place.text × (total cell m.place.text all ≤ greatest)
 
 abbrev pub Each : {X : Type 0} → (X → Type 0) → List X → Type 0
 Each P [] = Unit {0}

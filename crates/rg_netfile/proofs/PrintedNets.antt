@@ -12,7 +12,8 @@ use Rattle.rg_lexer.specs.Lexeme.{Lexeme}
 use Rattle.rg_lts.specs.WellFormed.{IsWellFormed}
 use Rattle.rg_text.specs.Faults.{faults_after, if_not, AreNone}
 use Rattle.rg_text.proofs.Left.{none_joined}
-use Rattle.rg_net.specs.Range.{IsNetInRange, IsPlaceInRange, largest}
+use Rattle.rg_net.specs.Range.{IsNetInRange, IsPlaceInRange}
+use Rattle.rg_integers.specs.Range.{greatest}
 use Rattle.rg_net.specs.NetText.{place_name, taken_by, put_by, starts}
 use Rattle.rg_netitems.specs.Item.{Member, Flow}
 use Rattle.rg_netitems.specs.Contents.{Transition, Declared}
@@ -68,14 +69,14 @@ names_apart q n small = record {
 
 -- members of places that there are, in a cell where no place has too much
 each_member : (q : List ℕ) (places transitions : List (List ℕ)) (all : List Step) (cell : Cell) (n i : ℕ) (ws : List ℕ) (ms : List Member) → AreMembers q i ws ms → i + length ws ≤ n
-    → ((j : ℕ) → j < n → Contains places (place_name q j) × (total cell (place_name q j) all ≤ largest))
+    → ((j : ℕ) → j < n → Contains places (place_name q j) × (total cell (place_name q j) all ≤ greatest))
     → Each (IsFine places transitions all) (map (adds cell) ms)
 each_member q places transitions all cell n i [] ms are few fine = subst (λ l. Each (IsFine places transitions all) (map (adds cell) l)) (sym are) tt
 each_member q places transitions all cell n i (w ∷ ws) ms (inl skip) few fine = each_member q places transitions all cell n (i + 1) ws ms skip.1 (omega arith) fine
 each_member q places transitions all cell n i (w ∷ ws) ms (inr (m, more, is, text, count, rest)) few fine =
     let here = fine i (omega arith) in
     subst (λ l. Each (IsFine places transitions all) (map (adds cell) l)) (sym is) (
-      subst (λ name. Contains places name × (total cell name all ≤ largest)) (sym text) here,
+      subst (λ name. Contains places name × (total cell name all ≤ greatest)) (sym text) here,
       each_member q places transitions all cell n (i + 1) ws more rest (omega arith) fine,
     )
 
@@ -112,28 +113,28 @@ module _ (q : List ℕ) (lts : System) (net : Net) (d : Declared) (formed : IsWe
       → (length (get_or net.places j no_place).pre ≡ net.labels) × (length (get_or net.places j no_place).post ≡ net.labels)
   weights_at j lt = All-get_or (λ (p : Place). (length p.pre ≡ net.labels) × (length p.post ≡ net.labels)) net.places j no_place lt range.weights
 
-  fine_start : (j : ℕ) → j < length net.places → total start (place_name q j) (steps d) ≤ largest
+  fine_start : (j : ℕ) → j < length net.places → total start (place_name q j) (steps d) ≤ greatest
   fine_start j lt =
       let e = sum_start j lt ∙ get_or-map (λ (p : Place). p.start) net.places j no_place 0 lt in
       let h = (place_in_range j lt).start in
       omega arith
 
   fine_taken : (j : ℕ) → j < length net.places → (k : ℕ) (label : List ℕ) → slice_get lts.label_names k ≡ Some label
-      → total (taken label) (place_name q j) (steps d) ≤ largest
+      → total (taken label) (place_name q j) (steps d) ≤ greatest
   fine_taken j lt k label at =
       let e = sum_taken j lt k label at ∙ get_or-map (λ (p : Place). pre_weight p k) net.places j no_place 0 lt in
       let less = slice_get_within lts.label_names k label at in
       let w = weights_at j lt in
-      let h = All-get_or (λ n. n ≤ largest) (get_or net.places j no_place).pre k 0 (omega (arith, w.0, same)) (place_in_range j lt).pre in
+      let h = All-get_or (λ n. n ≤ greatest) (get_or net.places j no_place).pre k 0 (omega (arith, w.0, same)) (place_in_range j lt).pre in
       omega arith
 
   fine_put : (j : ℕ) → j < length net.places → (k : ℕ) (label : List ℕ) → slice_get lts.label_names k ≡ Some label
-      → total (put label) (place_name q j) (steps d) ≤ largest
+      → total (put label) (place_name q j) (steps d) ≤ greatest
   fine_put j lt k label at =
       let e = sum_put j lt k label at ∙ get_or-map (λ (p : Place). post_weight p k) net.places j no_place 0 lt in
       let less = slice_get_within lts.label_names k label at in
       let w = weights_at j lt in
-      let h = All-get_or (λ n. n ≤ largest) (get_or net.places j no_place).post k 0 (omega (arith, w.1, same)) (place_in_range j lt).post in
+      let h = All-get_or (λ n. n ≤ greatest) (get_or net.places j no_place).post k 0 (omega (arith, w.1, same)) (place_in_range j lt).post in
       omega arith
 
   place_known : (j : ℕ) → j < length net.places → Contains (place_names d) (place_name q j)

@@ -12,7 +12,8 @@ use Rattle.rg_lexer.proofs.Printed.{reads_lexemes}
 use Rattle.rg_lts.specs.WellFormed.{IsWellFormed}
 use Rattle.rg_items.specs.Entry.{Entry}
 use Rattle.rg_items.proofs.Printed.{bare, lexeme_text}
-use Rattle.rg_net.specs.Range.{IsNetInRange, IsPlaceInRange, largest}
+use Rattle.rg_net.specs.Range.{IsNetInRange, IsPlaceInRange}
+use Rattle.rg_integers.specs.Range.{greatest}
 use Rattle.rg_net.specs.NetText.{place_name, place_prefix, net_text}
 use Rattle.rg_netitems.specs.Item.{Item, AreItems}
 use Rattle.rg_netitems.specs.Item as item
@@ -124,12 +125,12 @@ items_of q lts net xs (type_word, after_type, type_kind, type_text, (name, after
       });
     }
 
-small_weights : (net : Net) → IsNetInRange net → (f : Place → ℕ) → ((p : Place) → IsPlaceInRange p → f p ≤ largest) → All (λ w. w < 10 ^ 64) (map f net.places)
+small_weights : (net : Net) → IsNetInRange net → (f : Place → ℕ) → ((p : Place) → IsPlaceInRange p → f p ≤ greatest) → All (λ w. w < 10 ^ 64) (map f net.places)
 small_weights net range f below =
     All-map (λ w. w < 10 ^ 64) f net.places (All-weaker IsPlaceInRange (λ p. f p < 10 ^ 64) (λ p in'. let h = below p in' in omega arith) net.places range.places)
 
 -- a weight of a list in range, past its end too
-weight_below : (ws : List ℕ) (t : ℕ) → All (λ w. w ≤ largest) ws → get_or ws t 0 ≤ largest
+weight_below : (ws : List ℕ) (t : ℕ) → All (λ w. w ≤ greatest) ws → get_or ws t 0 ≤ greatest
 weight_below [] t all = omega arith
 weight_below (w ∷ ws) zero all = all 0 0 (omega arith)
 weight_below (w ∷ ws) (suc t) all = weight_below ws t (λ k d lt. all (suc k) d (omega arith))

@@ -4,7 +4,8 @@ use Rattle.std.proofs.lemmas.List.{map-set, length-map, length-set, get_or-map, 
 use Rattle.std.proofs.lemmas.List.Elements.{All-set, All-get_or, All-replicate}
 use Rattle.std.proofs.lemmas.Option.{slice_get-get_or}
 use Rattle.rg_theory.specs.Net.{Place as PlaceOfTheory, Net, IsPlaceAt}
-use Rattle.rg_net.specs.Range.{IsNetInRange, IsPlaceInRange, largest}
+use Rattle.rg_net.specs.Range.{IsNetInRange, IsPlaceInRange}
+use Rattle.rg_integers.specs.Range.{greatest}
 use Rattle.rg_net.specs.Shown.{shown_place}
 use Rattle.rg_net.specs.declared.net.Place.{Place}
 use Rattle.rg_netfile.specs.declared.slot.Slot.{Slot}
@@ -21,8 +22,8 @@ zeros_in_range labels count places is few = subst (λ ps. IsNetInRange (record {
       (length-replicate labels 0, length-replicate labels 0);
   places = All-replicate IsPlaceInRange count (zero_place labels) (record {
     start = omega arith;
-    pre = All-replicate (λ w. w ≤ largest) labels 0 (omega arith);
-    post = All-replicate (λ w. w ≤ largest) labels 0 (omega arith);
+    pre = All-replicate (λ w. w ≤ greatest) labels 0 (omega arith);
+    post = All-replicate (λ w. w ≤ greatest) labels 0 (omega arith);
   });
   few = omega (arith, length-replicate count (zero_place labels));
 })

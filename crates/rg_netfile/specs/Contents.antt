@@ -7,7 +7,7 @@ use Rattle.rg_theory.specs.System.{System, labels}
 use Rattle.rg_theory.specs.Net.{Place, Net, HasAllWeights, IsPlaceAt, pre_weight, post_weight}
 use Rattle.rg_lexer.specs.Lexeme.{Lexeme}
 use Rattle.rg_text.specs.Faults.{faults_after, if_not}
-use Rattle.rg_net.specs.Range.{largest}
+use Rattle.rg_integers.specs.Range.{greatest}
 use Rattle.rg_netitems.specs.Item.{Member, Flow}
 use Rattle.rg_netitems.specs.Contents.{Transition, Declared}
 use Rattle.rg_netfile.specs.declared.fault.NetFault.{NetFault}
@@ -96,9 +96,9 @@ abbrev pub step_fault : List (List ℕ) → List (List ℕ) → List Step → St
 step_fault places transitions before (flow_of name) =
     if is_among transitions name.text then None else Some (UnknownTransition name.at)
 step_fault places transitions before (adds cell m) =
-    if nat_lt largest (count_of m.number) then Some (NumberPasses (member_at m))
+    if nat_lt greatest (count_of m.number) then Some (NumberPasses (member_at m))
     else (if not (is_among places m.place.text) then Some (UnknownPlace m.place.at)
-    else (if nat_lt largest (total cell m.place.text before + count_of m.number) then Some (NumberPasses (member_at m))
+    else (if nat_lt greatest (total cell m.place.text before + count_of m.number) then Some (NumberPasses (member_at m))
     else None))
 
 -- what may be wrong with the names of places and transitions, and with the transitions' labels

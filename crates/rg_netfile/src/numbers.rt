@@ -2,7 +2,7 @@
 ghost use Rattle.std.specs.Prelude.{◌≡◌, ℕ, List, ◌<◌, ◌≤◌, MatchOption, MatchResult};
 ghost use Rattle.std.specs.Str.Parse.{digits_value};
 ghost use Rattle.rg_lexer.specs.Lexeme.{lexeme};
-ghost use Rattle.rg_net.specs.Range.{largest};
+ghost use Rattle.rg_integers.specs.Range.{greatest};
 ghost use Rattle.rg_netitems.specs.FoundView.{IsNumberOf, IsMemberOf, member_in};
 ghost use Rattle.rg_netfile.specs.Contents.{count_of, member_at};
 ghost use Rattle.rg_netfile.specs.declared.fault.NetFault.TheVariants as fault;
@@ -13,10 +13,10 @@ use rg_items::name_of;
 use rg_lexer::Token;
 use rg_netitems::FoundMember;
 
-// The value of a number; None where it is over the largest.
+// The value of a number; None where it is over the greatest.
 fn value_of(bytes: &[u8], number: Token) -> Option<u128>
     requires { IsNumberOf bytes.now number }
-    ensures { MatchOption result (largest < digits_value 10 (lexeme bytes.now number).text) (λ n. (n ≡ digits_value 10 (lexeme bytes.now number).text) × (n ≤ largest)) }
+    ensures { MatchOption result (greatest < digits_value 10 (lexeme bytes.now number).text) (λ n. (n ≡ digits_value 10 (lexeme bytes.now number).text) × (n ≤ greatest)) }
 {
     match name_of(bytes, number).parse::<u128>() {
         Ok(n) if n <= LARGEST => Some(n),
@@ -34,11 +34,11 @@ pub(crate) fn member_at(member: FoundMember) -> u32
     }
 }
 
-// How many tokens a member stands for. `NumberPasses` where its number is over the largest.
+// How many tokens a member stands for. `NumberPasses` where its number is over the greatest.
 pub(crate) fn count_of(bytes: &[u8], member: FoundMember) -> Result<u128, NetFault>
     requires { IsMemberOf bytes.now member }
-    ensures { MatchResult result (λ n. (n ≡ count_of (member_in bytes.now member).number) × (n ≤ largest))
-        (λ f. (f ≡ fault.NumberPasses (member_at (member_in bytes.now member))) × (largest < count_of (member_in bytes.now member).number)) }
+    ensures { MatchResult result (λ n. (n ≡ count_of (member_in bytes.now member).number) × (n ≤ greatest))
+        (λ f. (f ≡ fault.NumberPasses (member_at (member_in bytes.now member))) × (greatest < count_of (member_in bytes.now member).number)) }
 {
     match member.number {
         None => Ok(1),

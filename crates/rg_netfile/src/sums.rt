@@ -1,7 +1,8 @@
 //! Nets whose numbers grow.
 ghost use Rattle.std.specs.Prelude.{◌≡◌, ℕ, ◌+◌, ◌<◌, ◌≤◌, length, map, replicate, IfOk, IfErr, OnOk, OnErr};
 ghost use Rattle.rg_theory.specs.Net.{Net as NetOfTheory};
-ghost use Rattle.rg_net.specs.Range.{IsNetInRange, IsPlaceInRange, largest};
+ghost use Rattle.rg_net.specs.Range.{IsNetInRange, IsPlaceInRange};
+ghost use Rattle.rg_integers.specs.Range.{greatest};
 ghost use Rattle.rg_net.specs.Shown.{shown_place};
 ghost use Rattle.rg_netfile.specs.Built.{number_in, with_more, IsSlotIn, AddsTo, IsOver, IsWithin};
 ghost use Rattle.rg_netfile.specs.declared.fault.NetFault.TheVariants as fault;
@@ -12,7 +13,7 @@ use rg_net::{Net, Place};
 use std::alloc::Global;
 use std::marker::Model;
 
-/// The largest number of a net.
+/// The greatest number of a net.
 pub(crate) const LARGEST: u128 = 170_141_183_460_469_231_731_687_303_715_884_105_727;
 
 /// A net whose numbers grow with each member of a flow or marking.
@@ -44,14 +45,14 @@ impl Sums {
         Ok(Sums { labels, places })
     }
 
-    /// Adds tokens to a number of place `i`. `NumberPasses` where it would pass the largest number.
+    /// Adds tokens to a number of place `i`. `NumberPasses` where it would pass the greatest number.
     pub(crate) fn add(&mut self, i: usize, slot: Slot, count: u128, at: u32) -> Result<(), NetFault>
         requires place { i < length self.old.places }
         requires slot { IsSlotIn self.old.labels slot }
         ensures in_range { IsNetInRange self.old }
         ensures ok { OnOk result (AddsTo self.old i slot count self.new) }
-        ensures within { OnOk result (IsWithin self.old i slot count largest) }
-        ensures fault { IfErr result (λ f. (f ≡ fault.NumberPasses at) × IsOver self.old i slot count largest) }
+        ensures within { OnOk result (IsWithin self.old i slot count greatest) }
+        ensures fault { IfErr result (λ f. (f ≡ fault.NumberPasses at) × IsOver self.old i slot count greatest) }
     {
         add_to(&mut self.places[i], slot, count, at)
     }
@@ -86,9 +87,9 @@ fn add_to(place: &mut Place, slot: Slot, count: u128, at: u32) -> Result<(), Net
     requires post { IsSlotIn (length place.old.post.items) slot }
     requires in_range { IsPlaceInRange (shown_place place.old) }
     ensures ok { OnOk result (shown_place place.new ≡ with_more (shown_place place.old) slot count) }
-    ensures within { OnOk result (number_in (shown_place place.old) slot + count ≤ largest) }
+    ensures within { OnOk result (number_in (shown_place place.old) slot + count ≤ greatest) }
     ensures in_range { IsPlaceInRange (shown_place place.new) }
-    ensures fault { IfErr result (λ f. (f ≡ fault.NumberPasses at) × (largest < number_in (shown_place place.old) slot + count)) }
+    ensures fault { IfErr result (λ f. (f ≡ fault.NumberPasses at) × (greatest < number_in (shown_place place.old) slot + count)) }
     ensures err { OnErr result (place.new ≡ place.old) }
     ensures pre_stays { length place.new.pre.items ≡ length place.old.pre.items }
     ensures post_stays { length place.new.post.items ≡ length place.old.post.items }
@@ -101,11 +102,11 @@ fn add_to(place: &mut Place, slot: Slot, count: u128, at: u32) -> Result<(), Net
     Ok(())
 }
 
-// The sum of two numbers. `NumberPasses` where it passes the largest number.
+// The sum of two numbers. `NumberPasses` where it passes the greatest number.
 fn sum(a: u128, b: u128, at: u32) -> Result<u128, NetFault>
-    requires { a ≤ largest }
-    ensures ok { IfOk result (λ n. (n ≡ a + b) × (n ≤ largest)) }
-    ensures fault { IfErr result (λ f. (f ≡ fault.NumberPasses at) × (largest < a + b)) }
+    requires { a ≤ greatest }
+    ensures ok { IfOk result (λ n. (n ≡ a + b) × (n ≤ greatest)) }
+    ensures fault { IfErr result (λ f. (f ≡ fault.NumberPasses at) × (greatest < a + b)) }
 {
     if LARGEST - a < b {
         return Err(NetFault::NumberPasses(at));

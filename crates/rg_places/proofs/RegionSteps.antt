@@ -11,7 +11,7 @@ use Rattle.rg_theory.specs.Region.{RegionIn}
 use Rattle.rg_theory.specs.Problem.{Separates}
 use Rattle.rg_fraction.specs.declared.fraction.Fraction.{Fraction}
 use Rattle.rg_linear.specs.Cycle.{CycleBasis}
-use Rattle.rg_net.specs.Range.{largest}
+use Rattle.rg_integers.specs.Range.{greatest}
 use Rattle.rg_net.specs.Shown.{shown_place}
 use Rattle.rg_order_of_work.specs.Fold.{Ratio}
 use Rattle.rg_order_of_work.specs.Rewriting.{column_count}
@@ -54,8 +54,8 @@ module _ (lts : System) (tree : List Arc) (basis : CycleBasis) (class : Class) (
       same : region_tokens r ≡ tokens_of m.numbers
       same = fun_ext at
 
-      few : All (λ n. n ≤ largest) r.tokens.items
-      few k d lt = subst (λ n. n ≤ largest) (sym (get_or_default r.tokens.items k d 0 lt ∙ at k)) (m.fit.tokens k)
+      few : All (λ n. n ≤ greatest) r.tokens.items
+      few k d lt = subst (λ n. n ≤ greatest) (sym (get_or_default r.tokens.items k d 0 lt ∙ at k)) (m.fit.tokens k)
 
   pub region_made : length point ≡ column_count lts basis class → class.plain ≡ false → IsNone class.bound → IsLive lts problem → SolvesCase lts tree basis class problem point → numbers_fold lts tree basis class (point_start class point) (point_value lts basis class point) (Ok numbers) → place_fold lts tree basis class problem (point_start class point) (point_value lts basis class point) (Ok (shown_place r.place)) → r.tokens.items ≡ map (λ n. unsigned_abs n.top) numbers → length numbers ≡ states lts → IsRegionPlace lts class r × PlaceSeparates problem r
   region_made columns plain bound live s made fold tokens count = region_of made tokens count (weights_of_all lts tree basis class problem (point_start class point) (point_value lts basis class point) (shown_place r.place) fold)

@@ -8,7 +8,8 @@ use Rattle.rg_theory.specs.declared.Problem.{Problem}
 use Rattle.rg_theory.specs.Problem.{Separates}
 use Rattle.rg_linear.specs.Cycle.{CycleBasis}
 use Rattle.rg_order_of_work.specs.Fold.{Ratio}
-use Rattle.rg_net.specs.Range.{largest, IsPlaceInRange}
+use Rattle.rg_net.specs.Range.{IsPlaceInRange}
+use Rattle.rg_integers.specs.Range.{greatest}
 use Rattle.rg_net.specs.Shown.{shown_place}
 use Rattle.rg_places.specs.declared.region_place.RegionPlace.{RegionPlace}
 use Rattle.rg_places.specs.Places.{numbers_fold}
@@ -24,7 +25,7 @@ pub record IsRegionPlace (lts : System) (class : Class) (r : RegionPlace) : Type
   pub post : length r.place.post.items ≡ labels lts
   pub region : RegionIn lts class (shown_place r.place) (region_tokens r)
   pub in_range : IsPlaceInRange (shown_place r.place)
-  pub few_tokens : All (λ n. n ≤ largest) r.tokens.items
+  pub few_tokens : All (λ n. n ≤ greatest) r.tokens.items
 
 -- the place separates the problem by its tokens
 abbrev pub PlaceSeparates : Problem → RegionPlace → Type 0

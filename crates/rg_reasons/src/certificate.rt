@@ -1,9 +1,10 @@
 //! Certificates that no net of a class solves a system.
 use rg_theory::{Arc, Class};
 
-/// A linear equation or inequality over the tokens `M(q)` at each state and the effect `E(t)` of each label, which
-/// holds of every region of the class that separates the problem. States and labels are the system's numbers.
-/// `Arc` says that its expression is 0, each other row that it is at least 0.
+/// A linear equation or inequality over the tokens `M(q)` at each state and the effect `E(t)` of each label. It holds of
+/// every region of the class that separates the problem; `Apart` and `Makes` hold in their case, and `Above` on its side
+/// of a split. States and labels are the system's numbers. `Arc` says that its expression is 0, each other row that it is
+/// at least 0.
 ///
 /// Where the rows come from: the systems of regions in Badouel, Bernardinello and Darondeau, Petri Net Synthesis.
 #[derive(Clone, Copy, Debug, PartialEq, Eq)]

@@ -12,7 +12,8 @@ use Rattle.rg_theory.specs.declared.Class.{Class}
 use Rattle.rg_theory.specs.declared.Problem.TheVariants.{Event}
 use Rattle.rg_theory.specs.Region.{RegionIn, blocking}
 use Rattle.rg_theory.proofs.Dead.{blocking_region}
-use Rattle.rg_net.specs.Range.{IsPlaceInRange, largest}
+use Rattle.rg_net.specs.Range.{IsPlaceInRange}
+use Rattle.rg_integers.specs.Range.{greatest}
 use Rattle.rg_net.specs.Shown.{shown_place}
 use Rattle.rg_places.specs.declared.region_place.RegionPlace.{RegionPlace}
 use Rattle.rg_places.specs.RegionPlaces.{region_tokens, IsRegionPlace, PlaceSeparates}
@@ -60,10 +61,10 @@ blocked_region lts class t r lt dead place tokens =
       region = blocked_in lts class t r lt dead place tokens;
       in_range = subst IsPlaceInRange (sym place) (record {
         start = omega arith;
-        pre = All-from_get_or (λ w. w ≤ largest) (blocking (labels lts) t).pre 0 (λ u lt'. (let h = (weights_small (labels lts) t lt u).0 in omega arith));
-        post = All-from_get_or (λ w. w ≤ largest) (blocking (labels lts) t).post 0 (λ u lt'. (let h = (weights_small (labels lts) t lt u).1 in omega arith));
+        pre = All-from_get_or (λ w. w ≤ greatest) (blocking (labels lts) t).pre 0 (λ u lt'. (let h = (weights_small (labels lts) t lt u).0 in omega arith));
+        post = All-from_get_or (λ w. w ≤ greatest) (blocking (labels lts) t).post 0 (λ u lt'. (let h = (weights_small (labels lts) t lt u).1 in omega arith));
       });
-      few_tokens = All-from_get_or (λ w. w ≤ largest) r.tokens.items 0 (λ u lt'. (let h = no_tokens (states lts) r.tokens.items tokens u in omega arith));
+      few_tokens = All-from_get_or (λ w. w ≤ greatest) r.tokens.items 0 (λ u lt'. (let h = no_tokens (states lts) r.tokens.items tokens u in omega arith));
     }
 
 pub blocked_separates : (lts : System) (s t : ℕ) (r : RegionPlace) → t < labels lts → shown_place r.place ≡ blocking (labels lts) t → r.tokens.items ≡ replicate (states lts) 0 → PlaceSeparates (Event s t) r

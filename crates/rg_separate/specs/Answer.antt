@@ -5,7 +5,8 @@ use Rattle.rg_theory.specs.Net.{Place}
 use Rattle.rg_theory.specs.declared.Class.{Class}
 use Rattle.rg_theory.specs.Region.{RegionIn}
 use Rattle.rg_theory.specs.Problem.{SeparateAll}
-use Rattle.rg_net.specs.Range.{largest, IsNetInRange}
+use Rattle.rg_net.specs.Range.{IsNetInRange}
+use Rattle.rg_integers.specs.Range.{greatest}
 use Rattle.rg_net.specs.declared.net.Place.{Place as PlaceOfCode}
 use Rattle.rg_reasons.specs.declared.certificate.Certificate.{Certificate}
 use Rattle.rg_net.specs.Shown.{shown_place}
@@ -26,7 +27,7 @@ pub record IsUnbranched (class : Class) : Type 0 where
 pub record IsNarrowRegion (lts : System) (class : Class) (p : Place) : Type 0 where
   pub m : ℕ → ℕ
   pub region : RegionIn lts class p m
-  pub narrow : (s : ℕ) → s < states lts → m s ≤ largest
+  pub narrow : (s : ℕ) → s < states lts → m s ≤ greatest
 
 -- the places are such regions, their numbers are in range, and they separate all problems
 pub record AreSeparating (lts : System) (class : Class) (places : List Place) : Type 0 where

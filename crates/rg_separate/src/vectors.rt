@@ -1,5 +1,6 @@
 //! The vectors of the chords.
 ghost use Rattle.std.specs.Prelude.{◌≡◌, ◌<◌, ◌≤◌, length, map, All, IfOk, if◌then◌else◌, pos, ◌+ℤ◌, ◌-ℤ◌};
+ghost use Rattle.rg_theory.specs.Limits.{most_arcs};
 ghost use Rattle.rg_theory.specs.System.{labels};
 ghost use Rattle.rg_theory.specs.Tree.{chord_entry};
 ghost use Rattle.rg_integers.specs.Range.{InRange};
@@ -20,7 +21,7 @@ pub(crate) fn chord_vectors(
 ) -> Result<Vec<Vec<i128>>, AllocError>
     requires { IsTreeOf lts.now tree.now }
     ensures vectors { IfOk result (λ v. numbers_in v.items ≡ chord_vectors lts.now tree.now.arcs) }
-    ensures few { IfOk result (λ v. length v.items ≤ 262144) }
+    ensures few { IfOk result (λ v. length v.items ≤ most_arcs) }
     ensures in_range { IfOk result (λ v. AreVectors (labels lts.now) (numbers_in v.items)) }
 {
     let labels = lts.labels();

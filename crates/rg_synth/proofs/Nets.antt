@@ -12,7 +12,8 @@ use Rattle.rg_theory.proofs.Classes.{yes_in_class}
 use Rattle.rg_theory.proofs.Closed.{stays_inside}
 use Rattle.rg_theory.proofs.Solution.{solution_of, places_are_regions, solved_reachable}
 use Rattle.rg_theory.proofs.Yes.{region_unique}
-use Rattle.rg_net.specs.Range.{largest, IsNetInRange}
+use Rattle.rg_net.specs.Range.{IsNetInRange}
+use Rattle.rg_integers.specs.Range.{greatest}
 use Rattle.rg_net.specs.NetText.{net_text}
 use Rattle.rg_refuting.proofs.Accepted.{accepted}
 use Rattle.rg_refuting.specs.Refutes.{Reason, Reason.unreachable, Reason.fork, Reason.refuted, Accepts}
@@ -42,14 +43,14 @@ regions_of : (lts : System) (class : Class) (places : List Place) → All (IsNar
 regions_of lts class places all i p lt = let narrow = all i p lt in (narrow.m, narrow.region)
 
 -- a reachable marking has no more tokens on a place than its region has at some state
-narrow_markings : (lts : System) (class : Class) (net : Net) → IsInRange lts → Solves net lts → All (IsNarrowRegion lts class) net.places → IsBounded net largest
+narrow_markings : (lts : System) (class : Class) (net : Net) → IsInRange lts → Solves net lts → All (IsNarrowRegion lts class) net.places → IsBounded net greatest
 narrow_markings lts class net fine sol each m reached i p at =
     let is = solution_of lts net fine sol in
     let (s, lt, e) = is.only m reached in
     let narrow = subst (IsNarrowRegion lts class) (get_or_from_slice_get net.places i p p at) (each i p (slice_get_within net.places i p at)) in
     let reach = solved_reachable lts net (marking_of sol.markings) fine sol.transitions is in
     let same : tokens (marking_of sol.markings s) i ≡ narrow.m s = region_unique lts p _ narrow.m (places_are_regions lts net (marking_of sol.markings) is i p at) narrow.region.region s (reach.each s lt) in
-    subst (λ n. n ≤ largest) (sym same ∙ ap (λ m. tokens m i) e) (narrow.narrow s lt)
+    subst (λ n. n ≤ greatest) (sym same ∙ ap (λ m. tokens m i) e) (narrow.narrow s lt)
 
 -- a net of what was found is an answer
 found : (class : Class) (lts : System) (net : Net) (status : Status) (out err : List ℕ) → IsFound class lts net → status ≡ Done → out ≡ net_text net lts → err ≡ [] → AnswersNet class lts status out err

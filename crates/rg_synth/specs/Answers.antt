@@ -6,7 +6,8 @@ use Rattle.rg_theory.specs.Net.{Net}
 use Rattle.rg_theory.specs.Solves.{Solves}
 use Rattle.rg_theory.specs.declared.Class.{Class}
 use Rattle.rg_theory.specs.Class.{IsBounded, InClass, NoNet}
-use Rattle.rg_net.specs.Range.{largest, IsNetInRange}
+use Rattle.rg_net.specs.Range.{IsNetInRange}
+use Rattle.rg_integers.specs.Range.{greatest}
 use Rattle.rg_net.specs.NetText.{net_text}
 use Rattle.rg_netfile.specs.Contents.{most_places}
 use Rattle.rg_netfile.specs.Spells.{Spells as NetSpells}
@@ -62,7 +63,7 @@ pub record IsNetText (class : Class) (lts : System) (out : List ℕ) : Type 0 wh
   pub in_range : IsNetInRange net
   pub solves : Solves net lts
   pub in_class : InClass net class
-  pub narrow : IsBounded net largest
+  pub narrow : IsBounded net greatest
   pub text : out ≡ net_text net lts
   pub spelled : length net.places ≤ most_places → NetSpells out lts net
 

@@ -1,6 +1,6 @@
 use Rattle.std.proofs.Common.{◌∷◌, [], ◌≤◌, Contains, Some, sym, ap, subst, ◌∙◌}
 use Rattle.std.proofs.lemmas.Result.{IfErr-weaker}
-use Rattle.rg_net.specs.Range.{largest}
+use Rattle.rg_integers.specs.Range.{greatest}
 use Rattle.rg_netitems.specs.FoundView.{member_in}
 use Rattle.rg_netfile.specs.declared.fault.NetFault.TheVariants.{NumberPasses}
 use Rattle.rg_netfile.specs.Contents.{adds}
@@ -41,5 +41,5 @@ pub returns-in-None-clause-fault : goal.returns-in-None-clause-fault
 returns-in-None-clause-fault c = λ cell for.
     let m = member_in c.args.bytes.now c.args.member in
     let count = c.in_ok-count.ensures in
-    place_stops c.args.known.now c.args.sums.now cell m (subst (λ n. n ≤ largest) count.0 count.1)
+    place_stops c.args.known.now c.args.sums.now cell m (subst (λ n. n ≤ greatest) count.0 count.1)
     (subst (λ n. Contains c.args.known.now.places n → ⊥) c.name_of.ensures.value c.in-None.ensures.none)
