@@ -69,10 +69,7 @@ fn the_first_fault(rt: HostRuntime) -> Result<(), Fail> {
     let lts = system(&rt, rt.alloc(), FORKED)?;
     for (text, first) in [
         ("", CertFault::Expected(1)),
-        (
-            "certificate 1\nclass safe,safe\n",
-            CertFault::Expected(2),
-        ),
+        ("certificate 1\nclass safe,safe\n", CertFault::Expected(2)),
         (
             "certificate 1\nclass none\nunreachable s9\n",
             CertFault::UnknownName(3),

@@ -9,4 +9,3 @@ pub use fork::first_fork;
 pub use rg_memory::NoMemory;
 pub use unreachable::first_unreachable;
 pub use walks::{Step, reach};
-
