@@ -33,7 +33,10 @@ fn a_stop_is_told_and_counted(rt: HostRuntime) -> Result<(), Fail> {
     };
     let row = expression(&lts, case, &[], RowName::Stop(2));
     assert_eq!(rt; row.constant, -1);
-    assert_eq!(rt; row.terms, [Some(Plus(Tokens(2))), Some(Minus(Tokens(1))), None]);
+    assert_eq!(rt;
+        row.terms,
+        [Some(Plus(Tokens(2))), Some(Minus(Tokens(1))), None]
+    );
     assert_eq!(rt; start(&row), 0);
     let side = [Side {
         form: Form::Effect(1),

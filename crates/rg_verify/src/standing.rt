@@ -22,7 +22,13 @@ pub(crate) fn stands(lts: &Lts, problem_case: ProblemCase, above: &[Side], name:
         Problem::Event(_, t) => event_stands(lts, problem_case.class, t, above, name),
         Problem::States(_, _) => match name {
             RowName::Apart => true,
-            _ => shared_stands(lts, problem_case.class, problem_case.consumer(lts), above, name),
+            _ => shared_stands(
+                lts,
+                problem_case.class,
+                problem_case.consumer(lts),
+                above,
+                name,
+            ),
         },
     }
 }

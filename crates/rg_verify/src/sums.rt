@@ -11,8 +11,8 @@ ghost use Rattle.rg_reasons.specs.Sums.{variable_of};
 
 use crate::opposites::row_expression;
 use crate::verdict::{Defect, comes_before};
-use rg_lts::Lts;
 use rg_integers::GREATEST;
+use rg_lts::Lts;
 use rg_memory::NoMemory;
 use rg_reasons::{Expression, ProblemCase, RowName, Side, Term, Variable};
 use std::alloc::{AllocError, AllocFailed, Global};
@@ -230,7 +230,10 @@ impl Sums {
         ensures passes { IfErr result (λ e. e ≡ stop.Passes → ¬ IsSmall (expression_in lts.now problem_case above.now) (map named_row rows.now)) }
     {
         for (name, multiplier) in rows {
-            self.add_row(&row_expression(lts, problem_case, above, *name), *multiplier)?;
+            self.add_row(
+                &row_expression(lts, problem_case, above, *name),
+                *multiplier,
+            )?;
         }
         Ok(())
     }
