@@ -1,10 +1,15 @@
 //! Places of points, worked by hand.
-ghost use Rattle.std.specs.Prelude.{◌≡◌};
+ghost use Rattle.std.specs.Prelude.{◌≡◌, length, IsTrue, IfOk};
+ghost use Rattle.rg_theory.specs.System.{labels};
+ghost use Rattle.rg_folds.specs.Rewriting.{column_count};
+ghost use Rattle.rg_cycles.specs.View.{labels_of, cycle_of};
 
 use crate::bases::basis;
 use crate::systems::{ABA, CHOICE, NONBRANCHING, NONE, PURE, SIDE, is_asked, system};
 use rg_columns::{Columns, has_start, used_labels};
+use rg_cycles::Basis;
 use rg_fraction::{FoldStop, Fraction, Wide};
+use rg_lts::Lts;
 use rg_places::{RegionPlace, make_place};
 use rg_spanning::Tree;
 use rg_theory::Class;
@@ -19,6 +24,21 @@ const LOCK: &str =
 // One b goes as far as two a.
 const TWICE: &str = ".type LTS .states s0[initial] s1 s2 .labels a b .arcs s0 a s1 s1 a s2 s0 b s2";
 
+// Whether the point has one number for each column.
+fn is_point(
+    alloc: Global,
+    lts: &Lts,
+    basis: &Basis,
+    class: Class,
+    point: &[Fraction],
+) -> Result<bool, AllocError>
+    requires { labels_of basis.now ≡ labels lts.now }
+    ensures { IfOk result (λ b. IsTrue b → length point.now ≡ column_count lts.now (cycle_of basis.now) class) }
+{
+    let columns = Columns::new(alloc, lts, class)?;
+    Ok(columns.count(basis) as usize == point.len())
+}
+
 // The place of a point that has one number for each column.
 fn placed(
     alloc: Global,
@@ -31,8 +51,7 @@ fn placed(
     let tree = Tree::grow(alloc, &lts)?;
     let basis = basis(alloc, &lts, &tree)?;
     let point = point(alloc, numbers)?;
-    let columns = Columns::new(alloc, &lts, class)?;
-    if columns.count(&basis) as usize != point.len() || !is_asked(&lts, problem) {
+    if !is_point(alloc, &lts, &basis, class, &point)? || !is_asked(&lts, problem) {
         return Err(Fail::from(AllocError));
     }
     Ok(make_place(alloc, &lts, &tree, &basis, class, problem, &point))
