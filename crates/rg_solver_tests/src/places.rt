@@ -1,7 +1,7 @@
 //! Places of points, worked by hand.
 ghost use Rattle.std.specs.Prelude.{◌≡◌, length, IsTrue, IfOk};
 ghost use Rattle.rg_theory.specs.System.{labels};
-ghost use Rattle.rg_folds.specs.Rewriting.{column_count};
+ghost use Rattle.rg_order_of_work.specs.Rewriting.{column_count};
 ghost use Rattle.rg_cycles.specs.View.{labels_of, cycle_of};
 
 use crate::bases::basis;
