@@ -1,10 +1,10 @@
 -- The states that can be reached are a closed set.
-use Rattle.std.proofs.Common.{◌≡◌, ◌≢◌, ◌↔◌, ℕ, ◌<◌, ◌==◌, ◌||◌, Bool, true, false, not, List, [], ◌∷◌, ◌++◌, Option, Some, None, is_some, length, get_or, slice_get, IsTrue, true≢false, refl, sym, ap, subst, ◌∙◌, arith}
+use Rattle.std.proofs.Common.{◌≡◌, ◌≢◌, ◌↔◌, ℕ, ◌<◌, ◌==◌, ◌||◌, Bool, true, false, not, List, Option, Some, None, is_some, length, get_or, slice_get, IsTrue, true≢false, refl, sym, ap, subst, ◌∙◌, arith}
 use Rattle.std.proofs.lemmas.List.Elements.{All-contains}
 use Rattle.std.proofs.lemmas.Option.{slice_get-get_or, slice_get_read, get_or_from_slice_get}
 use Rattle.std.proofs.lemmas.Bool.{false_from_ne_true}
 use Rattle.std.proofs.lemmas.Bool.Decides.{nat_tests}
-use Rattle.rg_theory.specs.System.{System, arc, states, IsInRange, IsArcInRange, HasArc, Leads, IsReachable, IsAllReachable, IsLeastUnreachable, IsClosedWithout}
+use Rattle.rg_theory.specs.System.{System, arc, states, IsInRange, IsArcInRange, HasArc, IsReachable, IsAllReachable, IsLeastUnreachable, IsClosedWithout}
 use Rattle.rg_theory.proofs.Closed.{stays_inside, reached_more}
 use Rattle.rg_checks.specs.declared.walks.Step.{Step}
 use Rattle.rg_checks.specs.Met.{AreSteps, is_met}

@@ -1,5 +1,5 @@
 -- The first state that isn't met is the least that can't be reached, and where there is none all can.
-use Rattle.std.proofs.Common.{not, sym, ◌∙◌, ap, arith}
+use Rattle.std.proofs.Common.{sym, ◌∙◌, arith}
 use Rattle.rg_checks.specs.Met.{is_met}
 use Rattle.rg_checks.proofs.Shutting.{least_unreachable, all_reachable, shut_out, told}
 use Rattle.rg_checks.proofs.unreachable.first_unmet.Goals as goal

@@ -1,7 +1,6 @@
 -- No state but the initial one is met.
 use Rattle.std.proofs.Common.{rules, ◌≡◌, ◌++◌, ◌∷◌, [], None, length, get_or, sym, ap, subst, ◌∙◌}
 use Rattle.std.proofs.lemmas.List.{length-replicate}
-use Rattle.rg_theory.specs.System.{states}
 use Rattle.rg_checks.proofs.Walking.{begun, none_everywhere}
 use Rattle.rg_checks.proofs.walks.begun.Goals as goal
 

@@ -1,10 +1,10 @@
 -- Each arc that leaves the state is followed.
-use Rattle.std.proofs.Common.{◌≡◌, ◌<◌, List, true, length, get_or, Contains, sym, ap, subst, ◌∙◌, arith}
+use Rattle.std.proofs.Common.{◌≡◌, true, get_or, sym, subst, arith}
 use Rattle.std.proofs.lemmas.List.Elements.{Contains-get_or}
 use Rattle.rg_theory.specs.declared.Arc.{Arc}
 use Rattle.rg_theory.specs.System.{arc}
 use Rattle.rg_checks.specs.Met.{is_met}
-use Rattle.rg_checks.proofs.Walking.{met_in_range, goes_nowhere, follows_more, IsFollowing}
+use Rattle.rg_checks.proofs.Walking.{met_in_range, follows_more}
 use Rattle.rg_checks.proofs.walks.follow.Goals as goal
 
 pub arcs_from-arc-items-requires : goal.arcs_from-arc-items-requires

@@ -1,7 +1,7 @@
 -- A state that isn't met is met by the arc, and waits.
-use Rattle.std.proofs.Common.{◌≡◌, ◌<◌, ◌++◌, ◌∷◌, [], List, ℕ, true, false, length, sym, ap, subst, ◌∙◌, arith}
+use Rattle.std.proofs.Common.{◌≡◌, false, length, sym, ap, subst, ◌∙◌, arith}
 use Rattle.std.proofs.lemmas.List.Elements.{All-contains}
-use Rattle.rg_theory.specs.System.{states, IsArcInRange}
+use Rattle.rg_theory.specs.System.{IsArcInRange}
 use Rattle.rg_checks.specs.Met.{is_met}
 use Rattle.rg_checks.specs.Walk.{IsWalk, GoesOn}
 use Rattle.rg_checks.proofs.Walking.{walk_more, goes_more, now_met}

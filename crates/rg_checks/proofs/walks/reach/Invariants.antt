@@ -1,5 +1,5 @@
 -- The walk goes on, and the arcs of each state that is met are followed, or it waits.
-use Rattle.std.proofs.Common.{ℕ, ◌+◌, length, is_none, count_by}
+use Rattle.std.proofs.Common.{◌+◌, length, is_none, count_by}
 use Rattle.rg_checks.specs.Walk.{IsWalk}
 use Rattle.rg_checks.proofs.Walking.{AreFollowed}
 use Rattle.rg_checks.proofs.walks.reach.Given as goal
