@@ -1,13 +1,7 @@
 -- Items of lists at their places.
 use Rattle.std.proofs.Common.{◌≡◌, ◌⊎◌, ℕ, ◌<◌, ◌≤◌, ◌+◌, List, ◌∷◌, drop, Option, Some, None, IfSome, map, length, slice_get, get_or, All, Bor, refl, sym, subst, ap, ◌∙◌, inl, inr, option_copied}
-use Rattle.std.specs.Slice.{IsGetResult}
-use Rattle.std.proofs.lemmas.Option.{slice_get_past, slice_get_read, slice_get_cases}
+use Rattle.std.proofs.lemmas.Option.{slice_get_cases}
 use Rattle.std.proofs.lemmas.List.{length-map, get_or-map, drop_more}
-
--- what `get` of a slice tells
-pub get_is : {X : Type 0} (xs : List X) (i : ℕ) (r : Option (Bor X)) → IsGetResult xs i i r → option_copied r ≡ slice_get xs i
-get_is xs i None told = sym (slice_get_past xs i told.3)
-get_is xs i (Some x) told = sym (slice_get_read xs (length xs) i x.now refl told.3.0 told.1)
 
 -- what holds of all items holds of the one at a place
 pub some_item : {X : Type 0} (P : X → Type 0) (xs : List X) (i : ℕ) → All P xs → IfSome (slice_get xs i) P
@@ -15,14 +9,6 @@ some_item P xs i each = by (slice_get_cases xs i).1
   where
     by : ((x : _) × (i < length xs) × (slice_get xs i ≡ Some x) × (get_or xs i x ≡ x)) ⊎ ((length xs ≤ i) × (slice_get xs i ≡ None)) → IfSome (slice_get xs i) P
     by (inl (x, lt, at, is)) = rw at (subst P is (each i x lt))
-    by (inr (past, none)) = rw none tt
-
--- what holds of all images holds of the image of the item at a place
-pub some_image : {X Y : Type 0} (P : Y → Type 0) (f : X → Y) (xs : List X) (i : ℕ) → All P (map f xs) → IfSome (slice_get xs i) (λ x. P (f x))
-some_image P f xs i each = by (slice_get_cases xs i).1
-  where
-    by : ((x : _) × (i < length xs) × (slice_get xs i ≡ Some x) × (get_or xs i x ≡ x)) ⊎ ((length xs ≤ i) × (slice_get xs i ≡ None)) → IfSome (slice_get xs i) (λ x. P (f x))
-    by (inl (x, lt, at, is)) = rw at (subst P (get_or-map f xs i x (f x) lt ∙ ap f is) (each i (f x) (rw length-map lt)))
     by (inr (past, none)) = rw none tt
 
 -- what holds of all images holds of the image of the item read at a place
