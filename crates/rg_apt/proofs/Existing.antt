@@ -1,12 +1,12 @@
 -- What is declared without a fault has a system.
-use Rattle.std.proofs.Common.{◌≡◌, ◌≢◌, ℕ, zero, suc, ◌+◌, ◌<◌, ◌⊎◌, inl, inr, ⊎_elim, Bool, true, false, cond, not, ◌&&◌, ◌||◌, nat_lt, nat_le, List, [], ◌∷◌, ◌++◌, length, get_or, slice_get, map, AllPairs, Option, None, Some, refl, sym, ap, subst, ◌∙◌, arith}
+use Rattle.std.proofs.Common.{◌≡◌, ◌≢◌, ℕ, zero, suc, ◌<◌, ◌⊎◌, inl, inr, ⊎_elim, Bool, true, false, cond, not, ◌&&◌, ◌||◌, nat_lt, nat_le, List, [], ◌∷◌, ◌++◌, length, get_or, slice_get, map, Option, None, Some, refl, sym, ap, subst, ◌∙◌, arith}
 use Rattle.std.specs.List.{list_any, position_or_len}
 use Rattle.std.specs.Str.{bytes_eq}
-use Rattle.std.proofs.lemmas.Bool.{or_cases, or_parts, cond-true, lt-ltb, both_ways, cases_order}
+use Rattle.std.proofs.lemmas.Bool.{or_cases, or_parts, cond-true, lt-ltb, both_ways}
 use Rattle.std.proofs.lemmas.Slice.Eq.{bytes_eq-Decides}
 use Rattle.rg_theory.specs.Limits.{most_states, most_labels, most_arcs}
 use Rattle.rg_theory.specs.declared.Arc.{Arc}
-use Rattle.rg_theory.specs.System.{System, IsArcBefore}
+use Rattle.rg_theory.specs.System.{System}
 use Rattle.rg_lts.proofs.OrderedArcs.{Has, has_from, contains_from, sorted_of, pairs_from}
 use Rattle.rg_lexer.specs.Lexeme.{Lexeme}
 use Rattle.rg_apt.specs.declared.fault.TextFault.{TextFault}

@@ -7,6 +7,25 @@ use rg_lts::{Arc, BuildFault, LtsBuilder};
 use std::alloc::Global;
 use std::test::Fail;
 
+// The arcs of a text that is read.
+const READ: [Arc; 3] = [
+    Arc {
+        from: 0,
+        label: 0,
+        to: 1,
+    },
+    Arc {
+        from: 0,
+        label: 1,
+        to: 1,
+    },
+    Arc {
+        from: 1,
+        label: 0,
+        to: 0,
+    },
+];
+
 // Texts with options, and their initial states.
 const INITIAL: [(&str, u32); 4] = [
     (".type TS .states a b[initial=true]", 1),
@@ -38,20 +57,16 @@ fn reads_a_system(rt: HostRuntime) -> Result<(), Fail> {
         rt.alloc(),
         b"/* a */ .name \"side\" .description \"\" .type LTS .states s0[initial=\"true\"] s1[final] // two\n.labels a[uncontrollable] b .arcs s1 a s0 s0 b s1 s0 a s1[x=y] s0 b s1",
     )?;
-    assert!(rt; lts.states() == 2 && lts.labels() == 2 && lts.initial() == 0);
-    assert!(rt; lts.state_name(1) == "s1" && lts.label_name(0) == "a");
-    assert!(rt; lts.state_number("s1") == Some(1) && lts.label_number("c") == None);
-    let arcs = [(0, 0, 1), (0, 1, 1), (1, 0, 0)];
-    assert_eq!(rt; lts.arcs().len(), arcs.len());
-    for (arc, (from, label, to)) in lts.arcs().iter().zip(arcs.as_slice()) {
-        let wanted = Arc {
-            from: *from,
-            label: *label,
-            to: *to,
-        };
-        assert!(rt; *arc == wanted, "{from} {label} {to}");
-    }
-    assert!(rt; lts.arc_at(1, 0) == Some(0) && lts.arc_at(1, 1) == None);
+    assert_eq!(rt; lts.states(), 2);
+    assert_eq!(rt; lts.labels(), 2);
+    assert_eq!(rt; lts.initial(), 0);
+    assert!(rt; lts.arc_at(1, 0) == Some(0));
+    assert!(rt; lts.arc_at(1, 1) == None);
+    assert!(rt; lts.state_name(1) == "s1");
+    assert!(rt; lts.label_name(0) == "a");
+    assert!(rt; lts.state_number("s1") == Some(1));
+    assert!(rt; lts.label_number("c") == None);
+    assert!(rt; lts.arcs() == READ.as_slice());
     lts.is_well_formed();
     Ok(())
 }
