@@ -8,7 +8,7 @@ ghost use Rattle.rg_netfile.specs.Contents.{count_of, member_at};
 ghost use Rattle.rg_netfile.specs.declared.fault.NetFault.TheVariants as fault;
 
 use crate::fault::NetFault;
-use crate::sums::LARGEST;
+use crate::sums::GREATEST_WEIGHT;
 use rg_items::name_of;
 use rg_lexer::Token;
 use rg_netitems::FoundMember;
@@ -19,7 +19,7 @@ fn value_of(bytes: &[u8], number: Token) -> Option<u128>
     ensures { MatchOption result (greatest < digits_value 10 (lexeme bytes.now number).text) (λ n. (n ≡ digits_value 10 (lexeme bytes.now number).text) × (n ≤ greatest)) }
 {
     match name_of(bytes, number).parse::<u128>() {
-        Ok(n) if n <= LARGEST => Some(n),
+        Ok(n) if n <= GREATEST_WEIGHT => Some(n),
         _ => None,
     }
 }

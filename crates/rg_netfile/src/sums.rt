@@ -9,12 +9,13 @@ ghost use Rattle.rg_netfile.specs.declared.fault.NetFault.TheVariants as fault;
 
 use crate::fault::NetFault;
 use crate::slot::Slot;
+use rg_integers::GREATEST;
 use rg_net::{Net, Place};
 use std::alloc::Global;
 use std::marker::Model;
 
 /// The greatest number of a net.
-pub(crate) const LARGEST: u128 = 170_141_183_460_469_231_731_687_303_715_884_105_727;
+pub(crate) const GREATEST_WEIGHT: u128 = GREATEST as u128;
 
 /// A net whose numbers grow with each member of a flow or marking.
 #[derive(Drop)]
@@ -108,7 +109,7 @@ fn sum(a: u128, b: u128, at: u32) -> Result<u128, NetFault>
     ensures ok { IfOk result (λ n. (n ≡ a + b) × (n ≤ greatest)) }
     ensures fault { IfErr result (λ f. (f ≡ fault.NumberPasses at) × (greatest < a + b)) }
 {
-    if LARGEST - a < b {
+    if GREATEST_WEIGHT - a < b {
         return Err(NetFault::NumberPasses(at));
     }
     Ok(a + b)
