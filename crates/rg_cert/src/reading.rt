@@ -32,8 +32,7 @@ pub fn read(alloc: Global, bytes: &[u8], lts: &Lts) -> Result<Certificate, CertF
     ensures in_range { IfOk result (λ cert. IsCertificateOf lts.now cert) }
     ensures fault { IfErr result (λ e. e ≢ fault.NoMemory → FirstFault bytes.now lts.now e) }
 {
-    // the states are counted because the contract says that the names are right
-    let _states = lts.states();
+    lts.is_well_formed();
     let rest = after_heading(bytes)?;
     let (class, rest) = class_line(rest)?;
     let (head, rest) = head_line(alloc, rest, lts)?;

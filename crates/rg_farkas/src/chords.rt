@@ -66,7 +66,7 @@ pub(crate) fn chord_arcs(
     requires used { used.now ≡ used_chords lts.now (cycle_of basis.now) }
     ensures { IfOk result (λ v. v.items ≡ chord_arcs lts.now tree.now.arcs (cycle_of basis.now)) }
 {
-    let _arcs = lts.arcs();
+    lts.is_well_formed();
     let mut arcs = Vec::new(alloc);
     for &chord in used {
         let place = basis.kept()[chord as usize];
@@ -141,7 +141,7 @@ fn chord_term(lts: &Lts, basis: &Basis, pair: &Counted, chord: u32) -> Result<Fr
     requires member { Contains (cycle_of basis.now).members (labels lts.now + chord) }
     ensures { count_fold (cycle_of basis.now) (labels lts.now + chord) (counted_of pair.now) (shown_result ratio_of result) }
 {
-    let _labels = lts.labels();
+    lts.is_well_formed();
     let Some(relation) = basis.relation(pair.label) else {
         unreachable!()
     };

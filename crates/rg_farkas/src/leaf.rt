@@ -63,7 +63,7 @@ pub fn spread(
     ensures in_range { IfOk result (λ node. IsNodeOf lts.now (node_of node)) }
     ensures wide { (w : Wide) → IsErrOf result (stop.Wide w) → leaf_fold lts.now tree.now.arcs (cycle_of basis.now) (row_expression lts.now class problem case (map side_of above.now)) (map share_of named.now) (Err w) }
 {
-    let _arcs = lts.arcs();
+    lts.is_well_formed();
     let case = ProblemCase {
         class,
         problem,

@@ -99,8 +99,7 @@ fn reason(lts: &Lts, class: Class, problem: Problem, cases: Vec<Case>) -> Reason
     requires refuted { (i : ℕ) (case : Case) → slice_get cases.items i ≡ Some case → RefutesCase lts.now class problem i case }
     ensures { IsGoodReason lts.now class result }
 {
-    // the number of labels is asked for because its contract says that the system's numbers are in range
-    let _labels = lts.labels();
+    lts.is_well_formed();
     match problem {
         Problem::States(s, other) => Reason::States(s, other, cases),
         Problem::Event(s, t) => match cases.into_iter().next() {

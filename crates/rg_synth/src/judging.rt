@@ -54,8 +54,7 @@ fn certificate_answer<H: Shelf>(
     ensures ok { IfOk result (λ a. AnswersCertificate (H.files shelf.old) cert.now lts.now a.status a.out.items a.err.items) }
     ensures fault { IsErrOf result stop.ReadFault → HasRisen (H.faults shelf.old) (H.faults shelf.new) }
 {
-    // the number of labels is asked for because its contract says that the system is well formed
-    let _labels = lts.labels();
+    lts.is_well_formed();
     match read_all(alloc, shelf, cert, MOST_BYTES) {
         Ok(bytes) => Ok(bytes_answer(alloc, lts, &bytes)?),
         Err(ReadStop::Missing) => Ok(file_refusal(alloc, 2, Fault::Missing)?),

@@ -52,8 +52,7 @@ fn system_answer(alloc: Global, class: Class, lts: &Lts) -> Result<Answer, Alloc
     requires { HasBoundInRange class }
     ensures { IfOk result (λ a. AnswersNet class lts.now a.status a.out.items a.err.items) }
 {
-    // the number of labels is asked for because its contract says that the system's numbers are in range
-    let _labels = lts.labels();
+    lts.is_well_formed();
     match first_unreachable(alloc, lts) {
         Ok(None) => match first_fork(lts) {
             None => open_answer(alloc, class, lts),

@@ -22,7 +22,7 @@ returns-in_err-cases-clause-fault c =
     let named = c.in_ok-class.ensures.ok in
     let p = err_from_is_err_and c.from_residual-in_err-cases.result c.from_residual-in_err-cases.ensures.1 in
     rw (p.1, p.2) (λ real. fault_four c.args.bytes.now c.args.lts.now named.0 c.in_ok-class.class c.in_ok-rest.rest.now c.in_ok-class.rest.now
-    (head_in c.in_ok-head.head) c.in_ok-head.rest.now _ c.states-states.ensures.well_formed
+    (head_in c.in_ok-head.head) c.in_ok-head.rest.now _ c.is_well_formed.ensures
     c.in_ok-rest.ensures.ok named.1 named.2 c.in_ok-head.ensures.ok (c.in_err-cases.ensures.err real))
 
 pub returns-clause-spelled : goal.returns-clause-spelled

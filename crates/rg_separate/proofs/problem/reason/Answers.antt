@@ -11,7 +11,7 @@ pub returns-in-States : goal.returns-in-States
 returns-in-States c =
     let lts = c.args.lts.now in
     let class = c.args.class in
-    refuted_all lts class c.in-States.s c.in-States.other c.args.cases c.labels-labels.ensures.well_formed.in_range c.requires.reachable c.requires.bound
+    refuted_all lts class c.in-States.s c.in-States.other c.args.cases c.is_well_formed.ensures.in_range c.requires.reachable c.requires.bound
     (subst (IsProblem lts) c.in-States.is c.requires.has)
     (subst (λ (p : Problem). length c.args.cases.items ≡ cases_of lts class p) c.in-States.is c.requires.all)
     (subst (λ (p : Problem). (i : ℕ) (case : Case) → slice_get c.args.cases.items i ≡ Some case → RefutesCase lts class p i case) c.in-States.is c.requires.refuted)
