@@ -19,7 +19,7 @@ use Rattle.rg_reasons.specs.Trees.{TreeNode, leaf_node, split_node, preorder}
 use Rattle.rg_reasons.specs.Certificates.{IsRowOf, IsNodeOf, IsTreeOf, IsReasonOf}
 use Rattle.rg_cert.specs.Text.{state_name, label_name, named_fields, form_fields, node_lines, case_lines, reason_lines, spaced, cert_lines}
 use Rattle.rg_cert.specs.Lines.{HasFieldForm, AreAsked, LineForm, heading_line, class_line, unreachable_line, fork_line, event_line, states_line, case_line, split_tokens_line, split_effect_line, leaf_line, row_line, end_line, arc_form, tokens_form, cap_form, up_form, down_form, makes_form, stop_form, block_form, empty_form, full_form, keep_form, apart_form, above_form, fields_of, Count, one, several, Position, at_heading, at_class, at_reason, at_last, at_one_case, at_cases, at_node, at_row, at_end, to, follows}
-use Rattle.rg_cert.specs.Faults.{IsRight, Leads, LeadAll}
+use Rattle.rg_cert.specs.Faults.{IsRight, LineLeads, LinesLead}
 use Rattle.rg_cert.specs.Drafts.{Head, of_unreachable, of_fork, of_event, of_states, head_fields, IsHeadOf, after_head}
 use Rattle.rg_cert.proofs.Decimal.{written_numeral}
 use Rattle.rg_cert.proofs.LineTexts.{fields_are}
@@ -31,7 +31,7 @@ pub record TextsLead (lts : System) (position : Position) (texts : List (List �
   pub right : IsRight lts form texts
   pub leads : follows position form ≡ to next
 
-pub lead_of : (lts : System) (position : Position) (texts : List (List ℕ)) (next : Position) → TextsLead lts position texts next → Leads lts position (spaced texts) next
+pub lead_of : (lts : System) (position : Position) (texts : List (List ℕ)) (next : Position) → TextsLead lts position texts next → LineLeads lts position (spaced texts) next
 lead_of lts position texts next is = record { form = is.form; texts = texts; has = record { fields = is.fields; spelled = refl }; right = is.right; leads = is.leads }
 
 -- lines with these texts, one after the other
@@ -39,7 +39,7 @@ abbrev pub TextsLeadAll : System → Position → List (List (List ℕ)) → Pos
 TextsLeadAll lts position [] last = position ≡ last
 TextsLeadAll lts position (texts ∷ more) last = (next : Position) × TextsLead lts position texts next × TextsLeadAll lts next more last
 
-pub lead_all_of : (lts : System) (position : Position) (lines : List (List (List ℕ))) (last : Position) → TextsLeadAll lts position lines last → LeadAll lts position (map spaced lines) last
+pub lead_all_of : (lts : System) (position : Position) (lines : List (List (List ℕ))) (last : Position) → TextsLeadAll lts position lines last → LinesLead lts position (map spaced lines) last
 lead_all_of lts position [] last same = same
 lead_all_of lts position (texts ∷ more) last (next, first, rest) = (next, lead_of lts position texts next first, lead_all_of lts next more last rest)
 

@@ -6,7 +6,7 @@ use Rattle.rg_theory.specs.System.{System}
 use Rattle.rg_cert.specs.declared.fault.CertFault.{CertFault}
 use Rattle.rg_cert.specs.Text.{spaced}
 use Rattle.rg_cert.specs.Lines.{LineForm, Position, at_end}
-use Rattle.rg_cert.specs.Faults.{GoesOn, IsFaultAt, FaultFrom}
+use Rattle.rg_cert.specs.Faults.{TextGoesOn, IsFaultAt, FaultFrom}
 use Rattle.rg_cert.specs.Drafts.{Head, of_unreachable, of_fork, of_event, of_states, after_head, Draft, blank, Adds, draft_lines, IsDraftAt, IsNextLine, AreCasesOf}
 use Rattle.rg_cert.proofs.Walks.{start, goes_more, count_before}
 use Rattle.rg_cert.proofs.DraftSteps.{drafted}
@@ -14,7 +14,7 @@ use Rattle.rg_cert.proofs.DraftSteps.{drafted}
 -- the lines so far, which are those of the draft
 pub record IsReading (lts : System) (head : Head) (text : List ℕ) (position : Position) (d : Draft) (rest : List ℕ) (number : ℕ) : Type 0 where
   pub before : List (List ℕ)
-  pub goes_on : GoesOn lts (after_head head) text before position rest
+  pub goes_on : TextGoesOn lts (after_head head) text before position rest
   pub count : number ≡ length before + 4
   pub draft : IsDraftAt lts head position d
   pub lines : before ≡ map spaced (draft_lines lts position d)

@@ -10,7 +10,7 @@ use Rattle.rg_reasons.specs.Certificates.{Claim}
 use Rattle.rg_cert.specs.Text.{spaced}
 use Rattle.rg_cert.specs.Spells.{Spells}
 use Rattle.rg_cert.specs.Lines.{leaf_line, case_line, Count, one, several, Position, at_heading, at_class, at_reason, at_last, at_one_case, at_cases, at_node, at_row, at_end, to, follows}
-use Rattle.rg_cert.specs.Faults.{LeadAll}
+use Rattle.rg_cert.specs.Faults.{LinesLead}
 use Rattle.rg_cert.specs.Drafts.{of_unreachable}
 use Rattle.rg_cert.proofs.Canonical.{TextsLead, TextsLeadAll, lead_all_of, heading_leads, class_leads, head_leads, end_leads}
 use Rattle.rg_cert.proofs.SomeAnswer.{from_lines}
@@ -65,12 +65,12 @@ can_end lts (at_node count due) fine = node_ends lts count due
 can_end lts (at_row count due) fine = row_ends lts count due
 can_end lts at_end fine = record { lines = []; lead = refl }
 
-lead_on : (lts : System) (from : Position) (before : List (List ℕ)) (position : Position) (more : List (List ℕ)) (last : Position) → LeadAll lts from before position → LeadAll lts position more last
-    → LeadAll lts from (before ++ more) last
-lead_on lts from [] position more last same rest = subst (λ p. LeadAll lts p more last) (sym same) rest
+lead_on : (lts : System) (from : Position) (before : List (List ℕ)) (position : Position) (more : List (List ℕ)) (last : Position) → LinesLead lts from before position → LinesLead lts position more last
+    → LinesLead lts from (before ++ more) last
+lead_on lts from [] position more last same rest = subst (λ p. LinesLead lts p more last) (sym same) rest
 lead_on lts from (line ∷ before) position more last (next, leads, lead) rest = (next, leads, lead_on lts next before position more last lead rest)
 
-pub goes_on : (lts : System) (before : List (List ℕ)) (position : Position) → IsWellFormed lts → LeadAll lts at_heading before position
+pub goes_on : (lts : System) (before : List (List ℕ)) (position : Position) → IsWellFormed lts → LinesLead lts at_heading before position
     → (more : List (List ℕ)) × (claim : Claim) × Spells (fed (before ++ more)) lts claim
 goes_on lts before position fine lead =
     let ends = can_end lts position fine in

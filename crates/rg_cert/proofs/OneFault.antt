@@ -5,7 +5,7 @@ use Rattle.rg_theory.specs.System.{System}
 use Rattle.rg_cert.specs.declared.fault.CertFault.{CertFault}
 use Rattle.rg_cert.specs.declared.fault.CertFault.TheVariants.{Expected, UnknownName, NumberPasses, TreeShort, TreeLong, NoMemory}
 use Rattle.rg_cert.specs.Lines.{HasFieldForm, AreAsked, LineForm, heading_line, class_line, unreachable_line, fork_line, event_line, states_line, case_line, split_tokens_line, split_effect_line, leaf_line, row_line, end_line, fields_of, HasForm, Position, at_heading, at_class, at_reason, at_last, at_one_case, at_cases, at_node, at_row, at_end, to, short, long, refused, follows}
-use Rattle.rg_cert.specs.Faults.{IsRight, Leads, LeadAll, GoesOn, BeginsWith, BreaksAt, HasNumberOut, HasUnknownName, IsFaultAt, FaultFrom}
+use Rattle.rg_cert.specs.Faults.{IsRight, LineLeads, LinesLead, TextGoesOn, BeginsWith, BreaksAt, HasNumberOut, HasUnknownName, IsFaultAt, FaultFrom}
 use Rattle.rg_cert.proofs.Cuts.{one_cut}
 use Rattle.rg_cert.proofs.LineTexts.{line_lacks, fields_are}
 use Rattle.rg_cert.proofs.FormKeys.{one_form}
@@ -108,11 +108,11 @@ no_line_fault lts position form texts n TreeLong next right leads x = let both =
 no_line_fault lts position form texts n (Expected i) next right leads x = x
 no_line_fault lts position form texts n NoMemory next right leads x = x
 
-leads_begin : (lts : System) (position : Position) (line : List ℕ) (next : Position) (text rest : List ℕ) → text ≡ line ++ 10 ∷ rest → (is : Leads lts position line next) → BeginsWith position text is.form is.texts
+leads_begin : (lts : System) (position : Position) (line : List ℕ) (next : Position) (text rest : List ℕ) → text ≡ line ++ 10 ∷ rest → (is : LineLeads lts position line next) → BeginsWith position text is.form is.texts
 leads_begin lts position line next text rest cut is =
     record { line = line; more = rest; text = cut; has = is.has; due = λ e. let both = sym is.leads ∙ e in absurd cc }
 
-pub no_fault_at : (lts : System) (position : Position) (line : List ℕ) (next : Position) (text rest : List ℕ) (n : ℕ) (fault : CertFault) → text ≡ line ++ 10 ∷ rest → Leads lts position line next
+pub no_fault_at : (lts : System) (position : Position) (line : List ℕ) (next : Position) (text rest : List ℕ) (n : ℕ) (fault : CertFault) → text ≡ line ++ 10 ∷ rest → LineLeads lts position line next
     → IsEither lts position text n fault → ⊥
 no_fault_at lts position line next text rest n fault cut is (inl x) = breaks_begins position text is.form is.texts x.1 (leads_begin lts position line next text rest cut is)
 no_fault_at lts position line next text rest n fault cut is (inr (f, xs, b, x)) =
@@ -122,24 +122,24 @@ no_fault_at lts position line next text rest n fault cut is (inr (f, xs, b, x)) 
     (subst (λ h. IsLineFault lts position h is.texts n fault) same.0 (subst (λ l. IsLineFault lts position f l n fault) same.1 x))
 
 -- a line leads to one position
-pub one_next : (lts : System) (position : Position) (line : List ℕ) (p q : Position) → Leads lts position line p → Leads lts position line q → p ≡ q
+pub one_next : (lts : System) (position : Position) (line : List ℕ) (p q : Position) → LineLeads lts position line p → LineLeads lts position line q → p ≡ q
 one_next lts position line p q x y =
     let same = same_texts x.form y.form line x.texts y.texts x.has y.has in
     let both : to p ≡ to q = sym x.leads ∙ ap (follows position) same.0 ∙ y.leads in
     cc
 
 -- two texts that go on with lines have the same first one
-pub same_first : (lts : System) (from p q : Position) (a b r s : List ℕ) → Leads lts from a p → Leads lts from b q → a ++ 10 ∷ r ≡ b ++ 10 ∷ s → (a ≡ b) × (r ≡ s) × (p ≡ q)
+pub same_first : (lts : System) (from p q : Position) (a b r s : List ℕ) → LineLeads lts from a p → LineLeads lts from b q → a ++ 10 ∷ r ≡ b ++ 10 ∷ s → (a ≡ b) × (r ≡ s) × (p ≡ q)
 same_first lts from p q a b r s x y e =
     let cut = one_cut 10 a b r s (line_lacks x.form a x.texts x.has) (line_lacks y.form b y.texts y.has) e in
-    (cut.0, cut.1, one_next lts from b p q (subst (λ l. Leads lts from l p) cut.0 x) y)
+    (cut.0, cut.1, one_next lts from b p q (subst (λ l. LineLeads lts from l p) cut.0 x) y)
 
 abbrev first_cut : (line : List ℕ) (more : List (List ℕ)) (rest text : List ℕ) → text ≡ fed (line ∷ more) ++ rest → text ≡ line ++ 10 ∷ (fed more ++ rest)
 first_cut line more rest text e = e ∙ append_assoc line (10 ∷ fed more) rest
 
 -- the first fault, along two walks
 faults_from : (lts : System) (from : Position) (text : List ℕ) (n : ℕ) (a : List (List ℕ)) (p : Position) (r : List ℕ) (b : List (List ℕ)) (q : Position) (s : List ℕ) (d e : CertFault)
-    → text ≡ fed a ++ r → LeadAll lts from a p → IsFaultAt lts p r (length a + n) d → text ≡ fed b ++ s → LeadAll lts from b q → IsFaultAt lts q s (length b + n) e → d ≡ e
+    → text ≡ fed a ++ r → LinesLead lts from a p → IsFaultAt lts p r (length a + n) d → text ≡ fed b ++ s → LinesLead lts from b q → IsFaultAt lts q s (length b + n) e → d ≡ e
 faults_from lts from text n [] p r [] q s d e cut leads x cut' leads' y =
     let x' : IsFaultAt lts from text (0 + n) d = subst (λ z. IsFaultAt lts from z (0 + n) d) (sym cut) (subst (λ z. IsFaultAt lts z r (0 + n) d) (sym leads) x) in
     let y' : IsFaultAt lts from text (0 + n) e = subst (λ z. IsFaultAt lts from z (0 + n) e) (sym cut') (subst (λ z. IsFaultAt lts z s (0 + n) e) (sym leads') y) in
@@ -152,7 +152,7 @@ faults_from lts from text n (line ∷ a) p r [] q s d e cut (next, first, more) 
     absurd (no_fault_at lts from line next text (fed a ++ r) (0 + n) e (first_cut line a r text cut) first (either lts from text (0 + n) e y'))
 faults_from lts from text n (line ∷ a) p r (line' ∷ b) q s d e cut (next, first, more) x cut' (next', first', more') y =
     let one = same_first lts from next next' line line' (fed a ++ r) (fed b ++ s) first first' (sym (first_cut line a r text cut) ∙ first_cut line' b s text cut') in
-    let more'' : LeadAll lts next b q = subst (λ z. LeadAll lts z b q) (sym one.2) more' in
+    let more'' : LinesLead lts next b q = subst (λ z. LinesLead lts z b q) (sym one.2) more' in
     faults_from lts next (fed a ++ r) (suc n) a p r b q s d e refl more
     (subst (λ k. IsFaultAt lts p r k d) (omega arith) x) one.1 more'' (subst (λ k. IsFaultAt lts q s k e) (omega arith) y)
 
@@ -162,7 +162,7 @@ one_fault lts from text n d e x y =
 
 -- no fault in a whole text
 whole_from : (lts : System) (from : Position) (text : List ℕ) (n : ℕ) (a : List (List ℕ)) (b : List (List ℕ)) (q : Position) (s : List ℕ) (e : CertFault)
-    → text ≡ fed a ++ [] → LeadAll lts from a at_end → text ≡ fed b ++ s → LeadAll lts from b q → IsFaultAt lts q s (length b + n) e → ⊥
+    → text ≡ fed a ++ [] → LinesLead lts from a at_end → text ≡ fed b ++ s → LinesLead lts from b q → IsFaultAt lts q s (length b + n) e → ⊥
 whole_from lts from text n [] [] q s e cut leads cut' leads' y =
     let position : q ≡ at_end = sym leads' ∙ leads in
     let none : s ≡ [] = sym cut' ∙ cut in
@@ -172,7 +172,7 @@ whole_from lts from text n [] [] q s e cut leads cut' leads' y =
     ended (inl x) = x.1 refl
     ended (inr (f, xs, b, x)) = b.due (end_refuses f)
 whole_from lts from text n [] (line ∷ b) q s e cut leads cut' (next, first, more) y =
-    let at : Leads lts at_end line next = subst (λ z. Leads lts z line next) leads first in
+    let at : LineLeads lts at_end line next = subst (λ z. LineLeads lts z line next) leads first in
     let both = sym (end_refuses at.form) ∙ at.leads in
     absurd cc
 whole_from lts from text n (line ∷ a) [] q s e cut (next, first, more) cut' leads' y =
@@ -180,23 +180,23 @@ whole_from lts from text n (line ∷ a) [] q s e cut (next, first, more) cut' le
     no_fault_at lts from line next text (fed a ++ []) (0 + n) e (first_cut line a [] text cut) first (either lts from text (0 + n) e y')
 whole_from lts from text n (line ∷ a) (line' ∷ b) q s e cut (next, first, more) cut' (next', first', more') y =
     let one = same_first lts from next next' line line' (fed a ++ []) (fed b ++ s) first first' (sym (first_cut line a [] text cut) ∙ first_cut line' b s text cut') in
-    whole_from lts next (fed a ++ []) (suc n) a b q s e refl more one.1 (subst (λ z. LeadAll lts z b q) (sym one.2) more') (subst (λ k. IsFaultAt lts q s k e) (omega arith) y)
+    whole_from lts next (fed a ++ []) (suc n) a b q s e refl more one.1 (subst (λ z. LinesLead lts z b q) (sym one.2) more') (subst (λ k. IsFaultAt lts q s k e) (omega arith) y)
 
-pub no_fault : (lts : System) (from : Position) (text : List ℕ) (n : ℕ) (whole : List (List ℕ)) (fault : CertFault) → GoesOn lts from text whole at_end [] → FaultFrom lts from text n fault → ⊥
+pub no_fault : (lts : System) (from : Position) (text : List ℕ) (n : ℕ) (whole : List (List ℕ)) (fault : CertFault) → TextGoesOn lts from text whole at_end [] → FaultFrom lts from text n fault → ⊥
 no_fault lts from text n whole fault on f =
     whole_from lts from text n whole f.before f.position f.rest fault on.cut on.lines f.goes_on.cut f.goes_on.lines f.is
 
 -- a whole text has one list of lines
-pub one_walk : (lts : System) (from : Position) (text : List ℕ) (a b : List (List ℕ)) → text ≡ fed a ++ [] → LeadAll lts from a at_end → text ≡ fed b ++ [] → LeadAll lts from b at_end → a ≡ b
+pub one_walk : (lts : System) (from : Position) (text : List ℕ) (a b : List (List ℕ)) → text ≡ fed a ++ [] → LinesLead lts from a at_end → text ≡ fed b ++ [] → LinesLead lts from b at_end → a ≡ b
 one_walk lts from text [] [] cut leads cut' leads' = refl
 one_walk lts from text [] (line ∷ b) cut leads cut' (next, first, more) =
-    let at : Leads lts at_end line next = subst (λ z. Leads lts z line next) leads first in
+    let at : LineLeads lts at_end line next = subst (λ z. LineLeads lts z line next) leads first in
     let both = sym (end_refuses at.form) ∙ at.leads in
     absurd cc
 one_walk lts from text (line ∷ a) [] cut (next, first, more) cut' leads' =
-    let at : Leads lts at_end line next = subst (λ z. Leads lts z line next) leads' first in
+    let at : LineLeads lts at_end line next = subst (λ z. LineLeads lts z line next) leads' first in
     let both = sym (end_refuses at.form) ∙ at.leads in
     absurd cc
 one_walk lts from text (line ∷ a) (line' ∷ b) cut (next, first, more) cut' (next', first', more') =
     let one = same_first lts from next next' line line' (fed a ++ []) (fed b ++ []) first first' (sym (first_cut line a [] text cut) ∙ first_cut line' b [] text cut') in
-    ap₂ ◌∷◌ one.0 (one_walk lts next (fed a ++ []) a b refl more one.1 (subst (λ z. LeadAll lts z b at_end) (sym one.2) more'))
+    ap₂ ◌∷◌ one.0 (one_walk lts next (fed a ++ []) a b refl more one.1 (subst (λ z. LinesLead lts z b at_end) (sym one.2) more'))

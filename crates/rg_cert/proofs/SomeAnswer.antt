@@ -21,7 +21,7 @@ use Rattle.rg_reasons.specs.Certificates.{Claim, IsMultiplierInRange, IsSplitInR
 use Rattle.rg_cert.specs.Text.{named_fields, node_lines, case_lines, reason_lines, spaced, cert_lines, text_with}
 use Rattle.rg_cert.specs.Spells.{Spells}
 use Rattle.rg_cert.specs.Lines.{multiplier, split_value, depth, word, state, label, number, HasFieldForm, IsFieldInRange, IsFieldKnown, AreAsked, RowForm, arc_form, tokens_form, cap_form, up_form, down_form, makes_form, stop_form, block_form, empty_form, full_form, keep_form, apart_form, above_form, LineForm, heading_line, class_line, unreachable_line, fork_line, event_line, states_line, case_line, split_tokens_line, split_effect_line, leaf_line, row_line, end_line, fields_of, HasForm, Position, at_heading, at_class, at_reason, at_last, at_one_case, at_cases, at_node, at_row, at_end, Next, to, short, long, refused, follows}
-use Rattle.rg_cert.specs.Faults.{Leads, LeadAll, BeginsWith, IsFaultAt, FaultFrom}
+use Rattle.rg_cert.specs.Faults.{LineLeads, LinesLead, BeginsWith, IsFaultAt, FaultFrom}
 use Rattle.rg_cert.specs.Drafts.{Head, of_unreachable, of_fork, of_event, of_states, head_fields, IsHeadOf, after_head, Draft, blank, leaf_closed, case_closed, with_split, IsSplitLine, Adds, nodes_lines, draft_lines, IsCase, HasCases, IsDraftAt, IsGood}
 use Rattle.rg_cert.proofs.Decimal.{numeral_text}
 use Rattle.rg_cert.proofs.LineTexts.{fields_are, from_fields}
@@ -211,7 +211,7 @@ record IsRead (lts : System) (head : Head) (position : Position) (d : Draft) (li
   pub grown : draft_lines lts at_end last ≡ draft_lines lts position d ++ texts
   pub are : lines ≡ map spaced texts
 
-lines_read : (lts : System) (head : Head) (position : Position) (d : Draft) (lines : List (List ℕ)) → IsDraftAt lts head position d → LeadAll lts position lines at_end → IsRead lts head position d lines
+lines_read : (lts : System) (head : Head) (position : Position) (d : Draft) (lines : List (List ℕ)) → IsDraftAt lts head position d → LinesLead lts position lines at_end → IsRead lts head position d lines
 lines_read lts head position d [] is same = record {
   last = d;
   texts = [];
@@ -304,12 +304,12 @@ blank_at lts (of_states s s') = ((refl, refl), refl)
 
 -- the claim of a whole text
 from_head : (lts : System) (name : List ℕ) (class : Class) (line : List ℕ) (lines : List (List ℕ)) (bytes : List ℕ) → NamesClass name class
-    → bytes ≡ fed (codes "certificate 1" ∷ (codes "class " ++ name) ∷ line ∷ lines) → LeadAll lts at_reason (line ∷ lines) at_end → (claim : Claim) × Spells bytes lts claim
+    → bytes ≡ fed (codes "certificate 1" ∷ (codes "class " ++ name) ∷ line ∷ lines) → LinesLead lts at_reason (line ∷ lines) at_end → (claim : Claim) × Spells bytes lts claim
 unfolding text_with cert_lines
 from_head lts name class line lines bytes named is (next, leads, more) =
     let head = head_there lts leads.form leads.texts next (record { fields = leads.has.fields; right = leads.right }) leads.leads in
     let start = blank_at lts head.0 in
-    let read = lines_read lts head.0 (after_head head.0) blank lines start.0 (subst (λ p. LeadAll lts p lines at_end) head.3 more) in
+    let read = lines_read lts head.0 (after_head head.0) blank lines start.0 (subst (λ p. LinesLead lts p lines at_end) head.3 more) in
     let reason = reason_there lts head.0 read.last.cases head.1 read.ended.0 read.ended.1 in
     let ends : flat_map (nodes_lines lts) read.last.cases ++ (codes "end" ∷ []) ∷ [] ≡ read.texts = read.grown ∙ ap (λ l. l ++ read.texts) start.1 in
     let whole : line ∷ lines ≡ map spaced (reason_lines lts reason.0 ++ (codes "end" ∷ []) ∷ []) =
@@ -324,7 +324,7 @@ from_head lts name class line lines bytes named is (next, leads, more) =
       },
     )
 
-from_class : (lts : System) (line : List ℕ) (lines : List (List ℕ)) (bytes : List ℕ) → bytes ≡ fed (codes "certificate 1" ∷ line ∷ lines) → LeadAll lts at_class (line ∷ lines) at_end
+from_class : (lts : System) (line : List ℕ) (lines : List (List ℕ)) (bytes : List ℕ) → bytes ≡ fed (codes "certificate 1" ∷ line ∷ lines) → LinesLead lts at_class (line ∷ lines) at_end
     → (claim : Claim) × Spells bytes lts claim
 from_class lts line [] bytes is (next, leads, same) =
     let class = class_there leads.form line leads.texts next leads.has leads.leads in
@@ -333,10 +333,10 @@ from_class lts line [] bytes is (next, leads, same) =
 from_class lts line (third ∷ lines) bytes is (next, leads, more) =
     let class = class_there leads.form line leads.texts next leads.has leads.leads in
     from_head lts class.0 class.1 third lines bytes class.2 (is ∙ ap (λ l. fed (codes "certificate 1" ∷ l ∷ third ∷ lines)) class.3)
-    (subst (λ p. LeadAll lts p (third ∷ lines) at_end) class.4 more)
+    (subst (λ p. LinesLead lts p (third ∷ lines) at_end) class.4 more)
 
 -- lines that lead to the end spell a claim
-pub from_lines : (lts : System) (lines : List (List ℕ)) (bytes : List ℕ) → bytes ≡ fed lines → LeadAll lts at_heading lines at_end → (claim : Claim) × Spells bytes lts claim
+pub from_lines : (lts : System) (lines : List (List ℕ)) (bytes : List ℕ) → bytes ≡ fed lines → LinesLead lts at_heading lines at_end → (claim : Claim) × Spells bytes lts claim
 from_lines lts [] bytes is same = absurd cc
 from_lines lts (line ∷ []) bytes is (next, leads, same) =
     let heading = heading_there leads.form line leads.texts next leads.has leads.leads in
@@ -344,12 +344,12 @@ from_lines lts (line ∷ []) bytes is (next, leads, same) =
     absurd cc
 from_lines lts (line ∷ second ∷ lines) bytes is (next, leads, more) =
     let heading = heading_there leads.form line leads.texts next leads.has leads.leads in
-    from_class lts second lines bytes (is ∙ ap (λ l. fed (l ∷ second ∷ lines)) heading.0) (subst (λ p. LeadAll lts p (second ∷ lines) at_end) heading.1 more)
+    from_class lts second lines bytes (is ∙ ap (λ l. fed (l ∷ second ∷ lines)) heading.0) (subst (λ p. LinesLead lts p (second ∷ lines) at_end) heading.1 more)
 
 -- the text goes on with a right line, or with a fault
 abbrev GoesOnOrFails : System → Position → List ℕ → ℕ → Type 0
 GoesOnOrFails lts position text n =
-    ((line : List ℕ) × (next : Position) × (rest : List ℕ) × (text ≡ line ++ 10 ∷ rest) × Leads lts position line next) ⊎ ((fault : CertFault) × IsFaultAt lts position text n fault)
+    ((line : List ℕ) × (next : Position) × (rest : List ℕ) × (text ≡ line ++ 10 ∷ rest) × LineLeads lts position line next) ⊎ ((fault : CertFault) × IsFaultAt lts position text n fault)
 
 next_or_fault : (lts : System) (position : Position) (text : List ℕ) (n : ℕ) → (position ≡ at_end → ⊥) → GoesOnOrFails lts position text n
 next_or_fault lts position text n going = by (cut_or_not 10 text)
@@ -414,7 +414,7 @@ end_or_not at_end = inl refl
 
 -- the text is whole from a position on, or has a first fault
 abbrev EndsOrFails : System → Position → List ℕ → ℕ → Type 0
-EndsOrFails lts position text n = ((lines : List (List ℕ)) × LeadAll lts position lines at_end × (text ≡ fed lines)) ⊎ ((fault : CertFault) × FaultFrom lts position text n fault)
+EndsOrFails lts position text n = ((lines : List (List ℕ)) × LinesLead lts position lines at_end × (text ≡ fed lines)) ⊎ ((fault : CertFault) × FaultFrom lts position text n fault)
 
 fails_here : (lts : System) (position : Position) (text : List ℕ) (n : ℕ) (fault : CertFault) → IsFaultAt lts position text (0 + n) fault → FaultFrom lts position text n fault
 fails_here lts position text n fault is = record { before = []; position = position; rest = text; goes_on = start lts position text; is = is }
@@ -428,7 +428,7 @@ walk : (fuel : ℕ) (lts : System) (position : Position) (text : List ℕ) (n : 
 walk zero lts position text n few = absurd (omega arith)
 walk (suc fuel) lts position text n few = by (end_or_not position) (λ next rest short. walk fuel lts next rest (n + 1) short)
   where
-    on : (line : List ℕ) (next : Position) (rest : List ℕ) → text ≡ line ++ 10 ∷ rest → Leads lts position line next → EndsOrFails lts next rest (n + 1) → EndsOrFails lts position text n
+    on : (line : List ℕ) (next : Position) (rest : List ℕ) → text ≡ line ++ 10 ∷ rest → LineLeads lts position line next → EndsOrFails lts next rest (n + 1) → EndsOrFails lts position text n
     on line next rest cut leads (inl (lines, more, is)) = inl (line ∷ lines, (next, leads, more), cut ∙ ap (λ l. line ++ 10 ∷ l) is)
     on line next rest cut leads (inr (fault, f)) = inr (fault, fault_before lts position line next text rest n fault cut leads f)
 

@@ -4,7 +4,7 @@ use Rattle.rg_text.specs.Line.{fed}
 use Rattle.rg_theory.specs.System.{System}
 use Rattle.rg_cert.specs.declared.fault.CertFault.{CertFault}
 use Rattle.rg_cert.specs.Lines.{LineForm, Position}
-use Rattle.rg_cert.specs.Faults.{Leads, LeadAll, GoesOn, IsFaultAt, FaultFrom}
+use Rattle.rg_cert.specs.Faults.{LineLeads, LinesLead, TextGoesOn, IsFaultAt, FaultFrom}
 use Rattle.rg_cert.specs.Drafts.{IsNextLine}
 
 pub fed_append : (xs ys : List (List ℕ)) → fed (xs ++ ys) ≡ fed xs ++ fed ys
@@ -15,21 +15,21 @@ pub fed_more : (before : List (List ℕ)) (line rest : List ℕ) → fed (before
 fed_more before line rest =
     ap (λ l. l ++ rest) (fed_append before (line ∷ [])) ∙ append_assoc (fed before) (line ++ 10 ∷ []) rest ∙ ap (λ l. fed before ++ l) (append_assoc line (10 ∷ []) rest)
 
-lead_more : (lts : System) (from : Position) (before : List (List ℕ)) (position : Position) (line : List ℕ) (next : Position) → LeadAll lts from before position → Leads lts position line next
-    → LeadAll lts from (before ++ line ∷ []) next
-lead_more lts from [] position line next same leads = (next, subst (λ p. Leads lts p line next) (sym same) leads, refl)
+lead_more : (lts : System) (from : Position) (before : List (List ℕ)) (position : Position) (line : List ℕ) (next : Position) → LinesLead lts from before position → LineLeads lts position line next
+    → LinesLead lts from (before ++ line ∷ []) next
+lead_more lts from [] position line next same leads = (next, subst (λ p. LineLeads lts p line next) (sym same) leads, refl)
 lead_more lts from (first ∷ before) position line next (second, leads, more) last = (second, leads, lead_more lts second before position line next more last)
 
-pub start : (lts : System) (position : Position) (text : List ℕ) → GoesOn lts position text [] position text
+pub start : (lts : System) (position : Position) (text : List ℕ) → TextGoesOn lts position text [] position text
 start lts position text = record { cut = refl; lines = refl }
 
 next_leads : (lts : System) (position : Position) (text : List ℕ) (form : LineForm) (texts : List (List ℕ)) (next : Position) (rest : List ℕ)
-    → (is : IsNextLine lts position text form texts next rest) → Leads lts position is.line next
+    → (is : IsNextLine lts position text form texts next rest) → LineLeads lts position is.line next
 next_leads lts position text form texts next rest is = record { form = form; texts = texts; has = is.has; right = is.right; leads = is.leads }
 
 -- one line more
 pub goes_more : (lts : System) (from : Position) (text : List ℕ) (before : List (List ℕ)) (position : Position) (rest : List ℕ) (form : LineForm) (texts : List (List ℕ)) (next : Position) (after : List ℕ)
-    → GoesOn lts from text before position rest → (is : IsNextLine lts position rest form texts next after) → GoesOn lts from text (before ++ is.line ∷ []) next after
+    → TextGoesOn lts from text before position rest → (is : IsNextLine lts position rest form texts next after) → TextGoesOn lts from text (before ++ is.line ∷ []) next after
 goes_more lts from text before position rest form texts next after on is = record {
   cut = on.cut ∙ ap (λ l. fed before ++ l) is.cut ∙ sym (fed_more before is.line after);
   lines = lead_more lts from before position is.line next on.lines (next_leads lts position rest form texts next after is);
@@ -37,7 +37,7 @@ goes_more lts from text before position rest form texts next after on is = recor
 
 -- lines before those of a walk
 pub goes_before : (lts : System) (first : Position) (line : List ℕ) (from : Position) (whole text : List ℕ) (before : List (List ℕ)) (position : Position) (rest : List ℕ)
-    → whole ≡ line ++ 10 ∷ text → Leads lts first line from → GoesOn lts from text before position rest → GoesOn lts first whole (line ∷ before) position rest
+    → whole ≡ line ++ 10 ∷ text → LineLeads lts first line from → TextGoesOn lts from text before position rest → TextGoesOn lts first whole (line ∷ before) position rest
 goes_before lts first line from whole text before position rest is leads on = record {
   cut = is ∙ ap (λ l. line ++ 10 ∷ l) on.cut ∙ sym (append_assoc line (10 ∷ fed before) rest);
   lines = (from, leads, on.lines);
@@ -48,7 +48,7 @@ count_before lts position rest n m fault same is = subst (λ k. IsFaultAt lts po
 
 -- a fault after one line more
 pub fault_before : (lts : System) (first : Position) (line : List ℕ) (from : Position) (whole text : List ℕ) (n : ℕ) (fault : CertFault)
-    → whole ≡ line ++ 10 ∷ text → Leads lts first line from → FaultFrom lts from text (n + 1) fault → FaultFrom lts first whole n fault
+    → whole ≡ line ++ 10 ∷ text → LineLeads lts first line from → FaultFrom lts from text (n + 1) fault → FaultFrom lts first whole n fault
 fault_before lts first line from whole text n fault is leads f = record {
   before = line ∷ f.before;
   position = f.position;

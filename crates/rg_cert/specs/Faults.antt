@@ -11,7 +11,7 @@ abbrev pub IsRight : System → LineForm → List (List ℕ) → Type 0
 IsRight lts form texts = AreAsked IsFieldInRange (fields_of form) texts × AreAsked (IsFieldKnown lts) (fields_of form) texts
 
 -- the line is right in itself, and leads from a position to the next
-pub record Leads (lts : System) (position : Position) (line : List ℕ) (next : Position) : Type 0 where
+pub record LineLeads (lts : System) (position : Position) (line : List ℕ) (next : Position) : Type 0 where
   pub form : LineForm
   pub texts : List (List ℕ)
   pub has : HasForm form line texts
@@ -19,14 +19,14 @@ pub record Leads (lts : System) (position : Position) (line : List ℕ) (next : 
   pub leads : follows position form ≡ to next
 
 -- lines that lead from a position to a position, one after the other
-abbrev pub LeadAll : System → Position → List (List ℕ) → Position → Type 0
-LeadAll lts position [] last = position ≡ last
-LeadAll lts position (line ∷ more) last = (next : Position) × Leads lts position line next × LeadAll lts next more last
+abbrev pub LinesLead : System → Position → List (List ℕ) → Position → Type 0
+LinesLead lts position [] last = position ≡ last
+LinesLead lts position (line ∷ more) last = (next : Position) × LineLeads lts position line next × LinesLead lts next more last
 
 -- from a position on the text has these lines, and goes on with the rest at a position
-pub record GoesOn (lts : System) (from : Position) (text : List ℕ) (before : List (List ℕ)) (position : Position) (rest : List ℕ) : Type 0 where
+pub record TextGoesOn (lts : System) (from : Position) (text : List ℕ) (before : List (List ℕ)) (position : Position) (rest : List ℕ) : Type 0 where
   pub cut : text ≡ fed before ++ rest
-  pub lines : LeadAll lts from before position
+  pub lines : LinesLead lts from before position
 
 -- the rest begins with a line of a form that isn't refused at the position
 pub record BeginsWith (position : Position) (rest : List ℕ) (form : LineForm) (texts : List (List ℕ)) : Type 0 where
@@ -67,7 +67,7 @@ pub record FaultFrom (lts : System) (from : Position) (text : List ℕ) (first :
   pub before : List (List ℕ)
   pub position : Position
   pub rest : List ℕ
-  pub goes_on : GoesOn lts from text before position rest
+  pub goes_on : TextGoesOn lts from text before position rest
   pub is : IsFaultAt lts position rest (length before + first) fault
 
 -- the first fault of a text; lines are numbered from 1

@@ -82,8 +82,8 @@ next_in next.Long = line.long
 next_in next.Refused = line.refused
 
 -- at most so many nodes are due at the position
-abbrev pub IsSmall : Position → ℕ → Type 0
-IsSmall position n = draft.due_at (position_in position) ≤ n
+abbrev pub HasFewDue : Position → ℕ → Type 0
+HasFewDue position n = draft.due_at (position_in position) ≤ n
 
 abbrev pub head_in : Head → draft.Head
 head_in (head.Unreachable s) = draft.of_unreachable s

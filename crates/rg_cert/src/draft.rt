@@ -1,7 +1,7 @@
 //! What is read of a certificate so far.
 ghost use Rattle.std.specs.Prelude.{◌≡◌, OnOk};
 ghost use Rattle.rg_cert.specs.Drafts.{after_head, blank, leaf_closed, case_closed, with_split, IsGood, AddsRow, Adds};
-ghost use Rattle.rg_cert.specs.View.{texts_in, line_form_in, position_in, IsSmall, head_in, draft_in};
+ghost use Rattle.rg_cert.specs.View.{texts_in, line_form_in, position_in, HasFewDue, head_in, draft_in};
 ghost use Rattle.rg_reasons.specs.Trees.{form_of};
 ghost use Rattle.rg_cert.specs.declared.table.LineForm.TheVariants as of_line;
 
@@ -27,7 +27,7 @@ impl Head {
     // Where the next line stands.
     pub(crate) fn after(self) -> Position
         ensures position { position_in result ≡ after_head (head_in self) }
-        ensures small { IsSmall result 0 }
+        ensures small { HasFewDue result 0 }
     {
         match self {
             Head::Unreachable(..) | Head::Fork(..) => Position::Last,

@@ -5,7 +5,7 @@ ghost use Rattle.rg_cert.specs.declared.position.Position.TheVariants as of_posi
 ghost use Rattle.rg_cert.specs.Lines.{HasFieldForm, AreAsked, fields_of};
 ghost use Rattle.rg_cert.specs.Faults.{IsRight, IsFaultAt};
 ghost use Rattle.rg_cert.specs.Drafts.{IsNextLine, IsWrong};
-ghost use Rattle.rg_cert.specs.View.{line_form_in, position_in, IsSmall};
+ghost use Rattle.rg_cert.specs.View.{line_form_in, position_in, HasFewDue};
 
 use crate::fault::CertFault;
 use crate::lines::{first_fields, first_line};
@@ -33,7 +33,7 @@ pub(crate) fn good_line<'a>(
     position: Position,
     lts: &Lts,
 ) -> Result<GoodLine<'a>, CertFault>
-    requires small { IsSmall position 4294967294 }
+    requires small { HasFewDue position 4294967294 }
     requires going { position ≢ of_position.End }
     ensures ok { IfOk result (λ g. IsNextLine lts.now (position_in position) text.entry.now (line_form_in g.form) (map (λ w. w.now) g.texts.items) (position_in g.to) g.rest.now) }
     ensures err { IfErr result (λ e. e ≢ fault.NoMemory → IsFaultAt lts.now (position_in position) text.entry.now number e) }

@@ -7,7 +7,7 @@ ghost use Rattle.rg_reasons.specs.Certificates.{Claim, IsClaimOf};
 ghost use Rattle.rg_cert.specs.Text.{cert_text};
 ghost use Rattle.rg_cert.specs.Spells.{Spells};
 ghost use Rattle.rg_cert.specs.Lines.{Position, Position.at_heading};
-ghost use Rattle.rg_cert.specs.Faults.{LeadAll, FirstFault};
+ghost use Rattle.rg_cert.specs.Faults.{LinesLead, FirstFault};
 ghost use Rattle.rg_cert.specs.declared.fault.CertFault.{CertFault};
 
 /// For a system a text spells one claim or has one first fault, and never both.
@@ -21,7 +21,7 @@ pub fn one_answer()
 /// Right lines, each of which may follow those before it, can go on to the text of a claim. So the line of a first fault is the first with
 /// which the text can't.
 pub fn lines_go_on()
-    ensures { (lts : System) (before : List (List ℕ)) (position : Position) → IsWellFormed lts → LeadAll lts at_heading before position → (more : List (List ℕ)) × (claim : Claim) × Spells (fed (before ++ more)) lts claim }
+    ensures { (lts : System) (before : List (List ℕ)) (position : Position) → IsWellFormed lts → LinesLead lts at_heading before position → (more : List (List ℕ)) × (claim : Claim) × Spells (fed (before ++ more)) lts claim }
 {}
 
 /// Two claims for a system with the same text are the same.

@@ -1,7 +1,7 @@
 //! Where a line stands, and which lines may follow.
 ghost use Rattle.std.specs.Prelude.{◌≡◌, ◌<◌};
 ghost use Rattle.rg_cert.specs.Lines.{follows, in_tree, after_tree};
-ghost use Rattle.rg_cert.specs.View.{IsSmall, line_form_in, count_in, position_in, next_in};
+ghost use Rattle.rg_cert.specs.View.{HasFewDue, line_form_in, count_in, position_in, next_in};
 
 use crate::table::LineForm;
 
@@ -45,7 +45,7 @@ pub(crate) enum Next {
 impl Position {
     // What comes of a line of this form here.
     pub(crate) fn next(self, form: LineForm) -> Next
-        requires { IsSmall self 4294967294 }
+        requires { HasFewDue self 4294967294 }
         ensures { next_in result ≡ follows (position_in self) (line_form_in form) }
     {
         match (self, form) {

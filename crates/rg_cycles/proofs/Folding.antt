@@ -125,27 +125,27 @@ shows_length labels cycle t place r shows lt = subst (λ l. place < length l) (s
 -- ---- the coefficient of a free label, label by label
 
 -- what is left to add from label t on leads to the coefficient
-abbrev pub Leads : ℕ → CycleBasis → List ℤ → ℕ → Ratio → ℕ → Type 0
-Leads labels cycle counts f sum t = (r : Result Ratio Wide) → further add (dependent_term cycle (number_at counts) f) sum (numbers_where (λ u. not (is_in cycle.members u)) t (labels - t)) r → coefficient_fold labels cycle (number_at counts) f r
+abbrev pub AddsOn : ℕ → CycleBasis → List ℤ → ℕ → Ratio → ℕ → Type 0
+AddsOn labels cycle counts f sum t = (r : Result Ratio Wide) → further add (dependent_term cycle (number_at counts) f) sum (numbers_where (λ u. not (is_in cycle.members u)) t (labels - t)) r → coefficient_fold labels cycle (number_at counts) f r
 
-pub leads_start : (labels : ℕ) (cycle : CycleBasis) (counts : List ℤ) (f : ℕ) (sum : Ratio) → sum ≡ whole (number_at counts f) → Leads labels cycle counts f sum 0
+pub leads_start : (labels : ℕ) (cycle : CycleBasis) (counts : List ℤ) (f : ℕ) (sum : Ratio) → sum ≡ whole (number_at counts f) → AddsOn labels cycle counts f sum 0
 leads_start labels cycle counts f sum e r h = subst (λ x. further add (dependent_term cycle (number_at counts) f) x (numbers_where (λ u. not (is_in cycle.members u)) 0 labels) r) e (subst (λ n. further add (dependent_term cycle (number_at counts) f) sum (numbers_where (λ u. not (is_in cycle.members u)) 0 n) r) (all labels) h)
   where
     all : (n : ℕ) → n - 0 ≡ n
     all n = omega arith
 
-module _ (labels : ℕ) (cycle : CycleBasis) (counts : List ℤ) (f : ℕ) (sum : Ratio) (t : ℕ) (leads : Leads labels cycle counts f sum t) where
+module _ (labels : ℕ) (cycle : CycleBasis) (counts : List ℤ) (f : ℕ) (sum : Ratio) (t : ℕ) (leads : AddsOn labels cycle counts f sum t) where
   pub leads_end : labels ≤ t → coefficient_fold labels cycle (number_at counts) f (Ok sum)
   leads_end past = leads (Ok sum) (subst (λ l. further add (dependent_term cycle (number_at counts) f) sum l (Ok sum)) (sym (where_ends (λ u. not (is_in cycle.members u)) t labels past)) refl)
 
-  pub leads_past_free : t < labels → Contains cycle.members t → Leads labels cycle counts f sum (t + 1)
+  pub leads_past_free : t < labels → Contains cycle.members t → AddsOn labels cycle counts f sum (t + 1)
   leads_past_free lt has r h = leads r (subst (λ l. further add (dependent_term cycle (number_at counts) f) sum l r) (sym (where_left (λ u. not (is_in cycle.members u)) t labels lt (is_free cycle t has))) h)
 
   module _ (lt : t < labels) (lacks : ¬ Contains cycle.members t) where
     at : (r : Result Ratio Wide) → further add (dependent_term cycle (number_at counts) f) sum (t ∷ numbers_where (λ u. not (is_in cycle.members u)) (t + 1) (labels - (t + 1))) r → coefficient_fold labels cycle (number_at counts) f r
     at r h = leads r (subst (λ l. further add (dependent_term cycle (number_at counts) f) sum l r) (sym (where_taken (λ u. not (is_in cycle.members u)) t labels lt (is_dependent cycle t lacks))) h)
 
-    pub leads_on : (x more : Ratio) → dependent_term cycle (number_at counts) f t (Ok x) → add sum x (Ok more) → Leads labels cycle counts f more (t + 1)
+    pub leads_on : (x more : Ratio) → dependent_term cycle (number_at counts) f t (Ok x) → add sum x (Ok more) → AddsOn labels cycle counts f more (t + 1)
     leads_on x more made joins r h = at r (further_next add (dependent_term cycle (number_at counts) f) t (numbers_where (λ u. not (is_in cycle.members u)) (t + 1) (labels - (t + 1))) sum x more made joins r h)
 
     pub term_passes : (w : Wide) → dependent_term cycle (number_at counts) f t (Err w) → coefficient_fold labels cycle (number_at counts) f (Err w)
@@ -155,7 +155,7 @@ module _ (labels : ℕ) (cycle : CycleBasis) (counts : List ℤ) (f : ℕ) (sum 
     sum_passes x w made joins = at (Err w) (further_unjoined add (dependent_term cycle (number_at counts) f) t (numbers_where (λ u. not (is_in cycle.members u)) (t + 1) (labels - (t + 1))) sum x w made joins)
 
     -- what the label adds to the sum, in one step
-    pub leads_with : (s : Ratio) → and_then (dependent_term cycle (number_at counts) f t) (add sum) (Ok s) → Leads labels cycle counts f s (t + 1)
+    pub leads_with : (s : Ratio) → and_then (dependent_term cycle (number_at counts) f t) (add sum) (Ok s) → AddsOn labels cycle counts f s (t + 1)
     leads_with s (x, made, joins) = leads_on x s made joins
 
     pub passes_with : (w : Wide) → and_then (dependent_term cycle (number_at counts) f t) (add sum) (Err w) → coefficient_fold labels cycle (number_at counts) f (Err w)

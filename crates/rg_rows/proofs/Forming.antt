@@ -15,7 +15,7 @@ use Rattle.rg_linear.proofs.Firsts.{kept_is, kept_count}
 use Rattle.rg_order_of_work.specs.Rewriting.{numbers_where, used_labels, has_label, has_label_at, states_with, has_start, all_numbers, problem_rows, names_of, KeptRow, IsIdle}
 use Rattle.rg_linear.specs.declared.system.Row.{Row}
 use Rattle.rg_linear.specs.View.{linear_row, linear_system, IsWellFormed}
-use Rattle.rg_rows.specs.declared.named_row.NamedRow.{NamedRow}
+use Rattle.rg_rows.specs.declared.case_row.CaseRow.{CaseRow}
 use Rattle.rg_rows.specs.View.{kept_row}
 use Rattle.rg_columns.proofs.Picking.{where_few}
 
@@ -55,9 +55,9 @@ from_map f [] y (k, lt, e) = absurd (omega arith)
 from_map f (x ∷ xs) y (zero, lt, e) = (x, (0, omega arith, refl), e)
 from_map f (x ∷ xs) y (suc k, lt, e) = let (z, (j, below, is), same) = from_map f xs y (k, omega arith, e) in (z, (suc j, omega arith, is), same)
 
-module _ (columns : ℕ) (all : List NamedRow) (rows : List Row) (kept : List KeptRow) (shown : map linear_row rows ≡ map (λ k. k.row) kept) (firsts : KeepsFirsts (λ k. k.row) IsIdle [] (map kept_row all) kept) (lengths : All (λ r. length r.coeffs.items ≡ columns) all) where
-  named_fits : (r : NamedRow) → Contains all r → Fits columns (kept_row r).row
-  named_fits r (k, lt, is) = record { one_each = subst (λ (x : NamedRow). length x.coeffs.items ≡ columns) is (lengths k r lt); coeffs = r.coeffs_in_range; constant = r.constant_in_range }
+module _ (columns : ℕ) (all : List CaseRow) (rows : List Row) (kept : List KeptRow) (shown : map linear_row rows ≡ map (λ k. k.row) kept) (firsts : KeepsFirsts (λ k. k.row) IsIdle [] (map kept_row all) kept) (lengths : All (λ r. length r.coeffs.items ≡ columns) all) where
+  named_fits : (r : CaseRow) → Contains all r → Fits columns (kept_row r).row
+  named_fits r (k, lt, is) = record { one_each = subst (λ (x : CaseRow). length x.coeffs.items ≡ columns) is (lengths k r lt); coeffs = r.coeffs_in_range; constant = r.constant_in_range }
 
   row_fits : (r : LinearRow) → Contains (map linear_row rows) r → Fits columns r
   row_fits r has =

@@ -15,7 +15,7 @@ use Rattle.rg_linear.specs.Firsts.{KeepsFirsts}
 use Rattle.rg_linear.proofs.Members.{Contains-cons_cases}
 use Rattle.rg_order_of_work.specs.Rewriting.{KeptRow, IsIdle}
 use Rattle.rg_cycles.proofs.Firsts.{has_numbers}
-use Rattle.rg_rows.specs.declared.named_row.NamedRow.{NamedRow}
+use Rattle.rg_rows.specs.declared.case_row.CaseRow.{CaseRow}
 use Rattle.rg_rows.specs.View.{numbers_of, kept_row}
 
 -- rows with the same numbers are the same
@@ -80,7 +80,7 @@ module _ (all : List KeptRow) (has has' : List ℤ → Bool) (i : ℕ) (kept : L
 
 -- ---- the rows of the code
 
-module _ (all : List NamedRow) (i : ℕ) (row : NamedRow) (lt : i < length all) (is : row ≡ slice_index_or all i row) where
+module _ (all : List CaseRow) (i : ℕ) (row : CaseRow) (lt : i < length all) (is : row ≡ slice_index_or all i row) where
   pub row_next : drop i (map kept_row all) ≡ kept_row row ∷ drop (i + 1) (map kept_row all)
   row_next = drop-cons (map kept_row all) i (kept_row row) (simp length-map lt) ∙ ap (λ n. slice_index_or (map kept_row all) i (kept_row row) ∷ drop n (map kept_row all)) (sym (add-one i)) ∙ ap (λ x. x ∷ drop (i + 1) (map kept_row all)) (get_or-map kept_row all i row (kept_row row) lt ∙ ap kept_row (sym is))
 

@@ -13,8 +13,8 @@ use Rattle.rg_order_of_work.specs.Rewriting.{numbers_where, KeptRow, row_fold}
 use Rattle.rg_reasons.specs.Trees.{row_name_of}
 use Rattle.rg_expressions.specs.View.{TermNamesStateBelow}
 use Rattle.rg_linear.specs.View.{linear_row}
-use Rattle.rg_rows.specs.declared.named_row.NamedRow.{NamedRow}
-use Rattle.rg_rows.specs.declared.kept.NamedRows.{NamedRows}
+use Rattle.rg_rows.specs.declared.case_row.CaseRow.{CaseRow}
+use Rattle.rg_rows.specs.declared.kept.CaseRows.{CaseRows}
 
 -- the labels with an arc, but this one
 abbrev pub makers : List Bool → ℕ → List ℕ
@@ -25,11 +25,11 @@ abbrev pub numbers_of : LinearRow → List ℤ
 numbers_of row = row.coeffs ++ row.constant ∷ []
 
 -- a row with its name and its factor
-abbrev pub kept_row : NamedRow → KeptRow
+abbrev pub kept_row : CaseRow → KeptRow
 kept_row r = record { name = row_name_of r.name; row = record { coeffs = r.coeffs.items; constant = r.constant }; factor = ratio_of r.factor }
 
 -- the rows with their names and factors
-pub record ShowsRows (r : NamedRows) (kept : List KeptRow) : Type 0 where
+pub record ShowsRows (r : CaseRows) (kept : List KeptRow) : Type 0 where
   pub rows : map linear_row r.rows.items ≡ map (λ k. k.row) kept
   pub names : map row_name_of r.names.items ≡ map (λ k. k.name) kept
   pub factors : map ratio_of r.factors.items ≡ map (λ k. k.factor) kept

@@ -4,7 +4,7 @@ ghost use Rattle.rg_linear.specs.Firsts.{KeepsFirsts};
 ghost use Rattle.rg_order_of_work.specs.Rewriting.{KeptRow, IsIdle};
 ghost use Rattle.rg_rows.specs.View.{numbers_of, kept_row, ShowsRows};
 
-use crate::named_row::NamedRow;
+use crate::case_row::CaseRow;
 use rg_fraction::Fraction;
 use rg_linear::Row;
 use rg_reasons::RowName;
@@ -13,19 +13,19 @@ use std::collections::HashSet;
 
 /// Rows, each with its name and its factor.
 #[derive(Drop)]
-pub(crate) struct NamedRows {
+pub(crate) struct CaseRows {
     pub(crate) rows: Vec<Row>,
     pub(crate) names: Vec<RowName>,
     pub(crate) factors: Vec<Fraction>,
 }
 
 // Leaves out the rows without coefficients that always hold, and of equal rows all but the first.
-pub(crate) fn firsts(alloc: Global, all: &[NamedRow]) -> Result<NamedRows, AllocError>
+pub(crate) fn firsts(alloc: Global, all: &[CaseRow]) -> Result<CaseRows, AllocError>
     ensures { IfOk result (λ r. (kept : List KeptRow) × ShowsRows r kept × KeepsFirsts (λ k. k.row) IsIdle [] (map kept_row all.now) kept) }
 {
     let keys = keys(alloc, all)?;
     let mut seen = HashSet::new(alloc);
-    let mut kept = NamedRows {
+    let mut kept = CaseRows {
         rows: Vec::new(alloc),
         names: Vec::new(alloc),
         factors: Vec::new(alloc),
@@ -42,9 +42,9 @@ pub(crate) fn firsts(alloc: Global, all: &[NamedRow]) -> Result<NamedRows, Alloc
     Ok(kept)
 }
 
-impl NamedRows {
+impl CaseRows {
     // Adds a row.
-    fn push(&mut self, alloc: Global, row: &NamedRow) -> Result<(), AllocError>
+    fn push(&mut self, alloc: Global, row: &CaseRow) -> Result<(), AllocError>
         ensures { OnOk result ((kept : List KeptRow) → ShowsRows self.old kept → ShowsRows self.new (kept ++ kept_row row.now ∷ [])) }
     {
         let coeffs = row.coeffs.to_vec(alloc)?;
@@ -59,7 +59,7 @@ impl NamedRows {
 }
 
 // The numbers of each row: its coefficients, then its constant.
-fn keys(alloc: Global, rows: &[NamedRow]) -> Result<Vec<Vec<i128>>, AllocError>
+fn keys(alloc: Global, rows: &[CaseRow]) -> Result<Vec<Vec<i128>>, AllocError>
     ensures { IfOk result (λ v. map (λ key. key.items) v.items ≡ map (λ r. numbers_of (kept_row r).row) rows.now) }
 {
     let mut keys = Vec::new(alloc);
@@ -72,7 +72,7 @@ fn keys(alloc: Global, rows: &[NamedRow]) -> Result<Vec<Vec<i128>>, AllocError>
 }
 
 // Whether the row has no coefficients and always holds.
-fn is_idle(row: &NamedRow) -> bool
+fn is_idle(row: &CaseRow) -> bool
     ensures { IsTrue result ↔ IsIdle (kept_row row.now) }
 {
     row.constant >= 0 && row.coeffs.iter().all(|z| *z == 0)

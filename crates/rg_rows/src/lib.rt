@@ -8,7 +8,7 @@
 mod case;
 mod counts;
 mod kept;
-mod named_row;
+mod case_row;
 mod named_system;
 mod names;
 mod rewriting;

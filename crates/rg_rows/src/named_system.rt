@@ -14,8 +14,8 @@ ghost use Rattle.rg_columns.specs.View.{AreColumns};
 ghost use Rattle.rg_rows.specs.View.{kept_row, AreNamesWithin, fold_of};
 ghost use Rattle.rg_rows.specs.Shown.{ShowsCase};
 
-use crate::kept::{NamedRows, firsts};
-use crate::named_row::NamedRow;
+use crate::kept::{CaseRows, firsts};
+use crate::case_row::CaseRow;
 use crate::names::names;
 use crate::rewriting::row;
 use rg_columns::Columns;
@@ -75,7 +75,7 @@ pub fn system(
     let columns = Columns::new(alloc, lts, class)?;
     let names = names(alloc, lts, case, &columns)?;
     let all = rows(alloc, lts, tree, basis, &columns, case, &names)?;
-    let NamedRows {
+    let CaseRows {
         rows,
         names,
         factors,
@@ -96,7 +96,7 @@ fn rows(
     columns: &Columns,
     case: ProblemCase,
     names: &[RowName],
-) -> Result<Vec<NamedRow>, FoldStop>
+) -> Result<Vec<CaseRow>, FoldStop>
     requires tree { IsTreeOf lts.now tree.now }
     requires labels { labels_of basis.now ≡ labels lts.now }
     requires columns { AreColumns lts.now case.class columns.now }

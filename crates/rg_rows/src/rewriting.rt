@@ -17,7 +17,7 @@ ghost use Rattle.rg_columns.specs.View.{AreColumns};
 ghost use Rattle.rg_rows.specs.View.{kept_row};
 
 use crate::counts::counts;
-use crate::named_row::NamedRow;
+use crate::case_row::CaseRow;
 use rg_columns::Columns;
 use rg_cycles::{Basis, substitute};
 use rg_denominators::{Scaled, without_denominators};
@@ -35,7 +35,7 @@ pub(crate) fn row(
     columns: &Columns,
     name: RowName,
     expression: &Expression,
-) -> Result<NamedRow, FoldStop>
+) -> Result<CaseRow, FoldStop>
     requires labels { tree.now.labels ≡ labels_of basis.now }
     requires columns { length columns.now.used.items ≡ labels_of basis.now }
     requires within { All (TermNamesStateBelow tree.now.states) (expression_of expression.now).terms }
@@ -72,7 +72,7 @@ fn over_columns(
 }
 
 // The numbers and the constant, divided by their greatest common divisor; zeros are not divided.
-fn divided(name: RowName, scaled: Scaled, constant: i128) -> Result<NamedRow, FoldStop>
+fn divided(name: RowName, scaled: Scaled, constant: i128) -> Result<CaseRow, FoldStop>
     requires { InRange constant }
     ensures value { IfOk result (λ r. (r.name ≡ name) × IsDivided (scaled_of scaled) constant (kept_row r)) }
     ensures one_each { IfOk result (λ r. length r.coeffs.items ≡ length scaled.numbers.items) }
@@ -84,7 +84,7 @@ fn divided(name: RowName, scaled: Scaled, constant: i128) -> Result<NamedRow, Fo
     let divisor = row_gcd(&numbers);
     reduce(&mut numbers);
     let (coeffs, constant) = parted(numbers);
-    Ok(NamedRow {
+    Ok(CaseRow {
         name,
         coeffs,
         constant,

@@ -1,5 +1,5 @@
 use Rattle.std.proofs.Common.{◌+◌, ◌≤◌, length}
-use Rattle.rg_cert.specs.View.{IsSmall, position_in, head_in, draft_in}
+use Rattle.rg_cert.specs.View.{HasFewDue, position_in, head_in, draft_in}
 use Rattle.rg_cert.proofs.CaseReading.{IsReading}
 use Rattle.rg_cert.proofs.reading.cases.Given as goal
 
@@ -7,7 +7,7 @@ abbrev pub invariant-lines : goal.invariant-lines
 invariant-lines l = record {
   reading : IsReading l.lts (head_in l.fn.head) l.fn.text (position_in l.position) (draft_in l.draft) l.rest l.number;
   few : l.number + length l.rest ≤ 16777220;
-  small : IsSmall l.position l.number;
+  small : HasFewDue l.position l.number;
 }
 
 abbrev pub decreases-lines : goal.decreases-lines

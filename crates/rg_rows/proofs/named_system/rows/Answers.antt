@@ -6,7 +6,7 @@ use Rattle.rg_refuting.specs.Row.{RowName.block_row}
 use Rattle.rg_reasons.specs.Trees.{row_name_of}
 use Rattle.rg_fraction.specs.declared.fold_stop.FoldStop.TheVariants as stop
 use Rattle.rg_cycles.specs.View.{cycle_of}
-use Rattle.rg_rows.specs.declared.named_row.NamedRow.{NamedRow}
+use Rattle.rg_rows.specs.declared.case_row.CaseRow.{CaseRow}
 use Rattle.rg_reasons.specs.Sums.{expression_of}
 use Rattle.rg_rows.specs.View.{kept_row, fold_of}
 use Rattle.rg_cycles.proofs.Items.{map_push}
@@ -29,7 +29,7 @@ pub loop-name-preserved : goal.loop-name-preserved
 loop-name-preserved c =
     let rows = c.loop-name.rows.items in
     let row = c.in_ok-row.field-0 in
-    let lengths = λ (r : NamedRow). length r.coeffs.items ≡ column_count c.args.lts.now (cycle_of c.args.basis.now) c.args.case.class in
+    let lengths = λ (r : CaseRow). length r.coeffs.items ≡ column_count c.args.lts.now (cycle_of c.args.basis.now) c.args.case.class in
     let same = sym c.requires.labels in
     let made = fold_told c.args.lts.now c.args.tree.now.arcs (cycle_of c.args.basis.now) c.args.case.class c.args.case.problem c.args.case.number c.args.names.now c.loop-name.name-index _ (expression_of c.expression-expression.result) c.loop-name-test.true c.expression-expression.ensures (Ok (kept_row row)) (c.in_ok-row.ensures.value c.args.lts.now c.args.case.class same c.requires.columns) in
     record {

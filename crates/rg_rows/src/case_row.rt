@@ -7,7 +7,7 @@ use rg_reasons::RowName;
 
 /// A row over the columns: it is the named row times the factor, which is positive.
 #[derive(Drop)]
-pub(crate) struct NamedRow {
+pub(crate) struct CaseRow {
     pub(crate) name: RowName,
     pub(crate) coeffs: Vec<i128>,
     pub(crate) constant: i128,
