@@ -12,6 +12,7 @@ use crate::netting::net_answer;
 use crate::request::{Request, read_words};
 use crate::status::{Fault, FileFault, Status, Unbuilt, Usage, WideCause};
 use crate::texts::{file_text, usage_text, wide_text};
+use rg_memory::NoMemory;
 use rg_ports::Shelf;
 use std::alloc::{AllocError, Global};
 
@@ -27,6 +28,14 @@ pub(crate) struct Answer {
 pub(crate) enum Stop {
     ReadFault,
     NoMemory,
+}
+
+impl From<NoMemory> for Stop {
+    ghost from_gives = { λ _ e. e ≡ stop.NoMemory };
+
+    fn from(_: NoMemory) -> Stop {
+        Stop::NoMemory
+    }
 }
 
 impl From<AllocError> for Stop {

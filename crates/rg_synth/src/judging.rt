@@ -18,11 +18,12 @@ use crate::status::{Fault, Status};
 use crate::system_file::{SystemStop, read_system};
 use rg_cert::{CertFault, read};
 use rg_lts::Lts;
+use rg_memory::NoMemory;
 use rg_ports::{ReadStop, Shelf, read_all};
 use rg_reasons::Certificate;
 use rg_text::MOST_BYTES;
 use rg_verify::{Verdict, verify};
-use std::alloc::{AllocError, Global};
+use std::alloc::Global;
 
 // Whether the certificate of the second file holds for the system of the first.
 pub(crate) fn judgement_answer<H: Shelf>(
@@ -65,7 +66,7 @@ fn certificate_answer<H: Shelf>(
 }
 
 // The answer to the bytes of a certificate's file.
-fn bytes_answer(alloc: Global, lts: &Lts, bytes: &[u8]) -> Result<Answer, AllocError>
+fn bytes_answer(alloc: Global, lts: &Lts, bytes: &[u8]) -> Result<Answer, NoMemory>
     requires system { IsWellFormed lts.now }
     requires short { length bytes.now ≤ most_bytes }
     ensures { IfOk result (λ a. AnswersBytes bytes.now lts.now a.status a.out.items a.err.items) }
@@ -73,7 +74,7 @@ fn bytes_answer(alloc: Global, lts: &Lts, bytes: &[u8]) -> Result<Answer, AllocE
     match read(alloc, bytes, lts) {
         Ok(cert) => verdict_answer(alloc, lts, bytes, &cert),
         Err(fault) => match fault {
-            CertFault::NoMemory => Err(AllocError),
+            CertFault::NoMemory => Err(NoMemory),
             _ => Ok(said(alloc, Status::No, fault_text(alloc, fault)?)),
         },
     }
@@ -85,7 +86,7 @@ fn verdict_answer(
     lts: &Lts,
     bytes: &[u8],
     cert: &Certificate,
-) -> Result<Answer, AllocError>
+) -> Result<Answer, NoMemory>
     requires system { IsWellFormed lts.now }
     requires in_range { IsCertificateOf lts.now cert.now }
     requires spelled { Spells bytes.now lts.now (claim_of cert.now) }
@@ -100,6 +101,6 @@ fn verdict_answer(
                 defect_text(alloc, lts, case, node, defect)?,
             ))
         }
-        Err(_) => Err(AllocError),
+        Err(NoMemory) => Err(NoMemory),
     }
 }

@@ -19,13 +19,14 @@ use crate::system_file::{SystemStop, read_system};
 use rg_cert::print;
 use rg_checks::{first_fork, first_unreachable};
 use rg_lts::Lts;
+use rg_memory::NoMemory;
 use rg_net::Net;
 use rg_netfile::print_net;
 use rg_ports::Shelf;
 use rg_reasons::{Certificate, Reason};
 use rg_separate::{Separation, separate};
 use rg_theory::Class;
-use std::alloc::{AllocError, Global};
+use std::alloc::Global;
 
 // A net of the class for the system of the file, or why there is none.
 pub(crate) fn net_answer<H: Shelf>(
@@ -48,25 +49,24 @@ pub(crate) fn net_answer<H: Shelf>(
 }
 
 // The answer to a system.
-fn system_answer(alloc: Global, class: Class, lts: &Lts) -> Result<Answer, AllocError>
+fn system_answer(alloc: Global, class: Class, lts: &Lts) -> Result<Answer, NoMemory>
     requires { HasBoundInRange class }
     ensures { IfOk result (λ a. AnswersNet class lts.now a.status a.out.items a.err.items) }
 {
     lts.is_well_formed();
-    match first_unreachable(alloc, lts) {
-        Ok(None) => match first_fork(lts) {
+    match first_unreachable(alloc, lts)? {
+        None => match first_fork(lts) {
             None => open_answer(alloc, class, lts),
             Some((s, t, to, other)) => {
                 refutation(alloc, class, Reason::Fork(s, t, to, other), lts)
             }
         },
-        Ok(Some(s)) => refutation(alloc, class, Reason::Unreachable(s), lts),
-        Err(_) => Err(AllocError),
+        Some(s) => refutation(alloc, class, Reason::Unreachable(s), lts),
     }
 }
 
 // The certificate that gives the reason.
-fn refutation(alloc: Global, class: Class, reason: Reason, lts: &Lts) -> Result<Answer, AllocError>
+fn refutation(alloc: Global, class: Class, reason: Reason, lts: &Lts) -> Result<Answer, NoMemory>
     requires system { IsInRange lts.now }
     requires reached { IsObstructed lts.now ⊎ IsWithinReach class lts.now }
     requires is { IsReason lts.now (reason_of reason) }
@@ -74,14 +74,12 @@ fn refutation(alloc: Global, class: Class, reason: Reason, lts: &Lts) -> Result<
     requires in_range { IsCertificateOf lts.now (record { class = class; reason = reason }) }
     ensures { IfOk result (λ a. AnswersNet class lts.now a.status a.out.items a.err.items) }
 {
-    match print(alloc, &Certificate { class, reason }, lts) {
-        Ok(out) => Ok(said(alloc, Status::No, out)),
-        Err(_) => Err(AllocError),
-    }
+    let out = print(alloc, &Certificate { class, reason }, lts)?;
+    Ok(said(alloc, Status::No, out))
 }
 
 // The answer to a system without an unreachable state or a fork.
-fn open_answer(alloc: Global, class: Class, lts: &Lts) -> Result<Answer, AllocError>
+fn open_answer(alloc: Global, class: Class, lts: &Lts) -> Result<Answer, NoMemory>
     requires bound { HasBoundInRange class }
     requires is_open { IsOpen lts.now }
     ensures { IfOk result (λ a. AnswersNet class lts.now a.status a.out.items a.err.items) }
@@ -93,20 +91,18 @@ fn open_answer(alloc: Global, class: Class, lts: &Lts) -> Result<Answer, AllocEr
     match separate(alloc, lts, class) {
         Ok(Separation::Places(places)) => printed(alloc, lts, Net::new(labels, places)),
         Ok(Separation::Unsolvable(cert)) => refutation(alloc, class, cert.reason, lts),
-        Ok(Separation::TooWide(at)) => too_wide(alloc, WideCause::Synthesis(at)),
-        Err(_) => Err(AllocError),
+        Ok(Separation::TooWide(at)) => Ok(too_wide(alloc, WideCause::Synthesis(at))?),
+        Err(NoMemory) => Err(NoMemory),
     }
 }
 
 // The net's text.
-fn printed(alloc: Global, lts: &Lts, net: Net) -> Result<Answer, AllocError>
+fn printed(alloc: Global, lts: &Lts, net: Net) -> Result<Answer, NoMemory>
     requires { net.labels ≡ labels lts.now }
     ensures status { IfOk result (λ a. a.status ≡ Status.Done) }
     ensures out { IfOk result (λ a. a.out.items ≡ net_text net lts.now) }
     ensures err { IfOk result (λ a. a.err.items ≡ []) }
 {
-    match print_net(alloc, &net, lts) {
-        Ok(out) => Ok(said(alloc, Status::Done, out)),
-        Err(_) => Err(AllocError),
-    }
+    let out = print_net(alloc, &net, lts)?;
+    Ok(said(alloc, Status::Done, out))
 }
