@@ -6,9 +6,9 @@
 #![tactic(auto)]
 
 mod case;
+mod case_row;
 mod counts;
 mod kept;
-mod case_row;
 mod named_system;
 mod names;
 mod rewriting;

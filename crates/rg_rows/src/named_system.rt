@@ -14,8 +14,8 @@ ghost use Rattle.rg_columns.specs.View.{AreColumns};
 ghost use Rattle.rg_rows.specs.View.{kept_row, AreNamesWithin, fold_of};
 ghost use Rattle.rg_rows.specs.Shown.{ShowsCase};
 
-use crate::kept::{CaseRows, firsts};
 use crate::case_row::CaseRow;
+use crate::kept::{CaseRows, firsts};
 use crate::names::names;
 use crate::rewriting::row;
 use rg_columns::Columns;

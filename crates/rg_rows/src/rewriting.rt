@@ -16,8 +16,8 @@ ghost use Rattle.rg_denominators.specs.View.{scaled_of};
 ghost use Rattle.rg_columns.specs.View.{AreColumns};
 ghost use Rattle.rg_rows.specs.View.{kept_row};
 
-use crate::counts::counts;
 use crate::case_row::CaseRow;
+use crate::counts::counts;
 use rg_columns::Columns;
 use rg_cycles::{Basis, substitute};
 use rg_denominators::{Scaled, without_denominators};

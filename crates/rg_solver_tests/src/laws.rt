@@ -1,9 +1,5 @@
 //! The laws are called as any function is, and do nothing.
 use rg_farkas::multipliers_refute;
-use rg_order_of_work::folds::{calls_are_steps, folds_are_one, steps_are_one, zeros_add_nothing};
-use rg_order_of_work::rows::{expression_is_rewritten, row_is_exact, system_is_exact};
-use rg_order_of_work::shown::shown_is_one;
-use rg_order_of_work::spanning::{basis_is_exact, chords_are_exact, ways_are_one};
 use rg_linear::branching::{branching_is_one, branching_is_sound};
 use rg_linear::cycle::{cycle_basis_is_one, cycle_is_exact, kept_is_one};
 use rg_linear::descent::{descent_is_one, narrow_is_not_wide, point_is_sound, refuted_is_sound};
@@ -13,10 +9,14 @@ use rg_linear::table::rows_are_moved;
 use rg_linear::{
     columns_are_free, exchange_is_exact, relation_is_one, wide_is_one, zero_is_a_point,
 };
+use rg_order_of_work::folds::{calls_are_steps, folds_are_one, steps_are_one, zeros_add_nothing};
 use rg_order_of_work::meaning::{
     columns_are_values, points_are_exact, points_separate, rows_are_named, solutions_are_given,
     start_and_free_effects_mean, unused_labels_are_free,
 };
+use rg_order_of_work::rows::{expression_is_rewritten, row_is_exact, system_is_exact};
+use rg_order_of_work::shown::shown_is_one;
+use rg_order_of_work::spanning::{basis_is_exact, chords_are_exact, ways_are_one};
 use rg_places::{place_is_region, points_make_places};
 
 #[test]
