@@ -1,0 +1,94 @@
+//! The numbers of a range, by parts.
+ghost use Rattle.std.specs.Prelude.{◌≡◌, ℕ, ◌+◌, ◌-◌, ◌<◌, ◌≤◌, ◌++◌, IfOk};
+ghost use Rattle.std.specs.Thread.{IsSync};
+ghost use Rattle.rg_phase.specs.Answers.{HoldsFrom, AreAnswers};
+
+use crate::work::Task;
+use rg_memory::NoMemory;
+use rg_ports::Gate;
+use std::alloc::Global;
+use std::thread::{Threads, join};
+
+// One part, in order.
+fn part<T: Task, G: Gate>(
+    alloc: Global,
+    task: &T,
+    from: u32,
+    to: u32,
+    gate: &G,
+) -> Result<Vec<T::Out>, NoMemory>
+where
+    T::Out: Drop,
+    requires ordered { from ≤ to }
+    requires asked { HoldsFrom (T.asks task.now) from (to - from) }
+    ensures { IfOk result (λ v. AreAnswers (T.answers task.now) from (to - from) v.items) }
+{
+    let mut all = Vec::new(alloc);
+    for i in from..to {
+        gate.enter(i);
+        let out = task.run(i);
+        gate.leave(i);
+        match out {
+            Ok(v) => {
+                all.push(v)?;
+            }
+            Err(e) => return Err(e),
+        }
+    }
+    Ok(all)
+}
+
+/// The answers of the task for the numbers from `from` on below `to`, in order, by at most `jobs` parts that run beside each other:
+/// the range is halved until there are so many. The gate is entered before the work for a number and left after it, whatever comes of
+/// it, and can't change an answer. `NoMemory` where there is none.
+pub fn block<R: Threads + Sync, T: Task + Sync, G: Gate + Sync>(
+    rt: &R,
+    alloc: Global,
+    task: &T,
+    from: u32,
+    to: u32,
+    jobs: u8,
+    gate: &G,
+) -> Result<Vec<T::Out>, NoMemory>
+where
+    T::Out: Send + Drop,
+    requires ordered { from ≤ to }
+    requires some { 1 ≤ jobs }
+    requires asked { HoldsFrom (T.asks task.now) from (to - from) }
+    ensures { IfOk result (λ v. AreAnswers (T.answers task.now) from (to - from) v.items) }
+{
+    if jobs == 1 {
+        return part(alloc, task, from, to, gate);
+    }
+    let middle = from + (to - from) / 2;
+    let few = jobs / 2;
+    let rest = jobs - few;
+    let (left, right) = join(
+        rt,
+        move || -> Result<Vec<T::Out>, NoMemory>
+            requires { IsSync R.row × IsSync T.row × IsSync G.row × (from ≤ middle) × (1 ≤ few) × HoldsFrom (T.asks task.now) from (middle - from) }
+            ensures { IfOk result (λ v. AreAnswers (T.answers task.entry.now) from (middle - from) v.items) }
+        { block(rt, alloc, task, from, middle, few, gate) },
+        move || -> Result<Vec<T::Out>, NoMemory>
+            requires { IsSync R.row × IsSync T.row × IsSync G.row × (middle ≤ to) × (1 ≤ rest) × HoldsFrom (T.asks task.now) middle (to - middle) }
+            ensures { IfOk result (λ v. AreAnswers (T.answers task.entry.now) middle (to - middle) v.items) }
+        { block(rt, alloc, task, middle, to, rest, gate) },
+    );
+    match left {
+        Ok(all) => match right {
+            Ok(others) => both(all, others),
+            Err(e) => Err(e),
+        },
+        Err(e) => Err(e),
+    }
+}
+
+// One list after the other.
+fn both<X: Drop>(mut all: Vec<X>, others: Vec<X>) -> Result<Vec<X>, NoMemory>
+    ensures { IfOk result (λ v. v.items ≡ all.items ++ others.items) }
+{
+    for x in others {
+        all.push(x)?;
+    }
+    Ok(all)
+}

@@ -1,0 +1,162 @@
+//! Each number is done once, in two parts that run beside each other.
+ghost use Rattle.std.specs.Prelude.{◌≡◌, ◌+◌};
+
+use rg_phase::{NoMemory, Task, block};
+use rg_ports::{Gate, NoGate};
+use std::sync::atomic::{AtomicU64, Ordering};
+use std::test::Fail;
+
+const TURNS: u64 = 1_000_000_000;
+
+#[derive(Drop)]
+struct Doubles;
+
+impl Task for Doubles {
+    type Out = u64;
+
+    ghost asks = { λ _ _. Unit {0} };
+
+    ghost answers = { λ _ i v. v ≡ i + i };
+
+    fn run(&self, i: u32) -> Result<u64, NoMemory> {
+        Ok(u64::from(i) + u64::from(i))
+    }
+}
+
+// Holds the first number until the last one is entered, and the last one until the first is.
+#[derive(Drop)]
+struct Meeting {
+    first: AtomicU64,
+    last: AtomicU64,
+    missed: AtomicU64,
+    entered: [AtomicU64; 3],
+    left: [AtomicU64; 3],
+}
+
+impl Meeting {
+    fn new() -> Meeting {
+        Meeting {
+            first: AtomicU64::new(0),
+            last: AtomicU64::new(0),
+            missed: AtomicU64::new(0),
+            entered: [AtomicU64::new(0), AtomicU64::new(0), AtomicU64::new(0)],
+            left: [AtomicU64::new(0), AtomicU64::new(0), AtomicU64::new(0)],
+        }
+    }
+
+    fn meet(&self, mine: &AtomicU64, other: &AtomicU64) {
+        mine.store(1, Ordering::SeqCst);
+        for _ in 0..TURNS {
+            if other.load(Ordering::SeqCst) == 1 {
+                return;
+            }
+        }
+        self.missed.store(1, Ordering::SeqCst);
+    }
+}
+
+impl Gate for Meeting {
+    fn enter(&self, i: u32) {
+        if let Some(count) = self.entered.get(i as usize) {
+            count.fetch_add(1, Ordering::SeqCst);
+        }
+        if i == 0 {
+            self.meet(&self.first, &self.last);
+        }
+        if i == 2 {
+            self.meet(&self.last, &self.first);
+        }
+    }
+
+    fn leave(&self, i: u32) {
+        if let Some(count) = self.left.get(i as usize) {
+            count.fetch_add(1, Ordering::SeqCst);
+        }
+    }
+}
+
+#[test]
+fn two_parts_meet(rt: HostRuntime) -> Result<(), Fail> {
+    let gate = Meeting::new();
+    match block(&rt, rt.alloc(), &Doubles, 0, 3, 2, &gate) {
+        Ok(all) => assert_eq!(rt; all.as_slice(), [0, 2, 4].as_slice()),
+        Err(_) => assert!(rt; false),
+    }
+    assert_eq!(rt; gate.missed.load(Ordering::SeqCst), 0);
+    for count in gate.entered.iter() {
+        assert_eq!(rt; count.load(Ordering::SeqCst), 1);
+    }
+    for count in gate.left.iter() {
+        assert_eq!(rt; count.load(Ordering::SeqCst), 1);
+    }
+    Ok(())
+}
+
+#[test]
+fn the_answer_is_that_of_one_job(rt: HostRuntime) -> Result<(), Fail> {
+    for jobs in 1..17 {
+        match block(&rt, rt.alloc(), &Doubles, 3, 8, jobs, &NoGate) {
+            Ok(all) => assert_eq!(rt; all.as_slice(), [6, 8, 10, 12, 14].as_slice()),
+            Err(_) => assert!(rt; false),
+        }
+    }
+    match block(&rt, rt.alloc(), &Doubles, 5, 5, 7, &NoGate) {
+        Ok(all) => assert!(rt; all.is_empty()),
+        Err(_) => assert!(rt; false),
+    }
+    Ok(())
+}
+
+// Has no memory for number 4.
+#[derive(Drop)]
+struct Stops;
+
+impl Task for Stops {
+    type Out = u64;
+
+    ghost asks = { λ _ _. Unit {0} };
+
+    ghost answers = { λ _ i v. v ≡ i };
+
+    fn run(&self, i: u32) -> Result<u64, NoMemory> {
+        if i == 4 {
+            return Err(NoMemory);
+        }
+        Ok(u64::from(i))
+    }
+}
+
+// Counts how often it is entered and left.
+#[derive(Drop)]
+struct Counts {
+    entered: AtomicU64,
+    left: AtomicU64,
+}
+
+impl Gate for Counts {
+    fn enter(&self, _: u32) {
+        self.entered.fetch_add(1, Ordering::SeqCst);
+    }
+
+    fn leave(&self, _: u32) {
+        self.left.fetch_add(1, Ordering::SeqCst);
+    }
+}
+
+#[test]
+fn want_of_memory_leaves_the_gate(rt: HostRuntime) -> Result<(), Fail> {
+    for jobs in [1, 2, 8] {
+        let gate = Counts {
+            entered: AtomicU64::new(0),
+            left: AtomicU64::new(0),
+        };
+        match block(&rt, rt.alloc(), &Stops, 0, 8, jobs, &gate) {
+            Ok(_) => assert!(rt; false),
+            Err(stop) => assert_eq!(rt; stop, NoMemory),
+        }
+        let entered = gate.entered.load(Ordering::SeqCst);
+        assert!(rt; entered >= 5);
+        assert_eq!(rt; gate.left.load(Ordering::SeqCst), entered);
+    }
+    Ok(())
+}

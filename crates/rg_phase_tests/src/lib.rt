@@ -1,0 +1,5 @@
+//! Tests of blocks of tasks.
+#![tactic(auto)]
+
+#[cfg(test)]
+mod blocks;
