@@ -1,7 +1,6 @@
 -- What is found for a system is an answer.
 use Rattle.std.proofs.Common.{◌≡◌, ◌⊎◌, ℕ, ◌≤◌, List, [], All, Result, Ok, Err, IfOk, true≢false, sym, ap, subst, ◌∙◌}
 use Rattle.std.proofs.lemmas.Option.{get_or_from_slice_get, slice_get_within}
-use Rattle.std.specs.declared.alloc.AllocError.{AllocError}
 use Rattle.rg_theory.specs.System.{System, labels, IsInRange}
 use Rattle.rg_theory.specs.Net.{Place, Net, tokens}
 use Rattle.rg_theory.specs.Solves.{Solves, marking_of}
@@ -70,7 +69,7 @@ found class lts net status out err is done text none =
       none,
     )
 
-pub found_if : (class : Class) (lts : System) (net : Net) (r : Result Answer AllocError) → IsFound class lts net → IfOk r (λ a. a.status ≡ Done) → IfOk r (λ a. a.out.items ≡ net_text net lts) → IfOk r (λ a. a.err.items ≡ []) → IfOk r (λ a. AnswersNet class lts a.status a.out.items a.err.items)
+pub found_if : {E : Type 0} (class : Class) (lts : System) (net : Net) (r : Result Answer E) → IsFound class lts net → IfOk r (λ a. a.status ≡ Done) → IfOk r (λ a. a.out.items ≡ net_text net lts) → IfOk r (λ a. a.err.items ≡ []) → IfOk r (λ a. AnswersNet class lts a.status a.out.items a.err.items)
 found_if class lts net (Ok a) is done text none = found class lts net a.status a.out.items a.err.items is done text none
 found_if class lts net (Err e) is done text none = tt
 
@@ -96,6 +95,6 @@ wide : (class : Class) (lts : System) (cause : WideCause) (status : Status) (out
 wide class lts cause status out err is says nothing line = subst (λ s. AnswersNet class lts s out err) (sym says) (is, nothing, line)
 
 -- a number that passes is an answer, where there is memory for its line
-pub wide_if : (class : Class) (lts : System) (cause : WideCause) (r : Result Answer AllocError) → IsShownFor class lts cause → IfOk r (λ a. a.status ≡ TooWide cause) → IfOk r (λ a. a.out.items ≡ []) → IfOk r (λ a. a.err.items ≡ wide_line cause) → IfOk r (λ a. AnswersNet class lts a.status a.out.items a.err.items)
+pub wide_if : {E : Type 0} (class : Class) (lts : System) (cause : WideCause) (r : Result Answer E) → IsShownFor class lts cause → IfOk r (λ a. a.status ≡ TooWide cause) → IfOk r (λ a. a.out.items ≡ []) → IfOk r (λ a. a.err.items ≡ wide_line cause) → IfOk r (λ a. AnswersNet class lts a.status a.out.items a.err.items)
 wide_if class lts cause (Ok a) is says nothing line = wide class lts cause a.status a.out.items a.err.items is says nothing line
 wide_if class lts cause (Err e) is says nothing line = tt
