@@ -1,6 +1,6 @@
 //! Systems that are read from short texts, classes, and problems that may be asked.
 ghost use Rattle.std.specs.Prelude.{IsTrue};
-ghost use Rattle.rg_refuting.specs.Refutes.{IsAsked};
+ghost use Rattle.rg_refuting.specs.Refutes.{IsSeparationProblem};
 
 use rg_apt::read_lts;
 use rg_lts::Lts;
@@ -48,7 +48,7 @@ pub(crate) fn system(alloc: Global, text: &str) -> Result<Lts, Fail> {
 
 /// Whether the problem is one of the system.
 pub(crate) fn is_asked(lts: &Lts, problem: Problem) -> bool
-    ensures { IsTrue result → IsAsked lts.now problem }
+    ensures { IsTrue result → IsSeparationProblem lts.now problem }
 {
     match problem {
         Problem::Event(s, t) => {

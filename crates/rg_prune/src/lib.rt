@@ -1,0 +1,16 @@
+//! Places without which a net still solves its system are dropped, from the last one to the first.
+//!
+//! A net from which no place can be left out is called irredundant (Badouel, Bernardinello and Darondeau, *Petri Net
+//! Synthesis*). It need not be the smallest.
+#![tactic(auto)]
+
+mod blocks;
+mod firsts;
+mod laws;
+mod pruning;
+mod stops;
+mod tokens;
+
+pub use laws::{net_is_irredundant, pruned_is_one, pruned_separates};
+pub use pruning::prune;
+pub use rg_memory::NoMemory;
