@@ -1,4 +1,5 @@
 pub mod Joined
+pub mod Pruned
 pub mod Nets
 pub mod FileLemmas
 pub mod Answered

@@ -1,5 +1,5 @@
 -- What is found for a system is an answer.
-use Rattle.std.proofs.Common.{◌≡◌, ◌⊎◌, ℕ, ◌≤◌, List, [], All, Result, Ok, Err, IfOk, true≢false, sym, ap, subst, ◌∙◌}
+use Rattle.std.proofs.Common.{◌≡◌, ◌⊎◌, ℕ, ◌<◌, ◌≤◌, List, [], length, All, Result, Ok, Err, IfOk, true≢false, sym, ap, subst, ◌∙◌}
 use Rattle.std.proofs.lemmas.Option.{get_or_from_slice_get, slice_get_within}
 use Rattle.rg_theory.specs.System.{System, labels, IsInRange}
 use Rattle.rg_theory.specs.Net.{Place, Net, tokens}
@@ -7,9 +7,10 @@ use Rattle.rg_theory.specs.Solves.{Solves, marking_of}
 use Rattle.rg_theory.specs.Class.{IsBounded}
 use Rattle.rg_theory.specs.declared.Class.{Class}
 use Rattle.rg_theory.specs.Region.{IsRegionIn}
+use Rattle.rg_theory.specs.Problem.{SeparateAll}
 use Rattle.rg_theory.proofs.Classes.{yes_in_class}
 use Rattle.rg_theory.proofs.Closed.{stays_inside}
-use Rattle.rg_theory.proofs.Solution.{solution_of, places_are_regions, solved_reachable}
+use Rattle.rg_theory.proofs.Solution.{solution_of, places_are_regions, solved_reachable, solved_separates}
 use Rattle.rg_theory.proofs.Yes.{region_unique}
 use Rattle.rg_net.specs.Range.{IsNetInRange}
 use Rattle.rg_integers.specs.Range.{greatest}
@@ -21,6 +22,7 @@ use Rattle.rg_cert.specs.Spells.{Spells}
 use Rattle.rg_lts.specs.WellFormed.{IsWellFormed}
 use Rattle.rg_netfile.specs.Spells.{Spells as NetSpells}
 use Rattle.rg_netfile.proofs.PrintedTexts.{printed_spelled}
+use Rattle.rg_prune.specs.Pruned.{others}
 use Rattle.rg_separate.specs.Answer.{IsNarrowRegion, AreSeparating}
 use Rattle.rg_synth.specs.Answers.{IsOpen, IsObstructed, IsWithinReach, IsReason, IsShownFor}
 use Rattle.rg_synth.specs.Texts.{wide_line}
@@ -37,6 +39,7 @@ pub record IsFound (class : Class) (lts : System) (net : Net) : Type 0 where
   pub transitions : net.labels ≡ labels lts
   pub numbers : IsNetInRange net
   pub separating : AreSeparating lts class net.places
+  pub needed : (i : ℕ) → i < length net.places → ¬ SeparateAll (others net.places i) lts
 
 regions_of : (lts : System) (class : Class) (places : List Place) → All (IsNarrowRegion lts class) places → All (IsRegionIn lts class) places
 regions_of lts class places all i p lt = let narrow = all i p lt in (narrow.m, narrow.region)
@@ -62,6 +65,7 @@ found class lts net status out err is done text none =
         in_range = is.numbers;
         solves = solves;
         in_class = in_class;
+        irredundant = λ i lt without. is.needed i lt (solved_separates lts _ is.formed.in_range without);
         narrow = narrow_markings lts class net is.formed.in_range solves is.separating.regions;
         text = text;
         spelled = λ few. subst (λ bytes. NetSpells bytes lts net) (sym text) (printed_spelled net lts is.formed is.transitions is.numbers few);

@@ -1,5 +1,5 @@
 -- What is due to the words and the files: each status, when it is due, and what it writes.
-use Rattle.std.specs.Prelude.{◌≡◌, ◌⊎◌, ℕ, ◌≤◌, List, [], length, Option, IsTrue, IsSome}
+use Rattle.std.specs.Prelude.{◌≡◌, ◌⊎◌, ℕ, ◌<◌, ◌≤◌, List, [], length, Option, IsTrue, IsSome}
 use Rattle.rg_ports.specs.Shelf.{Files}
 use Rattle.rg_theory.specs.System.{System, IsAllReachable, IsForkFree, IsLeastUnreachable, IsLeastFork}
 use Rattle.rg_theory.specs.Net.{Net}
@@ -15,6 +15,7 @@ use Rattle.rg_refuting.specs.Refutes.{Reason, Reason.unreachable, Reason.fork, R
 use Rattle.rg_order_of_work.specs.Shown.{ShownWide}
 use Rattle.rg_separate.specs.View.{shown_of}
 use Rattle.rg_separate.specs.Answer.{IsUnbranched}
+use Rattle.rg_prune.specs.Pruned.{net_without}
 use Rattle.rg_cert.specs.Text.{cert_text}
 use Rattle.rg_cert.specs.Spells.{Spells as CertificateSpells}
 use Rattle.rg_synth.specs.Words.{Asked, net, judgement, AreRefused}
@@ -56,13 +57,14 @@ pub record IsWithinReach (class : Class) (lts : System) : Type 0 where
   pub is_open : IsOpen lts
   pub class_is : IsUnbranched class
 
--- the bytes are the text of a net of the class that solves the system, and are read as that net where a net file may have so
--- many places; no number of the net or of a reachable marking is above 2^127 - 1
+-- the bytes are the text of a net of the class that solves the system and without any one of its places doesn't, and are read
+-- as that net where a net file may have so many places; no number of the net or of a reachable marking is above 2^127 - 1
 pub record IsNetText (class : Class) (lts : System) (out : List ℕ) : Type 0 where
   pub net : Net
   pub in_range : IsNetInRange net
   pub solves : Solves net lts
   pub in_class : InClass net class
+  pub irredundant : (i : ℕ) → i < length net.places → ¬ Solves (net_without net i) lts
   pub narrow : IsBounded net greatest
   pub text : out ≡ net_text net lts
   pub spelled : length net.places ≤ most_places → NetSpells out lts net

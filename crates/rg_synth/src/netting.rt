@@ -1,10 +1,12 @@
 //! The answer to a request for a net.
-ghost use Rattle.std.specs.Prelude.{◌≡◌, ◌⊎◌, [], IfOk, IsErrOf};
+ghost use Rattle.std.specs.Prelude.{◌≡◌, ◌⊎◌, [], map, IfOk, IsErrOf};
 ghost use Rattle.rg_ports.specs.Count.{HasRisen};
 ghost use Rattle.rg_ports.specs.Shelf.{asked_with};
 ghost use Rattle.rg_theory.specs.System.{labels, IsInRange};
 ghost use Rattle.rg_theory.specs.ClassWords.{HasBoundInRange};
 ghost use Rattle.rg_net.specs.NetText.{net_text};
+ghost use Rattle.rg_net.specs.Shown.{shown_place};
+ghost use Rattle.rg_separate.specs.Answer.{AreSeparating};
 ghost use Rattle.rg_refuting.specs.Refutes.{Accepts};
 ghost use Rattle.rg_reasons.specs.Certificates.{reason_of, IsCertificateOf};
 ghost use Rattle.rg_synth.specs.Words.{net};
@@ -20,9 +22,10 @@ use rg_cert::print;
 use rg_checks::{first_fork, first_unreachable};
 use rg_lts::Lts;
 use rg_memory::NoMemory;
-use rg_net::Net;
+use rg_net::{Net, Place};
 use rg_netfile::print_net;
 use rg_ports::Shelf;
+use rg_prune::prune;
 use rg_reasons::{Certificate, Reason};
 use rg_separate::{Separation, separate};
 use rg_theory::Class;
@@ -87,13 +90,28 @@ fn open_answer(alloc: Global, class: Class, lts: &Lts) -> Result<Answer, NoMemor
     if class.plain || class.bound.is_some() {
         return Ok(unbuilt(alloc, Unbuilt::Class));
     }
-    let labels = lts.labels();
     match separate(alloc, lts, class) {
-        Ok(Separation::Places(places)) => printed(alloc, lts, Net::new(labels, places)),
+        Ok(Separation::Places(places)) => net_of_those_needed(alloc, class, lts, places),
         Ok(Separation::Unsolvable(cert)) => refutation(alloc, class, cert.reason, lts),
         Ok(Separation::TooWide(at)) => Ok(too_wide(alloc, WideCause::Synthesis(at))?),
         Err(NoMemory) => Err(NoMemory),
     }
+}
+
+// The net of those places of which none can be left out.
+fn net_of_those_needed(
+    alloc: Global,
+    class: Class,
+    lts: &Lts,
+    places: Vec<Place>,
+) -> Result<Answer, NoMemory>
+    requires within { IsWithinReach class lts.now }
+    requires separating { AreSeparating lts.now class (map shown_place places.items) }
+    ensures { IfOk result (λ a. AnswersNet class lts.now a.status a.out.items a.err.items) }
+{
+    let labels = lts.labels();
+    let needed = prune(alloc, lts, places)?;
+    printed(alloc, lts, Net::new(labels, needed))
 }
 
 // The net's text.
