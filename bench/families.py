@@ -3,10 +3,12 @@
 
     bench/families.py write doubling 100 > doubling100.apt
     bench/families.py run crates/regions/out/regions [none pure ..]
+    bench/families.py beside EARLIER crates/regions/out/regions [none pure ..]
 
 `run` prints for each system and class (`none` and `pure`, unless classes are named) the status, the seconds, the peak memory as
-GNU time tells it, the numbers of states and of separation problems, how many places the net has (each was made for one problem, the
-others are separated by places kept before), and what err says. It is run by hand and is no test.
+GNU time tells it, the numbers of states and of separation problems, how many places the net has, and what err says. `beside` runs
+an earlier program first, and prints its seconds, memory and places in columns of their own: a program that prunes no places shows
+how many are found. It is run by hand and is no test.
 """
 import itertools
 import os
@@ -81,8 +83,33 @@ def philosophers(n):
     return seen, labels, arcs
 
 
-FAMILIES = {'grid': grid, 'doubling': doubling, 'lock': lock, 'philosophers': philosophers}
-SIZES = {'grid': (10, 20, 40, 63), 'lock': (2, 3, 4, 5, 6), 'doubling': (20, 40), 'philosophers': (3, 4, 5, 6)}
+def star(n):
+    """From the initial state each label leads to a state of its own."""
+    steps = range(1, n + 1)
+    return [f's{i}' for i in range(n + 1)], [f't{i}' for i in steps], [('s0', f't{i}', f's{i}') for i in steps]
+
+
+def word(n):
+    """Twelve labels in turn, one word of so many letters."""
+    labels = [f'x{i}' for i in range(12)]
+    return [f's{i}' for i in range(n + 1)], labels, [(f's{i}', labels[i % 12], f's{i+1}') for i in range(n)]
+
+
+def prefixes(n):
+    """The prefixes of the words c .. c ti d, with i letters c."""
+    states, arcs = [], []
+    for i in range(n + 1):
+        states += [f'p{i}', f'q{i}', f'r{i}']
+        arcs += [(f'p{i}', f't{i}', f'q{i}'), (f'q{i}', 'd', f'r{i}')]
+        if i < n:
+            arcs.append((f'p{i}', 'c', f'p{i+1}'))
+    return states, ['c', 'd'] + [f't{i}' for i in range(n + 1)], arcs
+
+
+FAMILIES = {'grid': grid, 'doubling': doubling, 'lock': lock, 'philosophers': philosophers,
+            'star': star, 'word': word, 'prefixes': prefixes}
+SIZES = {'grid': (10, 20, 40, 63), 'lock': (2, 3, 4, 5, 6), 'doubling': (20, 40), 'philosophers': (3, 4, 5, 6),
+         'star': (40, 120), 'word': (60, 200), 'prefixes': (10, 30)}
 
 
 def text(states, labels, arcs):
@@ -112,8 +139,9 @@ def places(out):
     return lines.index('.transitions') - first
 
 
-def run(program, classes):
-    print('family | class | status | seconds | MiB | states | problems | places | err')
+def run(programs, classes):
+    columns = ['status', 'seconds', 'MiB', 'places'] * len(programs)
+    print(' | '.join(['family', 'class', 'states', 'problems', *columns, 'err']))
     with tempfile.TemporaryDirectory() as folder:
         for family, sizes in SIZES.items():
             for n in sizes:
@@ -122,10 +150,11 @@ def run(program, classes):
                 with open(path, 'w') as file:
                     file.write(text(*system))
                 for class_word in classes:
-                    status, seconds, peak, out, said = measure(program, class_word, path)
-                    line = [f'{family} {n}', class_word, str(status), f'{seconds:.2f}', f'{peak:.1f}', f'{len(system[0]):,}',
-                            f'{problems(*system):,}', str(places(out)), said]
-                    print(' | '.join(line), flush=True)
+                    line = [f'{family} {n}', class_word, f'{len(system[0]):,}', f'{problems(*system):,}']
+                    for program in programs:
+                        status, seconds, peak, out, said = measure(program, class_word, path)
+                        line += [str(status), f'{seconds:.2f}', f'{peak:.1f}', f'{places(out):,}']
+                    print(' | '.join([*line, said]), flush=True)
 
 
 def main():
@@ -133,7 +162,9 @@ def main():
     if len(words) == 3 and words[0] == 'write' and words[1] in FAMILIES:
         sys.stdout.write(text(*FAMILIES[words[1]](int(words[2]))))
     elif len(words) >= 2 and words[0] == 'run':
-        run(words[1], words[2:] or ['none', 'pure'])
+        run(words[1:2], words[2:] or ['none', 'pure'])
+    elif len(words) >= 3 and words[0] == 'beside':
+        run(words[1:3], words[3:] or ['none', 'pure'])
     else:
         sys.exit(__doc__)
 

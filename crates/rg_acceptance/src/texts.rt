@@ -1,5 +1,6 @@
 //! Texts in the format of APT: as users write them, and with their first faults.
 use crate::harness::{NoRoom, synthesize};
+use crate::worked::CHOICE;
 use itoa::Buffer;
 use rg_apt::TextFault;
 use rg_lexer::Want;
@@ -27,6 +28,10 @@ const TWICE: &str = ".type LTS .states s0[initial] .labels a .arcs s0 a s0 s0 a 
 const LOOP_NET: &str =
     ".type PN\n.places\n.transitions\na\n.flows\na: {} -> {}\n.initial_marking {}\n";
 
+// Of three places for the choice the one that was found last is superfluous.
+const CHOICE_NET: &str =
+    ".type PN\n.places\np0\np1\n.transitions\na\nb\n.flows\na: {p0, p1} -> {p1}\nb: {p0, p1} -> {p0}\n.initial_marking {p0, p1}\n";
+
 #[test]
 fn nets_byte_for_byte(rt: HostRuntime) -> Result<(), NoRoom> {
     for (text, net) in [
@@ -34,6 +39,7 @@ fn nets_byte_for_byte(rt: HostRuntime) -> Result<(), NoRoom> {
         (LOOP, LOOP_NET),
         (TWICE, LOOP_NET),
         (SIDE, SIDE_NET),
+        (CHOICE, CHOICE_NET),
     ] {
         let outcome = synthesize(&rt, rt.alloc(), "none", text.as_bytes())?;
         assert_eq!(rt; outcome.status, Status::Done);
