@@ -83,6 +83,7 @@ fn refutation(alloc: Global, class: Class, reason: Reason, lts: &Lts) -> Result<
 
 // The answer to a system without an unreachable state or a fork.
 fn open_answer(alloc: Global, class: Class, lts: &Lts) -> Result<Answer, NoMemory>
+    requires system { IsInRange lts.now }
     requires bound { HasBoundInRange class }
     requires is_open { IsOpen lts.now }
     ensures { IfOk result (λ a. AnswersNet class lts.now a.status a.out.items a.err.items) }

@@ -10,6 +10,11 @@ use Rattle.rg_synth.proofs.netting.net_of_those_needed.Goals as goal
 pub prune-requires-clause-narrow : goal.prune-requires-clause-narrow
 prune-requires-clause-narrow c = narrow_all c.args.lts.now c.args.class c.args.places.items c.requires.separating
 
+pub new-requires : goal.new-requires
+new-requires c =
+    let separating = left_separating c.args.lts.now c.args.class (map shown_place c.args.places.items) (map shown_place c.in_ok-needed.needed.items) c.requires.separating c.in_ok-needed.ensures in
+    subst (λ (n : ℕ). IsNetInRange (record { labels = n; places = map shown_place c.in_ok-needed.needed.items })) (sym c.labels-labels.ensures.value) separating.in_range
+
 pub returns : goal.returns
 returns c =
     let places : List Place = map shown_place c.args.places.items in
