@@ -6,7 +6,7 @@ use Rattle.std.proofs.lemmas.Bool.{false_from_ne_true}
 use Rattle.std.proofs.lemmas.Slice.Eq.{bytes_eq-Decides}
 use Rattle.rg_lexer.specs.Lexeme.{Lexeme}
 use Rattle.rg_lexer.specs.declared.token.Kind.TheVariants.{Name, Word, Text}
-use Rattle.rg_apt.specs.Item.{Triple, Item, IsTriple, IsItem, AreItems, IsOtherWord, IsTypeName}
+use Rattle.rg_apt.specs.Item.{Item, IsItem, AreItems, IsOtherWord}
 use Rattle.rg_apt.specs.Item as item
 use Rattle.rg_apt.specs.Table.{Section, states, labels, arcs, Position, section, type_name, passed_text, in_section, after_entry, after_word, is_type_name, may_end}
 use Rattle.rg_apt.specs.Contents.{Declared, is_type, states_in, labels_in, arcs_in, declared}

@@ -1,3 +1,3 @@
-mod Forks
+pub mod Forks
 mod Walking
 pub mod Shutting

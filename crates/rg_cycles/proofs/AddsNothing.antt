@@ -1,5 +1,5 @@
 -- One step of the sum for a free label: a term that is added, and one of value 0 that is passed over.
-use Rattle.std.proofs.Common.{◌≡◌, ◌≢◌, ℕ, ◌∙◌, Result, Ok, Err, inr, ap, subst, sym}
+use Rattle.std.proofs.Common.{◌≡◌, ◌≢◌, ◌∙◌, Result, Ok, Err, inr, ap, subst, sym}
 use Rattle.std.specs.Prelude.{ℤ, pos}
 use Rattle.std.specs.Int.{w128, cast_signed, cast_unsigned}
 use Rattle.rg_integers.specs.Range.{InRange}

@@ -1,7 +1,7 @@
 -- What a basis of vectors says of the values of the columns.
 use Rattle.std.proofs.lemmas.Bool.{false≢true}
 use Rattle.std.proofs.lemmas.List.Elements.{Contains-get_or}
-use Rattle.std.proofs.Common.{◌≡◌, ◌⊎◌, ⊎_elim, ◌↔◌, ℕ, ◌+◌, ◌-◌, ◌<◌, ◌≤◌, Bool, true, false, not, ◌&&◌, nat_lt, List, [], ◌∷◌, filter, length, Contains, inl, inr, ap, ap₂, refl, subst, sym, ◌∙◌, arith}
+use Rattle.std.proofs.Common.{◌≡◌, ◌⊎◌, ⊎_elim, ◌↔◌, ℕ, ◌+◌, ◌-◌, ◌<◌, ◌≤◌, Bool, true, false, not, ◌&&◌, nat_lt, List, [], filter, length, Contains, inl, inr, ap, ap₂, refl, subst, sym, ◌∙◌, arith}
 use Rattle.std.specs.Prelude.{ℤ, pos, ◌+ℤ◌, ◌*ℤ◌, ◌<ℤ◌, slice_index}
 use Rattle.std.specs.Ordering.{int_eq}
 use Rattle.std.proofs.Math.IntN.{zero-*ℤ}
@@ -16,7 +16,6 @@ use Rattle.rg_linear.specs.System.{LinearRow, entry}
 use Rattle.rg_linear.specs.Dictionary.{Relation, DictionaryRow, numbers_from}
 use Rattle.rg_linear.specs.Descent.{WideAt}
 use Rattle.rg_linear.specs.Cycle.{CycleOutcome.free_set, CycleOutcome.too_wide, CycleWalk, RowsAreZero, FollowsRelations, vector_at, IsZeroVector, KeepsVectors, vector_system, CycleBasis, IsCycleBasis}
-use Rattle.rg_linear.specs.Firsts.{KeepsFirsts}
 use Rattle.rg_dictionary.specs.Contents.{Contents, IsDictionary}
 use Rattle.rg_cycles.specs.Walk.{IsSolved}
 use Rattle.rg_linear.proofs.Members.{length-numbers_from, Contains-numbers_from, IsInOrder, order_from_increasing}

@@ -1,15 +1,15 @@
 -- A step of the walk over the rows of a dictionary.
-use Rattle.std.proofs.lemmas.List.{get_or_default, get_or-map}
-use Rattle.std.proofs.Common.{◌≡◌, ⊎_elim, ℕ, suc, ◌+◌, ◌<◌, ◌≤◌, List, ◌∷◌, length, map, slice_index_or, Contains, ap, subst, sym, ◌∙◌, arith}
+use Rattle.std.proofs.lemmas.List.{get_or_default}
+use Rattle.std.proofs.Common.{◌≡◌, ⊎_elim, ℕ, suc, ◌+◌, ◌<◌, ◌≤◌, List, length, slice_index_or, Contains, ap, subst, sym, ◌∙◌, arith}
 use Rattle.std.specs.Prelude.{ℤ, pos, slice_index}
 use Rattle.std.proofs.lemmas.Bool.{cases_lt}
 use Rattle.std.proofs.lemmas.List.Kept.{AllPairs-from_increasing}
 use Rattle.rg_integers.specs.Sum.{number_at}
 use Rattle.rg_fraction.specs.declared.term.Wide.{Wide}
 use Rattle.rg_linear.specs.System.{LinearSystem, row_variable}
-use Rattle.rg_linear.specs.Dictionary.{Relation, numbers_from}
+use Rattle.rg_linear.specs.Dictionary.{numbers_from}
 use Rattle.rg_linear.specs.Exchange.{exchanged, AllFit, FirstWide}
-use Rattle.rg_linear.specs.Table.{numbers_of, ShowsRow}
+use Rattle.rg_linear.specs.Table.{ShowsRow}
 use Rattle.rg_linear.specs.Cycle.{CycleOutcome, CycleOutcome.free_set, CycleOutcome.too_wide, IsSkipped, Picks, CycleWalkFrom, CycleWalkFrom.no_row_left, CycleWalkFrom.skipped, CycleWalkFrom.passes, CycleWalkFrom.exchanges, CycleWalk}
 use Rattle.rg_linear.proofs.Members.{is_member, exchanged-Contains, numbers_from-Contains}
 use Rattle.rg_integers.proofs.Order.{is_zero_or_not}

@@ -1,7 +1,6 @@
 -- What is asked of a spreading: rows within the system, and names in range.
-use Rattle.std.proofs.Common.{ℕ, zero, suc, ◌*◌, ◌<◌, Bool, true, false, if◌then◌else◌, List, [], ◌∷◌, ◌++◌, map, drop, length, Some, Ok, Contains, All, refl, subst, sym, arith}
-use Rattle.std.specs.Prelude.{ℤ, pos, neg_ℤ, ◌-ℤ◌, ◌<ℤ◌, IsTrue, slice_get}
-use Rattle.std.proofs.lemmas.Bool.{false≢true}
+use Rattle.std.proofs.Common.{ℕ, ◌<◌, List, [], ◌∷◌, ◌++◌, map, drop, length, Ok, Contains, All, refl, subst, sym, arith}
+use Rattle.std.specs.Prelude.{ℤ, pos, ◌<ℤ◌}
 use Rattle.std.proofs.lemmas.List.Elements.{All-nil, All-cons, All-head, All-tail, All-map, All-append, All-weaker}
 use Rattle.rg_theory.specs.declared.Arc.{Arc}
 use Rattle.rg_theory.specs.declared.Class.{Class}
@@ -11,8 +10,8 @@ use Rattle.rg_theory.specs.System.{System, states, labels, IsInRange, IsArcInRan
 use Rattle.rg_integers.specs.Range.{InRange}
 use Rattle.rg_fraction.specs.declared.fraction.Fraction.{Fraction}
 use Rattle.rg_linear.specs.Cycle.{CycleBasis}
-use Rattle.rg_refuting.specs.Expression.{Variable, Variable.tokens_at, Variable.effect_of, Term, Expression, plus, minus, sum_of}
-use Rattle.rg_refuting.specs.Row.{Side, RowName, RowName.arc_row, RowName.tokens_row, RowName.cap_row, RowName.up_row, RowName.down_row, RowName.makes_row, RowName.stop_row, RowName.block_row, RowName.empty_row, RowName.full_row, RowName.keep_row, RowName.apart_row, RowName.above_row, RowStands, side_expression, shared_expression, event_expression, state_expression, apart_expression, row_expression, order_of, cases_of}
+use Rattle.rg_refuting.specs.Expression.{Expression}
+use Rattle.rg_refuting.specs.Row.{Side, RowName, RowStands, row_expression}
 use Rattle.rg_refuting.specs.Refutes.{NamedRow, IsSeparationProblem}
 use Rattle.rg_reasons.specs.declared.certificate.RowName.{RowName as CodeName}
 use Rattle.rg_reasons.specs.Trees.{named_row}

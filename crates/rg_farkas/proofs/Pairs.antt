@@ -17,7 +17,7 @@ use Rattle.rg_order_of_work.specs.Rewriting.{is_in, dependent_labels}
 use Rattle.rg_order_of_work.specs.Spreading.{pairs_of}
 use Rattle.rg_farkas.specs.Leaves.{share_of}
 use Rattle.rg_reasons.specs.declared.sum.Expression.{Expression as CodeExpression}
-use Rattle.rg_reasons.specs.Sums.{terms_in, expression_of}
+use Rattle.rg_reasons.specs.Sums.{expression_of}
 use Rattle.rg_farkas.specs.View.{LabelCount, pair_count, label_count, AreRowsWithin}
 use Rattle.rg_reasons.specs.Certificates.{IsTermWithin}
 use Rattle.rg_cycles.proofs.Items.{from_place}

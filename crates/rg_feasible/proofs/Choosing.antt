@@ -1,5 +1,5 @@
 -- What the numbers of a failing row's relation say: it is stuck, or its least free variable.
-use Rattle.std.proofs.Common.{◌≡◌, ◌≢◌, ⊎_elim, ℕ, suc, false, ◌+◌, ◌<◌, ◌≤◌, List, length, reverse, slice_index_or, Contains, ap, subst, sym, ◌∙◌, arith}
+use Rattle.std.proofs.Common.{◌≡◌, ◌≢◌, ⊎_elim, ℕ, false, ◌+◌, ◌<◌, ◌≤◌, List, length, reverse, slice_index_or, Contains, ap, subst, sym, ◌∙◌, arith}
 use Rattle.std.specs.Prelude.{ℤ, pos, ◌<ℤ◌, int_le, slice_index}
 use Rattle.std.specs.Int.{w128, cast_signed, cast_unsigned}
 use Rattle.std.proofs.lemmas.Int.{ints}
@@ -11,9 +11,8 @@ use Rattle.rg_integers.proofs.Casts.{back}
 use Rattle.rg_integers.proofs.Order.{is_zero_or_not}
 use Rattle.rg_fraction.specs.declared.term.Wide.{Wide}
 use Rattle.rg_linear.specs.System.{LinearSystem, row_variable}
-use Rattle.rg_linear.specs.Dictionary.{Relation}
 use Rattle.rg_linear.specs.Exchange.{exchanged, AllFit, FirstWide}
-use Rattle.rg_linear.specs.Table.{numbers_of, ShowsRow}
+use Rattle.rg_linear.specs.Table.{ShowsRow}
 use Rattle.rg_linear.specs.Descent.{IsStuck, Chooses}
 use Rattle.rg_linear.specs.Stack.{fixed_of}
 use Rattle.rg_dictionary.specs.Contents.{Contents, IsDictionary}

@@ -1,10 +1,8 @@
 -- The table of a system, filled row by row.
-use Rattle.std.proofs.Common.{◌≡◌, ℕ, ◌+◌, ◌<◌, ◌≤◌, List, [], length, map, take, slice_index_or, ap, subst, sym, ◌∙◌, arith}
+use Rattle.std.proofs.Common.{◌≡◌, ℕ, ◌+◌, ◌<◌, ◌≤◌, List, [], length, map, take, slice_index_or, ap, sym, ◌∙◌}
 use Rattle.std.specs.Prelude.{pos}
 use Rattle.std.specs.Int.{w128, cast_signed, cast_unsigned}
-use Rattle.std.proofs.lemmas.List.{take_more, get_or-map, length-map, take_all}
-use Rattle.rg_integers.specs.Range.{InRange}
-use Rattle.rg_integers.specs.Sum.{number_at}
+use Rattle.std.proofs.lemmas.List.{take_more, take_all}
 use Rattle.rg_integers.proofs.Casts.{back}
 use Rattle.rg_linear.specs.System.{LinearSystem, LinearRow, row_at}
 use Rattle.rg_linear.specs.declared.system.Row.{Row}

@@ -1,8 +1,7 @@
 -- The relation, the values and the multipliers that the numbers of a row show.
-use Rattle.std.proofs.Common.{◌≡◌, ◌≢◌, ⊎_elim, ℕ, zero, suc, ◌+◌, ◌*◌, ◌<◌, Bool, true, false, ◌==◌, if◌then◌else◌, List, [], ◌∷◌, length, map, drop, Contains, Some, ap, refl, subst, sym, ◌∙◌, arith, eqb-true}
+use Rattle.std.proofs.Common.{◌≡◌, ◌≢◌, ℕ, zero, suc, ◌+◌, ◌*◌, ◌<◌, ◌==◌, if◌then◌else◌, List, [], ◌∷◌, length, drop, Contains, Some, ap, refl, subst, sym, ◌∙◌, arith}
 use Rattle.std.specs.Prelude.{ℤ, pos, neg_ℤ, ◌-ℤ◌, ◌≤ℤ◌, slice_range, slice_index}
 use Rattle.std.proofs.Math.IntN.{*ℤ_comm}
-use Rattle.std.proofs.lemmas.Bool.{false≢true}
 use Rattle.std.specs.Int.{w128, cast_signed, cast_unsigned}
 use Rattle.std.proofs.lemmas.Int.{ints}
 use Rattle.std.proofs.lemmas.Option.{same_Some}
@@ -18,7 +17,7 @@ use Rattle.rg_linear.specs.System.{LinearSystem, AreFarkasMultipliers, variables
 use Rattle.rg_linear.specs.Dictionary.{Relation, DictionaryRow}
 use Rattle.rg_linear.specs.Table.{numbers_of, number_beside, ShowsRow}
 use Rattle.rg_linear.specs.Descent.{Outcome.point, Outcome.refuted, DescentFromStart, multiplier_of}
-use Rattle.rg_linear.proofs.Members.{same, differs, Contains-here, Contains-there, Contains-cons_cases}
+use Rattle.rg_linear.proofs.Members.{same, differs, Contains-here, Contains-there}
 use Rattle.rg_linear.proofs.Points.{constant_left, point_is_sound, zero_point_of}
 use Rattle.rg_linear.proofs.Refuting.{start_refuted, refuted_is_sound}
 use Rattle.rg_linear.proofs.TableLemmas.{beside_map}

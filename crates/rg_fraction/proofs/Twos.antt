@@ -1,10 +1,10 @@
 -- Factors 2, and greatest common divisors of which one number is odd.
-use Rattle.std.proofs.Common.{◌≡◌, ℕ, zero, suc, ◌+◌, ◌-◌, ◌*◌, ◌/◌, ◌%◌, ◌^◌, ◌<◌, ◌≤◌, refl, ap, subst, sym, ◌∙◌, arith}
+use Rattle.std.proofs.Common.{◌≡◌, ℕ, zero, suc, ◌+◌, ◌-◌, ◌*◌, ◌/◌, ◌%◌, ◌^◌, ◌<◌, ◌≤◌, ap, subst, sym, ◌∙◌, arith}
 use Rattle.std.specs.Int.{IsGcd, ◌∣◌, bit_at, w128, trailing_zeros}
-use Rattle.std.proofs.Math.Nat.{one-dvd, dvd-mul_left, dvd-mul_right, pow-suc, mul-le-mul_right}
+use Rattle.std.proofs.Math.Nat.{one-dvd, dvd-mul_right, pow-suc, mul-le-mul_right}
 use Rattle.std.proofs.lemmas.Nat.{shr-shr}
 use Rattle.std.proofs.lemmas.Nat.Bits.{bit_at-trailing_zeros}
-use Rattle.std.proofs.lemmas.Nat.Gcd.{IsGcd-from_zero, IsGcd-from_mod, IsGcd-from_sub, IsGcd-swap, dvd_trans}
+use Rattle.std.proofs.lemmas.Nat.Gcd.{IsGcd-from_mod, IsGcd-from_sub, IsGcd-swap, dvd_trans}
 use Rattle.rg_fraction.proofs.Ones.{one_is_reduced}
 use Rattle.rg_integers.proofs.Coprime.{coprime_divides, coprime_product, IsGcd-times}
 

@@ -1,11 +1,9 @@
 -- Sums and products of whole numbers: the terms of fractions over 1.
-use Rattle.std.proofs.Common.{◌≡◌, ℕ, ◌<◌, ◌^◌, ◌⊎◌, inl, Result, Ok, Err, ap, refl, sym, subst, arith}
-use Rattle.std.specs.Prelude.{◌%◌, ℤ, pos, neg_ℤ, ◌+ℤ◌, ◌-ℤ◌, ◌*ℤ◌, unsigned_abs, int_div}
+use Rattle.std.proofs.Common.{◌≡◌, inl, Ok, Err, ap, refl, sym, subst, arith}
+use Rattle.std.specs.Prelude.{ℤ, pos, neg_ℤ, ◌+ℤ◌, ◌-ℤ◌, ◌*ℤ◌}
 use Rattle.std.proofs.lemmas.Int.{ints}
-use Rattle.rg_integers.specs.Range.{InRange, Fits}
-use Rattle.rg_integers.specs.Divisor.{int_gcd}
+use Rattle.rg_integers.specs.Range.{InRange}
 use Rattle.rg_integers.specs.Value.{SameValue}
-use Rattle.rg_fraction.specs.declared.term.Wide.{Wide}
 use Rattle.rg_fraction.specs.declared.fraction.Fraction.{Fraction}
 use Rattle.rg_fraction.specs.Terms.{FitsTerm, product_term, sum_top, sum_bottom, product_top, product_bottom}
 use Rattle.rg_fraction.specs.Fractions.{Shows, IsSum, IsProduct}

@@ -6,6 +6,7 @@ use Rattle.std.proofs.lemmas.Int.{ints, by_lt_z}
 use Rattle.rg_linear.specs.System.{LinearRow, LinearSystem, row_variable, IsPoint, MeetsRows}
 use Rattle.rg_linear.specs.Dictionary.{Takes}
 use Rattle.rg_linear.specs.Descent.{Outcome, Outcome.point, Outcome.refuted, Outcome.wide, DescentFromStart, IsAtZero}
+use Rattle.rg_linear.specs.Room.{gap_of, gap, total}
 use Rattle.rg_linear.specs.Branching.{Form, form_at, scaled_value, SplitSide, side_row, node_system, IsWholeAt, FirstFraction, SplitTree, SplitTree.split, BranchOutcome, BranchOutcome.found, BranchOutcome.tree, BranchOutcome.stopped, IsEnd, low_side, high_side, BranchFrom, BranchFrom.passes, BranchFrom.refutes, BranchFrom.whole, BranchFrom.low_ends, BranchFrom.high_ends, BranchFrom.both_refuted, Branching, ArePositive, AreBounded, low_end, high_end, low_at, high_at, IsInInterval, SidesWithin, TreeWithin, SplitsWithin}
 use Rattle.std.proofs.Math.IntN.{*ℤ-zero, *ℤ_comm}
 use Rattle.rg_integers.proofs.Ring.{neg-mul}
@@ -130,7 +131,7 @@ last_meets system row scale v p meets = subst (λ r. pos 0 ≤ℤ worth system.c
     last = let e = length-append system.rows (row ∷ []) in omega arith
 
 module _ (system : LinearSystem) (forms : List Form) (above : List SplitSide) (within : Within system forms above) (g : ℕ) (u : ℤ) where
-  within_low : Within system forms (above ++ low_side g u ∷ [])
+  pub within_low : Within system forms (above ++ low_side g u ∷ [])
   unfolding Within
   within_low f scale v lt p meets = (subst (λ z. (z *ℤ ((form_at forms f).scale *ℤ scale)) ≤ℤ scaled_value system (form_at forms f) v) (sym (low_end-low (form_at forms f).low f g u above)) old.0, subst (λ z. scaled_value system (form_at forms f) v ≤ℤ (z *ℤ ((form_at forms f).scale *ℤ scale))) (sym (high_end-low (form_at forms f).high f g u above)) (at (equal_or_not g f)))
     where
@@ -153,7 +154,7 @@ module _ (system : LinearSystem) (forms : List Form) (above : List SplitSide) (w
       at (inl e) = rw (← e, same g) (most _ _ row)
       at (inr ne) = rw (differs g f ne) old.1
 
-  within_high : Within system forms (above ++ high_side g u ∷ [])
+  pub within_high : Within system forms (above ++ high_side g u ∷ [])
   unfolding Within
   within_high f scale v lt p meets = (subst (λ z. (z *ℤ ((form_at forms f).scale *ℤ scale)) ≤ℤ scaled_value system (form_at forms f) v) (sym (low_end-high (form_at forms f).low f g u above)) (at (equal_or_not g f)), subst (λ z. scaled_value system (form_at forms f) v ≤ℤ (z *ℤ ((form_at forms f).scale *ℤ scale))) (sym (high_end-high (form_at forms f).high f g u above)) old.1)
     where
@@ -178,17 +179,6 @@ module _ (system : LinearSystem) (forms : List Form) (above : List SplitSide) (w
 
 -- ---- the measure
 
-abbrev gap_of : ℤ → ℕ
-gap_of (pos n) = n
-gap_of (negsuc n) = 0
-
-abbrev gap : List Form → List SplitSide → ℕ → ℕ
-gap forms above f = gap_of (high_at forms above f -ℤ low_at forms above f)
-
-abbrev total : ℕ → (ℕ → ℕ) → ℕ
-total zero f = 0
-total (suc n) f = total n f + f n
-
 total-le : (n : ℕ) (f g : ℕ → ℕ) → ((m : ℕ) → m < n → g m ≤ f m) → total n g ≤ total n f
 total-le zero f g le = omega arith
 total-le (suc n) f g le = let ih = total-le n f g (λ m h. le m (omega arith)) in let here = le n (omega arith) in omega arith
@@ -210,7 +200,7 @@ total-less (suc n) i f g lt less others = split (equal_or_not i n) (λ below. to
         let here : g n ≡ f n = others n (λ e. ne (sym e)) in
         omega arith
 
-gap-low : (forms : List Form) (above : List SplitSide) (g : ℕ) (u : ℤ) → g < length forms → low_at forms above g ≤ℤ u → u <ℤ high_at forms above g → total (length forms) (gap forms (above ++ low_side g u ∷ [])) < total (length forms) (gap forms above)
+pub gap-low : (forms : List Form) (above : List SplitSide) (g : ℕ) (u : ℤ) → g < length forms → low_at forms above g ≤ℤ u → u <ℤ high_at forms above g → total (length forms) (gap forms (above ++ low_side g u ∷ [])) < total (length forms) (gap forms above)
 gap-low forms above g u lt lo hi = total-less (length forms) g (gap forms above) (gap forms (above ++ low_side g u ∷ [])) lt here others
   where
     less : (h l u : ℤ) → l ≤ℤ u → u <ℤ h → gap_of (u -ℤ l) < gap_of (h -ℤ l)
@@ -227,7 +217,7 @@ gap-low forms above g u lt lo hi = total-less (length forms) g (gap forms above)
     others : (m : ℕ) → m ≢ g → gap forms (above ++ low_side g u ∷ []) m ≡ gap forms above m
     others m ne = rw (low_end-low (form_at forms m).low m g u above, high_end-low (form_at forms m).high m g u above, differs g m (λ e. ne (sym e))) refl
 
-gap-high : (forms : List Form) (above : List SplitSide) (g : ℕ) (u : ℤ) → g < length forms → low_at forms above g ≤ℤ u → u <ℤ high_at forms above g → total (length forms) (gap forms (above ++ high_side g u ∷ [])) < total (length forms) (gap forms above)
+pub gap-high : (forms : List Form) (above : List SplitSide) (g : ℕ) (u : ℤ) → g < length forms → low_at forms above g ≤ℤ u → u <ℤ high_at forms above g → total (length forms) (gap forms (above ++ high_side g u ∷ [])) < total (length forms) (gap forms above)
 gap-high forms above g u lt lo hi = total-less (length forms) g (gap forms above) (gap forms (above ++ high_side g u ∷ [])) lt here others
   where
     less : (h l u : ℤ) → l ≤ℤ u → u <ℤ h → gap_of (h -ℤ (u +ℤ pos 1)) < gap_of (h -ℤ l)
@@ -341,7 +331,7 @@ outcome_from system forms above o positive (both_refuted members f u t t' d firs
     let interval = split_within system forms above members f u positive within d first in
     ((first.within, interval.0, interval.1), outcome_from system forms (above ++ low_side f u ∷ []) (tree t) positive low (within_low system forms above within f u), outcome_from system forms (above ++ high_side f u ∷ []) (tree t') positive high (within_high system forms above within f u))
 
-within_start : (system : LinearSystem) (forms : List Form) → AreBounded system forms → Within system forms []
+pub within_start : (system : LinearSystem) (forms : List Form) → AreBounded system forms → Within system forms []
 unfolding Within
 within_start system forms bounded f scale v lt p meets = bounded.between f scale v lt (subst (λ s. IsPoint s scale v) same_system p) (subst (λ s. MeetsRows s v) same_system meets)
   where

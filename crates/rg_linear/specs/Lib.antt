@@ -6,6 +6,7 @@ pub mod Descent
 pub mod Firsts
 pub mod Cycle
 pub mod Branching
+pub mod Room
 pub mod Width
 pub mod Stack
 pub mod Table

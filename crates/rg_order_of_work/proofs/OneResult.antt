@@ -7,7 +7,7 @@ use Rattle.rg_theory.specs.declared.Arc.{Arc}
 use Rattle.rg_theory.specs.System.{System, labels}
 use Rattle.rg_theory.specs.declared.Class.{Class}
 use Rattle.rg_theory.specs.declared.Problem.{Problem}
-use Rattle.rg_refuting.specs.Expression.{Term, Expression, Variable, plus}
+use Rattle.rg_refuting.specs.Expression.{Term, Expression, plus}
 use Rattle.rg_refuting.specs.Row.{Form as SplitForm, form_variable, RowName, Side, row_expression}
 use Rattle.rg_refuting.specs.Refutes.{NamedRow}
 use Rattle.rg_linear.specs.System.{LinearRow}

@@ -1,14 +1,12 @@
 -- Terms of value 0: they are never out of range, and leave a sum as it is.
-use Rattle.std.proofs.Common.{◌≡◌, ◌≢◌, ℕ, zero, suc, ◌*◌, ◌/◌, ◌<◌, ◌≤◌, ◌^◌, ap, refl, subst, sym, ◌∙◌, List, ◌∷◌, Ok, Err, Result, inr, arith}
+use Rattle.std.proofs.Common.{◌≡◌, ◌≢◌, ℕ, zero, suc, ◌*◌, ◌/◌, ◌<◌, ◌≤◌, ◌^◌, ap, refl, subst, sym, List, ◌∷◌, Ok, Err, Result, inr, arith}
 use Rattle.std.specs.Prelude.{ℤ, pos, negsuc, neg_ℤ, ◌+ℤ◌, ◌-ℤ◌, ◌*ℤ◌, ◌<ℤ◌, unsigned_abs, int_div}
-use Rattle.std.specs.Int.{IsGcd}
 use Rattle.std.proofs.Math.Nat.{zero-div, div-le_self}
 use Rattle.std.proofs.lemmas.Int.{ints}
 use Rattle.rg_integers.specs.Range.{InRange}
 use Rattle.rg_integers.specs.Divisor.{gcd_of, int_gcd}
 use Rattle.rg_integers.specs.Value.{SameValue}
 use Rattle.rg_integers.proofs.Order.{positive_differs}
-use Rattle.rg_integers.proofs.Divisors.{IsGcd-neg}
 use Rattle.rg_integers.proofs.Values.{SameValue-parts, SameValue-neg}
 use Rattle.rg_fraction.specs.declared.term.Wide.{Wide}
 use Rattle.rg_fraction.specs.declared.fraction.Fraction.{Fraction}

@@ -1,5 +1,5 @@
 -- Multipliers of a system's rows, spread over named rows, chords and the arcs of the tree.
-use Rattle.std.specs.Prelude.{◌≡◌, ◌≢◌, ℕ, max, ◌+◌, ◌-◌, ◌==◌, ◌&&◌, ◌||◌, not, nat_lt, int_lt, Bool, if◌then◌else◌, List, [], ◌∷◌, ◌++◌, map, reverse, length, take, drop, slice_index_or, ℤ, pos, ◌*ℤ◌, Result, Ok, Err, ◌<◌}
+use Rattle.std.specs.Prelude.{◌≡◌, ℕ, max, ◌+◌, ◌-◌, ◌==◌, ◌||◌, nat_lt, int_lt, if◌then◌else◌, List, [], ◌∷◌, ◌++◌, map, reverse, length, drop, slice_index_or, ℤ, pos, ◌*ℤ◌, Result, Ok, Err}
 use Rattle.rg_theory.specs.declared.Arc.{Arc}
 use Rattle.rg_theory.specs.System.{System, states, labels}
 use Rattle.rg_theory.specs.declared.Class.{Class}

@@ -1,15 +1,12 @@
 -- Columns, free label by free label.
-use Rattle.std.proofs.Common.{◌≡◌, ℕ, zero, suc, ◌+◌, ◌<◌, ◌≤◌, ◌&&◌, Bool, true, false, cond, if◌then◌else◌, List, [], ◌∷◌, ◌++◌, length, map, filter, take, drop, All, Contains, count_by, slice_index_or, ap, refl, sym, ◌∙◌, arith, append_assoc}
+use Rattle.std.proofs.Common.{◌≡◌, ℕ, zero, suc, ◌+◌, ◌<◌, ◌≤◌, ◌&&◌, Bool, true, false, cond, if◌then◌else◌, List, [], ◌∷◌, ◌++◌, length, map, filter, take, drop, All, slice_index_or, ap, refl, sym, ◌∙◌, arith, append_assoc}
 use Rattle.std.specs.Prelude.{slice_index}
 use Rattle.std.proofs.lemmas.List.{append-nil, drop_all, map-append, length-map, length-append, take_more, take_all, get_or_default}
 use Rattle.std.proofs.lemmas.List.Elements.{All-append}
-use Rattle.std.proofs.lemmas.List.Sums.{length-filter}
-use Rattle.rg_cycles.proofs.Labels.{where_from}
 use Rattle.rg_theory.specs.System.{System, labels}
 use Rattle.rg_fraction.specs.declared.fraction.Fraction.{Fraction}
 use Rattle.rg_linear.specs.Cycle.{CycleBasis}
 use Rattle.rg_order_of_work.specs.Rewriting.{is_in, numbers_where, has_label, free_labels, free_columns}
-use Rattle.rg_columns.specs.View.{TellsUsedLabels}
 use Rattle.rg_places.specs.Steps.{labels_in, IsPlaced, AreFreeColumns}
 use Rattle.rg_places.specs.declared.columns.Column.{Column}
 use Rattle.rg_places.proofs.FoldSteps.{left_at}

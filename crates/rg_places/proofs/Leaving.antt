@@ -1,12 +1,10 @@
 -- The numbers of the states that a label leaves, state by state.
-use Rattle.std.proofs.Common.{◌≡◌, ⊎_elim, Option, Some, None, is_some, IfSome, IfNone, ℕ, ◌+◌, ◌-◌, ◌<◌, ◌≤◌, ◌==◌, Bool, set, eq-eqb, eqb-true, true, false, if◌then◌else◌, List, [], ◌∷◌, ◌++◌, length, map, take, slice_index_or, ap, refl, sym, ◌∙◌, arith, append_assoc}
-use Rattle.std.proofs.lemmas.Bool.{cases_Bool, true≢false}
-use Rattle.std.proofs.lemmas.List.{append-nil, take_more, get_or-set_other}
-use Rattle.std.proofs.lemmas.Grind.{get_or-set_at}
-use Rattle.rg_theory.specs.declared.Arc.{Arc}
+use Rattle.std.proofs.Common.{◌≡◌, Option, Some, None, is_some, IfSome, IfNone, ℕ, ◌+◌, ◌-◌, ◌<◌, ◌≤◌, Bool, true, false, List, [], ◌∷◌, ◌++◌, map, ap, refl, sym, ◌∙◌, arith, append_assoc}
+use Rattle.std.proofs.lemmas.Bool.{true≢false}
+use Rattle.std.proofs.lemmas.List.{append-nil}
 use Rattle.rg_theory.specs.System.{System, HasArc}
 use Rattle.rg_order_of_work.specs.Fold.{Ratio}
-use Rattle.rg_order_of_work.specs.Rewriting.{numbers_where, has_label, has_label_at}
+use Rattle.rg_order_of_work.specs.Rewriting.{numbers_where, has_label_at}
 use Rattle.rg_cycles.proofs.Folding.{where_taken, where_left, where_ends}
 use Rattle.rg_order_of_work.proofs.Names.{found_at}
 use Rattle.rg_order_of_work.proofs.LeftOut.{finds_at}

@@ -1,5 +1,5 @@
 -- The steps on the way from a point to its place, as code makes them.
-use Rattle.std.specs.Prelude.{◌≡◌, ℕ, ◌<◌, if◌then◌else◌, Bool, false, List, [], ◌∷◌, ◌++◌, length, map, All, slice_index, slice_index_or, ℤ, pos, neg_ℤ, Result, Ok}
+use Rattle.std.specs.Prelude.{◌≡◌, ℕ, ◌<◌, if◌then◌else◌, List, [], ◌∷◌, ◌++◌, length, map, All, slice_index, ℤ, pos, neg_ℤ, Result, Ok}
 use Rattle.rg_theory.specs.declared.Arc.{Arc}
 use Rattle.rg_theory.specs.System.{System, states, labels}
 use Rattle.rg_theory.specs.declared.Class.{Class}
@@ -10,7 +10,7 @@ use Rattle.rg_integers.specs.Sum.{number_at}
 use Rattle.rg_linear.specs.Cycle.{CycleBasis}
 use Rattle.rg_cycles.specs.declared.relation.Relation.{Relation}
 use Rattle.rg_order_of_work.specs.Fold.{gives, and_then, either, each, joined, Ratio, whole, ratio_of, quotient, add, mul, whole_sum}
-use Rattle.rg_order_of_work.specs.Rewriting.{is_in, has_label, free_labels, free_columns, all_numbers, states_with}
+use Rattle.rg_order_of_work.specs.Rewriting.{is_in, free_labels, free_columns, all_numbers, states_with}
 use Rattle.rg_order_of_work.specs.Placing.{effect_fold, made_whole, ratio_at, along_tree, least_of, top_at, taken, place_of}
 use Rattle.rg_places.specs.PointValues.{ratio_beside}
 use Rattle.rg_places.specs.declared.columns.Column.{Column}

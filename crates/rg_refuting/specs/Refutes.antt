@@ -1,5 +1,5 @@
 -- When a certificate is accepted.
-use Rattle.std.specs.Prelude.{◌≡◌, ◌≢◌, ℕ, ◌<◌, ◌≤◌, Bool, true, false, List, [], ◌∷◌, ◌++◌, length, All, IsTrue, IsFalse, ℤ, pos, ◌*ℤ◌, ◌≤ℤ◌, ◌<ℤ◌, nat_abs, slice_get, Some, sum_by}
+use Rattle.std.specs.Prelude.{◌≡◌, ◌≢◌, ℕ, ◌<◌, ◌≤◌, Bool, true, false, List, [], ◌∷◌, ◌++◌, length, All, ℤ, pos, ◌*ℤ◌, ◌≤ℤ◌, ◌<ℤ◌, nat_abs, slice_get, Some, sum_by}
 use Rattle.rg_integers.specs.Range.{greatest}
 use Rattle.rg_integers.specs.Sum.{sum_over}
 use Rattle.rg_theory.specs.System.{System, states, labels, HasArc, IsFork, IsClosedWithout}

@@ -8,7 +8,7 @@ use Rattle.rg_theory.specs.declared.Problem.{Problem}
 use Rattle.rg_theory.specs.System.{System, states, labels}
 use Rattle.rg_fraction.specs.declared.term.Wide.{Wide}
 use Rattle.rg_linear.specs.Cycle.{CycleBasis}
-use Rattle.rg_refuting.specs.Expression.{Term, Expression, Variable.tokens_at, Variable.effect_of}
+use Rattle.rg_refuting.specs.Expression.{Term, Expression}
 use Rattle.rg_refuting.specs.Row.{RowName, row_expression, Form.on_tokens, Form.on_effect}
 use Rattle.rg_reasons.specs.declared.certificate.RowName.{RowName as CodeName}
 use Rattle.rg_reasons.specs.Trees.{row_name_of}

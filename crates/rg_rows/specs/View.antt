@@ -1,8 +1,8 @@
 -- How what the code keeps is seen.
-use Rattle.std.specs.Prelude.{◌≡◌, ℕ, ◌<◌, ◌==◌, ◌&&◌, not, Bool, false, List, [], ◌∷◌, ◌++◌, ℤ, length, map, All, Result, slice_index_or}
+use Rattle.std.specs.Prelude.{◌≡◌, ℕ, ◌==◌, ◌&&◌, not, Bool, false, List, [], ◌∷◌, ◌++◌, ℤ, length, map, All, Result, slice_index_or}
 use Rattle.rg_theory.specs.declared.Arc.{Arc}
 use Rattle.rg_theory.specs.declared.Class.{Class}
-use Rattle.rg_theory.specs.System.{System, states, labels}
+use Rattle.rg_theory.specs.System.{System, states}
 use Rattle.rg_linear.specs.System.{LinearRow}
 use Rattle.rg_linear.specs.Cycle.{CycleBasis}
 use Rattle.rg_fraction.specs.declared.term.Wide.{Wide}

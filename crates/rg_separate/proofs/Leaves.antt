@@ -1,21 +1,16 @@
 -- What a refuted descent gives: the relation of the row that fails, what is shown of it, and the case of a leaf.
-use Rattle.std.proofs.Common.{◌≡◌, ℕ, zero, suc, ◌+◌, ◌<◌, ◌==◌, if◌then◌else◌, List, [], ◌∷◌, length, map, All, Contains, Err, refl, sym, ap, subst, arith}
-use Rattle.std.specs.Prelude.{neg_ℤ}
+use Rattle.std.proofs.Common.{◌≡◌, ℕ, zero, suc, List, [], ◌∷◌, length, map, All, Err, refl, sym, ap, subst, arith}
 use Rattle.rg_theory.specs.System.{System}
 use Rattle.rg_theory.specs.declared.Class.{Class}
 use Rattle.rg_theory.specs.declared.Problem.{Problem}
 use Rattle.rg_refuting.specs.Row.{RowStands, row_expression}
 use Rattle.rg_refuting.specs.Refutes.{LeafRefutes, TreeRefutes}
 use Rattle.rg_fraction.specs.declared.term.Wide.{Wide}
-use Rattle.rg_linear.specs.System.{LinearSystem, AreFarkasMultipliers, variables, row_variable}
-use Rattle.rg_linear.specs.Dictionary.{Relation, DictionaryRow}
-use Rattle.rg_linear.specs.Table.{ShowsRow}
-use Rattle.rg_linear.specs.Descent.{Outcome.refuted, DescentFromStart, multiplier_of}
+use Rattle.rg_linear.specs.System.{AreFarkasMultipliers}
+use Rattle.rg_linear.specs.Descent.{Outcome.refuted, DescentFromStart}
 use Rattle.rg_linear.specs.Branching.{weights_from, SplitTree.leaf, BranchOutcome.tree, Branching}
-use Rattle.rg_linear.proofs.Refuting.{start_refuted}
-use Rattle.rg_dictionary.specs.Contents.{Contents, row_of, IsDictionary}
 use Rattle.rg_feasible.specs.View.{DescentState}
-use Rattle.rg_feasible.specs.Settling.{relation_of, multiplier_with}
+use Rattle.rg_feasible.specs.Settling.{multiplier_with}
 use Rattle.rg_feasible.proofs.Shown.{FailingRelation, failing_relation, multipliers_refute}
 use Rattle.rg_order_of_work.specs.Rewriting.{rows_of}
 use Rattle.rg_order_of_work.specs.Spreading.{spread_fold}

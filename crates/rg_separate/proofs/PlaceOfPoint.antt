@@ -1,8 +1,8 @@
 -- The point of a case's descent, as the place asks for it and as the term that it shows.
-use Rattle.std.proofs.Common.{◌≡◌, ℕ, ◌+◌, ◌<◌, ◌≤◌, ◌&&◌, Bool, true, false, if◌then◌else◌, List, [], ◌∷◌, ◌++◌, length, map, get_or, drop, IsTrue, Err, refl, sym, ap, subst, ◌∙◌, arith}
+use Rattle.std.proofs.Common.{◌≡◌, ℕ, ◌<◌, List, [], ◌∷◌, length, get_or, Err, refl, sym, ap, subst, ◌∙◌, arith}
 use Rattle.std.specs.Prelude.{ℤ, pos}
-use Rattle.std.proofs.lemmas.List.{get_or-map, get_or-drop, length-map, length-drop}
-use Rattle.rg_theory.specs.System.{System, labels}
+use Rattle.std.proofs.lemmas.List.{get_or-map}
+use Rattle.rg_theory.specs.System.{System}
 use Rattle.rg_theory.specs.declared.Class.{Class}
 use Rattle.rg_theory.specs.declared.Problem.{Problem}
 use Rattle.rg_theory.specs.declared.Problem.TheVariants.{Event, States}
@@ -16,10 +16,10 @@ use Rattle.rg_linear.specs.Descent as descent
 use Rattle.rg_linear.specs.Descent.{DescentFromStart}
 use Rattle.rg_linear.specs.Cycle.{CycleBasis}
 use Rattle.rg_order_of_work.specs.Fold.{Ratio, whole, ratio_of}
-use Rattle.rg_order_of_work.specs.Rewriting.{is_in, has_label, free_columns, has_start, column_count, rows_of}
+use Rattle.rg_order_of_work.specs.Rewriting.{column_count, rows_of}
 use Rattle.rg_order_of_work.specs.Placing.{ratio_at, place_fold}
 use Rattle.rg_order_of_work.specs.Shown.{IsValueAt, PointOf, PlaceShown}
-use Rattle.rg_order_of_work.specs.Meaning.{IsCaseOver, first_column}
+use Rattle.rg_order_of_work.specs.Meaning.{IsCaseOver}
 use Rattle.rg_order_of_work.proofs.ColumnValues.{columns_of_case}
 use Rattle.rg_cycles.specs.View.{cycle_of}
 use Rattle.rg_feasible.specs.View.{DescentState}

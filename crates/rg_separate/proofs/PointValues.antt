@@ -1,5 +1,5 @@
 -- The values of the columns at the point of a descent.
-use Rattle.std.proofs.Common.{◌≡◌, ◌⊎◌, inl, inr, ⊎_elim, ℕ, zero, suc, ◌<◌, ◌≤◌, Bool, true, false, if◌then◌else◌, List, [], ◌∷◌, ◌++◌, length, length-append, get_or, Contains, refl, sym, ap, subst, ◌∙◌, arith, eq-eqb}
+use Rattle.std.proofs.Common.{◌≡◌, ◌⊎◌, inl, inr, ⊎_elim, ℕ, zero, ◌<◌, ◌≤◌, List, [], ◌∷◌, ◌++◌, length, length-append, get_or, Contains, sym, subst, ◌∙◌, arith}
 use Rattle.std.specs.Prelude.{ℤ, pos}
 use Rattle.std.proofs.Math.IntN.{*ℤ_comm, zero-*ℤ}
 use Rattle.std.proofs.lemmas.Bool.{cases_lt}
@@ -10,18 +10,15 @@ use Rattle.rg_fraction.specs.declared.fraction.Fraction.{Fraction}
 use Rattle.rg_fraction.specs.Fractions.{IsValue, numerator_of, denominator_of}
 use Rattle.rg_linear.specs.System.{LinearSystem, variables}
 use Rattle.rg_linear.specs.Dictionary.{Relation, DictionaryRow}
-use Rattle.rg_linear.proofs.Members.{differs, is_member}
+use Rattle.rg_linear.proofs.Members.{is_member}
 use Rattle.rg_linear.proofs.Points.{constant_left, zero_point_of}
 use Rattle.rg_dictionary.specs.Contents.{Contents, IsDictionary}
 use Rattle.rg_feasible.specs.Settling.{IsBasicPoint}
 use Rattle.rg_feasible.proofs.Shown.{row_shows}
-use Rattle.rg_order_of_work.specs.Fold.{Ratio, whole, ratio_of, IsRatio}
+use Rattle.rg_order_of_work.specs.Fold.{whole, ratio_of, IsRatio}
 use Rattle.rg_order_of_work.specs.Shown.{IsValueAt}
-use Rattle.rg_order_of_work.specs.Rewriting.{numbers_where}
-use Rattle.rg_order_of_work.specs.Placing.{ratio_at}
 use Rattle.rg_order_of_work.proofs.FoldLemmas.{ratio_one, new_step}
 use Rattle.rg_order_of_work.proofs.Scaling.{whole_ratio}
-use Rattle.rg_places.specs.PointValues.{ratio_beside}
 
 -- one value more
 pub value_more : (P : ℕ → Fraction → Type 0) (xs : List Fraction) (x : Fraction) → ((j : ℕ) (f : Fraction) → j < length xs → P j (get_or xs j f)) → P (length xs) x → (j : ℕ) (f : Fraction) → j < length (xs ++ x ∷ []) → P j (get_or (xs ++ x ∷ []) j f)

@@ -1,5 +1,5 @@
 -- What is left of places that separate.
-use Rattle.std.proofs.Common.{◌≡◌, ℕ, ◌<◌, List, [], length, map, get_or, All, sym, subst, arith}
+use Rattle.std.proofs.Common.{◌≡◌, ◌<◌, List, [], length, map, get_or, All, sym, subst, arith}
 use Rattle.std.proofs.lemmas.List.{length-map, get_or-map}
 use Rattle.std.proofs.lemmas.List.Elements.{All-contains, Contains-get_or}
 use Rattle.rg_theory.specs.System.{System, labels}

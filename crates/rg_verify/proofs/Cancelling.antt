@@ -1,5 +1,5 @@
 -- Rows in which no two terms are opposite.
-use Rattle.std.proofs.Common.{◌≡◌, ℕ, zero, suc, ◌+◌, Bool, true, false, if◌then◌else◌, List, [], ◌∷◌, Option, Some, None, length, All, slice_index_or, refl, sym, ap, ◌∙◌, subst, arith, ℤ, pos, negsuc, ◌+ℤ◌, nat_abs}
+use Rattle.std.proofs.Common.{◌≡◌, ℕ, ◌+◌, Bool, true, false, if◌then◌else◌, List, [], ◌∷◌, Option, Some, None, length, All, slice_index_or, refl, sym, ap, ◌∙◌, subst, arith, ℤ, pos, negsuc, ◌+ℤ◌, nat_abs}
 use Rattle.std.proofs.lemmas.Int.{ints}
 use Rattle.std.proofs.lemmas.List.Elements.{All-nil, All-cons, All-head, All-tail}
 use Rattle.rg_refuting.specs.Expression as linear
@@ -9,7 +9,7 @@ use Rattle.rg_reasons.specs.declared.variable.Term.{Term}
 use Rattle.rg_reasons.specs.declared.variable.Term.TheVariants.{Plus, Minus}
 use Rattle.rg_reasons.specs.Certificates.{IsTermWithin}
 use Rattle.rg_reasons.specs.Sums.{variable_of, term_of, terms_in}
-use Rattle.rg_verify.specs.Terms.{size_in, opposite, AreOpposite, IsReducedSum}
+use Rattle.rg_verify.specs.Terms.{size_in, AreOpposite, IsReducedSum}
 use Rattle.rg_verify.proofs.Adding.{terms_in-append, coefficient_in-append, size_in-append}
 use Rattle.rg_verify.proofs.Variables.{same_variable_is, same_variable_of}
 

@@ -10,12 +10,11 @@ use Rattle.rg_theory.specs.declared.Problem.{Problem}
 use Rattle.rg_refuting.specs.Expression as linear
 use Rattle.rg_refuting.specs.Expression.{Expression}
 use Rattle.rg_refuting.specs.Row.{Side, RowName, RowStands, row_expression}
-use Rattle.rg_refuting.specs.Refutes.{NamedRow, IsSmall, LeafRefutes, Tree, Tree.leaf, Tree.split, TreeRefutes, IsSeparationProblem, IsRefuted, Accepts}
+use Rattle.rg_refuting.specs.Refutes.{NamedRow, LeafRefutes, Tree, Tree.leaf, Tree.split, TreeRefutes, IsSeparationProblem, IsRefuted, Accepts}
 use Rattle.rg_refuting.specs.Refutes as refutes
 use Rattle.rg_reasons.specs.Trees.{preorder}
 use Rattle.rg_reasons.specs.Certificates.{Claim, IsVariableOf}
 use Rattle.rg_reasons.specs.declared.variable.Variable.{Variable}
-use Rattle.rg_reasons.specs.declared.variable.Variable.TheVariants.{Tokens, Effect}
 use Rattle.rg_verify.specs.declared.verdict.Defect.{Defect}
 use Rattle.rg_verify.specs.declared.verdict.Defect.TheVariants.{WrongRow, NotPositive, LeftOver, NoContradiction, SumPasses, CaseMissing, NotSo}
 use Rattle.rg_verify.specs.declared.verdict.Verdict.{Verdict}

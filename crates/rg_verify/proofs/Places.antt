@@ -1,5 +1,5 @@
 -- Items of lists at their places.
-use Rattle.std.proofs.Common.{◌≡◌, ◌⊎◌, ℕ, ◌<◌, ◌≤◌, ◌+◌, List, ◌∷◌, drop, Option, Some, None, IfSome, map, length, slice_get, get_or, All, Bor, refl, sym, subst, ap, ◌∙◌, inl, inr, option_copied}
+use Rattle.std.proofs.Common.{◌≡◌, ◌⊎◌, ℕ, ◌<◌, ◌≤◌, ◌+◌, List, ◌∷◌, drop, Some, None, IfSome, map, length, slice_get, get_or, All, sym, subst, ap, ◌∙◌, inl, inr}
 use Rattle.std.proofs.lemmas.Option.{slice_get_cases}
 use Rattle.std.proofs.lemmas.List.{length-map, get_or-map, drop_more}
 

@@ -1,9 +1,8 @@
-use Rattle.std.proofs.Common.{rules, map, ◌≡◌, Err, ap, ◌∙◌}
+use Rattle.std.proofs.Common.{rules, ◌≡◌, Err, ◌∙◌}
 use Rattle.std.specs.Int.{w128, cast_signed}
 use Rattle.rg_integers.proofs.Casts.{back}
 use Rattle.rg_reasons.specs.Sums.{variable_of}
 use Rattle.rg_farkas.specs.View.{coefficient_at}
-use Rattle.rg_refuting.specs.Expression.{coefficient_in}
 use Rattle.rg_farkas.proofs.RowSteps.{size_unmade, size_unjoined, size_next, size_ends}
 use Rattle.rg_farkas.proofs.sizes.coefficient_sizes.Goals as goal
 

@@ -1,7 +1,6 @@
-use Rattle.std.proofs.Common.{rules, map, ◌≡◌, Err, ap, ◌∙◌}
+use Rattle.std.proofs.Common.{rules, ◌≡◌, Err, ◌∙◌}
 use Rattle.std.specs.Int.{w128, cast_signed}
 use Rattle.rg_integers.proofs.Casts.{back}
-use Rattle.rg_refuting.specs.Expression.{coefficient_in, Variable.tokens_at}
 use Rattle.rg_farkas.proofs.RowSteps.{row_unmade, row_unjoined, row_next, row_ends}
 use Rattle.rg_farkas.proofs.sums.rows_sum.Goals as goal
 

@@ -1,4 +1,4 @@
-use Rattle.std.proofs.Common.{Some, ◌≡◌, Contains, ◌<◌, ◌≤◌, ℕ, List, length, get_or, take, map, string_bytes, sym, ap, subst, ◌∙◌, arith}
+use Rattle.std.proofs.Common.{◌≡◌, Contains, ◌<◌, ℕ, List, length, get_or, take, map, string_bytes, sym, ap, subst, ◌∙◌, arith}
 use Rattle.std.proofs.lemmas.Result.{err_from_is_err_and}
 use Rattle.std.proofs.lemmas.List.{get_or_default, length-map, length-take-le}
 use Rattle.rg_lexer.specs.declared.token.Kind.TheVariants.{Name}

@@ -1,4 +1,4 @@
-use Rattle.std.proofs.Common.{rules, ◌≡◌, ◌+◌, ℕ, List, Vec, Global, Result, Err, Ok, ap, length, map, unsigned_abs, refl, sym, subst, ◌∙◌}
+use Rattle.std.proofs.Common.{rules, ◌≡◌, Err, Ok, map, unsigned_abs, refl, sym, ◌∙◌}
 use Rattle.std.proofs.lemmas.List.{length-map}
 use Rattle.rg_order_of_work.specs.Fold.{Ratio, ratio_of}
 use Rattle.rg_order_of_work.specs.Shown.{IsLive}

@@ -1,10 +1,10 @@
-use Rattle.std.proofs.Common.{rules, ◌≡◌, Ok, Err, map, length, ap, subst, ◌∙◌}
+use Rattle.std.proofs.Common.{rules, ◌≡◌, Err, length, ap, subst, ◌∙◌}
 use Rattle.std.specs.Prelude.{pos}
 use Rattle.std.specs.Int.{w128, cast_signed, cast_unsigned}
 use Rattle.rg_integers.proofs.Casts.{back}
 use Rattle.rg_fraction.specs.Fractions.{IsValue}
 use Rattle.rg_order_of_work.specs.Fold.{ratio_of, whole, mul}
-use Rattle.rg_order_of_work.specs.Rewriting.{terms_fold, IsDivided}
+use Rattle.rg_order_of_work.specs.Rewriting.{IsDivided}
 use Rattle.rg_reasons.specs.Trees.{row_name_of}
 use Rattle.rg_fraction.specs.declared.fold_stop.FoldStop.TheVariants as stop
 use Rattle.rg_cycles.specs.View.{cycle_of}

@@ -1,4 +1,4 @@
-use Rattle.std.proofs.Common.{rules, subst}
+use Rattle.std.proofs.Common.{subst}
 use Rattle.rg_reasons.specs.Certificates.{reason_of}
 use Rattle.rg_separate.specs.Answer.{IfUnsolvable, IsGoodCertificate}
 use Rattle.rg_synth.proofs.Nets.{reason_is}

@@ -1,5 +1,3 @@
-use Rattle.std.proofs.Common.{All}
-use Rattle.rg_theory.specs.System.{states, labels}
 use Rattle.rg_reasons.proofs.Within.{row_within}
 use Rattle.rg_reasons.specs.Trees.{row_name_of}
 use Rattle.rg_verify.specs.Sides.{sides_of}

@@ -1,4 +1,4 @@
-use Rattle.std.proofs.Common.{◌≡◌, true≢false, sym, ◌∙◌}
+use Rattle.std.proofs.Common.{true≢false, sym, ◌∙◌}
 use Rattle.rg_verify.proofs.Cancelling.{third_is_left, second_is_left, first_is_left, all_are_left}
 use Rattle.rg_verify.proofs.opposites.without_opposites.Goals as goal
 use Rattle.rg_verify.proofs.opposites.without_opposites.Goals.{then-are_opposite, else-are_opposite+then-are_opposite-2, else-are_opposite+else-are_opposite-2+then-are_opposite-3, else-are_opposite+else-are_opposite-2+else-are_opposite-3}

@@ -1,4 +1,3 @@
-use Rattle.std.proofs.Common.{◌≡◌, ◌*◌, ◌<◌, ◌^◌, ◌∙◌}
 use Rattle.std.specs.Prelude.{unsigned_abs}
 use Rattle.rg_integers.proofs.Casts.{back, cast_size}
 use Rattle.rg_fraction.proofs.Signed.{share_below, negative_exact, less_in_range}
