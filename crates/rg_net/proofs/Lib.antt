@@ -4,3 +4,7 @@ mod Lines
 mod Told
 mod Free
 mod ClassTexts
+pub mod Placing
+mod Moving
+pub mod Rows
+pub mod Breaking

@@ -1,0 +1,25 @@
+//! What a verdict says.
+ghost use Rattle.std.specs.Prelude.{◌≡◌, Ok};
+ghost use Rattle.rg_theory.specs.System.{System, labels, IsInRange};
+ghost use Rattle.rg_theory.specs.Net.{Net};
+ghost use Rattle.rg_theory.specs.Solves.{Solves};
+ghost use Rattle.rg_theory.specs.declared.Class.{Class};
+ghost use Rattle.rg_theory.specs.Class.{InClass};
+ghost use Rattle.rg_net_verdict.specs.declared.verdict.NetNo.{NetNo};
+ghost use Rattle.rg_net_verdict.specs.declared.verdict.NetVerdict.TheVariants as verdict;
+ghost use Rattle.rg_net_verdict.specs.Verdict.{Told, IsVerdict};
+
+use rg_theory::one_least_fork;
+
+/// Yes says that the net solves the system and is of the class, and each no that one of the two is false.
+pub fn verdict_is_sound()
+    ensures yes { (lts : System) (net : Net) (class : Class) → IsInRange lts → net.labels ≡ labels lts → IsVerdict lts net class (Ok verdict.Yes) → Solves net lts × InClass net class }
+    ensures no { (lts : System) (net : Net) (class : Class) (n : NetNo) → IsInRange lts → net.labels ≡ labels lts → IsVerdict lts net class (Ok (verdict.No n)) → Solves net lts → ¬ InClass net class }
+{}
+
+/// A net has one verdict, or the judge stops at one place.
+pub fn verdict_is_one()
+    ensures { (lts : System) (net : Net) (class : Class) (v w : Told) → IsInRange lts → IsVerdict lts net class v → IsVerdict lts net class w → v ≡ w }
+{
+    one_least_fork();
+}
