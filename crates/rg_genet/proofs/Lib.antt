@@ -11,3 +11,4 @@ mod Whole
 mod PrintSteps
 mod Tokens
 mod PrintedLines
+mod ReadAgain

@@ -8,6 +8,6 @@ mod print;
 mod reading;
 
 pub use fault::{GraphFault, GraphLoss};
-pub use laws::one_answer;
+pub use laws::{one_answer, printed_is_read_again};
 pub use print::print_graph;
 pub use reading::read_graph;

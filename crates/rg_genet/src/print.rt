@@ -5,7 +5,10 @@ ghost use Rattle.rg_theory.specs.declared.Arc as theory;
 ghost use Rattle.rg_genet.specs.Loss.{IsFirstDead, IsFirstLost, IsLabelKept, IsStateKept};
 ghost use Rattle.rg_genet.specs.declared.fault.GraphLoss.TheVariants as loss;
 ghost use Rattle.rg_text.specs.Line.{fed};
-ghost use Rattle.rg_theory.specs.System.{IsArcInRange};
+ghost use Rattle.rg_theory.specs.System.{System, IsArcInRange};
+ghost use Rattle.rg_lts.specs.WellFormed.{IsWellFormed};
+ghost use Rattle.rg_genet.specs.Same.{IsSameByNames};
+ghost use Rattle.rg_genet.specs.Spells.{Spells};
 ghost use Rattle.rg_genet.specs.Text.{names_of, triple_text, graph_text, labels_text};
 
 use crate::fault::GraphLoss;
@@ -13,9 +16,15 @@ use rg_lts::{Arc, Lts};
 use rg_memory::NoMemory;
 use std::alloc::Global;
 
-/// The text of the system as a state graph, or the first label without an arc, or else the first state on no arc.
+/// The text of the system as a state graph, of lines that a line feed ends, each of them the last one too: `.model lts`;
+/// `.outputs` with each label after a space; `.state graph`; a line for each arc, the names of the state that it leaves, of its
+/// label and of the state that it enters, with one space between; `.marking {NAME}` with the initial state's name; `.end`. It
+/// spells a system with the same names, initial state and arcs between names; numbers may differ, since `read_graph` numbers
+/// states and labels in the order of the arcs. `Label` where a label has no arc; else `State` where there are two states or more
+/// and one is on no arc; else `NoMemory`.
 pub fn print_graph(alloc: Global, lts: &Lts) -> Result<Vec<u8>, GraphLoss>
     ensures text { IfOk result (λ text. text.items ≡ graph_text lts.now) }
+    ensures read_again { IfOk result (λ text. (read : System) × Spells text.items read × IsSameByNames lts.now read) }
     ensures kept { OnOk result (IsLabelKept lts.now × IsStateKept lts.now) }
     ensures label { (t : ℕ) → IsErrOf result (loss.Label t) ↔ IsFirstDead lts.now t }
     ensures state { (s : ℕ) → IsErrOf result (loss.State s) ↔ IsFirstLost lts.now s }
@@ -33,7 +42,8 @@ pub fn print_graph(alloc: Global, lts: &Lts) -> Result<Vec<u8>, GraphLoss>
 
 // Adds the text.
 fn push_graph(text: &mut Vec<u8>, lts: &Lts) -> Result<(), NoMemory>
-    ensures { OnOk result (text.new.items ≡ text.old.items ++ graph_text lts.now) }
+    ensures text { OnOk result (text.new.items ≡ text.old.items ++ graph_text lts.now) }
+    ensures well_formed { OnOk result (IsWellFormed lts.now) }
 {
     text.extend_from_slice(b".model lts\n.outputs")?;
     push_labels(text, lts)?;

@@ -1,6 +1,6 @@
 //! The texts of systems as state graphs, and what one can't hold.
 use rg_apt::read_lts;
-use rg_genet::{GraphLoss, print_graph};
+use rg_genet::{GraphLoss, print_graph, printed_is_read_again};
 use rg_text::MOST_BYTES;
 use std::test::Fail;
 
@@ -54,6 +54,7 @@ fn prints_systems(rt: HostRuntime) -> Result<(), Fail> {
         let printed = print_graph(alloc, &read_lts(alloc, bytes)?)?;
         assert!(rt; printed.as_slice() == wanted.as_bytes(), "{text}");
     }
+    printed_is_read_again();
     Ok(())
 }
 

@@ -2,8 +2,8 @@ use Rattle.std.proofs.Common.{◌≡◌, ◌∙◌, slice_get, Some, subst}
 use Rattle.rg_genet.proofs.PrintSteps.{name_is, whole_graph}
 use Rattle.rg_genet.proofs.print.push_graph.Goals as goal
 
-pub returns : goal.returns
-returns c =
+pub returns-clause-text : goal.returns-clause-text
+returns-clause-text c =
     let lts = c.args.lts.now in
     let at = subst (λ s. slice_get lts.state_names s ≡ Some c.state_name.result.now) c.initial.ensures.value c.state_name.ensures in
     whole_graph lts c.arcs.result.now c.as_bytes.result.now c.args.text.now.items c.extend_from_slice.new.self.items c.push_labels.new.text.items
