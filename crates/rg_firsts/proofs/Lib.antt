@@ -1,0 +1,7 @@
+pub mod Things
+pub mod Parts
+pub mod Present
+pub mod Counted
+pub mod Numbers
+mod Cuts
+mod Growing

@@ -1,0 +1,10 @@
+//! What state graphs and word lists share: lines and their words, names in the order of first appearance, and the system with given parts.
+#![tactic(auto)]
+
+mod laws;
+mod lines;
+mod names;
+
+pub use laws::one_system;
+pub use lines::{cut_line, words};
+pub use names::{add_arc, add_label, add_state, as_name};

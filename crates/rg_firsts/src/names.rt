@@ -1,0 +1,83 @@
+//! Names as text, and names and arcs that are added where they are new.
+ghost use Rattle.std.specs.Prelude.{◌≡◌, ◌↔◌, ◌⊎◌, ◌<◌, ◌≤◌, length, Contains, IfErr, IsErrOf, OnOk};
+ghost use Rattle.std.specs.Str.{bytes_eq};
+ghost use Rattle.rg_text.specs.Byte.{IsName};
+ghost use Rattle.rg_theory.specs.Limits.{most_states, most_labels};
+ghost use Rattle.rg_theory.specs.declared.Arc.{Arc};
+ghost use Rattle.rg_lts.specs.Draft.{HasNames, IsArcNamed, AddsArc, IsArcOverLimit, IsWellFormedDraft};
+ghost use Rattle.rg_firsts.specs.First.{with_new};
+ghost use Rattle.rg_firsts.specs.Grown.{with_state, with_label};
+ghost use Rattle.rg_lts.specs.declared.fault.BuildFault.TheVariants as fault;
+
+use rg_lts::{BuildFault, LtsBuilder};
+use std::str;
+
+/// The bytes of a name as a text.
+pub fn as_name(name: &[u8]) -> &str
+    requires { IsName name.now }
+    ensures { result.now ≡ name.entry.now }
+{
+    str::from_utf8(name).unwrap()
+}
+
+/// Adds a state of this name where there is none. `TooManyStates` where there are 4,096 others, else `NoMemory`.
+pub fn add_state(builder: &mut LtsBuilder, name: &str) -> Result<(), BuildFault>
+    requires { IsName name.now }
+    ensures ok { OnOk result (builder.new ≡ with_state builder.old name.now) }
+    ensures few { OnOk result (length builder.old.state_names ≤ most_states → length builder.new.state_names ≤ most_states) }
+    ensures too_many { IsErrOf result fault.TooManyStates ↔ ((¬ Contains builder.old.state_names name.now) × (most_states ≤ length builder.old.state_names)) }
+    ensures one_more { IsErrOf result fault.TooManyStates → most_states < length (with_new bytes_eq builder.old.state_names name.now) }
+    ensures cause { IfErr result (λ e. (e ≡ fault.TooManyStates) ⊎ (e ≡ fault.NoMemory)) }
+{
+    if let Some(_) = builder.state_number(name) {
+        return Ok(());
+    }
+    match builder.state(name) {
+        Ok(_) => Ok(()),
+        Err(BuildFault::TooManyStates) => Err(BuildFault::TooManyStates),
+        Err(BuildFault::NoMemory) => Err(BuildFault::NoMemory),
+        Err(_) => unreachable!(),
+    }
+}
+
+/// Adds a label of this name where there is none. `TooManyLabels` where there are 256 others, else `NoMemory`.
+pub fn add_label(builder: &mut LtsBuilder, name: &str) -> Result<(), BuildFault>
+    requires { IsName name.now }
+    ensures ok { OnOk result (builder.new ≡ with_label builder.old name.now) }
+    ensures few { OnOk result (length builder.old.label_names ≤ most_labels → length builder.new.label_names ≤ most_labels) }
+    ensures too_many { IsErrOf result fault.TooManyLabels ↔ ((¬ Contains builder.old.label_names name.now) × (most_labels ≤ length builder.old.label_names)) }
+    ensures one_more { IsErrOf result fault.TooManyLabels → most_labels < length (with_new bytes_eq builder.old.label_names name.now) }
+    ensures cause { IfErr result (λ e. (e ≡ fault.TooManyLabels) ⊎ (e ≡ fault.NoMemory)) }
+{
+    if let Some(_) = builder.label_number(name) {
+        return Ok(());
+    }
+    match builder.label(name) {
+        Ok(_) => Ok(()),
+        Err(BuildFault::TooManyLabels) => Err(BuildFault::TooManyLabels),
+        Err(BuildFault::NoMemory) => Err(BuildFault::NoMemory),
+        Err(_) => unreachable!(),
+    }
+}
+
+/// Adds the arc with these names, which are there; an arc that is there already changes nothing. `TooManyArcs` where it is new
+/// and there are 262,144 others, else `NoMemory`.
+pub fn add_arc(
+    builder: &mut LtsBuilder,
+    from: &str,
+    label: &str,
+    to: &str,
+) -> Result<(), BuildFault>
+    requires { HasNames builder.old from.now label.now to.now }
+    ensures ok { OnOk result ((a : Arc) × IsArcNamed builder.old from.now label.now to.now a × AddsArc builder.old builder.new a) }
+    ensures too_many { IsErrOf result fault.TooManyArcs ↔ IsArcOverLimit builder.old from.now label.now to.now }
+    ensures well_formed { IsWellFormedDraft builder.old }
+    ensures cause { IfErr result (λ e. (e ≡ fault.TooManyArcs) ⊎ (e ≡ fault.NoMemory)) }
+{
+    match builder.arc(from, label, to) {
+        Ok(()) => Ok(()),
+        Err(BuildFault::TooManyArcs) => Err(BuildFault::TooManyArcs),
+        Err(BuildFault::NoMemory) => Err(BuildFault::NoMemory),
+        Err(_) => unreachable!(),
+    }
+}

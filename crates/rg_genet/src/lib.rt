@@ -1,0 +1,13 @@
+//! State graphs, as Genet and petrify write them: what a text spells, its first fault, and the text of a system.
+#![tactic(auto)]
+
+mod fault;
+mod laws;
+mod line;
+mod print;
+mod reading;
+
+pub use fault::{GraphFault, GraphLoss};
+pub use laws::{one_answer, printed_is_read_again};
+pub use print::print_graph;
+pub use reading::read_graph;
