@@ -1,0 +1,7 @@
+pub mod Paths
+pub mod Values
+pub mod Orders
+pub mod Points
+pub mod Nodes
+pub mod Sides
+pub mod Sound

@@ -1,0 +1,168 @@
+-- One node: its system, its forms, and what its descent tells.
+use Rattle.std.proofs.Common.{◌≡◌, ◌≢◌, ⊎_elim, ℕ, zero, suc, ◌+◌, ◌-◌, ◌<◌, ◌≤◌, Bool, true, false, ◌==◌, if◌then◌else◌, List, [], ◌∷◌, length, length-append, map, Contains, ap, subst, sym, ◌∙◌, arith}
+use Rattle.std.specs.Prelude.{ℤ, pos, negsuc, neg_ℤ, ◌-ℤ◌, ◌*ℤ◌, ◌≤ℤ◌, ◌<ℤ◌, slice_index_or, int_lt, ◌||◌}
+use Rattle.std.proofs.lemmas.Int.{ints, by_lt_z}
+use Rattle.std.proofs.Math.IntN.{zero-*ℤ}
+use Rattle.std.proofs.lemmas.Bool.{cases_lt}
+use Rattle.std.proofs.lemmas.List.{length-map, get_or-map}
+use Rattle.rg_fraction.specs.declared.fraction.Fraction.{Fraction}
+use Rattle.rg_linear.specs.System.{LinearSystem, LinearRow, variables, row_variable, entry}
+use Rattle.rg_linear.specs.Dictionary.{Relation, DictionaryRow}
+use Rattle.rg_linear.specs.Table.{ShowsRow}
+use Rattle.rg_linear.specs.Descent.{Outcome.point, Outcome.refuted, DescentFromStart, multiplier_of}
+use Rattle.rg_linear.specs.Branching.{Form, form_at, SplitSide, side_row, node_system, Weight, weights_from}
+use Rattle.rg_linear.proofs.Points.{point_is_sound}
+use Rattle.rg_linear.proofs.Refuting.{start_refuted}
+use Rattle.rg_linear.proofs.Splits.{front_row, node_point}
+use Rattle.rg_dictionary.specs.Contents.{Contents, row_of, IsDictionary}
+use Rattle.rg_feasible.specs.Settling.{IsFeasibleAt, relation_of, multiplier_with}
+use Rattle.rg_feasible.proofs.Shown.{row_shows, relation_is}
+use Rattle.rg_branch.specs.declared.bounded.Bounded.{Bounded}
+use Rattle.rg_linear.specs.Room.{gap_of, gap, total, room}
+use Rattle.rg_branch.specs.View.{form_of, forms_of}
+use Rattle.rg_branch.specs.Asked.{IsFormOf, CanBranch}
+use Rattle.rg_branch.specs.Points.{AreWholeBelow, IsFirst, AreFormsAt}
+use Rattle.rg_branch.specs.Answer.{AreValuesAt, IsRefutedWith, IsWholePoint, IsFractionAt}
+
+-- ---- the forms at a node
+
+pub form_here : (forms : List Bounded) (f : ℕ) (b : Bounded) → f < length forms → form_of (slice_index_or forms f b) ≡ form_at (forms_of forms) f
+form_here forms f b lt = sym (get_or-map form_of forms f b (record { scale = pos 1; coeffs = []; low = pos 0; high = pos 0 }) lt)
+
+-- one gap is at most all of them
+gap_at_most : (n i : ℕ) (g : ℕ → ℕ) → i < n → g i ≤ total n g
+gap_at_most zero i g lt = absurd (omega arith)
+gap_at_most (suc n) i g lt = ⊎_elim (λ less. (let h = gap_at_most n i g less in omega arith)) (λ past. (let e : i ≡ n = omega arith in let h : g i ≡ g n = ap g e in omega arith)) (cases_lt i n)
+
+narrow_of : (high low : ℤ) (n : ℕ) → gap_of (high -ℤ low) ≤ n → n < 4294967296 → (high -ℤ low) <ℤ pos 4294967296
+narrow_of high low n le lt = go (high -ℤ low) n le lt
+  where
+    go : (z : ℤ) (n : ℕ) → gap_of z ≤ n → n < 4294967296 → z <ℤ pos 4294967296
+    go (pos k) n le lt = omega (arith, ints)
+    go (negsuc k) n le lt = omega (arith, ints)
+
+pub front_length : (system : LinearSystem) (forms : List Form) (above : List SplitSide) (i : ℕ) → i < length system.rows → i < length (node_system system forms above).rows
+front_length system forms above i lt = let e = length-append system.rows (map (side_row forms) above) in omega arith
+
+module _ (system : LinearSystem) (forms : List Bounded) (above : List SplitSide) (can : CanBranch system forms) where
+  pub node_form : (b : Bounded) → IsFormOf system b → IsFormOf (node_system system (forms_of forms) above) b
+  node_form b is = record {
+    one_each = is.one_each;
+    positive = is.positive;
+    scale_in_range = is.scale_in_range;
+    coeffs_in_range = is.coeffs_in_range;
+    ordered = is.ordered;
+    low_in_range = is.low_in_range;
+    high_in_range = is.high_in_range;
+    not_negative = is.not_negative;
+    times_in_range = is.times_in_range;
+    row_within = λ ne. front_length system (forms_of forms) above b.row (is.row_within ne);
+    multiple = λ j lt. is.multiple j lt ∙ go b.times j (λ ne. is.row_within ne);
+  }
+    where
+      go : (t : ℤ) (j : ℕ) → (t ≢ pos 0 → b.row < length system.rows) → t *ℤ entry system b.row j ≡ t *ℤ entry (node_system system (forms_of forms) above) b.row j
+      go t j within = by_lt_z t (pos 0) (λ less. same (λ e. omega (arith, ints))) (λ most. by_lt_z (pos 0) t (λ more. same (λ e. omega (arith, ints))) (λ least. zeros (both most least)))
+        where
+          both : pos 0 ≤ℤ t → t ≤ℤ pos 0 → t ≡ pos 0
+          both h g = omega (arith, ints)
+
+          same : t ≢ pos 0 → t *ℤ entry system b.row j ≡ t *ℤ entry (node_system system (forms_of forms) above) b.row j
+          same ne = ap (λ (r : LinearRow). t *ℤ slice_index_or r.coeffs j (pos 0)) (sym (front_row system (forms_of forms) above b.row (within ne)))
+
+          zeros : t ≡ pos 0 → t *ℤ entry system b.row j ≡ t *ℤ entry (node_system system (forms_of forms) above) b.row j
+          zeros e = ap (λ z. z *ℤ entry system b.row j) e ∙ zero-*ℤ (entry system b.row j) ∙ sym (zero-*ℤ (entry (node_system system (forms_of forms) above) b.row j)) ∙ ap (λ z. z *ℤ entry (node_system system (forms_of forms) above) b.row j) (sym e)
+
+  pub forms_at : (members : List ℕ) → DescentFromStart (node_system system (forms_of forms) above) (point members) → AreFormsAt (node_system system (forms_of forms) above) members forms
+  forms_at members d = record {
+    each = λ k b lt. node_form (slice_index_or forms k b) (can.each k b lt);
+    narrow = λ k b lt. narrow_of (slice_index_or forms k b).high (slice_index_or forms k b).low (room (forms_of forms) []) (gap_here k b lt) (let f = can.few in omega arith);
+    between = λ f lt scale v basic. can.bounded.between f scale v (subst (λ n. f < n) (sym (length-map forms form_of)) lt) (node_point system (forms_of forms) above scale v basic.point) (λ i within. point_is_sound (node_system system (forms_of forms) above) members d scale v basic.point basic.zero i (front_length system (forms_of forms) above i within));
+  }
+    where
+      gap_here : (k : ℕ) (b : Bounded) → k < length forms → gap_of ((slice_index_or forms k b).high -ℤ (slice_index_or forms k b).low) ≤ room (forms_of forms) []
+      gap_here k b lt = subst (λ (form : Form). gap_of (form.high -ℤ form.low) ≤ room (forms_of forms) []) (sym (form_here forms k b lt)) (gap_at_most (length (forms_of forms)) k (gap (forms_of forms) []) (subst (λ n. k < n) (sym (length-map forms form_of)) lt))
+
+  pub fraction_told : (members : List ℕ) (f : ℕ) (u : ℤ) → DescentFromStart (node_system system (forms_of forms) above) (point members) → IsFeasibleAt (node_system system (forms_of forms) above) members → IsFirst (node_system system (forms_of forms) above) members (forms_of forms) f u → IsFractionAt system (forms_of forms) above f u
+  fraction_told members f u d at first = record {
+    members = members;
+    outcome = d;
+    first = record {
+      scale = at.scale;
+      v = at.v;
+      point = at.basic.point;
+      zeros = at.basic.zero;
+      within = first.within;
+      before = λ g lt. first.before g lt at.scale at.v at.basic;
+      low = (first.floor at.scale at.v at.basic).0;
+      high = (first.floor at.scale at.v at.basic).1;
+    };
+    side = record { form = first.within; low = first.low; high = first.high };
+  }
+
+  pub whole_told : (members : List ℕ) (values : List Fraction) → DescentFromStart (node_system system (forms_of forms) above) (point members) → IsFeasibleAt (node_system system (forms_of forms) above) members → AreWholeBelow (node_system system (forms_of forms) above) members (forms_of forms) (length forms) → AreValuesAt (node_system system (forms_of forms) above) members values → IsWholePoint system (forms_of forms) above values
+  whole_told members values d at all are = record {
+    members = members;
+    outcome = d;
+    all = record {
+      scale = at.scale;
+      v = at.v;
+      point = at.basic.point;
+      zeros = at.basic.zero;
+      whole = λ g lt. all g (subst (λ n. g < n) (length-map forms form_of) lt) at.scale at.v at.basic;
+    };
+    values_are = are;
+  }
+
+-- ---- a refuted node
+
+pub refuted_told : (node : LinearSystem) (d : Contents) (i : ℕ) (fixed : List ℕ) (weights : List Weight) (rows : ℕ) → IsDictionary node d → DescentFromStart node (refuted d.members i fixed) → rows ≡ length node.rows → weights ≡ weights_from (multiplier_with d i) 0 rows → IsRefutedWith node weights
+refuted_told node d i fixed weights rows whole outcome count are = record {
+  members = d.members;
+  fixed = fixed;
+  i = i;
+  k = shown.k;
+  outcome = outcome;
+  row = subst (λ w. DictionaryRow node d.members w shown.k) pivot_is shown.row;
+  weights_are = are ∙ ap (λ n. weights_from (multiplier_with d i) 0 n) count ∙ ap (λ (m : ℕ → ℤ). weights_from m 0 (length node.rows)) multipliers;
+}
+  where
+    pivot_is : d.columns + i ≡ row_variable node i
+    pivot_is = ap (λ n. n + i) whole.columns
+
+    failing : (k : Relation) × DictionaryRow node d.members (row_variable node i) k
+    failing = let at = (start_refuted node d.members fixed i outcome).stuck in (at.k, at.row)
+
+    shown : ShowsRow node d.members (d.columns + i) (row_of d (d.columns + i))
+    shown = row_shows d node whole (d.columns + i) (subst (λ w. w < variables node) (sym pivot_is) failing.1.variable) (λ has. failing.1.outside (subst (Contains d.members) pivot_is has))
+
+    is_shown : relation_of d.members (row_of d (d.columns + i)) ≡ shown.k
+    is_shown = relation_is d.members shown.k (row_of d (d.columns + i)) shown.row.over shown.shown
+
+    multipliers : multiplier_with d i ≡ multiplier_of node shown.k i
+    multipliers = λ j row. if row == i then (is_shown j).d else neg_ℤ ((is_shown j).coefficient (whole.columns j + row))
+
+-- ---- the rows with a multiplier
+
+test_zero : (z : ℤ) → z ≡ pos 0 → (int_lt z (pos 0) || int_lt (pos 0) z) ≡ false
+test_zero z e = ap (λ x. int_lt x (pos 0) || int_lt (pos 0) x) e
+
+test_other : (z : ℤ) → z ≢ pos 0 → (int_lt z (pos 0) || int_lt (pos 0) z) ≡ true
+test_other z ne = grind (arith, ints)
+
+from_next : (m : ℕ → ℤ) (row k : ℕ) (xs : List Weight) (b : Bool) → (int_lt (m row) (pos 0) || int_lt (pos 0) (m row)) ≡ b → (if b then (record { row = row; multiplier = m row } ∷ weights_from m (suc row) k) else weights_from m (suc row) k) ≡ xs → weights_from m row (suc k) ≡ xs
+from_next m row k xs b e is = ap (λ x. if x then (record { row = row; multiplier = m row } ∷ weights_from m (suc row) k) else weights_from m (suc row) k) e ∙ is
+
+next_count : (row rows : ℕ) → row < rows → rows - row ≡ suc (rows - (row + 1))
+next_count row rows lt = omega arith
+
+pub weights_skip : (m : ℕ → ℤ) (row rows : ℕ) → row < rows → m row ≡ pos 0 → weights_from m row (rows - row) ≡ weights_from m (row + 1) (rows - (row + 1))
+weights_skip m row rows lt e = ap (weights_from m row) (next_count row rows lt) ∙ from_next m row (rows - (row + 1)) _ false (test_zero (m row) e) (ap (λ n. weights_from m n (rows - (row + 1))) (one row))
+  where
+    one : (n : ℕ) → suc n ≡ n + 1
+    one n = omega arith
+
+pub weights_take : (m : ℕ → ℤ) (row rows : ℕ) → row < rows → m row ≢ pos 0 → weights_from m row (rows - row) ≡ record { row = row; multiplier = m row } ∷ weights_from m (row + 1) (rows - (row + 1))
+weights_take m row rows lt ne = ap (weights_from m row) (next_count row rows lt) ∙ from_next m row (rows - (row + 1)) _ true (test_other (m row) ne) (ap (λ n. record { row = row; multiplier = m row } ∷ weights_from m n (rows - (row + 1))) (one row))
+  where
+    one : (n : ℕ) → suc n ≡ n + 1
+    one n = omega arith

@@ -1,0 +1,7 @@
+pub mod View
+pub mod Asked
+pub mod Numbers
+pub mod Turning
+pub mod Work
+pub mod Points
+pub mod Answer

@@ -1,0 +1,110 @@
+//! Splits as rows, and the way through a tree.
+ghost use Rattle.std.specs.Prelude.{◌≡◌, length, map, ℤ, pos, neg_ℤ, ◌+ℤ◌, ◌-ℤ◌, ◌*ℤ◌, All, if◌then◌else◌, IfOk};
+ghost use Rattle.rg_integers.specs.Range.{InRange};
+ghost use Rattle.rg_linear.specs.Branching.{node_system};
+ghost use Rattle.rg_linear.specs.View.{linear_row};
+ghost use Rattle.rg_branch.specs.View.{form_of, forms_of, sides_of};
+ghost use Rattle.rg_branch.specs.Asked.{CanBranch, AreSidesOf};
+ghost use Rattle.rg_branch.specs.Turning.{turned, row_of_side};
+
+use crate::bounded::Bounded;
+use rg_linear::{Row, System};
+use std::alloc::{AllocError, Global};
+
+// The system below the splits: their rows come behind its own, the outermost first.
+pub(crate) fn node_system(
+    alloc: Global,
+    system: &System,
+    forms: &[Bounded],
+    above: &[(u32, i64, bool)],
+) -> Result<System, AllocError>
+    requires can { CanBranch system.now forms.now }
+    requires sides { AreSidesOf (forms_of forms.now) (sides_of above.now) }
+    ensures { IfOk result (λ node. node ≡ node_system system.now (forms_of forms.now) (sides_of above.now)) }
+{
+    let mut rows = Vec::new(alloc);
+    for row in system.rows() {
+        rows.push(copied(alloc, row)?)?;
+    }
+    for &(form, at, high) in above {
+        rows.push(side_row(alloc, &forms[form as usize], at, high)?)?;
+    }
+    Ok(System::new(system.columns(), rows))
+}
+
+fn copied(alloc: Global, row: &Row) -> Result<Row, AllocError>
+    ensures { IfOk result (λ r. linear_row r ≡ linear_row row.now) }
+{
+    let coeffs = row.coeffs.to_vec(alloc)?;
+    Ok(Row {
+        coeffs,
+        constant: row.constant,
+    })
+}
+
+// The row of one side of a split.
+fn side_row(alloc: Global, form: &Bounded, at: i64, high: bool) -> Result<Row, AllocError>
+    requires scale { InRange form.now.scale }
+    requires coeffs { All InRange form.now.coeffs.items }
+    requires low { InRange (form.now.scale *ℤ at) }
+    requires high { InRange (form.now.scale *ℤ (at +ℤ pos 1)) }
+    ensures { IfOk result (λ r. linear_row r ≡ row_of_side (form_of form.now) at high) }
+{
+    let coeffs = side_coeffs(alloc, &form.coeffs, high)?;
+    let constant = side_constant(form.scale, at, high);
+    Ok(Row { coeffs, constant })
+}
+
+// The coefficients on the high side, and their negatives on the low side.
+fn side_coeffs(alloc: Global, coeffs: &[i128], high: bool) -> Result<Vec<i128>, AllocError>
+    requires { All InRange coeffs.now }
+    ensures { IfOk result (λ v. v.items ≡ (if high then coeffs.now else map neg_ℤ coeffs.now)) }
+{
+    if high {
+        return coeffs.to_vec(alloc);
+    }
+    let mut negated = Vec::new(alloc);
+    for &coefficient in coeffs {
+        negated.push(negative(coefficient))?;
+    }
+    Ok(negated)
+}
+
+fn side_constant(scale: i128, at: i64, high: bool) -> i128
+    requires scale { InRange scale }
+    requires low { InRange (scale *ℤ at) }
+    requires high { InRange (scale *ℤ (at +ℤ pos 1)) }
+    ensures { result ≡ (if high then (neg_ℤ (scale *ℤ at) -ℤ scale) else (scale *ℤ at)) }
+{
+    if high {
+        negative(scale * (i128::from(at) + 1))
+    } else {
+        scale * i128::from(at)
+    }
+}
+
+// The negative, which is in range too.
+fn negative(z: i128) -> i128
+    requires { InRange z }
+    ensures value { result ≡ neg_ℤ z }
+    ensures in_range { InRange result }
+{
+    -z
+}
+
+// Goes to the sides above the next node, past a tree that is done: the innermost low side becomes the high one, and
+// the high sides within it end. Where all sides are high, none is left.
+pub(crate) fn turn(above: &mut Vec<(u32, i64, bool)>)
+    ensures { sides_of above.new.items ≡ turned (sides_of above.old.items) }
+{
+    let mut depth = above.len();
+    while depth > 0 {
+        depth -= 1;
+        if !above[depth].2 {
+            above[depth].2 = true;
+            above.truncate(depth + 1);
+            return;
+        }
+    }
+    above.clear();
+}
