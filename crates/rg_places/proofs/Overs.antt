@@ -1,22 +1,22 @@
 -- Numbers over a scale, along the tree and less the least of them.
-use Rattle.std.proofs.Common.{◌≡◌, ◌≢◌, ⊎_elim, ◌⊎◌, ℕ, zero, suc, ◌*◌, ◌<◌, ◌≤◌, ◌==◌, Bool, true, false, if◌then◌else◌, List, [], ◌∷◌, ◌++◌, length, Contains, Ok, inl, inr, refl, sym, ap, ap₂, subst, ◌∙◌, arith}
-use Rattle.std.specs.Prelude.{ℤ, pos, negsuc, neg_ℤ, ◌+ℤ◌, ◌-ℤ◌, ◌*ℤ◌, ◌<ℤ◌, ◌≤ℤ◌, int_lt, int_div, unsigned_abs}
+use Rattle.std.proofs.Common.{◌≡◌, ◌≢◌, ⊎_elim, ◌⊎◌, ℕ, zero, suc, ◌*◌, ◌<◌, ◌==◌, Bool, true, false, if◌then◌else◌, List, [], ◌∷◌, ◌++◌, length, Contains, Ok, inl, inr, refl, sym, ap, ap₂, subst, ◌∙◌, arith}
+use Rattle.std.specs.Prelude.{ℤ, pos, neg_ℤ, ◌+ℤ◌, ◌-ℤ◌, ◌*ℤ◌, ◌<ℤ◌, ◌≤ℤ◌, int_lt, int_div, unsigned_abs}
 use Rattle.std.proofs.lemmas.Int.{ints, unsigned_abs-mul, by_lt_z}
 use Rattle.std.proofs.Math.Nat.{one-dvd, mul-suc}
 use Rattle.rg_theory.specs.declared.Arc.{Arc}
 use Rattle.rg_theory.specs.System.{System, IsInRange, IsReachable, labels}
-use Rattle.rg_theory.specs.Tree.{IsTree, ways_from, way_to, count}
+use Rattle.rg_theory.specs.Tree.{IsTree, ways_from, way_to}
 use Rattle.rg_theory.proofs.Lists.{Contains-cons_cases}
 use Rattle.rg_theory.proofs.Trees.{way_leads}
 use Rattle.rg_integers.specs.Range.{InRange}
 use Rattle.rg_integers.specs.Divisor.{int_gcd}
 use Rattle.rg_integers.specs.Sum.{sum_over}
 use Rattle.rg_integers.proofs.Ring.{ring}
-use Rattle.rg_integers.proofs.Order.{mul-cancel, mul-cancel_left, mul_positive, positive_differs, quotient_positive}
+use Rattle.rg_integers.proofs.Order.{mul-cancel, mul_positive, positive_differs, quotient_positive}
 use Rattle.rg_integers.proofs.Divisors.{gcd_of-is, exact, int_gcd_positive}
 use Rattle.rg_integers.proofs.ListSums.{sum_over-append}
 use Rattle.rg_linear.proofs.Branches.{positive_times_less, positive_times_most}
-use Rattle.rg_order_of_work.specs.Fold.{Ratio, whole, IsRatio, add}
+use Rattle.rg_order_of_work.specs.Fold.{Ratio, whole, add}
 use Rattle.rg_order_of_work.specs.Potentials.{potential}
 use Rattle.rg_order_of_work.specs.Placing.{negated, along_tree, lesser, least_from, least_of}
 use Rattle.rg_order_of_work.proofs.FoldLemmas.{ratio_one}

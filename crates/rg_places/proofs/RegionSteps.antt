@@ -1,6 +1,6 @@
 -- The place of a point that solves a case, as code keeps it.
-use Rattle.std.proofs.Common.{◌≡◌, ℕ, zero, suc, ◌≤◌, IsNone, List, [], ◌∷◌, length, map, All, unsigned_abs, Result, Ok, Err, ap, refl, sym, subst, ◌∙◌}
-use Rattle.std.specs.Prelude.{false, slice_index, IfOk}
+use Rattle.std.proofs.Common.{◌≡◌, ℕ, zero, suc, ◌≤◌, List, [], ◌∷◌, length, map, All, unsigned_abs, Result, Ok, Err, ap, refl, sym, subst, ◌∙◌}
+use Rattle.std.specs.Prelude.{slice_index, IfOk}
 use Rattle.std.proofs.Math.Path.{fun_ext}
 use Rattle.std.proofs.lemmas.List.{length-map, get_or_default}
 use Rattle.rg_theory.specs.declared.Arc.{Arc}

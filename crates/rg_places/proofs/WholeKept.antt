@@ -1,10 +1,10 @@
 -- In a class that is plain or bounded, the numbers that a point with whole forms makes are whole and keep all rows of the case.
-use Rattle.std.proofs.Common.{◌≡◌, ⊎_elim, ℕ, zero, suc, ◌+◌, ◌*◌, ◌<◌, ◌≤◌, ◌&&◌, ◌||◌, not, is_some, unwrap_or, Option, Some, None, Bool, true, false, if◌then◌else◌, List, [], ◌∷◌, ◌++◌, map, length, Contains, Ok, refl, sym, ap, ap₂, subst, ◌∙◌, arith}
+use Rattle.std.proofs.Common.{◌≡◌, ⊎_elim, ℕ, zero, suc, ◌*◌, ◌<◌, ◌≤◌, ◌&&◌, ◌||◌, not, is_some, unwrap_or, Bool, true, false, if◌then◌else◌, List, [], ◌∷◌, ◌++◌, map, length, Contains, Ok, refl, sym, ap, ap₂, subst, ◌∙◌, arith}
 use Rattle.std.specs.Prelude.{ℤ, pos, negsuc, neg_ℤ, ◌+ℤ◌, ◌*ℤ◌, ◌<ℤ◌, ◌≤ℤ◌, unsigned_abs}
 use Rattle.std.proofs.Math.Nat.{mul-suc}
 use Rattle.std.proofs.Math.IntN.{*ℤ-zero}
 use Rattle.std.proofs.lemmas.Int.{ints, unsigned_abs-mul, by_lt_z}
-use Rattle.std.proofs.lemmas.Bool.{true≢false, cases_Bool, cases_lt}
+use Rattle.std.proofs.lemmas.Bool.{true≢false, cases_Bool}
 use Rattle.std.proofs.lemmas.List.{length-map, get_or-map}
 use Rattle.std.proofs.lemmas.List.Elements.{Contains-get_or}
 use Rattle.rg_theory.specs.declared.Arc.{Arc}
@@ -21,15 +21,15 @@ use Rattle.rg_linear.specs.Branching.{form_at}
 use Rattle.rg_linear.specs.Cycle.{CycleBasis}
 use Rattle.rg_linear.proofs.Branches.{positive_times_less}
 use Rattle.rg_refuting.specs.Expression.{Variable, Variable.tokens_at, Variable.effect_of}
-use Rattle.rg_refuting.specs.Row.{RowName.cap_row, RowStands, Form as SplitForm, Form.on_tokens, form_variable}
-use Rattle.rg_order_of_work.specs.Fold.{gives, either, each, Ratio, whole, add}
+use Rattle.rg_refuting.specs.Row.{RowName.cap_row, Form as SplitForm, Form.on_tokens, form_variable}
+use Rattle.rg_order_of_work.specs.Fold.{each, Ratio, whole, add}
 use Rattle.rg_order_of_work.specs.Rewriting.{has_label, all_numbers, has_start, split_forms, form_fold, form_high, CaseSystem}
 use Rattle.rg_order_of_work.specs.Values.{numbers_along}
 use Rattle.rg_order_of_work.specs.Shown.{IsLive}
-use Rattle.rg_order_of_work.specs.Placing.{negated, ratio_at, along_tree, least_of, is_shifted, shift_fold, top_at, effect_fold, made_whole}
+use Rattle.rg_order_of_work.specs.Placing.{negated, ratio_at, along_tree, least_of, shift_fold, top_at, effect_fold, made_whole}
 use Rattle.rg_order_of_work.specs.Meaning.{KeepsRowsOver, IsCaseOver, AreEffects, MeetsCase}
 use Rattle.rg_order_of_work.specs.WholeParts.{AreWholeParts}
-use Rattle.rg_order_of_work.proofs.RowValues.{IsOver, add_over}
+use Rattle.rg_order_of_work.proofs.RowValues.{add_over}
 use Rattle.rg_order_of_work.proofs.CaseMeaning.{start_means}
 use Rattle.rg_order_of_work.proofs.Forms.{form_of_variable, form_value, form_positive, form_names, bounded_has}
 use Rattle.rg_order_of_work.proofs.FormRows.{form_fits}
@@ -40,7 +40,7 @@ use Rattle.rg_places.specs.Places.{IsReduced, AreValuesOf, AreFormsWhole}
 use Rattle.rg_places.proofs.Wholes.{each_at}
 use Rattle.rg_places.proofs.Found.{IsOverAt, all_length, all_at, whole_by, label_at, start_at}
 use Rattle.rg_places.proofs.Reduced.{effect_reduced, start_is_reduced}
-use Rattle.rg_places.proofs.Kept.{AreWholeAt, AreKept, shift_by}
+use Rattle.rg_places.proofs.Kept.{AreKept, shift_by}
 use Rattle.rg_places.proofs.Overs.{whole_over, sum_in_range, along_gives_over, opposite_over, AreOver, one_value, least_over}
 use Rattle.rg_places.proofs.Lowered.{lowered, lowered_at, lowered_keeps}
 use Rattle.rg_cycles.proofs.Items.{each_length}
