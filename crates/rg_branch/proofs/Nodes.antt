@@ -21,7 +21,7 @@ use Rattle.rg_branch.specs.declared.bounded.Bounded.{Bounded}
 use Rattle.rg_linear.specs.Room.{gap_of, gap, total, room}
 use Rattle.rg_branch.specs.View.{form_of, forms_of}
 use Rattle.rg_branch.specs.Asked.{IsFormOf, CanBranch}
-use Rattle.rg_branch.specs.Points.{AreWholeBelow, IsFirst, AreFormsAt}
+use Rattle.rg_branch.specs.Points.{AreWholeBelow, IsFirstFraction, AreFormsAt}
 use Rattle.rg_branch.specs.Answer.{AreValuesAt, IsRefutedWith, IsWholePoint, IsFractionAt}
 
 -- ---- the forms at a node
@@ -82,7 +82,7 @@ module _ (system : LinearSystem) (forms : List Bounded) (above : List SplitSide)
       gap_here : (k : ℕ) (b : Bounded) → k < length forms → gap_of ((slice_index_or forms k b).high -ℤ (slice_index_or forms k b).low) ≤ room (forms_of forms) []
       gap_here k b lt = subst (λ (form : Form). gap_of (form.high -ℤ form.low) ≤ room (forms_of forms) []) (sym (form_here forms k b lt)) (gap_at_most (length (forms_of forms)) k (gap (forms_of forms) []) (subst (λ n. k < n) (sym (length-map forms form_of)) lt))
 
-  pub fraction_told : (members : List ℕ) (f : ℕ) (u : ℤ) → DescentFromStart (node_system system (forms_of forms) above) (point members) → IsFeasibleAt (node_system system (forms_of forms) above) members → IsFirst (node_system system (forms_of forms) above) members (forms_of forms) f u → IsFractionAt system (forms_of forms) above f u
+  pub fraction_told : (members : List ℕ) (f : ℕ) (u : ℤ) → DescentFromStart (node_system system (forms_of forms) above) (point members) → IsFeasibleAt (node_system system (forms_of forms) above) members → IsFirstFraction (node_system system (forms_of forms) above) members (forms_of forms) f u → IsFractionAt system (forms_of forms) above f u
   fraction_told members f u d at first = record {
     members = members;
     outcome = d;

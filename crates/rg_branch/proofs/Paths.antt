@@ -11,7 +11,7 @@ use Rattle.rg_linear.specs.Room.{room}
 use Rattle.rg_branch.specs.View.{TreeNode, TreeNode.leaf_node, TreeNode.split_node, preorder}
 use Rattle.rg_branch.specs.Asked.{IsSideOf, AreSidesOf}
 use Rattle.rg_branch.specs.Turning.{turned_back, turned}
-use Rattle.rg_branch.specs.Answer.{IsFractionAt, IsWholePoint, IsRefutedWith, IsFound, IsTree}
+use Rattle.rg_branch.specs.Answer.{IsFractionAt, IsWholePoint, IsRefutedWith, IsFoundPoint, IsSplitTree}
 use Rattle.rg_branch.specs.Work.{pending, work}
 use Rattle.rg_linear.proofs.Endings.{Within, within_start, within_low, within_high, split_within, gap-low, gap-high}
 
@@ -236,7 +236,7 @@ path_sides system forms above nodes bounded p = subst (AreSidesOf forms) (sym p.
 pub path_stopped : (system : LinearSystem) (forms : List Form) (above : List SplitSide) (nodes : List TreeNode) (w : WideAt) → IsPath system forms above nodes → DescentFromStart (node_system system forms above) (wide w) → Branching system forms (stopped above w)
 path_stopped system forms above nodes w p d = end_up system forms p.way (stopped above w) tt p.stands (subst (λ xs. BranchFrom system forms xs (stopped above w)) p.sides (passes w d))
 
-pub path_found : (system : LinearSystem) (forms : List Form) (above : List SplitSide) (nodes : List TreeNode) (values : List Fraction) → IsPath system forms above nodes → IsWholePoint system forms above values → IsFound system forms above values
+pub path_found : (system : LinearSystem) (forms : List Form) (above : List SplitSide) (nodes : List TreeNode) (values : List Fraction) → IsPath system forms above nodes → IsWholePoint system forms above values → IsFoundPoint system forms above values
 path_found system forms above nodes values p w = record {
   members = w.members;
   outcome = end_up system forms p.way (found w.members above) tt p.stands (subst (λ xs. BranchFrom system forms xs (found w.members above)) p.sides (whole w.members w.outcome w.all));
@@ -257,7 +257,7 @@ module _ (system : LinearSystem) (forms : List Form) (above : List SplitSide) (n
 
 -- behind a leaf the tree is whole
 pub record IsLast (system : LinearSystem) (forms : List Form) (above : List SplitSide) (nodes : List TreeNode) : Type 0 where
-  pub tree_is : IsTree system forms nodes
+  pub tree_is : IsSplitTree system forms nodes
   pub none : turned above ≡ []
 
 -- or the way goes on

@@ -6,7 +6,7 @@ ghost use Rattle.rg_feasible.specs.Settling.{IsDictionaryOf};
 ghost use Rattle.rg_branch.specs.View.{form_of, forms_of};
 ghost use Rattle.rg_branch.specs.Asked.{IsFormOf};
 ghost use Rattle.rg_branch.specs.Answer.{AreValuesAt};
-ghost use Rattle.rg_branch.specs.Points.{IsBetween, HasFloor, IsWholeThere, AreWholeBelow, IsFirst, IsNarrow, AreFormsAt};
+ghost use Rattle.rg_branch.specs.Points.{IsBetween, HasFloor, IsWholeThere, AreWholeBelow, IsFirstFraction, HasFewNumbers, AreFormsAt};
 
 use crate::bounded::Bounded;
 use crate::floor::{Multiple, floor_of_fraction};
@@ -24,7 +24,7 @@ pub(crate) fn first_fraction(
     requires dictionary { IsDictionaryOf node.now dictionary.now }
     requires forms { AreFormsAt node.now dictionary.now.table.members forms.now }
     requires few { length forms.now < 2 ^ 32 }
-    ensures first { IfSome result (λ s. IsFirst node.now dictionary.now.table.members (forms_of forms.now) s.0 s.1) }
+    ensures first { IfSome result (λ s. IsFirstFraction node.now dictionary.now.table.members (forms_of forms.now) s.0 s.1) }
     ensures none { IfNone result (AreWholeBelow node.now dictionary.now.table.members (forms_of forms.now) (length forms.now)) }
 {
     for (f, form) in forms.iter().enumerate() {
@@ -39,7 +39,7 @@ pub(crate) fn first_fraction(
 fn fraction_floor(dictionary: &Dictionary, node: &System, form: &Bounded) -> Option<i64>
     requires dictionary { IsDictionaryOf node.now dictionary.now }
     requires form { IsFormOf node.now form.now }
-    requires narrow { IsNarrow form.now }
+    requires narrow { HasFewNumbers form.now }
     requires between { IsBetween node.now dictionary.now.table.members (form_of form.now) }
     ensures floor { IfSome result (HasFloor node.now dictionary.now.table.members (form_of form.now)) }
     ensures low { IfSome result (λ u. form.now.low ≤ℤ u) }

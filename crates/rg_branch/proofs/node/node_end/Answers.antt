@@ -8,7 +8,7 @@ use Rattle.rg_linear.specs.Descent.{Outcome.point, DescentFromStart}
 use Rattle.rg_linear.specs.View.{linear_row}
 use Rattle.rg_feasible.specs.Settling.{IsRefutation, IsFeasibleAt}
 use Rattle.rg_branch.specs.View.{forms_of, sides_of, weight_of}
-use Rattle.rg_branch.specs.Points.{AreFormsAt, IsFirst, AreWholeBelow}
+use Rattle.rg_branch.specs.Points.{AreFormsAt, IsFirstFraction, AreWholeBelow}
 use Rattle.rg_branch.specs.Answer.{IsRefutedWith, AreValuesAt}
 use Rattle.rg_branch.proofs.Nodes.{forms_at, fraction_told, whole_told, refuted_told}
 use Rattle.rg_branch.proofs.node.node_end.Goals as goal
@@ -39,7 +39,7 @@ returns-in-Some c =
     (fraction_told c.args.system.now c.args.forms.now (sides_of c.args.above.now) c.requires.can members c.in-Some.form c.in-Some.floor
     (subst (λ (n : LinearSystem). DescentFromStart n (point members)) c.in_ok-node.ensures outcome)
     (subst (λ (n : LinearSystem). IsFeasibleAt n members) c.in_ok-node.ensures feasible)
-    (subst (λ (n : LinearSystem). IsFirst n members (forms_of c.args.forms.now) c.in-Some.form c.in-Some.floor) c.in_ok-node.ensures c.in-Some.ensures.first))
+    (subst (λ (n : LinearSystem). IsFirstFraction n members (forms_of c.args.forms.now) c.in-Some.form c.in-Some.floor) c.in_ok-node.ensures c.in-Some.ensures.first))
 
 pub returns : goal.returns
 returns c =

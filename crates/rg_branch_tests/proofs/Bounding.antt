@@ -1,0 +1,162 @@
+-- Single rows bound a form.
+use Rattle.std.proofs.Common.{◌≡◌, ⊎_elim, refl, ℕ, suc, ◌+◌, ◌^◌, ◌<◌, List, [], ◌∷◌, length, map, All, ap, subst, sym, ◌∙◌, arith}
+use Rattle.std.specs.Prelude.{ℤ, pos, neg_ℤ, ◌+ℤ◌, ◌-ℤ◌, ◌*ℤ◌, ◌≤ℤ◌, ◌<ℤ◌, slice_index_or, FitsSigned}
+use Rattle.std.specs.Int.{w128}
+use Rattle.std.proofs.lemmas.Int.{ints}
+use Rattle.std.proofs.lemmas.List.{length-map, get_or_default}
+use Rattle.rg_integers.specs.Range.{InRange}
+use Rattle.rg_integers.proofs.Ring.{ring}
+use Rattle.rg_integers.proofs.Order.{mul_not_negative, mul-le}
+use Rattle.rg_integers.specs.Sum.{sum_below}
+use Rattle.rg_integers.proofs.Sums.{sum_below-same, sum_below-times}
+use Rattle.rg_linear.specs.declared.system.Row.{Row}
+use Rattle.rg_linear.specs.View.{linear_row, IsWellFormed}
+use Rattle.rg_linear.proofs.KeptRows.{item_is, below_rows, row_length}
+use Rattle.rg_linear.specs.System.{LinearSystem, LinearRow, row_variable, row_at, entry}
+use Rattle.rg_linear.specs.Branching.{Form, scaled_value}
+use Rattle.rg_linear.specs.Room.{gap_of, gap, total}
+use Rattle.rg_linear.proofs.Members.{equal_or_not}
+use Rattle.rg_branch.specs.declared.bounded.Bounded.{Bounded}
+use Rattle.rg_branch.specs.View.{form_of, forms_of}
+use Rattle.rg_branch.specs.Asked.{IsFormOf, CanBranch}
+use Rattle.rg_branch.proofs.Values.{form_value, most_of_times}
+use Rattle.rg_branch.proofs.Nodes.{form_here}
+use Rattle.rg_branch.proofs.Points.{form_is}
+use Rattle.rg_branch_tests.specs.Bounds.{AreTimes, IsLow, IsTop, IsBoundedForm}
+
+-- ---- numbers
+
+low_of : (t r c s f l : ℤ) → pos 0 ≤ℤ t → pos 0 ≤ℤ r → pos 0 <ℤ s → (t *ℤ c) ≤ℤ neg_ℤ (f *ℤ l) → (l *ℤ (f *ℤ s)) ≤ℤ (t *ℤ (r -ℤ (c *ℤ s)))
+low_of t r c s f l ht hr hs h =
+    let m = mul_not_negative t r ht hr in
+    let n = mul-le (t *ℤ c) (neg_ℤ (f *ℤ l)) s (most s hs) h in
+    let a : (t *ℤ c) *ℤ s ≡ t *ℤ (c *ℤ s) = simp ring in
+    let b : neg_ℤ (f *ℤ l) *ℤ s ≡ neg_ℤ (l *ℤ (f *ℤ s)) = simp ring in
+    let d : t *ℤ (r -ℤ (c *ℤ s)) ≡ (t *ℤ r) -ℤ (t *ℤ (c *ℤ s)) = simp ring (omega (arith, ints)) in
+    omega (arith, ints)
+  where
+    most : (s : ℤ) → pos 0 <ℤ s → pos 0 ≤ℤ s
+    most s h = omega (arith, ints)
+
+high_of : (m x c s f h r : ℤ) → pos 0 <ℤ m → pos 0 <ℤ s → pos 0 ≤ℤ r → r ≡ (neg_ℤ m *ℤ x) +ℤ (c *ℤ s) → c ≤ℤ (m *ℤ (f *ℤ h)) → x ≤ℤ (h *ℤ (f *ℤ s))
+high_of m x c s f h r hm hs hr is most =
+    let n = mul-le c (m *ℤ (f *ℤ h)) s (weak s hs) most in
+    let a : (m *ℤ (f *ℤ h)) *ℤ s ≡ m *ℤ (h *ℤ (f *ℤ s)) = simp ring in
+    let b : neg_ℤ m *ℤ x ≡ neg_ℤ (m *ℤ x) = simp ring in
+    most_of_times m x (h *ℤ (f *ℤ s)) hm (omega (arith, ints))
+  where
+    weak : (s : ℤ) → pos 0 <ℤ s → pos 0 ≤ℤ s
+    weak s h = omega (arith, ints)
+
+-- ---- one form
+
+pub bounded_form : (system : LinearSystem) (b : Bounded) (row : ℕ) (times : ℤ) → IsFormOf system b → IsLow system b → IsTop system b row times → IsBoundedForm system b
+bounded_form system b row times is low top = record {
+  form = is;
+  between = λ scale x p meets. (
+    subst (λ z. (b.low *ℤ (b.scale *ℤ scale)) ≤ℤ z) (sym (form_value system b is scale x p low.row)) (low_of b.times (x (row_variable system b.row)) (row_at system b.row).constant scale b.scale b.low is.not_negative (meets b.row low.row) p.positive low.constant),
+    high_of times (scaled_value system (form_of b) x) (row_at system row).constant scale b.scale b.high (x (row_variable system row)) top.positive p.positive (meets row top.within) (p.rows row top.within ∙ ap (λ z. z +ℤ ((row_at system row).constant *ℤ scale)) (turned x)) top.constant,
+  );
+}
+  where
+    turn : (a b c : ℤ) → (a *ℤ b) *ℤ c ≡ a *ℤ (b *ℤ c)
+    turn a b c = simp ring
+
+    turned : (x : ℕ → ℤ) → sum_below system.columns (λ j. entry system row j *ℤ x j) ≡ neg_ℤ times *ℤ scaled_value system (form_of b) x
+    turned x =
+        sum_below-same system.columns _ (λ j. neg_ℤ times *ℤ (slice_index_or b.coeffs.items j (pos 0) *ℤ x j)) (λ j h. ap (λ z. z *ℤ x j) (top.entries j h) ∙ turn (neg_ℤ times) (slice_index_or b.coeffs.items j (pos 0)) (x j))
+        ∙ sum_below-times system.columns (neg_ℤ times) (λ j. slice_index_or b.coeffs.items j (pos 0) *ℤ x j)
+
+-- ---- all forms
+
+-- what is known of the first n forms
+pub record AreKnown (system : LinearSystem) (forms : List Bounded) (n sum : ℕ) : Type 0 where
+  pub bounded : (k : ℕ) (b : Bounded) → k < n → k < length forms → IsBoundedForm system (slice_index_or forms k b)
+  pub sum_is : sum ≡ total n (gap (forms_of forms) [])
+
+pub none_known : (system : LinearSystem) (forms : List Bounded) → AreKnown system forms 0 0
+none_known system forms = record { bounded = λ k b lt within. absurd (omega arith); sum_is = refl }
+
+gap_is : (h l : ℤ) (n : ℕ) → pos n ≡ h -ℤ l → gap_of (h -ℤ l) ≡ n
+gap_is h l n e = sym (ap gap_of e)
+
+pub one_more_known : (system : LinearSystem) (forms : List Bounded) (n sum more : ℕ) (b : Bounded) → n < length forms → b ≡ slice_index_or forms n b → AreKnown system forms n sum → IsBoundedForm system b → pos more ≡ b.high -ℤ b.low → AreKnown system forms (n + 1) (sum + more)
+one_more_known system forms n sum more b lt at known is size = record {
+  bounded = λ k d below within. ⊎_elim
+      (λ e. subst (λ m. IsBoundedForm system (slice_index_or forms m d)) (sym e) (subst (IsBoundedForm system) (at ∙ get_or_default forms n b d lt) is))
+      (λ ne. known.bounded k d (omega arith) within)
+      (equal_or_not k n);
+  sum_is = (let s = known.sum_is in let g = here in let t = next n in omega arith);
+}
+  where
+    here : gap (forms_of forms) [] n ≡ more
+    here = subst (λ (form : Form). gap_of (form.high -ℤ form.low) ≡ more) (form_is forms n b lt at) (gap_is b.high b.low more size)
+
+    next : (n : ℕ) → total (n + 1) (gap (forms_of forms) []) ≡ total n (gap (forms_of forms) []) + gap (forms_of forms) [] n
+    next n = ap (λ m. total m (gap (forms_of forms) [])) (one n)
+      where
+        one : (n : ℕ) → n + 1 ≡ suc n
+        one n = omega arith
+
+pub all_known : (system : LinearSystem) (forms : List Bounded) (sum : ℕ) → AreKnown system forms (length forms) sum → length forms < 2 ^ 32 → system.columns + length system.rows + sum < 2 ^ 32 → CanBranch system forms
+all_known system forms sum known few_forms few = record {
+  each = λ k b lt. (known.bounded k b lt lt).form;
+  bounded = record {
+    positive = λ f lt. (let w = below f lt in let b = some_form forms f w in subst (λ (form : Form). pos 0 <ℤ form.scale) (form_here forms f b w) (known.bounded f b w w).form.positive);
+    between = λ f scale x lt p meets. (let w = below f lt in let b = some_form forms f w in subst (λ (form : Form). ((form.low *ℤ (form.scale *ℤ scale)) ≤ℤ scaled_value system form x) × (scaled_value system form x ≤ℤ (form.high *ℤ (form.scale *ℤ scale)))) (form_here forms f b w) ((known.bounded f b w w).between scale x p meets));
+  };
+  few_forms = few_forms;
+  few = (let s = known.sum_is in let e = ap (λ n. total n (gap (forms_of forms) [])) (length-map forms form_of) in omega arith);
+}
+  where
+    below : (f : ℕ) → f < length (forms_of forms) → f < length forms
+    below f lt = subst (λ n. f < n) (length-map forms form_of) lt
+
+    some_form : (forms : List Bounded) (f : ℕ) → f < length forms → Bounded
+    some_form [] f lt = absurd (omega arith)
+    some_form (x ∷ forms) f lt = x
+
+-- ---- what the code has tested
+
+module _ (system : LinearSystem) (b : Bounded) (rows : List Row) (item : Row) (are : map linear_row rows ≡ system.rows) where
+  pub form_asked : b.row < length rows → item ≡ slice_index_or rows b.row item → length b.coeffs.items ≡ system.columns → pos 0 <ℤ b.scale → b.low ≤ℤ b.high → pos 0 ≤ℤ b.times → FitsSigned w128 b.scale → FitsSigned w128 b.times → InRange (b.scale *ℤ b.low) → InRange (b.scale *ℤ b.high) → All InRange b.coeffs.items → AreTimes b.coeffs.items b.times item.coeffs.items → IsFormOf system b
+  form_asked lt at size positive ordered not_negative scale times low high coeffs same = record {
+    one_each = size;
+    positive = positive;
+    scale_in_range = in_range b.scale (weak b.scale positive) scale;
+    coeffs_in_range = λ j less. coeffs j (pos 0) (subst (λ n. j < n) (sym size) less);
+    ordered = ordered;
+    low_in_range = low;
+    high_in_range = high;
+    not_negative = not_negative;
+    times_in_range = in_range b.times not_negative times;
+    row_within = λ ne. below_rows system rows b.row are lt;
+    multiple = λ j less. same.each j (subst (λ n. j < n) (sym size) less) ∙ ap (λ (r : LinearRow). b.times *ℤ slice_index_or r.coeffs j (pos 0)) (item_is system rows b.row item are lt at);
+  }
+    where
+      weak : (z : ℤ) → pos 0 <ℤ z → pos 0 ≤ℤ z
+      weak z h = omega (arith, ints)
+
+      in_range : (z : ℤ) → pos 0 ≤ℤ z → FitsSigned w128 z → InRange z
+      in_range z h fits = omega (arith, ints)
+
+  pub low_asked : b.row < length rows → item ≡ slice_index_or rows b.row item → (product low : ℤ) → product ≡ b.times *ℤ item.constant → low ≡ b.scale *ℤ b.low → product ≤ℤ neg_ℤ low → IsLow system b
+  low_asked lt at product low is_product is_low least = record {
+    row = below_rows system rows b.row are lt;
+    constant = subst (λ (r : LinearRow). (b.times *ℤ r.constant) ≤ℤ neg_ℤ (b.scale *ℤ b.low)) (item_is system rows b.row item are lt at)
+        (subst (λ z. z ≤ℤ neg_ℤ (b.scale *ℤ b.low)) is_product (subst (λ z. product ≤ℤ neg_ℤ z) is_low least));
+  }
+
+  pub top_asked : (row : ℕ) (times : ℤ) → row < length rows → item ≡ slice_index_or rows row item → IsWellFormed system → pos 0 <ℤ times → (high most : ℤ) → high ≡ b.scale *ℤ b.high → most ≡ times *ℤ high → item.constant ≤ℤ most → AreTimes item.coeffs.items (neg_ℤ times) b.coeffs.items → IsTop system b row times
+  top_asked row times lt at well positive high most is_high is_most constant same = record {
+    within = below_rows system rows row are lt;
+    positive = positive;
+    entries = λ j less. ap (λ (r : LinearRow). slice_index_or r.coeffs j (pos 0)) (sym is) ∙ same.each j (subst (λ n. j < n) (sym size) less);
+    constant = subst (λ (r : LinearRow). r.constant ≤ℤ (times *ℤ (b.scale *ℤ b.high))) is (subst (λ z. item.constant ≤ℤ z) (is_most ∙ ap (λ z. times *ℤ z) is_high) constant);
+  }
+    where
+      is : linear_row item ≡ row_at system row
+      is = item_is system rows row item are lt at
+
+      size : length item.coeffs.items ≡ system.columns
+      size = row_length system well rows row item are lt at

@@ -1,0 +1,15 @@
+//! Calls of `solve_whole` on small systems that are worked by hand, and branching told a second time, plainly.
+#![tactic(auto)]
+
+#[cfg(test)]
+mod agreeing;
+#[cfg(test)]
+mod asking;
+#[cfg(test)]
+mod plain;
+#[cfg(test)]
+mod random;
+#[cfg(test)]
+mod systems;
+#[cfg(test)]
+mod worked;

@@ -1,0 +1,85 @@
+//! Systems and forms from tables of numbers.
+ghost use Rattle.std.specs.Prelude.{◌≡◌, ◌+◌, ◌<◌, ◌^◌, All, length, IfOk};
+ghost use Rattle.rg_integers.specs.Range.{InRange};
+
+use rg_branch::Bounded;
+use rg_linear::{Row, System};
+use std::alloc::{AllocError, Global};
+
+/// The coefficients of a row, and its constant.
+#[derive(Clone, Copy)]
+pub(crate) struct Told<'a> {
+    pub(crate) coeffs: &'a [i128],
+    pub(crate) constant: i128,
+}
+
+/// A form: `scale`, coefficients, `low`, `high`, `row`, `times`.
+#[derive(Clone, Copy)]
+pub(crate) struct ToldForm<'a> {
+    pub(crate) scale: i128,
+    pub(crate) coeffs: &'a [i128],
+    pub(crate) low: i64,
+    pub(crate) high: i64,
+    pub(crate) row: u32,
+    pub(crate) times: i128,
+}
+
+// The number, but the least of all is the next one.
+fn kept_in_range(number: i128) -> i128
+    ensures { InRange result }
+{
+    number.max(-i128::MAX)
+}
+
+// The coefficient of a column: 0 where there are too few.
+fn coefficient(told: Told, j: u32) -> i128
+    ensures { InRange result }
+{
+    kept_in_range(told.coeffs.get(j as usize).copied().unwrap_or(0))
+}
+
+// A row of so many coefficients in range.
+fn row(alloc: Global, columns: u32, told: Told) -> Result<Row, AllocError>
+    ensures one_each { IfOk result (λ row. length row.coeffs.items ≡ columns) }
+    ensures coeffs { IfOk result (λ row. All InRange row.coeffs.items) }
+    ensures constant { IfOk result (λ row. InRange row.constant) }
+{
+    let mut coeffs = Vec::new(alloc);
+    for j in 0..columns {
+        coeffs.push(coefficient(told, j))?;
+    }
+    Ok(Row {
+        coeffs,
+        constant: kept_in_range(told.constant),
+    })
+}
+
+/// The system of these rows.
+pub(crate) fn system(alloc: Global, columns: u32, rows: &[Told]) -> Result<System, AllocError>
+    requires { columns + length rows.now < 2 ^ 32 }
+    ensures columns { IfOk result (λ s. s.columns ≡ columns) }
+    ensures rows { IfOk result (λ s. length s.rows ≡ length rows.now) }
+{
+    let mut list = Vec::new(alloc);
+    for &told in rows {
+        list.push(row(alloc, columns, told)?)?;
+    }
+    Ok(System::new(columns, list))
+}
+
+/// These forms.
+pub(crate) fn forms(alloc: Global, told: &[ToldForm]) -> Result<Vec<Bounded>, AllocError> {
+    let mut list = Vec::new(alloc);
+    for form in told {
+        let coeffs = form.coeffs.to_vec(alloc)?;
+        list.push(Bounded {
+            scale: form.scale,
+            coeffs,
+            low: form.low,
+            high: form.high,
+            row: form.row,
+            times: form.times,
+        })?;
+    }
+    Ok(list)
+}

@@ -1,0 +1,277 @@
+//! Small systems worked by hand.
+use crate::asking::{Top, can_branch};
+use crate::systems::{Told, ToldForm, forms, system};
+use rg_branch::{BranchStop, RawNode, Whole, solve_whole};
+use rg_feasible::PivotWide;
+use rg_fraction::{Fraction, Wide};
+use std::alloc::{AllocError, Global};
+use std::process::Abort;
+use std::test::Fail;
+
+// A leaf's weights, or a split.
+type Node<'a> = Result<&'a [(u32, i128)], (u32, i64)>;
+
+// What is to come of a system.
+#[derive(Clone, Copy)]
+enum Answer<'a> {
+    // the numerator and denominator of each column, and the splits above
+    Point(&'a [(i128, i128)], &'a [(u32, i64, bool)]),
+    // the nodes in preorder
+    Tree(&'a [Node<'a>]),
+    // the splits above and the set
+    Wide(&'a [(u32, i64, bool)], &'a [u32], PivotWide),
+}
+
+// The coefficients of two columns, and the constant.
+type Row = ([i128; 2], i128);
+
+// A form's scale, coefficients, low, high and row, and its top row.
+type Form = (i128, [i128; 2], i64, i64, u32, (u32, i128));
+
+fn nodes(alloc: Global, told: &[Node]) -> Result<Vec<RawNode>, AllocError> {
+    let mut list = Vec::new(alloc);
+    for node in told {
+        match node {
+            Err((form, at)) => list.push(RawNode::Split(*form, *at))?,
+            Ok(weights) => {
+                let weights = weights.to_vec(alloc)?;
+                list.push(RawNode::Leaf(weights))?;
+            }
+        }
+    }
+    Ok(list)
+}
+
+fn values(alloc: Global, told: &[(i128, i128)]) -> Result<Vec<Fraction>, AllocError> {
+    let mut list = Vec::new(alloc);
+    for &(n, d) in told {
+        list.push(Fraction::new(n.max(-i128::MAX), d.max(1)))?;
+    }
+    Ok(list)
+}
+
+fn result_of(alloc: Global, told: Answer) -> Result<Result<Whole, BranchStop>, AllocError> {
+    match told {
+        Answer::Point(numbers, above) => {
+            let values = values(alloc, numbers)?;
+            let above = above.to_vec(alloc)?;
+            Ok(Ok(Whole::Point(values, above)))
+        }
+        Answer::Tree(told) => {
+            let nodes = nodes(alloc, told)?;
+            Ok(Ok(Whole::Tree(nodes)))
+        }
+        Answer::Wide(above, members, wide) => {
+            let above = above.to_vec(alloc)?;
+            let members = members.to_vec(alloc)?;
+            Ok(Err(BranchStop::Wide {
+                above,
+                members,
+                wide,
+            }))
+        }
+    }
+}
+
+// Branching over these rows and forms has this answer.
+fn branches(
+    rt: &(impl Abort + AllocGlobal),
+    rows: &[Row],
+    told: &[Form],
+    wanted: Answer,
+) -> Result<(), Fail> {
+    let mut list = Vec::new(rt.alloc());
+    for (coeffs, constant) in rows {
+        list.push(Told {
+            coeffs,
+            constant: *constant,
+        })?;
+    }
+    assert!(rt; list.len() < 1000);
+    let system = system(rt.alloc(), 2, &list)?;
+    let (list, tops) = bounded(rt.alloc(), told)?;
+    let forms = forms(rt.alloc(), &list)?;
+    assert!(rt; can_branch(&system, &forms, &tops), "{rows:?}");
+    let found = solve_whole(rt.alloc(), &system, &forms);
+    assert_eq!(rt; found, result_of(rt.alloc(), wanted)?, "{rows:?}");
+    Ok(())
+}
+
+// The forms, and their top rows.
+fn bounded<'a>(
+    alloc: Global,
+    told: &'a [Form],
+) -> Result<(Vec<ToldForm<'a>>, Vec<Top>), AllocError> {
+    let mut list = Vec::new(alloc);
+    let mut tops = Vec::new(alloc);
+    for (scale, coeffs, low, high, row, (top, times)) in told {
+        list.push(ToldForm {
+            scale: *scale,
+            coeffs,
+            low: *low,
+            high: *high,
+            row: *row,
+            times: 1,
+        })?;
+        tops.push(Top {
+            row: *top,
+            times: *times,
+        })?;
+    }
+    Ok((list, tops))
+}
+
+// The columns are Start and E(b), and E(a) is -E(b)/2: the cycle of the labels a, a and b.
+
+// No place of a plain class separates event b at the first state.
+const PLAIN: [Row; 10] = [
+    ([-1, 0], 0),
+    ([1, -1], -1),
+    ([0, -1], 0),
+    ([1, 0], 0),
+    ([2, -1], 0),
+    ([1, -1], 0),
+    ([0, 1], 2),
+    ([0, -1], 1),
+    ([0, -1], 2),
+    ([0, 1], 1),
+];
+
+const PLAIN_FORMS: [Form; 2] = [
+    (2, [0, -1], -1, 1, 8, (6, 1)),
+    (1, [0, 1], -1, 1, 9, (7, 1)),
+];
+
+const PLAIN_TREE: [Node; 3] = [
+    Err((0, 0)),
+    Ok(&[(0, 1), (1, 1), (10, 1)]),
+    Ok(&[(9, 1), (10, 1)]),
+];
+
+// At most one token in each state, and at most two.
+const SAFE: [Row; 7] = [
+    ([0, -1], -1),
+    ([1, 0], 0),
+    ([2, -1], 0),
+    ([1, -1], 0),
+    ([-1, 0], 1),
+    ([-2, 1], 2),
+    ([-1, 1], 1),
+];
+
+const SAFE_FORMS: [Form; 3] = [
+    (1, [1, 0], 0, 1, 1, (4, 1)),
+    (2, [2, -1], 0, 1, 2, (5, 1)),
+    (1, [1, -1], 0, 1, 3, (6, 1)),
+];
+
+const SAFE_TREE: [Node; 3] = [
+    Err((1, 0)),
+    Ok(&[(0, 1), (1, 2), (7, 1)]),
+    Ok(&[(0, 1), (6, 2), (7, 1)]),
+];
+
+const TWO: [Row; 7] = [
+    ([0, -1], -1),
+    ([1, 0], 0),
+    ([2, -1], 0),
+    ([1, -1], 0),
+    ([-1, 0], 2),
+    ([-2, 1], 4),
+    ([-1, 1], 2),
+];
+
+const TWO_FORMS: [Form; 3] = [
+    (1, [1, 0], 0, 2, 1, (4, 1)),
+    (2, [2, -1], 0, 2, 2, (5, 1)),
+    (1, [1, -1], 0, 2, 3, (6, 1)),
+];
+
+#[test]
+fn cycle_of_two_labels(rt: HostRuntime) -> Result<(), Fail> {
+    branches(&rt, &PLAIN, &PLAIN_FORMS, Answer::Tree(&PLAIN_TREE))?;
+    branches(&rt, &SAFE, &SAFE_FORMS, Answer::Tree(&SAFE_TREE))?;
+    let point = Answer::Point(&[(0, 1), (-2, 1)], &[(1, 0, true), (0, 0, false)]);
+    branches(&rt, &TWO, &TWO_FORMS, point)
+}
+
+// The columns are x and y.
+
+// x, 2*x - 1 and 1 - x: the point 1/2 is split
+const HALF: [Row; 3] = [([1, 0], 0), ([2, 0], -1), ([-1, 0], 1)];
+
+const HALF_FORMS: [Form; 1] = [(1, [1, 0], 0, 1, 0, (2, 1))];
+
+// Two whole numbers from 0 to 3: 2*x + 3*y at most 4, 2*x + 2*y at least 3; and then x at most 3/2.
+const TWO_SPLITS: [Row; 6] = [
+    ([-2, -3], 4),
+    ([2, 2], -3),
+    ([1, 0], 0),
+    ([0, 1], 0),
+    ([-1, 0], 3),
+    ([0, -1], 3),
+];
+
+const THREE_SPLITS: [Row; 7] = [
+    ([-2, -3], 4),
+    ([2, 2], -3),
+    ([1, 0], 0),
+    ([0, 1], 0),
+    ([-1, 0], 3),
+    ([0, -1], 3),
+    ([-2, 0], 3),
+];
+
+const COLUMNS: [Form; 2] = [(1, [1, 0], 0, 3, 2, (4, 1)), (1, [0, 1], 0, 3, 3, (5, 1))];
+
+const THREE_TREE: [Node; 7] = [
+    Err((0, 1)),
+    Err((1, 0)),
+    Ok(&[(1, 1), (7, 2), (8, 2)]),
+    Err((0, 0)),
+    Ok(&[(0, 2), (1, 3), (9, 2)]),
+    Ok(&[(0, 1), (8, 3), (9, 2)]),
+    Ok(&[(6, 1), (7, 2)]),
+];
+
+#[test]
+fn whole_columns(rt: HostRuntime) -> Result<(), Fail> {
+    let high = Answer::Point(&[(1, 1), (0, 1)], &[(0, 0, true)]);
+    branches(&rt, &HALF, &HALF_FORMS, high)?;
+    let behind_two = Answer::Point(&[(2, 1), (0, 1)], &[(0, 1, true)]);
+    branches(&rt, &TWO_SPLITS, &COLUMNS, behind_two)?;
+    branches(&rt, &THREE_SPLITS, &COLUMNS, Answer::Tree(&THREE_TREE))
+}
+
+const MOST: i128 = i128::MAX;
+
+// MOST * x - 1, (1 - MOST) * x and x
+const LARGE: [Row; 3] = [([MOST, 0], -1), ([1 - MOST, 0], 0), ([1, 0], 0)];
+
+const LARGE_FORMS: [Form; 1] = [(1, [1, 0], 0, 1, 2, (1, MOST - 1))];
+
+// How the second exchange passes.
+const PASSING: PivotWide = PivotWide {
+    pivot: 3,
+    leaves: 2,
+    target: 0,
+    entry: 0,
+    wide: Wide {
+        a: MOST,
+        b: MOST - 1,
+        c: 0,
+        d: 0,
+    },
+};
+
+#[test]
+fn no_split_is_due(rt: HostRuntime) -> Result<(), Fail> {
+    let wide = Answer::Wide(&[], &[1, 2], PASSING);
+    branches(&rt, &LARGE, &LARGE_FORMS, wide)?;
+    branches(&rt, &LARGE, &[], wide)?;
+    // x - 1 and 3 - x; x - 1 and -x
+    let point = [([1, 0], -1), ([-1, 0], 3)];
+    branches(&rt, &point, &[], Answer::Point(&[(1, 1), (0, 1)], &[]))?;
+    let refuted = [([1, 0], -1), ([-1, 0], 0)];
+    branches(&rt, &refuted, &[], Answer::Tree(&[Ok(&[(0, 1), (1, 1)])]))
+}
