@@ -7,7 +7,7 @@ use Rattle.std.proofs.lemmas.List.FromFn.{length-map-range_with_len, get_or-map-
 use Rattle.rg_theory.specs.declared.Arc.{Arc}
 use Rattle.rg_theory.specs.declared.Class.{Class}
 use Rattle.rg_theory.specs.System.{System, states, labels, HasArc, IsInRange, IsAllReachable, IsForkFree}
-use Rattle.rg_theory.specs.Net.{Net, Marking, tokens, IsEnabled, Fires, FiresAll, Reached, start_marking}
+use Rattle.rg_theory.specs.Net.{Place, Net, Marking, IsPlaceAt, tokens, IsEnabled, Fires, FiresAll, Reached, start_marking}
 use Rattle.rg_theory.specs.Solves.{Solves, LeadsToMarking, marking_of}
 use Rattle.rg_theory.specs.Class.{IsBounded, InClass}
 use Rattle.rg_theory.specs.Tree.{IsTree, way_to}
@@ -66,15 +66,19 @@ module _ (lts : System) (net : Net) (tree : List Arc) (is : IsTree lts tree) (re
         slice_get-get_or (list_of lts h) s [] (subst (λ n. s < n) (sym (length-map-range_with_len h 0 (states lts))) lt)
         ∙ ap Some (get_or-map-range_with_len h 0 (states lts) s s [] lt (zero-add s))
 
+    -- the reachable markings are those of the states
+    pub told_bounded : (k : ℕ) → Solves net lts → ((s i : ℕ) (p : Place) → s < states lts → IsPlaceAt net i p → tokens (h s) i ≤ k) → IsBounded net k
+    told_bounded k sol within m reached i p at' =
+        let (s, lt, e) = (solution_of lts net fine sol).only m reached in
+        let here : h s ≡ m = sym (known sol s lt) ∙ e in
+        subst (λ n. tokens n i ≤ k) here (within s i p lt at')
+
     pub told_in_class : (class : Class) → Solves net lts → AreInClass net (list_of lts h) class → InClass net class
     told_in_class class sol inside = record { weights = inside.weights; bounded = bounded class.bound inside.bounded }
       where
         bounded : (bound : Option ℕ) → ((i s : ℕ) (m : Marking) → i < length net.places → slice_get (list_of lts h) s ≡ Some m → IfSome bound (λ k. tokens m i ≤ k)) → IfSome bound (IsBounded net)
         bounded None within = tt
-        bounded (Some k) within = λ m reached i p at.
-            (let (s, lt, e) = (solution_of lts net fine sol).only m reached in
-            let here : h s ≡ m = sym (known sol s lt) ∙ e in
-            subst (λ n. tokens n i ≤ k) here (within i s (h s) (slice_get_within net.places i p at) (listed s lt)))
+        bounded (Some k) within = told_bounded k sol (λ s i p lt at'. within i s (h s) (slice_get_within net.places i p at') (listed s lt))
 
     -- a break leaves the class
     pub break_refutes : (class : Class) (b : ClassBreak) → IsBreak net (list_of lts h) class b → ¬ InClass net class

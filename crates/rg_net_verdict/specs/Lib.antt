@@ -1,2 +1,4 @@
 pub mod Markings
 pub mod Verdict
+pub mod Wrong
+pub mod Rows

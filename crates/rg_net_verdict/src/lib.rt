@@ -1,8 +1,13 @@
 //! The judge of nets: whether a net solves a system and is of a class, and if not, the first difference.
 #![tactic(auto)]
 
+mod check;
 mod laws;
+mod rows;
+mod same;
 mod verdict;
+mod wrong;
 
+pub use check::check_net;
 pub use laws::{verdict_is_one, verdict_is_sound};
 pub use verdict::{CheckStop, CheckWide, NetNo, NetVerdict};

@@ -1,9 +1,5 @@
 //! What is told of a net.
-ghost use Rattle.std.specs.Prelude.{◌≡◌};
-ghost use Rattle.rg_net_verdict.specs.declared.verdict.CheckStop.TheVariants as stop;
-
 use rg_fraction::Wide;
-use rg_memory::NoMemory;
 use rg_net::ClassBreak;
 
 /// Whether a net solves a system and is of a class.
@@ -51,12 +47,4 @@ pub struct CheckWide {
     pub state: u32,
     pub place: u32,
     pub wide: Wide,
-}
-
-impl From<NoMemory> for CheckStop {
-    ghost from_gives = { λ _ e. e ≡ stop.NoMemory };
-
-    fn from(_: NoMemory) -> CheckStop {
-        CheckStop::NoMemory
-    }
 }

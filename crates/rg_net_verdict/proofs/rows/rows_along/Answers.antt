@@ -1,0 +1,73 @@
+use Rattle.std.proofs.Common.{◌≡◌, ◌+◌, Ok, Err, inl, sym, subst, ◌∙◌, arith, get_or}
+use Rattle.std.proofs.lemmas.Bool.{false≢true}
+use Rattle.std.proofs.lemmas.Result.{err_from_is_err_and}
+use Rattle.rg_theory.specs.System.{arc}
+use Rattle.rg_theory.specs.Net.{IsEnabled}
+use Rattle.rg_net.specs.ClassBreaks.{shown_markings}
+use Rattle.rg_net_verdict.specs.declared.check.Halt.TheVariants.{Stop}
+use Rattle.rg_net_verdict.specs.declared.verdict.CheckStop.TheVariants.{Wide}
+use Rattle.rg_net_verdict.specs.declared.verdict.NetNo.TheVariants.{NotEnabled}
+use Rattle.rg_net_verdict.specs.declared.verdict.NetVerdict.TheVariants.{No}
+use Rattle.rg_net_verdict.specs.Verdict.{Tells}
+use Rattle.rg_net_verdict.proofs.Along.{AlongSoFar, source_row, row_set, row_count, along_start, source_within, target_within, label_within, source_places, source_in_range, stuck_here, passes_here, along_next, along_have, along_rows}
+use Rattle.rg_net_verdict.proofs.rows.rows_along.Goals as goal
+
+pub loop-a-init : goal.loop-a-init
+loop-a-init c =
+    along_start c.args.lts.now c.args.net.now c.args.tree.now (shown_markings c.in_ok-rows.rows.items) c.in_ok-rows.ensures.system c.requires.tree c.in_ok-rows.ensures.net (row_count c.in_ok-rows.rows.items ∙ c.in_ok-rows.ensures.long) c.in_ok-rows.ensures.start
+
+pub index-source-requires : goal.index-source-requires
+index-source-requires c =
+    let lt = source_within c.args.lts.now c.args.net.now c.args.tree.now (shown_markings c.loop-a.rows.items) c.loop-a.a-index (arc 0 0 0) c.in_ok-rows.ensures.system c.requires.tree c.requires.labels c.loop-a-test.true c.loop-a.invariant in
+    let size = row_count c.loop-a.rows.items in
+    let is = c.loop-a.rows.ok.0 in
+    omega arith
+
+pub enabled-requires-clause-places : goal.enabled-requires-clause-places
+enabled-requires-clause-places c = source_places c.args.lts.now c.args.net.now c.args.tree.now (shown_markings c.loop-a.rows.items) c.loop-a.a-index (arc 0 0 0) c.in_ok-rows.ensures.system c.requires.tree c.requires.labels c.loop-a-test.true c.loop-a.invariant c.deref.result.now (source_row c.args.lts.now c.args.net.now c.args.tree.now c.loop-a.rows.items c.loop-a.a-index (arc 0 0 0) c.in_ok-rows.ensures.system c.requires.tree c.requires.labels c.loop-a-test.true c.loop-a.invariant c.index-source.result.now c.index-source.ensures ∙ sym c.deref.ensures.value)
+
+pub enabled-requires-clause-label : goal.enabled-requires-clause-label
+enabled-requires-clause-label c = label_within c.args.lts.now c.args.net.now c.args.tree.now (shown_markings c.loop-a.rows.items) c.loop-a.a-index (arc 0 0 0) c.in_ok-rows.ensures.system c.requires.tree c.requires.labels c.loop-a-test.true c.loop-a.invariant
+
+pub returns-then-not-enabled-clause-no : goal.returns-then-not-enabled-clause-no
+returns-then-not-enabled-clause-no c = λ class n e.
+    let same : NotEnabled (get_or c.args.tree.now c.loop-a.a-index (arc 0 0 0)).from (get_or c.args.tree.now c.loop-a.a-index (arc 0 0 0)).label ≡ n = cc in
+    subst (λ v. Tells c.args.lts.now c.args.net.now c.args.tree.now class (Ok (No v))) same
+    (inl (stuck_here c.args.lts.now c.args.net.now c.args.tree.now (shown_markings c.loop-a.rows.items) c.loop-a.a-index (arc 0 0 0) c.in_ok-rows.ensures.system c.requires.tree c.requires.labels c.loop-a-test.true c.loop-a.invariant c.deref.result.now (source_row c.args.lts.now c.args.net.now c.args.tree.now c.loop-a.rows.items c.loop-a.a-index (arc 0 0 0) c.in_ok-rows.ensures.system c.requires.tree c.requires.labels c.loop-a-test.true c.loop-a.invariant c.index-source.result.now c.index-source.ensures ∙ sym c.deref.ensures.value)
+    (λ on. false≢true (sym c.if-not-enabled.true ∙ c.enabled.ensures.1 on))))
+
+pub fired-requires-clause-places : goal.fired-requires-clause-places
+fired-requires-clause-places c = source_places c.args.lts.now c.args.net.now c.args.tree.now (shown_markings c.loop-a.rows.items) c.loop-a.a-index (arc 0 0 0) c.in_ok-rows.ensures.system c.requires.tree c.requires.labels c.loop-a-test.true c.loop-a.invariant c.deref-in-loop-a.result.now (source_row c.args.lts.now c.args.net.now c.args.tree.now c.loop-a.rows.items c.loop-a.a-index (arc 0 0 0) c.in_ok-rows.ensures.system c.requires.tree c.requires.labels c.loop-a-test.true c.loop-a.invariant c.index-source.result.now c.index-source.ensures ∙ sym c.deref-in-loop-a.ensures.value)
+
+pub fired-requires-clause-label : goal.fired-requires-clause-label
+fired-requires-clause-label c = label_within c.args.lts.now c.args.net.now c.args.tree.now (shown_markings c.loop-a.rows.items) c.loop-a.a-index (arc 0 0 0) c.in_ok-rows.ensures.system c.requires.tree c.requires.labels c.loop-a-test.true c.loop-a.invariant
+
+pub fired-requires-clause-in_range : goal.fired-requires-clause-in_range
+fired-requires-clause-in_range c = source_in_range c.args.lts.now c.args.net.now c.args.tree.now (shown_markings c.loop-a.rows.items) c.loop-a.a-index (arc 0 0 0) c.in_ok-rows.ensures.system c.requires.tree c.requires.labels c.loop-a-test.true c.loop-a.invariant c.deref-in-loop-a.result.now (source_row c.args.lts.now c.args.net.now c.args.tree.now c.loop-a.rows.items c.loop-a.a-index (arc 0 0 0) c.in_ok-rows.ensures.system c.requires.tree c.requires.labels c.loop-a-test.true c.loop-a.invariant c.index-source.result.now c.index-source.ensures ∙ sym c.deref-in-loop-a.ensures.value)
+
+pub returns-in_err-target-clause-wide : goal.returns-in_err-target-clause-wide
+returns-in_err-target-clause-wide c = λ class w e.
+    let h = err_from_is_err_and c.from_residual-in_err-target.result c.from_residual-in_err-target.ensures.1 in
+    let k = h.1 in
+    let j = h.2 in
+    let g = c.in_err-target.was in
+    let told : c.fired.result ≡ Err (Stop (Wide w)) = cc in
+    passes_here c.args.lts.now c.args.net.now c.args.tree.now (shown_markings c.loop-a.rows.items) c.loop-a.a-index (arc 0 0 0) c.in_ok-rows.ensures.system c.requires.tree c.requires.labels c.loop-a-test.true c.loop-a.invariant c.deref-in-loop-a.result.now w (source_row c.args.lts.now c.args.net.now c.args.tree.now c.loop-a.rows.items c.loop-a.a-index (arc 0 0 0) c.in_ok-rows.ensures.system c.requires.tree c.requires.labels c.loop-a-test.true c.loop-a.invariant c.index-source.result.now c.index-source.ensures ∙ sym c.deref-in-loop-a.ensures.value) (subst (λ m. IsEnabled c.args.net.now m (get_or c.args.tree.now c.loop-a.a-index (arc 0 0 0)).label) (c.deref.ensures.value ∙ sym c.deref-in-loop-a.ensures.value) (c.enabled.ensures.0 c.if-not-enabled.false)) (c.fired.ensures.passes w told)
+
+pub index_mut-requires : goal.index_mut-requires
+index_mut-requires c =
+    let lt = target_within c.args.lts.now c.args.net.now c.args.tree.now (shown_markings c.loop-a.rows.items) c.loop-a.a-index (arc 0 0 0) c.in_ok-rows.ensures.system c.requires.tree c.requires.labels c.loop-a-test.true c.loop-a.invariant in
+    let size = row_count c.loop-a.rows.items in
+    let is = c.loop-a.rows.ok.0 in
+    omega arith
+
+pub loop-a-preserved : goal.loop-a-preserved
+loop-a-preserved c =
+    subst (λ ms. AlongSoFar c.args.lts.now c.args.net.now c.args.tree.now ms (c.loop-a.a-index + 1)) (sym (row_set c.loop-a.rows.items (get_or c.args.tree.now c.loop-a.a-index (arc 0 0 0)).to c.in_ok-target.target))
+    (along_next c.args.lts.now c.args.net.now c.args.tree.now (shown_markings c.loop-a.rows.items) c.loop-a.a-index (arc 0 0 0) c.in_ok-rows.ensures.system c.requires.tree c.requires.labels c.loop-a-test.true c.loop-a.invariant c.deref-in-loop-a.result.now c.in_ok-target.target.items (source_row c.args.lts.now c.args.net.now c.args.tree.now c.loop-a.rows.items c.loop-a.a-index (arc 0 0 0) c.in_ok-rows.ensures.system c.requires.tree c.requires.labels c.loop-a-test.true c.loop-a.invariant c.index-source.result.now c.index-source.ensures ∙ sym c.deref-in-loop-a.ensures.value) c.in_ok-target.ensures.fires c.in_ok-target.ensures.in_range)
+
+pub returns-clause-rows : goal.returns-clause-rows
+returns-clause-rows c = along_rows c.args.lts.now c.args.net.now c.args.tree.now (shown_markings c.loop-a.rows.items) c.loop-a.a-index c.requires.reachable c.loop-a-test.false c.loop-a.invariant
+
+pub returns-clause-have : goal.returns-clause-have
+returns-clause-have c = along_have c.args.lts.now c.args.net.now c.args.tree.now (shown_markings c.loop-a.rows.items) c.loop-a.a-index c.requires.reachable c.loop-a-test.false c.loop-a.invariant

@@ -1,0 +1,95 @@
+//! The judge.
+ghost use Rattle.std.specs.Prelude.{◌≡◌, IfOk, OnOk, IsErrOf, Ok, Err};
+ghost use Rattle.rg_integers.specs.Range.{greatest};
+ghost use Rattle.rg_theory.specs.System.{labels, IsAllReachable, IsForkFree};
+ghost use Rattle.rg_theory.specs.Tree.{IsTree};
+ghost use Rattle.rg_theory.specs.Class.{IsBounded};
+ghost use Rattle.rg_lts.specs.WellFormed.{IsWellFormed};
+ghost use Rattle.rg_net_verdict.specs.declared.check.Halt.TheVariants as halt;
+ghost use Rattle.rg_net_verdict.specs.declared.verdict.CheckStop.TheVariants as stop;
+ghost use Rattle.rg_net_verdict.specs.declared.verdict.CheckWide.{CheckWide};
+ghost use Rattle.rg_net_verdict.specs.declared.verdict.NetNo.{NetNo};
+ghost use Rattle.rg_net_verdict.specs.declared.verdict.NetVerdict.TheVariants as verdict;
+ghost use Rattle.rg_net_verdict.specs.Verdict.{IsVerdict, Tells};
+
+use crate::rows::rows_along;
+use crate::same::first_same;
+use crate::verdict::{CheckStop, NetNo, NetVerdict};
+use crate::wrong::first_wrong;
+use rg_checks::first_fork;
+use rg_lts::Lts;
+use rg_net::{Class, Net, in_class};
+use rg_spanning::{GrowStop, Tree};
+use rg_theory::Arc;
+use std::alloc::{AllocError, Global};
+
+/// Why the tests end before the last.
+#[derive(Clone, Copy, Debug)]
+pub(crate) enum Halt {
+    No(NetNo),
+    Stop(CheckStop),
+}
+
+impl From<AllocError> for Halt {
+    ghost from_gives = { λ _ e. e ≡ halt.Stop stop.NoMemory };
+
+    fn from(_: AllocError) -> Halt {
+        Halt::Stop(CheckStop::NoMemory)
+    }
+}
+
+/// Whether the net, which has one transition for each label of the system, solves the system and is of the class; if
+/// not, the first difference. The tests run in this order, and the first that fails decides: each state can be
+/// reached; no label leads from a state to two; the arcs of the breadth first tree are enabled, in the order in which
+/// they join; no two states have one marking; at each state the labels with an arc, and no others, are enabled, and
+/// their firings give the markings of the arcs' targets; the class. The marking of a state is the one in which the
+/// labels of its way in the tree end.
+///
+/// `Wide` where a firing along the tree leaves more than `2^127 - 1` tokens on a place, `NoMemory` where there is no
+/// memory left: the markings of all states are held at once, 16 bytes for each state and place.
+pub fn check_net(alloc: Global, lts: &Lts, net: &Net, class: Class) -> Result<NetVerdict, CheckStop>
+    requires { net.now.labels ≡ labels lts.now }
+    ensures verdict { IfOk result (λ v. IsVerdict lts.now net.now class (Ok v)) }
+    ensures wide { (w : CheckWide) → IsErrOf result (stop.Wide w) → IsVerdict lts.now net.now class (Err w) }
+    ensures in_range { IfOk result (λ v. v ≡ verdict.Yes → IsBounded net.now greatest) }
+{
+    lts.is_well_formed();
+    let tree = match Tree::grow(alloc, lts) {
+        Ok(tree) => tree,
+        Err(GrowStop::Unreachable(s)) => return Ok(NetVerdict::No(NetNo::Unreachable(s))),
+        Err(GrowStop::NoMemory) => return Err(CheckStop::NoMemory),
+    };
+    if let Some((s, t, first, second)) = first_fork(lts) {
+        return Ok(NetVerdict::No(NetNo::Fork(s, t, first, second)));
+    }
+    match judge(alloc, lts, tree.arcs(), net, class) {
+        Ok(()) => Ok(NetVerdict::Yes),
+        Err(Halt::No(no)) => Ok(NetVerdict::No(no)),
+        Err(Halt::Stop(stop)) => Err(stop),
+    }
+}
+
+// The tests along the tree and behind them.
+fn judge(alloc: Global, lts: &Lts, tree: &[Arc], net: &Net, class: Class) -> Result<(), Halt>
+    requires system { IsWellFormed lts.now }
+    requires labels { net.now.labels ≡ labels lts.now }
+    requires tree { IsTree lts.now tree.now }
+    requires reachable { IsAllReachable lts.now }
+    requires fork_free { IsForkFree lts.now }
+    ensures yes { OnOk result (Tells lts.now net.now tree.now class (Ok verdict.Yes)) }
+    ensures no { (n : NetNo) → IsErrOf result (halt.No n) → Tells lts.now net.now tree.now class (Ok (verdict.No n)) }
+    ensures wide { (w : CheckWide) → IsErrOf result (halt.Stop (stop.Wide w)) → Tells lts.now net.now tree.now class (Err w) }
+    ensures in_range { OnOk result (IsBounded net.now greatest) }
+{
+    let rows = rows_along(alloc, lts, tree, net)?;
+    if let Some((s, r)) = first_same(alloc, lts, &rows)? {
+        return Err(Halt::No(NetNo::SameMarking(s, r)));
+    }
+    if let Some(no) = first_wrong(lts, net, &rows) {
+        return Err(Halt::No(no));
+    }
+    match in_class(net, &rows, class) {
+        Ok(()) => Ok(()),
+        Err(first) => Err(Halt::No(NetNo::Class(first))),
+    }
+}
