@@ -1,5 +1,5 @@
 -- The terms of the rows are over the states and labels of the system.
-use Rattle.std.proofs.Common.{ℕ, zero, suc, ◌<◌, Bool, true, false, List, [], ◌∷◌, All}
+use Rattle.std.proofs.Common.{ℕ, zero, suc, ◌<◌, Bool, true, false, if◌then◌else◌, List, [], ◌∷◌, All}
 use Rattle.std.specs.Prelude.{pos, neg_ℤ, ◌-ℤ◌, Some, slice_get}
 use Rattle.std.proofs.lemmas.List.Elements.{All-nil, All-cons, All-head, All-tail}
 use Rattle.rg_theory.specs.declared.Class.{Class}
