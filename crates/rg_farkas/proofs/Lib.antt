@@ -10,6 +10,9 @@ pub mod Refutes
 pub mod Steps
 pub mod RowSteps
 pub mod Names
+pub mod ArcValues
+pub mod Shares
+pub mod Sides
 pub mod Multipliers
 pub mod Told
 pub mod ChordNumbers

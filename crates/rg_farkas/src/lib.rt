@@ -18,5 +18,5 @@ mod rows;
 mod sizes;
 mod sums;
 
-pub use laws::multipliers_refute;
+pub use laws::node_multipliers_refute;
 pub use leaf::spread;

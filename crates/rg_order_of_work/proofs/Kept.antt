@@ -27,7 +27,7 @@ use Rattle.rg_order_of_work.proofs.CaseRows.{tokens_row_holds}
 use Rattle.rg_order_of_work.proofs.CaseMeaning.{start_means, no_start_means}
 
 -- the numbers keep every arc
-arc_value : (lts : System) (class : Class) (problem : Problem) (number : ℕ) (scale : ℤ) (x : Variable → ℤ) (q t q' : ℕ) → KeepsRowsOver lts class problem number scale x → HasArc lts q t q' → x (tokens_at q) +ℤ x (effect_of t) ≡ x (tokens_at q')
+pub arc_value : (lts : System) (class : Class) (problem : Problem) (number : ℕ) (scale : ℤ) (x : Variable → ℤ) (q t q' : ℕ) → KeepsRowsOver lts class problem number scale x → HasArc lts q t q' → x (tokens_at q) +ℤ x (effect_of t) ≡ x (tokens_at q')
 arc_value lts class problem number scale x q t q' keeps has = close (x (tokens_at q)) (x (effect_of t)) (x (tokens_at q')) scale (by problem keeps)
   where
     by : (p : Problem) → KeepsRowsOver lts class p number scale x → ((pos 1 *ℤ x (tokens_at q)) +ℤ ((pos 1 *ℤ x (effect_of t)) +ℤ ((negsuc 0 *ℤ x (tokens_at q')) +ℤ pos 0))) +ℤ (pos 0 *ℤ scale) ≡ pos 0
@@ -66,7 +66,7 @@ record SameUsed (lts : System) (x y : Variable → ℤ) : Type 0 where
   unused : (t : ℕ) → has_label t lts.arcs ≡ false → y (effect_of t) ≡ pos 0
 
 -- the label of an event is used
-live_label : (lts : System) (t : ℕ) → ¬ ((s s' : ℕ) → ¬ HasArc lts s t s') → has_label t lts.arcs ≡ true
+pub live_label : (lts : System) (t : ℕ) → ¬ ((s s' : ℕ) → ¬ HasArc lts s t s') → has_label t lts.arcs ≡ true
 live_label lts t live = ⊎_elim (λ e. e) (λ e. absurd (live (λ s s' has. true≢false (sym (finds_label (record { from = s; label = t; to = s' }) lts.arcs has) ∙ e)))) (cases_Bool (has_label t lts.arcs))
 
 tokens_stay : (lts : System) (class : Class) (problem : Problem) (number : ℕ) (scale : ℤ) (x y : Variable → ℤ) (q : ℕ) → lts.initial < states lts → SameUsed lts x y → KeepsRowsOver lts class problem number scale x → pos 0 ≤ℤ y (tokens_at q)

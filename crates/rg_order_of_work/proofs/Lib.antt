@@ -23,3 +23,9 @@ pub mod PointEffects
 pub mod Points
 pub mod Whole
 pub mod OneChoice
+pub mod WholeParts
+pub mod Forms
+pub mod FormBounds
+pub mod Opposites
+pub mod FormRows
+pub mod WholePoints

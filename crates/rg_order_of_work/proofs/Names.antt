@@ -65,9 +65,9 @@ pub each_name : (lts : System) (class : Class) (problem : Problem) (number : ℕ
     → ((name : RowName) → Contains (problem_rows lts class problem) name → P name)
     → (has_start class ≡ true → (q : ℕ) → q < states lts → P (tokens_row q))
     → (is_some class.bound ≡ true → (q : ℕ) → q < states lts → P (cap_row q))
-    → (class.plain ≡ true → (u : ℕ) → u < labels lts → P (up_row u))
-    → (class.plain ≡ true → (u : ℕ) → u < labels lts → P (down_row u))
-    → (class.nonbranching ≡ true → (u : ℕ) → u < labels lts → u ≢ case_consumer lts problem number → P (makes_row u))
+    → (class.plain ≡ true → (u : ℕ) → u < labels lts → has_label u lts.arcs ≡ true → P (up_row u))
+    → (class.plain ≡ true → (u : ℕ) → u < labels lts → has_label u lts.arcs ≡ true → P (down_row u))
+    → (class.nonbranching ≡ true → (u : ℕ) → u < labels lts → has_label u lts.arcs ≡ true → u ≢ case_consumer lts problem number → P (makes_row u))
     → (name : RowName) → Contains (names_of lts class problem number) name → P name
 each_name lts class problem number P of_problem tokens cap up down makes name has =
     parts
@@ -100,12 +100,12 @@ each_name lts class problem number P of_problem tokens cap up down makes name ha
     parts (inr (inr (inr (inl h)))) =
         let (c, h') = of_optional class.plain (map up_row (used_labels lts) ++ map down_row (used_labels lts)) name h in
         ⊎_elim
-        (λ l. of_labels (λ t. has_label t lts.arcs) up_row (λ u lt _. up c u lt) l)
-        (λ r. of_labels (λ t. has_label t lts.arcs) down_row (λ u lt _. down c u lt) r)
+        (λ l. of_labels (λ t. has_label t lts.arcs) up_row (up c) l)
+        (λ r. of_labels (λ t. has_label t lts.arcs) down_row (down c) r)
         (Contains-append_cases (map up_row (used_labels lts)) (map down_row (used_labels lts)) name h')
     parts (inr (inr (inr (inr h)))) =
         let (c, h') = of_optional class.nonbranching (map makes_row (numbers_where (λ u. has_label u lts.arcs && not (u == case_consumer lts problem number)) 0 (labels lts))) name h in
-        of_labels (λ u. has_label u lts.arcs && not (u == case_consumer lts problem number)) makes_row (λ u lt e. makes c u lt (differs u (case_consumer lts problem number) (has_label u lts.arcs) e)) h'
+        of_labels (λ u. has_label u lts.arcs && not (u == case_consumer lts problem number)) makes_row (λ u lt e. makes c u lt (and_parts (has_label u lts.arcs) (not (u == case_consumer lts problem number)) e).0 (differs u (case_consumer lts problem number) (has_label u lts.arcs) e)) h'
 
 -- ---- they stand
 
@@ -128,18 +128,18 @@ names_stand lts class (Event s t) number name has =
     (problem_names_stand lts class s t number)
     (λ c q lt. tt)
     (λ c q lt. (lt, c))
-    (λ c u lt. (lt, c))
-    (λ c u lt. (lt, c))
-    (λ c u lt differ. (lt, c, differ))
+    (λ c u lt _. (lt, c))
+    (λ c u lt _. (lt, c))
+    (λ c u lt _ differ. (lt, c, differ))
     name has
 names_stand lts class (States s s') number name has =
     each_name lts class (States s s') number (λ n. RowStands lts class (States s s') number [] n)
     (λ n h. ⊎_elim (λ is. subst (λ m. RowStands lts class (States s s') number [] m) is tt) (λ there. absurd (nothing n there)) (Contains-cons_cases apart_row n [] h))
     (λ c q lt. tt)
     (λ c q lt. (lt, c))
-    (λ c u lt. (lt, c))
-    (λ c u lt. (lt, c))
-    (λ c u lt differ. (lt, c, differ))
+    (λ c u lt _. (lt, c))
+    (λ c u lt _. (lt, c))
+    (λ c u lt _ differ. (lt, c, differ))
     name has
 
 -- ---- they name labels
@@ -154,16 +154,16 @@ names_labels lts class (Event s t) number name (_, label, _) has =
     (λ n h. each_problem_name lts class s t (λ n. NamesLabels (labels lts) (row_expression lts class (Event s t) number [] n).terms) (λ pure. (label, tt)) (λ pure plain. tt) (λ pure plain q has'. tt) (λ pure plain. (label, tt)) (λ pure plain q has'. tt) n h)
     (λ c q lt. tt)
     (λ c q lt. tt)
-    (λ c u lt. (lt, tt))
-    (λ c u lt. (lt, tt))
-    (λ c u lt differ. (lt, tt))
+    (λ c u lt _. (lt, tt))
+    (λ c u lt _. (lt, tt))
+    (λ c u lt _ differ. (lt, tt))
     name has
 names_labels lts class (States s s') number name asked has =
     each_name lts class (States s s') number (λ n. NamesLabels (labels lts) (row_expression lts class (States s s') number [] n).terms)
     (λ n h. ⊎_elim (λ is. subst (λ m. NamesLabels (labels lts) (row_expression lts class (States s s') number [] m).terms) is (apart_names (labels lts) s s' (order_of lts class number))) (λ there. absurd (nothing n there)) (Contains-cons_cases apart_row n [] h))
     (λ c q lt. tt)
     (λ c q lt. tt)
-    (λ c u lt. (lt, tt))
-    (λ c u lt. (lt, tt))
-    (λ c u lt differ. (lt, tt))
+    (λ c u lt _. (lt, tt))
+    (λ c u lt _. (lt, tt))
+    (λ c u lt _ differ. (lt, tt))
     name has

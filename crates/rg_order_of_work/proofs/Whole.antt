@@ -1,25 +1,18 @@
 -- In a class that is neither plain nor bounded, solutions over a scale are whole.
-use Rattle.std.proofs.Common.{◌≡◌, ◌⊎◌, ◌↔◌, ℕ, zero, suc, ◌<◌, is_some, Option, Some, None, true, false, List, [], IsNone, inl, inr, refl, sym, ap, subst, ◌∙◌, arith}
+use Rattle.std.proofs.Common.{◌≡◌, ◌⊎◌, ℕ, zero, suc, is_some, Option, Some, None, true, false, [], IsNone, inl, inr, refl, sym, ap, subst, ◌∙◌, arith}
 use Rattle.std.specs.Prelude.{ℤ, pos, negsuc, ◌+ℤ◌, ◌*ℤ◌, ◌<ℤ◌, ◌≤ℤ◌, unsigned_abs}
 use Rattle.std.proofs.lemmas.Int.{ints}
 use Rattle.std.proofs.lemmas.Bool.{true≢false}
-use Rattle.rg_theory.specs.declared.Arc.{Arc}
 use Rattle.rg_theory.specs.declared.Class.{Class}
 use Rattle.rg_theory.specs.declared.Problem.{Problem}
 use Rattle.rg_theory.specs.declared.Problem.TheVariants.{Event, States}
 use Rattle.rg_theory.specs.System.{System}
 use Rattle.rg_refuting.specs.Expression.{Variable, Variable.tokens_at, Variable.effect_of, Term, value_in, numbers_by}
-use Rattle.rg_refuting.specs.Row.{RowName, RowName.arc_row, RowName.tokens_row, RowName.cap_row, RowName.up_row, RowName.down_row, RowName.makes_row, RowName.stop_row, RowName.block_row, RowName.empty_row, RowName.full_row, RowName.keep_row, RowName.apart_row, RowName.above_row, SharedStands, RowStands, shared_expression, row_expression, apart_expression, order_of, consumer_of, cases_of, Says}
-use Rattle.rg_refuting.specs.Refutes.{IsSeparable}
-use Rattle.rg_refuting.proofs.Making.{rows_exact}
+use Rattle.rg_refuting.specs.Row.{RowName, RowName.arc_row, RowName.tokens_row, RowName.cap_row, RowName.up_row, RowName.down_row, RowName.makes_row, RowName.stop_row, RowName.block_row, RowName.empty_row, RowName.full_row, RowName.keep_row, RowName.apart_row, RowName.above_row, SharedStands, RowStands, shared_expression, row_expression, apart_expression, order_of, consumer_of, Says}
 use Rattle.rg_integers.proofs.ListSums.{sum_over-same}
-use Rattle.rg_linear.specs.Cycle.{CycleBasis}
-use Rattle.rg_order_of_work.specs.Rewriting.{CaseSystem}
-use Rattle.rg_order_of_work.specs.Shown.{IsLive}
-use Rattle.rg_order_of_work.specs.Meaning.{value_over, RowHolds, KeepsRowsOver, IsCaseOver, HasSolution, HasWholeSolutionIn, SomeCaseHasPoint}
+use Rattle.rg_order_of_work.specs.Meaning.{value_over, RowHolds, KeepsRowsOver, HasSolution, HasWholeSolutionIn}
 use Rattle.rg_order_of_work.proofs.CaseRows.{IsArcRow, says, said, tokens_row_holds}
 use Rattle.rg_order_of_work.proofs.CaseMeaning.{whole_means}
-use Rattle.rg_order_of_work.proofs.Points.{points_exact}
 
 pub solution_of_whole : (lts : System) (class : Class) (problem : Problem) (number : ℕ) → HasWholeSolutionIn lts class problem number → HasSolution lts class problem number
 solution_of_whole lts class problem number (tokens, effect, keeps) = (pos 1, numbers_by tokens effect, omega (arith, ints), (whole_means lts class problem number (numbers_by tokens effect)).1 keeps)
@@ -114,12 +107,3 @@ whole_of_solution lts class problem number plain bound (scale, x, positive, keep
     same : (v : Variable) → x v ≡ numbers_by (λ q. unsigned_abs (x (tokens_at q))) (λ t. x (effect_of t)) v
     same (tokens_at q) = absolute (x (tokens_at q)) ((tokens_row_holds lts class problem number scale x q).1 (keeps (tokens_row q) (tokens_stand lts class problem number q)))
     same (effect_of t) = refl
-
--- ---- regions
-
-pub point_separates : (lts : System) (tree : List Arc) (basis : CycleBasis) (class : Class) (problem : Problem) (case : ℕ → CaseSystem) → class.plain ≡ false → IsNone class.bound → IsLive lts problem → 0 < cases_of lts class problem → ((number : ℕ) → number < cases_of lts class problem → IsCaseOver lts tree basis class problem number (case number)) → SomeCaseHasPoint lts class problem case ↔ IsSeparable lts class problem
-point_separates lts tree basis class problem case plain bound live some c =
-    let exact = rows_exact lts class problem (c 0 some).in_range (c 0 some).asked some in (
-      (λ (number, lt, point). (let (tokens, effect, keeps) = whole_of_solution lts class problem number plain bound ((points_exact lts tree basis class problem number (case number) (c number lt) live).0 point) in exact.1 (number, lt, tokens, effect, keeps))),
-      (λ separable. (let (number, lt, tokens, effect, keeps) = exact.0 separable in (number, lt, (points_exact lts tree basis class problem number (case number) (c number lt) live).1 (solution_of_whole lts class problem number (tokens, effect, keeps))))),
-    )

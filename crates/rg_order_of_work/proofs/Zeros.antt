@@ -1,5 +1,5 @@
 -- Terms of value 0: they are never out of range, and leave a sum as it is.
-use Rattle.std.proofs.Common.{◌≡◌, ◌≢◌, ℕ, zero, suc, ◌*◌, ◌/◌, ◌<◌, ◌≤◌, ◌^◌, ap, refl, subst, sym, List, ◌∷◌, Ok, Err, Result, inr, arith}
+use Rattle.std.proofs.Common.{◌≡◌, ◌≢◌, ℕ, zero, suc, ◌/◌, ◌<◌, ◌≤◌, ◌^◌, ap, refl, subst, sym, List, ◌∷◌, Ok, Err, Result, inr, arith}
 use Rattle.std.specs.Prelude.{ℤ, pos, negsuc, neg_ℤ, ◌+ℤ◌, ◌-ℤ◌, ◌*ℤ◌, ◌<ℤ◌, unsigned_abs, int_div}
 use Rattle.std.proofs.Math.Nat.{zero-div, div-le_self}
 use Rattle.std.proofs.lemmas.Int.{ints}

@@ -7,3 +7,5 @@ pub mod Placing
 pub mod Spreading
 pub mod Shown
 pub mod Meaning
+pub mod WholeParts
+pub mod FormRows

@@ -6,7 +6,7 @@ use Rattle.rg_theory.specs.Tree.{IsTree}
 use Rattle.rg_theory.specs.declared.Class.{Class}
 use Rattle.rg_theory.specs.declared.Problem.{Problem}
 use Rattle.rg_refuting.specs.Expression.{Variable, Variable.tokens_at, Variable.effect_of, Expression, value_in, numbers_by}
-use Rattle.rg_refuting.specs.Row.{RowName, RowName.arc_row, RowName.tokens_row, RowName.up_row, RowName.down_row, RowName.makes_row, RowStands, row_expression, cases_of, Says, KeepsRows}
+use Rattle.rg_refuting.specs.Row.{RowName, RowName.arc_row, RowName.tokens_row, RowName.up_row, RowName.down_row, RowName.makes_row, RowStands, row_expression, Says, KeepsRows}
 use Rattle.rg_refuting.specs.Refutes.{IsSeparationProblem}
 use Rattle.rg_integers.specs.Sum.{number_at}
 use Rattle.rg_linear.specs.System.{IsPoint, MeetsRows}
@@ -105,7 +105,3 @@ HasSolution lts class problem number = (scale : ℤ) × (x : Variable → ℤ) �
 -- some whole numbers, the tokens at least 0, keep all rows of the case
 abbrev pub HasWholeSolutionIn : System → Class → Problem → ℕ → Type 0
 HasWholeSolutionIn lts class problem number = (tokens : ℕ → ℕ) × (effect : ℕ → ℤ) × KeepsRows lts class problem number (numbers_by tokens effect)
-
--- the system of some case of the problem has a point
-abbrev pub SomeCaseHasPoint : System → Class → Problem → (ℕ → CaseSystem) → Type 0
-SomeCaseHasPoint lts class problem case = (number : ℕ) × (number < cases_of lts class problem) × HasPoint (case number)

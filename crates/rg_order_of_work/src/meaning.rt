@@ -4,21 +4,25 @@
 //! A region is given by a number of the initial state and the effects of the labels (Badouel,
 //! Bernardinello and Darondeau, *Petri Net Synthesis*). The system of a case has columns for Start, that
 //! number, and for the effects that are free, and rows for the named rows of the case.
-ghost use Rattle.std.specs.Prelude.{◌≡◌, ◌⊎◌, ◌↔◌, ℕ, ◌+◌, ◌<◌, IsTrue, IsFalse, IsNone, List, [], length, slice_index_or, Contains, Ok, ℤ, pos, ◌*ℤ◌, ◌<ℤ◌, ◌≤ℤ◌};
+ghost use Rattle.std.specs.Prelude.{◌≡◌, ◌⊎◌, ◌↔◌, ℕ, ◌+◌, ◌<◌, IsTrue, IsFalse, List, [], ◌∷◌, length, slice_index_or, Contains, Ok, ℤ, pos, ◌*ℤ◌, ◌<ℤ◌, ◌≤ℤ◌};
 ghost use Rattle.rg_theory.specs.System.{System, HasArc, IsInRange, IsAllReachable, states, labels};
-ghost use Rattle.rg_refuting.specs.Expression.{Variable};
-ghost use Rattle.rg_refuting.specs.Row.{RowName, RowStands, row_expression, cases_of, KeepsRows};
+ghost use Rattle.rg_refuting.specs.Expression.{Variable, plus};
+ghost use Rattle.rg_refuting.specs.Row.{RowName, RowStands, row_expression, cases_of, KeepsRows, Form as SplitForm, form_variable};
 ghost use Rattle.rg_refuting.specs.Refutes.{IsSeparationProblem, IsSeparable};
+ghost use Rattle.rg_integers.specs.Range.{InRange};
 ghost use Rattle.rg_integers.specs.Sum.{sum_below, number_at, dot};
 ghost use Rattle.rg_linear.specs.System.{IsPoint, MeetsRows};
+ghost use Rattle.rg_linear.specs.Branching.{Form, form_at, AreBounded};
 ghost use Rattle.rg_linear.specs.Cycle.{FollowsRelations, CycleBasis};
 ghost use Rattle.rg_theory.specs.Tree.{IsTree};
 ghost use Rattle.rg_order_of_work.specs.Potentials.{potential};
 ghost use Rattle.rg_order_of_work.specs.Chords.{chord_system, IsBasis};
 ghost use Rattle.rg_order_of_work.specs.Shown.{IsLive};
-ghost use Rattle.rg_order_of_work.specs.Rewriting.{has_label, names_of, free_columns, has_start, CaseSystem, rows_of, system_fold};
+ghost use Rattle.rg_order_of_work.specs.Rewriting.{has_label, names_of, free_columns, has_start, CaseSystem, rows_of, form_fold, system_fold};
 ghost use Rattle.rg_order_of_work.specs.Values.{NamesLabels, numbers_along, column_values};
-ghost use Rattle.rg_order_of_work.specs.Meaning.{IsLeftOut, RowHolds, KeepsRowsOver, KeepsAllButTokens, shifted, IsCaseOver, AreEffects, MeetsCase, AgreeOnUsed, used_effect, first_column, AreGivenBy, HasPoint, HasSolution, HasWholeSolutionIn, SomeCaseHasPoint};
+ghost use Rattle.rg_order_of_work.specs.Meaning.{IsLeftOut, RowHolds, KeepsRowsOver, KeepsAllButTokens, shifted, IsCaseOver, AreEffects, MeetsCase, AgreeOnUsed, used_effect, first_column, AreGivenBy, HasPoint, HasSolution, HasWholeSolutionIn};
+ghost use Rattle.rg_order_of_work.specs.FormRows.{IsMultipleOfRow};
+ghost use Rattle.rg_order_of_work.specs.WholeParts.{AreWholeParts, HasWholePoint, SomeCaseHasWholePoint};
 
 use rg_theory::{Arc, Class, Problem};
 
@@ -81,10 +85,26 @@ pub fn points_are_exact()
     ensures exact { (lts : System) (tree : List Arc) (basis : CycleBasis) (class : Class) (problem : Problem) (number : ℕ) (case : CaseSystem) → IsCaseOver lts tree basis class problem number case → IsLive lts problem → HasPoint case ↔ HasSolution lts class problem number }
 {}
 
-/// In a class that is neither plain nor bounded, a point gives whole numbers that keep all rows. So the
-/// system of some case has a point exactly where some region of the class separates the problem.
-pub fn points_separate()
+/// The form of a split, with its scale, is worth the tokens or the effect that Start and the effects give
+/// it. The forms of a case lie between their bounds wherever its rows are met; each has the coefficients of a
+/// row, so many times; and its bounds times its scale are in range.
+pub fn forms_are_exact()
+    ensures value { (lts : System) (tree : List Arc) (basis : CycleBasis) (class : Class) (problem : Problem) (number : ℕ) (case : CaseSystem) → IsCaseOver lts tree basis class problem number case → (split : SplitForm) (form : Form) (start : ℤ) (effect : ℕ → ℤ) → form_fold lts tree basis class split (Ok form) → NamesLabels (labels lts) (plus (form_variable lts.initial split) ∷ []) → (IsFalse (has_start class) → start ≡ pos 0) → AreEffects lts tree basis effect → dot form.coeffs (column_values lts basis class start effect) ≡ form.scale *ℤ numbers_along lts tree start effect (form_variable lts.initial split) }
+    ensures bounded { (lts : System) (tree : List Arc) (basis : CycleBasis) (class : Class) (problem : Problem) (number : ℕ) (case : CaseSystem) → IsCaseOver lts tree basis class problem number case → AreBounded (rows_of case) case.forms }
+    ensures multiple { (lts : System) (tree : List Arc) (basis : CycleBasis) (class : Class) (problem : Problem) (number : ℕ) (case : CaseSystem) → IsCaseOver lts tree basis class problem number case → (f : ℕ) → f < length case.forms → (row : ℕ) × (times : ℤ) × IsMultipleOfRow (rows_of case) (form_at case.forms f) row times }
+    ensures fit { (lts : System) (tree : List Arc) (basis : CycleBasis) (class : Class) (problem : Problem) (number : ℕ) (case : CaseSystem) → IsCaseOver lts tree basis class problem number case → (f : ℕ) → f < length case.forms → InRange ((form_at case.forms f).scale *ℤ (form_at case.forms f).low) × InRange ((form_at case.forms f).scale *ℤ (form_at case.forms f).high) }
+{}
+
+/// In every class the system of a case has a point with whole forms exactly where whole numbers keep all
+/// its rows; so some case has one exactly where some region of the class separates the problem.
+pub fn whole_points_separate()
     ensures solution { (lts : System) (class : Class) (problem : Problem) (number : ℕ) → HasWholeSolutionIn lts class problem number → HasSolution lts class problem number }
-    ensures whole { (lts : System) (class : Class) (problem : Problem) (number : ℕ) → IsFalse class.plain → IsNone class.bound → HasSolution lts class problem number → HasWholeSolutionIn lts class problem number }
-    ensures separable { (lts : System) (tree : List Arc) (basis : CycleBasis) (class : Class) (problem : Problem) (case : ℕ → CaseSystem) → IsFalse class.plain → IsNone class.bound → IsLive lts problem → 0 < cases_of lts class problem → ((number : ℕ) → number < cases_of lts class problem → IsCaseOver lts tree basis class problem number (case number)) → SomeCaseHasPoint lts class problem case ↔ IsSeparable lts class problem }
+    ensures whole { (lts : System) (tree : List Arc) (basis : CycleBasis) (class : Class) (problem : Problem) (number : ℕ) (case : CaseSystem) → IsCaseOver lts tree basis class problem number case → IsLive lts problem → HasWholePoint case ↔ HasWholeSolutionIn lts class problem number }
+    ensures separable { (lts : System) (tree : List Arc) (basis : CycleBasis) (class : Class) (problem : Problem) (case : ℕ → CaseSystem) → IsLive lts problem → 0 < cases_of lts class problem → ((number : ℕ) → number < cases_of lts class problem → IsCaseOver lts tree basis class problem number (case number)) → SomeCaseHasWholePoint lts class problem case ↔ IsSeparable lts class problem }
+{}
+
+/// Numbers over a scale that keep all rows of a case, whose effects of labels with an arc are whole and
+/// whose tokens all have one fractional part, keep them as whole numbers less that part, in every class.
+pub fn whole_parts_keep_rows()
+    ensures { (lts : System) (class : Class) (problem : Problem) (number : ℕ) (scale : ℤ) (x y : Variable → ℤ) → IsInRange lts → IsSeparationProblem lts problem → IsLive lts problem → AreWholeParts lts scale x y → KeepsRowsOver lts class problem number scale x → KeepsRowsOver lts class problem number (pos 1) y }
 {}

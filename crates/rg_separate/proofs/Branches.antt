@@ -1,10 +1,19 @@
 -- A branching without forms is one descent.
-use Rattle.std.proofs.Common.{◌≡◌, ℕ, List, [], length, ℤ, ap, sym, subst, arith}
+use Rattle.std.proofs.Common.{◌≡◌, ℕ, is_some, Option, if◌then◌else◌, List, [], map, length, Ok, ℤ, ap, sym, subst, ◌∙◌, arith}
 use Rattle.std.proofs.lemmas.List.{append-nil}
 use Rattle.rg_linear.specs.System.{LinearSystem, IsPoint, row_variable}
 use Rattle.rg_linear.specs.Dictionary.{Relation, DictionaryRow}
 use Rattle.rg_linear.specs.Descent.{WideAt, Outcome.point, Outcome.refuted, Outcome.wide, DescentFromStart, IsAtZero, multiplier_of}
 use Rattle.rg_linear.specs.Branching.{Form, SplitTree.leaf, BranchOutcome, BranchOutcome.found, BranchOutcome.tree, BranchOutcome.stopped, BranchFrom, BranchFrom.passes, BranchFrom.refutes, BranchFrom.whole, Branching, node_system, AllWhole, weights_from}
+use Rattle.rg_theory.specs.declared.Arc.{Arc}
+use Rattle.rg_theory.specs.declared.Class.{Class}
+use Rattle.rg_theory.specs.declared.Problem.{Problem}
+use Rattle.rg_theory.specs.System.{System, states}
+use Rattle.rg_refuting.specs.Row.{Form.on_tokens, Form.on_effect}
+use Rattle.rg_linear.specs.Cycle.{CycleBasis}
+use Rattle.rg_order_of_work.specs.Fold.{each}
+use Rattle.rg_order_of_work.specs.Rewriting.{used_labels, all_numbers, split_forms, form_fold, CaseSystem, system_fold}
+use Rattle.rg_separate.specs.Answer.{IsUnbranched}
 
 node_alone : (system : LinearSystem) → node_system system [] [] ≡ system
 node_alone system = ap (λ rows. record { columns = system.columns; rows = rows }) (append-nil system.rows)
@@ -34,5 +43,14 @@ tree_alone system forms members fixed i k none d row =
     formless system forms _ none (subst (λ s. BranchFrom system [] [] (tree (leaf (weights_from (multiplier_of s k i) 0 (length s.rows))))) (node_alone system) b)
 
 -- the node of the root, with the forms of the case
-pub root_is : (system : LinearSystem) (forms : List Form) → forms ≡ [] → node_system system forms [] ≡ system
-root_is system forms none = ap (λ rows. record { columns = system.columns; rows = rows }) (append-nil system.rows)
+pub root_is : (system : LinearSystem) (forms : List Form) → node_system system forms [] ≡ system
+root_is system forms = ap (λ rows. record { columns = system.columns; rows = rows }) (append-nil system.rows)
+
+-- a class neither plain nor bounded has no forms
+no_splits : (lts : System) (class : Class) → IsUnbranched class → split_forms lts class ≡ []
+no_splits lts class is =
+    ap (λ (o : Option ℕ). if is_some o then map on_tokens (all_numbers (states lts)) else (if class.plain then map on_effect (used_labels lts) else [])) is.bound
+    ∙ ap (λ b. if b then map on_effect (used_labels lts) else []) is.plain
+
+pub case_formless : (lts : System) (tree : List Arc) (basis : CycleBasis) (class : Class) (problem : Problem) (number : ℕ) (case : CaseSystem) → IsUnbranched class → system_fold lts tree basis class problem number (Ok case) → case.forms ≡ []
+case_formless lts tree basis class problem number case is (all, made, (forms, forms_made, (columns, keeps, form_list))) = form_list ∙ subst (λ l. each (form_fold lts tree basis class) l (Ok forms)) (no_splits lts class is) forms_made

@@ -27,7 +27,7 @@ use Rattle.rg_separate.specs.declared.setting.CaseSetting.{CaseSetting}
 use Rattle.rg_separate.specs.Casing.{IsCase, IsNamedSystem, IsRefutedBy}
 use Rattle.rg_separate.specs.Passing.{passed_at}
 use Rattle.rg_separate.specs.Deciding.{RefutesCase}
-use Rattle.rg_separate.proofs.Branches.{tree_alone}
+use Rattle.rg_separate.proofs.Branches.{tree_alone, case_formless}
 
 -- the multipliers of a refuted descent refute the system of the case
 pub farkas : (c : CaseSetting) (named : NamedSystem) (d : DescentState) (i : ℕ) → (system : IsNamedSystem c named) → IsRefutedBy named.system d i → AreFarkasMultipliers (rows_of system.case) (multiplier_with d.table i)
@@ -58,7 +58,7 @@ spread_shown c named d i w is system refuted_by passes =
       sides = [];
       weights = weights;
       refutes = subst (λ m. Branching (rows_of system.case) system.case.forms (tree (leaf (weights_from m 0 (length (rows_of system.case).rows))))) (sym relation.multipliers)
-          (tree_alone (rows_of system.case) system.case.forms d.table.members fixed i relation.k system.shows.forms ends relation.row);
+          (tree_alone (rows_of system.case) system.case.forms d.table.members fixed i relation.k (case_formless c.setting.lts.now c.setting.tree.now.arcs (cycle_of c.setting.basis.now) c.setting.class c.problem c.number system.case is.setting.class system.made) ends relation.row);
       has_leaf = (refl, refl);
       above_is = refl;
       nowhere = record { members = refl; pivot = refl; leaves = refl; target = refl; entry = refl };

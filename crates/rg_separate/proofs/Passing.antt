@@ -19,7 +19,7 @@ use Rattle.rg_separate.specs.declared.wide_at.Stage.TheVariants.{Row}
 use Rattle.rg_separate.specs.declared.setting.CaseSetting.{CaseSetting}
 use Rattle.rg_separate.specs.Casing.{IsCase, IsNamedSystem}
 use Rattle.rg_separate.specs.Passing.{passed_at, pivot_at, cycle_passed}
-use Rattle.rg_separate.proofs.Branches.{stopped_alone}
+use Rattle.rg_separate.proofs.Branches.{stopped_alone, case_formless}
 
 -- the term that an exchange of the case's descent shows
 pub pivot_shown : (c : CaseSetting) (named : NamedSystem) (members : List ℕ) (at : PivotWide) → IsCase c → IsNamedSystem c named → DescentFromStart named.system (wide (wide_at members at)) → PivotShown c.setting.lts.now c.setting.class (pivot_at c members at)
@@ -36,7 +36,7 @@ pivot_shown c named members at is system stops = record {
   };
   sides = [];
   at = wide_at members at;
-  stops = stopped_alone (rows_of system.case) system.case.forms (wide_at members at) system.shows.forms (subst (λ s. DescentFromStart s (wide (wide_at members at))) system.shows.system stops);
+  stops = stopped_alone (rows_of system.case) system.case.forms (wide_at members at) (case_formless c.setting.lts.now c.setting.tree.now.arcs (cycle_of c.setting.basis.now) c.setting.class c.problem c.number system.case is.setting.class system.made) (subst (λ s. DescentFromStart s (wide (wide_at members at))) system.shows.system stops);
   above_is = refl;
   stands = record { members = refl; pivot = refl; leaves = refl; target = refl; entry = refl; wide = refl };
 }

@@ -31,7 +31,7 @@ use Rattle.rg_separate.specs.declared.wide_at.Stage.TheVariants.{Place}
 use Rattle.rg_separate.specs.declared.setting.CaseSetting.{CaseSetting}
 use Rattle.rg_separate.specs.Casing.{IsCase, IsNamedSystem, IsAtPoint, AreColumnValues}
 use Rattle.rg_separate.specs.Passing.{passed_at}
-use Rattle.rg_separate.proofs.Branches.{found_alone, root_is}
+use Rattle.rg_separate.proofs.Branches.{found_alone, root_is, case_formless}
 use Rattle.rg_separate.proofs.PointValues.{value_at}
 
 -- a problem of the system is asked
@@ -101,13 +101,13 @@ place_shown c named d fractions w is system at are count passes = record {
   set = d.table.members;
   start = point_start c.setting.class fractions;
   value = point_value c.setting.lts.now (cycle_of c.setting.basis.now) c.setting.class fractions;
-  finds = found_alone (rows_of system.case) system.case.forms d.table.members at.feasible.scale at.feasible.v system.shows.forms
+  finds = found_alone (rows_of system.case) system.case.forms d.table.members at.feasible.scale at.feasible.v (case_formless c.setting.lts.now c.setting.tree.now.arcs (cycle_of c.setting.basis.now) c.setting.class c.problem c.number system.case is.setting.class system.made)
       (subst (λ s. DescentFromStart s (descent.Outcome.point d.table.members)) system.shows.system at.outcome)
       (subst (λ s. IsPoint s at.feasible.scale at.feasible.v) system.shows.system at.feasible.basic.point) at.feasible.basic.zero;
   above_is = refl;
   nowhere = record { members = refl; pivot = refl; leaves = refl; target = refl; entry = refl };
   point = subst (λ s. PointOf c.setting.lts.now (cycle_of c.setting.basis.now) c.setting.class s d.table.members (point_start c.setting.class fractions) (point_value c.setting.lts.now (cycle_of c.setting.basis.now) c.setting.class fractions))
-      (system.shows.system ∙ sym (root_is (rows_of system.case) system.case.forms system.shows.forms))
+      (system.shows.system ∙ sym (root_is (rows_of system.case) system.case.forms))
       (point_is c.setting.lts.now (cycle_of c.setting.basis.now) c.setting.class named.system d fractions at are count);
   passes = passes;
 }

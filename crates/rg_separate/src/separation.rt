@@ -25,7 +25,7 @@ use rg_memory::NoMemory;
 use rg_net::Place;
 use rg_places::RegionPlace;
 use rg_reasons::Certificate;
-use rg_spanning::Tree;
+use rg_spanning::{GrowStop, Tree};
 use rg_theory::Class;
 use std::alloc::{AllocError, Global};
 
@@ -59,7 +59,8 @@ pub fn separate(alloc: Global, lts: &Lts, class: Class) -> Result<Separation, No
 {
     let tree = match Tree::grow(alloc, lts) {
         Ok(tree) => tree,
-        Err(_) => return Err(NoMemory),
+        Err(GrowStop::NoMemory) => return Err(NoMemory),
+        Err(GrowStop::Unreachable(_)) => unreachable!(),
     };
     let vectors = chord_vectors(alloc, lts, &tree)?;
     match reduce(alloc, lts.labels(), &vectors) {

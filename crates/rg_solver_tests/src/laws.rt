@@ -1,5 +1,5 @@
 //! The laws are called as any function is, and do nothing.
-use rg_farkas::multipliers_refute;
+use rg_farkas::node_multipliers_refute;
 use rg_linear::branching::{branching_is_one, branching_is_sound};
 use rg_linear::cycle::{cycle_basis_is_one, cycle_is_exact, kept_is_one};
 use rg_linear::descent::{descent_is_one, narrow_is_not_wide, point_is_sound, refuted_is_sound};
@@ -11,8 +11,9 @@ use rg_linear::{
 };
 use rg_order_of_work::folds::{calls_are_steps, folds_are_one, steps_are_one, zeros_add_nothing};
 use rg_order_of_work::meaning::{
-    columns_are_values, points_are_exact, points_separate, rows_are_named, solutions_are_given,
-    start_and_free_effects_mean, unused_labels_are_free,
+    columns_are_values, forms_are_exact, points_are_exact, rows_are_named, solutions_are_given,
+    start_and_free_effects_mean, unused_labels_are_free, whole_parts_keep_rows,
+    whole_points_separate,
 };
 use rg_order_of_work::rows::{expression_is_rewritten, row_is_exact, system_is_exact};
 use rg_order_of_work::shown::shown_is_one;
@@ -66,8 +67,10 @@ fn laws_of_regions_are_called(_rt: HostRuntime) {
     solutions_are_given();
     columns_are_values();
     points_are_exact();
-    points_separate();
+    forms_are_exact();
+    whole_points_separate();
+    whole_parts_keep_rows();
     place_is_region();
     points_make_places();
-    multipliers_refute();
+    node_multipliers_refute();
 }

@@ -1,0 +1,119 @@
+-- The values of the rows of a case's system where each arc is kept.
+use Rattle.std.proofs.Common.{◌≡◌, ◌≢◌, ◌⊎◌, ⊎_elim, ℕ, zero, suc, ◌+◌, ◌-◌, ◌<◌, ◌≤◌, ◌||◌, Bool, true, false, if◌then◌else◌, List, [], ◌∷◌, length, Ok, Contains, All, inl, inr, ap, ap₂, refl, subst, sym, ◌∙◌, arith}
+use Rattle.std.specs.Prelude.{ℤ, pos, negsuc, ◌+ℤ◌, ◌*ℤ◌, ◌<ℤ◌, ◌≤ℤ◌, int_lt}
+use Rattle.std.proofs.Math.IntN.{zero-*ℤ, *ℤ-zero}
+use Rattle.std.proofs.lemmas.Int.{ints}
+use Rattle.std.proofs.lemmas.Bool.{true≢false}
+use Rattle.std.proofs.lemmas.List.{length-map, get_or-map}
+use Rattle.std.proofs.lemmas.List.Elements.{All-nil, All-cons, All-head, All-tail, Contains-get_or}
+use Rattle.rg_theory.specs.declared.Arc.{Arc}
+use Rattle.rg_theory.specs.declared.Class.{Class}
+use Rattle.rg_theory.specs.declared.Problem.{Problem}
+use Rattle.rg_theory.specs.System.{System, labels}
+use Rattle.rg_theory.specs.Tree.{KeepsArcs, parikh}
+use Rattle.rg_integers.specs.Sum.{sum_below, number_at, dot}
+use Rattle.rg_integers.proofs.Ring.{ring, mul-add}
+use Rattle.rg_integers.proofs.Order.{mul-cancel, mul_positive, mul_negative, positive_differs, factor_positive}
+use Rattle.rg_integers.proofs.Sums.{sum_below-same, sum_below-zero, sum_below-times, sum_below-swap, sum_below-first}
+use Rattle.rg_linear.specs.System.{LinearRow, row_at, entry, AreFarkasMultipliers}
+use Rattle.rg_linear.specs.Cycle.{FollowsRelations, CycleBasis}
+use Rattle.rg_linear.specs.Branching.{weights_from, form_at}
+use Rattle.rg_linear.proofs.Columns.{below_test}
+use Rattle.rg_linear.proofs.Firsts.{kept_is}
+use Rattle.rg_refuting.specs.Expression.{Variable, Variable.tokens_at, Variable.effect_of, Term, value_in}
+use Rattle.rg_refuting.specs.Row.{RowName, RowName.above_row, RowStands, row_expression}
+use Rattle.rg_refuting.specs.Refutes.{NamedRow, constant_sum}
+use Rattle.rg_order_of_work.specs.Fold.{each, whole, mul}
+use Rattle.rg_order_of_work.specs.Chords.{chord_system}
+use Rattle.rg_order_of_work.specs.Rewriting.{has_label, has_start, names_of, KeptRow, IsIdle, row_fold, CaseSystem, rows_of, system_fold}
+use Rattle.rg_order_of_work.specs.Values.{numbers_along, column_values, UnusedAreZero}
+use Rattle.rg_order_of_work.specs.Shown.{IsLive}
+use Rattle.rg_order_of_work.specs.Spreading.{Share, kept_at, side_at, share_fold}
+use Rattle.rg_order_of_work.proofs.SystemRows.{made_from}
+use Rattle.rg_order_of_work.proofs.ExactRows.{row_value_is}
+use Rattle.rg_order_of_work.proofs.Signs.{factor_is_positive}
+use Rattle.rg_order_of_work.specs.Meaning.{IsCaseOver, AreEffects, value_over}
+use Rattle.rg_order_of_work.proofs.Given.{own_number, own_effects}
+use Rattle.rg_order_of_work.proofs.LeftOut.{finds_label}
+use Rattle.rg_order_of_work.proofs.Names.{names_stand, names_labels}
+use Rattle.rg_order_of_work.proofs.CaseRows.{name_no_tokens}
+use Rattle.rg_order_of_work.proofs.Shifts.{same_value}
+use Rattle.rg_order_of_work.proofs.ColumnValues.{row_sum}
+use Rattle.rg_reasons.specs.Certificates.{IsRowNameOf}
+use Rattle.rg_farkas.specs.Refuting.{KeepsEachArc, AreShares, SharesRefute}
+use Rattle.rg_farkas.proofs.Listed.{rows_sum, zero_of}
+use Rattle.rg_farkas.proofs.Names.{IsUsed, NamesUsed, names_in_range, names_used}
+
+-- ---- the rows of a case's system
+
+-- the row that is kept at a place, and the named row that it stands for
+pub record IsRowOf (lts : System) (tree : List Arc) (basis : CycleBasis) (class : Class) (problem : Problem) (number : ℕ) (k : KeptRow) : Type 0 where
+  pub named : Contains (names_of lts class problem number) k.name
+  pub fold : row_fold lts tree basis class k.name (row_expression lts class problem number [] k.name) (Ok k)
+
+pub kept_row : (lts : System) (tree : List Arc) (basis : CycleBasis) (class : Class) (problem : Problem) (number : ℕ) (case : CaseSystem) (k : KeptRow) → system_fold lts tree basis class problem number (Ok case) → Contains case.kept k → IsRowOf lts tree basis class problem number k
+kept_row lts tree basis class problem number case k (all, made, (forms, forms_made, (columns, keeps, same))) has =
+    let (name, named, fold) = made_from (λ name. row_fold lts tree basis class name (row_expression lts class problem number [] name)) (names_of lts class problem number) all k made (kept_is (λ k. k.row) IsIdle [] all case.kept k keeps has) in
+    let is = name_is name fold in
+    record { named = subst (Contains (names_of lts class problem number)) (sym is) named; fold = subst (λ n. row_fold lts tree basis class n (row_expression lts class problem number [] n) (Ok k)) (sym is) fold }
+  where
+    name_is : (name : RowName) → row_fold lts tree basis class name (row_expression lts class problem number [] name) (Ok k) → k.name ≡ name
+    name_is name (scaled, terms, (constant, product, (is, d))) = is
+
+-- ---- values of rows where each arc is kept
+
+-- where the used variables have the same numbers, so have the terms
+used_value : (lts : System) (x y : Variable → ℤ) (terms : List Term) → ((v : Variable) → IsUsed lts v → x v ≡ y v) → NamesUsed lts terms → value_in x terms ≡ value_in y terms
+used_value lts x y [] same used = refl
+used_value lts x y (t ∷ terms) same used = ap₂ (λ a b. (t.coefficient *ℤ a) +ℤ b) (same t.variable (All-head (λ u. IsUsed lts u.variable) t terms used)) (used_value lts x y terms same (All-tail (λ u. IsUsed lts u.variable) t terms used))
+
+module _ (lts : System) (tree : List Arc) (basis : CycleBasis) (class : Class) (problem : Problem) (number : ℕ) (case : CaseSystem) (c : IsCaseOver lts tree basis class problem number case) (live : IsLive lts problem) (x : Variable → ℤ) (keeps : KeepsEachArc lts x) where
+  abbrev pub own_effect : ℕ → ℤ
+  own_effect t = if has_label t lts.arcs then x (effect_of t) else pos 0
+
+  pub used_keeps : KeepsArcs lts (λ q. x (tokens_at q)) own_effect
+  used_keeps a has = ap (λ b. x (tokens_at a.from) +ℤ (if b then x (effect_of a.label) else pos 0)) (finds_label a lts.arcs has) ∙ keeps a has
+
+  pub follows : FollowsRelations (chord_system lts tree basis.kept) basis.members own_effect
+  follows = own_effects lts tree basis (λ q. x (tokens_at q)) own_effect c.in_range c.reachable c.is_tree c.is_basis used_keeps
+
+  pub unused : UnusedAreZero lts own_effect
+  unused t e = ap (λ b. if b then x (effect_of t) else pos 0) e
+
+  pub same_used : (v : Variable) → IsUsed lts v → x v ≡ numbers_along lts tree (x (tokens_at lts.initial)) own_effect v
+  same_used (tokens_at q) lt = own_number lts tree (λ q. x (tokens_at q)) own_effect q c.in_range c.reachable c.is_tree used_keeps lt
+  same_used (effect_of t) (lt, used) = sym (ap (λ b. if b then x (effect_of t) else pos 0) used)
+
+  pub own_given : AreEffects lts tree basis own_effect
+  own_given = record { follows = follows; unused = unused }
+
+  -- Start, where it is a column
+  abbrev pub own_start : ℤ
+  own_start = if has_start class then x (tokens_at lts.initial) else pos 0
+
+  -- the value of a named row is that at the columns' values
+  row_value : (name : RowName) → Contains (names_of lts class problem number) name → value_in x (row_expression lts class problem number [] name).terms ≡ value_in (numbers_along lts tree own_start own_effect) (row_expression lts class problem number [] name).terms
+  row_value name has = used_value lts x (numbers_along lts tree (x (tokens_at lts.initial)) own_effect) (row_expression lts class problem number [] name).terms same_used (names_used lts class problem number name c.asked live has) ∙ go (has_start class) refl
+    where
+      from_zero : has_start class ≡ false → value_over (pos 0) (numbers_along lts tree (pos 0) own_effect) (row_expression lts class problem number [] name) ≡ value_over (pos 0) (numbers_along lts tree (x (tokens_at lts.initial)) own_effect) (row_expression lts class problem number [] name)
+      from_zero e = same_value lts class problem number (pos 0) (x (tokens_at lts.initial)) (numbers_along lts tree (pos 0) own_effect) (numbers_along lts tree (x (tokens_at lts.initial)) own_effect) name e ((λ q. turn (x (tokens_at lts.initial)) (sum_below (labels lts) (λ t. pos (parikh tree q t) *ℤ own_effect t))), (λ t. refl)) (names_stand lts class problem number name has) (name_no_tokens lts class problem number name e has)
+        where
+          turn : (s z : ℤ) → s +ℤ z ≡ (pos 0 +ℤ z) +ℤ s
+          turn s z = omega (arith, ints)
+
+      close : (a b k : ℤ) → a +ℤ (k *ℤ pos 0) ≡ b +ℤ (k *ℤ pos 0) → b ≡ a
+      close a b k e = omega (arith, ints)
+
+      go : (b : Bool) → has_start class ≡ b → value_in (numbers_along lts tree (x (tokens_at lts.initial)) own_effect) (row_expression lts class problem number [] name).terms ≡ value_in (numbers_along lts tree (if b then x (tokens_at lts.initial) else pos 0) own_effect) (row_expression lts class problem number [] name).terms
+      go true e = refl
+      go false e = close (value_in (numbers_along lts tree (pos 0) own_effect) (row_expression lts class problem number [] name).terms) (value_in (numbers_along lts tree (x (tokens_at lts.initial)) own_effect) (row_expression lts class problem number [] name).terms) (row_expression lts class problem number [] name).constant (from_zero e)
+
+  no_start : has_start class ≡ false → own_start ≡ pos 0
+  no_start e = ap (λ b. if b then x (tokens_at lts.initial) else pos 0) e
+
+  -- the value of a row of the system, times the factor's bottom
+  pub kept_value : (scale : ℤ) (k : KeptRow) → Contains case.kept k → k.factor.bottom *ℤ (dot k.row.coeffs (column_values lts basis class own_start own_effect) +ℤ (k.row.constant *ℤ scale)) ≡ k.factor.top *ℤ (value_in x (row_expression lts class problem number [] k.name).terms +ℤ ((row_expression lts class problem number [] k.name).constant *ℤ scale))
+  kept_value scale k has =
+      let row = kept_row lts tree basis class problem number case k c.is_case has in
+      row_value_is lts tree basis class k.name (row_expression lts class problem number [] k.name) own_start own_effect scale k c.is_basis (names_labels lts class problem number k.name c.asked row.named) no_start follows unused row.fold
+      ∙ ap (λ z. k.factor.top *ℤ (z +ℤ ((row_expression lts class problem number [] k.name).constant *ℤ scale))) (sym (row_value k.name row.named))

@@ -1,0 +1,134 @@
+-- The rows of the sides of splits.
+use Rattle.std.proofs.Common.{◌≡◌, ◌≢◌, ◌⊎◌, ⊎_elim, ℕ, zero, suc, ◌+◌, ◌-◌, ◌^◌, ◌<◌, ◌≤◌, ◌||◌, is_some, Bool, true, false, if◌then◌else◌, List, [], ◌∷◌, ◌++◌, length, length-append, map, Ok, Contains, All, Some, inl, inr, ap, ap₂, refl, subst, sym, ◌∙◌, arith}
+use Rattle.std.specs.Prelude.{ℤ, pos, negsuc, neg_ℤ, ◌+ℤ◌, ◌-ℤ◌, ◌*ℤ◌, ◌<ℤ◌, ◌≤ℤ◌, int_lt, slice_get, slice_index_or}
+use Rattle.std.proofs.Math.IntN.{zero-*ℤ, *ℤ-zero}
+use Rattle.std.proofs.lemmas.Int.{ints}
+use Rattle.std.proofs.lemmas.Bool.{true≢false, cases_lt}
+use Rattle.std.proofs.lemmas.List.{length-map, get_or-map}
+use Rattle.std.proofs.lemmas.List.Elements.{All-nil, All-cons, All-get_or, Contains-get_or}
+use Rattle.rg_theory.specs.declared.Arc.{Arc}
+use Rattle.rg_theory.specs.declared.Class.{Class}
+use Rattle.rg_theory.specs.declared.Problem.{Problem}
+use Rattle.rg_theory.specs.declared.Problem.TheVariants.{Event, States}
+use Rattle.rg_theory.specs.System.{System, states, labels}
+use Rattle.rg_integers.specs.Sum.{sum_below, number_at, dot}
+use Rattle.rg_integers.proofs.Ring.{ring, mul-add}
+use Rattle.rg_integers.proofs.Order.{mul-cancel, mul_positive, mul_negative, positive_differs, factor_positive}
+use Rattle.rg_integers.proofs.Sums.{sum_below-same, sum_below-zero, sum_below-times, sum_below-swap, sum_below-first}
+use Rattle.rg_linear.specs.System.{LinearRow, LinearSystem, row_at, entry, AreFarkasMultipliers}
+use Rattle.rg_linear.specs.Cycle.{CycleBasis}
+use Rattle.rg_linear.specs.Branching.{weights_from, Form, form_at, SplitSide, side_row, node_system}
+use Rattle.rg_linear.proofs.Columns.{below_test, past_test}
+use Rattle.rg_linear.proofs.Splits.{index-front}
+use Rattle.rg_refuting.specs.Expression.{Variable, Variable.tokens_at, Variable.effect_of, Expression, plus, minus, sum_of, value_in}
+use Rattle.rg_refuting.specs.Row.{Form as SplitForm, Form.on_tokens, Form.on_effect, form_variable, RowName, RowName.arc_row, RowName.tokens_row, RowName.cap_row, RowName.up_row, RowName.down_row, RowName.makes_row, RowName.stop_row, RowName.block_row, RowName.empty_row, RowName.full_row, RowName.keep_row, RowName.apart_row, RowName.above_row, Side, RowStands, row_expression, side_expression}
+use Rattle.rg_refuting.specs.Refutes.{NamedRow, constant_sum}
+use Rattle.rg_order_of_work.specs.Fold.{each, whole, Ratio}
+use Rattle.rg_order_of_work.specs.Rewriting.{has_label, has_start, split_forms, form_fold, used_labels, all_numbers, KeptRow, CaseSystem, rows_of}
+use Rattle.rg_order_of_work.specs.Values.{numbers_along, column_values}
+use Rattle.rg_order_of_work.specs.Shown.{IsLive, named_side, named_sides}
+use Rattle.rg_order_of_work.specs.Spreading.{Share, kept_at, side_at, name_of, factor_of, share_fold}
+use Rattle.rg_order_of_work.proofs.Signs.{factor_is_positive}
+use Rattle.rg_order_of_work.specs.Meaning.{IsCaseOver}
+use Rattle.rg_order_of_work.proofs.Lists.{Contains-of_map, where_is, of_if, of_optional}
+use Rattle.rg_order_of_work.proofs.Names.{names_stand}
+use Rattle.rg_order_of_work.proofs.ColumnValues.{row_sum}
+use Rattle.rg_order_of_work.proofs.Forms.{form_named, form_value, form_positive, start_of_bound, start_of_plain}
+use Rattle.rg_reasons.specs.Certificates.{IsRowNameOf}
+use Rattle.rg_farkas.specs.Refuting.{KeepsEachArc, AreShares, SharesRefute}
+use Rattle.rg_farkas.proofs.Listed.{rows_sum, zero_of}
+use Rattle.rg_farkas.proofs.Names.{IsUsed, names_in_range}
+
+-- ---- expressions below sides
+
+-- the sides say nothing of the rows that stand without them
+pub same_expression : (lts : System) (class : Class) (problem : Problem) (number : ℕ) (above : List Side) (name : RowName) → RowStands lts class problem number [] name → row_expression lts class problem number above name ≡ row_expression lts class problem number [] name
+same_expression lts class (Event s u) number above (arc_row q t q') h = refl
+same_expression lts class (Event s u) number above (tokens_row q) h = refl
+same_expression lts class (Event s u) number above (cap_row q) h = refl
+same_expression lts class (Event s u) number above (up_row t) h = refl
+same_expression lts class (Event s u) number above (down_row t) h = refl
+same_expression lts class (Event s u) number above (makes_row t) h = refl
+same_expression lts class (Event s u) number above (stop_row q) h = refl
+same_expression lts class (Event s u) number above block_row h = refl
+same_expression lts class (Event s u) number above empty_row h = refl
+same_expression lts class (Event s u) number above (full_row q) h = refl
+same_expression lts class (Event s u) number above keep_row h = refl
+same_expression lts class (Event s u) number above apart_row h = refl
+same_expression lts class (Event s u) number above (above_row d) h = absurd (true≢false (sym h))
+same_expression lts class (States s u) number above (arc_row q t q') h = refl
+same_expression lts class (States s u) number above (tokens_row q) h = refl
+same_expression lts class (States s u) number above (cap_row q) h = refl
+same_expression lts class (States s u) number above (up_row t) h = refl
+same_expression lts class (States s u) number above (down_row t) h = refl
+same_expression lts class (States s u) number above (makes_row t) h = refl
+same_expression lts class (States s u) number above (stop_row q) h = refl
+same_expression lts class (States s u) number above block_row h = refl
+same_expression lts class (States s u) number above empty_row h = refl
+same_expression lts class (States s u) number above (full_row q) h = refl
+same_expression lts class (States s u) number above keep_row h = refl
+same_expression lts class (States s u) number above apart_row h = refl
+same_expression lts class (States s u) number above (above_row d) h = absurd (true≢false (sym h))
+
+pub stands_below : (lts : System) (class : Class) (problem : Problem) (number : ℕ) (above : List Side) (name : RowName) → RowStands lts class problem number [] name → RowStands lts class problem number above name
+stands_below lts class (Event s u) number above (arc_row q t q') h = h
+stands_below lts class (Event s u) number above (tokens_row q) h = h
+stands_below lts class (Event s u) number above (cap_row q) h = h
+stands_below lts class (Event s u) number above (up_row t) h = h
+stands_below lts class (Event s u) number above (down_row t) h = h
+stands_below lts class (Event s u) number above (makes_row t) h = h
+stands_below lts class (Event s u) number above (stop_row q) h = h
+stands_below lts class (Event s u) number above block_row h = h
+stands_below lts class (Event s u) number above empty_row h = h
+stands_below lts class (Event s u) number above (full_row q) h = h
+stands_below lts class (Event s u) number above keep_row h = h
+stands_below lts class (Event s u) number above apart_row h = h
+stands_below lts class (Event s u) number above (above_row d) h = absurd (true≢false (sym h))
+stands_below lts class (States s u) number above (arc_row q t q') h = h
+stands_below lts class (States s u) number above (tokens_row q) h = h
+stands_below lts class (States s u) number above (cap_row q) h = h
+stands_below lts class (States s u) number above (up_row t) h = h
+stands_below lts class (States s u) number above (down_row t) h = h
+stands_below lts class (States s u) number above (makes_row t) h = h
+stands_below lts class (States s u) number above (stop_row q) h = h
+stands_below lts class (States s u) number above block_row h = h
+stands_below lts class (States s u) number above empty_row h = h
+stands_below lts class (States s u) number above (full_row q) h = h
+stands_below lts class (States s u) number above keep_row h = h
+stands_below lts class (States s u) number above apart_row h = h
+stands_below lts class (States s u) number above (above_row d) h = absurd (true≢false (sym h))
+
+-- a side's own row
+pub above_expression : (lts : System) (class : Class) (problem : Problem) (number : ℕ) (above : List Side) (d : ℕ) → row_expression lts class problem number above (above_row d) ≡ side_expression class lts.initial (slice_get above d)
+above_expression lts class (Event s t) number above d = refl
+above_expression lts class (States s s') number above d = refl
+
+pub above_stands : (lts : System) (class : Class) (problem : Problem) (number : ℕ) (above : List Side) (d : ℕ) (side : Side) → slice_get above d ≡ Some side → RowStands lts class problem number above (above_row d)
+above_stands lts class (Event s t) number above d side e = ap is_some e
+above_stands lts class (States s s') number above d side e = ap is_some e
+
+-- ---- lists
+
+pub get-map : {A B : Type 0} (f : A → B) (xs : List A) (i : ℕ) (d : A) → i < length xs → slice_get (map f xs) i ≡ Some (f (slice_index_or xs i d))
+get-map f [] i d lt = absurd (omega arith)
+get-map f (x ∷ xs) zero d lt = refl
+get-map f (x ∷ xs) (suc i) d lt = get-map f xs i d (omega arith)
+
+pub dot-neg : (xs ys : List ℤ) → dot (map neg_ℤ xs) ys ≡ neg_ℤ (dot xs ys)
+dot-neg [] ys = refl
+dot-neg (x ∷ xs) [] = refl
+dot-neg (x ∷ xs) (y ∷ ys) = ap₂ ◌+ℤ◌ (turn x y) (dot-neg xs ys) ∙ both (x *ℤ y) (dot xs ys)
+  where
+    turn : (x y : ℤ) → neg_ℤ x *ℤ y ≡ neg_ℤ (x *ℤ y)
+    turn x y = simp ring
+
+    both : (a b : ℤ) → neg_ℤ a +ℤ neg_ℤ b ≡ neg_ℤ (a +ℤ b)
+    both a b = omega (arith, ints)
+
+-- ---- which variables have a form
+
+pub form_used : (lts : System) (class : Class) (split : SplitForm) → Contains (split_forms lts class) split → IsUsed lts (form_variable lts.initial split) × (has_start class ≡ true)
+form_used lts class split has = ⊎_elim
+    (λ (bound, tokens). (let (q, at, is) = Contains-of_map on_tokens (all_numbers (states lts)) split tokens in (subst (λ w. IsUsed lts (form_variable lts.initial w)) is (let w = (where_is (λ q. true) 0 (states lts) q at).2 in omega arith), start_of_bound class bound)))
+    (λ (bound, rest). (let (plain, effects) = of_optional class.plain (map on_effect (used_labels lts)) split rest in let (t, at, is) = Contains-of_map on_effect (used_labels lts) split effects in let (used, _, lt) = where_is (λ t. has_label t lts.arcs) 0 (labels lts) t at in (subst (λ w. IsUsed lts (form_variable lts.initial w)) is ((omega arith), used), start_of_plain class plain)))
+    (of_if (is_some class.bound) (map on_tokens (all_numbers (states lts))) (if class.plain then map on_effect (used_labels lts) else []) split has)

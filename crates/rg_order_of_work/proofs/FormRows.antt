@@ -1,0 +1,199 @@
+-- Each form of a case is a multiple of the row that stays for the tokens of its state or for `down` of its label.
+use Rattle.std.proofs.Common.{◌≡◌, ◌⊎◌, ⊎_elim, ℕ, zero, suc, max, ◌<◌, is_some, unwrap_or, Bool, true, false, if◌then◌else◌, List, [], ◌∷◌, map, length, Ok, Contains, All, inl, inr, refl, sym, ap, subst, ◌∙◌, arith}
+use Rattle.std.specs.Prelude.{ℤ, pos, negsuc, ◌*ℤ◌, int_div, slice_index_or}
+use Rattle.std.proofs.Math.IntN.{*ℤ-zero}
+use Rattle.std.proofs.lemmas.Int.{ints}
+use Rattle.std.proofs.lemmas.Bool.{true≢false}
+use Rattle.std.proofs.lemmas.List.{get_or_default, length-map}
+use Rattle.std.proofs.lemmas.List.Elements.{All-head, All-tail}
+use Rattle.rg_theory.specs.declared.Arc.{Arc}
+use Rattle.rg_theory.specs.declared.Class.{Class}
+use Rattle.rg_theory.specs.declared.Problem.{Problem}
+use Rattle.rg_theory.specs.declared.Problem.TheVariants.{Event, States}
+use Rattle.rg_theory.specs.System.{System, IsInRange, states, labels}
+use Rattle.rg_integers.proofs.Ring.{ring}
+use Rattle.rg_integers.specs.Range.{InRange}
+use Rattle.rg_integers.specs.Divisor.{int_gcd}
+use Rattle.rg_integers.specs.Sum.{number_at}
+use Rattle.rg_fraction.proofs.Ones.{first_part}
+use Rattle.rg_linear.specs.System.{LinearRow, row_at}
+use Rattle.rg_linear.specs.Branching.{Form, form_at}
+use Rattle.rg_linear.specs.Cycle.{CycleBasis}
+use Rattle.rg_linear.proofs.Firsts.{item_stays}
+use Rattle.rg_refuting.specs.Expression.{Term, Expression, plus, minus}
+use Rattle.rg_refuting.specs.Row.{RowName, RowName.cap_row, RowName.tokens_row, RowName.down_row, RowStands, row_expression, Form as SplitForm, Form.on_tokens, Form.on_effect, form_variable}
+use Rattle.rg_order_of_work.specs.Fold.{Ratio, whole, mul}
+use Rattle.rg_order_of_work.specs.Rewriting.{Scaled, has_label, terms_fold, form_fold, row_fold, split_forms, form_low, form_high, used_labels, all_numbers, names_of, KeptRow, IsIdle, CaseSystem, rows_of, system_fold}
+use Rattle.rg_order_of_work.specs.Meaning.{IsCaseOver}
+use Rattle.rg_order_of_work.specs.FormRows.{form_row, IsMultipleOfRow}
+use Rattle.rg_order_of_work.proofs.OneResult.{terms_one}
+use Rattle.rg_order_of_work.proofs.Lists.{Contains-map, Contains-of_map, where_is, of_if, of_optional}
+use Rattle.rg_order_of_work.proofs.Opposites.{same_multiple}
+use Rattle.rg_order_of_work.proofs.LeftOut.{left_out}
+use Rattle.rg_order_of_work.proofs.SystemRows.{made_of}
+use Rattle.rg_order_of_work.proofs.Forms.{form_named, start_of_bound}
+
+-- the row has the terms of the form
+same_terms : (lts : System) (class : Class) (problem : Problem) (n : ℕ) (split : SplitForm) → (row_expression lts class problem n [] (form_row split)).terms ≡ plus (form_variable lts.initial split) ∷ []
+same_terms lts class (Event s t) n (on_tokens q) = refl
+same_terms lts class (Event s t) n (on_effect u) = refl
+same_terms lts class (States s s') n (on_tokens q) = refl
+same_terms lts class (States s s') n (on_effect u) = refl
+
+-- the form is the row, times what the row was divided by
+pub form_over_row : (lts : System) (tree : List Arc) (basis : CycleBasis) (class : Class) (problem : Problem) (n : ℕ) (split : SplitForm) (form : Form) (k : KeptRow) → form_fold lts tree basis class split (Ok form) → row_fold lts tree basis class (form_row split) (row_expression lts class problem n [] (form_row split)) (Ok k) → (divisor : ℕ) × (form.coeffs ≡ map (λ z. pos (max divisor 1) *ℤ z) k.row.coeffs)
+form_over_row lts tree basis class problem n split form k (scaled, fold, e) (scaled', fold', (constant, product, (named, d))) =
+    let one = (terms_one lts tree basis class (plus (form_variable lts.initial split) ∷ [])).one (Ok scaled) (Ok scaled') fold (subst (λ (ts : List Term). terms_fold lts tree basis class ts (Ok scaled')) (same_terms lts class problem n split) fold') in
+    let same : scaled ≡ scaled' = cc in
+    (d.divisor, ap (λ (f : Form). f.coeffs) e ∙ ap (λ (s : Scaled). s.numbers) same ∙ d.coeffs)
+
+-- the row is among those of the case
+pub form_row_named : (lts : System) (class : Class) (problem : Problem) (n : ℕ) (split : SplitForm) → IsInRange lts → Contains (split_forms lts class) split → Contains (names_of lts class problem n) (form_row split)
+form_row_named lts class problem n split fine has = ⊎_elim
+    (λ (bound, tokens). (let (q, at, is) = Contains-of_map on_tokens (all_numbers (states lts)) split tokens in
+    let lt = (where_is (λ q. true) 0 (states lts) q at).2 in
+    subst (λ w. Contains (names_of lts class problem n) (form_row w)) is
+    (⊎_elim (λ named. named) (⊎_elim (λ none. absurd (true≢false (sym (start_of_bound class bound) ∙ none))) (λ past. absurd (omega arith))) (left_out lts class problem n (tokens_row q) fine (tokens_stand problem q)))))
+    (λ (bound, rest). (let (plain, effects) = of_optional class.plain (map on_effect (used_labels lts)) split rest in
+    let (t, at, is) = Contains-of_map on_effect (used_labels lts) split effects in
+    let (used, _, lt) = where_is (λ t. has_label t lts.arcs) 0 (labels lts) t at in
+    subst (λ w. Contains (names_of lts class problem n) (form_row w)) is
+    (⊎_elim (λ named. named) (λ none. absurd (true≢false (sym used ∙ none))) (left_out lts class problem n (down_row t) fine (down_stands problem t (omega arith) plain)))))
+    (of_if (is_some class.bound) (map on_tokens (all_numbers (states lts))) (if class.plain then map on_effect (used_labels lts) else []) split has)
+  where
+    tokens_stand : (p : Problem) (q : ℕ) → RowStands lts class p n [] (tokens_row q)
+    tokens_stand (Event s t) q = tt
+    tokens_stand (States s s') q = tt
+
+    down_stands : (p : Problem) (t : ℕ) → t < labels lts → class.plain ≡ true → RowStands lts class p n [] (down_row t)
+    down_stands (Event s u) t lt plain = (lt, plain)
+    down_stands (States s s') t lt plain = (lt, plain)
+
+number_times : (d : ℤ) (xs : List ℤ) (j : ℕ) → number_at (map (λ z. d *ℤ z) xs) j ≡ d *ℤ number_at xs j
+number_times d [] j = sym (*ℤ-zero d)
+number_times d (x ∷ xs) zero = refl
+number_times d (x ∷ xs) (suc j) = number_times d xs j
+
+pub number_zero : (xs : List ℤ) (j : ℕ) → All (λ z. z ≡ pos 0) xs → number_at xs j ≡ pos 0
+number_zero [] j all = refl
+number_zero (x ∷ xs) zero all = All-head (λ z. z ≡ pos 0) x xs all
+number_zero (x ∷ xs) (suc j) all = number_zero xs j (All-tail (λ z. z ≡ pos 0) x xs all)
+
+-- a multiple of a row that is kept under an equal one
+pub multiple_of_kept : (case : CaseSystem) (form : Form) (k : KeptRow) (i divisor : ℕ) → form.coeffs ≡ map (λ z. pos (max divisor 1) *ℤ z) k.row.coeffs → i < length case.kept → slice_index_or (map (λ (x : KeptRow). x.row) case.kept) i k.row ≡ k.row → IsMultipleOfRow (rows_of case) form i (pos (max divisor 1))
+multiple_of_kept case form k i divisor e lt at = record {
+  within = λ some. within;
+  not_negative = (omega (arith, ints));
+  multiple = λ j below. ap (λ xs. number_at xs j) e ∙ number_times (pos (max divisor 1)) k.row.coeffs j ∙ ap (λ (r : LinearRow). pos (max divisor 1) *ℤ number_at r.coeffs j) (sym (get_or_default (map (λ (x : KeptRow). x.row) case.kept) i (record { coeffs = []; constant = pos 0 }) k.row within ∙ at));
+}
+  where
+    within : i < length (map (λ (x : KeptRow). x.row) case.kept)
+    within = subst (λ n. i < n) (sym (length-map case.kept (λ (x : KeptRow). x.row))) lt
+
+-- a form without coefficients
+pub multiple_of_none : (case : CaseSystem) (form : Form) (k : KeptRow) (divisor : ℕ) → form.coeffs ≡ map (λ z. pos (max divisor 1) *ℤ z) k.row.coeffs → All (λ z. z ≡ pos 0) k.row.coeffs → IsMultipleOfRow (rows_of case) form 0 (pos 0)
+multiple_of_none case form k divisor e zeros = record {
+  within = λ some. absurd (some refl);
+  not_negative = (omega (arith, ints));
+  multiple = λ j below. ap (λ xs. number_at xs j) e ∙ number_times (pos (max divisor 1)) k.row.coeffs j ∙ ap (λ z. pos (max divisor 1) *ℤ z) (number_zero k.row.coeffs j zeros) ∙ *ℤ-zero (pos (max divisor 1)) ∙ sym (none (number_at (row_at (rows_of case) 0).coeffs j));
+}
+  where
+    none : (z : ℤ) → pos 0 *ℤ z ≡ pos 0
+    none z = omega (arith, ints)
+
+pub form_multiple : (lts : System) (tree : List Arc) (basis : CycleBasis) (class : Class) (problem : Problem) (n : ℕ) (case : CaseSystem) → IsCaseOver lts tree basis class problem n case → (f : ℕ) → f < length case.forms → (row : ℕ) × (times : ℤ) × IsMultipleOfRow (rows_of case) (form_at case.forms f) row times
+form_multiple lts tree basis class problem n case c f lt = from c.is_case
+  where
+    from : system_fold lts tree basis class problem n (Ok case) → (row : ℕ) × (times : ℤ) × IsMultipleOfRow (rows_of case) (form_at case.forms f) row times
+    from (all, made, (forms, forms_made, (columns, keeps, form_list))) =
+        let split = slice_index_or (split_forms lts class) f (on_tokens 0) in
+        let (names, has, fold) = form_named lts tree basis class problem n case f c.is_case lt in
+        let (k, in_all, row) = made_of (λ name. row_fold lts tree basis class name (row_expression lts class problem n [] name)) (names_of lts class problem n) all (form_row split) made (form_row_named lts class problem n split c.in_range has) in
+        let (divisor, e) = form_over_row lts tree basis class problem n split (form_at case.forms f) k fold row in
+        found k divisor e (item_stays (λ x. x.row) IsIdle [] all case.kept k keeps in_all)
+      where
+        found : (k : KeptRow) (divisor : ℕ) → (form_at case.forms f).coeffs ≡ map (λ z. pos (max divisor 1) *ℤ z) k.row.coeffs → IsIdle k ⊎ (Contains [] k.row ⊎ ((y : KeptRow) × Contains case.kept y × (y.row ≡ k.row))) → (row : ℕ) × (times : ℤ) × IsMultipleOfRow (rows_of case) (form_at case.forms f) row times
+        found k divisor e (inl (zeros, weak)) = (0, pos 0, multiple_of_none case (form_at case.forms f) k divisor e zeros)
+        found k divisor e (inr (inl (i, below, at))) = absurd (omega arith)
+        found k divisor e (inr (inr (y, has, same))) = from_place (subst (λ (r : LinearRow). Contains (map (λ (x : KeptRow). x.row) case.kept) r) same (Contains-map (λ (x : KeptRow). x.row) case.kept y has))
+          where
+            from_place : Contains (map (λ (x : KeptRow). x.row) case.kept) k.row → (row : ℕ) × (times : ℤ) × IsMultipleOfRow (rows_of case) (form_at case.forms f) row times
+            from_place (i, below, at) = (i, pos (max divisor 1), multiple_of_kept case (form_at case.forms f) k i divisor e (subst (λ n. i < n) (length-map case.kept (λ (x : KeptRow). x.row)) below) at)
+
+-- ---- the bounds, times the scale
+
+-- a product of whole numbers is in range
+product_in_range : (c m : ℤ) (p : Ratio) → mul (whole c) (whole m) (Ok p) → InRange (c *ℤ m)
+product_in_range c m p (fits, _, _) = subst (λ z. InRange (z *ℤ m)) (first_part c) (subst (λ z. InRange (int_div c (int_gcd c (pos 1)) *ℤ z)) (first_part m) fits.left)
+
+-- the scale times the constant of a row with the terms of the form
+fits_one : (lts : System) (tree : List Arc) (basis : CycleBasis) (class : Class) (split : SplitForm) (form : Form) (name : RowName) (e : Expression) (k : KeptRow) → form_fold lts tree basis class split (Ok form) → e.terms ≡ plus (form_variable lts.initial split) ∷ [] → row_fold lts tree basis class name e (Ok k) → InRange (e.constant *ℤ form.scale)
+fits_one lts tree basis class split form name e k (scaled, fold, is) same (scaled', fold', (constant, product, divided)) =
+    let one = (terms_one lts tree basis class (plus (form_variable lts.initial split) ∷ [])).one (Ok scaled) (Ok scaled') fold (subst (λ (ts : List Term). terms_fold lts tree basis class ts (Ok scaled')) same fold') in
+    let equal : scaled ≡ scaled' = cc in
+    subst (λ z. InRange (e.constant *ℤ z)) (ap (λ (s : Scaled). s.multiple) (sym equal) ∙ ap (λ (f : Form). f.scale) (sym is)) (product_in_range e.constant scaled'.multiple constant product)
+
+-- or with their opposites
+fits_opposite : (lts : System) (tree : List Arc) (basis : CycleBasis) (class : Class) (split : SplitForm) (form : Form) (name : RowName) (e : Expression) (k : KeptRow) → form_fold lts tree basis class split (Ok form) → e.terms ≡ minus (form_variable lts.initial split) ∷ [] → row_fold lts tree basis class name e (Ok k) → InRange (e.constant *ℤ form.scale)
+fits_opposite lts tree basis class split form name e k (scaled, fold, is) opposite (scaled', fold', (constant, product, divided)) =
+    subst (λ z. InRange (e.constant *ℤ z)) (same_multiple lts tree basis class (form_variable lts.initial split) scaled scaled' fold (subst (λ (ts : List Term). terms_fold lts tree basis class ts (Ok scaled')) opposite fold') ∙ ap (λ (f : Form). f.scale) (sym is)) (product_in_range e.constant scaled'.multiple constant product)
+
+pub form_fits : (lts : System) (tree : List Arc) (basis : CycleBasis) (class : Class) (problem : Problem) (n : ℕ) (case : CaseSystem) → IsCaseOver lts tree basis class problem n case → (f : ℕ) → f < length case.forms → InRange ((form_at case.forms f).scale *ℤ (form_at case.forms f).low) × InRange ((form_at case.forms f).scale *ℤ (form_at case.forms f).high)
+form_fits lts tree basis class problem n case c f lt = from c.is_case
+  where
+    turn : (a b : ℤ) → a *ℤ b ≡ b *ℤ a
+    turn a b = simp ring
+
+    -- between 0 and a bound, or between -1 and 1
+    bounded : (o : Bool) (s b : ℤ) → o ≡ true → InRange (b *ℤ s) → InRange (s *ℤ (if o then pos 0 else negsuc 0)) × InRange (s *ℤ (if o then b else pos 1))
+    bounded true s b e h = (subst InRange (sym (*ℤ-zero s)) (omega arith), subst InRange (turn b s) h)
+    bounded false s b e h = absurd (true≢false (sym e))
+
+    plainly : (o : Bool) (s b : ℤ) → o ≡ false → InRange (pos 1 *ℤ s) → InRange (s *ℤ (if o then pos 0 else negsuc 0)) × InRange (s *ℤ (if o then b else pos 1))
+    plainly true s b e h = absurd (true≢false e)
+    plainly false s b e h = (less s h, subst InRange (turn (pos 1) s) h)
+      where
+        less : (s : ℤ) → InRange (pos 1 *ℤ s) → InRange (s *ℤ negsuc 0)
+        less s h = omega (arith, ints)
+
+    from : system_fold lts tree basis class problem n (Ok case) → InRange ((form_at case.forms f).scale *ℤ (form_at case.forms f).low) × InRange ((form_at case.forms f).scale *ℤ (form_at case.forms f).high)
+    from (all, made, rest) =
+        let split = slice_index_or (split_forms lts class) f (on_tokens 0) in
+        let (names, has, fold) = form_named lts tree basis class problem n case f c.is_case lt in
+        bounds split (form_at case.forms f) has fold
+      where
+        row_of : (name : RowName) → Contains (names_of lts class problem n) name → (k : KeptRow) × row_fold lts tree basis class name (row_expression lts class problem n [] name) (Ok k)
+        row_of name has = let (k, in_all, row) = made_of (λ m. row_fold lts tree basis class m (row_expression lts class problem n [] m)) (names_of lts class problem n) all name made has in (k, row)
+
+        tokens_of : (q : ℕ) (form : Form) (p : Problem) → form_fold lts tree basis class (on_tokens q) (Ok form) → (k : KeptRow) → row_fold lts tree basis class (cap_row q) (row_expression lts class p n [] (cap_row q)) (Ok k) → InRange (pos (unwrap_or class.bound 0) *ℤ form.scale)
+        tokens_of q form (Event s t) fold k row = fits_opposite lts tree basis class (on_tokens q) form (cap_row q) (row_expression lts class (Event s t) n [] (cap_row q)) k fold refl row
+        tokens_of q form (States s s') fold k row = fits_opposite lts tree basis class (on_tokens q) form (cap_row q) (row_expression lts class (States s s') n [] (cap_row q)) k fold refl row
+
+        effect_of_label : (t : ℕ) (form : Form) (p : Problem) → form_fold lts tree basis class (on_effect t) (Ok form) → (k : KeptRow) → row_fold lts tree basis class (down_row t) (row_expression lts class p n [] (down_row t)) (Ok k) → InRange (pos 1 *ℤ form.scale)
+        effect_of_label t form (Event s u) fold k row = fits_one lts tree basis class (on_effect t) form (down_row t) (row_expression lts class (Event s u) n [] (down_row t)) k fold refl row
+        effect_of_label t form (States s s') fold k row = fits_one lts tree basis class (on_effect t) form (down_row t) (row_expression lts class (States s s') n [] (down_row t)) k fold refl row
+
+        cap_stands : (p : Problem) (q : ℕ) → q < states lts → is_some class.bound ≡ true → RowStands lts class p n [] (cap_row q)
+        cap_stands (Event s t) q lt bound = (lt, bound)
+        cap_stands (States s s') q lt bound = (lt, bound)
+
+        cap_named : (q : ℕ) → q < states lts → is_some class.bound ≡ true → Contains (names_of lts class problem n) (cap_row q)
+        cap_named q lt bound = ⊎_elim (λ named. named) (λ none. absurd none) (left_out lts class problem n (cap_row q) c.in_range (cap_stands problem q lt bound))
+
+        low_high : (split : SplitForm) (form : Form) → form_fold lts tree basis class split (Ok form) → (form.low ≡ form_low class) × (form.high ≡ form_high class)
+        low_high split form (scaled, fold, e) = (ap (λ (x : Form). x.low) e, ap (λ (x : Form). x.high) e)
+
+        bounds : (split : SplitForm) (form : Form) → Contains (split_forms lts class) split → form_fold lts tree basis class split (Ok form) → InRange (form.scale *ℤ form.low) × InRange (form.scale *ℤ form.high)
+        bounds split form has fold =
+            let (low, high) = low_high split form fold in
+            subst (λ z. InRange (form.scale *ℤ z) × InRange (form.scale *ℤ form.high)) (sym low) (subst (λ z. InRange (form.scale *ℤ form_low class) × InRange (form.scale *ℤ z)) (sym high)
+            (⊎_elim
+            (λ (bound, tokens). (let (q, at, is) = Contains-of_map on_tokens (all_numbers (states lts)) split tokens in
+            let below = (where_is (λ q. true) 0 (states lts) q at).2 in
+            let (k, row) = row_of (cap_row q) (cap_named q (omega arith) bound) in
+            bounded (is_some class.bound) form.scale (pos (unwrap_or class.bound 0)) bound (tokens_of q form problem (subst (λ w. form_fold lts tree basis class w (Ok form)) (sym is) fold) k row)))
+            (λ (bound, rest'). (let (plain, effects) = of_optional class.plain (map on_effect (used_labels lts)) split rest' in
+            let (t, at, is) = Contains-of_map on_effect (used_labels lts) split effects in
+            let (k, row) = row_of (down_row t) (subst (λ w. Contains (names_of lts class problem n) (form_row w)) (sym is) (form_row_named lts class problem n split c.in_range has)) in
+            plainly (is_some class.bound) form.scale (pos (unwrap_or class.bound 0)) bound (effect_of_label t form problem (subst (λ w. form_fold lts tree basis class w (Ok form)) (sym is) fold) k row)))
+            (of_if (is_some class.bound) (map on_tokens (all_numbers (states lts))) (if class.plain then map on_effect (used_labels lts) else []) split has)))

@@ -1,0 +1,259 @@
+-- The system of a case has a point with whole forms exactly where whole numbers keep all rows of the case.
+use Rattle.std.proofs.Common.{◌≡◌, ◌⊎◌, ⊎_elim, ◌↔◌, ℕ, zero, suc, ◌/◌, ◌%◌, ◌<◌, ◌≤◌, is_some, Option, Some, None, IsNone, Bool, true, false, if◌then◌else◌, List, [], ◌∷◌, length, map, Contains, ◌==◌, eqb-true, inl, inr, refl, sym, ap, subst, ◌∙◌, arith}
+use Rattle.std.specs.Prelude.{ℤ, pos, negsuc, ◌+ℤ◌, ◌-ℤ◌, ◌*ℤ◌, ◌<ℤ◌, ◌≤ℤ◌, unsigned_abs}
+use Rattle.std.proofs.Math.Nat.{div-add-mod'}
+use Rattle.std.proofs.Math.IntN.{*ℤ-zero}
+use Rattle.std.proofs.lemmas.Int.{ints}
+use Rattle.std.proofs.lemmas.Bool.{true≢false, cases_lt, cases_Bool}
+use Rattle.rg_theory.specs.declared.Arc.{Arc}
+use Rattle.rg_theory.specs.declared.Class.{Class}
+use Rattle.rg_theory.specs.declared.Problem.{Problem}
+use Rattle.rg_theory.specs.System.{System, IsInRange, states, labels}
+use Rattle.rg_theory.proofs.Arcs.{arc_in_range}
+use Rattle.rg_theory.specs.Tree.{parikh}
+use Rattle.rg_integers.specs.Sum.{sum_below}
+use Rattle.rg_integers.proofs.Ring.{ring}
+use Rattle.rg_integers.proofs.Order.{mul_positive}
+use Rattle.rg_linear.specs.Cycle.{CycleBasis}
+use Rattle.rg_refuting.specs.Expression.{Variable, Variable.tokens_at, Variable.effect_of, numbers_by}
+use Rattle.rg_refuting.specs.Row.{Form as SplitForm, Form.on_tokens, Form.on_effect, form_variable, cases_of}
+use Rattle.rg_refuting.specs.Refutes.{IsSeparationProblem, IsSeparable}
+use Rattle.rg_refuting.proofs.Making.{rows_exact}
+use Rattle.rg_order_of_work.specs.Rewriting.{has_label, has_start, split_forms, CaseSystem, used_labels, all_numbers}
+use Rattle.rg_order_of_work.specs.Shown.{IsLive}
+use Rattle.rg_order_of_work.specs.Values.{numbers_along}
+use Rattle.rg_order_of_work.specs.WholeParts.{AreWholeParts, HasWholePoint, SomeCaseHasWholePoint}
+use Rattle.rg_order_of_work.specs.Meaning.{IsCaseOver, AreEffects, used_effect, KeepsRowsOver, HasWholeSolutionIn}
+use Rattle.rg_order_of_work.proofs.CaseMeaning.{start_means, whole_means}
+use Rattle.rg_order_of_work.proofs.Kept.{arc_value, effects_given, meets_given}
+use Rattle.rg_order_of_work.proofs.PointEffects.{point_gives}
+use Rattle.rg_order_of_work.proofs.Points.{point_meets, given_point, points_exact}
+use Rattle.rg_order_of_work.proofs.Whole.{solution_of_whole, whole_of_solution, same_numbers, absolute}
+use Rattle.rg_order_of_work.proofs.WholeParts.{whole_tokens, whole_rows}
+use Rattle.rg_order_of_work.proofs.Forms.{variable_multiple, whole_forms, bounded_has, plain_has, form_names, form_there, form_count, start_of_bound, start_of_plain}
+
+-- ---- whole parts
+
+record Parts (z k : ℤ) : Type 0 where
+  pub part : ℤ
+  pub rest : ℤ
+  pub is : z ≡ (k *ℤ part) +ℤ rest
+  pub not_negative : pos 0 ≤ℤ rest
+  pub below : rest <ℤ k
+
+parts_of : (z : ℤ) (x : ℕ) → Parts z (pos (suc x))
+parts_of (pos a) x = record {
+  part = pos (a / suc x);
+  rest = pos (a % suc x);
+  is = (let e = div-add-mod' a (suc x) in omega (arith, ints));
+  not_negative = omega (arith, ints);
+  below = (let lt : a % suc x < suc x = omega arith in omega (arith, ints));
+}
+parts_of (negsuc a) x = record {
+  part = negsuc (a / suc x);
+  rest = pos (x) -ℤ pos (a % suc x);
+  is = (let e = div-add-mod' a (suc x) in omega (arith, ints));
+  not_negative = (let lt : a % suc x < suc x = omega arith in omega (arith, ints));
+  below = (let lt : a % suc x < suc x = omega arith in omega (arith, ints));
+}
+
+parts_by : (z k : ℤ) → pos 0 <ℤ k → Parts z k
+parts_by z (pos zero) h = absurd (omega (arith, ints))
+parts_by z (pos (suc x)) h = parts_of z x
+parts_by z (negsuc x) h = absurd (omega (arith, ints))
+
+abbrev IsTimes : ℤ → ℤ → Type 0
+IsTimes k z = (u : ℤ) × (z ≡ k *ℤ u)
+
+sum_times : (k : ℤ) (n : ℕ) (f : ℕ → ℤ) → ((t : ℕ) → t < n → IsTimes k (f t)) → IsTimes k (sum_below n f)
+sum_times k zero f each = (pos 0, sym (*ℤ-zero k))
+sum_times k (suc n) f each =
+    let (u, e) = sum_times k n f (λ t lt. each t (omega arith)) in
+    let (w, g) = each n (omega arith) in
+    (u +ℤ w, join k (sum_below n f) (f n) u w e g)
+  where
+    join : (k a b u w : ℤ) → a ≡ k *ℤ u → b ≡ k *ℤ w → a +ℤ b ≡ k *ℤ (u +ℤ w)
+    join k a b u w e g = let h : k *ℤ (u +ℤ w) ≡ (k *ℤ u) +ℤ (k *ℤ w) = simp ring (omega (arith, ints)) in omega (arith, ints)
+
+-- some arc has a label that is used
+label_found : (t : ℕ) (arcs : List Arc) → has_label t arcs ≡ true → (a : Arc) × Contains arcs a × (a.label ≡ t)
+label_found t [] e = absurd (true≢false (sym e))
+label_found t (a ∷ arcs) e = go (a.label == t) refl e (label_found t arcs)
+  where
+    go : (b : Bool) → (a.label == t) ≡ b → (if b then true else has_label t arcs) ≡ true → (has_label t arcs ≡ true → (x : Arc) × Contains arcs x × (x.label ≡ t)) → (x : Arc) × Contains (a ∷ arcs) x × (x.label ≡ t)
+    go true is e more = (a, (0, omega arith, refl), eqb-true a.label t is)
+    go false is e more = (let (x, (k, lt, at), l) = more e in (x, (suc k, omega arith, at), l))
+
+-- ---- whole numbers, chosen
+
+module _ (lts : System) (k : ℤ) (positive : pos 0 <ℤ k) (x : Variable → ℤ) (rest : ℤ) (not_negative : pos 0 ≤ℤ rest) (below : rest <ℤ k) (tokens : (q : ℕ) → q < states lts → (u : ℤ) × (x (tokens_at q) ≡ (k *ℤ u) +ℤ rest)) (effects : (t : ℕ) → has_label t lts.arcs ≡ true → IsTimes k (x (effect_of t))) where
+  choose_tokens : (q : ℕ) → (q < states lts) ⊎ (states lts ≤ q) → ℤ
+  choose_tokens q (inl lt) = (tokens q lt).0
+  choose_tokens q (inr le) = pos 0
+
+  choose_effect : (t : ℕ) → (has_label t lts.arcs ≡ true) ⊎ (has_label t lts.arcs ≡ false) → ℤ
+  choose_effect t (inl e) = (effects t e).0
+  choose_effect t (inr e) = pos 0
+
+  chosen : Variable → ℤ
+  chosen (tokens_at q) = choose_tokens q (cases_lt q (states lts))
+  chosen (effect_of t) = choose_effect t (cases_Bool (has_label t lts.arcs))
+
+  chosen_tokens : (q : ℕ) → q < states lts → x (tokens_at q) ≡ (k *ℤ chosen (tokens_at q)) +ℤ rest
+  unfolding chosen choose_tokens
+  chosen_tokens q lt = at (cases_lt q (states lts))
+    where
+      at : (d : (q < states lts) ⊎ (states lts ≤ q)) → x (tokens_at q) ≡ (k *ℤ choose_tokens q d) +ℤ rest
+      at (inl h) = (tokens q h).1
+      at (inr h) = absurd (omega arith)
+
+  chosen_parts : AreWholeParts lts k x chosen
+  unfolding chosen choose_tokens choose_effect
+  chosen_parts = record {
+    positive = positive;
+    rest = rest;
+    not_negative = not_negative;
+    below = below;
+    tokens = chosen_tokens;
+    others = λ q le. past_tokens q le (cases_lt q (states lts));
+    effects = λ t e. at_effect t e (cases_Bool (has_label t lts.arcs));
+    unused = λ t e. past_effect t e (cases_Bool (has_label t lts.arcs));
+  }
+    where
+      past_tokens : (q : ℕ) → states lts ≤ q → (d : (q < states lts) ⊎ (states lts ≤ q)) → pos 0 ≤ℤ choose_tokens q d
+      past_tokens q le (inl h) = absurd (omega arith)
+      past_tokens q le (inr h) = omega (arith, ints)
+
+      at_effect : (t : ℕ) → has_label t lts.arcs ≡ true → (d : (has_label t lts.arcs ≡ true) ⊎ (has_label t lts.arcs ≡ false)) → x (effect_of t) ≡ k *ℤ choose_effect t d
+      at_effect t e (inl h) = (effects t h).1
+      at_effect t e (inr h) = absurd (true≢false (sym e ∙ h))
+
+      past_effect : (t : ℕ) → has_label t lts.arcs ≡ false → (d : (has_label t lts.arcs ≡ true) ⊎ (has_label t lts.arcs ≡ false)) → choose_effect t d ≡ pos 0
+      past_effect t e (inl h) = absurd (true≢false (sym h ∙ e))
+      past_effect t e (inr h) = refl
+
+  pub some_parts : (y : Variable → ℤ) × AreWholeParts lts k x y × ((q : ℕ) → q < states lts → x (tokens_at q) ≡ (k *ℤ y (tokens_at q)) +ℤ rest)
+  some_parts = (chosen, chosen_parts, chosen_tokens)
+
+-- whole parts keep the rows
+solve_parts : (lts : System) (class : Class) (problem : Problem) (number : ℕ) (k : ℤ) (x y : Variable → ℤ) → IsInRange lts → IsSeparationProblem lts problem → IsLive lts problem → AreWholeParts lts k x y → KeepsRowsOver lts class problem number k x → HasWholeSolutionIn lts class problem number
+solve_parts lts class problem number k x y fine asked live parts keeps = (
+  λ q. unsigned_abs (y (tokens_at q)),
+  λ t. y (effect_of t),
+  (whole_means lts class problem number (numbers_by (λ q. unsigned_abs (y (tokens_at q))) (λ t. y (effect_of t)))).0
+      (same_numbers lts class problem number y (numbers_by (λ q. unsigned_abs (y (tokens_at q))) (λ t. y (effect_of t))) same (whole_rows lts class problem number k x y fine asked live parts keeps)),
+)
+  where
+    same : (v : Variable) → y v ≡ numbers_by (λ q. unsigned_abs (y (tokens_at q))) (λ t. y (effect_of t)) v
+    same (tokens_at q) = absolute (y (tokens_at q)) (whole_tokens lts class problem number k x y q parts keeps)
+    same (effect_of t) = refl
+
+-- ---- numbers along the tree whose forms are whole
+
+module _ (lts : System) (tree : List Arc) (basis : CycleBasis) (class : Class) (problem : Problem) (number : ℕ) (fine : IsInRange lts) (k : ℤ) (positive : pos 0 <ℤ k) (start : ℤ) (effect : ℕ → ℤ) (e : AreEffects lts tree basis effect) (keeps : KeepsRowsOver lts class problem number k (numbers_along lts tree start effect)) (whole : (split : SplitForm) → Contains (split_forms lts class) split → IsTimes k (numbers_along lts tree start effect (form_variable lts.initial split))) where
+  -- where all tokens are whole
+  pub bounded_parts : is_some class.bound ≡ true → (y : Variable → ℤ) × AreWholeParts lts k (numbers_along lts tree start effect) y × ((q : ℕ) → q < states lts → numbers_along lts tree start effect (tokens_at q) ≡ k *ℤ y (tokens_at q))
+  bounded_parts bound =
+      let tokens : (q : ℕ) → q < states lts → (u : ℤ) × (numbers_along lts tree start effect (tokens_at q) ≡ (k *ℤ u) +ℤ pos 0) = λ q lt. (let (u, h) = whole (on_tokens q) (bounded_has lts class q bound lt) in (u, more _ _ h)) in
+      let effects : (t : ℕ) → has_label t lts.arcs ≡ true → IsTimes k (effect t) = λ t h. of_arc t (label_found t lts.arcs h) in
+      let (y, parts, exact) = some_parts lts k positive (numbers_along lts tree start effect) (pos 0) (omega (arith, ints)) positive tokens effects in
+      (y, parts, λ q lt. less_none (numbers_along lts tree start effect (tokens_at q)) (k *ℤ y (tokens_at q)) (exact q lt))
+    where
+      more : (z y : ℤ) → z ≡ y → z ≡ y +ℤ pos 0
+      more z y e = omega (arith, ints)
+
+      less_none : (z y : ℤ) → z ≡ y +ℤ pos 0 → z ≡ y
+      less_none z y e = omega (arith, ints)
+
+      less : (k a e b u w : ℤ) → a ≡ k *ℤ u → b ≡ k *ℤ w → a +ℤ e ≡ b → e ≡ k *ℤ (w -ℤ u)
+      less k a e b u w h g m = let d : k *ℤ (w -ℤ u) ≡ (k *ℤ w) -ℤ (k *ℤ u) = simp ring (omega (arith, ints)) in omega (arith, ints)
+
+      of_arc : (t : ℕ) → (a : Arc) × Contains lts.arcs a × (a.label ≡ t) → IsTimes k (effect t)
+      of_arc t (a, has, is) =
+          let ranges = arc_in_range lts fine a.from a.label a.to has in
+          let (u, h) = whole (on_tokens a.from) (bounded_has lts class a.from bound ranges.0) in
+          let (w, h') = whole (on_tokens a.to) (bounded_has lts class a.to bound ranges.2) in
+          let m = arc_value lts class problem number k (numbers_along lts tree start effect) a.from a.label a.to keeps has in
+          (w -ℤ u, subst (λ n. effect n ≡ k *ℤ (w -ℤ u)) is (less k _ _ _ u w h h' m))
+
+  -- where all effects of labels with an arc are whole
+  pub plain_parts : is_some class.bound ≡ false → class.plain ≡ true → (y : Variable → ℤ) × AreWholeParts lts k (numbers_along lts tree start effect) y
+  plain_parts bound plain =
+      let effects : (t : ℕ) → has_label t lts.arcs ≡ true → IsTimes k (effect t) = λ t h. (let (a, has, is) = label_found t lts.arcs h in
+      let lt : t < labels lts = subst (λ n. n < labels lts) is (arc_in_range lts fine a.from a.label a.to has).1 in
+      whole (on_effect t) (plain_has lts class t bound plain lt h)) in
+      let parts = parts_by start k positive in
+      let tokens : (q : ℕ) → q < states lts → (u : ℤ) × (numbers_along lts tree start effect (tokens_at q) ≡ (k *ℤ u) +ℤ parts.rest) = λ q lt. (let (u, h) = sum_times k (labels lts) (λ t. pos (parikh tree q t) *ℤ effect t) (λ t below. scaled k (pos (parikh tree q t)) (effect t) (⊎_elim (λ used. effects t used) (λ none. (pos 0, e.unused t none ∙ sym (*ℤ-zero k))) (cases_Bool (has_label t lts.arcs)))) in
+      (parts.part +ℤ u, joined k start _ parts.part parts.rest u parts.is h)) in
+      let (y, are, exact) = some_parts lts k positive (numbers_along lts tree start effect) parts.rest parts.not_negative parts.below tokens effects in
+      (y, are)
+    where
+      scaled : (k n z : ℤ) → IsTimes k z → IsTimes k (n *ℤ z)
+      scaled k n z (u, e) = (n *ℤ u, ap (λ y. n *ℤ y) e ∙ turn n k u)
+        where
+          turn : (n k u : ℤ) → n *ℤ (k *ℤ u) ≡ k *ℤ (n *ℤ u)
+          turn n k u = simp ring
+
+      joined : (k s m a r u : ℤ) → s ≡ (k *ℤ a) +ℤ r → m ≡ k *ℤ u → s +ℤ m ≡ (k *ℤ (a +ℤ u)) +ℤ r
+      joined k s m a r u e h = let d : k *ℤ (a +ℤ u) ≡ (k *ℤ a) +ℤ (k *ℤ u) = simp ring (omega (arith, ints)) in omega (arith, ints)
+
+-- ---- points with whole forms
+
+module _ (lts : System) (tree : List Arc) (basis : CycleBasis) (class : Class) (problem : Problem) (number : ℕ) (case : CaseSystem) (c : IsCaseOver lts tree basis class problem number case) (live : IsLive lts problem) where
+  -- the point gives whole parts
+  point_solution : has_start class ≡ true → ((k : ℤ) (start : ℤ) (effect : ℕ → ℤ) → pos 0 <ℤ k → AreEffects lts tree basis effect → KeepsRowsOver lts class problem number k (numbers_along lts tree start effect) → ((split : SplitForm) → Contains (split_forms lts class) split → IsTimes k (numbers_along lts tree start effect (form_variable lts.initial split))) → (y : Variable → ℤ) × AreWholeParts lts k (numbers_along lts tree start effect) y) → HasWholePoint case → HasWholeSolutionIn lts class problem number
+  point_solution starts parts (scale, v, p, meets, whole) =
+      let (times, start, effect, g) = point_gives lts tree basis class problem number case v c in
+      let k : pos 0 <ℤ (times *ℤ scale) = mul_positive times scale g.positive p.positive in
+      let keeps = (start_means lts tree basis class problem number case start effect (times *ℤ scale) c g.effects k starts).0 ((point_meets lts tree basis class problem number case v scale times start effect c p g).0 meets) in
+      let (y, are) = parts (times *ℤ scale) start effect k g.effects keeps (λ split has. variable_multiple lts tree basis class problem number case c v scale times start effect split starts whole g (form_names lts class split has) has) in
+      solve_parts lts class problem number (times *ℤ scale) (numbers_along lts tree start effect) y c.in_range c.asked live are keeps
+
+  bounded_solution : is_some class.bound ≡ true → HasWholePoint case → HasWholeSolutionIn lts class problem number
+  bounded_solution bound = point_solution (start_of_bound class bound) (λ k start effect positive e keeps whole. (let (y, are, _) = bounded_parts lts tree basis class problem number c.in_range k positive start effect e keeps whole bound in (y, are)))
+
+  plain_solution : is_some class.bound ≡ false → class.plain ≡ true → HasWholePoint case → HasWholeSolutionIn lts class problem number
+  plain_solution bound plain = point_solution (start_of_plain class plain) (λ k start effect positive e keeps whole. plain_parts lts tree basis class problem number c.in_range k positive start effect e keeps whole bound plain)
+
+  -- whole numbers give a point with whole forms
+  whole_point : has_start class ≡ true → HasWholeSolutionIn lts class problem number → HasWholePoint case
+  whole_point starts (tokens, effect, keeps) =
+      let x = numbers_by tokens effect in
+      let keeps' = (whole_means lts class problem number x).1 keeps in
+      let e = effects_given lts tree basis class problem number case x (pos 1) c keeps' in
+      let (v, p, g) = given_point lts tree basis class problem number case (x (tokens_at lts.initial)) (used_effect lts x) (pos 1) c e (omega (arith, ints)) in
+      (pos 1, v, p, (point_meets lts tree basis class problem number case v (pos 1) (pos 1) (x (tokens_at lts.initial)) (used_effect lts x) c p g).1 (meets_given lts tree basis class problem number case x (pos 1) c live (omega (arith, ints)) keeps'), λ f lt. (let (var, names, has, made) = form_there lts tree basis class problem number case f c.is_case lt in whole_forms lts tree basis class problem number case c v (x (tokens_at lts.initial)) (used_effect lts x) f var starts g names made))
+
+  -- a class without forms
+  no_bound : is_some class.bound ≡ false → IsNone class.bound
+  no_bound e = go class.bound e
+    where
+      go : (o : Option ℕ) → is_some o ≡ false → IsNone o
+      go None e = refl
+      go (Some k) e = absurd (true≢false e)
+
+  formless : is_some class.bound ≡ false → class.plain ≡ false → HasWholePoint case ↔ HasWholeSolutionIn lts class problem number
+  formless bound plain = (
+    (λ (scale, v, p, meets, whole). whole_of_solution lts class problem number plain (no_bound bound) ((points_exact lts tree basis class problem number case c live).0 (scale, v, p, meets))),
+    (λ solution. (let (scale, v, p, meets) = (points_exact lts tree basis class problem number case c live).1 (solution_of_whole lts class problem number solution) in
+        (scale, v, p, meets, λ f lt. absurd (none f (form_count lts tree basis class problem number case c.is_case ∙ ap length (no_variable bound plain)) lt)))),
+  )
+    where
+      no_variable : is_some class.bound ≡ false → class.plain ≡ false → split_forms lts class ≡ []
+      no_variable b p = ap (λ x. if x then map on_tokens (all_numbers (states lts)) else (if class.plain then map on_effect (used_labels lts) else [])) b ∙ ap (λ x. if x then map on_effect (used_labels lts) else []) p
+
+      none : (f : ℕ) → length case.forms ≡ 0 → f < length case.forms → ⊥
+      none f e lt = omega arith
+
+  pub whole_points_exact : HasWholePoint case ↔ HasWholeSolutionIn lts class problem number
+  whole_points_exact = ⊎_elim
+      (λ bound. (bounded_solution bound, whole_point (start_of_bound class bound)))
+      (λ bound. ⊎_elim (λ plain. (plain_solution bound plain, whole_point (start_of_plain class plain))) (λ plain. formless bound plain) (cases_Bool class.plain))
+      (cases_Bool (is_some class.bound))
+
+pub whole_point_separates : (lts : System) (tree : List Arc) (basis : CycleBasis) (class : Class) (problem : Problem) (case : ℕ → CaseSystem) → IsLive lts problem → 0 < cases_of lts class problem → ((number : ℕ) → number < cases_of lts class problem → IsCaseOver lts tree basis class problem number (case number)) → SomeCaseHasWholePoint lts class problem case ↔ IsSeparable lts class problem
+whole_point_separates lts tree basis class problem case live some c =
+    let exact = rows_exact lts class problem (c 0 some).in_range (c 0 some).asked some in (
+      (λ (number, lt, point). (let (tokens, effect, keeps) = (whole_points_exact lts tree basis class problem number (case number) (c number lt) live).0 point in exact.1 (number, lt, tokens, effect, keeps))),
+      (λ separable. (let (number, lt, tokens, effect, keeps) = exact.0 separable in (number, lt, (whole_points_exact lts tree basis class problem number (case number) (c number lt) live).1 (tokens, effect, keeps)))),
+    )

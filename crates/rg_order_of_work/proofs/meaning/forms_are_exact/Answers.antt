@@ -1,0 +1,16 @@
+use Rattle.rg_order_of_work.proofs.Forms.{form_value}
+use Rattle.rg_order_of_work.proofs.FormBounds.{forms_bounded}
+use Rattle.rg_order_of_work.proofs.FormRows.{form_multiple, form_fits}
+use Rattle.rg_order_of_work.proofs.meaning.forms_are_exact.Goals as goal
+
+pub returns-clause-value : goal.returns-clause-value
+returns-clause-value c = form_value
+
+pub returns-clause-bounded : goal.returns-clause-bounded
+returns-clause-bounded c = forms_bounded
+
+pub returns-clause-multiple : goal.returns-clause-multiple
+returns-clause-multiple c = form_multiple
+
+pub returns-clause-fit : goal.returns-clause-fit
+returns-clause-fit c = form_fits
