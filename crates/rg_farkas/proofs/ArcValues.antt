@@ -1,48 +1,32 @@
 -- The values of the rows of a case's system where each arc is kept.
-use Rattle.std.proofs.Common.{◌≡◌, ◌≢◌, ◌⊎◌, ⊎_elim, ℕ, zero, suc, ◌+◌, ◌-◌, ◌<◌, ◌≤◌, ◌||◌, Bool, true, false, if◌then◌else◌, List, [], ◌∷◌, length, Ok, Contains, All, inl, inr, ap, ap₂, refl, subst, sym, ◌∙◌, arith}
-use Rattle.std.specs.Prelude.{ℤ, pos, negsuc, ◌+ℤ◌, ◌*ℤ◌, ◌<ℤ◌, ◌≤ℤ◌, int_lt}
-use Rattle.std.proofs.Math.IntN.{zero-*ℤ, *ℤ-zero}
+use Rattle.std.proofs.Common.{◌≡◌, ℕ, Bool, true, false, if◌then◌else◌, List, [], ◌∷◌, Ok, Contains, ap, ap₂, refl, subst, sym, ◌∙◌, arith}
+use Rattle.std.specs.Prelude.{ℤ, pos, ◌+ℤ◌, ◌*ℤ◌}
 use Rattle.std.proofs.lemmas.Int.{ints}
-use Rattle.std.proofs.lemmas.Bool.{true≢false}
-use Rattle.std.proofs.lemmas.List.{length-map, get_or-map}
-use Rattle.std.proofs.lemmas.List.Elements.{All-nil, All-cons, All-head, All-tail, Contains-get_or}
+use Rattle.std.proofs.lemmas.List.Elements.{All-head, All-tail}
 use Rattle.rg_theory.specs.declared.Arc.{Arc}
 use Rattle.rg_theory.specs.declared.Class.{Class}
 use Rattle.rg_theory.specs.declared.Problem.{Problem}
 use Rattle.rg_theory.specs.System.{System, labels}
 use Rattle.rg_theory.specs.Tree.{KeepsArcs, parikh}
-use Rattle.rg_integers.specs.Sum.{sum_below, number_at, dot}
-use Rattle.rg_integers.proofs.Ring.{ring, mul-add}
-use Rattle.rg_integers.proofs.Order.{mul-cancel, mul_positive, mul_negative, positive_differs, factor_positive}
-use Rattle.rg_integers.proofs.Sums.{sum_below-same, sum_below-zero, sum_below-times, sum_below-swap, sum_below-first}
-use Rattle.rg_linear.specs.System.{LinearRow, row_at, entry, AreFarkasMultipliers}
+use Rattle.rg_integers.specs.Sum.{sum_below, dot}
 use Rattle.rg_linear.specs.Cycle.{FollowsRelations, CycleBasis}
-use Rattle.rg_linear.specs.Branching.{weights_from, form_at}
-use Rattle.rg_linear.proofs.Columns.{below_test}
 use Rattle.rg_linear.proofs.Firsts.{kept_is}
 use Rattle.rg_refuting.specs.Expression.{Variable, Variable.tokens_at, Variable.effect_of, Term, value_in}
-use Rattle.rg_refuting.specs.Row.{RowName, RowName.above_row, RowStands, row_expression}
-use Rattle.rg_refuting.specs.Refutes.{NamedRow, constant_sum}
-use Rattle.rg_order_of_work.specs.Fold.{each, whole, mul}
+use Rattle.rg_refuting.specs.Row.{RowName, row_expression}
 use Rattle.rg_order_of_work.specs.Chords.{chord_system}
-use Rattle.rg_order_of_work.specs.Rewriting.{has_label, has_start, names_of, KeptRow, IsIdle, row_fold, CaseSystem, rows_of, system_fold}
+use Rattle.rg_order_of_work.specs.Rewriting.{has_label, has_start, names_of, KeptRow, IsIdle, row_fold, CaseSystem, system_fold}
 use Rattle.rg_order_of_work.specs.Values.{numbers_along, column_values, UnusedAreZero}
 use Rattle.rg_order_of_work.specs.Shown.{IsLive}
-use Rattle.rg_order_of_work.specs.Spreading.{Share, kept_at, side_at, share_fold}
 use Rattle.rg_order_of_work.proofs.SystemRows.{made_from}
 use Rattle.rg_order_of_work.proofs.ExactRows.{row_value_is}
-use Rattle.rg_order_of_work.proofs.Signs.{factor_is_positive}
 use Rattle.rg_order_of_work.specs.Meaning.{IsCaseOver, AreEffects, value_over}
 use Rattle.rg_order_of_work.proofs.Given.{own_number, own_effects}
 use Rattle.rg_order_of_work.proofs.LeftOut.{finds_label}
 use Rattle.rg_order_of_work.proofs.Names.{names_stand, names_labels}
 use Rattle.rg_order_of_work.proofs.CaseRows.{name_no_tokens}
 use Rattle.rg_order_of_work.proofs.Shifts.{same_value}
-use Rattle.rg_order_of_work.proofs.ColumnValues.{row_sum}
-use Rattle.rg_reasons.specs.Certificates.{IsRowNameOf}
-use Rattle.rg_farkas.specs.Refuting.{KeepsEachArc, AreShares, SharesRefute}
-use Rattle.rg_farkas.proofs.Listed.{rows_sum, zero_of}
-use Rattle.rg_farkas.proofs.Names.{IsUsed, NamesUsed, names_in_range, names_used}
+use Rattle.rg_farkas.specs.Refuting.{KeepsEachArc}
+use Rattle.rg_farkas.proofs.Names.{IsUsed, NamesUsed, names_used}
 
 -- ---- the rows of a case's system
 

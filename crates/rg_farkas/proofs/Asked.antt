@@ -1,5 +1,5 @@
 -- What is asked of a spreading: rows within the system, and names in range.
-use Rattle.std.proofs.Common.{ℕ, ◌<◌, List, [], ◌∷◌, ◌++◌, map, drop, length, Ok, Contains, All, refl, subst, sym, arith}
+use Rattle.std.proofs.Common.{ℕ, List, [], ◌∷◌, ◌++◌, map, drop, length, Ok, Contains, All, refl, subst, sym, arith}
 use Rattle.std.specs.Prelude.{ℤ, pos, ◌<ℤ◌}
 use Rattle.std.proofs.lemmas.List.Elements.{All-nil, All-cons, All-head, All-tail, All-map, All-append, All-weaker}
 use Rattle.rg_theory.specs.declared.Arc.{Arc}

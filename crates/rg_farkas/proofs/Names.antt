@@ -1,21 +1,19 @@
 -- The named rows of a case name states of the system and labels with an arc.
-use Rattle.std.proofs.Common.{◌≡◌, ◌⊎◌, ⊎_elim, ℕ, zero, suc, ◌<◌, ◌==◌, ◌&&◌, not, is_some, Bool, true, if◌then◌else◌, List, [], ◌∷◌, ◌++◌, map, Contains, All, inl, inr, sym, subst, ◌∙◌, arith}
-use Rattle.std.proofs.lemmas.Bool.{and_parts, true≢false, cases_Bool}
-use Rattle.std.proofs.lemmas.List.Elements.{All-nil, All-cons, Contains-append_cases}
+use Rattle.std.proofs.Common.{◌≡◌, ⊎_elim, ℕ, zero, suc, ◌<◌, true, List, [], ◌∷◌, Contains, All, subst, arith}
+use Rattle.std.proofs.lemmas.List.Elements.{All-nil, All-cons}
 use Rattle.rg_theory.specs.declared.Class.{Class}
 use Rattle.rg_theory.specs.declared.Problem.{Problem}
 use Rattle.rg_theory.specs.declared.Problem.TheVariants.{Event, States}
-use Rattle.rg_theory.specs.System.{System, HasArc, states, labels}
+use Rattle.rg_theory.specs.System.{System, states, labels}
 use Rattle.rg_theory.proofs.Lists.{Contains-cons_cases}
 use Rattle.rg_refuting.specs.Expression.{Variable, Variable.tokens_at, Variable.effect_of, Term, plus, minus}
-use Rattle.rg_refuting.specs.Row.{RowName, RowName.tokens_row, RowName.cap_row, RowName.up_row, RowName.down_row, RowName.makes_row, RowName.apart_row, row_expression, apart_expression, order_of, case_consumer}
+use Rattle.rg_refuting.specs.Row.{RowName, RowName.apart_row, row_expression, apart_expression, order_of}
 use Rattle.rg_refuting.specs.Refutes.{IsSeparationProblem}
-use Rattle.rg_order_of_work.specs.Rewriting.{has_label, has_label_at, numbers_where, has_start, used_labels, all_numbers, states_with, problem_rows, names_of}
+use Rattle.rg_order_of_work.specs.Rewriting.{has_label, has_label_at, states_with, names_of}
 use Rattle.rg_order_of_work.specs.Shown.{IsLive}
-use Rattle.rg_order_of_work.proofs.Lists.{nothing, Contains-of_map, where_is, of_optional, in_one_of}
+use Rattle.rg_order_of_work.proofs.Lists.{nothing, where_is}
 use Rattle.rg_order_of_work.proofs.Names.{each_problem_name, each_name}
 use Rattle.rg_order_of_work.proofs.Kept.{live_label}
-use Rattle.rg_order_of_work.proofs.LeftOut.{finds_label}
 use Rattle.rg_reasons.specs.Certificates.{IsRowNameOf}
 
 -- a state, or a label with an arc

@@ -1,43 +1,22 @@
 -- What the shares of a node's weights are, and add up to.
-use Rattle.std.proofs.Common.{◌≡◌, ◌≢◌, ◌⊎◌, ⊎_elim, ℕ, zero, suc, ◌+◌, ◌-◌, ◌^◌, ◌<◌, ◌≤◌, ◌||◌, is_some, Bool, true, false, if◌then◌else◌, List, [], ◌∷◌, ◌++◌, length, length-append, map, Ok, Contains, All, Some, inl, inr, ap, ap₂, refl, subst, sym, ◌∙◌, arith}
-use Rattle.std.specs.Prelude.{ℤ, pos, negsuc, neg_ℤ, ◌+ℤ◌, ◌-ℤ◌, ◌*ℤ◌, ◌<ℤ◌, ◌≤ℤ◌, int_lt, slice_get, slice_index_or}
+use Rattle.std.proofs.Common.{◌≡◌, ◌≢◌, ◌⊎◌, ⊎_elim, ℕ, zero, suc, ◌+◌, ◌<◌, ◌≤◌, ◌||◌, Bool, true, false, if◌then◌else◌, List, [], ◌∷◌, Ok, All, inl, inr, ap, ap₂, refl, subst, sym, ◌∙◌, arith}
+use Rattle.std.specs.Prelude.{ℤ, pos, negsuc, ◌+ℤ◌, ◌*ℤ◌, ◌<ℤ◌, ◌≤ℤ◌, int_lt}
 use Rattle.std.proofs.Math.IntN.{zero-*ℤ, *ℤ-zero}
 use Rattle.std.proofs.lemmas.Int.{ints}
-use Rattle.std.proofs.lemmas.Bool.{true≢false, cases_lt}
-use Rattle.std.proofs.lemmas.List.{length-map, get_or-map}
-use Rattle.std.proofs.lemmas.List.Elements.{All-nil, All-cons, All-get_or, Contains-get_or}
-use Rattle.rg_theory.specs.declared.Arc.{Arc}
-use Rattle.rg_theory.specs.declared.Class.{Class}
-use Rattle.rg_theory.specs.declared.Problem.{Problem}
-use Rattle.rg_theory.specs.declared.Problem.TheVariants.{Event, States}
-use Rattle.rg_theory.specs.System.{System, states, labels}
-use Rattle.rg_integers.specs.Sum.{sum_below, number_at, dot}
+use Rattle.std.proofs.lemmas.Bool.{true≢false}
+use Rattle.std.proofs.lemmas.List.Elements.{All-nil, All-cons}
+use Rattle.rg_integers.specs.Sum.{sum_below}
 use Rattle.rg_integers.proofs.Ring.{ring, mul-add}
-use Rattle.rg_integers.proofs.Order.{mul-cancel, mul_positive, mul_negative, positive_differs, factor_positive}
-use Rattle.rg_integers.proofs.Sums.{sum_below-same, sum_below-zero, sum_below-times, sum_below-swap, sum_below-first}
-use Rattle.rg_linear.specs.System.{LinearRow, LinearSystem, row_at, entry, AreFarkasMultipliers}
-use Rattle.rg_linear.specs.Cycle.{CycleBasis}
-use Rattle.rg_linear.specs.Branching.{weights_from, Form, form_at, SplitSide, side_row, node_system}
-use Rattle.rg_linear.proofs.Columns.{below_test, past_test}
-use Rattle.rg_linear.proofs.Splits.{index-front}
-use Rattle.rg_refuting.specs.Expression.{Variable, Variable.tokens_at, Variable.effect_of, Expression, plus, minus, sum_of, value_in}
-use Rattle.rg_refuting.specs.Row.{Form as SplitForm, Form.on_tokens, Form.on_effect, form_variable, RowName, RowName.arc_row, RowName.tokens_row, RowName.cap_row, RowName.up_row, RowName.down_row, RowName.makes_row, RowName.stop_row, RowName.block_row, RowName.empty_row, RowName.full_row, RowName.keep_row, RowName.apart_row, RowName.above_row, Side, RowStands, row_expression, side_expression}
-use Rattle.rg_refuting.specs.Refutes.{NamedRow, constant_sum}
-use Rattle.rg_order_of_work.specs.Fold.{each, whole, Ratio}
-use Rattle.rg_order_of_work.specs.Rewriting.{has_label, has_start, split_forms, form_fold, used_labels, all_numbers, KeptRow, CaseSystem, rows_of}
-use Rattle.rg_order_of_work.specs.Values.{numbers_along, column_values}
-use Rattle.rg_order_of_work.specs.Shown.{IsLive, named_side, named_sides}
-use Rattle.rg_order_of_work.specs.Spreading.{Share, kept_at, side_at, name_of, factor_of, share_fold}
-use Rattle.rg_order_of_work.proofs.Signs.{factor_is_positive}
-use Rattle.rg_order_of_work.specs.Meaning.{IsCaseOver}
-use Rattle.rg_order_of_work.proofs.Lists.{Contains-of_map, where_is, of_if, of_optional}
-use Rattle.rg_order_of_work.proofs.Names.{names_stand}
-use Rattle.rg_order_of_work.proofs.ColumnValues.{row_sum}
-use Rattle.rg_order_of_work.proofs.Forms.{form_named, form_value, form_positive, start_of_bound, start_of_plain}
-use Rattle.rg_reasons.specs.Certificates.{IsRowNameOf}
-use Rattle.rg_farkas.specs.Refuting.{KeepsEachArc, AreShares, SharesRefute}
+use Rattle.rg_integers.proofs.Order.{mul-cancel, mul_positive, positive_differs, factor_positive}
+use Rattle.rg_integers.proofs.Sums.{sum_below-same, sum_below-first}
+use Rattle.rg_linear.specs.Branching.{weights_from, SplitSide}
+use Rattle.rg_refuting.specs.Row.{RowName}
+use Rattle.rg_refuting.specs.Refutes.{NamedRow}
+use Rattle.rg_order_of_work.specs.Fold.{each}
+use Rattle.rg_order_of_work.specs.Rewriting.{CaseSystem}
+use Rattle.rg_order_of_work.specs.Spreading.{Share, name_of, factor_of, share_fold}
+use Rattle.rg_farkas.specs.Refuting.{AreShares}
 use Rattle.rg_farkas.proofs.Listed.{rows_sum, zero_of}
-use Rattle.rg_farkas.proofs.Names.{IsUsed, names_in_range}
 
 -- ---- the shares of weights
 

@@ -34,7 +34,7 @@ use Rattle.rg_order_of_work.proofs.SystemRows.{made_of}
 use Rattle.rg_order_of_work.proofs.Forms.{form_named, start_of_bound}
 
 -- the row has the terms of the form
-same_terms : (lts : System) (class : Class) (problem : Problem) (n : ℕ) (split : SplitForm) → (row_expression lts class problem n [] (form_row split)).terms ≡ plus (form_variable lts.initial split) ∷ []
+pub same_terms : (lts : System) (class : Class) (problem : Problem) (n : ℕ) (split : SplitForm) → (row_expression lts class problem n [] (form_row split)).terms ≡ plus (form_variable lts.initial split) ∷ []
 same_terms lts class (Event s t) n (on_tokens q) = refl
 same_terms lts class (Event s t) n (on_effect u) = refl
 same_terms lts class (States s s') n (on_tokens q) = refl
@@ -69,7 +69,7 @@ form_row_named lts class problem n split fine has = ⊎_elim
     down_stands (Event s u) t lt plain = (lt, plain)
     down_stands (States s s') t lt plain = (lt, plain)
 
-number_times : (d : ℤ) (xs : List ℤ) (j : ℕ) → number_at (map (λ z. d *ℤ z) xs) j ≡ d *ℤ number_at xs j
+pub number_times : (d : ℤ) (xs : List ℤ) (j : ℕ) → number_at (map (λ z. d *ℤ z) xs) j ≡ d *ℤ number_at xs j
 number_times d [] j = sym (*ℤ-zero d)
 number_times d (x ∷ xs) zero = refl
 number_times d (x ∷ xs) (suc j) = number_times d xs j

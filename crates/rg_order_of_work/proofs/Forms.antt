@@ -32,7 +32,7 @@ pub each_length : {A X : Type 0} (make : A → Result X Wide → Type 0) (items 
 each_length make [] xs e = ap length e
 each_length make (a ∷ items) xs (x, is, (rest, each_is, e)) = ap length e ∙ ap suc (each_length make items rest each_is)
 
-each_at : {A X : Type 0} (make : A → Result X Wide → Type 0) (items : List A) (xs : List X) (f : ℕ) (a : A) (d : X) → each make items (Ok xs) → f < length items → make (slice_index_or items f a) (Ok (slice_index_or xs f d))
+pub each_at : {A X : Type 0} (make : A → Result X Wide → Type 0) (items : List A) (xs : List X) (f : ℕ) (a : A) (d : X) → each make items (Ok xs) → f < length items → make (slice_index_or items f a) (Ok (slice_index_or xs f d))
 each_at make [] xs f a d e lt = absurd (omega arith)
 each_at make (b ∷ items) xs zero a d (x, is, (rest, each_is, e)) lt = subst (λ l. make b (Ok (slice_index_or l 0 d))) (sym e) is
 each_at make (b ∷ items) xs (suc f) a d (x, is, (rest, each_is, e)) lt = subst (λ l. make (slice_index_or items f a) (Ok (slice_index_or l (suc f) d))) (sym e) (each_at make items rest f a d each_is (omega arith))

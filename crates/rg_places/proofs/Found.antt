@@ -90,6 +90,23 @@ not_bounded (Some k) e = absurd (true≢false e)
 abbrev pub whole_by : Bool → List Ratio → List Ratio → Type 0
 whole_by b numbers found = Rattle.rg_order_of_work.specs.Fold.either b (Rattle.rg_order_of_work.specs.Fold.gives numbers) (Rattle.rg_order_of_work.specs.Fold.and_then (multiple_of_all (map (λ r. r.bottom) numbers)) (λ m. each (λ r. mul r (whole m)) numbers)) (Ok found)
 
+-- the effects and Start behind them, over the scale
+module _ (lts : System) (tree : List Arc) (basis : CycleBasis) (start : Ratio) (value : ℕ → Ratio) (first : ℤ) (effect : ℕ → ℤ) (scale : ℤ) (effects : List Ratio) (is : IsBasis lts tree basis) (e : AreEffects lts tree basis effect) (v : AreValuesOf lts basis start value first effect scale) (made : each (effect_fold lts basis value) (all_numbers (labels lts)) (Ok effects)) where
+  effects_count : length effects ≡ labels lts
+  effects_count = each_length (effect_fold lts basis value) (all_numbers (labels lts)) effects made ∙ all_length (labels lts)
+
+  pub label_at : (t : ℕ) → t < labels lts → IsOverAt scale (ratio_at (effects ++ start ∷ []) t) (effect t)
+  label_at t lt = subst (λ r. IsOverAt scale r (effect t)) (sym (get_or_append_left effects (start ∷ []) (whole (pos 0)) t (subst (λ n. t < n) (sym effects_count) lt)))
+      (effect_is lts tree basis start value first effect scale t (ratio_at effects t) is e v lt
+      (subst (λ u. effect_fold lts basis value u (Ok (ratio_at effects t))) (all_at (labels lts) t lt)
+      (each_at (effect_fold lts basis value) (all_numbers (labels lts)) effects 0 (whole (pos 0)) t made (subst (λ n. t < n) (sym (all_length (labels lts))) lt))))
+
+  pub start_at : IsOverAt scale (ratio_at (effects ++ start ∷ []) (labels lts)) first
+  start_at = subst (λ r. IsOverAt scale r first) (sym (get_or-append_right effects (start ∷ []) (labels lts) (labels lts) (whole (pos 0)) effects_count (omega arith) ∙ ap (λ k. ratio_at (start ∷ []) k) (none (labels lts)))) (v.start_is, v.start_bottom)
+    where
+      none : (n : ℕ) → n - n ≡ 0
+      none n = omega arith
+
 pub found_is : (lts : System) (tree : List Arc) (basis : CycleBasis) (class : Class) (start : Ratio) (value : ℕ → Ratio) (first : ℤ) (effect : ℕ → ℤ) (scale : ℤ) (effects found : List Ratio) → class.plain ≡ false → IsNone class.bound → IsBasis lts tree basis → AreEffects lts tree basis effect → AreValuesOf lts basis start value first effect scale → each (effect_fold lts basis value) (all_numbers (labels lts)) (Ok effects) → made_whole class (effects ++ start ∷ []) (Ok found) → (m : ℤ) × AreFound lts found first effect scale m
 found_is lts tree basis class start value first effect scale effects found plain bound is e v made whole_made =
     let (m, multiple, products) = subst (λ b. whole_by b numbers found) (ap₂ ◌||◌ plain (not_bounded class.bound bound)) whole_made in (
@@ -106,23 +123,14 @@ found_is lts tree basis class start value first effect scale effects found plain
     numbers : List Ratio
     numbers = effects ++ start ∷ []
 
-    count : length effects ≡ labels lts
-    count = each_length (effect_fold lts basis value) (all_numbers (labels lts)) effects made ∙ all_length (labels lts)
-
     many : length (effects ++ start ∷ []) ≡ labels lts + 1
-    many = length-append effects (start ∷ []) ∙ ap (λ n. n + 1) count
+    many = length-append effects (start ∷ []) ∙ ap (λ n. n + 1) (effects_count lts tree basis start value first effect scale effects is e v made)
 
     at_label : (t : ℕ) → t < labels lts → IsOverAt scale (ratio_at (effects ++ start ∷ []) t) (effect t)
-    at_label t lt = subst (λ r. IsOverAt scale r (effect t)) (sym (get_or_append_left effects (start ∷ []) (whole (pos 0)) t (subst (λ n. t < n) (sym count) lt)))
-        (effect_is lts tree basis start value first effect scale t (ratio_at effects t) is e v lt
-        (subst (λ u. effect_fold lts basis value u (Ok (ratio_at effects t))) (all_at (labels lts) t lt)
-        (each_at (effect_fold lts basis value) (all_numbers (labels lts)) effects 0 (whole (pos 0)) t made (subst (λ n. t < n) (sym (all_length (labels lts))) lt))))
+    at_label = label_at lts tree basis start value first effect scale effects is e v made
 
     at_start : IsOverAt scale (ratio_at (effects ++ start ∷ []) (labels lts)) first
-    at_start = subst (λ r. IsOverAt scale r first) (sym (get_or-append_right effects (start ∷ []) (labels lts) (labels lts) (whole (pos 0)) count (omega arith) ∙ ap (λ k. ratio_at (start ∷ []) k) (none (labels lts)))) (v.start_is, v.start_bottom)
-      where
-        none : (n : ℕ) → n - n ≡ 0
-        none n = omega arith
+    at_start = start_at lts tree basis start value first effect scale effects is e v made
 
     at : (i : ℕ) → i < length (effects ++ start ∷ []) → (z : ℤ) × IsOverAt scale (ratio_at (effects ++ start ∷ []) i) z
     at i lt = ⊎_elim (λ low. (effect i, at_label i low)) (λ le. (first, subst (λ k. IsOverAt scale (ratio_at (effects ++ start ∷ []) k) first) (last le) at_start)) (cases_lt i (labels lts))

@@ -17,6 +17,7 @@ use Rattle.rg_order_of_work.specs.Rewriting.{all_numbers, has_start, CaseSystem}
 use Rattle.rg_order_of_work.specs.Values.{numbers_along}
 use Rattle.rg_order_of_work.specs.Placing.{negated, ratio_at, along_tree, least_of, is_shifted, shift_fold, top_at}
 use Rattle.rg_order_of_work.specs.Meaning.{KeepsRowsOver, shifted, IsCaseOver, AreEffects, MeetsCase}
+use Rattle.rg_order_of_work.proofs.Whole.{at_one}
 use Rattle.rg_order_of_work.proofs.CaseMeaning.{start_means, no_start_means, shift_means}
 use Rattle.rg_cycles.proofs.Items.{each_length}
 use Rattle.rg_places.proofs.Wholes.{add_whole, each_at}
@@ -57,16 +58,15 @@ shifted_at list numbers n p some (count, at) made =
 
 -- ---- numbers that keep all rows
 
-pub record AreKept (lts : System) (class : Class) (problem : Problem) (number : ℕ) (found numbers : List Ratio) (x : Variable → ℤ) (scale : ℤ) : Type 0 where
-  pub positive : pos 0 <ℤ scale
-  pub keeps : KeepsRowsOver lts class problem number scale x
+pub record AreKept (lts : System) (class : Class) (problem : Problem) (number : ℕ) (found numbers : List Ratio) (x : Variable → ℤ) : Type 0 where
+  pub keeps : KeepsRowsOver lts class problem number (pos 1) x
   pub at : AreWholeAt numbers (states lts) (λ s. x (tokens_at s))
   pub effects : (t : ℕ) → t < labels lts → top_at found t ≡ x (effect_of t)
 
 abbrev pub shift_by : Bool → List Ratio → List Ratio → Type 0
 shift_by b list numbers = either b (each (λ m. add m (negated (least_of list))) list) (gives list) (Ok numbers)
 
-pub kept_is : (lts : System) (tree : List Arc) (basis : CycleBasis) (class : Class) (problem : Problem) (number : ℕ) (case : CaseSystem) (first : ℤ) (effect : ℕ → ℤ) (scale m : ℤ) (found numbers : List Ratio) (out : ℕ → Ratio) → class.plain ≡ false → IsNone class.bound → IsCaseOver lts tree basis class problem number case → AreEffects lts tree basis effect → pos 0 <ℤ scale → AreFound lts found first effect scale m → MeetsCase lts basis class case first effect scale → along_tree (ratio_at found) (λ s. ratio_at found (labels lts)) tree (Ok out) → shift_fold class (map out (all_numbers (states lts))) (Ok numbers) → (x : Variable → ℤ) × AreKept lts class problem number found numbers x m
+pub kept_is : (lts : System) (tree : List Arc) (basis : CycleBasis) (class : Class) (problem : Problem) (number : ℕ) (case : CaseSystem) (first : ℤ) (effect : ℕ → ℤ) (scale m : ℤ) (found numbers : List Ratio) (out : ℕ → Ratio) → class.plain ≡ false → IsNone class.bound → IsCaseOver lts tree basis class problem number case → AreEffects lts tree basis effect → pos 0 <ℤ scale → AreFound lts found first effect scale m → MeetsCase lts basis class case first effect scale → along_tree (ratio_at found) (λ s. ratio_at found (labels lts)) tree (Ok out) → shift_fold class (map out (all_numbers (states lts))) (Ok numbers) → (x : Variable → ℤ) × AreKept lts class problem number found numbers x
 kept_is lts tree basis class problem number case first effect scale m found numbers out plain bound c e positive f met made shift = ⊎_elim pure_case other_case (cases_Bool class.pure)
   where
     start : ℤ
@@ -96,27 +96,25 @@ kept_is lts tree basis class problem number case first effect scale m found numb
     moves : (b : Bool) → class.pure ≡ b → is_shifted class ≡ (not false && (false || not b))
     moves b is = ap₂ (λ x y. not x && y) (not_bounded class.bound bound) (ap₂ (λ x y. x || not y) plain is)
 
-    pure_case : class.pure ≡ true → (x : Variable → ℤ) × AreKept lts class problem number found numbers x m
+    pure_case : class.pure ≡ true → (x : Variable → ℤ) × AreKept lts class problem number found numbers x
     pure_case pure =
         let stays : numbers ≡ map out (all_numbers (states lts)) = subst (λ b. shift_by b (map out (all_numbers (states lts))) numbers) (moves true pure) shift in (
           numbers_along lts tree (top_at found (labels lts)) (found_effect lts found),
           record {
-            positive = f.positive;
-            keeps = (start_means lts tree basis class problem number case (top_at found (labels lts)) (found_effect lts found) m c effects f.positive (ap (λ b. b || (class.plain || is_some class.bound)) pure)).0 meets;
+            keeps = at_one lts class problem number m (numbers_along lts tree (top_at found (labels lts)) (found_effect lts found)) plain bound f.positive ((start_means lts tree basis class problem number case (top_at found (labels lts)) (found_effect lts found) m c effects f.positive (ap (λ b. b || (class.plain || is_some class.bound)) pure)).0 meets);
             at = subst (λ l. AreWholeAt l (states lts) (potential lts tree (top_at found (labels lts)) (found_effect lts found))) (sym stays) at;
             effects = same;
           },
         )
 
-    other_case : class.pure ≡ false → (x : Variable → ℤ) × AreKept lts class problem number found numbers x m
+    other_case : class.pure ≡ false → (x : Variable → ℤ) × AreKept lts class problem number found numbers x
     other_case impure =
         let starts : has_start class ≡ false = ap₂ (λ x y. x || y) impure (ap₂ (λ x y. x || y) plain (not_bounded class.bound bound)) in
         let moved = subst (λ b. shift_by b (map out (all_numbers (states lts))) numbers) (moves false impure) shift in
         let (by, at', above) = shifted_at (map out (all_numbers (states lts))) numbers (states lts) (potential lts tree (top_at found (labels lts)) (found_effect lts found)) (let lt = c.in_range.initial in omega arith) at moved in (
           shifted by (numbers_along lts tree (top_at found (labels lts)) (found_effect lts found)),
           record {
-            positive = f.positive;
-            keeps = shift_means lts tree basis class problem number case (top_at found (labels lts)) (found_effect lts found) m by c starts ((no_start_means lts tree basis class problem number case (top_at found (labels lts)) (found_effect lts found) m c effects f.positive starts).0 meets) above;
+            keeps = at_one lts class problem number m (shifted by (numbers_along lts tree (top_at found (labels lts)) (found_effect lts found))) plain bound f.positive (shift_means lts tree basis class problem number case (top_at found (labels lts)) (found_effect lts found) m by c starts ((no_start_means lts tree basis class problem number case (top_at found (labels lts)) (found_effect lts found) m c effects f.positive starts).0 meets) above);
             at = at';
             effects = same;
           },

@@ -2,7 +2,11 @@ pub mod Wholes
 pub mod EffectValues
 pub mod Found
 pub mod Moved
+pub mod Overs
+pub mod Reduced
+pub mod Lowered
 pub mod Kept
+pub mod WholeKept
 pub mod PlaceWeights
 pub mod Made
 pub mod Points

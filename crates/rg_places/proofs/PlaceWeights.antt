@@ -114,6 +114,15 @@ given_at g e n i post made lt =
     close : (x y : ℤ) → (x *ℤ pos 1) -ℤ (neg_ℤ y *ℤ pos 1) ≡ x +ℤ y
     close x y = omega (arith, ints)
 
+-- what is taken is a number of the sum
+pub taken_in_range : (g e : ℕ → ℤ) (n i : ℕ) (post : List ℤ) → each (λ u. whole_sum (g u) (e u)) (all_numbers n) (Ok post) → i < n → InRange (g i)
+taken_in_range g e n i post made lt =
+    let (fits, is) = subst (λ u. whole_sum (g u) (e u) (Ok (number_at post i))) (all_at n i lt) (each_at (λ u. whole_sum (g u) (e u)) (all_numbers n) post 0 (pos 0) i made (subst (λ k. i < k) (sym (all_length n)) lt)) in
+    subst InRange (once (g i)) fits.left
+  where
+    once : (z : ℤ) → z *ℤ pos 1 ≡ z
+    once z = omega (arith, ints)
+
 pub given_length : (g e : ℕ → ℤ) (n : ℕ) (post : List ℤ) → each (λ u. whole_sum (g u) (e u)) (all_numbers n) (Ok post) → length post ≡ n
 given_length g e n post made = each_length (λ u. whole_sum (g u) (e u)) (all_numbers n) post made ∙ all_length n
 

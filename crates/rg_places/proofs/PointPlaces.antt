@@ -18,7 +18,8 @@ use Rattle.rg_order_of_work.specs.Placing.{ratio_at}
 use Rattle.rg_order_of_work.specs.Shown.{IsValueAt, PointOf}
 use Rattle.rg_order_of_work.specs.Meaning.{first_column}
 use Rattle.rg_cycles.proofs.Labels.{where_order}
-use Rattle.rg_places.specs.Places.{AreAtPoint}
+use Rattle.rg_places.specs.Places.{IsReduced, AreAtPoint}
+use Rattle.rg_places.proofs.Overs.{whole_reduced}
 use Rattle.rg_places.specs.PointValues.{ratios_of, ratio_beside, point_start, point_value, HasValues}
 use Rattle.rg_places.specs.Steps.{value_by, AreFreeColumns}
 use Rattle.rg_places.specs.declared.columns.Column.{Column}
@@ -75,12 +76,22 @@ module _ (lts : System) (basis : CycleBasis) (class : Class) (point : List Fract
       go (x ∷ xs) zero = x.positive
       go (x ∷ xs) (suc j) = go xs j
 
+  is_reduced : (j : ℕ) → IsReduced (ratio_at (ratios_of point) j)
+  is_reduced j = go point j
+    where
+      go : (xs : List Fraction) (j : ℕ) → IsReduced (ratio_at (ratios_of xs) j)
+      go [] j = whole_reduced (pos 0)
+      go (x ∷ xs) zero = x.reduced
+      go (x ∷ xs) (suc j) = go xs j
+
   -- where the fractions are the values of a point, so are Start and the values of the labels
   pub at_point : (scale : ℤ) (v : ℕ → ℤ) → HasValues scale v point → AreAtPoint lts basis class scale v (point_start class point) (point_value lts basis class point)
   at_point scale v values = record {
     start_bottom = start_bottom (has_start class);
+    start_reduced = start_reduced (has_start class);
     start_is = λ e. subst (λ (r : Ratio). SameValue r.top r.bottom (v 0) scale) (sym (ap (λ b. if b then ratio_at (ratios_of point) 0 else whole (pos 0)) e)) (values 0 (start_there e));
     no_start = λ e. ap (λ b. if b then ratio_at (ratios_of point) 0 else whole (pos 0)) e;
+    reduced = λ i lt. subst IsReduced (sym (value_at_column lts basis class point i lt)) (is_reduced (first_column class + i));
     bottoms = λ i lt. subst (λ (r : Ratio). pos 0 <ℤ r.bottom) (sym (value_at_column lts basis class point i lt)) (bottom_positive (first_column class + i));
     values = λ i lt. subst (λ (r : Ratio). SameValue r.top r.bottom (v (first_column class + i)) scale) (sym (value_at_column lts basis class point i lt)) (values (first_column class + i) (within i lt));
   }
@@ -91,6 +102,10 @@ module _ (lts : System) (basis : CycleBasis) (class : Class) (point : List Fract
       start_bottom : (b : Bool) → pos 0 <ℤ (if b then ratio_at (ratios_of point) 0 else whole (pos 0)).bottom
       start_bottom true = bottom_positive 0
       start_bottom false = omega (arith, ints)
+
+      start_reduced : (b : Bool) → IsReduced (if b then ratio_at (ratios_of point) 0 else whole (pos 0))
+      start_reduced true = is_reduced 0
+      start_reduced false = whole_reduced (pos 0)
 
   -- where they are the values of the columns at a set, so are Start and the values of the labels
   pub point_of : (system : LinearSystem) (members : List ℕ) → ((j : ℕ) → j < length point → IsValueAt system members j (ratio_at (ratios_of point) j)) → PointOf lts basis class system members (point_start class point) (point_value lts basis class point)

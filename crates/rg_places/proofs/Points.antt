@@ -1,5 +1,5 @@
 -- The place of a point that meets every row of the case's system.
-use Rattle.std.proofs.Common.{◌≡◌, ⊎_elim, ℕ, ◌+◌, ◌<◌, false, if◌then◌else◌, IsNone, List, [], ◌∷◌, ◌++◌, length, slice_index_or, Contains, Ok, refl, sym, ap, subst, ◌∙◌, arith}
+use Rattle.std.proofs.Common.{◌≡◌, ⊎_elim, ℕ, ◌+◌, ◌<◌, false, if◌then◌else◌, List, [], ◌∷◌, ◌++◌, length, slice_index_or, Contains, Ok, refl, sym, ap, subst, ◌∙◌, arith}
 use Rattle.std.specs.Prelude.{ℤ, pos, ◌*ℤ◌, ◌<ℤ◌}
 use Rattle.std.proofs.lemmas.Int.{ints}
 use Rattle.std.proofs.lemmas.Bool.{cases_Bool}
@@ -16,7 +16,7 @@ use Rattle.rg_integers.proofs.Order.{mul-cancel, mul_positive, positive_differs}
 use Rattle.rg_linear.specs.System.{LinearSystem, IsPoint, MeetsRows}
 use Rattle.rg_linear.specs.Dictionary.{Relation, DictionaryRow}
 use Rattle.rg_linear.specs.Descent.{IsAtZero}
-use Rattle.rg_linear.specs.Branching.{Form, SplitSide, node_system, AllWhole, BranchOutcome, BranchOutcome.found, low_side, high_side, BranchFrom, BranchFrom.passes, BranchFrom.refutes, BranchFrom.whole as whole_end, BranchFrom.low_ends, BranchFrom.high_ends, BranchFrom.both_refuted, Branching}
+use Rattle.rg_linear.specs.Branching.{Form, form_at, FormsWhole, SplitSide, node_system, AllWhole, BranchOutcome, BranchOutcome.found, low_side, high_side, BranchFrom, BranchFrom.passes, BranchFrom.refutes, BranchFrom.whole as whole_end, BranchFrom.low_ends, BranchFrom.high_ends, BranchFrom.both_refuted, Branching}
 use Rattle.rg_linear.proofs.Points.{constant_left}
 use Rattle.rg_linear.proofs.Splits.{found_is_sound}
 use Rattle.rg_linear.specs.Cycle.{CycleBasis}
@@ -26,10 +26,12 @@ use Rattle.rg_order_of_work.specs.Rewriting.{has_label, free_labels, free_column
 use Rattle.rg_order_of_work.specs.Values.{picked}
 use Rattle.rg_order_of_work.specs.Placing.{place_fold}
 use Rattle.rg_order_of_work.specs.Meaning.{IsCaseOver, AreGivenBy, first_column}
+use Rattle.rg_order_of_work.proofs.Forms.{point_form}
 use Rattle.rg_order_of_work.proofs.PointEffects.{point_gives}
 use Rattle.rg_order_of_work.proofs.Points.{point_meets}
 use Rattle.rg_order_of_work.proofs.ColumnValues.{first_value, free_value, start_below, free_below}
-use Rattle.rg_places.specs.Places.{AreValuesOf, AreAtPoint, PlaceIsMade}
+use Rattle.rg_places.specs.Places.{IsReduced, AreFormsWhole, AreValuesOf, AreAtPoint, PlaceIsMade}
+use Rattle.rg_places.proofs.Overs.{whole_reduced}
 use Rattle.rg_places.proofs.Made.{place_made}
 
 -- where Start is no column, the columns don't depend on it
@@ -57,7 +59,9 @@ given_values : (lts : System) (tree : List Arc) (basis : CycleBasis) (class : Cl
 given_values lts tree basis class problem number case v scale times first effect start value c positive g a start_is = record {
   positive = mul_positive times scale g.positive positive;
   start_bottom = a.start_bottom;
+  start_reduced = a.start_reduced;
   start_is = start_is;
+  reduced = λ f (i, lt, e). subst (λ u. IsReduced (value u)) (there f i lt e) (a.reduced i lt);
   bottoms = λ f (i, lt, e). subst (λ u. pos 0 <ℤ (value u).bottom) (there f i lt e) (a.bottoms i lt);
   values = λ f (i, lt, e). subst (λ u. SameValue (value u).top (value u).bottom (effect u) (times *ℤ scale)) (there f i lt e) (over_multiple (value (slice_index_or (free_columns lts basis) i 0)).top (value (slice_index_or (free_columns lts basis) i 0)).bottom (v (first_column class + i)) scale times (effect (slice_index_or (free_columns lts basis) i 0)) (a.values i lt) (at i lt));
 }
@@ -68,8 +72,17 @@ given_values lts tree basis class problem number case v scale times first effect
     at : (i : ℕ) → i < length (free_columns lts basis) → times *ℤ v (first_column class + i) ≡ effect (slice_index_or (free_columns lts basis) i 0)
     at i lt = g.columns (first_column class + i) (free_below lts tree basis class problem number case i c.is_case lt) ∙ free_value lts basis class first effect i lt
 
-pub point_makes : (lts : System) (tree : List Arc) (basis : CycleBasis) (class : Class) (problem : Problem) (number : ℕ) (case : CaseSystem) (scale : ℤ) (v : ℕ → ℤ) (start : Ratio) (value : ℕ → Ratio) (place : Place) → class.plain ≡ false → IsNone class.bound → IsCaseOver lts tree basis class problem number case → IsLive lts problem → IsPoint (rows_of case) scale v → MeetsRows (rows_of case) v → AreAtPoint lts basis class scale v start value → place_fold lts tree basis class problem start value (Ok place) → PlaceIsMade lts tree basis class problem start value place
-point_makes lts tree basis class problem number case scale v start value place plain bound c live p met a fold =
+-- forms that are whole at a point are so at what it gives
+forms_over : (lts : System) (tree : List Arc) (basis : CycleBasis) (class : Class) (problem : Problem) (number : ℕ) (case : CaseSystem) (v : ℕ → ℤ) (scale times first : ℤ) (effect : ℕ → ℤ) → IsCaseOver lts tree basis class problem number case → AreGivenBy lts tree basis class case v times first effect → FormsWhole (rows_of case) case.forms scale v → AreFormsWhole lts basis class case first effect (times *ℤ scale)
+forms_over lts tree basis class problem number case v scale times first effect c g forms_whole f lt =
+    let (u, is) = forms_whole f lt in
+    (u, sym (point_form lts tree basis class problem number case c v times first effect (form_at case.forms f) g) ∙ ap (λ z. times *ℤ z) is ∙ turn times u (form_at case.forms f).scale scale)
+  where
+    turn : (t u f s : ℤ) → t *ℤ (u *ℤ (f *ℤ s)) ≡ u *ℤ (f *ℤ (t *ℤ s))
+    turn t u f s = simp ring
+
+pub point_makes : (lts : System) (tree : List Arc) (basis : CycleBasis) (class : Class) (problem : Problem) (number : ℕ) (case : CaseSystem) (scale : ℤ) (v : ℕ → ℤ) (start : Ratio) (value : ℕ → Ratio) (place : Place) → IsCaseOver lts tree basis class problem number case → IsLive lts problem → IsPoint (rows_of case) scale v → MeetsRows (rows_of case) v → FormsWhole (rows_of case) case.forms scale v → AreAtPoint lts basis class scale v start value → place_fold lts tree basis class problem start value (Ok place) → PlaceIsMade lts tree basis class problem start value place
+point_makes lts tree basis class problem number case scale v start value place c live p met forms_whole a fold =
     let (times, first, effect, g) = point_gives lts tree basis class problem number case v c in
     ⊎_elim
     (λ starts. by times first effect g (over_multiple start.top start.bottom (v 0) scale times first (a.start_is starts) (g.columns 0 (start_below lts tree basis class problem number case c.is_case starts) ∙ first_value lts basis class first effect starts)))
@@ -80,7 +93,7 @@ point_makes lts tree basis class problem number case scale v start value place p
     zeros s = omega (arith, ints)
 
     by : (times first : ℤ) (effect : ℕ → ℤ) → AreGivenBy lts tree basis class case v times first effect → SameValue start.top start.bottom first (times *ℤ scale) → PlaceIsMade lts tree basis class problem start value place
-    by times first effect g start_is = place_made lts tree basis class problem number case start value first effect (times *ℤ scale) place plain bound c live g.effects ((point_meets lts tree basis class problem number case v scale times first effect c p g).0 met) (given_values lts tree basis class problem number case v scale times first effect start value c p.positive g a start_is) fold
+    by times first effect g start_is = place_made lts tree basis class problem number case start value first effect (times *ℤ scale) place c live g.effects ((point_meets lts tree basis class problem number case v scale times first effect c p g).0 met) (forms_over lts tree basis class problem number case v scale times first effect c g forms_whole) (given_values lts tree basis class problem number case v scale times first effect start value c p.positive g a start_is) fold
 
 -- ---- the point that a branching finds
 
@@ -97,17 +110,17 @@ found_whole system forms above o (high_ends members f u t d first low high end) 
 found_whole system forms above o (both_refuted members f u t t' d first low high) = tt
 
 -- a value where every member is 0 is the point's
-value_at : (system : LinearSystem) (members : List ℕ) (j : ℕ) (r : Ratio) (scale : ℤ) (v : ℕ → ℤ) → IsPoint system scale v → IsAtZero members v → IsValueAt system members j r → SameValue r.top r.bottom (v j) scale × (pos 0 <ℤ r.bottom)
+value_at : (system : LinearSystem) (members : List ℕ) (j : ℕ) (r : Ratio) (scale : ℤ) (v : ℕ → ℤ) → IsPoint system scale v → IsAtZero members v → IsValueAt system members j r → SameValue r.top r.bottom (v j) scale × (pos 0 <ℤ r.bottom) × IsReduced r
 value_at system members j r scale v p zeros at = ⊎_elim (λ (has, e). member has e) (λ (k, row, is). outside k row is) at
   where
-    member : Contains members j → r ≡ whole (pos 0) → SameValue r.top r.bottom (v j) scale × (pos 0 <ℤ r.bottom)
-    member has e = (subst (λ (q : Ratio). SameValue q.top q.bottom (v j) scale) (sym e) (close (v j) scale (zeros j has)), subst (λ (q : Ratio). pos 0 <ℤ q.bottom) (sym e) (omega (arith, ints)))
+    member : Contains members j → r ≡ whole (pos 0) → SameValue r.top r.bottom (v j) scale × (pos 0 <ℤ r.bottom) × IsReduced r
+    member has e = (subst (λ (q : Ratio). SameValue q.top q.bottom (v j) scale) (sym e) (close (v j) scale (zeros j has)), subst (λ (q : Ratio). pos 0 <ℤ q.bottom) (sym e) (omega (arith, ints)), subst IsReduced (sym e) (whole_reduced (pos 0)))
       where
         close : (z s : ℤ) → z ≡ pos 0 → pos 0 *ℤ s ≡ z *ℤ pos 1
         close z s e = omega (arith, ints)
 
-    outside : (k : Relation) → DictionaryRow system members j k → IsRatio r k.constant k.d → SameValue r.top r.bottom (v j) scale × (pos 0 <ℤ r.bottom)
-    outside k row is = (mul-cancel (r.top *ℤ scale) (v j *ℤ r.bottom) k.d (positive_differs k.d row.positive) (turn r.top scale k.d ∙ ap (λ z. z *ℤ scale) is.value ∙ turn k.constant r.bottom scale ∙ ap (λ z. z *ℤ r.bottom) (sym (constant_left system members j k row scale v p zeros)) ∙ turn' k.d (v j) r.bottom), is.positive)
+    outside : (k : Relation) → DictionaryRow system members j k → IsRatio r k.constant k.d → SameValue r.top r.bottom (v j) scale × (pos 0 <ℤ r.bottom) × IsReduced r
+    outside k row is = (mul-cancel (r.top *ℤ scale) (v j *ℤ r.bottom) k.d (positive_differs k.d row.positive) (turn r.top scale k.d ∙ ap (λ z. z *ℤ scale) is.value ∙ turn k.constant r.bottom scale ∙ ap (λ z. z *ℤ r.bottom) (sym (constant_left system members j k row scale v p zeros)) ∙ turn' k.d (v j) r.bottom), is.positive, is.reduced)
       where
         turn : (a b c : ℤ) → (a *ℤ b) *ℤ c ≡ (a *ℤ c) *ℤ b
         turn a b c = simp ring
@@ -118,14 +131,16 @@ value_at system members j r scale v p zeros at = ⊎_elim (λ (has, e). member h
 at_point : (lts : System) (basis : CycleBasis) (class : Class) (system : LinearSystem) (members : List ℕ) (start : Ratio) (value : ℕ → Ratio) (scale : ℤ) (v : ℕ → ℤ) → IsPoint system scale v → IsAtZero members v → PointOf lts basis class system members start value → AreAtPoint lts basis class scale v start value
 at_point lts basis class system members start value scale v p zeros of = record {
   start_bottom = ⊎_elim (λ starts. (value_at system members 0 start scale v p zeros (of.start_is starts)).1) (λ none. subst (λ (q : Ratio). pos 0 <ℤ q.bottom) (sym (of.no_start none)) (omega (arith, ints))) (cases_Bool (has_start class));
+  start_reduced = ⊎_elim (λ starts. (value_at system members 0 start scale v p zeros (of.start_is starts)).2) (λ none. subst IsReduced (sym (of.no_start none)) (whole_reduced (pos 0))) (cases_Bool (has_start class));
   start_is = λ starts. (value_at system members 0 start scale v p zeros (of.start_is starts)).0;
   no_start = of.no_start;
+  reduced = λ i lt. (value_at system members (first_column class + i) (value (slice_index_or (free_columns lts basis) i 0)) scale v p zeros (of.values i (slice_index_or (free_columns lts basis) i 0) lt refl)).2;
   bottoms = λ i lt. (value_at system members (first_column class + i) (value (slice_index_or (free_columns lts basis) i 0)) scale v p zeros (of.values i (slice_index_or (free_columns lts basis) i 0) lt refl)).1;
   values = λ i lt. (value_at system members (first_column class + i) (value (slice_index_or (free_columns lts basis) i 0)) scale v p zeros (of.values i (slice_index_or (free_columns lts basis) i 0) lt refl)).0;
 }
 
-pub found_makes : (lts : System) (tree : List Arc) (basis : CycleBasis) (class : Class) (problem : Problem) (number : ℕ) (case : CaseSystem) (members : List ℕ) (sides : List SplitSide) (start : Ratio) (value : ℕ → Ratio) (place : Place) → class.plain ≡ false → IsNone class.bound → IsCaseOver lts tree basis class problem number case → IsLive lts problem → Branching (rows_of case) case.forms (found members sides) → PointOf lts basis class (node_system (rows_of case) case.forms sides) members start value → place_fold lts tree basis class problem start value (Ok place) → PlaceIsMade lts tree basis class problem start value place
-found_makes lts tree basis class problem number case members sides start value place plain bound c live b of fold =
+pub found_makes : (lts : System) (tree : List Arc) (basis : CycleBasis) (class : Class) (problem : Problem) (number : ℕ) (case : CaseSystem) (members : List ℕ) (sides : List SplitSide) (start : Ratio) (value : ℕ → Ratio) (place : Place) → IsCaseOver lts tree basis class problem number case → IsLive lts problem → Branching (rows_of case) case.forms (found members sides) → PointOf lts basis class (node_system (rows_of case) case.forms sides) members start value → place_fold lts tree basis class problem start value (Ok place) → PlaceIsMade lts tree basis class problem start value place
+found_makes lts tree basis class problem number case members sides start value place c live b of fold =
     let all = found_whole (rows_of case) case.forms [] (found members sides) b in
     let (p, met, forms_whole) = found_is_sound (rows_of case) case.forms [] sides members b all.scale all.v all.point all.zeros in
-    point_makes lts tree basis class problem number case all.scale all.v start value place plain bound c live p met (at_point lts basis class (node_system (rows_of case) case.forms sides) members start value all.scale all.v all.point all.zeros of) fold
+    point_makes lts tree basis class problem number case all.scale all.v start value place c live p met forms_whole (at_point lts basis class (node_system (rows_of case) case.forms sides) members start value all.scale all.v all.point all.zeros of) fold

@@ -1,6 +1,6 @@
 -- The place of a point that solves a case, as code keeps it.
-use Rattle.std.proofs.Common.{◌≡◌, ℕ, zero, suc, ◌≤◌, IsNone, List, [], ◌∷◌, length, map, All, unsigned_abs, Result, Ok, Err, ap, refl, sym, subst, ◌∙◌}
-use Rattle.std.specs.Prelude.{false, slice_index, IfOk}
+use Rattle.std.proofs.Common.{◌≡◌, ℕ, zero, suc, ◌≤◌, List, [], ◌∷◌, length, map, All, unsigned_abs, Result, Ok, Err, ap, refl, sym, subst, ◌∙◌}
+use Rattle.std.specs.Prelude.{slice_index, IfOk}
 use Rattle.std.proofs.Math.Path.{fun_ext}
 use Rattle.std.proofs.lemmas.List.{length-map, get_or_default}
 use Rattle.rg_theory.specs.declared.Arc.{Arc}
@@ -57,9 +57,9 @@ module _ (lts : System) (tree : List Arc) (basis : CycleBasis) (class : Class) (
       few : All (λ n. n ≤ greatest) r.tokens.items
       few k d lt = subst (λ n. n ≤ greatest) (sym (get_or_default r.tokens.items k d 0 lt ∙ at k)) (m.fit.tokens k)
 
-  pub region_made : length point ≡ column_count lts basis class → class.plain ≡ false → IsNone class.bound → IsLive lts problem → SolvesCase lts tree basis class problem point → numbers_fold lts tree basis class (point_start class point) (point_value lts basis class point) (Ok numbers) → place_fold lts tree basis class problem (point_start class point) (point_value lts basis class point) (Ok (shown_place r.place)) → r.tokens.items ≡ map (λ n. unsigned_abs n.top) numbers → length numbers ≡ states lts → IsRegionPlace lts class r × PlaceSeparates problem r
-  region_made columns plain bound live s made fold tokens count = region_of made tokens count (weights_of_all lts tree basis class problem (point_start class point) (point_value lts basis class point) (shown_place r.place) fold)
-      (point_makes lts tree basis class problem s.number s.case s.scale s.v (point_start class point) (point_value lts basis class point) (shown_place r.place) plain bound s.of_case live s.is_point s.meets (at_point lts basis class point columns s.scale s.v s.values) fold)
+  pub region_made : length point ≡ column_count lts basis class → IsLive lts problem → SolvesCase lts tree basis class problem point → numbers_fold lts tree basis class (point_start class point) (point_value lts basis class point) (Ok numbers) → place_fold lts tree basis class problem (point_start class point) (point_value lts basis class point) (Ok (shown_place r.place)) → r.tokens.items ≡ map (λ n. unsigned_abs n.top) numbers → length numbers ≡ states lts → IsRegionPlace lts class r × PlaceSeparates problem r
+  region_made columns live s made fold tokens count = region_of made tokens count (weights_of_all lts tree basis class problem (point_start class point) (point_value lts basis class point) (shown_place r.place) fold)
+      (point_makes lts tree basis class problem s.number s.case s.scale s.v (point_start class point) (point_value lts basis class point) (shown_place r.place) s.of_case live s.is_point s.meets s.whole (at_point lts basis class point columns s.scale s.v s.values) fold)
 
 pub if_both : {X E : Type 0} (P Q R : X → Type 0) (r : Result X E) → ((x : X) → P x → Q x → R x) → IfOk r P → IfOk r Q → IfOk r R
 if_both P Q R (Ok x) f p q = f x p q

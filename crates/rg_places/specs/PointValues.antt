@@ -7,6 +7,7 @@ use Rattle.rg_theory.specs.declared.Problem.{Problem}
 use Rattle.rg_integers.specs.Value.{SameValue}
 use Rattle.rg_fraction.specs.declared.fraction.Fraction.{Fraction}
 use Rattle.rg_linear.specs.System.{IsPoint, MeetsRows}
+use Rattle.rg_linear.specs.Branching.{FormsWhole}
 use Rattle.rg_linear.specs.Cycle.{CycleBasis}
 use Rattle.rg_order_of_work.specs.Fold.{Ratio, whole, ratio_of}
 use Rattle.rg_order_of_work.specs.Rewriting.{free_columns, has_start, CaseSystem, rows_of}
@@ -35,7 +36,7 @@ point_value lts basis class point = ratio_beside (free_columns lts basis) (drop 
 abbrev pub HasValues : ℤ → (ℕ → ℤ) → List Fraction → Type 0
 HasValues scale v point = (j : ℕ) → j < length point → SameValue (ratio_at (ratios_of point) j).top (ratio_at (ratios_of point) j).bottom (v j) scale
 
--- the point meets every row of the system of some case of the problem
+-- the point meets every row of the system of some case of the problem, and its forms are whole
 pub record SolvesCase (lts : System) (tree : List Arc) (basis : CycleBasis) (class : Class) (problem : Problem) (point : List Fraction) : Type 0 where
   pub number : ℕ
   pub case : CaseSystem
@@ -44,4 +45,5 @@ pub record SolvesCase (lts : System) (tree : List Arc) (basis : CycleBasis) (cla
   pub v : ℕ → ℤ
   pub is_point : IsPoint (rows_of case) scale v
   pub meets : MeetsRows (rows_of case) v
+  pub whole : FormsWhole (rows_of case) case.forms scale v
   pub values : HasValues scale v point

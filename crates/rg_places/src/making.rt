@@ -1,5 +1,5 @@
 //! From a point to its place.
-ghost use Rattle.std.specs.Prelude.{◌≡◌, ℕ, ◌+◌, ◌<◌, length, map, drop, unsigned_abs, Ok, Err, IfOk, IsErrOf, IsTrue, IsFalse, IsNone};
+ghost use Rattle.std.specs.Prelude.{◌≡◌, ℕ, ◌+◌, ◌<◌, length, map, drop, unsigned_abs, Ok, Err, IfOk, IsErrOf, IsTrue};
 ghost use Rattle.rg_refuting.specs.Refutes.{IsSeparationProblem};
 ghost use Rattle.rg_theory.specs.System.{states, labels};
 ghost use Rattle.rg_fraction.specs.declared.term.Wide.{Wide};
@@ -41,8 +41,8 @@ use std::alloc::Global;
 /// as much as its effect takes away, and the event's label as much as stops it: its effect taken away in a
 /// pure class, else 1 in a plain one, and in others the least tokens of the states that it leaves.
 ///
-/// Where the class is neither plain nor bounded, and the point meets every row of the system of a case of
-/// the problem, the place is a region of the class that separates the problem. `FoldStop::Wide` comes
+/// Where the point meets every row of the system of a case of the problem, and the forms of the case are
+/// whole at it, the place is a region of the class that separates the problem. `FoldStop::Wide` comes
 /// exactly where a step of the computation is out of range, with the first such step; `FoldStop::NoMemory`
 /// where there is no memory.
 pub fn make_place(
@@ -60,7 +60,7 @@ pub fn make_place(
     requires columns { length point.now ≡ column_count lts.now (cycle_of basis.now) class }
     ensures place { IfOk result (λ r. place_fold lts.now tree.now.arcs (cycle_of basis.now) class problem (point_start class point.now) (point_value lts.now (cycle_of basis.now) class point.now) (Ok (shown_place r.place))) }
     ensures tokens { IfOk result (λ r. AreTokensMade lts.now tree.now.arcs (cycle_of basis.now) class (point_start class point.now) (point_value lts.now (cycle_of basis.now) class point.now) r.tokens.items) }
-    ensures region { IfOk result (λ r. IsFalse class.plain → IsNone class.bound → IsLive lts.now problem → SolvesCase lts.now tree.now.arcs (cycle_of basis.now) class problem point.now → IsRegionPlace lts.now class r × PlaceSeparates problem r) }
+    ensures region { IfOk result (λ r. IsLive lts.now problem → SolvesCase lts.now tree.now.arcs (cycle_of basis.now) class problem point.now → IsRegionPlace lts.now class r × PlaceSeparates problem r) }
     ensures wide { (w : Wide) → IsErrOf result (stop.Wide w) → place_fold lts.now tree.now.arcs (cycle_of basis.now) class problem (point_start class point.now) (point_value lts.now (cycle_of basis.now) class point.now) (Err w) }
 {
     let found = found_numbers(alloc, lts, basis, class, point)?;

@@ -25,22 +25,26 @@ few_if : (b : Bool) (make : ℕ → RowName) (test : ℕ → Bool) (n : ℕ) →
 few_if true make test n = let h = where_few test 0 n in let e = length-map (numbers_where test 0 n) make in omega arith
 few_if false make test n = omega arith
 
-problem_few : (lts : System) (class : Class) (problem : Problem) → class.plain ≡ false → length (problem_rows lts class problem) ≤ states lts + 1
-problem_few lts class (Event s t) not_plain = go class.pure class.plain not_plain
+problem_few : (lts : System) (class : Class) (problem : Problem) → length (problem_rows lts class problem) ≤ states lts + 2
+problem_few lts class (Event s t) = go class.pure class.plain
   where
-    go : (pure plain : Bool) → plain ≡ false → length (if pure then (block_row ∷ []) else (if plain then (empty_row ∷ map full_row (states_with lts t) ++ keep_row ∷ []) else map stop_row (states_with lts t))) ≤ states lts + 1
-    go true plain e = omega arith
-    go false true e = cc
-    go false false e = let h = few_if true stop_row (λ q. has_label_at q t lts.arcs) (states lts) in omega arith
-problem_few lts class (States s s') not_plain = omega arith
+    go : (pure plain : Bool) → length (if pure then (block_row ∷ []) else (if plain then (empty_row ∷ map full_row (states_with lts t) ++ keep_row ∷ []) else map stop_row (states_with lts t))) ≤ states lts + 2
+    go true plain = omega arith
+    go false true = let h = few_if true full_row (λ q. has_label_at q t lts.arcs) (states lts) in let e = length-append (map full_row (states_with lts t)) (keep_row ∷ []) in omega arith
+    go false false = let h = few_if true stop_row (λ q. has_label_at q t lts.arcs) (states lts) in omega arith
+problem_few lts class (States s s') = omega arith
 
-pub names_few : (lts : System) (class : Class) (problem : Problem) (number : ℕ) → class.plain ≡ false → class.bound ≡ None → length (names_of lts class problem number) ≤ 2 * states lts + labels lts + 1
-names_few lts class problem number not_plain unbounded =
-    let own = problem_few lts class problem not_plain in
+sides_few : (lts : System) (b : Bool) → length (if b then (map up_row (used_labels lts) ++ map down_row (used_labels lts)) else []) ≤ 2 * labels lts
+sides_few lts true = let h = few_if true up_row (λ t. has_label t lts.arcs) (labels lts) in let k = few_if true down_row (λ t. has_label t lts.arcs) (labels lts) in let e = length-append (map up_row (used_labels lts)) (map down_row (used_labels lts)) in omega arith
+sides_few lts false = omega arith
+
+pub names_few : (lts : System) (class : Class) (problem : Problem) (number : ℕ) → length (names_of lts class problem number) ≤ 3 * states lts + 3 * labels lts + 2
+names_few lts class problem number =
+    let own = problem_few lts class problem in
     let tokens = few_if (has_start class) tokens_row (λ q. true) (states lts) in
+    let caps = few_if (is_some class.bound) cap_row (λ q. true) (states lts) in
+    let sides = sides_few lts class.plain in
     let makes = few_if class.nonbranching makes_row (λ u. has_label u lts.arcs && not (u == case_consumer lts problem number)) (labels lts) in
-    let caps : length (if is_some class.bound then map cap_row (all_numbers (states lts)) else []) ≡ 0 = ap (λ (o : Option ℕ). length (if is_some o then map cap_row (all_numbers (states lts)) else [])) unbounded in
-    let sides : length (if class.plain then (map up_row (used_labels lts) ++ map down_row (used_labels lts)) else []) ≡ 0 = ap (λ b. length (if b then (map up_row (used_labels lts) ++ map down_row (used_labels lts)) else [])) not_plain in
     simp length-append (omega arith)
 
 -- ---- the rows are over the columns, and in range

@@ -3,7 +3,7 @@ use Rattle.std.proofs.lemmas.Bool.{false≢true}
 use Rattle.std.proofs.lemmas.List.{append-nil, drop_all, length-append, length-map, get_or-map}
 use Rattle.std.proofs.Common.{◌≡◌, ◌⊎◌, ⊎_elim, ℕ, suc, ◌+◌, ◌<◌, ◌≤◌, Bool, true, false, cond, not, map, Vec, Bor, List, [], ◌∷◌, ◌++◌, drop, length, Contains, ap, refl, subst, sym, ◌∙◌, inl, inr, arith, append_assoc, add-one}
 use Rattle.std.specs.Prelude.{ℤ, slice_index_or}
-use Rattle.std.specs.Bool.{Decides, OnFalse}
+use Rattle.std.specs.Bool.{Decides}
 use Rattle.std.specs.declared.alloc.Global.{Global}
 use Rattle.std.specs.Ordering.{int_eq}
 use Rattle.std.specs.Cmp.Lexicographic.{pointwise}
@@ -97,13 +97,9 @@ module _ (all : List KeptRow) (i : ℕ) (kept : List KeptRow) (keys keys' : List
       fresh a true p q = sym q ∙ p
       fresh a false p q = refl
 
-  pub asked-old : added ≡ false → OnFalse added (keys' ≡ keys) → KeptSoFar all (has_numbers keys') (i + 1) kept
-  asked-old was unchanged = kept-drop all (has_numbers keys) (has_numbers keys') i kept k x next (inr (subst (λ l. has_numbers keys l ≡ true) is (old added (has_numbers keys v.now) says was))) (λ q. ap (λ l. has_numbers l q) (off added was unchanged))
+  pub asked-old : added ≡ false → keys' ≡ keys → KeptSoFar all (has_numbers keys') (i + 1) kept
+  asked-old was unchanged = kept-drop all (has_numbers keys) (has_numbers keys') i kept k x next (inr (subst (λ l. has_numbers keys l ≡ true) is (old added (has_numbers keys v.now) says was))) (λ q. ap (λ l. has_numbers l q) unchanged)
     where
       old : (a b : Bool) → a ≡ not b → a ≡ false → b ≡ true
       old a true p q = refl
       old a false p q = sym q ∙ p
-
-      off : (b : Bool) → b ≡ false → OnFalse b (keys' ≡ keys) → keys' ≡ keys
-      off true p h = cc
-      off false p h = h

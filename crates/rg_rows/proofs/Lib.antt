@@ -1,6 +1,12 @@
 mod Naming
 mod Making
 mod Keeping
+mod Placing
+mod FormTimes
+mod FormRoom
+mod FormNames
+mod FormSteps
+mod Assembling
 mod Terms
 mod Dividing
 mod Forming

@@ -7,9 +7,10 @@ use Rattle.rg_theory.specs.declared.Class.{Class}
 use Rattle.rg_theory.specs.declared.Problem.{Problem}
 use Rattle.rg_theory.specs.System.{System, states, labels}
 use Rattle.rg_fraction.specs.declared.term.Wide.{Wide}
+use Rattle.rg_linear.specs.Branching.{Form}
 use Rattle.rg_linear.specs.Cycle.{CycleBasis}
 use Rattle.rg_refuting.specs.Expression.{Term, Expression}
-use Rattle.rg_refuting.specs.Row.{RowName, row_expression, Form.on_tokens, Form.on_effect}
+use Rattle.rg_refuting.specs.Row.{RowName, row_expression}
 use Rattle.rg_reasons.specs.declared.certificate.RowName.{RowName as CodeName}
 use Rattle.rg_reasons.specs.Trees.{row_name_of}
 use Rattle.rg_fraction.specs.declared.fraction.Fraction.{Fraction}
@@ -84,9 +85,9 @@ module _ (lts : System) (tree : List Arc) (basis : CycleBasis) (class : Class) (
   pub case_fails : (w : Wide) → each (fold_of lts tree basis class problem number) names (Err w) → system_fold lts tree basis class problem number (Err w)
   case_fails w h = inl (subst (λ l. each (fold_of lts tree basis class problem number) l (Err w)) named h)
 
-  module _ (not_plain : class.plain ≡ false) (unbounded : class.bound ≡ None) where
-    no_variables : split_forms lts class ≡ []
-    no_variables = ap (λ (o : Option ℕ). if is_some o then map on_tokens (all_numbers (states lts)) else (if class.plain then map on_effect (used_labels lts) else [])) unbounded ∙ ap (λ b. if b then map on_effect (used_labels lts) else []) not_plain
+  module _ (all : List KeptRow) (made : each (fold_of lts tree basis class problem number) names (Ok all)) where
+    pub forms_fail : (w : Wide) → each (form_fold lts tree basis class) (split_forms lts class) (Err w) → system_fold lts tree basis class problem number (Err w)
+    forms_fail w h = inr (all, subst (λ l. each (fold_of lts tree basis class problem number) l (Ok all)) named made, inl h)
 
-    pub case_made : (all : List KeptRow) (shown : CaseSystem) → each (fold_of lts tree basis class problem number) names (Ok all) → shown.columns ≡ column_count lts basis class → KeepsFirsts (λ k. k.row) IsIdle [] all shown.kept → shown.forms ≡ [] → system_fold lts tree basis class problem number (Ok shown)
-    case_made all shown made columns firsts none = (all, subst (λ l. each (fold_of lts tree basis class problem number) l (Ok all)) named made, ([], subst (λ l. each (form_fold lts tree basis class) l (Ok [])) (sym no_variables) refl, (columns, firsts, none)))
+    pub case_made : (forms : List Form) (shown : CaseSystem) → each (form_fold lts tree basis class) (split_forms lts class) (Ok forms) → shown.columns ≡ column_count lts basis class → KeepsFirsts (λ k. k.row) IsIdle [] all shown.kept → shown.forms ≡ forms → system_fold lts tree basis class problem number (Ok shown)
+    case_made forms shown forms_made columns firsts same = (all, subst (λ l. each (fold_of lts tree basis class problem number) l (Ok all)) named made, (forms, forms_made, (columns, firsts, same)))

@@ -13,7 +13,7 @@ use Rattle.rg_order_of_work.specs.Rewriting.{numbers_where, has_label, has_label
 use Rattle.rg_cycles.proofs.Folding.{where_taken, where_left, where_ends}
 use Rattle.rg_columns.specs.declared.columns.Columns.{Columns}
 use Rattle.rg_columns.specs.View.{TellsUsedLabels, AreColumns}
-use Rattle.rg_rows.specs.View.{makers}
+use Rattle.rg_rows.specs.View.{users, makers}
 
 -- so far the rows of the numbers before i that pass the test are named
 module _ (make : ℕ → RowName) (test : ℕ → Bool) (i n : ℕ) (done all : List RowName) (so_far : done ++ map make (numbers_where test i (n - i)) ≡ all) where
@@ -93,24 +93,22 @@ named_if b done more all e h = h ∙ ap (λ x. done ++ (if x then more else []))
 pub named_unless : (b : Bool) (done more all : List RowName) → b ≡ false → all ≡ done → all ≡ done ++ (if b then more else [])
 named_unless b done more all e h = h ∙ sym (append-nil done) ∙ ap (λ x. done ++ (if x then more else [])) (sym e)
 
-module _ (lts : System) (class : Class) (problem : Problem) (number : ℕ) (columns : Columns) (are : AreColumns lts class columns) (not_plain : class.plain ≡ false) (unbounded : class.bound ≡ None) where
-  pub names_told : (own start all : List RowName) → own ≡ problem_rows lts class problem → start ≡ own ++ (if columns.start then map tokens_row (all_numbers (states lts)) else []) → all ≡ start ++ (if class.nonbranching then map makes_row (makers columns.used.items (case_consumer lts problem number)) else []) → all ≡ names_of lts class problem number
-  names_told own start all e f g =
-      g ∙ ap (λ l. l ++ (if class.nonbranching then map makes_row (makers columns.used.items (case_consumer lts problem number)) else [])) (f ∙ ap (λ l. l ++ (if columns.start then tokens else [])) e ∙ ap (λ b. problem_rows lts class problem ++ (if b then tokens else [])) are.start)
-      ∙ ap (λ l. (problem_rows lts class problem ++ (if has_start class then tokens else [])) ++ (if class.nonbranching then map makes_row l else [])) (makers_are lts columns.used.items (case_consumer lts problem number) are.used)
-      ∙ ap (λ l. l ++ makes) (sym (append-nil (problem_rows lts class problem ++ (if has_start class then tokens else [])))
-      ∙ ap (λ (o : Option ℕ). problem_rows lts class problem ++ (if has_start class then tokens else []) ++ (if is_some o then caps else [])) (sym unbounded)
-      ∙ sym (append-nil (problem_rows lts class problem ++ (if has_start class then tokens else []) ++ (if is_some class.bound then caps else [])))
-      ∙ ap (λ b. problem_rows lts class problem ++ (if has_start class then tokens else []) ++ (if is_some class.bound then caps else []) ++ (if b then sides else [])) (sym not_plain))
-    where
-      tokens : List RowName
-      tokens = map tokens_row (all_numbers (states lts))
+users_are : (lts : System) (used : List Bool) → TellsUsedLabels lts used → users used ≡ used_labels lts
+users_are lts used tells = ap (λ n. numbers_where (λ t. slice_index_or used t false) 0 n) tells.one_each ∙ where_same (λ t. slice_index_or used t false) (λ t. has_label t lts.arcs) 0 (labels lts) (λ t lt. tells.each t (omega arith))
 
-      caps : List RowName
-      caps = map cap_row (all_numbers (states lts))
+module _ (lts : System) (class : Class) (problem : Problem) (number : ℕ) (columns : Columns) (are : AreColumns lts class columns) where
+  pub names_told : (own start capped sided all : List RowName) → own ≡ problem_rows lts class problem → start ≡ own ++ (if columns.start then map tokens_row (all_numbers (states lts)) else []) → capped ≡ start ++ (if is_some class.bound then map cap_row (all_numbers (states lts)) else []) → sided ≡ capped ++ (if class.plain then (map up_row (users columns.used.items) ++ map down_row (users columns.used.items)) else []) → all ≡ sided ++ (if class.nonbranching then map makes_row (makers columns.used.items (case_consumer lts problem number)) else []) → all ≡ names_of lts class problem number
+  names_told own start capped sided all e f g h k =
+      k
+      ∙ ap (λ l. l ++ (if class.nonbranching then map makes_row (makers columns.used.items (case_consumer lts problem number)) else []))
+      (h
+      ∙ ap (λ l. l ++ (if class.plain then (map up_row (users columns.used.items) ++ map down_row (users columns.used.items)) else []))
+      (g ∙ ap (λ l. l ++ (if is_some class.bound then map cap_row (all_numbers (states lts)) else [])) (f ∙ ap (λ l. l ++ (if columns.start then map tokens_row (all_numbers (states lts)) else [])) e ∙ ap (λ b. problem_rows lts class problem ++ (if b then map tokens_row (all_numbers (states lts)) else [])) are.start))
+      ∙ ap (λ l. before ++ (if class.plain then (map up_row l ++ map down_row l) else [])) (users_are lts columns.used.items are.used))
+      ∙ ap (λ l. (before ++ sides) ++ (if class.nonbranching then map makes_row l else [])) (makers_are lts columns.used.items (case_consumer lts problem number) are.used)
+    where
+      before : List RowName
+      before = problem_rows lts class problem ++ (if has_start class then map tokens_row (all_numbers (states lts)) else []) ++ (if is_some class.bound then map cap_row (all_numbers (states lts)) else [])
 
       sides : List RowName
-      sides = map up_row (used_labels lts) ++ map down_row (used_labels lts)
-
-      makes : List RowName
-      makes = if class.nonbranching then map makes_row (numbers_where (λ u. has_label u lts.arcs && not (u == case_consumer lts problem number)) 0 (labels lts)) else []
+      sides = if class.plain then (map up_row (used_labels lts) ++ map down_row (used_labels lts)) else []

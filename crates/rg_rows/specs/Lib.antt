@@ -1,2 +1,4 @@
 pub mod View
 pub mod Shown
+pub mod Forms
+pub mod Making

@@ -1,5 +1,5 @@
 -- How what the code keeps is seen.
-use Rattle.std.specs.Prelude.{◌≡◌, ℕ, ◌==◌, ◌&&◌, not, Bool, false, List, [], ◌∷◌, ◌++◌, ℤ, length, map, All, Result, slice_index_or}
+use Rattle.std.specs.Prelude.{◌≡◌, ℕ, ◌==◌, ◌&&◌, not, Bool, false, List, [], ◌∷◌, ◌++◌, ℤ, length, map, All, Option, Some, Result, slice_get, slice_index_or}
 use Rattle.rg_theory.specs.declared.Arc.{Arc}
 use Rattle.rg_theory.specs.declared.Class.{Class}
 use Rattle.rg_theory.specs.System.{System, states}
@@ -9,12 +9,16 @@ use Rattle.rg_fraction.specs.declared.term.Wide.{Wide}
 use Rattle.rg_theory.specs.declared.Problem.{Problem}
 use Rattle.rg_refuting.specs.Row.{RowName, row_expression}
 use Rattle.rg_order_of_work.specs.Fold.{ratio_of}
-use Rattle.rg_order_of_work.specs.Rewriting.{numbers_where, KeptRow, row_fold}
+use Rattle.rg_order_of_work.specs.Rewriting.{numbers_where, KeptRow, IsIdle, row_fold}
 use Rattle.rg_reasons.specs.Trees.{row_name_of}
 use Rattle.rg_expressions.specs.View.{TermNamesStateBelow}
 use Rattle.rg_linear.specs.View.{linear_row}
 use Rattle.rg_rows.specs.declared.case_row.CaseRow.{CaseRow}
 use Rattle.rg_rows.specs.declared.kept.CaseRows.{CaseRows}
+
+-- the labels with an arc
+abbrev pub users : List Bool → List ℕ
+users used = numbers_where (λ t. slice_index_or used t false) 0 (length used)
 
 -- the labels with an arc, but this one
 abbrev pub makers : List Bool → ℕ → List ℕ
@@ -33,6 +37,11 @@ pub record ShowsRows (r : CaseRows) (kept : List KeptRow) : Type 0 where
   pub rows : map linear_row r.rows.items ≡ map (λ k. k.row) kept
   pub names : map row_name_of r.names.items ≡ map (λ k. k.name) kept
   pub factors : map ratio_of r.factors.items ≡ map (λ k. k.factor) kept
+
+-- each row that isn't left out is the kept row at its place
+pub record ArePlaces (all kept : List KeptRow) (places : List ℕ) : Type 0 where
+  pub one_each : length places ≡ length all
+  pub each : (i : ℕ) (r : KeptRow) → slice_get all i ≡ Some r → ¬ IsIdle r → slice_get (map (λ k. k.row) kept) (slice_index_or places i 0) ≡ Some r.row
 
 -- the row's terms name states of the system
 abbrev pub AreNamesWithin : System → Class → Problem → ℕ → List RowName → Type 0

@@ -1,15 +1,15 @@
 //! Which rows are kept.
-ghost use Rattle.std.specs.Prelude.{◌↔◌, ◌≡◌, ◌++◌, ◌∷◌, [], List, IsTrue, map, IfOk, OnOk};
+ghost use Rattle.std.specs.Prelude.{◌↔◌, ◌≡◌, ◌^◌, ◌<◌, ◌++◌, ◌∷◌, [], List, length, IsTrue, map, IfOk, OnOk};
 ghost use Rattle.rg_linear.specs.Firsts.{KeepsFirsts};
 ghost use Rattle.rg_order_of_work.specs.Rewriting.{KeptRow, IsIdle};
-ghost use Rattle.rg_rows.specs.View.{numbers_of, kept_row, ShowsRows};
+ghost use Rattle.rg_rows.specs.View.{numbers_of, kept_row, ShowsRows, ArePlaces};
 
 use crate::case_row::CaseRow;
+use indexmap::IndexSet;
 use rg_fraction::Fraction;
 use rg_linear::Row;
 use rg_reasons::RowName;
 use std::alloc::{AllocError, Global};
-use std::collections::HashSet;
 
 /// Rows, each with its name and its factor.
 #[derive(Drop)]
@@ -19,12 +19,15 @@ pub(crate) struct CaseRows {
     pub(crate) factors: Vec<Fraction>,
 }
 
-// Leaves out the rows without coefficients that always hold, and of equal rows all but the first.
-pub(crate) fn firsts(alloc: Global, all: &[CaseRow]) -> Result<CaseRows, AllocError>
-    ensures { IfOk result (λ r. (kept : List KeptRow) × ShowsRows r kept × KeepsFirsts (λ k. k.row) IsIdle [] (map kept_row all.now) kept) }
+// Leaves out the rows without coefficients that always hold, and of equal rows all but the first. Beside the rows
+// that are kept stands, for each row, the number of the kept row that it is, 0 where it is left out.
+pub(crate) fn firsts(alloc: Global, all: &[CaseRow]) -> Result<(CaseRows, Vec<u32>), AllocError>
+    requires few { length all.now < 2 ^ 32 }
+    ensures { IfOk result (λ r. (kept : List KeptRow) × ShowsRows r.0 kept × KeepsFirsts (λ k. k.row) IsIdle [] (map kept_row all.now) kept × ArePlaces (map kept_row all.now) kept r.1.items) }
 {
     let keys = keys(alloc, all)?;
-    let mut seen = HashSet::new(alloc);
+    let mut seen = IndexSet::new(alloc);
+    let mut places = Vec::new(alloc);
     let mut kept = CaseRows {
         rows: Vec::new(alloc),
         names: Vec::new(alloc),
@@ -32,14 +35,16 @@ pub(crate) fn firsts(alloc: Global, all: &[CaseRow]) -> Result<CaseRows, AllocEr
     };
     for (i, row) in all.iter().enumerate() {
         if is_idle(row) {
+            places.push(0)?;
             continue;
         }
-        let is_new = seen.insert(keys[i].as_slice())?;
+        let (place, is_new) = seen.insert_full(keys[i].as_slice())?;
         if is_new {
             kept.push(alloc, row)?;
         }
+        places.push(place as u32)?;
     }
-    Ok(kept)
+    Ok((kept, places))
 }
 
 impl CaseRows {

@@ -8,10 +8,14 @@
 mod case;
 mod case_row;
 mod counts;
+mod forms;
 mod kept;
+mod named_form;
 mod named_system;
 mod names;
+mod problem_names;
 mod rewriting;
 
 pub use case::cases;
+pub use named_form::NamedForm;
 pub use named_system::{NamedSystem, system};

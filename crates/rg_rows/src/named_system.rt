@@ -1,21 +1,26 @@
 //! The system of a case.
-ghost use Rattle.std.specs.Prelude.{◌≡◌, ◌<◌, false, length, All, map, None, Ok, Err, IfOk, IsErrOf};
-ghost use Rattle.rg_theory.specs.System.{labels};
+ghost use Rattle.std.specs.Prelude.{◌≡◌, ◌<◌, length, All, map, Ok, Err, IfOk, IsErrOf};
+ghost use Rattle.rg_theory.specs.ClassWords.{HasBoundInRange};
+ghost use Rattle.rg_theory.specs.System.{labels, IsAllReachable};
 ghost use Rattle.rg_fraction.specs.declared.term.Wide.{Wide};
 ghost use Rattle.rg_refuting.specs.Refutes.{IsSeparationProblem};
 ghost use Rattle.rg_refuting.specs.Row.{cases_of};
 ghost use Rattle.rg_spanning.specs.Spanning.{IsTreeOf};
-ghost use Rattle.rg_order_of_work.specs.Rewriting.{CaseSystem, column_count, system_fold};
+ghost use Rattle.rg_order_of_work.specs.Rewriting.{CaseSystem, column_count, split_forms, system_fold};
+ghost use Rattle.rg_order_of_work.specs.Chords.{IsBasis};
 ghost use Rattle.rg_order_of_work.specs.Fold.{each};
 ghost use Rattle.rg_cycles.specs.View.{labels_of, cycle_of};
 ghost use Rattle.rg_fraction.specs.declared.fold_stop.FoldStop.TheVariants as stop;
 ghost use Rattle.rg_reasons.specs.Trees.{row_name_of};
 ghost use Rattle.rg_columns.specs.View.{AreColumns};
 ghost use Rattle.rg_rows.specs.View.{kept_row, AreNamesWithin, fold_of};
+ghost use Rattle.rg_rows.specs.Forms.{split_of, StandsInRow, AreFormsOf};
 ghost use Rattle.rg_rows.specs.Shown.{ShowsCase};
 
 use crate::case_row::CaseRow;
-use crate::kept::{CaseRows, firsts};
+use crate::forms::forms;
+use crate::kept::firsts;
+use crate::named_form::NamedForm;
 use crate::names::names;
 use crate::rewriting::row;
 use rg_columns::Columns;
@@ -28,27 +33,34 @@ use rg_spanning::Tree;
 use rg_theory::{Class, Problem};
 use std::alloc::Global;
 
-/// A system of linear rows. Each row is a named row times a factor, which is positive: `names` and `factors`
-/// have one entry for each row, in order.
+/// A system of linear rows, and the forms that are to be whole. Each row is a named row times a factor, which is
+/// positive: `names` and `factors` have one entry for each row, in order.
 #[derive(Drop)]
 pub struct NamedSystem {
     pub system: System,
     pub names: Vec<RowName>,
     pub factors: Vec<Fraction>,
+    pub forms: Vec<NamedForm>,
 }
 
-/// The system of a case of a problem, in a class neither plain nor bounded.
+/// The system of a case of a problem.
 ///
-/// The columns are Start, the tokens of the initial state, where the class is pure, and the free labels with
-/// an arc, in order. The rows are those of the problem, `tokens` by state where Start is a column, and in an
-/// output-nonbranching class `makes` by label with an arc, but the consumer. Each is written over the columns by
-/// the way in the tree to each state and the relations of the basis, multiplied by the least common multiple of
-/// its denominators, and divided by the greatest common divisor of its numbers. A row without coefficients whose
-/// constant isn't negative is left out, and of equal rows the first stays.
+/// The columns are Start, the tokens of the initial state, where the class is pure, plain or bounded, and the free labels
+/// with an arc, in order. The rows are those of the problem; `tokens` by state where Start is a column; in a bounded
+/// class `cap` by state; in a plain one `up` and then `down` by label with an arc; and in an output-nonbranching class
+/// `makes` by label with an arc, but the consumer. Each is written over the columns by the way in the tree to each state
+/// and the relations of the basis, multiplied by the least common multiple of its denominators, and divided by the
+/// greatest common divisor of its numbers. A row without coefficients whose constant isn't negative is left out, and of
+/// equal rows the first stays.
 ///
-/// `FoldStop::Wide` comes exactly where a step of this, row by row, is out of range, with the first such step;
-/// `FoldStop::NoMemory` where there is no memory. The steps have one result, so that a system that is given is
-/// the only one.
+/// The forms are in a bounded class the tokens of each state, from 0 to the bound, else in a plain class the effect of
+/// each label with an arc, from -1 to 1; in another class there are none. They are written over the columns as the rows
+/// are, and not divided. The rows and forms are as a branching on the forms asks (Schrijver, *Theory of Linear and
+/// Integer Programming*): where all states can be reached and the basis is that of the chords, the rows bound each form.
+///
+/// `FoldStop::Wide` comes exactly where a step of this, row by row and then form by form, is out of range, with the
+/// first such step; `FoldStop::NoMemory` where there is no memory. The steps have one result, so that a system that is
+/// given is the only one.
 pub fn system(
     alloc: Global,
     lts: &Lts,
@@ -60,11 +72,12 @@ pub fn system(
 ) -> Result<NamedSystem, FoldStop>
     requires asked { IsSeparationProblem lts.now problem }
     requires case { case < cases_of lts.now class problem }
-    requires not_plain { class.plain ≡ false }
-    requires unbounded { class.bound ≡ None }
     requires tree { IsTreeOf lts.now tree.now }
     requires labels { labels_of basis.now ≡ labels lts.now }
     ensures system { IfOk result (λ named. (shown : CaseSystem) × system_fold lts.now tree.now.arcs (cycle_of basis.now) class problem case (Ok shown) × ShowsCase named shown) }
+    ensures named { IfOk result (λ named. map split_of named.forms.items ≡ split_forms lts.now class) }
+    ensures rows { IfOk result (λ named. All (StandsInRow lts.now tree.now.arcs (cycle_of basis.now) class problem case named.system) named.forms.items) }
+    ensures forms { IsAllReachable lts.now → IsBasis lts.now tree.now.arcs (cycle_of basis.now) → HasBoundInRange class → IfOk result (λ named. AreFormsOf named.system named.forms.items) }
     ensures wide { (w : Wide) → IsErrOf result (stop.Wide w) → system_fold lts.now tree.now.arcs (cycle_of basis.now) class problem case (Err w) }
 {
     let case = ProblemCase {
@@ -75,15 +88,15 @@ pub fn system(
     let columns = Columns::new(alloc, lts, class)?;
     let names = names(alloc, lts, case, &columns)?;
     let all = rows(alloc, lts, tree, basis, &columns, case, &names)?;
-    let CaseRows {
-        rows,
-        names,
-        factors,
-    } = firsts(alloc, &all)?;
+    let (kept, places) = firsts(alloc, &all)?;
+    let forms = forms(
+        alloc, lts, tree, basis, &columns, case, &names, &all, &places,
+    )?;
     Ok(NamedSystem {
-        system: System::new(columns.count(basis), rows),
-        names,
-        factors,
+        system: System::new(columns.count(basis), kept.rows),
+        names: kept.names,
+        factors: kept.factors,
+        forms,
     })
 }
 

@@ -50,7 +50,7 @@ pub(crate) fn row(
 }
 
 // The terms over the columns, without denominators.
-fn over_columns(
+pub(crate) fn over_columns(
     alloc: Global,
     tree: &Tree,
     basis: &Basis,

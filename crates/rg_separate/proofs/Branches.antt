@@ -52,5 +52,5 @@ no_splits lts class is =
     ap (λ (o : Option ℕ). if is_some o then map on_tokens (all_numbers (states lts)) else (if class.plain then map on_effect (used_labels lts) else [])) is.bound
     ∙ ap (λ b. if b then map on_effect (used_labels lts) else []) is.plain
 
-pub case_formless : (lts : System) (tree : List Arc) (basis : CycleBasis) (class : Class) (problem : Problem) (number : ℕ) (case : CaseSystem) → IsUnbranched class → system_fold lts tree basis class problem number (Ok case) → case.forms ≡ []
-case_formless lts tree basis class problem number case is (all, made, (forms, forms_made, (columns, keeps, form_list))) = form_list ∙ subst (λ l. each (form_fold lts tree basis class) l (Ok forms)) (no_splits lts class is) forms_made
+pub case_formless : (lts : System) (arcs : List Arc) (basis : CycleBasis) (class : Class) (problem : Problem) (number : ℕ) (case : CaseSystem) → IsUnbranched class → system_fold lts arcs basis class problem number (Ok case) → case.forms ≡ []
+case_formless lts arcs basis class problem number case is (all, made, (forms, forms_made, (columns, keeps, form_list))) = form_list ∙ subst (λ l. each (form_fold lts arcs basis class) l (Ok forms)) (no_splits lts class is) forms_made

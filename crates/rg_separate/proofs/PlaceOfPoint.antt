@@ -71,8 +71,12 @@ solves c named d point is system at are = record {
   v = at.feasible.v;
   is_point = subst (λ s. IsPoint s at.feasible.scale at.feasible.v) system.shows.system at.feasible.basic.point;
   meets = subst (λ s. MeetsRows s at.feasible.v) system.shows.system at.feasible.meets;
+  whole = λ f lt. absurd (none f (ap length (case_formless c.setting.lts.now c.setting.tree.now.arcs (cycle_of c.setting.basis.now) c.setting.class c.problem c.number system.case is.setting.class system.made)) lt);
   values = has_values named.system d point at.feasible.scale at.feasible.v are at.feasible.basic;
 }
+  where
+    none : (f : ℕ) → length system.case.forms ≡ 0 → f < length system.case.forms → ⊥
+    none f e lt = omega arith
 
 -- each column's ratio is its value at the set
 column_value : (system : LinearSystem) (d : DescentState) (point : List Fraction) → IsAtPoint system d → AreColumnValues system d point → (j : ℕ) → j < system.columns → IsValueAt system d.table.members j (ratio_at (ratios_of point) j)

@@ -5,7 +5,10 @@ ghost use Rattle.rg_order_of_work.specs.Rewriting.{column_count};
 ghost use Rattle.rg_cycles.specs.View.{labels_of, cycle_of};
 
 use crate::bases::basis;
-use crate::systems::{ABA, CHOICE, NONBRANCHING, NONE, PURE, SIDE, is_asked, system};
+use crate::systems::{
+    ABA, CHOICE, NONBRANCHING, NONE, PLAIN, PURE, PURE_PLAIN, RING, SIDE, STEP, TWO_BOUNDED,
+    is_asked, system,
+};
 use rg_columns::{Columns, has_start, used_labels};
 use rg_cycles::Basis;
 use rg_fraction::{FoldStop, Fraction, Wide};
@@ -159,6 +162,13 @@ fn tokens_of_states(rt: HostRuntime) -> Result<(), Fail> {
     assert!(rt; is_place(&word, 3, &[2, 0], &[0, 2], &[3, 1, 3, 1]));
     let lock = placed(alloc, LOCK, NONE, Event(1, 2), &[(1, 1), (1, 1)])??;
     assert!(rt; is_place(&lock, 1, &[1, 0, 1, 0], &[0, 1, 0, 1], &[1, 0, 0]));
+    // the stopped label of a plain class takes 1, and the tokens of a bounded one stay
+    let side = placed(alloc, SIDE, PLAIN, Event(1, 0), &[(1, 1), (-1, 1)])??;
+    assert!(rt; is_place(&side, 1, &[1, 1], &[1, 0], &[1, 0]));
+    let ring = placed(alloc, RING, TWO_BOUNDED, Event(0, 1), &[(0, 1), (-2, 1)])??;
+    assert!(rt; is_place(&ring, 0, &[0, 2], &[1, 0], &[0, 1, 2]));
+    let step = placed(alloc, STEP, PURE_PLAIN, Event(1, 0), &[(3, 2), (-1, 1)])??;
+    assert!(rt; is_place(&step, 1, &[1], &[0], &[1, 0]));
     let twice = placed(alloc, TWICE, NONE, Event(2, 0), &[(-1, 1)])??;
     assert!(rt; is_place(&twice, 2, &[1, 2], &[0, 0], &[2, 1, 0]));
     Ok(())

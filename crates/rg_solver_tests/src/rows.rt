@@ -1,7 +1,8 @@
-//! The systems of problems, with rows, names and factors worked by hand.
+//! The systems of problems, with rows, names, factors and forms worked by hand.
 use crate::bases::basis;
 use crate::systems::{
-    ABA, CHOICE, NONBRANCHING, NONE, PURE, PURE_NONBRANCHING, SIDE, is_asked, system,
+    ABA, CHOICE, NONBRANCHING, NONE, PLAIN, PURE, PURE_NONBRANCHING, PURE_PLAIN, RING, SAFE, SIDE,
+    STEP, is_asked, system,
 };
 use rg_rows::{NamedSystem, cases};
 use rg_spanning::Tree;
@@ -20,13 +21,10 @@ const PAIR: &str = ".type LTS .states s0[initial] s1 .labels a b .arcs s0 a s1 s
 // One a or two b lead from s0 to s1.
 const TWICE: &str = ".type LTS .states s0[initial] s1 s2 .labels a b .arcs s0 a s1 s0 b s2 s2 b s1";
 
-// A cycle of two a and one b.
-const RING: &str = ".type LTS .states s0[initial] s1 s2 .labels a b .arcs s0 a s1 s1 a s2 s2 b s0";
-
 // The effect of a is 0, so s1 and s2 have equal tokens.
 const IDLE: &str = ".type LTS .states s0[initial] s1 s2 .labels a b .arcs s0 a s0 s0 b s1 s1 a s2";
 
-// What the system of a case says, in one of the four classes.
+// What the system of a case says.
 fn told(
     alloc: Global,
     text: &str,
@@ -36,11 +34,7 @@ fn told(
 ) -> Result<String, Fail> {
     let lts = system(alloc, text)?;
     let tree = Tree::grow(alloc, &lts)?;
-    if class.plain
-        || class.bound.is_some()
-        || !is_asked(&lts, problem)
-        || number >= cases(&lts, class, problem)
-    {
+    if !is_asked(&lts, problem) || number >= cases(&lts, class, problem) {
         return Err(Fail::from(AllocError));
     }
     let basis = basis(alloc, &lts, &tree)?;
@@ -48,8 +42,8 @@ fn told(
     Ok(text_of(alloc, cases(&lts, class, problem), &named)?)
 }
 
-// How many cases and columns there are, and then each row as its name, its coefficients, its constant and its
-// factor.
+// How many cases and columns there are; then each row as its name, its coefficients, its constant and its factor;
+// and then each form as its name, its scale, its coefficients, its bounds, its row and how many times that it is.
 fn text_of(alloc: Global, cases: u32, named: &NamedSystem) -> Result<String, AllocError> {
     let columns = named.system.columns();
     let mut text = format!(in alloc; "{cases} {columns}")?;
@@ -66,6 +60,13 @@ fn text_of(alloc: Global, cases: u32, named: &NamedSystem) -> Result<String, All
             text,
             "; {:?} {:?} {constant} {top}/{bottom}",
             name, row.coeffs
+        )?;
+    }
+    for form in &named.forms {
+        write!(
+            text,
+            "; {:?} {} {:?} {} {} {} {}",
+            form.form, form.scale, form.coeffs, form.low, form.high, form.row, form.times
         )?;
     }
     Ok(text)
@@ -126,6 +127,35 @@ fn systems_of_cases(rt: HostRuntime) -> Result<(), Fail> {
             States(1, 2),
             1,
             "4 2; Apart [0, 0] -1 1/1; Tokens(0) [1, 0] 0 1/1; Tokens(1) [1, 1] 0 1/1",
+        ),
+        // the forms of plain and of bounded classes
+        (
+            RING,
+            PLAIN,
+            Event(0, 1),
+            0,
+            "1 2; Empty [-1, 0] 0 1/1; Full(2) [1, -1] -1 1/1; Keep [0, -1] 0 1/1; Tokens(0) [1, 0] 0 1/1; Tokens(1) [2, -1] 0 2/1; Tokens(2) [1, -1] 0 1/1; Up(0) [0, 1] 2 2/1; Up(1) [0, -1] 1 1/1; Down(0) [0, -1] 2 2/1; Down(1) [0, 1] 1 1/1; Effect(0) 2 [0, -1] -1 1 8 1; Effect(1) 1 [0, 1] -1 1 9 1",
+        ),
+        (
+            RING,
+            SAFE,
+            Event(0, 1),
+            0,
+            "1 2; Stop(2) [0, -1] -1 1/1; Tokens(0) [1, 0] 0 1/1; Tokens(1) [2, -1] 0 2/1; Tokens(2) [1, -1] 0 1/1; Cap(0) [-1, 0] 1 1/1; Cap(1) [-2, 1] 2 2/1; Cap(2) [-1, 1] 1 1/1; Tokens(0) 1 [1, 0] 0 1 1 1; Tokens(1) 2 [2, -1] 0 1 2 1; Tokens(2) 1 [1, -1] 0 1 3 1",
+        ),
+        (
+            SIDE,
+            PLAIN,
+            Event(1, 0),
+            0,
+            "1 2; Empty [-1, -1] 0 1/1; Full(0) [1, 0] -1 1/1; Tokens(0) [1, 0] 0 1/1; Tokens(1) [1, 1] 0 1/1; Up(1) [0, -1] 1 1/1; Down(1) [0, 1] 1 1/1; Effect(0) 1 [0, 0] -1 1 0 0; Effect(1) 1 [0, 1] -1 1 5 1",
+        ),
+        (
+            STEP,
+            PURE_PLAIN,
+            Event(1, 0),
+            0,
+            "1 2; Block [-1, -2] -1 1/1; Tokens(0) [1, 0] 0 1/1; Tokens(1) [1, 1] 0 1/1; Up(0) [0, -1] 1 1/1; Down(0) [0, 1] 1 1/1; Effect(0) 1 [0, 1] -1 1 4 1",
         ),
         (
             LOCK,

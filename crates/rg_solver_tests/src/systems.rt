@@ -27,8 +27,35 @@ pub(crate) const PURE_NONBRANCHING: Class = Class {
     ..NONBRANCHING
 };
 
+pub(crate) const PLAIN: Class = Class {
+    plain: true,
+    ..NONE
+};
+
+pub(crate) const PURE_PLAIN: Class = Class {
+    pure: true,
+    ..PLAIN
+};
+
+pub(crate) const SAFE: Class = Class {
+    bound: Some(1),
+    ..NONE
+};
+
+pub(crate) const TWO_BOUNDED: Class = Class {
+    bound: Some(2),
+    ..NONE
+};
+
 /// A loop and a step.
 pub(crate) const SIDE: &str = ".type LTS .states s0[initial] s1 .labels a b .arcs s0 a s0 s0 b s1";
+
+/// One arc.
+pub(crate) const STEP: &str = ".type LTS .states s0[initial] s1 .labels a .arcs s0 a s1";
+
+/// A cycle of two a and one b.
+pub(crate) const RING: &str =
+    ".type LTS .states s0[initial] s1 s2 .labels a b .arcs s0 a s1 s1 a s2 s2 b s0";
 
 /// The word a b a.
 pub(crate) const ABA: &str =

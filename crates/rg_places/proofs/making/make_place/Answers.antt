@@ -68,5 +68,5 @@ returns-clause-region c =
     let count = shift_length c.args.class (ratios_of c.in_ok-numbers.numbers.items) (ratios_of c.in_ok-numbers-2.numbers.items) c.in_ok-numbers-2.ensures.value ∙ before in
     let made = numbers_made c.args.lts.now c.args.tree.now.arcs (cycle_of c.args.basis.now) c.args.class c.args.problem (point_start c.args.class c.args.point.now) (point_value c.args.lts.now (cycle_of c.args.basis.now) c.args.class c.args.point.now) (ratios_of c.in_ok-found.found.items) c.in_ok-found.ensures.value (ratios_of c.in_ok-numbers.numbers.items) along (ratios_of c.in_ok-numbers-2.numbers.items) c.in_ok-numbers-2.ensures.value in
     if_both (λ (r : RegionPlace). place_fold c.args.lts.now c.args.tree.now.arcs (cycle_of c.args.basis.now) c.args.class c.args.problem (point_start c.args.class c.args.point.now) (point_value c.args.lts.now (cycle_of c.args.basis.now) c.args.class c.args.point.now) (Ok (shown_place r.place))) (λ (r : RegionPlace). r.tokens.items ≡ map (λ (n : Ratio). unsigned_abs n.top) (ratios_of c.in_ok-numbers-2.numbers.items))
-    (λ (r : RegionPlace). c.args.class.plain ≡ Rattle.std.proofs.Common.false → Rattle.std.proofs.Common.IsNone c.args.class.bound → IsLive c.args.lts.now c.args.problem → SolvesCase c.args.lts.now c.args.tree.now.arcs (cycle_of c.args.basis.now) c.args.class c.args.problem c.args.point.now → IsRegionPlace c.args.lts.now c.args.class r × PlaceSeparates c.args.problem r) c.place_of.result
-    (λ r h t plain bound live s. region_made c.args.lts.now c.args.tree.now.arcs (cycle_of c.args.basis.now) c.args.class c.args.problem c.args.point.now r (ratios_of c.in_ok-numbers-2.numbers.items) c.requires.columns plain bound live s made h t count) (returns-clause-place c) tokens
+    (λ (r : RegionPlace). IsLive c.args.lts.now c.args.problem → SolvesCase c.args.lts.now c.args.tree.now.arcs (cycle_of c.args.basis.now) c.args.class c.args.problem c.args.point.now → IsRegionPlace c.args.lts.now c.args.class r × PlaceSeparates c.args.problem r) c.place_of.result
+    (λ r h t live s. region_made c.args.lts.now c.args.tree.now.arcs (cycle_of c.args.basis.now) c.args.class c.args.problem c.args.point.now r (ratios_of c.in_ok-numbers-2.numbers.items) c.requires.columns live s made h t count) (returns-clause-place c) tokens

@@ -3,7 +3,8 @@ use Rattle.rg_order_of_work.specs.Rewriting.{KeptRow}
 use Rattle.rg_cycles.proofs.Firsts.{has_numbers}
 use Rattle.rg_rows.specs.View.{kept_row, ShowsRows}
 use Rattle.rg_rows.proofs.Keeping.{KeptSoFar}
+use Rattle.rg_rows.proofs.Placing.{PlacesSoFar}
 use Rattle.rg_rows.proofs.kept.firsts.Given as goal
 
 abbrev pub invariant-loop-i : goal.invariant-loop-i
-invariant-loop-i l = (kept : List KeptRow) × ShowsRows l.kept kept × KeptSoFar (map kept_row l.all) (has_numbers l.seen.keys) l.i kept
+invariant-loop-i l = (kept : List KeptRow) × ShowsRows l.kept kept × KeptSoFar (map kept_row l.all) (has_numbers l.seen.keys) l.i kept × PlacesSoFar (map kept_row l.all) l.i kept l.seen.keys l.places.items

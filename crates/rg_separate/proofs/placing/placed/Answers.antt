@@ -1,5 +1,4 @@
-use Rattle.std.proofs.Common.{ℕ, Option, Err, refl, sym, subst, ap}
-use Rattle.std.specs.Option.{IsNone}
+use Rattle.std.proofs.Common.{Err, sym, subst, ap}
 use Rattle.rg_order_of_work.specs.Shown.{Shown, ShownWide}
 use Rattle.rg_separate.specs.Casing.{AreColumnValues}
 use Rattle.rg_separate.proofs.PlaceOfPoint.{solves, case_columns, place_shown}
@@ -9,8 +8,6 @@ pub returns-in-Ok : goal.returns-in-Ok
 returns-in-Ok c =
     let are = subst (AreColumnValues c.args.named.now.system c.args.dictionary.now) (sym c.deref.ensures.value) c.in_ok-point.ensures in
     c.in-Ok.ensures.region
-    c.requires.case.setting.class.plain
-    (subst (λ (o : Option ℕ). IsNone o) (sym c.requires.case.setting.class.bound) refl)
     c.requires.case.live
     (solves c.args.c c.args.named.now c.args.dictionary.now c.deref.result.now c.requires.case c.requires.system c.requires.point are)
 

@@ -3,7 +3,7 @@ use Rattle.rg_theory.specs.System.{states}
 use Rattle.rg_refuting.specs.Row.{RowName.stop_row}
 use Rattle.rg_reasons.specs.Trees.{row_name_of}
 use Rattle.rg_order_of_work.specs.Rewriting.{numbers_where, has_label_at, states_with}
-use Rattle.rg_rows.proofs.names.stops.Given as goal
+use Rattle.rg_rows.proofs.problem_names.stops.Given as goal
 
 abbrev pub invariant-loop-q : goal.invariant-loop-q
 invariant-loop-q l = map row_name_of l.names.items ++ map stop_row (numbers_where (λ q. has_label_at q l.t l.lts.arcs) l.q (states l.lts - l.q)) ≡ map stop_row (states_with l.lts l.t)

@@ -1,0 +1,95 @@
+-- The forms in the order of the named rows are those of the case.
+use Rattle.std.proofs.Common.{◌≡◌, ℕ, ◌==◌, ◌&&◌, not, is_some, Bool, true, false, if◌then◌else◌, Option, Some, None, List, [], ◌∷◌, ◌++◌, map, refl, ap, ap₂, sym, ◌∙◌}
+use Rattle.std.proofs.lemmas.Bool.{true≢false}
+use Rattle.std.proofs.lemmas.List.{append-nil}
+use Rattle.rg_theory.specs.declared.Class.{Class}
+use Rattle.rg_theory.specs.declared.Problem.{Problem}
+use Rattle.rg_theory.specs.declared.Problem.TheVariants.{Event, States}
+use Rattle.rg_theory.specs.System.{System, states, labels}
+use Rattle.rg_refuting.specs.Row.{RowName, RowName.tokens_row, RowName.cap_row, RowName.up_row, RowName.down_row, RowName.makes_row, RowName.stop_row, RowName.block_row, RowName.empty_row, RowName.full_row, RowName.keep_row, case_consumer, Form as SplitForm, Form.on_tokens, Form.on_effect}
+use Rattle.rg_order_of_work.specs.Rewriting.{numbers_where, has_label, used_labels, states_with, has_start, all_numbers, problem_rows, names_of, split_forms}
+use Rattle.rg_order_of_work.proofs.Forms.{start_of_bound}
+use Rattle.rg_rows.specs.Forms.{form_in, put_form, forms_in}
+
+forms-append : (class : Class) (xs ys : List RowName) → forms_in class (xs ++ ys) ≡ forms_in class xs ++ forms_in class ys
+forms-append class [] ys = refl
+forms-append class (x ∷ xs) ys = ap (put_form (form_in class x)) (forms-append class xs ys) ∙ put (form_in class x)
+  where
+    put : (o : Option SplitForm) → put_form o (forms_in class xs ++ forms_in class ys) ≡ put_form o (forms_in class xs) ++ forms_in class ys
+    put None = refl
+    put (Some form) = refl
+
+no_forms : (class : Class) (row : ℕ → RowName) (xs : List ℕ) → ((n : ℕ) → form_in class (row n) ≡ None) → forms_in class (map row xs) ≡ []
+no_forms class row [] none = refl
+no_forms class row (x ∷ xs) none = ap (λ o. put_form o (forms_in class (map row xs))) (none x) ∙ no_forms class row xs none
+
+-- rows that have a form where the test holds
+all_forms : (class : Class) (row : ℕ → RowName) (form : ℕ → SplitForm) (b : Bool) (xs : List ℕ) → ((n : ℕ) → form_in class (row n) ≡ (if b then Some (form n) else None)) → forms_in class (map row xs) ≡ (if b then map form xs else [])
+all_forms class row form b [] each = none b
+  where
+    none : (b : Bool) → map form [] ≡ (if b then map form [] else [])
+    none true = refl
+    none false = refl
+all_forms class row form b (x ∷ xs) each = ap₂ put_form (each x) (all_forms class row form b xs each) ∙ go b
+  where
+    go : (b : Bool) → put_form (if b then Some (form x) else None) (if b then map form xs else []) ≡ (if b then (form x ∷ map form xs) else [])
+    go true = refl
+    go false = refl
+
+optional : (class : Class) (b : Bool) (names : List RowName) (forms : List SplitForm) → forms_in class names ≡ forms → forms_in class (if b then names else []) ≡ (if b then forms else [])
+optional class true names forms e = e
+optional class false names forms e = refl
+
+problem_none : (lts : System) (class : Class) (problem : Problem) → forms_in class (problem_rows lts class problem) ≡ []
+problem_none lts class (Event s t) = go class.pure class.plain
+  where
+    go : (pure plain : Bool) → forms_in class (if pure then (block_row ∷ []) else (if plain then (empty_row ∷ map full_row (states_with lts t) ++ keep_row ∷ []) else map stop_row (states_with lts t))) ≡ []
+    go true plain = refl
+    go false true = forms-append class (map full_row (states_with lts t)) (keep_row ∷ []) ∙ ap (λ l. l ++ []) (no_forms class full_row (states_with lts t) (λ n. refl))
+    go false false = no_forms class stop_row (states_with lts t) (λ n. refl)
+problem_none lts class (States s s') = refl
+
+pub forms_are : (lts : System) (class : Class) (problem : Problem) (number : ℕ) → forms_in class (names_of lts class problem number) ≡ split_forms lts class
+forms_are lts class problem number =
+    forms-append class (own ++ tokens ++ caps ++ sides) makes
+    ∙ ap₂ (λ x y. x ++ y)
+    (forms-append class (own ++ tokens ++ caps) sides
+    ∙ ap₂ (λ x y. x ++ y)
+    (forms-append class (own ++ tokens) caps
+    ∙ ap₂ (λ x y. x ++ y)
+    (forms-append class own tokens ∙ ap₂ (λ x y. x ++ y) (problem_none lts class problem) (optional class (has_start class) (map tokens_row (all_numbers (states lts))) (if is_some class.bound then map on_tokens (all_numbers (states lts)) else []) (all_forms class tokens_row on_tokens (is_some class.bound) (all_numbers (states lts)) (λ n. refl))))
+    (optional class (is_some class.bound) (map cap_row (all_numbers (states lts))) [] (no_forms class cap_row (all_numbers (states lts)) (λ n. refl))))
+    (optional class class.plain (map up_row (used_labels lts) ++ map down_row (used_labels lts)) (if class.plain && not (is_some class.bound) then map on_effect (used_labels lts) else []) (forms-append class (map up_row (used_labels lts)) (map down_row (used_labels lts)) ∙ ap₂ (λ x y. x ++ y) (no_forms class up_row (used_labels lts) (λ n. refl)) (all_forms class down_row on_effect (class.plain && not (is_some class.bound)) (used_labels lts) (λ n. refl)))))
+    (optional class class.nonbranching (map makes_row makers) [] (no_forms class makes_row makers (λ n. refl)))
+    ∙ choose (is_some class.bound) class.plain (has_start class) class.nonbranching (map on_tokens (all_numbers (states lts))) (map on_effect (used_labels lts)) (start_of_bound class)
+  where
+    own : List RowName
+    own = problem_rows lts class problem
+
+    tokens : List RowName
+    tokens = if has_start class then map tokens_row (all_numbers (states lts)) else []
+
+    caps : List RowName
+    caps = if is_some class.bound then map cap_row (all_numbers (states lts)) else []
+
+    sides : List RowName
+    sides = if class.plain then (map up_row (used_labels lts) ++ map down_row (used_labels lts)) else []
+
+    makers : List ℕ
+    makers = numbers_where (λ u. has_label u lts.arcs && not (u == case_consumer lts problem number)) 0 (labels lts)
+
+    makes : List RowName
+    makes = if class.nonbranching then map makes_row makers else []
+
+    none : (b : Bool) (xs : List SplitForm) → xs ++ (if b then [] else []) ≡ xs
+    none true xs = append-nil xs
+    none false xs = append-nil xs
+
+    choose : (b p s n : Bool) (X Y : List SplitForm) → (b ≡ true → s ≡ true) → ((([] ++ (if s then (if b then X else []) else [])) ++ (if b then [] else [])) ++ (if p then (if p && not b then Y else []) else [])) ++ (if n then [] else []) ≡ (if b then X else (if p then Y else []))
+    choose true true true n X Y start = none n ((X ++ []) ++ []) ∙ append-nil (X ++ []) ∙ append-nil X
+    choose true false true n X Y start = none n ((X ++ []) ++ []) ∙ append-nil (X ++ []) ∙ append-nil X
+    choose true p false n X Y start = absurd (true≢false (sym (start refl)))
+    choose false true true n X Y start = none n Y
+    choose false true false n X Y start = none n Y
+    choose false false true n X Y start = none n []
+    choose false false false n X Y start = none n []

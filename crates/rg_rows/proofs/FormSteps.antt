@@ -1,0 +1,173 @@
+-- The forms of the named rows, one after the other.
+use Rattle.std.proofs.Common.{◌≡◌, ℕ, suc, max, ◌+◌, ◌<◌, ◌≤◌, ◌&&◌, not, is_some, Bool, true, false, if◌then◌else◌, Option, Some, None, option_map, List, [], ◌∷◌, ◌++◌, map, drop, length, Result, Ok, Err, All, ap, refl, subst, sym, ◌∙◌, arith, inl, append_assoc}
+use Rattle.std.specs.Prelude.{ℤ, pos, ◌*ℤ◌, ◌<ℤ◌, slice_index_or}
+use Rattle.std.proofs.lemmas.List.{append-nil, drop_all, get_or-map, length-map}
+use Rattle.std.proofs.lemmas.Option.{slice_get-map}
+use Rattle.rg_theory.specs.declared.Arc.{Arc}
+use Rattle.rg_theory.specs.declared.Class.{Class}
+use Rattle.rg_theory.specs.declared.Problem.{Problem}
+use Rattle.rg_theory.specs.System.{System}
+use Rattle.rg_fraction.specs.declared.term.Wide.{Wide}
+use Rattle.rg_linear.specs.Branching.{Form}
+use Rattle.rg_linear.specs.Cycle.{CycleBasis}
+use Rattle.rg_refuting.specs.Expression.{Term, Expression, plus}
+use Rattle.rg_refuting.specs.Row.{RowName, RowName.arc_row, RowName.tokens_row, RowName.cap_row, RowName.up_row, RowName.down_row, RowName.makes_row, RowName.stop_row, RowName.block_row, RowName.empty_row, RowName.full_row, RowName.keep_row, RowName.apart_row, RowName.above_row, row_expression, Form as SplitForm, Form.on_tokens, Form.on_effect, form_variable}
+use Rattle.rg_order_of_work.specs.Fold.{each}
+use Rattle.rg_order_of_work.specs.Rewriting.{Scaled, column_count, terms_fold, form_fold, form_low, form_high, KeptRow}
+use Rattle.rg_order_of_work.specs.FormRows.{form_row}
+use Rattle.rg_order_of_work.proofs.FormRows.{same_terms, form_over_row}
+use Rattle.rg_order_of_work.proofs.Forms.{each_at}
+use Rattle.rg_cycles.proofs.Folding.{behind, each_next, each_fails, each_ends}
+use Rattle.rg_cycles.proofs.Items.{from_place}
+use Rattle.rg_integers.specs.Range.{InRange}
+use Rattle.rg_reasons.specs.declared.certificate.RowName.{RowName as CodeName}
+use Rattle.rg_reasons.specs.declared.certificate.Form.{Form as CodeForm}
+use Rattle.rg_reasons.specs.Trees.{row_name_of, form_of}
+use Rattle.rg_rows.specs.declared.case_row.CaseRow.{CaseRow}
+use Rattle.rg_rows.specs.declared.named_form.NamedForm.{NamedForm}
+use Rattle.rg_rows.specs.View.{kept_row, fold_of}
+use Rattle.rg_rows.specs.Forms.{linear_form, split_of, form_in, put_form, forms_in, IsPartOf}
+use Rattle.rg_rows.specs.Making.{IsMade}
+use Rattle.rg_rows.proofs.Placing.{row_got}
+
+-- the row that the form is of
+pub form_in_row : (class : Class) (name : RowName) (split : SplitForm) → form_in class name ≡ Some split → name ≡ form_row split
+form_in_row class (tokens_row q) split e = go (is_some class.bound) e
+  where
+    go : (b : Bool) → (if b then Some (on_tokens q) else None) ≡ Some split → tokens_row q ≡ form_row split
+    go true e = ap form_row (only e)
+      where
+        only : Some (on_tokens q) ≡ Some split → on_tokens q ≡ split
+        only e = cc
+    go false e = cc
+form_in_row class (down_row t) split e = go (class.plain && not (is_some class.bound)) e
+  where
+    go : (b : Bool) → (if b then Some (on_effect t) else None) ≡ Some split → down_row t ≡ form_row split
+    go true e = ap form_row (only e)
+      where
+        only : Some (on_effect t) ≡ Some split → on_effect t ≡ split
+        only e = cc
+    go false e = cc
+form_in_row class (arc_row q t q') split e = cc
+form_in_row class (cap_row q) split e = cc
+form_in_row class (up_row t) split e = cc
+form_in_row class (makes_row t) split e = cc
+form_in_row class (stop_row q) split e = cc
+form_in_row class block_row split e = cc
+form_in_row class empty_row split e = cc
+form_in_row class (full_row q) split e = cc
+form_in_row class keep_row split e = cc
+form_in_row class apart_row split e = cc
+form_in_row class (above_row d) split e = cc
+
+-- ---- the list
+
+module _ (class : Class) (make : SplitForm → Result Form Wide → Type 0) (names : List RowName) (i : ℕ) (name : RowName) (next : drop i names ≡ name ∷ drop (i + 1) names) (xs : List Form) (so_far : (r : Result (List Form) Wide) → each make (forms_in class (drop i names)) r → each make (forms_in class names) (behind xs r)) where
+  pub form_skips : form_in class name ≡ None → (r : Result (List Form) Wide) → each make (forms_in class (drop (i + 1) names)) r → each make (forms_in class names) (behind xs r)
+  form_skips none r h = so_far r (subst (λ l. each make l r) (sym (ap (forms_in class) next ∙ ap (λ o. put_form o (forms_in class (drop (i + 1) names))) none)) h)
+
+  module _ (split : SplitForm) (is : form_in class name ≡ Some split) where
+    here : (r : Result (List Form) Wide) → each make (split ∷ forms_in class (drop (i + 1) names)) r → each make (forms_in class names) (behind xs r)
+    here r h = so_far r (subst (λ l. each make l r) (sym (ap (forms_in class) next ∙ ap (λ o. put_form o (forms_in class (drop (i + 1) names))) is)) h)
+
+    pub form_next : (x : Form) → make split (Ok x) → (r : Result (List Form) Wide) → each make (forms_in class (drop (i + 1) names)) r → each make (forms_in class names) (behind (xs ++ x ∷ []) r)
+    form_next x made = each_next make (forms_in class names) split (forms_in class (drop (i + 1) names)) xs here x made
+
+    pub form_fails : (w : Wide) → make split (Err w) → each make (forms_in class names) (Err w)
+    form_fails w made = each_fails make (forms_in class names) split (forms_in class (drop (i + 1) names)) xs here w made
+
+pub forms_end : (class : Class) (make : SplitForm → Result Form Wide → Type 0) (names : List RowName) (i : ℕ) (xs : List Form) → ((r : Result (List Form) Wide) → each make (forms_in class (drop i names)) r → each make (forms_in class names) (behind xs r)) → length names ≤ i → each make (forms_in class names) (Ok xs)
+forms_end class make names i xs so_far past = each_ends make (forms_in class names) xs (λ r h. so_far r (subst (λ l. each make (forms_in class l) r) (sym (drop_all i names past)) h))
+
+-- the names of the forms so far
+module _ (class : Class) (names : List RowName) (i : ℕ) (name : RowName) (next : drop i names ≡ name ∷ drop (i + 1) names) (done : List SplitForm) (so_far : done ++ forms_in class (drop i names) ≡ forms_in class names) where
+  pub named_skips : form_in class name ≡ None → done ++ forms_in class (drop (i + 1) names) ≡ forms_in class names
+  named_skips none = ap (λ l. done ++ l) (sym (ap (forms_in class) next ∙ ap (λ o. put_form o (forms_in class (drop (i + 1) names))) none)) ∙ so_far
+
+  pub named_next : (split : SplitForm) → form_in class name ≡ Some split → (done ++ split ∷ []) ++ forms_in class (drop (i + 1) names) ≡ forms_in class names
+  named_next split is = append_assoc done (split ∷ []) (forms_in class (drop (i + 1) names)) ∙ ap (λ l. done ++ l) (sym (ap (forms_in class) next ∙ ap (λ o. put_form o (forms_in class (drop (i + 1) names))) is)) ∙ so_far
+
+pub named_end : (class : Class) (names : List RowName) (i : ℕ) (done : List SplitForm) → done ++ forms_in class (drop i names) ≡ forms_in class names → length names ≤ i → done ≡ forms_in class names
+named_end class names i done so_far past = sym (append-nil done) ∙ ap (λ l. done ++ forms_in class l) (sym (drop_all i names past)) ∙ so_far
+
+-- ---- one form
+
+module _ (lts : System) (tree : List Arc) (basis : CycleBasis) (class : Class) (problem : Problem) (number : ℕ) (split : SplitForm) (e : Expression) (is : e ≡ row_expression lts class problem number [] (form_row split)) where
+  terms_are : (r : Result Scaled Wide) → terms_fold lts tree basis class e.terms r → terms_fold lts tree basis class (plus (form_variable lts.initial split) ∷ []) r
+  terms_are r h = subst (λ (ts : List Term). terms_fold lts tree basis class ts r) (ap (λ (x : Expression). x.terms) is ∙ same_terms lts class problem number split) h
+
+  pub form_of_terms : (s : Scaled) (form : Form) → terms_fold lts tree basis class e.terms (Ok s) → form ≡ record { scale = s.multiple; coeffs = s.numbers; low = form_low class; high = form_high class } → form_fold lts tree basis class split (Ok form)
+  form_of_terms s form h same = (s, terms_are (Ok s) h, same)
+
+  pub form_of_none : (w : Wide) → terms_fold lts tree basis class e.terms (Err w) → form_fold lts tree basis class split (Err w)
+  form_of_none w h = inl (terms_are (Err w) h)
+
+  -- the numbers are those of the row, so many times
+  pub times_row : (s : Scaled) (k : KeptRow) → terms_fold lts tree basis class e.terms (Ok s) → fold_of lts tree basis class problem number (form_row split) (Ok k) → (d : ℕ) × (0 < d) × (s.numbers ≡ map (λ z. pos d *ℤ z) k.row.coeffs)
+  times_row s k h row =
+      let (divisor, same) = form_over_row lts tree basis class problem number split (record { scale = s.multiple; coeffs = s.numbers; low = form_low class; high = form_high class }) k (form_of_terms s (record { scale = s.multiple; coeffs = s.numbers; low = form_low class; high = form_high class }) h refl) row in
+      (max divisor 1, omega arith, same)
+
+-- the row at a place, and its name
+pub row_at_place : (lts : System) (tree : List Arc) (basis : CycleBasis) (class : Class) (problem : Problem) (number : ℕ) (names : List RowName) (all : List KeptRow) (i : ℕ) (name : RowName) (k : KeptRow) → each (fold_of lts tree basis class problem number) names (Ok all) → i < length names → slice_index_or names i name ≡ name → slice_index_or all i k ≡ k → fold_of lts tree basis class problem number name (Ok k) × (k.name ≡ name)
+row_at_place lts tree basis class problem number names all i name k made lt at at_k =
+    let fold = subst (λ n. fold_of lts tree basis class problem number n (Ok k)) at (subst (λ r. fold_of lts tree basis class problem number (slice_index_or names i name) (Ok r)) at_k (each_at (fold_of lts tree basis class problem number) names all i name k made lt)) in
+    (fold, named fold)
+  where
+    named : fold_of lts tree basis class problem number name (Ok k) → k.name ≡ name
+    named (scaled, terms, (constant, product, (same, d))) = same
+
+-- ---- the forms of the rows before place i
+
+pub record Keeps (lts : System) (tree : List Arc) (basis : CycleBasis) (class : Class) (names : List CodeName) (rows : List CaseRow) (places : List ℕ) (i : ℕ) (forms : List NamedForm) : Type 0 where
+  pub so_far : (r : Result (List Form) Wide) → each (form_fold lts tree basis class) (forms_in class (drop i (map row_name_of names))) r → each (form_fold lts tree basis class) (forms_in class (map row_name_of names)) (behind (map linear_form forms) r)
+  pub splits : map split_of forms ++ forms_in class (drop i (map row_name_of names)) ≡ forms_in class (map row_name_of names)
+  pub made : All (IsMade class (column_count lts basis class) (map kept_row rows) places) forms
+
+-- ---- the row at place i, which has a form
+
+module _ (lts : System) (tree : List Arc) (basis : CycleBasis) (class : Class) (problem : Problem) (number : ℕ) (names : List CodeName) (i : ℕ) (d : CodeName) (lt : i < length names) where
+  abbrev name : RowName
+  name = row_name_of (slice_index_or names i d)
+
+  pub next_name : drop i (map row_name_of names) ≡ row_name_of (slice_index_or names i d) ∷ drop (i + 1) (map row_name_of names)
+  next_name = from_place (map row_name_of names) i (row_name_of d) (subst (λ n. i < n) (sym (length-map names row_name_of)) lt) ∙ ap (λ x. x ∷ drop (i + 1) (map row_name_of names)) (get_or-map row_name_of names i d (row_name_of d) lt)
+
+  module _ (form : CodeForm) (is_form : Some (form_of form) ≡ form_in class (row_name_of (slice_index_or names i d))) (e : Expression) (is_e : e ≡ row_expression lts class problem number [] (row_name_of (slice_index_or names i d))) where
+    named : name ≡ form_row (form_of form)
+    named = form_in_row class name (form_of form) (sym is_form)
+
+    is_split : e ≡ row_expression lts class problem number [] (form_row (form_of form))
+    is_split = is_e ∙ ap (row_expression lts class problem number []) named
+
+    module _ (xs : List Form) (so_far : (r : Result (List Form) Wide) → each (form_fold lts tree basis class) (forms_in class (drop i (map row_name_of names))) r → each (form_fold lts tree basis class) (forms_in class (map row_name_of names)) (behind xs r)) where
+      pub step_fails : (w : Wide) → terms_fold lts tree basis class e.terms (Err w) → each (form_fold lts tree basis class) (forms_in class (map row_name_of names)) (Err w)
+      step_fails w h = form_fails class (form_fold lts tree basis class) (map row_name_of names) i name next_name xs so_far (form_of form) (sym is_form) w (form_of_none lts tree basis class problem number (form_of form) e is_split w h)
+
+      pub step_next : (f : NamedForm) (s : Scaled) → terms_fold lts tree basis class e.terms (Ok s) → f.scale ≡ s.multiple → f.coeffs.items ≡ s.numbers → f.low ≡ form_low class → f.high ≡ form_high class → (r : Result (List Form) Wide) → each (form_fold lts tree basis class) (forms_in class (drop (i + 1) (map row_name_of names))) r → each (form_fold lts tree basis class) (forms_in class (map row_name_of names)) (behind (xs ++ linear_form f ∷ []) r)
+      step_next f s h scale coeffs low high = form_next class (form_fold lts tree basis class) (map row_name_of names) i name next_name xs so_far (form_of form) (sym is_form) (linear_form f) (form_of_terms lts tree basis class problem number (form_of form) e is_split s (linear_form f) h (λ j. record { scale = scale j; coeffs = coeffs j; low = low j; high = high j }))
+
+    pub step_named : (done : List SplitForm) → done ++ forms_in class (drop i (map row_name_of names)) ≡ forms_in class (map row_name_of names) → (f : NamedForm) → f.form ≡ form → (done ++ split_of f ∷ []) ++ forms_in class (drop (i + 1) (map row_name_of names)) ≡ forms_in class (map row_name_of names)
+    step_named done so_far f same = ap (λ x. (done ++ form_of x ∷ []) ++ forms_in class (drop (i + 1) (map row_name_of names))) same ∙ named_next class (map row_name_of names) i name next_name done so_far (form_of form) (sym is_form)
+
+    module _ (rows : List CaseRow) (lt' : i < length rows) (made : each (fold_of lts tree basis class problem number) (map row_name_of names) (Ok (map kept_row rows))) (row : CaseRow) (is_row : row ≡ slice_index_or rows i row) where
+      row_is : fold_of lts tree basis class problem number name (Ok (kept_row row)) × ((kept_row row).name ≡ name)
+      row_is = row_at_place lts tree basis class problem number (map row_name_of names) (map kept_row rows) i name (kept_row row) made (subst (λ n. i < n) (sym (length-map names row_name_of)) lt) (get_or-map row_name_of names i d name lt) (get_or-map kept_row rows i row (kept_row row) lt' ∙ ap kept_row (sym is_row))
+
+      pub step_times : (s : Scaled) → terms_fold lts tree basis class e.terms (Ok s) → (t : ℕ) × (0 < t) × (s.numbers ≡ map (λ z. pos t *ℤ z) row.coeffs.items)
+      step_times s h = times_row lts tree basis class problem number (form_of form) e is_split s (kept_row row) h (subst (λ n. fold_of lts tree basis class problem number n (Ok (kept_row row))) named row_is.0)
+
+      pub step_made : (columns : ℕ) (places : List ℕ) (f : NamedForm) → f.form ≡ form → IsPartOf f row.coeffs.items (slice_index_or places i 0) → (f.low ≡ form_low class) × (f.high ≡ form_high class) → length f.coeffs.items ≡ columns → pos 0 <ℤ f.scale → InRange f.scale → All InRange f.coeffs.items → InRange f.times → IsMade class columns (map kept_row rows) places f
+      step_made columns places f same part bounds one_each positive scale coeffs times = record {
+        number = i;
+        row = kept_row row;
+        at = row_got rows i row lt' is_row;
+        named = row_is.1 ∙ named ∙ ap (λ x. form_row (form_of x)) (sym same);
+        part = part;
+        bounds = bounds;
+        one_each = one_each;
+        positive = positive;
+        scale_in_range = scale;
+        coeffs_in_range = coeffs;
+        times_in_range = times;
+      }

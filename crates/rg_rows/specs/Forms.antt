@@ -1,0 +1,77 @@
+-- The forms of a case, and what a branching asks of them.
+use Rattle.std.specs.Prelude.{◌≡◌, ◌≢◌, ◌⊎◌, ℕ, ◌+◌, ◌^◌, ◌<◌, ◌&&◌, not, is_some, if◌then◌else◌, List, [], ◌∷◌, map, length, All, Option, Some, None, Ok, slice_get, ℤ, pos, ◌+ℤ◌, ◌-ℤ◌, ◌*ℤ◌, ◌≤ℤ◌, ◌<ℤ◌}
+use Rattle.rg_theory.specs.declared.Arc.{Arc}
+use Rattle.rg_theory.specs.declared.Class.{Class}
+use Rattle.rg_theory.specs.declared.Problem.{Problem}
+use Rattle.rg_theory.specs.System.{System}
+use Rattle.rg_integers.specs.Range.{InRange}
+use Rattle.rg_integers.specs.Sum.{sum_over}
+use Rattle.rg_linear.specs.System.{LinearSystem}
+use Rattle.rg_linear.specs.Branching.{Form, AreBounded}
+use Rattle.rg_linear.specs.Cycle.{CycleBasis, IsZeroVector}
+use Rattle.rg_refuting.specs.Row.{RowName, RowName.tokens_row, RowName.down_row, Form as SplitForm, Form.on_tokens, Form.on_effect}
+use Rattle.rg_order_of_work.specs.Rewriting.{KeptRow}
+use Rattle.rg_order_of_work.specs.FormRows.{form_row, IsMultipleOfRow}
+use Rattle.rg_reasons.specs.Trees.{form_of}
+use Rattle.rg_rows.specs.declared.named_form.NamedForm.{NamedForm}
+use Rattle.rg_rows.specs.View.{fold_of}
+
+-- the form over the columns
+abbrev pub linear_form : NamedForm → Form
+linear_form f = record { scale = f.scale; coeffs = f.coeffs.items; low = f.low; high = f.high }
+
+-- what it is of
+abbrev pub split_of : NamedForm → SplitForm
+split_of f = form_of f.form
+
+-- ---- the forms in the order of the named rows
+
+-- the form of the class that has the terms of the row
+abbrev pub form_in : Class → RowName → Option SplitForm
+form_in class (tokens_row q) = if is_some class.bound then Some (on_tokens q) else None
+form_in class (down_row t) = if class.plain && not (is_some class.bound) then Some (on_effect t) else None
+form_in class name = None
+
+abbrev pub put_form : Option SplitForm → List SplitForm → List SplitForm
+put_form None forms = forms
+put_form (Some form) forms = form ∷ forms
+
+abbrev pub forms_in : Class → List RowName → List SplitForm
+forms_in class [] = []
+forms_in class (name ∷ names) = put_form (form_in class name) (forms_in class names)
+
+-- ---- the row of a form
+
+-- the form is the row times a positive number, and is not 0, or it is 0 and names no row
+abbrev pub IsPartOf : NamedForm → List ℤ → ℕ → Type 0
+IsPartOf f coeffs place =
+    ((pos 0 <ℤ f.times) × (f.coeffs.items ≡ map (λ z. f.times *ℤ z) coeffs) × (f.row ≡ place) × ¬ IsZeroVector f.coeffs.items)
+    ⊎ ((f.times ≡ pos 0) × (f.row ≡ 0) × IsZeroVector f.coeffs.items)
+
+-- the row of the form is the one that stayed for `tokens` of its state or `down` of its label; a form without coefficients
+-- has times 0 and row 0
+abbrev pub StandsInRow : System → List Arc → CycleBasis → Class → Problem → ℕ → LinearSystem → NamedForm → Type 0
+StandsInRow lts tree basis class problem number system f =
+    (k : KeptRow) → fold_of lts tree basis class problem number (form_row (split_of f)) (Ok k)
+    → ((f.times ≢ pos 0) × (slice_get system.rows f.row ≡ Some k.row)) ⊎ ((f.times ≡ pos 0) × (f.row ≡ 0) × IsZeroVector f.coeffs.items)
+
+-- ---- what a branching asks
+
+-- one coefficient a column, a multiple of those of a row; the scale is positive, and the numbers are in range
+pub record IsFormOf (system : LinearSystem) (f : NamedForm) : Type 0 where
+  pub one_each : length f.coeffs.items ≡ system.columns
+  pub positive : pos 0 <ℤ f.scale
+  pub scale_in_range : InRange f.scale
+  pub coeffs_in_range : All InRange f.coeffs.items
+  pub ordered : f.low ≤ℤ f.high
+  pub low_in_range : InRange (f.scale *ℤ f.low)
+  pub high_in_range : InRange (f.scale *ℤ f.high)
+  pub times_in_range : InRange f.times
+  pub over : IsMultipleOfRow system (linear_form f) f.row f.times
+
+-- the rows bound each form; columns, rows and all steps between the bounds are fewer than 2^32
+pub record AreFormsOf (system : LinearSystem) (forms : List NamedForm) : Type 0 where
+  pub each : All (IsFormOf system) forms
+  pub bounded : AreBounded system (map linear_form forms)
+  pub few_forms : length forms < 2 ^ 32
+  pub few : (pos (system.columns + length system.rows) +ℤ sum_over (λ f. f.high -ℤ f.low) forms) <ℤ pos (2 ^ 32)

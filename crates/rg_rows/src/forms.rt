@@ -1,0 +1,127 @@
+//! The forms of a case.
+ghost use Rattle.std.specs.Prelude.{◌≡◌, ◌⊎◌, ℕ, ◌<◌, length, map, All, ℤ, pos, ◌*ℤ◌, Ok, Err, option_map, IfOk, IsErrOf};
+ghost use Rattle.rg_integers.specs.Range.{InRange};
+ghost use Rattle.rg_theory.specs.System.{labels};
+ghost use Rattle.rg_fraction.specs.declared.term.Wide.{Wide};
+ghost use Rattle.rg_fraction.specs.declared.fold_stop.FoldStop.TheVariants as stop;
+ghost use Rattle.rg_linear.specs.Cycle.{IsZeroVector};
+ghost use Rattle.rg_spanning.specs.Spanning.{IsTreeOf};
+ghost use Rattle.rg_cycles.specs.View.{labels_of, cycle_of};
+ghost use Rattle.rg_order_of_work.specs.Fold.{each};
+ghost use Rattle.rg_order_of_work.specs.Rewriting.{column_count, form_fold, form_low, form_high};
+ghost use Rattle.rg_denominators.specs.View.{scaled_of};
+ghost use Rattle.rg_reasons.specs.Trees.{row_name_of, form_of};
+ghost use Rattle.rg_columns.specs.View.{AreColumns};
+ghost use Rattle.rg_rows.specs.View.{kept_row, AreNamesWithin, fold_of};
+ghost use Rattle.rg_rows.specs.Forms.{linear_form, split_of, form_in, forms_in, IsPartOf};
+ghost use Rattle.rg_rows.specs.Making.{IsMade};
+
+use crate::case_row::CaseRow;
+use crate::named_form::NamedForm;
+use crate::rewriting::over_columns;
+use rg_columns::Columns;
+use rg_cycles::Basis;
+use rg_denominators::Scaled;
+use rg_fraction::FoldStop;
+use rg_lts::Lts;
+use rg_reasons::{Form, ProblemCase, RowName, expression};
+use rg_spanning::Tree;
+use rg_theory::Class;
+use std::alloc::Global;
+
+// The forms in order: in a bounded class the tokens of each state, else in a plain one the effect of each label with an
+// arc. Each is written over the columns as the row named `tokens` or `down` is, and not divided.
+pub(crate) fn forms(
+    alloc: Global,
+    lts: &Lts,
+    tree: &Tree,
+    basis: &Basis,
+    columns: &Columns,
+    case: ProblemCase,
+    names: &[RowName],
+    rows: &[CaseRow],
+    places: &[u32],
+) -> Result<Vec<NamedForm>, FoldStop>
+    requires tree { IsTreeOf lts.now tree.now }
+    requires labels { labels_of basis.now ≡ labels lts.now }
+    requires columns { AreColumns lts.now case.class columns.now }
+    requires names { AreNamesWithin lts.now case.class case.problem case.number (map row_name_of names.now) }
+    requires rows { each (fold_of lts.now tree.now.arcs (cycle_of basis.now) case.class case.problem case.number) (map row_name_of names.now) (Ok (map kept_row rows.now)) }
+    requires one_each { length rows.now ≡ length names.now }
+    requires places { length places.now ≡ length rows.now }
+    ensures value { IfOk result (λ v. each (form_fold lts.now tree.now.arcs (cycle_of basis.now) case.class) (forms_in case.class (map row_name_of names.now)) (Ok (map linear_form v.items))) }
+    ensures forms { IfOk result (λ v. map split_of v.items ≡ forms_in case.class (map row_name_of names.now)) }
+    ensures made { IfOk result (λ v. All (IsMade case.class (column_count lts.now (cycle_of basis.now) case.class) (map kept_row rows.now) places.now) v.items) }
+    ensures wide { (w : Wide) → IsErrOf result (stop.Wide w) → each (form_fold lts.now tree.now.arcs (cycle_of basis.now) case.class) (forms_in case.class (map row_name_of names.now)) (Err w) }
+{
+    let mut forms = Vec::new(alloc);
+    for (i, &name) in names.iter().enumerate() {
+        if let Some(form) = form_named(case.class, name) {
+            let expression = expression(lts, case, &[], name);
+            let scaled = over_columns(alloc, tree, basis, columns, &expression)?;
+            forms.push(form_over(case.class, form, scaled, &rows[i], places[i]))?;
+        }
+    }
+    Ok(forms)
+}
+
+// The form that has the terms of this row, where it is one of the class's.
+fn form_named(class: Class, name: RowName) -> Option<Form>
+    ensures { option_map form_of result ≡ form_in class (row_name_of name) }
+{
+    match name {
+        RowName::Tokens(q) if class.bound.is_some() => Some(Form::Tokens(q)),
+        RowName::Down(t) if class.plain && class.bound.is_none() => Some(Form::Effect(t)),
+        _ => None,
+    }
+}
+
+// The form with these numbers, of which those of the row are a part.
+fn form_over(class: Class, form: Form, scaled: Scaled, row: &CaseRow, place: u32) -> NamedForm
+    requires { (d : ℕ) × (0 < d) × (scaled.numbers.items ≡ map (λ z. pos d *ℤ z) row.now.coeffs.items) }
+    ensures form { result.form ≡ form }
+    ensures numbers { (result.scale ≡ scaled.multiple) × (result.coeffs.items ≡ scaled.numbers.items) }
+    ensures bounds { (result.low ≡ form_low class) × (result.high ≡ form_high class) }
+    ensures row { IsPartOf result row.now.coeffs.items place }
+    ensures in_range { InRange result.times }
+{
+    let times = times(&scaled.numbers, &row.coeffs);
+    NamedForm {
+        form,
+        scale: scaled.multiple,
+        coeffs: scaled.numbers,
+        low: low(class),
+        high: high(class),
+        row: if times == 0 { 0 } else { place },
+        times,
+    }
+}
+
+// The least that a form of the class may be.
+fn low(class: Class) -> i64
+    ensures { result ≡ form_low class }
+{
+    if class.bound.is_some() { 0 } else { -1 }
+}
+
+// The most that it may be.
+fn high(class: Class) -> i64
+    ensures { result ≡ form_high class }
+{
+    class.bound.map_or(1, i64::from)
+}
+
+// How many times the parts the numbers are, 0 where all are 0.
+fn times(numbers: &[i128], parts: &[i128]) -> i128
+    requires times { (d : ℕ) × (0 < d) × (numbers.now ≡ map (λ z. pos d *ℤ z) parts.now) }
+    requires in_range { All InRange numbers.now }
+    ensures in_range { InRange result }
+    ensures times { (d : ℕ) → 0 < d → numbers.now ≡ map (λ z. pos d *ℤ z) parts.now → ((result ≡ pos d) × ¬ IsZeroVector numbers.now) ⊎ ((result ≡ pos 0) × IsZeroVector numbers.now) }
+{
+    for (i, number) in numbers.iter().enumerate() {
+        if *number != 0 {
+            return *number / parts[i];
+        }
+    }
+    0
+}

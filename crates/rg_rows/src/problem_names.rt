@@ -1,0 +1,68 @@
+//! The rows of a problem itself.
+ghost use Rattle.std.specs.Prelude.{◌≡◌, ◌<◌, ◌++◌, ◌∷◌, [], map, IfOk, OnOk};
+ghost use Rattle.rg_theory.specs.System.{labels};
+ghost use Rattle.rg_refuting.specs.Refutes.{IsSeparationProblem};
+ghost use Rattle.rg_refuting.specs.Row.{RowName.stop_row, RowName.empty_row, RowName.full_row, RowName.keep_row};
+ghost use Rattle.rg_reasons.specs.Trees.{row_name_of};
+ghost use Rattle.rg_order_of_work.specs.Rewriting.{states_with, problem_rows};
+
+use rg_lts::Lts;
+use rg_reasons::{ProblemCase, RowName};
+use rg_theory::Problem;
+use std::alloc::{AllocError, Global};
+
+// The rows of the problem: `block` in a pure class, `empty`, `full` and `keep` in another plain one, else `stop`; of a
+// state problem `apart`.
+pub(crate) fn problem_rows(
+    alloc: Global,
+    lts: &Lts,
+    case: ProblemCase,
+) -> Result<Vec<RowName>, AllocError>
+    requires asked { IsSeparationProblem lts.now case.problem }
+    ensures { IfOk result (λ v. map row_name_of v.items ≡ problem_rows lts.now case.class case.problem) }
+{
+    match case.problem {
+        Problem::Event(..) if case.class.pure => [RowName::Block].to_vec(alloc),
+        Problem::Event(_, t) if case.class.plain => plain_rows(alloc, lts, t),
+        Problem::Event(_, t) => stops(alloc, lts, t),
+        Problem::States(..) => [RowName::Apart].to_vec(alloc),
+    }
+}
+
+// `empty`, `full` at each state with an arc of label t, and `keep`.
+fn plain_rows(alloc: Global, lts: &Lts, t: u32) -> Result<Vec<RowName>, AllocError>
+    requires { t < labels lts.now }
+    ensures { IfOk result (λ v. map row_name_of v.items ≡ empty_row ∷ map full_row (states_with lts.now t) ++ keep_row ∷ []) }
+{
+    let mut names = [RowName::Empty].to_vec(alloc)?;
+    push_fulls(&mut names, lts, t)?;
+    names.push(RowName::Keep)?;
+    Ok(names)
+}
+
+// `full` at each state with an arc of label t.
+fn push_fulls(names: &mut Vec<RowName>, lts: &Lts, t: u32) -> Result<(), AllocError>
+    requires { t < labels lts.now }
+    ensures { OnOk result (map row_name_of names.new.items ≡ map row_name_of names.old.items ++ map full_row (states_with lts.now t)) }
+{
+    for q in 0..lts.states() {
+        if lts.arc_at(q, t).is_some() {
+            names.push(RowName::Full(q))?;
+        }
+    }
+    Ok(())
+}
+
+// `stop` at each state with an arc of label t.
+fn stops(alloc: Global, lts: &Lts, t: u32) -> Result<Vec<RowName>, AllocError>
+    requires { t < labels lts.now }
+    ensures { IfOk result (λ v. map row_name_of v.items ≡ map stop_row (states_with lts.now t)) }
+{
+    let mut names = Vec::new(alloc);
+    for q in 0..lts.states() {
+        if lts.arc_at(q, t).is_some() {
+            names.push(RowName::Stop(q))?;
+        }
+    }
+    Ok(names)
+}
