@@ -3,7 +3,7 @@ use Rattle.std.proofs.Common.{◌≡◌, ◌⊎◌, inl, inr, ℕ, true, List, [
 use Rattle.rg_ports.specs.Shelf.{Files}
 use Rattle.rg_ports.specs.Sink.{taken_with, TakesPart}
 use Rattle.rg_synth.specs.Answers.{Answers}
-use Rattle.rg_synth.specs.Run.{Writes, Run, Takes, IsLeft, Breaks, FailsToWrite}
+use Rattle.rg_synth.specs.Run.{Run, Takes, IsLeft, Breaks, FailsToWrite}
 use Rattle.rg_synth.specs.declared.status.Status.{Status}
 use Rattle.rg_synth.specs.declared.status.Status.TheVariants.{Done, No, Usage, File, TooWide, ReadFault, WriteFault, NoMemory, Unbuilt}
 
