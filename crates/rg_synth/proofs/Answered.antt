@@ -1,5 +1,5 @@
 -- What the parts of an answer say together.
-use Rattle.std.proofs.Common.{◌≡◌, ◌≢◌, ◌⊎◌, inl, inr, ℕ, List, [], ◌∷◌, ◌++◌, Option, Some, None, option_map, Result, Ok, Err, IfOk, append_assoc, refl, sym, ap, subst, ◌∙◌}
+use Rattle.std.proofs.Common.{◌≡◌, ◌≢◌, ◌⊎◌, inl, inr, ℕ, ◌<◌, arith, List, [], ◌∷◌, ◌++◌, Option, Some, None, option_map, Result, Ok, Err, IfOk, append_assoc, refl, sym, ap, subst, ◌∙◌}
 use Rattle.rg_ports.specs.Shelf.{Files, asked_with}
 use Rattle.rg_theory.specs.System.{System}
 use Rattle.rg_lts.specs.WellFormed.{IsWellFormed}
@@ -88,20 +88,28 @@ second_too_long files cert lts status out err long is nothing line =
 
 -- ---- names that were asked for
 
--- one file, the only one of the command
-pub asks_one : (class : Class) (file : List ℕ) (before after : Option (List (List ℕ))) → after ≡ asked_with before file → AsksFiles (net class file) before after
-asks_one class file before after is = (file ∷ [], [], refl, is)
+none_more : {A : Type 0} → (1 < 1 → A)
+none_more lt = absurd (omega (arith, lt))
 
-both : (before : Option (List (List ℕ))) (file cert : List ℕ) → asked_with (asked_with before file) cert ≡ option_map (λ all. all ++ (file ∷ cert ∷ [])) before
-both None file cert = refl
-both (Some names) file cert =
+-- one file, the only one of the command
+pub asks_one : (files : Option Files) (class : Class) (file : List ℕ) (before after : Option (List (List ℕ))) → after ≡ asked_with before file → AsksFiles files (net class file) before after
+asks_one files class file before after is = (file ∷ [], [], refl, is, none_more)
+
+two_names : (before : Option (List (List ℕ))) (file cert : List ℕ) → asked_with (asked_with before file) cert ≡ option_map (λ all. all ++ (file ∷ cert ∷ [])) before
+two_names None file cert = refl
+two_names (Some names) file cert =
     let e : (names ++ file ∷ []) ++ cert ∷ [] ≡ names ++ (file ∷ cert ∷ []) = rw append_assoc in
     ap Some e
 
--- the first of two files, or both
-pub asks_two : (file cert : List ℕ) (before after : Option (List (List ℕ))) → (after ≡ asked_with before file) ⊎ (after ≡ asked_with (asked_with before file) cert) → AsksFiles (judgement file cert) before after
-asks_two file cert before after (inl is) = (file ∷ [], cert ∷ [], refl, is)
-asks_two file cert before after (inr is) = (file ∷ cert ∷ [], [], refl, is ∙ both before file cert)
+-- the first of two files
+pub asks_first : (files : Option Files) (file cert : List ℕ) (before after : Option (List (List ℕ))) → after ≡ asked_with before file → AsksFiles files (judgement file cert) before after
+asks_first files file cert before after is = (file ∷ [], cert ∷ [], refl, is, none_more)
+
+-- both, where the first spells a system
+pub asks_both : (files : Option Files) (file cert : List ℕ) (lts : System) (before between after : Option (List (List ℕ)))
+    → IsSystemFile files file lts → between ≡ asked_with before file → after ≡ asked_with between cert → AsksFiles files (judgement file cert) before after
+asks_both files file cert lts before between after system first second =
+    (file ∷ cert ∷ [], [], refl, second ∙ ap (λ names. asked_with names cert) first ∙ two_names before file cert, (λ lt. (lts, system)))
 
 -- ---- the words and what they ask for
 

@@ -1,10 +1,9 @@
 -- A sink that fails while a status is written.
-use Rattle.std.proofs.Common.{◌≡◌, ◌⊎◌, inl, inr, ℕ, List, [], Option, Some, None, append-nil, refl, ap, subst, ◌∙◌, arith}
-use Rattle.rg_ports.specs.Count.{HasRisen}
+use Rattle.std.proofs.Common.{◌≡◌, ◌⊎◌, inl, inr, ℕ, true, List, [], Option, Some, None, append-nil, refl, ap, subst, ◌∙◌, arith}
 use Rattle.rg_ports.specs.Shelf.{Files}
 use Rattle.rg_ports.specs.Sink.{taken_with, TakesPart}
 use Rattle.rg_synth.specs.Answers.{Answers}
-use Rattle.rg_synth.specs.Run.{Run, Takes, IsLeft, FailsToWrite}
+use Rattle.rg_synth.specs.Run.{Run, Takes, IsLeft, Breaks, FailsToWrite}
 use Rattle.rg_synth.specs.declared.status.Status.{Status}
 use Rattle.rg_synth.specs.declared.status.Status.TheVariants.{Done, No, Usage, File, TooWide, ReadFault, WriteFault, NoMemory, Unbuilt}
 
@@ -28,11 +27,14 @@ nothing_taken None = refl
 nothing_taken (Some bytes) = ap Some (append-nil bytes)
 
 -- all was written to out, and the writes to err failed
-pub second_fails : (run : Run) (status : Status) (out err : List ℕ) → Answers run.words run.files status out err → Takes run.out out → TakesPart run.err.before err run.err.after → HasRisen run.err_faults.before run.err_faults.after → FailsToWrite run
-second_fails run status out err due took part risen = go (one_sink run.words run.files status out err due)
+pub second_fails : (run : Run) (status : Status) (out err : List ℕ) → Answers run.words run.files status out err → Takes run.out out → Breaks run.err err → FailsToWrite run
+second_fails run status out err due took breaks = go (one_sink run.words run.files status out err due)
   where
     go : (out ≡ []) ⊎ (err ≡ []) → FailsToWrite run
     go (inl none) =
-        let left : IsLeft run.out = took ∙ ap (taken_with run.out.before) none ∙ nothing_taken run.out.before in
-        record { status = status; out_bytes = out; err_bytes = err; due = due; broken = inr (left, record { part = part; risen = risen }) }
-    go (inr none) = absurd (no_part run.err.before run.err.after (subst (λ b. TakesPart run.err.before b run.err.after) none part))
+        let left : IsLeft run.out = record {
+          taken = took.taken ∙ ap (taken_with run.out.taken.before) none ∙ nothing_taken run.out.taken.before;
+          offered = subst (λ bytes. run.out.offers bytes true) none took.offered;
+        } in
+        record { status = status; out_bytes = out; err_bytes = err; due = due; broken = inr (left, breaks) }
+    go (inr none) = absurd (no_part run.err.taken.before run.err.taken.after (subst (λ b. TakesPart run.err.taken.before b run.err.taken.after) none breaks.part))

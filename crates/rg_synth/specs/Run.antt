@@ -1,10 +1,12 @@
 -- What is seen of one run, and how it may end.
-use Rattle.std.specs.Prelude.{◌≡◌, ◌⊎◌, ℕ, List, ◌++◌, Option, option_map, IsSome}
+use Rattle.std.specs.Prelude.{◌≡◌, ◌⊎◌, ℕ, ◌<◌, Bool, true, false, List, [], ◌++◌, length, Option, option_map, IsSome}
+use Rattle.rg_ports.specs.Calls.{LastCall, finds_end, ReadsFile}
 use Rattle.rg_ports.specs.Count.{HasRisen}
 use Rattle.rg_ports.specs.Shelf.{Files}
 use Rattle.rg_ports.specs.Sink.{taken_with, TakesPart}
-use Rattle.rg_synth.specs.Words.{Asked, Ask, file_words}
-use Rattle.rg_synth.specs.Given.{AskOf}
+use Rattle.rg_theory.specs.System.{System}
+use Rattle.rg_synth.specs.Words.{Asked, judgement, Ask, file_words, system_file}
+use Rattle.rg_synth.specs.Given.{IsSystemFile, AskOf}
 use Rattle.rg_synth.specs.Answers.{Answers, IsDue, IsSearched, IsSearchEnd}
 use Rattle.rg_synth.specs.declared.status.Status.{Status}
 use Rattle.rg_synth.specs.declared.status.Status.TheVariants.{Usage, ReadFault, WriteFault, NoMemory}
@@ -14,29 +16,36 @@ pub record Change (A : Type 0) : Type 0 where
   pub before : A
   pub after : A
 
--- the words, what the shelf tells of its files, how often its calls failed, and for both sinks what was taken and how often
--- a call failed
-pub record Run : Type 0 where
+-- what is seen of a sink: what was taken and how often a call failed, before the run and after it, and which runs of writes lead
+-- from its state before the run to that after it: those that offer these bytes, each time all that are left, to the end or not
+pub record Writes : Type 1 where
+  pub taken : Change (Option (List ℕ))
+  pub faults : Change ℕ
+  pub offers : List ℕ → Bool → Type 0
+
+-- the words, what the shelf tells of its files, how often its calls failed, and what is seen of both sinks
+pub record Run : Type 1 where
   pub words : List (List ℕ)
   pub files : Option Files
   pub shelf_faults : Change ℕ
-  pub out : Change (Option (List ℕ))
-  pub out_faults : Change ℕ
-  pub err : Change (Option (List ℕ))
-  pub err_faults : Change ℕ
+  pub out : Writes
+  pub err : Writes
 
--- the sink took these bytes after what it had
-abbrev pub Takes : Change (Option (List ℕ)) → List ℕ → Type 0
-Takes change bytes = change.after ≡ taken_with change.before bytes
+-- the sink was offered these bytes, each time all that it hadn't taken, and took them after what it had
+pub record Takes (sink : Writes) (bytes : List ℕ) : Type 0 where
+  pub taken : sink.taken.after ≡ taken_with sink.taken.before bytes
+  pub offered : sink.offers bytes true
 
--- the sink took nothing
-abbrev pub IsLeft : Change (Option (List ℕ)) → Type 0
-IsLeft change = change.after ≡ change.before
+-- the sink was offered nothing, and took nothing
+pub record IsLeft (sink : Writes) : Type 0 where
+  pub taken : sink.taken.after ≡ sink.taken.before
+  pub offered : sink.offers [] true
 
--- the sink failed, after a proper prefix of the bytes
-pub record Breaks (change : Change (Option (List ℕ))) (faults : Change ℕ) (bytes : List ℕ) : Type 0 where
-  pub part : TakesPart change.before bytes change.after
-  pub risen : HasRisen faults.before faults.after
+-- the sink was offered the bytes, each time all that it hadn't taken, and failed after a proper prefix
+pub record Breaks (sink : Writes) (bytes : List ℕ) : Type 0 where
+  pub part : TakesPart sink.taken.before bytes sink.taken.after
+  pub risen : HasRisen sink.faults.before sink.faults.after
+  pub offered : sink.offers bytes false
 
 -- the status is due, and all that it writes was taken
 pub record Says (run : Run) (status : Status) : Type 0 where
@@ -64,7 +73,7 @@ pub record FailsToWrite (run : Run) : Type 0 where
   pub out_bytes : List ℕ
   pub err_bytes : List ℕ
   pub due : Answers run.words run.files status out_bytes err_bytes
-  pub broken : (Breaks run.out run.out_faults out_bytes × IsLeft run.err) ⊎ (IsLeft run.out × Breaks run.err run.err_faults err_bytes)
+  pub broken : (Breaks run.out out_bytes × IsLeft run.err) ⊎ (IsLeft run.out × Breaks run.err err_bytes)
 
 -- there was no memory; nothing was written
 pub record LacksMemory (run : Run) : Type 0 where
@@ -78,14 +87,27 @@ Ends run WriteFault = FailsToWrite run
 Ends run NoMemory = LacksMemory run
 Ends run status = Says run status
 
--- the shelf was asked for some first ones of the files of what is asked, each once and in order
-abbrev pub AsksFiles : Asked → Option (List (List ℕ)) → Option (List (List ℕ)) → Type 0
-AsksFiles asked before after =
+-- the shelf was asked for some first ones of the files of what is asked, each once and in order, and for the second one only
+-- where the first spells a system
+abbrev pub AsksFiles : Option Files → Asked → Option (List (List ℕ)) → Option (List (List ℕ)) → Type 0
+AsksFiles files asked before after =
     (names left : List (List ℕ)) × (file_words asked ≡ names ++ left) × (after ≡ option_map (λ all. all ++ names) before)
+    × (1 < length names → (lts : System) × IsSystemFile files (system_file asked) lts)
 
 -- the shelf was asked for some first ones of the files that the words name, or for nothing
-abbrev pub AsksAtMost : List (List ℕ) → Option (List (List ℕ)) → Option (List (List ℕ)) → Type 0
-AsksAtMost words before after = (after ≡ before) ⊎ ((asked : Asked) × Ask words asked × AsksFiles asked before after)
+abbrev pub AsksAtMost : List (List ℕ) → Option Files → Option (List (List ℕ)) → Option (List (List ℕ)) → Type 0
+AsksAtMost words files before after = (after ≡ before) ⊎ ((asked : Asked) × Ask words asked × AsksFiles files asked before after)
+
+-- the calls that read the first file of what is asked, and behind them, where its end was found and it spells a system, those
+-- that read the second one
+pub data ReadsFiles {S : Type 0} (finds : S → List ℕ → Option Bool → S → Type 0) (hands : S → ℕ → Option ℕ → S → Type 0) (files : Option Files) : Asked → S → S → Type 0 where
+  first_alone : (asked : Asked) (s t : S) (last : LastCall) → ReadsFile finds hands (system_file asked) s last t → ReadsFiles finds hands files asked s t
+  both : (file cert : List ℕ) (s m t : S) (lts : System) (last : LastCall) → ReadsFile finds hands file s finds_end m → IsSystemFile files file lts
+      → ReadsFile finds hands cert m last t → ReadsFiles finds hands files (judgement file cert) s t
+
+-- no call of the shelf, or those that read the files that the words name; none after the end of a file was found
+abbrev pub ReadsAtMost : {S : Type 0} (finds : S → List ℕ → Option Bool → S → Type 0) (hands : S → ℕ → Option ℕ → S → Type 0) → List (List ℕ) → Option Files → S → S → Type 0
+ReadsAtMost finds hands words files s t = (t ≡ s) ⊎ ((asked : Asked) × Ask words asked × ReadsFiles finds hands files asked s t)
 
 -- a fault, or want of memory
 abbrev pub IsMishap : Status → Type 0

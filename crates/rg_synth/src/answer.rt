@@ -4,7 +4,7 @@ ghost use Rattle.rg_ports.specs.Count.{HasRisen};
 ghost use Rattle.rg_synth.specs.Texts.{usage_line, file_line, wide_line};
 ghost use Rattle.rg_synth.specs.Answers.{Answers, MayCome};
 ghost use Rattle.rg_synth.specs.Requests.{asked_by, HasBounds, AnswersAsked};
-ghost use Rattle.rg_synth.specs.Run.{AsksAtMost, AsksFiles, IsReadFault};
+ghost use Rattle.rg_synth.specs.Run.{AsksAtMost, AsksFiles, ReadsAtMost, ReadsFiles, IsReadFault};
 ghost use Rattle.rg_synth.specs.declared.answer.Stop.TheVariants as stop;
 
 use crate::judging::judgement_answer;
@@ -52,7 +52,8 @@ pub(crate) fn make_answer<H: Shelf>(
     words: &[String],
     shelf: &mut H,
 ) -> Result<Answer, Stop>
-    ensures asked { AsksAtMost (map string_bytes words.now) (H.asked shelf.old) (H.asked shelf.new) }
+    ensures asked { AsksAtMost (map string_bytes words.now) (H.files shelf.old) (H.asked shelf.old) (H.asked shelf.new) }
+    ensures reads { ReadsAtMost H.finds H.hands (map string_bytes words.now) (H.files shelf.old) shelf.old shelf.new }
     ensures may_come { IfOk result (λ a. MayCome (map string_bytes words.now) (H.files shelf.old) a.status) }
     ensures says { IfOk result (λ a. Answers (map string_bytes words.now) (H.files shelf.old) a.status a.out.items a.err.items) }
     ensures fault { IsErrOf result stop.ReadFault → IsReadFault (map string_bytes words.now) (record { before = H.faults shelf.old; after = H.faults shelf.new }) }
@@ -70,7 +71,8 @@ fn request_answer<H: Shelf>(
     shelf: &mut H,
 ) -> Result<Answer, Stop>
     requires { HasBounds (asked_by request) }
-    ensures asked { AsksFiles (asked_by request.entry) (H.asked shelf.old) (H.asked shelf.new) }
+    ensures asked { AsksFiles (H.files shelf.old) (asked_by request.entry) (H.asked shelf.old) (H.asked shelf.new) }
+    ensures reads { ReadsFiles H.finds H.hands (H.files shelf.old) (asked_by request.entry) shelf.old shelf.new }
     ensures ok { IfOk result (λ a. AnswersAsked (H.files shelf.old) (asked_by request.entry) a.status a.out.items a.err.items) }
     ensures fault { IsErrOf result stop.ReadFault → HasRisen (H.faults shelf.old) (H.faults shelf.new) }
 {

@@ -1,5 +1,6 @@
 //! The answer to a request for a judgement.
-ghost use Rattle.std.specs.Prelude.{◌≡◌, ◌≢◌, ◌⊎◌, ℕ, ◌≤◌, [], length, IfOk, IfErr, IsErrOf};
+ghost use Rattle.std.specs.Prelude.{◌≡◌, ◌≢◌, ℕ, ◌≤◌, [], length, IfOk, IfErr, IsErrOf};
+ghost use Rattle.rg_ports.specs.Calls.{LastCall, ReadsFile};
 ghost use Rattle.rg_ports.specs.Count.{HasRisen};
 ghost use Rattle.rg_ports.specs.Shelf.{asked_with};
 ghost use Rattle.rg_lts.specs.WellFormed.{IsWellFormed};
@@ -9,6 +10,7 @@ ghost use Rattle.rg_text.specs.Limits.{most_bytes};
 ghost use Rattle.rg_synth.specs.Words.{judgement};
 ghost use Rattle.rg_synth.specs.JudgedTexts.{refused_line};
 ghost use Rattle.rg_synth.specs.Requests.{AnswersBytes, AnswersCertificate, AnswersAsked};
+ghost use Rattle.rg_synth.specs.Run.{AsksFiles, ReadsFiles};
 ghost use Rattle.rg_synth.specs.declared.answer.Stop.TheVariants as stop;
 ghost use Rattle.rg_synth.specs.declared.status.Status.TheVariants as status;
 
@@ -32,7 +34,8 @@ pub(crate) fn judgement_answer<H: Shelf>(
     cert: &str,
     shelf: &mut H,
 ) -> Result<Answer, Stop>
-    ensures asked { (H.asked shelf.new ≡ asked_with (H.asked shelf.old) file.now) ⊎ (H.asked shelf.new ≡ asked_with (asked_with (H.asked shelf.old) file.now) cert.now) }
+    ensures asked { AsksFiles (H.files shelf.old) (judgement file.now cert.now) (H.asked shelf.old) (H.asked shelf.new) }
+    ensures reads { ReadsFiles H.finds H.hands (H.files shelf.old) (judgement file.now cert.now) shelf.old shelf.new }
     ensures ok { IfOk result (λ a. AnswersAsked (H.files shelf.old) (judgement file.now cert.now) a.status a.out.items a.err.items) }
     ensures fault { IsErrOf result stop.ReadFault → HasRisen (H.faults shelf.old) (H.faults shelf.new) }
 {
@@ -52,6 +55,7 @@ fn certificate_answer<H: Shelf>(
     shelf: &mut H,
 ) -> Result<Answer, Stop>
     ensures asked { H.asked shelf.new ≡ asked_with (H.asked shelf.old) cert.now }
+    ensures reads { (last : LastCall) × ReadsFile H.finds H.hands cert.now shelf.old last shelf.new }
     ensures ok { IfOk result (λ a. AnswersCertificate (H.files shelf.old) cert.now lts.now a.status a.out.items a.err.items) }
     ensures fault { IsErrOf result stop.ReadFault → HasRisen (H.faults shelf.old) (H.faults shelf.new) }
 {

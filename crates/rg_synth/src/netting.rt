@@ -1,5 +1,6 @@
 //! The answer to a request for a net.
 ghost use Rattle.std.specs.Prelude.{◌≡◌, ◌⊎◌, [], map, IfOk, IsErrOf};
+ghost use Rattle.rg_ports.specs.Calls.{LastCall, ReadsFile};
 ghost use Rattle.rg_ports.specs.Count.{HasRisen};
 ghost use Rattle.rg_ports.specs.Shelf.{asked_with};
 ghost use Rattle.rg_theory.specs.System.{labels, IsInRange};
@@ -40,6 +41,7 @@ pub(crate) fn net_answer<H: Shelf>(
 ) -> Result<Answer, Stop>
     requires { HasBoundInRange class }
     ensures asked { H.asked shelf.new ≡ asked_with (H.asked shelf.old) file.now }
+    ensures reads { (last : LastCall) × ReadsFile H.finds H.hands file.now shelf.old last shelf.new }
     ensures ok { IfOk result (λ a. AnswersAsked (H.files shelf.old) (net class file.now) a.status a.out.items a.err.items) }
     ensures fault { IsErrOf result stop.ReadFault → HasRisen (H.faults shelf.old) (H.faults shelf.new) }
 {

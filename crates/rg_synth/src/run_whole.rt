@@ -1,6 +1,7 @@
 //! The top call.
 ghost use Rattle.std.specs.Prelude.{map, string_bytes};
-ghost use Rattle.rg_synth.specs.Run.{Ends, AsksAtMost, ComesIfDue, EndsSearch};
+ghost use Rattle.rg_ports.specs.Offer.{Offers};
+ghost use Rattle.rg_synth.specs.Run.{Ends, AsksAtMost, ReadsAtMost, ComesIfDue, EndsSearch};
 ghost use Rattle.rg_synth.specs.declared.status.Status.{Status};
 
 use crate::answer::{Stop, make_answer};
@@ -12,8 +13,9 @@ use std::thread::Threads;
 /// Runs the command that the words name. `synthesize CLASS FILE` reads the file of that name from the shelf, and writes to
 /// `out` the text of a net of the class that solves its system, or of a certificate that there is none. `verify FILE CERT`
 /// reads both files, and writes to `out` whether the certificate is accepted for the system. A refusal of words or files, and
-/// a number out of range, is a line to `err`. What is due is whole before the first write. The runtime and the gate are there
-/// for later commands, and unused.
+/// a number out of range, is a line to `err`. What is due is whole before the first write, and each write offers all that isn't
+/// taken yet. A file isn't read on once its end was found, and the second one is asked for only where the first spells a system.
+/// The runtime and the gate are there for later commands, and unused.
 ///
 /// The status says how it ended: each has its cause in `Ends`, a status that is due comes by `ComesIfDue`, and a search ends by
 /// `EndsSearch` with a net, a certificate or a number out of range.
@@ -30,14 +32,21 @@ pub fn run<R: Threads + Sync, H: Shelf, O: Sink, E: Sink, G: Gate + Sync>(
       words = map string_bytes words.now;
       files = H.files shelf.old;
       shelf_faults = record { before = H.faults shelf.old; after = H.faults shelf.new };
-      out = record { before = O.taken out.old; after = O.taken out.new };
-      out_faults = record { before = O.faults out.old; after = O.faults out.new };
-      err = record { before = E.taken err.old; after = E.taken err.new };
-      err_faults = record { before = E.faults err.old; after = E.faults err.new };
+      out = record {
+        taken = record { before = O.taken out.old; after = O.taken out.new };
+        faults = record { before = O.faults out.old; after = O.faults out.new };
+        offers = λ bytes whole. Offers O.gives out.old bytes whole out.new;
+      };
+      err = record {
+        taken = record { before = E.taken err.old; after = E.taken err.new };
+        faults = record { before = E.faults err.old; after = E.faults err.new };
+        offers = λ bytes whole. Offers E.gives err.old bytes whole err.new;
+      };
     }) result }
     ensures exactly { (due : Status) → ComesIfDue (map string_bytes words.now) (H.files shelf.old) due result }
     ensures searched { EndsSearch (map string_bytes words.now) (H.files shelf.old) result }
-    ensures asked { AsksAtMost (map string_bytes words.now) (H.asked shelf.old) (H.asked shelf.new) }
+    ensures asked { AsksAtMost (map string_bytes words.now) (H.files shelf.old) (H.asked shelf.old) (H.asked shelf.new) }
+    ensures reads { ReadsAtMost H.finds H.hands (map string_bytes words.now) (H.files shelf.old) shelf.old shelf.new }
 {
     let made = match make_answer(alloc, words, shelf) {
         Ok(made) => made,

@@ -1,5 +1,6 @@
 //! The file of a system.
 ghost use Rattle.std.specs.Prelude.{◌≡◌, ◌≢◌, ℕ, ◌≤◌, length, IfOk, IfErr, IsErrOf};
+ghost use Rattle.rg_ports.specs.Calls.{LastCall, finds_end, ReadsFile};
 ghost use Rattle.rg_ports.specs.Count.{HasRisen};
 ghost use Rattle.rg_ports.specs.Shelf.{asked_with};
 ghost use Rattle.rg_apt.specs.Spells.{Spells, FirstFault};
@@ -32,6 +33,8 @@ pub(crate) fn read_system<H: Shelf>(
 ) -> Result<Lts, SystemStop>
     ensures files { H.files shelf.new ≡ H.files shelf.old }
     ensures asked { H.asked shelf.new ≡ asked_with (H.asked shelf.old) name.now }
+    ensures reads { (last : LastCall) × ReadsFile H.finds H.hands name.now shelf.old last shelf.new }
+    ensures whole { IfOk result (λ _. ReadsFile H.finds H.hands name.now shelf.old finds_end shelf.new) }
     ensures ok { IfOk result (λ lts. IsSystemFile (H.files shelf.old) name.now lts) }
     ensures refused { (fault : Fault) → IsErrOf result (stop.Refused fault) → IsNoSystem (H.files shelf.old) name.now fault }
     ensures never_falls { H.faults shelf.old ≤ H.faults shelf.new }
