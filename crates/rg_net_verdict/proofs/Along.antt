@@ -74,7 +74,7 @@ along_start lts net tree ms fine is range count begun =
       in_range = λ s has. subst (λ k. All (λ n. n ≤ greatest) (marking_of ms k)) (only_one lts.initial s has) (subst (All (λ n. n ≤ greatest)) (sym begun) (start_in_range net range));
     }
 
-fires_more : (net : Net) (m : Marking) (ts : List ℕ) (mid : Marking) (t : ℕ) (after : Marking) → FiresAll net m ts mid → Fires net mid t after → FiresAll net m (ts ++ t ∷ []) after
+pub fires_more : (net : Net) (m : Marking) (ts : List ℕ) (mid : Marking) (t : ℕ) (after : Marking) → FiresAll net m ts mid → Fires net mid t after → FiresAll net m (ts ++ t ∷ []) after
 fires_more net m [] mid t after e f = (after, subst (λ k. Fires net k t after) (sym e) f, refl)
 fires_more net m (u ∷ ts) mid t after (next, step, rest) f = (next, step, fires_more net next ts mid t after rest f)
 

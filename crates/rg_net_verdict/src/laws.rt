@@ -1,10 +1,11 @@
 //! What a verdict says.
 ghost use Rattle.std.specs.Prelude.{◌≡◌, Ok};
+ghost use Rattle.rg_integers.specs.Range.{greatest};
 ghost use Rattle.rg_theory.specs.System.{System, labels, IsInRange};
 ghost use Rattle.rg_theory.specs.Net.{Net};
 ghost use Rattle.rg_theory.specs.Solves.{Solves};
 ghost use Rattle.rg_theory.specs.declared.Class.{Class};
-ghost use Rattle.rg_theory.specs.Class.{InClass};
+ghost use Rattle.rg_theory.specs.Class.{InClass, IsBounded};
 ghost use Rattle.rg_net_verdict.specs.declared.verdict.NetNo.{NetNo};
 ghost use Rattle.rg_net_verdict.specs.declared.verdict.NetVerdict.TheVariants as verdict;
 ghost use Rattle.rg_net_verdict.specs.Verdict.{Told, IsVerdict};
@@ -23,3 +24,9 @@ pub fn verdict_is_one()
 {
     one_least_fork();
 }
+
+/// A net that solves the system, is of the class and has no reachable marking out of range gets yes, and no other
+/// answer but for want of memory.
+pub fn solving_net_gets_yes()
+    ensures { (lts : System) (net : Net) (class : Class) (v : Told) → IsInRange lts → net.labels ≡ labels lts → Solves net lts → InClass net class → IsBounded net greatest → IsVerdict lts net class v → v ≡ Ok verdict.Yes }
+{}

@@ -9,5 +9,5 @@ mod verdict;
 mod wrong;
 
 pub use check::check_net;
-pub use laws::{verdict_is_one, verdict_is_sound};
+pub use laws::{solving_net_gets_yes, verdict_is_one, verdict_is_sound};
 pub use verdict::{CheckStop, CheckWide, NetNo, NetVerdict};

@@ -1,0 +1,37 @@
+//! Single firings.
+use crate::samples::{STEP, net, system};
+use rg_integers::GREATEST;
+use rg_net::{FireStop, Net, enabled, fire};
+use std::alloc::Global;
+use std::test::Fail;
+
+const MOST: u128 = GREATEST as u128;
+
+// Whether label 0 of a net with one place is enabled with so many tokens, and what its firing gives.
+fn fired(alloc: Global, net: &Net, tokens: u128) -> Option<Result<u128, FireStop>> {
+    if net.places().len() != 1
+        || net.labels() == 0
+        || tokens > MOST
+        || !enabled(net, &[tokens], 0)
+    {
+        return None;
+    }
+    Some(fire(alloc, net, &[tokens], 0).map(|after| after.first().copied().unwrap_or(0)))
+}
+
+#[test]
+fn fires(rt: HostRuntime) -> Result<(), Fail> {
+    let alloc = rt.alloc();
+    let lts = system(alloc, STEP).ok_or("a system")?;
+    let text = ".type PN .places p .transitions a .flows a: {2*p} -> {3*p} .initial_marking {p}";
+    let net = net(alloc, &lts, text).ok_or("a net")?;
+    for (tokens, wanted) in [
+        (1, None),
+        (2, Some(Ok(3))),
+        (MOST, Some(Err(FireStop::Passes(0)))),
+        (MOST - 1, Some(Ok(MOST))),
+    ] {
+        assert!(rt; fired(alloc, &net, tokens) == wanted, "{tokens}");
+    }
+    Ok(())
+}

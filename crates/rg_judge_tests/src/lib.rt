@@ -1,0 +1,13 @@
+//! Tests of single calls of the judge of nets: systems and nets worked by hand, and a slow second judge.
+#![tactic(auto)]
+
+#[cfg(test)]
+mod classes;
+#[cfg(test)]
+mod firing;
+#[cfg(test)]
+mod laws;
+#[cfg(test)]
+mod samples;
+#[cfg(test)]
+mod verdicts;
