@@ -1,0 +1,101 @@
+-- Going over the uses of labels.
+use Rattle.std.proofs.Common.{◌≡◌, ℕ, ◌+◌, ◌<◌, ◌≤◌, List, [], ◌∷◌, ◌++◌, length, get_or, drop, map, Contains, All, not, true, zero, suc, ◌==◌, None, Some, refl, sym, ap, subst, ◌∙◌, append_assoc, append-nil, arith}
+use Rattle.std.specs.List.{slice_split}
+use Rattle.std.proofs.lemmas.List.{drop_more, drop_all}
+use Rattle.std.proofs.lemmas.List.Elements.{All-weaker, filter_passes}
+use Rattle.rg_text.specs.Byte.{is_blank_byte}
+use Rattle.rg_firsts.specs.Words.{words}
+use Rattle.rg_theory.specs.System.{System}
+use Rattle.rg_lts.specs.Draft.{Draft, finished}
+use Rattle.rg_lts.specs.WellFormed.{IsWellFormed}
+use Rattle.rg_text.specs.Faults.{faults_after, IsFirst, AreNone}
+use Rattle.rg_words.specs.declared.fault.WordFault.{WordFault}
+use Rattle.rg_words.specs.Contents.{Word, Use, uses, uses_from, state_names, use_fault}
+use Rattle.rg_words.specs.Spells.{IsTreeOf, Spells}
+use Rattle.rg_words.specs.Reading.{use_of, IsDraftOf, IsAt, GoesTo, Stands}
+use Rattle.rg_words.proofs.Growing.{empty_first}
+
+pub goes_start : (all : List Use) → GoesTo all [] all
+goes_start all = record { whole = refl; first = λ f is. is; none = λ n. n }
+
+goes_more : (all before : List Use) (u : Use) (rest : List Use) → use_fault before u ≡ None → GoesTo all before (u ∷ rest) → GoesTo all (before ++ u ∷ []) rest
+goes_more all before u rest right g =
+    let left : faults_after use_fault before (u ∷ rest) ≡ None ∷ faults_after use_fault (before ++ u ∷ []) rest = ap (λ o. o ∷ faults_after use_fault (before ++ u ∷ []) rest) right in
+    record {
+      whole = g.whole ∙ sym (append_assoc before (u ∷ []) rest);
+      first = λ f is. g.first f (subst (λ l. IsFirst l f) (sym left) is);
+      none = λ n. g.none (subst AreNone (sym left) n);
+    }
+
+goes_wrong : (all before : List Use) (u : Use) (rest : List Use) (f : WordFault) → use_fault before u ≡ Some f → GoesTo all before (u ∷ rest)
+    → IsFirst (faults_after use_fault [] all) f
+goes_wrong all before u rest f wrong g =
+    let left : faults_after use_fault before (u ∷ rest) ≡ Some f ∷ faults_after use_fault (before ++ u ∷ []) rest = ap (λ o. o ∷ faults_after use_fault (before ++ u ∷ []) rest) wrong in
+    g.first f (subst (λ l. IsFirst l f) (sym left) refl)
+
+-- the labels of a word that are left
+labels_left : {X : Type 0} (f : X → List ℕ) (n : ℕ) (word : Word) (xs : List X) (i : ℕ) (d : X) (rest : List Use) → i < length xs
+    → uses_from n word (map f (drop i xs)) ++ rest
+    ≡ use_of n word (f (get_or xs i d)) ∷ (uses_from n (word ++ f (get_or xs i d) ∷ []) (map f (drop (i + 1) xs)) ++ rest)
+labels_left f n word xs i d rest lt = ap (λ l. uses_from n word (map f l) ++ rest) (drop_more xs i d lt)
+
+module _ {X : Type 0} (f : X → List ℕ) (all rest : List Use) (n : ℕ) (word : Word) (xs : List X) (i : ℕ) (d : X) (names : List (List ℕ)) (steps : List (ℕ × ℕ)) (state : ℕ) where
+  -- a label is taken
+  pub label_taken : (more_names : List (List ℕ)) (more_steps : List (ℕ × ℕ)) (to : ℕ) → i < length xs
+      → ((before : List Use) (w : Word) → IsAt before w names steps state
+      → IsAt (before ++ use_of n w (f (get_or xs i d)) ∷ []) (w ++ f (get_or xs i d) ∷ []) more_names more_steps to × (use_fault before (use_of n w (f (get_or xs i d))) ≡ None))
+      → Stands all (uses_from n word (map f (drop i xs)) ++ rest) word names steps state
+      → Stands all (uses_from n (word ++ f (get_or xs i d) ∷ []) (map f (drop (i + 1) xs)) ++ rest) (word ++ f (get_or xs i d) ∷ []) more_names more_steps to
+  label_taken more_names more_steps to lt step s =
+      let label = f (get_or xs i d) in
+      let r = step s.before word s.at in
+      let goes = subst (GoesTo all s.before) (labels_left f n word xs i d rest lt) s.goes in
+      record { before = s.before ++ use_of n word label ∷ []; goes = goes_more all s.before (use_of n word label) _ r.1 goes; at = r.0 }
+
+  -- a label is wrong
+  pub label_wrong : (g : WordFault) → i < length xs
+      → ((before : List Use) (w : Word) → IsAt before w names steps state → use_fault before (use_of n w (f (get_or xs i d))) ≡ Some g)
+      → Stands all (uses_from n word (map f (drop i xs)) ++ rest) word names steps state → IsFirst (faults_after use_fault [] all) g
+  label_wrong g lt step s =
+      let label = f (get_or xs i d) in
+      let goes = subst (GoesTo all s.before) (labels_left f n word xs i d rest lt) s.goes in
+      goes_wrong all s.before (use_of n word label) _ g (step s.before word s.at) goes
+
+  -- the word is at its end
+  pub word_ends : length xs ≤ i → Stands all (uses_from n word (map f (drop i xs)) ++ rest) word names steps state → Stands all rest [] names steps 0
+  word_ends past s =
+      let end : uses_from n word (map f (drop i xs)) ++ rest ≡ rest = ap (λ l. uses_from n word (map f l) ++ rest) (drop_all i xs past) in
+      record {
+        before = s.before;
+        goes = subst (GoesTo all s.before) end s.goes;
+        at = record { labels = s.at.labels; tree = s.at.tree; place = empty_first s.before };
+      }
+
+-- no word of a line is empty
+pub some_bytes : (line : List ℕ) → All (λ w. 0 < length w) (words line)
+some_bytes line =
+    All-weaker (λ w. not (length w == 0) ≡ true) (λ w. 0 < length w) (λ w e. positive (length w) e) (words line)
+    (filter_passes (λ w. not (length w == 0)) (slice_split is_blank_byte line))
+  where
+    positive : (n : ℕ) → not (n == 0) ≡ true → 0 < n
+    positive zero e = absurd cc
+    positive (suc n) e = omega arith
+
+-- at the end the system is the tree
+pub all_there : (bytes : List ℕ) (names : List (List ℕ)) (steps : List (ℕ × ℕ)) (d : Draft) (lts : System) → Stands (uses bytes) [] [] names steps 0 → d.label_names ≡ names
+    → IsDraftOf d steps → lts ≡ finished d 0 → IsWellFormed lts → Spells bytes lts
+all_there bytes names steps d lts s named draft is formed =
+    let whole : uses bytes ≡ s.before = s.goes.whole ∙ append-nil s.before in
+    let tree = s.at.tree in
+    let arcs : lts.arcs ≡ d.arcs = ap (λ (l : System). l.arcs) is in
+    let system : IsTreeOf s.before lts = record {
+      state_names = ap (λ (l : System). l.state_names) is ∙ draft.states ∙ ap state_names (sym tree.size);
+      label_names = ap (λ (l : System). l.label_names) is ∙ named ∙ s.at.labels;
+      initial = ap (λ (l : System). l.initial) is;
+      members = λ a. (
+        λ h. (tree.same a).0 ((draft.arcs a).0 (subst (λ l. Contains l a) arcs h)),
+        λ h. subst (λ l. Contains l a) (sym arcs) ((draft.arcs a).1 ((tree.same a).1 h)),
+      );
+      in_order = formed.arc_order;
+    } in
+    record { none = s.goes.none tt; tree = subst (λ u. IsTreeOf u lts) (sym whole) system }

@@ -1,0 +1,7 @@
+pub mod Meaning
+mod Examples
+mod Growing
+mod Steps
+mod Trees
+mod Going
+mod LabelSteps

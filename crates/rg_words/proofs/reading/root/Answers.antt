@@ -1,0 +1,7 @@
+use Rattle.std.proofs.Common.{sym, subst, ◌∙◌, arith}
+use Rattle.rg_text.specs.Byte.{IsName}
+use Rattle.rg_words.proofs.Steps.{state_is_name}
+use Rattle.rg_words.proofs.reading.root.Goals as goal
+
+pub add_state-requires : goal.add_state-requires
+add_state-requires c = subst IsName (sym (c.as_str.ensures.value ∙ c.in_ok-name.ensures)) (state_is_name 0 (omega arith))

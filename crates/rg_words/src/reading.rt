@@ -1,0 +1,207 @@
+//! The tree of the words of a list.
+ghost use Rattle.std.specs.Prelude.{◌≡◌, ◌≢◌, ◌+◌, ◌<◌, ◌≤◌, ◌++◌, ◌∷◌, [], ℕ, List, All, length, map, slice_get, None, Some, false, true, IfOk, IfErr, OnOk};
+ghost use Rattle.rg_text.specs.Byte.{IsName};
+ghost use Rattle.rg_text.specs.Limits.{most_bytes};
+ghost use Rattle.rg_text.specs.Faults.{IsFirst, faults_after};
+ghost use Rattle.rg_text.specs.Line.{lines};
+ghost use Rattle.rg_theory.specs.Limits.{most_states};
+ghost use Rattle.rg_lts.specs.WellFormed.{IsWellFormed};
+ghost use Rattle.rg_lts.specs.Draft.{finished};
+ghost use Rattle.rg_words.specs.Contents.{Word, Use, uses, uses_from, word_of, begins_with_hash, state_names, use_fault};
+ghost use Rattle.rg_words.specs.Reading.{use_of, IsDraftOf, IsAt, IsGrown, Stands, uses_of};
+ghost use Rattle.rg_words.specs.Spells.{IsTreeOf, Spells, FirstFault};
+ghost use Rattle.rg_words.specs.declared.fault.WordFault.TheVariants as fault;
+ghost use Rattle.rg_words.specs.declared.fault.WordFault.TheVariants.{NoMemory};
+
+use crate::fault::WordFault;
+use crate::label::{check, label_at, place_of, state_name};
+use indexmap::IndexSet;
+use rg_firsts::{add_arc, add_state, as_name, cut_line, words};
+use rg_lts::{BuildFault, Lts, LtsBuilder, MOST_STATES};
+use std::alloc::Global;
+
+// The tree so far. Step number i leads to state i + 1: from a state, by a label.
+#[derive(Drop)]
+struct Tree {
+    builder: LtsBuilder,
+    steps: IndexSet<(u32, u32)>,
+}
+
+// Adds a state, and an arc that leads to it.
+fn grow(
+    alloc: Global,
+    builder: &mut LtsBuilder,
+    state: u32,
+    label: &str,
+    to: u32,
+) -> Result<(), WordFault>
+    requires label { (t : ℕ) × (slice_get builder.old.label_names t ≡ Some label.now) }
+    requires draft { (steps : List (ℕ × ℕ)) × IsDraftOf builder.old steps × (length steps + 1 ≡ to) }
+    requires from { state < to }
+    requires room { length builder.old.state_names < most_states }
+    ensures ok { OnOk result (IsGrown builder.old builder.new state label.now to) }
+    ensures cause { IfErr result (λ f. f ≡ fault.NoMemory) }
+{
+    let from_name = state_name(alloc, state)?;
+    let to_name = state_name(alloc, to)?;
+    match add_state(builder, to_name.as_str()) {
+        Ok(()) => {}
+        Err(BuildFault::NoMemory) => return Err(WordFault::NoMemory),
+        Err(_) => unreachable!(),
+    }
+    match add_arc(builder, from_name.as_str(), label, to_name.as_str()) {
+        Ok(()) => Ok(()),
+        Err(BuildFault::NoMemory) => Err(WordFault::NoMemory),
+        Err(_) => unreachable!(),
+    }
+}
+
+// Goes on from a state by a label, and answers where that leads.
+fn take_label(
+    alloc: Global,
+    tree: &mut Tree,
+    state: u32,
+    label: &[u8],
+    number: u32,
+) -> Result<u32, WordFault>
+    requires some { 0 < length label.now }
+    requires draft { IsDraftOf tree.old.builder tree.old.steps.keys }
+    requires state { state ≤ length tree.old.steps.keys }
+    ensures draft { OnOk result (IsDraftOf tree.new.builder tree.new.steps.keys) }
+    ensures state { IfOk result (λ to. to ≤ length tree.new.steps.keys) }
+    ensures ok { IfOk result (λ to. (all : List Use) (before : Word) → IsAt all before tree.old.builder.label_names tree.old.steps.keys state
+        → IsAt (all ++ use_of number before label.now ∷ []) (before ++ label.now ∷ []) tree.new.builder.label_names tree.new.steps.keys to
+        × (use_fault all (use_of number before label.now) ≡ None)) }
+    ensures fault { IfErr result (λ f. f ≢ NoMemory → (all : List Use) (before : Word) → IsAt all before tree.old.builder.label_names tree.old.steps.keys state
+        → use_fault all (use_of number before label.now) ≡ Some f) }
+{
+    check(label, number)?;
+    let name = as_name(label);
+    let t = label_at(&mut tree.builder, name, number)?;
+    let (place, new) = place_of(&mut tree.steps, state, t)?;
+    let to = place as u32 + 1;
+    if new {
+        if place + 1 >= MOST_STATES {
+            return Err(WordFault::TooManyStates(number));
+        }
+        grow(alloc, &mut tree.builder, state, name, to)?;
+    }
+    Ok(to)
+}
+
+// Takes the labels of a word.
+fn take_word(alloc: Global, tree: &mut Tree, labels: &[&[u8]], number: u32) -> Result<(), WordFault>
+    requires some { All (λ w. 0 < length w) (map (λ w. w.now) labels.now) }
+    requires draft { IsDraftOf tree.old.builder tree.old.steps.keys }
+    ensures draft { OnOk result (IsDraftOf tree.new.builder tree.new.steps.keys) }
+    ensures ok { OnOk result ((all rest : List Use) → Stands all (uses_from number [] (map (λ w. w.now) labels.now) ++ rest) [] tree.old.builder.label_names tree.old.steps.keys 0
+        → Stands all rest [] tree.new.builder.label_names tree.new.steps.keys 0) }
+    ensures fault { IfErr result (λ f. f ≢ NoMemory → (all rest : List Use)
+        → Stands all (uses_from number [] (map (λ w. w.now) labels.now) ++ rest) [] tree.old.builder.label_names tree.old.steps.keys 0 → IsFirst (faults_after use_fault [] all) f) }
+{
+    let mut state = 0;
+    for label in labels {
+        state = take_label(alloc, tree, state, label, number)?;
+    }
+    Ok(())
+}
+
+// Whether a line with these words is a remark.
+fn is_remark(labels: &[&[u8]]) -> bool
+    ensures remark { result ≡ true → word_of (map (λ w. w.now) labels.now) ≡ [] }
+    ensures word { result ≡ false → word_of (map (λ w. w.now) labels.now) ≡ map (λ w. w.now) labels.now }
+{
+    !labels.is_empty() && begins_with_hash(labels[0])
+}
+
+// Whether the word begins with `#`.
+fn begins_with_hash(word: &[u8]) -> bool
+    ensures { result ≡ begins_with_hash word.now }
+{
+    !word.is_empty() && word[0] == b'#'
+}
+
+// Takes the word of a line, if it has one.
+fn take_line(alloc: Global, tree: &mut Tree, line: &[u8], number: u32) -> Result<(), WordFault>
+    requires { IsDraftOf tree.old.builder tree.old.steps.keys }
+    ensures draft { OnOk result (IsDraftOf tree.new.builder tree.new.steps.keys) }
+    ensures ok { OnOk result ((all rest : List Use) → Stands all (uses_of (number, line.now) ++ rest) [] tree.old.builder.label_names tree.old.steps.keys 0
+        → Stands all rest [] tree.new.builder.label_names tree.new.steps.keys 0) }
+    ensures fault { IfErr result (λ f. f ≢ NoMemory → (all rest : List Use)
+        → Stands all (uses_of (number, line.now) ++ rest) [] tree.old.builder.label_names tree.old.steps.keys 0 → IsFirst (faults_after use_fault [] all) f) }
+{
+    let labels = words(alloc, line)?;
+    if is_remark(&labels) {
+        return Ok(());
+    }
+    take_word(alloc, tree, &labels, number)
+}
+
+// Takes the words of all lines.
+fn read_lines(alloc: Global, tree: &mut Tree, bytes: &[u8]) -> Result<(), WordFault>
+    requires short { length bytes.now ≤ most_bytes }
+    requires draft { IsDraftOf tree.old.builder tree.old.steps.keys }
+    requires root { IsAt [] [] tree.old.builder.label_names tree.old.steps.keys 0 }
+    ensures draft { OnOk result (IsDraftOf tree.new.builder tree.new.steps.keys) }
+    ensures ok { OnOk result (Stands (uses bytes.now) [] [] tree.new.builder.label_names tree.new.steps.keys 0) }
+    ensures fault { IfErr result (λ f. f ≢ NoMemory → FirstFault bytes.now f) }
+{
+    let mut text = bytes;
+    let mut number = 1;
+    loop {
+        let (line, rest) = cut_line(text);
+        take_line(alloc, tree, line, number)?;
+        let Some(left) = rest else {
+            return Ok(());
+        };
+        text = left;
+        number += 1;
+    }
+}
+
+// The tree of the empty word alone.
+fn root(alloc: Global) -> Result<Tree, WordFault>
+    ensures draft { IfOk result (λ tree. IsDraftOf tree.builder tree.steps.keys) }
+    ensures at { IfOk result (λ tree. IsAt [] [] tree.builder.label_names tree.steps.keys 0) }
+    ensures cause { IfErr result (λ f. f ≡ fault.NoMemory) }
+{
+    let mut builder = LtsBuilder::new(alloc);
+    let name = state_name(alloc, 0)?;
+    match add_state(&mut builder, name.as_str()) {
+        Ok(()) => {}
+        Err(BuildFault::NoMemory) => return Err(WordFault::NoMemory),
+        Err(_) => unreachable!(),
+    }
+    match builder.initial(name.as_str()) {
+        Ok(()) => Ok(Tree {
+            builder,
+            steps: IndexSet::new(alloc),
+        }),
+        Err(_) => unreachable!(),
+    }
+}
+
+// The system of a draft.
+fn finish(builder: LtsBuilder) -> Result<Lts, WordFault>
+    requires { builder.initial ≡ Some 0 }
+    ensures ok { IfOk result (λ lts. (lts ≡ finished builder 0) × IsWellFormed lts) }
+    ensures cause { IfErr result (λ f. f ≡ fault.NoMemory) }
+{
+    match builder.finish() {
+        Ok(lts) => Ok(lts),
+        Err(BuildFault::NoMemory) => Err(WordFault::NoMemory),
+        Err(_) => unreachable!(),
+    }
+}
+
+/// The tree of the prefixes of the words of a list of at most 16,777,216 bytes, or the text's first fault. By `one_answer` no
+/// other answer meets these clauses.
+pub fn read_words(alloc: Global, bytes: &[u8]) -> Result<Lts, WordFault>
+    requires { length bytes.now ≤ most_bytes }
+    ensures ok { IfOk result (λ lts. Spells bytes.now lts) }
+    ensures fault { IfErr result (λ e. e ≢ NoMemory → FirstFault bytes.now e) }
+{
+    let mut tree = root(alloc)?;
+    read_lines(alloc, &mut tree, bytes)?;
+    finish(tree.builder)
+}
