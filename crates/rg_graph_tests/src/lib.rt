@@ -12,3 +12,7 @@ mod graphs;
 mod printed;
 #[cfg(test)]
 mod samples;
+#[cfg(test)]
+mod word_limits;
+#[cfg(test)]
+mod words;
