@@ -13,7 +13,7 @@ pub enum WordFault {
     TooManyStates(u32),
     /// With this line there are more than 256 labels.
     TooManyLabels(u32),
-    /// A label in this line has more than 255 name bytes in a row.
+    /// A label in this line begins with more than 255 name bytes.
     LongName(u32),
     /// There is no memory left.
     NoMemory,
