@@ -4,4 +4,5 @@ pub mod Present
 pub mod Counted
 pub mod Numbers
 mod Cuts
+mod WordCuts
 mod Growing

@@ -26,6 +26,9 @@ there_later x xs y (k, lt, e) = (suc k, omega arith, e)
 pub last_there : {X : Type 0} (xs : List X) (x : X) → Contains (xs ++ x ∷ []) x
 last_there xs x = Contains-append_right xs (x ∷ []) x (zero, omega arith, refl)
 
+pub stands_last : {X : Type 0} (xs : List X) (x : X) → slice_get (xs ++ x ∷ []) (length xs) ≡ Some x
+stands_last xs x = slice_get-get_or (xs ++ x ∷ []) (length xs) x (omega (arith, length-append xs (x ∷ []))) ∙ ap Some (get_or-append_seam xs x [] x)
+
 pub there_one : {X : Type 0} (y x : X) → Contains (y ∷ []) x → y ≡ x
 there_one y x (zero, lt, e) = e
 there_one y x (suc k, lt, e) = absurd (omega arith)

@@ -6,5 +6,5 @@ mod lines;
 mod names;
 
 pub use laws::one_system;
-pub use lines::{cut_line, words};
+pub use lines::{cut_line, cut_word, words};
 pub use names::{add_arc, add_label, add_state, as_name};

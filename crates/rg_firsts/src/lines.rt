@@ -1,5 +1,7 @@
 //! Lines, one after the other, and the words of a line.
-ghost use Rattle.std.specs.Prelude.{◌≡◌, ◌<◌, ◌∷◌, length, map, option_map, IfOk, IfSome};
+ghost use Rattle.std.specs.Prelude.{◌≡◌, ◌<◌, ◌≤◌, ◌∷◌, [], length, map, option_map, IfOk, IfNone, IfSome};
+ghost use Rattle.std.specs.List.{prefix_len, position_or_len};
+ghost use Rattle.rg_text.specs.Byte.{is_blank_byte};
 ghost use Rattle.rg_text.specs.Line.{lines};
 ghost use Rattle.rg_firsts.specs.Numbered.{lines_left};
 ghost use Rattle.rg_firsts.specs.Words.{words};
@@ -27,4 +29,35 @@ pub fn words<'a>(alloc: Global, line: &'a [u8]) -> Result<Vec<&'a [u8]>, AllocEr
     line.split(|b| is_blank_byte(*b))
         .filter(|word| !word.is_empty())
         .collect(alloc)
+}
+
+/// The first word of a line, and what follows it; None where the line has no word.
+pub fn cut_word(line: &[u8]) -> Option<(&[u8], &[u8])>
+    ensures none { IfNone result (words line.entry.now ≡ []) }
+    ensures words { IfSome result (λ cut. words line.entry.now ≡ cut.0.now ∷ words cut.1.now) }
+    ensures some { IfSome result (λ cut. 0 < length cut.0.now) }
+    ensures shorter { IfSome result (λ cut. length cut.1.now < length line.entry.now) }
+{
+    let text = &line[blanks_before(line)..];
+    if text.is_empty() {
+        return None;
+    }
+    let at = word_len(text);
+    Some((&text[..at], &text[at..]))
+}
+
+// How many blank bytes a line begins with.
+fn blanks_before(line: &[u8]) -> usize
+    ensures value { result ≡ prefix_len is_blank_byte line.now }
+    ensures within { result ≤ length line.now }
+{
+    line.iter().take_while(|b| is_blank_byte(**b)).count()
+}
+
+// How many bytes stand before the first blank one.
+fn word_len(line: &[u8]) -> usize
+    ensures value { result ≡ position_or_len is_blank_byte line.now }
+    ensures within { result ≤ length line.now }
+{
+    line.iter().take_while(|b| !is_blank_byte(**b)).count()
 }

@@ -1,10 +1,5 @@
 -- Going over the uses of labels.
-use Rattle.std.proofs.Common.{◌≡◌, ℕ, ◌+◌, ◌<◌, ◌≤◌, List, [], ◌∷◌, ◌++◌, length, get_or, drop, map, Contains, All, not, true, zero, suc, ◌==◌, None, Some, refl, sym, ap, subst, ◌∙◌, append_assoc, append-nil, arith}
-use Rattle.std.specs.List.{slice_split}
-use Rattle.std.proofs.lemmas.List.{drop_more, drop_all}
-use Rattle.std.proofs.lemmas.List.Elements.{All-weaker, filter_passes}
-use Rattle.rg_text.specs.Byte.{is_blank_byte}
-use Rattle.rg_firsts.specs.Words.{words}
+use Rattle.std.proofs.Common.{◌≡◌, ℕ, List, [], ◌∷◌, ◌++◌, Contains, None, Some, refl, sym, ap, subst, ◌∙◌, append_assoc, append-nil}
 use Rattle.rg_theory.specs.System.{System}
 use Rattle.rg_lts.specs.Draft.{Draft, finished}
 use Rattle.rg_lts.specs.WellFormed.{IsWellFormed}
@@ -33,53 +28,29 @@ goes_wrong all before u rest f wrong g =
     let left : faults_after use_fault before (u ∷ rest) ≡ Some f ∷ faults_after use_fault (before ++ u ∷ []) rest = ap (λ o. o ∷ faults_after use_fault (before ++ u ∷ []) rest) wrong in
     g.first f (subst (λ l. IsFirst l f) (sym left) refl)
 
--- the labels of a word that are left
-labels_left : {X : Type 0} (f : X → List ℕ) (n : ℕ) (word : Word) (xs : List X) (i : ℕ) (d : X) (rest : List Use) → i < length xs
-    → uses_from n word (map f (drop i xs)) ++ rest
-    ≡ use_of n word (f (get_or xs i d)) ∷ (uses_from n (word ++ f (get_or xs i d) ∷ []) (map f (drop (i + 1) xs)) ++ rest)
-labels_left f n word xs i d rest lt = ap (λ l. uses_from n word (map f l) ++ rest) (drop_more xs i d lt)
-
-module _ {X : Type 0} (f : X → List ℕ) (all rest : List Use) (n : ℕ) (word : Word) (xs : List X) (i : ℕ) (d : X) (names : List (List ℕ)) (steps : List (ℕ × ℕ)) (state : ℕ) where
+module _ (all more : List Use) (n : ℕ) (word : Word) (names : List (List ℕ)) (steps : List (ℕ × ℕ)) (state : ℕ) where
   -- a label is taken
-  pub label_taken : (more_names : List (List ℕ)) (more_steps : List (ℕ × ℕ)) (to : ℕ) → i < length xs
+  pub label_taken : (label : List ℕ) (labels : Word) (more_names : List (List ℕ)) (more_steps : List (ℕ × ℕ)) (to : ℕ)
       → ((before : List Use) (w : Word) → IsAt before w names steps state
-      → IsAt (before ++ use_of n w (f (get_or xs i d)) ∷ []) (w ++ f (get_or xs i d) ∷ []) more_names more_steps to × (use_fault before (use_of n w (f (get_or xs i d))) ≡ None))
-      → Stands all (uses_from n word (map f (drop i xs)) ++ rest) word names steps state
-      → Stands all (uses_from n (word ++ f (get_or xs i d) ∷ []) (map f (drop (i + 1) xs)) ++ rest) (word ++ f (get_or xs i d) ∷ []) more_names more_steps to
-  label_taken more_names more_steps to lt step s =
-      let label = f (get_or xs i d) in
+      → IsAt (before ++ use_of n w label ∷ []) (w ++ label ∷ []) more_names more_steps to × (use_fault before (use_of n w label) ≡ None))
+      → Stands all (uses_from n word (label ∷ labels) ++ more) word names steps state
+      → Stands all (uses_from n (word ++ label ∷ []) labels ++ more) (word ++ label ∷ []) more_names more_steps to
+  label_taken label labels more_names more_steps to step s =
       let r = step s.before word s.at in
-      let goes = subst (GoesTo all s.before) (labels_left f n word xs i d rest lt) s.goes in
-      record { before = s.before ++ use_of n word label ∷ []; goes = goes_more all s.before (use_of n word label) _ r.1 goes; at = r.0 }
+      record { before = s.before ++ use_of n word label ∷ []; goes = goes_more all s.before (use_of n word label) _ r.1 s.goes; at = r.0 }
 
   -- a label is wrong
-  pub label_wrong : (g : WordFault) → i < length xs
-      → ((before : List Use) (w : Word) → IsAt before w names steps state → use_fault before (use_of n w (f (get_or xs i d))) ≡ Some g)
-      → Stands all (uses_from n word (map f (drop i xs)) ++ rest) word names steps state → IsFirst (faults_after use_fault [] all) g
-  label_wrong g lt step s =
-      let label = f (get_or xs i d) in
-      let goes = subst (GoesTo all s.before) (labels_left f n word xs i d rest lt) s.goes in
-      goes_wrong all s.before (use_of n word label) _ g (step s.before word s.at) goes
+  pub label_wrong : (label : List ℕ) (labels : Word) (f : WordFault) → ((before : List Use) (w : Word) → IsAt before w names steps state → use_fault before (use_of n w label) ≡ Some f)
+      → Stands all (uses_from n word (label ∷ labels) ++ more) word names steps state → IsFirst (faults_after use_fault [] all) f
+  label_wrong label labels f step s = goes_wrong all s.before (use_of n word label) _ f (step s.before word s.at) s.goes
 
   -- the word is at its end
-  pub word_ends : length xs ≤ i → Stands all (uses_from n word (map f (drop i xs)) ++ rest) word names steps state → Stands all rest [] names steps 0
-  word_ends past s =
-      let end : uses_from n word (map f (drop i xs)) ++ rest ≡ rest = ap (λ l. uses_from n word (map f l) ++ rest) (drop_all i xs past) in
-      record {
-        before = s.before;
-        goes = subst (GoesTo all s.before) end s.goes;
-        at = record { labels = s.at.labels; tree = s.at.tree; place = empty_first s.before };
-      }
-
--- no word of a line is empty
-pub some_bytes : (line : List ℕ) → All (λ w. 0 < length w) (words line)
-some_bytes line =
-    All-weaker (λ w. not (length w == 0) ≡ true) (λ w. 0 < length w) (λ w e. positive (length w) e) (words line)
-    (filter_passes (λ w. not (length w == 0)) (slice_split is_blank_byte line))
-  where
-    positive : (n : ℕ) → not (n == 0) ≡ true → 0 < n
-    positive zero e = absurd cc
-    positive (suc n) e = omega arith
+  pub word_ends : Stands all more word names steps state → Stands all more [] names steps 0
+  word_ends s = record {
+    before = s.before;
+    goes = s.goes;
+    at = record { labels = s.at.labels; tree = s.at.tree; place = empty_first s.before };
+  }
 
 -- at the end the system is the tree
 pub all_there : (bytes : List ℕ) (names : List (List ℕ)) (steps : List (ℕ × ℕ)) (d : Draft) (lts : System) → Stands (uses bytes) [] [] names steps 0 → d.label_names ≡ names

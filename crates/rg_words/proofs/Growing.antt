@@ -5,13 +5,12 @@ use Rattle.std.specs.List.{fold}
 use Rattle.std.specs.Str.{bytes_eq}
 use Rattle.std.proofs.lemmas.Bool.{cases_order}
 use Rattle.std.proofs.lemmas.List.{map-append, length-append, get_or_append_left}
-use Rattle.std.proofs.Math.Seq.{get_or-append_seam}
 use Rattle.std.proofs.lemmas.List.Elements.{Contains-append_left, Contains-append_cases}
 use Rattle.std.proofs.lemmas.Option.{slice_get_within, get_or_from_slice_get, slice_get-get_or}
 use Rattle.std.proofs.lemmas.Slice.Eq.{bytes_eq-Decides, slice_eq-Decides}
 use Rattle.rg_theory.specs.System.{arc}
 use Rattle.rg_firsts.specs.First.{with_new, firsts}
-use Rattle.rg_firsts.proofs.Things.{there_at, there_later, last_there, there_one, fold-append, grown, new_there, new_absent, number_is, number_stays, met, firsts_differ, map_there}
+use Rattle.rg_firsts.proofs.Things.{there_at, there_later, last_there, stands_last, there_one, fold-append, grown, new_there, new_absent, number_is, number_stays, met, firsts_differ, map_there}
 use Rattle.rg_words.specs.Contents.{Word, Use, prefix, same_word, prefixes, label_names, arc_of}
 use Rattle.rg_words.specs.Reading.{arcs_from, step_arcs, LeadsTo, arcs_of, AreSteps}
 
@@ -79,9 +78,6 @@ stays_at xs more i x at =
     let lt = slice_get_within xs i x at in
     let here : get_or (xs ++ more) i x ≡ x = get_or_append_left xs more x i lt ∙ get_or_from_slice_get xs i x x at in
     slice_get-get_or (xs ++ more) i x (omega (arith, length-append xs more)) ∙ ap Some here
-
-pub stands_last : {X : Type 0} (xs : List X) (x : X) → slice_get (xs ++ x ∷ []) (length xs) ≡ Some x
-stands_last xs x = slice_get-get_or (xs ++ x ∷ []) (length xs) x (omega (arith, length-append xs (x ∷ []))) ∙ ap Some (get_or-append_seam xs x [] x)
 
 -- in a list of different things a thing stands at one place
 pub one_place : {X : Type 0} (xs : List X) (i j : ℕ) (x : X) → AllPairs (λ a b. a ≢ b) xs → slice_get xs i ≡ Some x → slice_get xs j ≡ Some x → i ≡ j

@@ -45,14 +45,10 @@ pub(crate) fn label_at(builder: &mut LtsBuilder, name: &str, number: u32) -> Res
     ensures fault { IfErr result (λ f. f ≢ NoMemory → (f ≡ fault.TooManyLabels number) × (most_labels < length (with_new bytes_eq builder.old.label_names name.now))) }
 {
     match add_label(builder, name) {
-        Ok(()) => {}
-        Err(BuildFault::TooManyLabels) => return Err(WordFault::TooManyLabels(number)),
-        Err(BuildFault::NoMemory) => return Err(WordFault::NoMemory),
+        Ok(t) => Ok(t),
+        Err(BuildFault::TooManyLabels) => Err(WordFault::TooManyLabels(number)),
+        Err(BuildFault::NoMemory) => Err(WordFault::NoMemory),
         Err(_) => unreachable!(),
-    }
-    match builder.label_number(name) {
-        Some(t) => Ok(t),
-        None => unreachable!(),
     }
 }
 

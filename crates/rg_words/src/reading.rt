@@ -7,6 +7,7 @@ ghost use Rattle.rg_text.specs.Line.{lines};
 ghost use Rattle.rg_theory.specs.Limits.{most_states};
 ghost use Rattle.rg_lts.specs.WellFormed.{IsWellFormed};
 ghost use Rattle.rg_lts.specs.Draft.{finished};
+ghost use Rattle.rg_firsts.specs.Words.{words};
 ghost use Rattle.rg_words.specs.Contents.{Word, Use, uses, uses_from, word_of, begins_with_hash, state_names, use_fault};
 ghost use Rattle.rg_words.specs.Reading.{use_of, IsDraftOf, IsAt, IsGrown, Stands, uses_of};
 ghost use Rattle.rg_words.specs.Spells.{IsTreeOf, Spells, FirstFault};
@@ -16,7 +17,7 @@ ghost use Rattle.rg_words.specs.declared.fault.WordFault.TheVariants.{NoMemory};
 use crate::fault::WordFault;
 use crate::label::{check, label_at, place_of, state_name};
 use indexmap::IndexSet;
-use rg_firsts::{add_arc, add_state, as_name, cut_line, words};
+use rg_firsts::{add_arc, add_state, as_name, cut_line, cut_word};
 use rg_lts::{BuildFault, Lts, LtsBuilder, MOST_STATES};
 use std::alloc::Global;
 
@@ -45,7 +46,7 @@ fn grow(
     let from_name = state_name(alloc, state)?;
     let to_name = state_name(alloc, to)?;
     match add_state(builder, to_name.as_str()) {
-        Ok(()) => {}
+        Ok(_) => {}
         Err(BuildFault::NoMemory) => return Err(WordFault::NoMemory),
         Err(_) => unreachable!(),
     }
@@ -90,28 +91,32 @@ fn take_label(
 }
 
 // Takes the labels of a word.
-fn take_word(alloc: Global, tree: &mut Tree, labels: &[&[u8]], number: u32) -> Result<(), WordFault>
-    requires some { All (λ w. 0 < length w) (map (λ w. w.now) labels.now) }
-    requires draft { IsDraftOf tree.old.builder tree.old.steps.keys }
+fn take_word(alloc: Global, tree: &mut Tree, word: &[u8], number: u32) -> Result<(), WordFault>
+    requires { IsDraftOf tree.old.builder tree.old.steps.keys }
     ensures draft { OnOk result (IsDraftOf tree.new.builder tree.new.steps.keys) }
-    ensures ok { OnOk result ((all rest : List Use) → Stands all (uses_from number [] (map (λ w. w.now) labels.now) ++ rest) [] tree.old.builder.label_names tree.old.steps.keys 0
-        → Stands all rest [] tree.new.builder.label_names tree.new.steps.keys 0) }
-    ensures fault { IfErr result (λ f. f ≢ NoMemory → (all rest : List Use)
-        → Stands all (uses_from number [] (map (λ w. w.now) labels.now) ++ rest) [] tree.old.builder.label_names tree.old.steps.keys 0 → IsFirst (faults_after use_fault [] all) f) }
+    ensures ok { OnOk result ((all more : List Use) → Stands all (uses_from number [] (words word.now) ++ more) [] tree.old.builder.label_names tree.old.steps.keys 0
+        → Stands all more [] tree.new.builder.label_names tree.new.steps.keys 0) }
+    ensures fault { IfErr result (λ f. f ≢ NoMemory → (all more : List Use)
+        → Stands all (uses_from number [] (words word.now) ++ more) [] tree.old.builder.label_names tree.old.steps.keys 0 → IsFirst (faults_after use_fault [] all) f) }
 {
     let mut state = 0;
-    for label in labels {
+    let mut rest = word;
+    while let Some((label, left)) = cut_word(rest) {
         state = take_label(alloc, tree, state, label, number)?;
+        rest = left;
     }
     Ok(())
 }
 
-// Whether a line with these words is a remark.
-fn is_remark(labels: &[&[u8]]) -> bool
-    ensures remark { result ≡ true → word_of (map (λ w. w.now) labels.now) ≡ [] }
-    ensures word { result ≡ false → word_of (map (λ w. w.now) labels.now) ≡ map (λ w. w.now) labels.now }
+// Whether a line is a remark.
+fn is_remark(line: &[u8]) -> bool
+    ensures remark { result ≡ true → word_of (words line.now) ≡ [] }
+    ensures word { result ≡ false → word_of (words line.now) ≡ words line.now }
 {
-    !labels.is_empty() && begins_with_hash(labels[0])
+    match cut_word(line) {
+        Some((first, _)) => begins_with_hash(first),
+        None => false,
+    }
 }
 
 // Whether the word begins with `#`.
@@ -125,16 +130,15 @@ fn begins_with_hash(word: &[u8]) -> bool
 fn take_line(alloc: Global, tree: &mut Tree, line: &[u8], number: u32) -> Result<(), WordFault>
     requires { IsDraftOf tree.old.builder tree.old.steps.keys }
     ensures draft { OnOk result (IsDraftOf tree.new.builder tree.new.steps.keys) }
-    ensures ok { OnOk result ((all rest : List Use) → Stands all (uses_of (number, line.now) ++ rest) [] tree.old.builder.label_names tree.old.steps.keys 0
-        → Stands all rest [] tree.new.builder.label_names tree.new.steps.keys 0) }
-    ensures fault { IfErr result (λ f. f ≢ NoMemory → (all rest : List Use)
-        → Stands all (uses_of (number, line.now) ++ rest) [] tree.old.builder.label_names tree.old.steps.keys 0 → IsFirst (faults_after use_fault [] all) f) }
+    ensures ok { OnOk result ((all more : List Use) → Stands all (uses_of (number, line.now) ++ more) [] tree.old.builder.label_names tree.old.steps.keys 0
+        → Stands all more [] tree.new.builder.label_names tree.new.steps.keys 0) }
+    ensures fault { IfErr result (λ f. f ≢ NoMemory → (all more : List Use)
+        → Stands all (uses_of (number, line.now) ++ more) [] tree.old.builder.label_names tree.old.steps.keys 0 → IsFirst (faults_after use_fault [] all) f) }
 {
-    let labels = words(alloc, line)?;
-    if is_remark(&labels) {
+    if is_remark(line) {
         return Ok(());
     }
-    take_word(alloc, tree, &labels, number)
+    take_word(alloc, tree, line, number)
 }
 
 // Takes the words of all lines.
@@ -168,7 +172,7 @@ fn root(alloc: Global) -> Result<Tree, WordFault>
     let mut builder = LtsBuilder::new(alloc);
     let name = state_name(alloc, 0)?;
     match add_state(&mut builder, name.as_str()) {
-        Ok(()) => {}
+        Ok(_) => {}
         Err(BuildFault::NoMemory) => return Err(WordFault::NoMemory),
         Err(_) => unreachable!(),
     }
