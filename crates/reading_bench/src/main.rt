@@ -58,7 +58,12 @@ fn measure(
     let lts = read(rt.alloc(), form, bytes);
     let spent = start.elapsed(rt)?;
     match lts {
-        Some(lts) => println!(rt; "{} states, {} labels, {} arcs", lts.states(), lts.labels(), lts.arcs().len())?,
+        Some(lts) => println!(rt;
+            "{} states, {} labels, {} arcs",
+            lts.states(),
+            lts.labels(),
+            lts.arcs().len()
+        )?,
         None => println!(rt; "refused")?,
     }
     eprintln!(rt; "{} nanoseconds", spent.as_nanos())
