@@ -7,7 +7,7 @@ use rg_net::{Class, ClassBreak, Net, in_class};
 use std::test::Fail;
 
 // Whether each of the markings has one number for each place.
-fn fit(net: &Net, markings: &[Vec<u128>]) -> bool
+pub(crate) fn fit(net: &Net, markings: &[Vec<u128>]) -> bool
     ensures { IsTrue result → All (λ m. length m ≡ length net.now.places) (shown_markings markings.now) }
 {
     let places = net.places().len();

@@ -2,6 +2,8 @@
 #![tactic(auto)]
 
 #[cfg(test)]
+mod changed;
+#[cfg(test)]
 mod classes;
 #[cfg(test)]
 mod firing;
@@ -9,5 +11,7 @@ mod firing;
 mod laws;
 #[cfg(test)]
 mod samples;
+#[cfg(test)]
+mod second;
 #[cfg(test)]
 mod verdicts;

@@ -25,7 +25,7 @@ use Rattle.rg_net_verdict.specs.Markings.{IsMarkingOf, IsTreeArc, FireBefore}
 use Rattle.rg_net_verdict.specs.Verdict.{Told, IsStuckInTree, PassesInTree, AreTold, AreFirstSame, HaveMarkings, AllDiffer, IsRightAt, stops, steps, AreRightBefore, list_of, Tells, IsVerdict}
 
 -- labels lead from a marking to one marking
-runs_once : (net : Net) (m : Marking) (ts : List ℕ) (a b : Marking) → FiresAll net m ts a → FiresAll net m ts b → a ≡ b
+pub runs_once : (net : Net) (m : Marking) (ts : List ℕ) (a b : Marking) → FiresAll net m ts a → FiresAll net m ts b → a ≡ b
 runs_once net m [] a b e f = sym e ∙ f
 runs_once net m (t ∷ ts) a b (mid, fires, run) (mid', fires', run') =
     runs_once net mid ts a b run (subst (λ k. FiresAll net k ts b) (fires_once net m t mid' mid fires' fires) run')

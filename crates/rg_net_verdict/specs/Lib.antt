@@ -2,3 +2,5 @@ pub mod Markings
 pub mod Verdict
 pub mod Wrong
 pub mod Rows
+pub mod Flows
+pub mod Marked

@@ -2,9 +2,9 @@
 ghost use Rattle.std.specs.Prelude.{◌≡◌, IfOk, OnOk, IsErrOf, Ok, Err};
 ghost use Rattle.rg_integers.specs.Range.{greatest};
 ghost use Rattle.rg_theory.specs.System.{labels, IsAllReachable, IsForkFree};
-ghost use Rattle.rg_theory.specs.Tree.{IsTree};
 ghost use Rattle.rg_theory.specs.Class.{IsBounded};
 ghost use Rattle.rg_lts.specs.WellFormed.{IsWellFormed};
+ghost use Rattle.rg_spanning.specs.Spanning.{IsTreeOf};
 ghost use Rattle.rg_net_verdict.specs.declared.check.Halt.TheVariants as halt;
 ghost use Rattle.rg_net_verdict.specs.declared.verdict.CheckStop.TheVariants as stop;
 ghost use Rattle.rg_net_verdict.specs.declared.verdict.CheckWide.{CheckWide};
@@ -12,15 +12,15 @@ ghost use Rattle.rg_net_verdict.specs.declared.verdict.NetNo.{NetNo};
 ghost use Rattle.rg_net_verdict.specs.declared.verdict.NetVerdict.TheVariants as verdict;
 ghost use Rattle.rg_net_verdict.specs.Verdict.{IsVerdict, Tells};
 
+use crate::flow::flows_of;
 use crate::rows::rows_along;
 use crate::same::first_same;
 use crate::verdict::{CheckStop, NetNo, NetVerdict};
-use crate::wrong::first_wrong;
+use crate::wrong::{Marked, first_wrong};
 use rg_checks::first_fork;
 use rg_lts::Lts;
 use rg_net::{Class, Net, in_class};
 use rg_spanning::{GrowStop, Tree};
-use rg_theory::Arc;
 use std::alloc::{AllocError, Global};
 
 /// Why the tests end before the last.
@@ -46,7 +46,8 @@ impl From<AllocError> for Halt {
 /// labels of its way in the tree end.
 ///
 /// `Wide` where a firing along the tree leaves more than `2^127 - 1` tokens on a place, `NoMemory` where there is no
-/// memory left: the markings of all states are held at once, 16 bytes for each state and place.
+/// memory left: the markings of all states are held at once, 16 bytes for each state and place, and for each label the
+/// places from which it takes or on which it puts tokens, 48 bytes for each.
 pub fn check_net(alloc: Global, lts: &Lts, net: &Net, class: Class) -> Result<NetVerdict, CheckStop>
     requires { net.now.labels ≡ labels lts.now }
     ensures verdict { IfOk result (λ v. IsVerdict lts.now net.now class (Ok v)) }
@@ -62,7 +63,7 @@ pub fn check_net(alloc: Global, lts: &Lts, net: &Net, class: Class) -> Result<Ne
     if let Some((s, t, first, second)) = first_fork(lts) {
         return Ok(NetVerdict::No(NetNo::Fork(s, t, first, second)));
     }
-    match judge(alloc, lts, tree.arcs(), net, class) {
+    match judge(alloc, lts, &tree, net, class) {
         Ok(()) => Ok(NetVerdict::Yes),
         Err(Halt::No(no)) => Ok(NetVerdict::No(no)),
         Err(Halt::Stop(stop)) => Err(stop),
@@ -70,22 +71,30 @@ pub fn check_net(alloc: Global, lts: &Lts, net: &Net, class: Class) -> Result<Ne
 }
 
 // The tests along the tree and behind them.
-fn judge(alloc: Global, lts: &Lts, tree: &[Arc], net: &Net, class: Class) -> Result<(), Halt>
+fn judge(alloc: Global, lts: &Lts, tree: &Tree, net: &Net, class: Class) -> Result<(), Halt>
     requires system { IsWellFormed lts.now }
     requires labels { net.now.labels ≡ labels lts.now }
-    requires tree { IsTree lts.now tree.now }
+    requires tree { IsTreeOf lts.now tree.now }
     requires reachable { IsAllReachable lts.now }
     requires fork_free { IsForkFree lts.now }
-    ensures yes { OnOk result (Tells lts.now net.now tree.now class (Ok verdict.Yes)) }
-    ensures no { (n : NetNo) → IsErrOf result (halt.No n) → Tells lts.now net.now tree.now class (Ok (verdict.No n)) }
-    ensures wide { (w : CheckWide) → IsErrOf result (halt.Stop (stop.Wide w)) → Tells lts.now net.now tree.now class (Err w) }
+    ensures yes { OnOk result (Tells lts.now net.now tree.now.arcs class (Ok verdict.Yes)) }
+    ensures no { (n : NetNo) → IsErrOf result (halt.No n) → Tells lts.now net.now tree.now.arcs class (Ok (verdict.No n)) }
+    ensures wide { (w : CheckWide) → IsErrOf result (halt.Stop (stop.Wide w)) → Tells lts.now net.now tree.now.arcs class (Err w) }
     ensures in_range { OnOk result (IsBounded net.now greatest) }
 {
-    let rows = rows_along(alloc, lts, tree, net)?;
+    let flows = flows_of(alloc, net)?;
+    let rows = rows_along(alloc, lts, tree.arcs(), net, &flows)?;
     if let Some((s, r)) = first_same(alloc, lts, &rows)? {
         return Err(Halt::No(NetNo::SameMarking(s, r)));
     }
-    if let Some(no) = first_wrong(lts, net, &rows) {
+    let marked = Marked {
+        lts,
+        tree,
+        net,
+        flows: flows.as_slice(),
+        rows: rows.as_slice(),
+    };
+    if let Some(no) = first_wrong(marked) {
         return Err(Halt::No(no));
     }
     match in_class(net, &rows, class) {

@@ -2,7 +2,9 @@
 #![tactic(auto)]
 
 mod check;
+mod flow;
 mod laws;
+mod moves;
 mod rows;
 mod same;
 mod verdict;

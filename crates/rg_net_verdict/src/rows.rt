@@ -15,12 +15,15 @@ ghost use Rattle.rg_net_verdict.specs.declared.verdict.NetNo.{NetNo};
 ghost use Rattle.rg_net_verdict.specs.declared.verdict.NetVerdict.TheVariants as verdict;
 ghost use Rattle.rg_net_verdict.specs.Verdict.{HaveMarkings, Tells};
 ghost use Rattle.rg_net_verdict.specs.Rows.{AreRows, IsShownPassed};
+ghost use Rattle.rg_net_verdict.specs.Flows.{AreFlows, IsFlow};
 
 use crate::check::Halt;
+use crate::flow::Flow;
+use crate::moves::{allows, moved};
 use crate::verdict::{CheckStop, CheckWide, NetNo};
 use rg_fraction::Wide;
 use rg_lts::Lts;
-use rg_net::{Class, FireStop, Net, Place, enabled, fire};
+use rg_net::{Class, FireStop, Net, Place};
 use rg_theory::Arc;
 use std::alloc::{AllocError, Global};
 
@@ -30,7 +33,9 @@ pub(crate) fn rows_along(
     lts: &Lts,
     tree: &[Arc],
     net: &Net,
+    flows: &[Vec<Flow>],
 ) -> Result<Vec<Vec<u128>>, Halt>
+    requires flows { AreFlows net.now flows.now }
     requires labels { net.now.labels ≡ labels lts.now }
     requires tree { IsTree lts.now tree.now }
     requires reachable { IsAllReachable lts.now }
@@ -42,10 +47,11 @@ pub(crate) fn rows_along(
     let mut rows = begun(alloc, lts, net)?;
     for a in tree {
         let source = &rows[a.from as usize];
-        if !enabled(net, source, a.label) {
+        let flow = &flows[a.label as usize];
+        if !allows(flow, source) {
             return Err(Halt::No(NetNo::NotEnabled(a.from, a.label)));
         }
-        let target = fired(alloc, net, source, a)?;
+        let target = fired(alloc, net, flow, source, a)?;
         rows[a.to as usize] = target;
     }
     Ok(rows)
@@ -82,7 +88,14 @@ fn starts(alloc: Global, places: &[Place]) -> Result<Vec<u128>, AllocError>
 }
 
 // The row after the firing along an arc that is enabled.
-fn fired(alloc: Global, net: &Net, source: &[u128], a: &Arc) -> Result<Vec<u128>, Halt>
+fn fired(
+    alloc: Global,
+    net: &Net,
+    flow: &[Flow],
+    source: &[u128],
+    a: &Arc,
+) -> Result<Vec<u128>, Halt>
+    requires flow { IsFlow net.now a.now.label flow.now }
     requires enabled { IsEnabled net.now source.now a.now.label }
     requires places { length source.now ≡ length net.now.places }
     requires label { a.now.label < net.now.labels }
@@ -92,7 +105,7 @@ fn fired(alloc: Global, net: &Net, source: &[u128], a: &Arc) -> Result<Vec<u128>
     ensures passes { (w : CheckWide) → IsErrOf result (halt.Stop (stop.Wide w)) → IsShownPassed net.now source.now a.now w }
     ensures no { (n : NetNo) → result ≢ Err (halt.No n) }
 {
-    match fire(alloc, net, source, a.label) {
+    match moved(alloc, flow, source) {
         Ok(row) => Ok(row),
         Err(FireStop::NoMemory) => Err(Halt::Stop(CheckStop::NoMemory)),
         Err(FireStop::Passes(place)) => {

@@ -1,28 +1,39 @@
 //! The labels at the states.
-ghost use Rattle.std.specs.Prelude.{◌≡◌, ◌↔◌, ℕ, ◌<◌, ◌≤◌, length, All, IsTrue, IfSome, IfNone};
-ghost use Rattle.rg_integers.specs.Range.{greatest};
-ghost use Rattle.rg_theory.specs.System.{states, labels, IsInRange, IsForkFree};
-ghost use Rattle.rg_theory.specs.Net.{IsEnabled, Fires};
+ghost use Rattle.std.specs.Prelude.{◌≡◌, ◌↔◌, ◌<◌, IsTrue, IfSome, IfNone};
+ghost use Rattle.rg_theory.specs.System.{states, labels, HasArc};
+ghost use Rattle.rg_theory.specs.Net.{Fires, IsEnabled};
 ghost use Rattle.rg_theory.specs.Solves.{marking_of};
 ghost use Rattle.rg_net.specs.ClassBreaks.{shown_markings};
-ghost use Rattle.rg_net_verdict.specs.Rows.{AreRows};
+ghost use Rattle.rg_net_verdict.specs.Marked.{IsMarked};
 ghost use Rattle.rg_net_verdict.specs.Verdict.{IsRightAt, AreRightBefore};
 ghost use Rattle.rg_net_verdict.specs.Wrong.{IsWrongAt, IsFirstWrong};
 
+use crate::flow::Flow;
+use crate::moves::{allows, is_moved};
 use crate::verdict::NetNo;
 use rg_lts::Lts;
-use rg_net::{Net, enabled};
+use rg_net::Net;
+use rg_spanning::Tree;
+use rg_theory::Arc;
+
+// A system with its tree, a net with the places of each label, and the markings of the states.
+#[derive(Clone, Copy)]
+pub(crate) struct Marked<'a> {
+    pub lts: &'a Lts,
+    pub tree: &'a Tree,
+    pub net: &'a Net,
+    pub flows: &'a [Vec<Flow>],
+    pub rows: &'a [Vec<u128>],
+}
 
 // The first label at a state at which the net and the system differ.
-pub(crate) fn first_wrong(lts: &Lts, net: &Net, rows: &[Vec<u128>]) -> Option<NetNo>
-    requires labels { net.now.labels ≡ labels lts.now }
-    requires fork_free { IsForkFree lts.now }
-    requires rows { AreRows lts.now net.now (shown_markings rows.now) }
-    ensures some { IfSome result (IsFirstWrong lts.now net.now (marking_of (shown_markings rows.now))) }
-    ensures none { IfNone result (AreRightBefore lts.now net.now (marking_of (shown_markings rows.now)) (states lts.now) 0) }
+pub(crate) fn first_wrong(marked: Marked<'_>) -> Option<NetNo>
+    requires { IsMarked marked }
+    ensures some { IfSome result (IsFirstWrong marked.entry.lts.now marked.entry.net.now (marking_of (shown_markings marked.entry.rows.now))) }
+    ensures none { IfNone result (AreRightBefore marked.entry.lts.now marked.entry.net.now (marking_of (shown_markings marked.entry.rows.now)) (states marked.entry.lts.now) 0) }
 {
-    for s in 0..lts.states() {
-        if let Some(no) = first_wrong_at(lts, net, rows, s) {
+    for s in 0..marked.lts.states() {
+        if let Some(no) = first_wrong_at(marked, s) {
             return Some(no);
         }
     }
@@ -30,65 +41,68 @@ pub(crate) fn first_wrong(lts: &Lts, net: &Net, rows: &[Vec<u128>]) -> Option<Ne
 }
 
 // The first label at the state, while all labels at earlier states are right.
-fn first_wrong_at(lts: &Lts, net: &Net, rows: &[Vec<u128>], s: u32) -> Option<NetNo>
-    requires labels { net.now.labels ≡ labels lts.now }
-    requires fork_free { IsForkFree lts.now }
-    requires rows { AreRows lts.now net.now (shown_markings rows.now) }
-    requires system { IsInRange lts.now }
-    requires state { s < states lts.now }
-    requires before { AreRightBefore lts.now net.now (marking_of (shown_markings rows.now)) s 0 }
-    ensures some { IfSome result (IsFirstWrong lts.now net.now (marking_of (shown_markings rows.now))) }
-    ensures none { IfNone result (AreRightBefore lts.now net.now (marking_of (shown_markings rows.now)) s (labels lts.now)) }
+fn first_wrong_at(marked: Marked<'_>, s: u32) -> Option<NetNo>
+    requires marked { IsMarked marked }
+    requires state { s < states marked.lts.now }
+    requires before { AreRightBefore marked.lts.now marked.net.now (marking_of (shown_markings marked.rows.now)) s 0 }
+    ensures some { IfSome result (IsFirstWrong marked.entry.lts.now marked.entry.net.now (marking_of (shown_markings marked.entry.rows.now))) }
+    ensures none { IfNone result (AreRightBefore marked.entry.lts.now marked.entry.net.now (marking_of (shown_markings marked.entry.rows.now)) s (labels marked.entry.lts.now)) }
 {
-    for t in 0..lts.labels() {
-        if let Some(no) = wrong_at(lts, net, rows, s, t) {
+    for t in 0..marked.lts.labels() {
+        if let Some(no) = wrong_at(marked, s, t) {
             return Some(no);
         }
     }
     None
 }
 
-// What is wrong with the label at the state.
-fn wrong_at(lts: &Lts, net: &Net, rows: &[Vec<u128>], s: u32, t: u32) -> Option<NetNo>
-    requires labels { net.now.labels ≡ labels lts.now }
-    requires fork_free { IsForkFree lts.now }
-    requires rows { AreRows lts.now net.now (shown_markings rows.now) }
-    requires system { IsInRange lts.now }
-    requires state { s < states lts.now }
-    requires label { t < labels lts.now }
-    ensures some { IfSome result (IsWrongAt lts.now net.now (marking_of (shown_markings rows.now)) s t) }
-    ensures none { IfNone result (IsRightAt lts.now net.now (marking_of (shown_markings rows.now)) s t) }
+// What is wrong with the label at the state. An arc of the tree is right, since its target got its marking along it.
+fn wrong_at(marked: Marked<'_>, s: u32, t: u32) -> Option<NetNo>
+    requires marked { IsMarked marked }
+    requires state { s < states marked.lts.now }
+    requires label { t < labels marked.lts.now }
+    ensures some { IfSome result (IsWrongAt marked.entry.lts.now marked.entry.net.now (marking_of (shown_markings marked.entry.rows.now)) s t) }
+    ensures none { IfNone result (IsRightAt marked.entry.lts.now marked.entry.net.now (marking_of (shown_markings marked.entry.rows.now)) s t) }
 {
-    let row = &rows[s as usize];
-    let on = enabled(net, row, t);
-    match lts.arc_at(s, t) {
-        None if on => Some(NetNo::Enabled(s, t)),
+    match marked.lts.arc_at(s, t) {
+        None if is_enabled(marked, s, t) => Some(NetNo::Enabled(s, t)),
         None => None,
-        Some(_) if !on => Some(NetNo::NotEnabled(s, t)),
-        Some(to) => {
-            if is_step(net, row, t, &rows[to as usize]) {
-                None
-            } else {
-                Some(NetNo::WrongStep(s, t))
-            }
-        }
+        Some(to) if is_grown(marked, s, t, to) => None,
+        Some(_) if !is_enabled(marked, s, t) => Some(NetNo::NotEnabled(s, t)),
+        Some(to) if !is_step(marked, s, t, to) => Some(NetNo::WrongStep(s, t)),
+        Some(_) => None,
     }
 }
 
-// Whether the firing of the label, which is enabled, leads from one row to the other.
-fn is_step(net: &Net, from: &[u128], t: u32, to: &[u128]) -> bool
-    requires enabled { IsEnabled net.now from.now t }
-    requires from { length from.now ≡ length net.now.places }
-    requires to { length to.now ≡ length net.now.places }
-    requires label { t < net.now.labels }
-    requires in_range { All (λ n. n ≤ greatest) from.now }
-    ensures { IsTrue result ↔ Fires net.now from.now t to.now }
+// Whether the tree has this arc.
+fn is_grown(marked: Marked<'_>, s: u32, t: u32, to: u32) -> bool
+    requires marked { IsMarked marked }
+    requires arc { HasArc marked.lts.now s t to }
+    ensures { IsTrue result → Fires marked.entry.net.now (marking_of (shown_markings marked.entry.rows.now) s) t (marking_of (shown_markings marked.entry.rows.now) to) }
 {
-    let places = net.places();
-    for (i, place) in places.iter().enumerate() {
-        if from[i] - place.pre[t as usize] + place.post[t as usize] != to[i] {
-            return false;
-        }
+    match marked.tree.parent(to) {
+        Some(a) => a.from == s && a.label == t,
+        None => false,
     }
-    true
+}
+
+// Whether the label is enabled at the state.
+fn is_enabled(marked: Marked<'_>, s: u32, t: u32) -> bool
+    requires marked { IsMarked marked }
+    requires state { s < states marked.lts.now }
+    requires label { t < labels marked.lts.now }
+    ensures { IsTrue result ↔ IsEnabled marked.entry.net.now (marking_of (shown_markings marked.entry.rows.now) s) t }
+{
+    allows(&marked.flows[t as usize], &marked.rows[s as usize])
+}
+
+// Whether the firing of the label, which is enabled, leads along the arc.
+fn is_step(marked: Marked<'_>, s: u32, t: u32, to: u32) -> bool
+    requires marked { IsMarked marked }
+    requires arc { HasArc marked.lts.now s t to }
+    requires enabled { IsEnabled marked.net.now (marking_of (shown_markings marked.rows.now) s) t }
+    ensures { IsTrue result ↔ Fires marked.entry.net.now (marking_of (shown_markings marked.entry.rows.now) s) t (marking_of (shown_markings marked.entry.rows.now) to) }
+{
+    let flow = &marked.flows[t as usize];
+    is_moved(flow, &marked.rows[s as usize], &marked.rows[to as usize])
 }

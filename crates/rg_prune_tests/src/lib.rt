@@ -1,6 +1,7 @@
-//! The laws of pruning are called as any function is, and do nothing. That `prune` leaves what its rows say is seen by
-//! whole runs.
+//! Tests of pruning: rows of places worked by hand, and the laws, which are called as any function is and do nothing.
 #![tactic(auto)]
 
 #[cfg(test)]
 mod laws;
+#[cfg(test)]
+mod rows;

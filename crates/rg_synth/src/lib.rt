@@ -5,6 +5,7 @@ mod answer;
 mod judged_texts;
 mod judging;
 mod laws;
+mod net_laws;
 mod netting;
 mod request;
 mod run_whole;
@@ -13,6 +14,7 @@ mod system_file;
 mod texts;
 
 pub use laws::written_is_accepted;
+pub use net_laws::written_net_gets_yes;
 pub use rg_separate::{Stage, WideAt};
 pub use run_whole::run;
 pub use status::{Fault, FileFault, Status, Unbuilt, Usage, WideCause};

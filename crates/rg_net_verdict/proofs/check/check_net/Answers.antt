@@ -1,5 +1,4 @@
-use Rattle.std.proofs.Common.{◌≡◌, Err, sym, subst}
-use Rattle.rg_theory.specs.Tree.{IsTree}
+use Rattle.std.proofs.Common.{◌≡◌, Err}
 use Rattle.rg_net_verdict.specs.declared.check.Halt.TheVariants.{No}
 use Rattle.rg_net_verdict.proofs.Telling.{verdict_no}
 use Rattle.rg_net_verdict.proofs.check.check_net.Goals as goal
@@ -7,5 +6,5 @@ use Rattle.rg_net_verdict.proofs.check.check_net.Goals as goal
 pub returns-in-Err-No-clause-verdict : goal.returns-in-Err-No-clause-verdict
 returns-in-Err-No-clause-verdict c =
     let was : c.judge.result ≡ Err (No c.in-Err-No.no) = cc in
-    verdict_no c.args.lts.now c.args.net.now c.arcs.result.now c.args.class c.in-Err-No.no c.in-Ok.ensures.all_reachable c.in_default.ensures.none
-    (subst (IsTree c.args.lts.now) (sym c.arcs.ensures) c.in-Ok.ensures.tree.tree) (c.judge.ensures.no c.in-Err-No.no was)
+    verdict_no c.args.lts.now c.args.net.now c.in-Ok.tree.arcs c.args.class c.in-Err-No.no c.in-Ok.ensures.all_reachable c.in_default.ensures.none
+    c.in-Ok.ensures.tree.tree (c.judge.ensures.no c.in-Err-No.no was)

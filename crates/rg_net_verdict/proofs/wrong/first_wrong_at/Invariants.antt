@@ -4,4 +4,4 @@ use Rattle.rg_net_verdict.specs.Verdict.{AreRightBefore}
 use Rattle.rg_net_verdict.proofs.wrong.first_wrong_at.Given as goal
 
 abbrev pub invariant-loop-t : goal.invariant-loop-t
-invariant-loop-t l = AreRightBefore l.lts l.net (marking_of (shown_markings l.rows)) l.s l.t
+invariant-loop-t l = AreRightBefore l.marked.lts.now l.marked.net.now (marking_of (shown_markings l.marked.rows.now)) l.s l.t

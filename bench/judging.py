@@ -1,0 +1,101 @@
+#!/usr/bin/env python3
+"""Measures the judge of nets, with the built program judge_bench, and prints a table.
+
+    bench/judging.py crates/regions/out/regions [crates/judge_bench/out/judge_bench]
+
+The nets are those that the first program writes for the grid of 63 and the lock of nine users, for the class `none`, and a made one:
+16,384 places over 4,096 states and 262,144 arcs, which it solves, so that every chord is compared on every place. `seconds` is what
+the judge takes beyond reading, `in all` and `MiB` are those of the whole run. It is run by hand and is no test.
+"""
+import os
+import re
+import subprocess
+import sys
+import tempfile
+import time
+
+from families import grid, lock, text
+
+HEAD = ('system', 'states', 'arcs', 'labels', 'places', 'verdict', 'seconds', 'in all', 'MiB')
+
+SIDE, COPIES = 64, 4_096
+
+
+def steps(up, down):
+    """The steps of one counter, each with its label's word."""
+    return [(k, f'u{k}') for k in range(1, up + 1)] + [(-k, f'd{k}') for k in range(1, down + 1)]
+
+
+def made():
+    """Two counters from 0 to 63 that move by up to 19, and a loop while the first is at least 27. Each counter has two places, one
+    for what it has and one for what it lacks, and each place has 4,096 multiples."""
+    moves = {'a': steps(19, 19), 'b': steps(19, 18)}
+    labels = [axis + word for axis in moves for _, word in moves[axis]] + ['loop']
+    states, arcs = [f's{i}_{j}' for i in range(SIDE) for j in range(SIDE)], []
+    for i in range(SIDE):
+        for j in range(SIDE):
+            here = f's{i}_{j}'
+            arcs += [(here, 'a' + word, f's{i+k}_{j}') for k, word in moves['a'] if 0 <= i + k < SIDE]
+            arcs += [(here, 'b' + word, f's{i}_{j+k}') for k, word in moves['b'] if 0 <= j + k < SIDE]
+            if i >= 27:
+                arcs.append((here, 'loop', here))
+    return states, labels, arcs
+
+
+def members(axis, kind, weight):
+    return ', '.join(f'{weight * n}*{axis}{kind}{n}' for n in range(1, COPIES + 1))
+
+
+def made_net():
+    places = [f'{axis}{kind}{n}' for axis in 'ab' for kind in ('has', 'lacks') for n in range(1, COPIES + 1)]
+    moves = {'a': steps(19, 19), 'b': steps(19, 18)}
+    flows = []
+    for axis in moves:
+        for k, word in moves[axis]:
+            less, more = ('lacks', 'has') if k > 0 else ('has', 'lacks')
+            flows.append(f'{axis}{word}: {{{members(axis, less, abs(k))}}} -> {{{members(axis, more, abs(k))}}}')
+    loop = members('a', 'has', 27)
+    flows.append(f'loop: {{{loop}}} -> {{{loop}}}')
+    labels = made()[1]
+    start = ', '.join(members(axis, 'lacks', SIDE - 1) for axis in moves)
+    lines = ['.type PN', '.places', *places, '.transitions', *labels, '.flows', *flows, f'.initial_marking {{{start}}}']
+    return '\n'.join(lines) + '\n'
+
+
+def synthesized(program, path):
+    return subprocess.run([program, 'synthesize', 'none', path], capture_output=True, check=True).stdout.decode()
+
+
+def judged(program, system, net):
+    begin = time.monotonic()
+    ran = subprocess.run(['/usr/bin/time', '-q', '-f', '%M', program, system, net], capture_output=True, text=True, check=True)
+    seconds = time.monotonic() - begin
+    spent = re.search(r'^judged: (\d+) nanoseconds$', ran.stderr, re.M)
+    peak = int(ran.stderr.strip().split('\n')[-1]) / 1024
+    if spent is None:
+        sys.exit(ran.stderr)
+    return ran.stdout.strip(), f'{int(spent[1]) / 1e9:.3f}', f'{seconds:.3f}', f'{peak:.1f}'
+
+
+def main():
+    if len(sys.argv) not in (2, 3):
+        sys.exit(__doc__)
+    here = os.path.dirname(os.path.abspath(__file__))
+    judge = sys.argv[2] if len(sys.argv) == 3 else os.path.join(here, '..', 'crates', 'judge_bench', 'out', 'judge_bench')
+    print(' | '.join(HEAD))
+    with tempfile.TemporaryDirectory() as folder:
+        system_path, net_path = os.path.join(folder, 'system.apt'), os.path.join(folder, 'net')
+        for name, system in (('grid 63', grid(63)), ('lock 9', lock(9)), ('made', made())):
+            with open(system_path, 'w') as file:
+                file.write(text(*system))
+            net = made_net() if name == 'made' else synthesized(sys.argv[1], system_path)
+            with open(net_path, 'w') as file:
+                file.write(net)
+            lines = net.split('\n')
+            places = lines.index('.transitions') - lines.index('.places') - 1
+            counts = [f'{n:,}' for n in (len(system[0]), len(system[2]), len(system[1]), places)]
+            print(' | '.join([name, *counts, *judged(judge, system_path, net_path)]), flush=True)
+
+
+if __name__ == '__main__':
+    main()

@@ -1,0 +1,22 @@
+use Rattle.std.proofs.Common.{◌≡◌, List, map, sym, subst, ◌∙◌}
+use Rattle.rg_theory.specs.System.{labels}
+use Rattle.rg_theory.specs.Net.{Place}
+use Rattle.rg_theory.specs.Problem.{SeparateAll}
+use Rattle.rg_theory.specs.Solves.{Solves}
+use Rattle.rg_net.specs.Shown.{shown_place}
+use Rattle.rg_prune_tests.proofs.Narrowing.{narrow_places}
+use Rattle.rg_prune_tests.proofs.rows.left.Goals as goal
+
+pub prune-requires-clause-narrow : goal.prune-requires-clause-narrow
+prune-requires-clause-narrow c =
+    let same : c.args.net.now.labels ≡ labels c.args.lts.now = sym c.labels.ensures ∙ c.if-labels.false ∙ c.labels-2.ensures.value in
+    let told = rw c.in-Ok-Yes.field-0-is at c.in-Ok-Yes.ensures.verdict in
+    let solves = (c.verdict_is_sound.ensures.yes c.args.lts.now c.args.net.now _ c.is_well_formed.ensures.in_range same told).0 in
+    narrow_places c.args.lts.now c.args.net.now c.in-Ok.places.items c.is_well_formed.ensures.in_range c.places.ensures.in_range solves (c.in-Ok-Yes.ensures.in_range c.in-Ok-Yes.field-0-is) (c.in-Ok.ensures ∙ c.places.ensures.value)
+
+pub prune-requires-clause-separate : goal.prune-requires-clause-separate
+prune-requires-clause-separate c =
+    let same : c.args.net.now.labels ≡ labels c.args.lts.now = sym c.labels.ensures ∙ c.if-labels.false ∙ c.labels-2.ensures.value in
+    let told = rw c.in-Ok-Yes.field-0-is at c.in-Ok-Yes.ensures.verdict in
+    let solves = (c.verdict_is_sound.ensures.yes c.args.lts.now c.args.net.now _ c.is_well_formed.ensures.in_range same told).0 in
+    subst (λ l. SeparateAll l c.args.lts.now) (sym (c.in-Ok.ensures ∙ c.places.ensures.value)) (c.solved_is_separated.ensures.separates c.args.lts.now c.args.net.now c.is_well_formed.ensures.in_range solves)
