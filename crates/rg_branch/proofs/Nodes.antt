@@ -44,9 +44,6 @@ narrow_of high low n le lt = go (high -ℤ low) n le lt
     go (pos k) n le lt = omega (arith, ints)
     go (negsuc k) n le lt = omega (arith, ints)
 
-pub front_length : (system : LinearSystem) (forms : List Form) (above : List SplitSide) (i : ℕ) → i < length system.rows → i < length (node_system system forms above).rows
-front_length system forms above i lt = let e = length-append system.rows (map (side_row forms) above) in omega arith
-
 -- the rows of a system come before further ones
 pub first_row : (system : LinearSystem) (further : List LinearRow) (i : ℕ) → i < length system.rows → row_at (with_rows system further) i ≡ row_at system i
 first_row system further i lt = get_or_append_left system.rows further _ i lt
@@ -87,7 +84,7 @@ module _ (system : LinearSystem) (forms : List Bounded) (above : List SplitSide)
     dictionary = dictionary;
     form = can.each k b lt;
     narrow = narrow_of (slice_index_or forms k b).high (slice_index_or forms k b).low (room (forms_of forms) []) (gap_here k b lt) (let f = can.few in omega arith);
-    between = subst (IsBetween (node_system system (forms_of forms) above) d.table.members) (sym (form_here forms k b lt)) (λ scale v basic. can.bounded.between k scale v (subst (λ n. k < n) (sym (length-map forms form_of)) lt) (node_point system (forms_of forms) above scale v basic.point) (λ i within. point_is_sound (node_system system (forms_of forms) above) d.table.members outcome scale v basic.point basic.zero i (front_length system (forms_of forms) above i within)));
+    between = subst (IsBetween (node_system system (forms_of forms) above) d.table.members) (sym (form_here forms k b lt)) (λ scale v basic. can.bounded.between k scale v (subst (λ n. k < n) (sym (length-map forms form_of)) lt) (node_point system (forms_of forms) above scale v basic.point) (λ i within. point_is_sound (node_system system (forms_of forms) above) d.table.members outcome scale v basic.point basic.zero i (first_length system (map (side_row (forms_of forms)) above) i within)));
   }
     where
       gap_here : (k : ℕ) (b : Bounded) → k < length forms → gap_of ((slice_index_or forms k b).high -ℤ (slice_index_or forms k b).low) ≤ room (forms_of forms) []

@@ -8,7 +8,7 @@ use Rattle.rg_integers.specs.Range.{InRange}
 use Rattle.rg_integers.proofs.Ranges.{in_range-neg}
 use Rattle.rg_linear.specs.System.{LinearSystem, LinearRow, row_at}
 use Rattle.rg_linear.specs.Branching.{Form, form_at, SplitSide, side_row, node_system}
-use Rattle.rg_linear.proofs.Splits.{front_row}
+use Rattle.rg_linear.proofs.Splits.{front_row, index-neg}
 use Rattle.rg_linear.specs.declared.system.Row.{Row}
 use Rattle.rg_linear.specs.View.{linear_row, IsWellFormed}
 use Rattle.rg_branch.specs.declared.bounded.Bounded.{Bounded}
@@ -23,11 +23,6 @@ use Rattle.rg_branch.proofs.Points.{form_is}
 pub coeffs_fit : (system : LinearSystem) (b : Bounded) → IsFormOf system b → All InRange b.coeffs.items
 coeffs_fit system b is k d lt = subst InRange (sym (get_or_default b.coeffs.items k d (pos 0) lt)) (is.coeffs_in_range k (subst (λ n. k < n) is.one_each lt))
 
-neg_entry : (xs : List ℤ) (j : ℕ) → slice_index_or (map neg_ℤ xs) j (pos 0) ≡ neg_ℤ (slice_index_or xs j (pos 0))
-neg_entry [] j = refl
-neg_entry (x ∷ xs) zero = refl
-neg_entry (x ∷ xs) (suc j) = neg_entry xs j
-
 -- a row fits: one number a column, and all in range
 record RowFits (columns : ℕ) (row : LinearRow) : Type 0 where
   pub one_each : length row.coeffs ≡ columns
@@ -38,7 +33,7 @@ side_fits : (system : LinearSystem) (b : Bounded) (at : ℤ) (high : Bool) → I
 side_fits system b at true is low high = record { one_each = is.one_each; coeffs = is.coeffs_in_range; constant = subst InRange (high_constant b.scale at) (in_range-neg _ high) }
 side_fits system b at false is low high = record {
   one_each = length-map b.coeffs.items neg_ℤ ∙ is.one_each;
-  coeffs = λ j lt. subst InRange (sym (neg_entry b.coeffs.items j)) (in_range-neg _ (is.coeffs_in_range j lt));
+  coeffs = λ j lt. subst InRange (sym (index-neg b.coeffs.items j)) (in_range-neg _ (is.coeffs_in_range j lt));
   constant = low;
 }
 
