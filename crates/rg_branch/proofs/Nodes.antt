@@ -1,27 +1,30 @@
 -- One node: its system, its forms, and what its descent tells.
-use Rattle.std.proofs.Common.{◌≡◌, ◌≢◌, ⊎_elim, ℕ, zero, suc, ◌+◌, ◌-◌, ◌<◌, ◌≤◌, Bool, true, false, ◌==◌, if◌then◌else◌, List, [], ◌∷◌, length, length-append, map, Contains, ap, subst, sym, ◌∙◌, arith}
+use Rattle.std.proofs.Common.{◌≡◌, ◌≢◌, ⊎_elim, ℕ, zero, suc, ◌+◌, ◌-◌, ◌<◌, ◌≤◌, Bool, true, false, ◌==◌, if◌then◌else◌, List, [], ◌∷◌, ◌++◌, length, length-append, map, Contains, ap, subst, sym, ◌∙◌, arith}
 use Rattle.std.specs.Prelude.{ℤ, pos, negsuc, neg_ℤ, ◌-ℤ◌, ◌*ℤ◌, ◌≤ℤ◌, ◌<ℤ◌, slice_index_or, int_lt, ◌||◌}
 use Rattle.std.proofs.lemmas.Int.{ints, by_lt_z}
 use Rattle.std.proofs.Math.IntN.{zero-*ℤ}
 use Rattle.std.proofs.lemmas.Bool.{cases_lt}
-use Rattle.std.proofs.lemmas.List.{length-map, get_or-map}
+use Rattle.std.proofs.lemmas.List.{length-map, get_or-map, get_or_append_left}
 use Rattle.rg_fraction.specs.declared.fraction.Fraction.{Fraction}
-use Rattle.rg_linear.specs.System.{LinearSystem, LinearRow, variables, row_variable, entry}
+use Rattle.rg_linear.specs.System.{LinearSystem, LinearRow, variables, row_at, row_variable, entry}
+use Rattle.rg_linear.specs.declared.system.Row.{Row}
+use Rattle.rg_linear.specs.View.{linear_row}
 use Rattle.rg_linear.specs.Dictionary.{Relation, DictionaryRow}
 use Rattle.rg_linear.specs.Table.{ShowsRow}
 use Rattle.rg_linear.specs.Descent.{Outcome.point, Outcome.refuted, DescentFromStart, multiplier_of}
 use Rattle.rg_linear.specs.Branching.{Form, form_at, SplitSide, side_row, node_system, Weight, weights_from}
 use Rattle.rg_linear.proofs.Points.{point_is_sound}
 use Rattle.rg_linear.proofs.Refuting.{start_refuted}
-use Rattle.rg_linear.proofs.Splits.{front_row, node_point}
+use Rattle.rg_linear.proofs.Splits.{node_point}
 use Rattle.rg_dictionary.specs.Contents.{Contents, row_of, IsDictionary}
-use Rattle.rg_feasible.specs.Settling.{IsFeasibleAt, relation_of, multiplier_with}
+use Rattle.rg_feasible.specs.View.{DescentState}
+use Rattle.rg_feasible.specs.Settling.{with_rows, IsDictionaryOf, IsFeasibleAt, relation_of, multiplier_with}
 use Rattle.rg_feasible.proofs.Shown.{row_shows, relation_is}
 use Rattle.rg_branch.specs.declared.bounded.Bounded.{Bounded}
 use Rattle.rg_linear.specs.Room.{gap_of, gap, total, room}
 use Rattle.rg_branch.specs.View.{form_of, forms_of}
 use Rattle.rg_branch.specs.Asked.{IsFormOf, CanBranch}
-use Rattle.rg_branch.specs.Points.{AreWholeBelow, IsFirstFraction, AreFormsAt}
+use Rattle.rg_branch.specs.Points.{IsBetween, AreWholeBelow, IsFirstFraction, AreFormsAt}
 use Rattle.rg_branch.specs.Answer.{AreValuesAt, IsRefutedWith, IsWholePoint, IsFractionAt}
 
 -- ---- the forms at a node
@@ -41,42 +44,47 @@ narrow_of high low n le lt = go (high -ℤ low) n le lt
     go (pos k) n le lt = omega (arith, ints)
     go (negsuc k) n le lt = omega (arith, ints)
 
-pub front_length : (system : LinearSystem) (forms : List Form) (above : List SplitSide) (i : ℕ) → i < length system.rows → i < length (node_system system forms above).rows
-front_length system forms above i lt = let e = length-append system.rows (map (side_row forms) above) in omega arith
+-- the rows of a system come before further ones
+pub first_row : (system : LinearSystem) (further : List LinearRow) (i : ℕ) → i < length system.rows → row_at (with_rows system further) i ≡ row_at system i
+first_row system further i lt = get_or_append_left system.rows further _ i lt
+
+pub first_length : (system : LinearSystem) (further : List LinearRow) (i : ℕ) → i < length system.rows → i < length (with_rows system further).rows
+first_length system further i lt = let e = length-append system.rows further in omega arith
+
+pub node_form : (system : LinearSystem) (further : List LinearRow) (b : Bounded) → IsFormOf system b → IsFormOf (with_rows system further) b
+node_form system further b is = record {
+  one_each = is.one_each;
+  positive = is.positive;
+  scale_in_range = is.scale_in_range;
+  coeffs_in_range = is.coeffs_in_range;
+  ordered = is.ordered;
+  low_in_range = is.low_in_range;
+  high_in_range = is.high_in_range;
+  not_negative = is.not_negative;
+  times_in_range = is.times_in_range;
+  row_within = λ ne. first_length system further b.row (is.row_within ne);
+  multiple = λ j lt. is.multiple j lt ∙ go b.times j (λ ne. is.row_within ne);
+}
+  where
+    go : (t : ℤ) (j : ℕ) → (t ≢ pos 0 → b.row < length system.rows) → t *ℤ entry system b.row j ≡ t *ℤ entry (with_rows system further) b.row j
+    go t j within = by_lt_z t (pos 0) (λ less. same (λ e. omega (arith, ints))) (λ most. by_lt_z (pos 0) t (λ more. same (λ e. omega (arith, ints))) (λ least. zeros (both most least)))
+      where
+        both : pos 0 ≤ℤ t → t ≤ℤ pos 0 → t ≡ pos 0
+        both h g = omega (arith, ints)
+
+        same : t ≢ pos 0 → t *ℤ entry system b.row j ≡ t *ℤ entry (with_rows system further) b.row j
+        same ne = ap (λ (r : LinearRow). t *ℤ slice_index_or r.coeffs j (pos 0)) (sym (first_row system further b.row (within ne)))
+
+        zeros : t ≡ pos 0 → t *ℤ entry system b.row j ≡ t *ℤ entry (with_rows system further) b.row j
+        zeros e = ap (λ z. z *ℤ entry system b.row j) e ∙ zero-*ℤ (entry system b.row j) ∙ sym (zero-*ℤ (entry (with_rows system further) b.row j)) ∙ ap (λ z. z *ℤ entry (with_rows system further) b.row j) (sym e)
 
 module _ (system : LinearSystem) (forms : List Bounded) (above : List SplitSide) (can : CanBranch system forms) where
-  pub node_form : (b : Bounded) → IsFormOf system b → IsFormOf (node_system system (forms_of forms) above) b
-  node_form b is = record {
-    one_each = is.one_each;
-    positive = is.positive;
-    scale_in_range = is.scale_in_range;
-    coeffs_in_range = is.coeffs_in_range;
-    ordered = is.ordered;
-    low_in_range = is.low_in_range;
-    high_in_range = is.high_in_range;
-    not_negative = is.not_negative;
-    times_in_range = is.times_in_range;
-    row_within = λ ne. front_length system (forms_of forms) above b.row (is.row_within ne);
-    multiple = λ j lt. is.multiple j lt ∙ go b.times j (λ ne. is.row_within ne);
-  }
-    where
-      go : (t : ℤ) (j : ℕ) → (t ≢ pos 0 → b.row < length system.rows) → t *ℤ entry system b.row j ≡ t *ℤ entry (node_system system (forms_of forms) above) b.row j
-      go t j within = by_lt_z t (pos 0) (λ less. same (λ e. omega (arith, ints))) (λ most. by_lt_z (pos 0) t (λ more. same (λ e. omega (arith, ints))) (λ least. zeros (both most least)))
-        where
-          both : pos 0 ≤ℤ t → t ≤ℤ pos 0 → t ≡ pos 0
-          both h g = omega (arith, ints)
-
-          same : t ≢ pos 0 → t *ℤ entry system b.row j ≡ t *ℤ entry (node_system system (forms_of forms) above) b.row j
-          same ne = ap (λ (r : LinearRow). t *ℤ slice_index_or r.coeffs j (pos 0)) (sym (front_row system (forms_of forms) above b.row (within ne)))
-
-          zeros : t ≡ pos 0 → t *ℤ entry system b.row j ≡ t *ℤ entry (node_system system (forms_of forms) above) b.row j
-          zeros e = ap (λ z. z *ℤ entry system b.row j) e ∙ zero-*ℤ (entry system b.row j) ∙ sym (zero-*ℤ (entry (node_system system (forms_of forms) above) b.row j)) ∙ ap (λ z. z *ℤ entry (node_system system (forms_of forms) above) b.row j) (sym e)
-
-  pub forms_at : (members : List ℕ) → DescentFromStart (node_system system (forms_of forms) above) (point members) → AreFormsAt (node_system system (forms_of forms) above) members forms
-  forms_at members d = record {
-    each = λ k b lt. node_form (slice_index_or forms k b) (can.each k b lt);
-    narrow = λ k b lt. narrow_of (slice_index_or forms k b).high (slice_index_or forms k b).low (room (forms_of forms) []) (gap_here k b lt) (let f = can.few in omega arith);
-    between = λ f lt scale v basic. can.bounded.between f scale v (subst (λ n. f < n) (sym (length-map forms form_of)) lt) (node_point system (forms_of forms) above scale v basic.point) (λ i within. point_is_sound (node_system system (forms_of forms) above) members d scale v basic.point basic.zero i (front_length system (forms_of forms) above i within));
+  pub forms_at : (d : DescentState) → IsDictionaryOf (node_system system (forms_of forms) above) d → DescentFromStart (node_system system (forms_of forms) above) (point d.table.members) → AreFormsAt system (map (side_row (forms_of forms)) above) d forms
+  forms_at d dictionary outcome k b lt = record {
+    dictionary = dictionary;
+    form = can.each k b lt;
+    narrow = narrow_of (slice_index_or forms k b).high (slice_index_or forms k b).low (room (forms_of forms) []) (gap_here k b lt) (let f = can.few in omega arith);
+    between = subst (IsBetween (node_system system (forms_of forms) above) d.table.members) (sym (form_here forms k b lt)) (λ scale v basic. can.bounded.between k scale v (subst (λ n. k < n) (sym (length-map forms form_of)) lt) (node_point system (forms_of forms) above scale v basic.point) (λ i within. point_is_sound (node_system system (forms_of forms) above) d.table.members outcome scale v basic.point basic.zero i (first_length system (map (side_row (forms_of forms)) above) i within)));
   }
     where
       gap_here : (k : ℕ) (b : Bounded) → k < length forms → gap_of ((slice_index_or forms k b).high -ℤ (slice_index_or forms k b).low) ≤ room (forms_of forms) []
@@ -112,6 +120,21 @@ module _ (system : LinearSystem) (forms : List Bounded) (above : List SplitSide)
     };
     values_are = are;
   }
+
+-- ---- the rows that code keeps
+
+-- they make the node's system
+pub node_is : (system : LinearSystem) (forms : List Form) (above : List SplitSide) (rows slice : List Row) → slice ≡ rows → map linear_row rows ≡ map (side_row forms) above → with_rows system (map linear_row slice) ≡ node_system system forms above
+node_is system forms above rows slice e are = ap (λ xs. with_rows system xs) (ap (map linear_row) e ∙ are)
+
+pub row_count : (system : LinearSystem) (further : List LinearRow) (own split : List Row) (n : ℕ) → map linear_row own ≡ system.rows → map linear_row split ≡ further → n ≡ length split → length own + n ≡ length (system.rows ++ further)
+row_count system further own split n are behind count =
+    let a = length-map own linear_row in
+    let b = length-map split linear_row in
+    let c = length-append system.rows further in
+    let e = ap length are in
+    let f = ap length behind in
+    omega arith
 
 -- ---- a refuted node
 

@@ -1,5 +1,5 @@
 -- The way from the root to a node, with the trees that are done beside it.
-use Rattle.std.proofs.Common.{◌≡◌, ◌⊎◌, inl, inr, ⊎_elim, ℕ, zero, suc, ◌+◌, ◌*◌, ◌-◌, ◌^◌, ◌<◌, ◌≤◌, List, [], ◌∷◌, ◌++◌, map, reverse, length, length-append, append_assoc, All, ap, refl, subst, sym, ◌∙◌, arith}
+use Rattle.std.proofs.Common.{◌≡◌, ◌⊎◌, inl, inr, ⊎_elim, ℕ, zero, suc, ◌+◌, ◌^◌, ◌<◌, ◌≤◌, List, [], ◌∷◌, ◌++◌, map, reverse, length, length-append, append_assoc, All, ap, refl, subst, sym, ◌∙◌, arith}
 use Rattle.std.specs.Prelude.{ℤ, ◌≤ℤ◌, ◌<ℤ◌}
 use Rattle.std.proofs.lemmas.List.{reverse-append}
 use Rattle.std.proofs.lemmas.List.Elements.{All-append, All-nil}
@@ -13,6 +13,7 @@ use Rattle.rg_branch.specs.Asked.{IsSideOf, AreSidesOf}
 use Rattle.rg_branch.specs.Turning.{turned_back, turned}
 use Rattle.rg_branch.specs.Answer.{IsFractionAt, IsWholePoint, IsRefutedWith, IsFoundPoint, IsSplitTree}
 use Rattle.rg_branch.specs.Work.{pending, work}
+use Rattle.rg_linear.proofs.Stacks.{power_positive, power-less}
 use Rattle.rg_linear.proofs.Endings.{Within, within_start, within_low, within_high, split_within, gap-low, gap-high}
 
 -- a split on the way, which goes to its low side, or to its high side where the low one is refuted
@@ -130,34 +131,8 @@ pending_is forms (goes_high f u t ∷ way) = let ih = pending_is forms way in om
 work_is : (forms : List Form) (way : List Step) → work forms (sides_on way) ≡ work_on forms way
 work_is forms way = let e = ap (pending forms) (reverse_back way) ∙ pending_is forms way in omega arith
 
-power_positive : (n : ℕ) → 0 < 3 ^ n
-power_positive zero = omega arith
-power_positive (suc n) = let h = power_positive n in let e : 3 ^ suc n ≡ 3 * 3 ^ n = grind arith in omega arith
-
-power_le : (a k : ℕ) → 3 ^ a ≤ 3 ^ (k + a)
-power_le a zero = subst (λ n. 3 ^ a ≤ 3 ^ n) (flip a) (omega arith)
-  where
-    flip : (a : ℕ) → a ≡ 0 + a
-    flip a = omega arith
-power_le a (suc k) =
-    let h = power_le a k in
-    let next : 3 ^ suc (k + a) ≡ 3 * 3 ^ (k + a) = grind arith in
-    subst (λ n. 3 ^ a ≤ 3 ^ n) (flip a k) (omega arith)
-  where
-    flip : (a k : ℕ) → suc (k + a) ≡ suc k + a
-    flip a k = omega arith
-
 power_two : (a b r : ℕ) → a < r → b < r → 3 ^ a + 3 ^ b < 3 ^ r
-power_two a b zero ha hb = absurd (omega arith)
-power_two a b (suc r) ha hb =
-    let x = subst (λ n. 3 ^ a ≤ 3 ^ n) (back a r (omega arith)) (power_le a (r - a)) in
-    let y = subst (λ n. 3 ^ b ≤ 3 ^ n) (back b r (omega arith)) (power_le b (r - b)) in
-    let p = power_positive r in
-    let next : 3 ^ suc r ≡ 3 * 3 ^ r = grind arith in
-    omega arith
-  where
-    back : (a r : ℕ) → a ≤ r → (r - a) + a ≡ r
-    back a r h = omega arith
+power_two a b r ha hb = let x = power-less a r ha in let y = power-less b r hb in let p = power_positive r in omega arith
 
 -- ---- where the forms lie between their bounds
 

@@ -1,91 +1,27 @@
 -- The rows of splits.
-use Rattle.std.proofs.Common.{◌≡◌, ⊎_elim, ℕ, zero, suc, ◌+◌, ◌-◌, ◌<◌, ◌≤◌, Bool, true, false, List, [], ◌∷◌, ◌++◌, length, length-append, map, take, All, ap, refl, subst, sym, ◌∙◌, append_assoc, arith}
+use Rattle.std.proofs.Common.{◌≡◌, ◌⊎◌, inl, inr, ⊎_elim, ℕ, zero, suc, ◌+◌, ◌-◌, ◌<◌, ◌≤◌, Bool, true, false, if◌then◌else◌, List, [], ◌∷◌, ◌++◌, length, length-append, map, take, reverse, All, ap, refl, subst, sym, ◌∙◌, append_assoc, arith}
 use Rattle.std.specs.Prelude.{ℤ, pos, neg_ℤ, ◌+ℤ◌, ◌*ℤ◌, ◌≤ℤ◌, ◌<ℤ◌, slice_index_or}
 use Rattle.std.proofs.lemmas.Int.{ints}
 use Rattle.std.proofs.lemmas.Bool.{cases_lt}
-use Rattle.std.proofs.lemmas.List.{get_or_default, length-map, map-append, get_or-map, get_or-append_right, take_more, take_all}
+use Rattle.std.proofs.lemmas.List.{get_or_default, length-map, map-append, take-map, take_at, get_or-map, get_or_at, get_or-append_right, reverse-append, reverse-reverse}
 use Rattle.rg_integers.specs.Range.{InRange}
 use Rattle.rg_integers.proofs.Ranges.{in_range-neg}
 use Rattle.rg_linear.specs.System.{LinearSystem, LinearRow, row_at}
-use Rattle.rg_linear.specs.Branching.{Form, form_at, side_row, node_system}
-use Rattle.rg_linear.proofs.Splits.{front_row}
+use Rattle.rg_linear.specs.Branching.{Form, form_at, SplitSide, side_row, node_system}
+use Rattle.rg_linear.proofs.Splits.{front_row, index-neg}
 use Rattle.rg_linear.specs.declared.system.Row.{Row}
 use Rattle.rg_linear.specs.View.{linear_row, IsWellFormed}
 use Rattle.rg_branch.specs.declared.bounded.Bounded.{Bounded}
 use Rattle.rg_branch.specs.View.{form_of, forms_of, side_of, sides_of}
 use Rattle.rg_branch.specs.Asked.{IsFormOf, CanBranch, IsSideOf, AreSidesOf}
-use Rattle.rg_branch.specs.Turning.{row_of_side}
+use Rattle.rg_branch.specs.Turning.{row_of_side, turned_back, turned}
 use Rattle.rg_branch.proofs.Orders.{product_between, high_constant}
 use Rattle.rg_branch.proofs.Points.{form_is}
 
--- ---- the rows that code keeps, one more
-
-pub rows_more : (rows : List Row) (all : List LinearRow) (i : ℕ) (r : Row) (l : LinearRow) → i < length all → map linear_row rows ≡ take i all → linear_row r ≡ l → l ≡ slice_index_or all i l → map linear_row (rows ++ r ∷ []) ≡ take (i + 1) all
-rows_more rows all i r l lt e is at = map-append linear_row rows (r ∷ []) ∙ ap (λ xs. xs ++ linear_row r ∷ []) e ∙ ap (λ x. take i all ++ x ∷ []) (is ∙ at) ∙ sym (take_more all i l lt)
-
-pub sides_more : (rows : List Row) (first : List LinearRow) (forms : List Form) (above : List (ℕ × ℤ × Bool)) (i : ℕ) (r : Row) (s : ℕ × ℤ × Bool) → i < length above → map linear_row rows ≡ first ++ map (side_row forms) (sides_of (take i above)) → linear_row r ≡ side_row forms (side_of (slice_index_or above i s)) → map linear_row (rows ++ r ∷ []) ≡ first ++ map (side_row forms) (sides_of (take (i + 1) above))
-sides_more rows first forms above i r s lt e is =
-    map-append linear_row rows (r ∷ [])
-    ∙ ap (λ xs. xs ++ linear_row r ∷ []) e
-    ∙ append_assoc first (map (side_row forms) (sides_of (take i above))) (linear_row r ∷ [])
-    ∙ ap (λ x. first ++ (map (side_row forms) (sides_of (take i above)) ++ x ∷ [])) is
-    ∙ ap (λ xs. first ++ xs) (sym (map-append (side_row forms) (sides_of (take i above)) (side_of (slice_index_or above i s) ∷ [])))
-    ∙ ap (λ xs. first ++ map (side_row forms) xs) (sym (map-append side_of (take i above) (slice_index_or above i s ∷ [])))
-    ∙ ap (λ xs. first ++ map (side_row forms) (sides_of xs)) (sym (take_more above i s lt))
-
-pub sides_all : (first : List LinearRow) (forms : List Form) (above : List (ℕ × ℤ × Bool)) (i : ℕ) → length above ≤ i → first ++ map (side_row forms) (sides_of (take i above)) ≡ first ++ map (side_row forms) (sides_of above)
-sides_all first forms above i le = ap (λ xs. first ++ map (side_row forms) (sides_of xs)) (take_all i above le)
-
 -- ---- one side
-
-module _ (system : LinearSystem) (forms : List Bounded) (above : List (ℕ × ℤ × Bool)) (can : CanBranch system forms) (asked : AreSidesOf (forms_of forms) (sides_of above)) (i : ℕ) (lt : i < length above) (s : ℕ × ℤ × Bool) where
-  pub side_asked : IsSideOf (forms_of forms) (side_of (slice_index_or above i s))
-  side_asked = subst (IsSideOf (forms_of forms)) (get_or-map side_of above i s (side_of s) lt) (asked.each i (side_of s) (subst (λ n. i < n) (sym (length-map above side_of)) lt))
-
-  pub form_within : (slice_index_or above i s).0 < length forms
-  form_within = subst (λ n. (slice_index_or above i s).0 < n) (length-map forms form_of) side_asked.form
-
-  pub form_asked : (b : Bounded) → b ≡ slice_index_or forms (slice_index_or above i s).0 b → IsFormOf system b
-  form_asked b e = subst (IsFormOf system) (sym e) (can.each (slice_index_or above i s).0 b form_within)
-
-  form_same : (b : Bounded) → b ≡ slice_index_or forms (slice_index_or above i s).0 b → form_of b ≡ form_at (forms_of forms) (slice_index_or above i s).0
-  form_same b e = form_is forms (slice_index_or above i s).0 b form_within e
-
-  pub row_same : (b : Bounded) → b ≡ slice_index_or forms (slice_index_or above i s).0 b → row_of_side (form_of b) (slice_index_or above i s).1 (slice_index_or above i s).2 ≡ side_row (forms_of forms) (side_of (slice_index_or above i s))
-  row_same b e = ap (λ (form : Form). row_of_side form (slice_index_or above i s).1 (slice_index_or above i s).2) (form_same b e)
-
-  pub low_fits : (b : Bounded) → b ≡ slice_index_or forms (slice_index_or above i s).0 b → InRange (b.scale *ℤ (slice_index_or above i s).1)
-  low_fits b e =
-      let is = form_asked b e in
-      let low = subst (λ (form : Form). form.low ≤ℤ (slice_index_or above i s).1) (sym (form_same b e)) side_asked.low in
-      let high = subst (λ (form : Form). (slice_index_or above i s).1 <ℤ form.high) (sym (form_same b e)) side_asked.high in
-      product_between b.scale b.low b.high (slice_index_or above i s).1 is.positive low (most (slice_index_or above i s).1 b.high high) is.low_in_range is.high_in_range
-    where
-      most : (a c : ℤ) → a <ℤ c → a ≤ℤ c
-      most a c h = omega (arith, ints)
-
-  pub high_fits : (b : Bounded) → b ≡ slice_index_or forms (slice_index_or above i s).0 b → InRange (b.scale *ℤ ((slice_index_or above i s).1 +ℤ pos 1))
-  high_fits b e =
-      let is = form_asked b e in
-      let low = subst (λ (form : Form). form.low ≤ℤ (slice_index_or above i s).1) (sym (form_same b e)) side_asked.low in
-      let high = subst (λ (form : Form). (slice_index_or above i s).1 <ℤ form.high) (sym (form_same b e)) side_asked.high in
-      product_between b.scale b.low b.high ((slice_index_or above i s).1 +ℤ pos 1) is.positive (next b.low (slice_index_or above i s).1 low) (most (slice_index_or above i s).1 b.high high) is.low_in_range is.high_in_range
-    where
-      next : (a c : ℤ) → a ≤ℤ c → a ≤ℤ (c +ℤ pos 1)
-      next a c h = omega (arith, ints)
-
-      most : (a c : ℤ) → a <ℤ c → (a +ℤ pos 1) ≤ℤ c
-      most a c h = omega (arith, ints)
-
--- ---- every row of a node
 
 pub coeffs_fit : (system : LinearSystem) (b : Bounded) → IsFormOf system b → All InRange b.coeffs.items
 coeffs_fit system b is k d lt = subst InRange (sym (get_or_default b.coeffs.items k d (pos 0) lt)) (is.coeffs_in_range k (subst (λ n. k < n) is.one_each lt))
-
-neg_entry : (xs : List ℤ) (j : ℕ) → slice_index_or (map neg_ℤ xs) j (pos 0) ≡ neg_ℤ (slice_index_or xs j (pos 0))
-neg_entry [] j = refl
-neg_entry (x ∷ xs) zero = refl
-neg_entry (x ∷ xs) (suc j) = neg_entry xs j
 
 -- a row fits: one number a column, and all in range
 record RowFits (columns : ℕ) (row : LinearRow) : Type 0 where
@@ -97,7 +33,7 @@ side_fits : (system : LinearSystem) (b : Bounded) (at : ℤ) (high : Bool) → I
 side_fits system b at true is low high = record { one_each = is.one_each; coeffs = is.coeffs_in_range; constant = subst InRange (high_constant b.scale at) (in_range-neg _ high) }
 side_fits system b at false is low high = record {
   one_each = length-map b.coeffs.items neg_ℤ ∙ is.one_each;
-  coeffs = λ j lt. subst InRange (sym (neg_entry b.coeffs.items j)) (in_range-neg _ (is.coeffs_in_range j lt));
+  coeffs = λ j lt. subst InRange (sym (index-neg b.coeffs.items j)) (in_range-neg _ (is.coeffs_in_range j lt));
   constant = low;
 }
 
@@ -106,32 +42,140 @@ some_form [] f lt = absurd (omega arith)
 some_form (x ∷ forms) zero lt = (x, refl)
 some_form (x ∷ forms) (suc f) lt = some_form forms f (omega arith)
 
-module _ (system : LinearSystem) (forms : List Bounded) (above : List (ℕ × ℤ × Bool)) (can : CanBranch system forms) (asked : AreSidesOf (forms_of forms) (sides_of above)) (well : IsWellFormed system) where
-  past_fits : (k : ℕ) → k < length above → RowFits system.columns (side_row (forms_of forms) (side_of (slice_index_or above k (0, pos 0, false))))
-  past_fits k lt =
-      let (b, e) = some_form forms (slice_index_or above k (0, pos 0, false)).0 (form_within system forms above can asked k lt (0, pos 0, false)) in
-      subst (RowFits system.columns) (row_same system forms above can asked k lt (0, pos 0, false) b e)
-      (side_fits system b (slice_index_or above k (0, pos 0, false)).1 (slice_index_or above k (0, pos 0, false)).2 (form_asked system forms above can asked k lt (0, pos 0, false) b e) (low_fits system forms above can asked k lt (0, pos 0, false) b e) (high_fits system forms above can asked k lt (0, pos 0, false) b e))
+module _ (system : LinearSystem) (forms : List Bounded) (can : CanBranch system forms) (side : SplitSide) (asked : IsSideOf (forms_of forms) side) where
+  pub form_within : side.form < length forms
+  form_within = subst (λ n. side.form < n) (length-map forms form_of) asked.form
 
-  count : length (node_system system (forms_of forms) (sides_of above)).rows ≡ length system.rows + length above
-  count = length-append system.rows (map (side_row (forms_of forms)) (sides_of above)) ∙ ap (λ n. length system.rows + n) (length-map (sides_of above) (side_row (forms_of forms)) ∙ length-map above side_of)
+  pub form_asked : (b : Bounded) → b ≡ slice_index_or forms side.form b → IsFormOf system b
+  form_asked b e = subst (IsFormOf system) (sym e) (can.each side.form b form_within)
 
-  behind : (i : ℕ) → length system.rows ≤ i → i - length system.rows < length above → row_at (node_system system (forms_of forms) (sides_of above)) i ≡ side_row (forms_of forms) (side_of (slice_index_or above (i - length system.rows) (0, pos 0, false)))
+  form_same : (b : Bounded) → b ≡ slice_index_or forms side.form b → form_of b ≡ form_at (forms_of forms) side.form
+  form_same b e = form_is forms side.form b form_within e
+
+  pub row_same : (b : Bounded) → b ≡ slice_index_or forms side.form b → row_of_side (form_of b) side.at side.high ≡ side_row (forms_of forms) side
+  row_same b e = ap (λ (form : Form). row_of_side form side.at side.high) (form_same b e)
+
+  pub low_fits : (b : Bounded) → b ≡ slice_index_or forms side.form b → InRange (b.scale *ℤ side.at)
+  low_fits b e =
+      let is = form_asked b e in
+      let low = subst (λ (form : Form). form.low ≤ℤ side.at) (sym (form_same b e)) asked.low in
+      let high = subst (λ (form : Form). side.at <ℤ form.high) (sym (form_same b e)) asked.high in
+      product_between b.scale b.low b.high side.at is.positive low (most side.at b.high high) is.low_in_range is.high_in_range
+    where
+      most : (a c : ℤ) → a <ℤ c → a ≤ℤ c
+      most a c h = omega (arith, ints)
+
+  pub high_fits : (b : Bounded) → b ≡ slice_index_or forms side.form b → InRange (b.scale *ℤ (side.at +ℤ pos 1))
+  high_fits b e =
+      let is = form_asked b e in
+      let low = subst (λ (form : Form). form.low ≤ℤ side.at) (sym (form_same b e)) asked.low in
+      let high = subst (λ (form : Form). side.at <ℤ form.high) (sym (form_same b e)) asked.high in
+      product_between b.scale b.low b.high (side.at +ℤ pos 1) is.positive (next b.low side.at low) (most side.at b.high high) is.low_in_range is.high_in_range
+    where
+      next : (a c : ℤ) → a ≤ℤ c → a ≤ℤ (c +ℤ pos 1)
+      next a c h = omega (arith, ints)
+
+      most : (a c : ℤ) → a <ℤ c → (a +ℤ pos 1) ≤ℤ c
+      most a c h = omega (arith, ints)
+
+  row_fits : RowFits system.columns (side_row (forms_of forms) side)
+  row_fits =
+      let (b, e) = some_form forms side.form form_within in
+      subst (RowFits system.columns) (row_same b e) (side_fits system b side.at side.high (form_asked b e) (low_fits b e) (high_fits b e))
+
+-- ---- every row of a node
+
+no_side : SplitSide
+no_side = record { form = 0; at = pos 0; high = false }
+
+module _ (system : LinearSystem) (forms : List Bounded) (above : List SplitSide) (can : CanBranch system forms) (asked : AreSidesOf (forms_of forms) above) (well : IsWellFormed system) where
+  count : length (node_system system (forms_of forms) above).rows ≡ length system.rows + length above
+  count = length-append system.rows (map (side_row (forms_of forms)) above) ∙ ap (λ n. length system.rows + n) (length-map above (side_row (forms_of forms)))
+
+  behind : (i : ℕ) → length system.rows ≤ i → i - length system.rows < length above → row_at (node_system system (forms_of forms) above) i ≡ side_row (forms_of forms) (slice_index_or above (i - length system.rows) no_side)
   behind i past lt =
-      get_or-append_right system.rows (map (side_row (forms_of forms)) (sides_of above)) (length system.rows) i (record { coeffs = []; constant = pos 0 }) refl past
-      ∙ get_or-map (side_row (forms_of forms)) (sides_of above) (i - length system.rows) (side_of (0, pos 0, false)) (record { coeffs = []; constant = pos 0 }) (subst (λ n. i - length system.rows < n) (sym (length-map above side_of)) lt)
-      ∙ ap (side_row (forms_of forms)) (get_or-map side_of above (i - length system.rows) (0, pos 0, false) (side_of (0, pos 0, false)) lt)
+      get_or-append_right system.rows (map (side_row (forms_of forms)) above) (length system.rows) i (record { coeffs = []; constant = pos 0 }) refl past
+      ∙ get_or-map (side_row (forms_of forms)) above (i - length system.rows) no_side (record { coeffs = []; constant = pos 0 }) lt
 
-  fits : (i : ℕ) → i < length (node_system system (forms_of forms) (sides_of above)).rows → RowFits system.columns (row_at (node_system system (forms_of forms) (sides_of above)) i)
+  fits : (i : ℕ) → i < length (node_system system (forms_of forms) above).rows → RowFits system.columns (row_at (node_system system (forms_of forms) above) i)
   fits i lt = ⊎_elim
-      (λ front. subst (RowFits system.columns) (sym (front_row system (forms_of forms) (sides_of above) i front)) (record { one_each = well.one_each i front; coeffs = λ j b. well.coeffs i j front b; constant = well.constants i front }))
-      (λ past. (let k : i - length system.rows < length above = (let c = count in omega arith) in subst (RowFits system.columns) (sym (behind i past k)) (past_fits (i - length system.rows) k)))
+      (λ front. subst (RowFits system.columns) (sym (front_row system (forms_of forms) above i front)) (record { one_each = well.one_each i front; coeffs = λ j b. well.coeffs i j front b; constant = well.constants i front }))
+      (λ past. (let k : i - length system.rows < length above = (let c = count in omega arith) in subst (RowFits system.columns) (sym (behind i past k)) (row_fits system forms can _ (asked.each (i - length system.rows) no_side k))))
       (cases_lt i (length system.rows))
 
-  pub rows_well_formed : IsWellFormed (node_system system (forms_of forms) (sides_of above))
+  pub rows_well_formed : IsWellFormed (node_system system (forms_of forms) above)
   rows_well_formed = record {
-    few = (let c = count in let f = asked.few in let g = can.few in let l = length-map above side_of in omega arith);
+    few = (let c = count in let f = asked.few in let g = can.few in omega arith);
     one_each = λ i lt. (fits i lt).one_each;
     coeffs = λ i j lt below. (fits i lt).coeffs j below;
     constants = λ i lt. (fits i lt).constant;
   }
+
+-- ---- the sides above the next node
+
+-- the innermost low side becomes the high one, and the sides within it end
+record TurnsAt (above : List SplitSide) : Type 0 where
+  outer : List SplitSide
+  side : SplitSide
+  inner : List SplitSide
+  is : above ≡ outer ++ side ∷ inner
+  turned_is : turned above ≡ outer ++ record side { high = true } ∷ []
+
+-- the same, innermost first
+record TurnsBackAt (back : List SplitSide) : Type 0 where
+  outer : List SplitSide
+  side : SplitSide
+  inner : List SplitSide
+  is : back ≡ inner ++ side ∷ outer
+  turned_is : turned_back back ≡ record side { high = true } ∷ outer
+
+turns_back : (back : List SplitSide) → (turned_back back ≡ []) ⊎ TurnsBackAt back
+turns_back [] = inl refl
+turns_back (side ∷ outer) = go side.high (λ j. if side.high then turned_back outer else (record side { high = true } ∷ outer)) (turns_back outer)
+  where
+    go : (high : Bool) → turned_back (side ∷ outer) ≡ (if high then turned_back outer else (record side { high = true } ∷ outer)) → (turned_back outer ≡ []) ⊎ TurnsBackAt outer → (turned_back (side ∷ outer) ≡ []) ⊎ TurnsBackAt (side ∷ outer)
+    go false e rest = inr (record { outer = outer; side = side; inner = []; is = refl; turned_is = e })
+    go true e (inl none) = inl (e ∙ none)
+    go true e (inr at) = inr (record { outer = at.outer; side = at.side; inner = side ∷ at.inner; is = ap (λ xs. side ∷ xs) at.is; turned_is = e ∙ at.turned_is })
+
+reverse-cons : (side : SplitSide) (outer : List SplitSide) → reverse (side ∷ outer) ≡ reverse outer ++ side ∷ []
+reverse-cons side outer = reverse-append (side ∷ []) outer
+
+turns : (above : List SplitSide) → (turned above ≡ []) ⊎ TurnsAt above
+turns above = ⊎_elim
+    (λ none. inl (ap reverse none))
+    (λ at. inr (record {
+      outer = reverse at.outer;
+      side = at.side;
+      inner = reverse at.inner;
+      is = sym (reverse-reverse above) ∙ ap reverse at.is ∙ reverse-append at.inner (at.side ∷ at.outer) ∙ ap (λ xs. xs ++ reverse at.inner) (reverse-cons at.side at.outer) ∙ append_assoc (reverse at.outer) (at.side ∷ []) (reverse at.inner);
+      turned_is = ap reverse at.turned_is ∙ reverse-cons (record at.side { high = true }) at.outer;
+    }))
+    (turns_back (reverse above))
+
+-- what the code has to add behind the rows of the outer sides: the row of the last one, which is on the same form and number as before
+pub record TurnsTo (forms : List Form) (rows : List Row) (new : List (ℕ × ℤ × Bool)) (last : ℕ × ℤ × Bool) : Type 0 where
+  pub asked : IsSideOf forms (side_of last)
+  pub rows_are : map linear_row (take (length new - 1) rows) ++ side_row forms (side_of last) ∷ [] ≡ map (side_row forms) (sides_of new)
+
+module _ (forms : List Form) (above : List SplitSide) (rows : List Row) (new : List (ℕ × ℤ × Bool)) (last : ℕ × ℤ × Bool) (each : All (IsSideOf forms) above) (are : map linear_row rows ≡ map (side_row forms) above) (next : sides_of new ≡ turned above) (some : 0 < length new) (is_last : slice_index_or new (length new - 1) last ≡ last) where
+  turns_at : TurnsAt above → TurnsTo forms rows new last
+  turns_at at = record {
+    asked = subst (IsSideOf forms) (sym same) (record { form = before.form; low = before.low; high = before.high });
+    rows_are = ap (λ xs. xs ++ side_row forms (side_of last) ∷ []) outer_rows ∙ sym (map-append (side_row forms) at.outer (side_of last ∷ [])) ∙ ap (λ side. map (side_row forms) (at.outer ++ side ∷ [])) same ∙ ap (map (side_row forms)) (sym (next ∙ at.turned_is));
+  }
+    where
+      count : length new ≡ length at.outer + 1
+      count = sym (length-map new side_of) ∙ ap length (next ∙ at.turned_is) ∙ length-append at.outer (record at.side { high = true } ∷ [])
+
+      same : side_of last ≡ record at.side { high = true }
+      same = ap side_of (sym is_last) ∙ sym (get_or-map side_of new (length new - 1) last (side_of last) (omega (arith, count))) ∙ ap (λ xs. slice_index_or xs (length new - 1) (side_of last)) (next ∙ at.turned_is) ∙ get_or_at at.outer (record at.side { high = true }) [] (side_of last) (length new - 1) (omega (arith, count))
+
+      before : IsSideOf forms at.side
+      before = subst (IsSideOf forms) (ap (λ xs. slice_index_or xs (length at.outer) at.side) at.is ∙ get_or_at at.outer at.side at.inner at.side (length at.outer) refl) (each (length at.outer) at.side (omega (arith, ap length at.is, length-append at.outer (at.side ∷ at.inner))))
+
+      outer_rows : map linear_row (take (length new - 1) rows) ≡ map (side_row forms) at.outer
+      outer_rows = sym (take-map linear_row (length new - 1) rows) ∙ ap (take (length new - 1)) (are ∙ ap (map (side_row forms)) at.is) ∙ take-map (side_row forms) (length new - 1) (at.outer ++ at.side ∷ at.inner) ∙ ap (map (side_row forms)) (take_at at.outer (at.side ∷ at.inner) (length new - 1) (omega (arith, count)))
+
+  pub turns_to : TurnsTo forms rows new last
+  turns_to = ⊎_elim (λ none. absurd (omega (arith, sym (length-map new side_of) ∙ ap length (next ∙ none)))) turns_at (turns above)

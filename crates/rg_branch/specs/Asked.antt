@@ -1,11 +1,13 @@
 -- What a branching asks of the system and its forms.
-use Rattle.std.specs.Prelude.{◌≡◌, ◌≢◌, ℕ, ◌+◌, ◌^◌, ◌<◌, List, [], length, All, slice_index_or, pos, ◌*ℤ◌, ◌≤ℤ◌, ◌<ℤ◌}
+use Rattle.std.specs.Prelude.{◌≡◌, ◌≢◌, ℕ, ◌+◌, ◌^◌, ◌<◌, List, [], length, map, All, slice_index_or, pos, ◌*ℤ◌, ◌≤ℤ◌, ◌<ℤ◌}
 use Rattle.rg_integers.specs.Range.{InRange}
 use Rattle.rg_linear.specs.System.{LinearSystem, entry}
-use Rattle.rg_linear.specs.Branching.{Form, form_at, SplitSide, AreBounded}
+use Rattle.rg_linear.specs.Branching.{Form, form_at, SplitSide, side_row, AreBounded}
+use Rattle.rg_linear.specs.View.{linear_row}
 use Rattle.rg_branch.specs.declared.bounded.Bounded.{Bounded}
+use Rattle.rg_branch.specs.declared.splits.Splits.{Splits}
 use Rattle.rg_linear.specs.Room.{room}
-use Rattle.rg_branch.specs.View.{forms_of}
+use Rattle.rg_branch.specs.View.{forms_of, sides_of}
 
 -- one coefficient a column, a whole multiple of those of a row; the scale is positive, and the numbers are in range
 pub record IsFormOf (system : LinearSystem) (b : Bounded) : Type 0 where
@@ -38,3 +40,7 @@ pub record IsSideOf (forms : List Form) (side : SplitSide) : Type 0 where
 pub record AreSidesOf (forms : List Form) (above : List SplitSide) : Type 0 where
   pub each : All (IsSideOf forms) above
   pub few : length above + room forms above < 1 + room forms []
+
+-- the rows are those of the splits
+abbrev pub HasRowsOf : List Form → Splits → Type 0
+HasRowsOf forms splits = map linear_row splits.rows.items ≡ map (side_row forms) (sides_of splits.above.items)

@@ -1,15 +1,14 @@
 //! The tree of splits.
-ghost use Rattle.std.specs.Prelude.{◌≡◌, ◌++◌, ◌∷◌, [], map, IfOk, IfErr, OnOk};
-ghost use Rattle.rg_linear.specs.Branching.{low_side};
-ghost use Rattle.rg_branch.specs.declared.whole.BranchStop.TheVariants as stop;
-ghost use Rattle.rg_branch.specs.View.{forms_of, sides_of, node_of, TreeNode};
+ghost use Rattle.std.specs.Prelude.{IfOk, IfErr};
+ghost use Rattle.rg_branch.specs.View.{forms_of};
 ghost use Rattle.rg_branch.specs.Asked.{CanBranch};
 ghost use Rattle.rg_branch.specs.Answer.{IsAnswer, IsSound, IsStop};
 
 use crate::bounded::Bounded;
 use crate::node::{NodeEnd, node_end};
-use crate::side::turn;
+use crate::splits::Splits;
 use crate::whole::{BranchStop, RawNode, Whole};
+use rg_feasible::Dictionary;
 use rg_linear::System;
 use std::alloc::Global;
 
@@ -26,46 +25,33 @@ pub fn solve_whole(alloc: Global, system: &System, forms: &[Bounded]) -> Result<
     ensures sound { IfOk result (IsSound system.now (forms_of forms.now)) }
     ensures stop { IfErr result (IsStop system.now (forms_of forms.now)) }
 {
-    let mut above = Vec::new(alloc);
+    let mut dictionary = Dictionary::new(alloc, system)?;
+    let mut splits = Splits {
+        above: Vec::new(alloc),
+        rows: Vec::new(alloc),
+    };
     let mut nodes = Vec::new(alloc);
     loop {
-        match node_end(alloc, system, forms, &above)? {
+        match node_end(alloc, &mut dictionary, system, forms, &splits)? {
             NodeEnd::Stopped(members, wide) => {
                 return Err(BranchStop::Wide {
-                    above,
+                    above: splits.above,
                     members,
                     wide,
                 });
             }
-            NodeEnd::Whole(values) => return Ok(Whole::Point(values, above)),
+            NodeEnd::Whole(values) => return Ok(Whole::Point(values, splits.above)),
             NodeEnd::Fraction(form, at) => {
-                if let Err(stop) = go_low(&mut nodes, &mut above, form, at) {
-                    return Err(stop);
-                }
+                nodes.push(RawNode::Split(form, at))?;
+                splits.go_low(alloc, forms, form, at)?;
             }
             NodeEnd::Refuted(weights) => {
                 nodes.push(RawNode::Leaf(weights))?;
-                turn(&mut above);
-                if above.is_empty() {
+                splits.turn(alloc, forms)?;
+                if splits.above.is_empty() {
                     return Ok(Whole::Tree(nodes));
                 }
             }
         }
     }
-}
-
-// Appends a split to the nodes, and its low side to the sides.
-fn go_low(
-    nodes: &mut Vec<RawNode>,
-    above: &mut Vec<(u32, i64, bool)>,
-    form: u32,
-    at: i64,
-) -> Result<(), BranchStop>
-    ensures nodes { OnOk result (map node_of nodes.new.items ≡ map node_of nodes.old.items ++ TreeNode.split_node form at ∷ []) }
-    ensures above { OnOk result (sides_of above.new.items ≡ sides_of above.old.items ++ low_side form at ∷ []) }
-    ensures stop { IfErr result (λ e. e ≡ stop.NoMemory) }
-{
-    nodes.push(RawNode::Split(form, at))?;
-    above.push((form, at, false))?;
-    Ok(())
 }

@@ -3,12 +3,12 @@ ghost use Rattle.std.specs.Prelude.{◌≡◌, ℕ, length, map, IfOk};
 ghost use Rattle.rg_linear.specs.Branching.{weights_from};
 ghost use Rattle.rg_feasible.specs.Settling.{IsRefutation, multiplier_with};
 ghost use Rattle.rg_branch.specs.View.{forms_of, sides_of, weight_of};
-ghost use Rattle.rg_branch.specs.Asked.{CanBranch, AreSidesOf};
+ghost use Rattle.rg_branch.specs.Asked.{CanBranch, AreSidesOf, HasRowsOf};
 ghost use Rattle.rg_branch.specs.Answer.{NodeTells};
 
 use crate::bounded::Bounded;
 use crate::point::{first_fraction, values};
-use crate::side::node_system;
+use crate::splits::Splits;
 use rg_feasible::{Dictionary, PivotWide, Settled};
 use rg_fraction::Fraction;
 use rg_linear::System;
@@ -28,32 +28,35 @@ pub(crate) enum NodeEnd {
     Fraction(u32, i64),
 }
 
-// Settles the system below the splits.
+// Settles the system below the splits. The dictionary may be any: it is filled again.
 pub(crate) fn node_end(
     alloc: Global,
+    dictionary: &mut Dictionary,
     system: &System,
     forms: &[Bounded],
-    above: &[(u32, i64, bool)],
+    splits: &Splits,
 ) -> Result<NodeEnd, NoMemory>
     requires can { CanBranch system.now forms.now }
-    requires sides { AreSidesOf (forms_of forms.now) (sides_of above.now) }
-    ensures { IfOk result (NodeTells system.now (forms_of forms.now) (sides_of above.now)) }
+    requires sides { AreSidesOf (forms_of forms.now) (sides_of splits.now.above.items) }
+    requires rows { HasRowsOf (forms_of forms.now) splits.now }
+    ensures { IfOk result (NodeTells system.now (forms_of forms.now) (sides_of splits.now.above.items)) }
 {
-    let node = node_system(alloc, system, forms, above)?;
-    let mut dictionary = Dictionary::new(alloc, &node)?;
+    let columns = system.columns();
+    let rows = system.rows().len() + splits.rows.len();
+    dictionary.renew(alloc, system, &splits.rows)?;
     match dictionary.settle() {
         Settled::Wide(wide) => {
-            let members = members(alloc, &dictionary, node.columns())?;
+            let members = members(alloc, dictionary, columns)?;
             Ok(NodeEnd::Stopped(members, wide))
         }
         Settled::Refuted(_) => {
-            let weights = weights(alloc, &dictionary, node.rows().len() as u32)?;
+            let weights = weights(alloc, dictionary, rows as u32)?;
             Ok(NodeEnd::Refuted(weights))
         }
-        Settled::Point => match first_fraction(&dictionary, &node, forms) {
+        Settled::Point => match first_fraction(dictionary, system, forms) {
             Some((form, floor)) => Ok(NodeEnd::Fraction(form, floor)),
             None => {
-                let values = values(alloc, &dictionary, &node)?;
+                let values = values(alloc, dictionary, columns)?;
                 Ok(NodeEnd::Whole(values))
             }
         },

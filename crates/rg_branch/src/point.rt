@@ -1,12 +1,11 @@
 //! The forms at the point of a descent.
-ghost use Rattle.std.specs.Prelude.{◌≡◌, ◌+◌, ◌<◌, ◌^◌, ◌≤ℤ◌, ◌<ℤ◌, length, IfOk, IfSome, IfNone};
+ghost use Rattle.std.specs.Prelude.{◌≡◌, ◌+◌, ◌<◌, ◌^◌, ◌≤ℤ◌, ◌<ℤ◌, List, length, IfOk, IfSome, IfNone};
 ghost use Rattle.rg_integers.specs.Range.{InRange};
-ghost use Rattle.rg_linear.specs.System.{row_at};
-ghost use Rattle.rg_feasible.specs.Settling.{IsDictionaryOf};
+ghost use Rattle.rg_linear.specs.System.{LinearSystem, LinearRow, row_at};
+ghost use Rattle.rg_feasible.specs.Settling.{with_rows, IsDictionaryOf, IsWhole};
 ghost use Rattle.rg_branch.specs.View.{form_of, forms_of};
-ghost use Rattle.rg_branch.specs.Asked.{IsFormOf};
 ghost use Rattle.rg_branch.specs.Answer.{AreValuesAt};
-ghost use Rattle.rg_branch.specs.Points.{IsBetween, HasFloor, IsWholeThere, AreWholeBelow, IsFirstFraction, HasFewNumbers, AreFormsAt};
+ghost use Rattle.rg_branch.specs.Points.{HasFloor, IsWholeThere, AreWholeBelow, IsFirstFraction, IsFormAt, AreFormsAt};
 
 use crate::bounded::Bounded;
 use crate::floor::{Multiple, floor_of_fraction};
@@ -18,17 +17,18 @@ use std::alloc::{AllocError, Global};
 // The first form without a whole value at the point, and its floor.
 pub(crate) fn first_fraction(
     dictionary: &Dictionary,
-    node: &System,
+    system: &System,
     forms: &[Bounded],
 ) -> Option<(u32, i64)>
-    requires dictionary { IsDictionaryOf node.now dictionary.now }
-    requires forms { AreFormsAt node.now dictionary.now.table.members forms.now }
+    requires forms { (further : List LinearRow) × AreFormsAt system.now further dictionary.now forms.now }
     requires few { length forms.now < 2 ^ 32 }
-    ensures first { IfSome result (λ s. IsFirstFraction node.now dictionary.now.table.members (forms_of forms.now) s.0 s.1) }
-    ensures none { IfNone result (AreWholeBelow node.now dictionary.now.table.members (forms_of forms.now) (length forms.now)) }
+    ensures first { (further : List LinearRow) → AreFormsAt system.now further dictionary.now forms.now
+        → IfSome result (λ s. IsFirstFraction (with_rows system.now further) dictionary.now.table.members (forms_of forms.now) s.0 s.1) }
+    ensures none { (further : List LinearRow) → AreFormsAt system.now further dictionary.now forms.now
+        → IfNone result (AreWholeBelow (with_rows system.now further) dictionary.now.table.members (forms_of forms.now) (length forms.now)) }
 {
     for (f, form) in forms.iter().enumerate() {
-        if let Some(floor) = fraction_floor(dictionary, node, form) {
+        if let Some(floor) = fraction_floor(dictionary, system, form) {
             return Some((f as u32, floor));
         }
     }
@@ -36,21 +36,20 @@ pub(crate) fn first_fraction(
 }
 
 // The floor of the form at the point, where it isn't whole.
-fn fraction_floor(dictionary: &Dictionary, node: &System, form: &Bounded) -> Option<i64>
-    requires dictionary { IsDictionaryOf node.now dictionary.now }
-    requires form { IsFormOf node.now form.now }
-    requires narrow { HasFewNumbers form.now }
-    requires between { IsBetween node.now dictionary.now.table.members (form_of form.now) }
-    ensures floor { IfSome result (HasFloor node.now dictionary.now.table.members (form_of form.now)) }
+fn fraction_floor(dictionary: &Dictionary, system: &System, form: &Bounded) -> Option<i64>
+    requires form { (further : List LinearRow) × IsFormAt system.now further dictionary.now form.now }
+    ensures floor { (further : List LinearRow) → IsFormAt system.now further dictionary.now form.now
+        → IfSome result (HasFloor (with_rows system.now further) dictionary.now.table.members (form_of form.now)) }
     ensures low { IfSome result (λ u. form.now.low ≤ℤ u) }
     ensures high { IfSome result (λ u. u <ℤ form.now.high) }
-    ensures whole { IfNone result (IsWholeThere node.now dictionary.now.table.members (form_of form.now)) }
+    ensures whole { (further : List LinearRow) → IsFormAt system.now further dictionary.now form.now
+        → IfNone result (IsWholeThere (with_rows system.now further) dictionary.now.table.members (form_of form.now)) }
 {
     if form.times == 0 {
         return None;
     }
-    let value = dictionary.point(node.columns() + form.row);
-    let constant = constant_at(node, form.row);
+    let value = dictionary.point(system.columns() + form.row);
+    let constant = constant_at(system, form.row);
     floor_of_fraction(Multiple {
         value,
         constant,
@@ -62,25 +61,26 @@ fn fraction_floor(dictionary: &Dictionary, node: &System, form: &Bounded) -> Opt
 }
 
 // The constant of a row.
-fn constant_at(node: &System, row: u32) -> i128
-    requires { row < length node.now.rows }
-    ensures value { result ≡ (row_at node.now row).constant }
+fn constant_at(system: &System, row: u32) -> i128
+    requires { row < length system.now.rows }
+    ensures value { result ≡ (row_at system.now row).constant }
     ensures in_range { InRange result }
 {
-    node.rows()[row as usize].constant
+    system.rows()[row as usize].constant
 }
 
 // The values of the columns.
 pub(crate) fn values(
     alloc: Global,
     dictionary: &Dictionary,
-    node: &System,
+    columns: u32,
 ) -> Result<Vec<Fraction>, AllocError>
-    requires { IsDictionaryOf node.now dictionary.now }
-    ensures { IfOk result (λ v. AreValuesAt node.now dictionary.now.table.members v.items) }
+    requires whole { IsWhole dictionary.now }
+    requires columns { columns ≡ dictionary.now.table.columns }
+    ensures { (node : LinearSystem) → IsDictionaryOf node dictionary.now → IfOk result (λ v. AreValuesAt node dictionary.now.table.members v.items) }
 {
     let mut values = Vec::new(alloc);
-    for j in 0..node.columns() {
+    for j in 0..columns {
         values.push(dictionary.point(j))?;
     }
     Ok(values)

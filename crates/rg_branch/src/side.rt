@@ -1,49 +1,21 @@
 //! Splits as rows, and the way through a tree.
-ghost use Rattle.std.specs.Prelude.{◌≡◌, length, map, ℤ, pos, neg_ℤ, ◌+ℤ◌, ◌-ℤ◌, ◌*ℤ◌, All, if◌then◌else◌, IfOk};
+ghost use Rattle.std.specs.Prelude.{◌≡◌, map, ℤ, pos, neg_ℤ, ◌+ℤ◌, ◌-ℤ◌, ◌*ℤ◌, All, if◌then◌else◌, IfOk};
 ghost use Rattle.rg_integers.specs.Range.{InRange};
-ghost use Rattle.rg_linear.specs.Branching.{node_system};
 ghost use Rattle.rg_linear.specs.View.{linear_row};
-ghost use Rattle.rg_branch.specs.View.{form_of, forms_of, sides_of};
-ghost use Rattle.rg_branch.specs.Asked.{CanBranch, AreSidesOf};
+ghost use Rattle.rg_branch.specs.View.{form_of, sides_of};
 ghost use Rattle.rg_branch.specs.Turning.{turned, row_of_side};
 
 use crate::bounded::Bounded;
-use rg_linear::{Row, System};
+use rg_linear::Row;
 use std::alloc::{AllocError, Global};
 
-// The system below the splits: their rows come behind its own, the outermost first.
-pub(crate) fn node_system(
-    alloc: Global,
-    system: &System,
-    forms: &[Bounded],
-    above: &[(u32, i64, bool)],
-) -> Result<System, AllocError>
-    requires can { CanBranch system.now forms.now }
-    requires sides { AreSidesOf (forms_of forms.now) (sides_of above.now) }
-    ensures { IfOk result (λ node. node ≡ node_system system.now (forms_of forms.now) (sides_of above.now)) }
-{
-    let mut rows = Vec::new(alloc);
-    for row in system.rows() {
-        rows.push(copied(alloc, row)?)?;
-    }
-    for &(form, at, high) in above {
-        rows.push(side_row(alloc, &forms[form as usize], at, high)?)?;
-    }
-    Ok(System::new(system.columns(), rows))
-}
-
-fn copied(alloc: Global, row: &Row) -> Result<Row, AllocError>
-    ensures { IfOk result (λ r. linear_row r ≡ linear_row row.now) }
-{
-    let coeffs = row.coeffs.to_vec(alloc)?;
-    Ok(Row {
-        coeffs,
-        constant: row.constant,
-    })
-}
-
 // The row of one side of a split.
-fn side_row(alloc: Global, form: &Bounded, at: i64, high: bool) -> Result<Row, AllocError>
+pub(crate) fn side_row(
+    alloc: Global,
+    form: &Bounded,
+    at: i64,
+    high: bool,
+) -> Result<Row, AllocError>
     requires scale { InRange form.now.scale }
     requires coeffs { All InRange form.now.coeffs.items }
     requires low { InRange (form.now.scale *ℤ at) }

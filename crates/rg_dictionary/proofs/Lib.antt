@@ -7,3 +7,4 @@ pub mod RowTerms
 pub mod RowNumbers
 pub mod Exchanges
 pub mod Storing
+pub mod Short

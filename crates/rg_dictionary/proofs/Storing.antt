@@ -1,11 +1,12 @@
 -- Dictionaries before any exchange.
-use Rattle.std.proofs.Common.{◌≡◌, ◌⊎◌, ⊎_elim, ℕ, zero, suc, ◌+◌, ◌*◌, ◌-◌, ◌^◌, ◌<◌, ◌≤◌, nat_lt, if◌then◌else◌, List, [], ◌∷◌, ◌++◌, map, take, drop, replicate, length, get_or, Contains, ap, ap₂, refl, subst, sym, ◌∙◌, inl, inr, arith}
+use Rattle.std.proofs.Common.{◌≡◌, ◌⊎◌, ⊎_elim, ℕ, zero, suc, ◌+◌, ◌*◌, ◌-◌, ◌^◌, ◌<◌, ◌≤◌, nat_lt, if◌then◌else◌, List, [], ◌∷◌, ◌++◌, map, take, drop, replicate, length, get_or, le_refl, Contains, ap, ap₂, refl, subst, sym, ◌∙◌, inl, inr, arith}
 use Rattle.std.specs.Prelude.{ℤ, pos, slice_range, slice_index_or}
 use Rattle.std.specs.List.{insert, remove}
 use Rattle.std.specs.List.Sorted.{IsStrictlyIncreasing}
+use Rattle.std.proofs.Math.Nat.{mul-le-mul}
 use Rattle.std.proofs.lemmas.List.Edits.{length-insert, length-remove}
 use Rattle.std.proofs.lemmas.Bool.{cases_lt}
-use Rattle.std.proofs.lemmas.List.{ext_get_or, length-map, length-replicate, length-append, length-drop, get_or-map, get_or-replicate, get_or_append_left, get_or_at, get_or_default, take-append-le, drop-append-le, drop_at, take_all}
+use Rattle.std.proofs.lemmas.List.{ext_get_or, length-map, length-replicate, length-append, length-drop, length-take-le, get_or-take, get_or-map, get_or-replicate, get_or_append_left, get_or_at, get_or_default, take-append-le, drop-append-le, drop_at, take_all}
 use Rattle.rg_integers.specs.Range.{InRange}
 use Rattle.rg_integers.specs.Sum.{number_at}
 use Rattle.rg_integers.proofs.Ranges.{zero_in_range}
@@ -38,6 +39,13 @@ get_or-numbers_from first zero k d lt = absurd (omega arith)
 get_or-numbers_from first (suc n) zero d lt = omega arith
 get_or-numbers_from first (suc n) (suc k) d lt = let r = get_or-numbers_from (suc first) n k d (omega arith) in omega arith
 
+-- a list with each number at its place
+pub columns_numbered : (members : List ℕ) (n : ℕ) → length members ≡ n → ((k : ℕ) → k < n → get_or members k 0 ≡ k) → members ≡ numbers_from 0 n
+columns_numbered members n size each = ext_get_or 0 members (numbers_from 0 n) (size ∙ sym (length-numbers_from 0 n)) (λ k lt. at k (omega arith))
+  where
+    at : (k : ℕ) → k < n → get_or members k 0 ≡ get_or (numbers_from 0 n) k 0
+    at k lt = let e = each k lt in let r = get_or-numbers_from 0 n k 0 lt in omega arith
+
 -- a list of as many numbers is what a function of the columns gives
 columns_listed : (f : ℕ → ℤ) (xs : List ℤ) (n : ℕ) → length xs ≡ n → ((j : ℕ) → j < n → f j ≡ number_at xs j) → xs ≡ map f (numbers_from 0 n)
 columns_listed f xs n size each = ext_get_or (pos 0) xs (map f (numbers_from 0 n)) (size ∙ sym (length-numbers_from 0 n) ∙ sym (length-map (numbers_from 0 n) f)) (λ j lt. at j (omega arith))
@@ -53,15 +61,15 @@ columns_listed f xs n size each = ext_get_or (pos 0) xs (map f (numbers_from 0 n
 abbrev fresh : ℕ → ℕ → List ℕ → List ℤ → Contents
 fresh columns rows members table = record { columns = columns; rows = 0; room = rows; members = members; table = table }
 
-pub stored_fresh : (columns rows capacity : ℕ) (members : List ℕ) (table pivot_row : List ℤ) → columns + rows < 2 ^ 32 → members ≡ numbers_from 0 columns → table ≡ replicate (columns * (columns + 2)) (pos 0)
+pub stored_fresh : (columns rows capacity : ℕ) (members : List ℕ) (table pivot_row : List ℤ) → columns + rows < 2 ^ 32 → members ≡ numbers_from 0 columns → length table ≡ columns * (columns + 2) → RowInRange table
     → (columns + rows) * (columns + 2) ≤ capacity → length pivot_row ≡ columns + 2 → IsStored (fresh columns rows members table) capacity pivot_row
-stored_fresh columns rows capacity members table pivot_row few is zeros space width = record {
+stored_fresh columns rows capacity members table pivot_row few is size fits space width = record {
   few = omega arith;
   count = ap length is ∙ length-numbers_from 0 columns;
   ordered = subst IsStrictlyIncreasing (sym is) (numbers_from-ordered 0 columns);
   within = λ k lt. subst (λ xs. get_or xs k 0 < columns + 0) (sym is) (below k (omega (arith, ap length is, length-numbers_from 0 columns)));
-  size = ap length zeros ∙ length-replicate (columns * (columns + 2)) (pos 0) ∙ ap (λ n. n * (columns + 2)) (none columns);
-  in_range = λ n lt. subst (λ xs. InRange (number_at xs n)) (sym zeros) (subst InRange (sym (get_or-replicate (columns * (columns + 2)) n (pos 0) (pos 0) (omega (arith, ap length zeros, length-replicate (columns * (columns + 2)) (pos 0))))) zero_in_range);
+  size = size ∙ ap (λ n. n * (columns + 2)) (none columns);
+  in_range = fits;
   space = subst (λ n. (n + rows) * (columns + 2) ≤ capacity) (none columns) space;
   width = width;
 }
@@ -72,19 +80,37 @@ stored_fresh columns rows capacity members table pivot_row few is zeros space wi
     below : (k : ℕ) → k < columns → get_or (numbers_from 0 columns) k 0 < columns + 0
     below k lt = let r = get_or-numbers_from 0 columns k 0 lt in omega arith
 
-pub dictionary_fresh : (columns rows : ℕ) (members : List ℕ) (table : List ℤ) → members ≡ numbers_from 0 columns → table ≡ replicate (columns * (columns + 2)) (pos 0) → IsDictionary (columns_alone columns) (fresh columns rows members table)
-dictionary_fresh columns rows members table is zeros = record {
+pub dictionary_fresh : (columns rows : ℕ) (members : List ℕ) (table : List ℤ) → members ≡ numbers_from 0 columns → length table ≡ columns * (columns + 2) → IsDictionary (columns_alone columns) (fresh columns rows members table)
+dictionary_fresh columns rows members table is size = record {
   columns = refl;
   rows = refl;
   free = subst (IsFree (columns_alone columns)) (sym is) (columns_free (columns_alone columns));
   table = record {
-    size = ap length zeros ∙ length-replicate (columns * (columns + 2)) (pos 0) ∙ ap (λ n. n * (columns + 2)) (none columns);
+    size = size ∙ ap (λ n. n * (columns + 2)) (none columns);
     rows = λ w lt lacks. absurd (lacks (subst (λ xs. Contains xs w) (sym is) (Contains-numbers_from 0 columns w (omega arith) (omega arith))));
   };
 }
   where
     none : (n : ℕ) → n ≡ n + 0
     none n = omega arith
+
+-- a table has the numbers of the columns first
+pub columns_first : (columns rows size : ℕ) → size ≡ (columns + rows) * (columns + 2) → columns * (columns + 2) ≤ size
+columns_first columns rows size is = subst (λ n. columns * (columns + 2) ≤ n) (sym is) (mul-le-mul (omega arith) (le_refl (columns + 2)))
+
+-- zeros are in range
+pub zeros_fit : (n : ℕ) (table : List ℤ) → table ≡ replicate n (pos 0) → (length table ≡ n) × RowInRange table
+zeros_fit n table zeros = (size, λ k lt. subst (λ xs. InRange (number_at xs k)) (sym zeros) (subst InRange (sym (get_or-replicate n k (pos 0) (pos 0) (omega (arith, size)))) zero_in_range))
+  where
+    size : length table ≡ n
+    size = ap length zeros ∙ length-replicate n (pos 0)
+
+-- the first numbers of a table
+pub first_fit : (table : List ℤ) (n : ℕ) → n ≤ length table → RowInRange table → (length (take n table) ≡ n) × RowInRange (take n table)
+first_fit table n le fits = (size, λ k lt. subst InRange (sym (get_or-take n table k (pos 0) (omega (arith, size)))) (fits k (omega (arith, size))))
+  where
+    size : length (take n table) ≡ n
+    size = length-take-le n table le
 
 -- an empty list, filled up with zeros
 pub filled : (before after : List ℤ) (n len : ℕ) → before ≡ [] → len ≡ 0 → after ≡ take n before ++ replicate (n - len) (pos 0) → after ≡ replicate n (pos 0)

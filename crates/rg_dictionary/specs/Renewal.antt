@@ -1,5 +1,6 @@
 -- The rows of a table in an exchange, number by number.
-use Rattle.std.specs.Prelude.{◌≡◌, ◌≢◌, ℕ, suc, ◌+◌, ◌*◌, ◌<◌, ◌≤◌, ◌-◌, nat_lt, ◌==◌, if◌then◌else◌, List, length, slice_range, Contains, ℤ, pos, neg_ℤ, ◌*ℤ◌}
+use Rattle.std.specs.Prelude.{◌≡◌, ◌≢◌, ℕ, suc, ◌+◌, ◌*◌, ◌<◌, ◌≤◌, ◌-◌, nat_lt, ◌==◌, if◌then◌else◌, List, length, slice_range, Contains, ℤ, pos, neg_ℤ, ◌*ℤ◌, FitsSigned}
+use Rattle.std.specs.Int.{w64}
 use Rattle.std.specs.List.{insert, remove}
 use Rattle.rg_integers.specs.Range.{InRange}
 use Rattle.rg_integers.specs.Sign.{sign}
@@ -11,6 +12,14 @@ use Rattle.rg_fraction.specs.Rows.{IsPrimitivePart}
 -- every number is in range
 abbrev pub RowInRange : List ℤ → Type 0
 RowInRange row = (n : ℕ) → n < length row → InRange (number_at row n)
+
+-- every number fits 64 bits
+abbrev pub RowIsShort : List ℤ → Type 0
+RowIsShort row = (n : ℕ) → n < length row → FitsSigned w64 (number_at row n)
+
+-- those from one place to before another do
+abbrev pub ShortBetween : List ℤ → ℕ → ℕ → Type 0
+ShortBetween row from to = (n : ℕ) → from ≤ n → n < to → FitsSigned w64 (number_at row n)
 
 -- the row of the pivot, with the sign at which its number at place p is positive
 pub record IsSigned (row signed : List ℤ) (p : ℕ) : Type 0 where

@@ -1,6 +1,6 @@
 //! The dictionary of a system of linear rows.
 
-ghost use Rattle.std.specs.Prelude.{◌≡◌, ◌≢◌, ◌↔◌, ℕ, ◌+◌, ◌<◌, ◌^◌, ◌≤◌, ◌∷◌, ◌++◌, IsTrue, vec_len, vec_capacity, length, Contains, slice_index, pos, IfOk, OnOk, OnErr, MatchResult};
+ghost use Rattle.std.specs.Prelude.{◌≡◌, ◌≢◌, ◌↔◌, ℕ, ◌+◌, ◌*◌, ◌<◌, ◌^◌, ◌≤◌, max, ◌∷◌, ◌++◌, IsTrue, vec_len, vec_capacity, length, Contains, slice_index, pos, IsOk, IfOk, OnOk, OnErr, MatchResult};
 ghost use Rattle.std.specs.List.{insert, remove};
 ghost use Rattle.rg_integers.specs.Range.{InRange};
 ghost use Rattle.rg_integers.specs.Sum.{number_at};
@@ -51,10 +51,8 @@ impl Dictionary {
         ensures room { IfOk result (λ d. d.room ≡ rows) }
     {
         let width = columns as usize + 2;
-        let Some(size) = (columns as usize + rows as usize).checked_mul(width) else {
-            return Err(AllocError);
-        };
-        let mut table = Vec::with_capacity(alloc, size)?;
+        let mut table = Vec::new(alloc);
+        make_room(&mut table, columns as usize + rows as usize, width)?;
         table.resize(columns as usize * width, 0i128)?;
         let members = column_numbers(alloc, columns)?;
         let pivot_row = vec![in alloc; 0i128; width]?;
@@ -66,6 +64,31 @@ impl Dictionary {
             table,
             pivot_row,
         })
+    }
+
+    /// Takes all rows away, so that it is the dictionary of its columns alone. It has room for as many rows as it had,
+    /// or for so many where that is more. It takes memory only in this case, and no later call takes any.
+    /// `AllocError` where there is none; then it is as before.
+    pub fn restart(&mut self, rows: u32) -> Result<(), AllocError>
+        requires { self.old.columns + rows < 2 ^ 32 }
+        ensures system { OnOk result (IsDictionary (columns_alone self.old.columns) self.new) }
+        ensures members { OnOk result (self.new.members ≡ numbers_from 0 self.old.columns) }
+        ensures room { OnOk result (self.new.room ≡ max (self.old.rows + self.old.room) rows) }
+        ensures succeeds { rows ≤ self.old.rows + self.old.room → IsOk result }
+        ensures as_before { OnErr result (self.new ≡ self.old) }
+    {
+        let width = self.pivot_row.len();
+        let room = (self.rows + self.room).max(rows);
+        make_room(
+            &mut self.table,
+            self.columns as usize + room as usize,
+            width,
+        )?;
+        self.table.truncate(self.columns as usize * width);
+        number_columns(&mut self.members);
+        self.rows = 0;
+        self.room = room;
+        Ok(())
     }
 
     /// Adds a row at the end of the system: the sum of the columns, each times its coefficient, and the
@@ -182,6 +205,29 @@ fn column_numbers(alloc: Global, columns: u32) -> Result<Vec<u32>, AllocError>
         members.push(column)?;
     }
     Ok(members)
+}
+
+// Makes the columns the members, in order.
+fn number_columns(members: &mut [u32])
+    requires { length members.old < 2 ^ 32 }
+    ensures { members.new ≡ numbers_from 0 (length members.old) }
+{
+    for column in 0..members.len() {
+        members[column] = column as u32;
+    }
+}
+
+// Makes room for a table of so many variables.
+fn make_room(table: &mut Vec<i128>, variables: usize, width: usize) -> Result<(), AllocError>
+    ensures items { table.new.items ≡ table.old.items }
+    ensures room { OnOk result (variables * width ≤ vec_capacity table.new) }
+    ensures capacity { vec_capacity table.old ≤ vec_capacity table.new }
+    ensures succeeds { variables * width ≤ vec_capacity table.old → IsOk result }
+{
+    let Some(size) = variables.checked_mul(width) else {
+        return Err(AllocError);
+    };
+    table.reserve(size.saturating_sub(table.len()))
 }
 
 // Adds the numbers of a row: 1, the constant and the coefficients.

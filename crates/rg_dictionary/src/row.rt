@@ -1,10 +1,11 @@
 //! One row of the table in an exchange.
 
-ghost use Rattle.std.specs.Prelude.{◌≡◌, ◌≢◌, ◌<◌, ◌≤◌, List, ℤ, length, pos, neg_ℤ, ◌*ℤ◌, MatchResult};
-ghost use Rattle.rg_integers.specs.Range.{InRange};
+ghost use Rattle.std.specs.Prelude.{◌≡◌, ◌≢◌, ◌↔◌, ◌<◌, ◌≤◌, List, ℤ, length, pos, neg_ℤ, ◌-ℤ◌, ◌*ℤ◌, IsTrue, FitsSigned, MatchResult};
+ghost use Rattle.std.specs.Int.{w64};
+ghost use Rattle.rg_integers.specs.Range.{InRange, Fits};
 ghost use Rattle.rg_integers.specs.Sign.{sign};
 ghost use Rattle.rg_integers.specs.Sum.{number_at};
-ghost use Rattle.rg_dictionary.specs.Renewal.{RowInRange, IsSigned, RenewsBetween, FirstBetween, IsRenewed, FirstOfRow, moved, IsExchangedRow, IsTurned};
+ghost use Rattle.rg_dictionary.specs.Renewal.{RowInRange, RowIsShort, ShortBetween, IsSigned, RenewsBetween, FirstBetween, IsRenewed, FirstOfRow, moved, IsExchangedRow, IsTurned};
 
 use rg_fraction::{Wide, reduce};
 
@@ -47,8 +48,45 @@ pub(crate) fn copy_signed(row: &[i128], signed: &mut [i128], p: usize)
     }
 }
 
+/// Whether each number of the row fits 64 bits.
+pub(crate) fn is_short(row: &[i128]) -> bool
+    ensures { IsTrue result ↔ RowIsShort row.now }
+{
+    for &z in row {
+        if i64::try_from(z).is_err() {
+            return false;
+        }
+    }
+    true
+}
+
+// The term a*b - c*d of numbers of 64 bits, which is never out of range.
+fn short_term(a: i64, b: i64, c: i64, d: i64) -> i128
+    ensures value { result ≡ (a *ℤ b) -ℤ (c *ℤ d) }
+    ensures fits { Fits a b c d }
+{
+    i128::from(a) * i128::from(b) - i128::from(c) * i128::from(d)
+}
+
+// The places from `from` to before `to` get the values of their terms, where all numbers fit 64 bits.
+fn renew_short(row: &mut [i128], pivot: &[i128], size: i64, leaving: i64, from: usize, to: usize)
+    requires same_length { length pivot.now ≡ length row.old }
+    requires range { from ≤ to }
+    requires inside { to ≤ length row.old }
+    requires in_range { RowInRange row.old }
+    requires short { ShortBetween row.old from to }
+    requires pivot_short { ShortBetween pivot.now from to }
+    ensures renewed { RenewsBetween pivot.now row.old row.new size leaving from to }
+    ensures in_range { RowInRange row.new }
+{
+    for n in from..to {
+        let z = short_term(row[n] as i64, size, pivot[n] as i64, leaving);
+        row[n] = z;
+    }
+}
+
 // The places from `from` to before `to` get the values of their terms; else the first place whose term passes.
-fn renew_between(
+fn renew_each(
     row: &mut [i128],
     pivot: &[i128],
     size: i128,
@@ -78,19 +116,46 @@ fn renew_between(
     Ok(())
 }
 
+// The same; where all numbers fit 64 bits, no term passes, and none is tested.
+fn renew_between(
+    row: &mut [i128],
+    pivot: &[i128],
+    size: i128,
+    leaving: i128,
+    from: usize,
+    to: usize,
+    short: bool,
+) -> Result<(), RowWide>
+    requires same_length { length pivot.now ≡ length row.old }
+    requires range { from ≤ to }
+    requires inside { to ≤ length row.old }
+    requires in_range { RowInRange row.old }
+    requires short { IsTrue short → FitsSigned w64 size × FitsSigned w64 leaving × ShortBetween row.old from to × ShortBetween pivot.now from to }
+    ensures renewed { MatchResult result (λ _. RenewsBetween pivot.now row.old row.new size leaving from to) (λ e. FirstBetween pivot.now row.old size leaving from to e.at e.wide) }
+    ensures in_range { RowInRange row.new }
+{
+    if short {
+        renew_short(row, pivot, size as i64, leaving as i64, from, to);
+        return Ok(());
+    }
+    renew_each(row, pivot, size, leaving, from, to)
+}
+
 /// The row gets the values of its terms, that of the new member at place `p`; else the number of the first
-/// term that passes.
-fn renew(row: &mut [i128], pivot: &[i128], p: usize) -> Result<(), RowWide>
+/// term that passes. `short` says that the numbers of the pivot fit 64 bits.
+fn renew(row: &mut [i128], pivot: &[i128], p: usize, short: bool) -> Result<(), RowWide>
     requires same_length { length pivot.now ≡ length row.old }
     requires place { p < length row.old }
     requires after_constant { 1 < p }
     requires pivot_in_range { RowInRange pivot.now }
     requires in_range { RowInRange row.old }
+    requires short { IsTrue short → RowIsShort pivot.now }
     ensures renewed { MatchResult result (λ _. IsRenewed pivot.now row.old row.new p) (λ e. FirstOfRow pivot.now row.old p e.at e.wide) }
     ensures in_range { RowInRange row.new }
 {
     let size = pivot[p];
     let leaving = row[p];
+    let short = short && is_short(row);
     let first = Wide {
         a: row[0],
         b: size,
@@ -101,11 +166,11 @@ fn renew(row: &mut [i128], pivot: &[i128], p: usize) -> Result<(), RowWide>
         Ok(z) => row[0] = z,
         Err(wide) => return Err(RowWide { at: 0, wide }),
     }
-    match renew_between(row, pivot, size, leaving, 1, p) {
+    match renew_between(row, pivot, size, leaving, 1, p, short) {
         Ok(()) => {}
         Err(e) => return Err(e),
     }
-    match renew_between(row, pivot, size, leaving, p + 1, row.len()) {
+    match renew_between(row, pivot, size, leaving, p + 1, row.len(), short) {
         Ok(()) => {}
         Err(e) => {
             return Err(RowWide {
@@ -149,12 +214,14 @@ fn move_number(row: &mut [i128], p: usize, q: usize)
 }
 
 /// The row of a variable outside the set, over the new set: the member at place `p` leaves, and the pivot's
-/// number comes to place `q`. Else the number of the first term that passes.
+/// number comes to place `q`. Else the number of the first term that passes. `short` says that the numbers of the
+/// pivot fit 64 bits.
 pub(crate) fn exchange_row(
     row: &mut [i128],
     pivot: &[i128],
     p: usize,
     q: usize,
+    short: bool,
 ) -> Result<(), RowWide>
     requires same_length { length pivot.now ≡ length row.old }
     requires place { p < length row.old }
@@ -162,11 +229,12 @@ pub(crate) fn exchange_row(
     requires new_place { q < length row.old }
     requires pivot_in_range { RowInRange pivot.now }
     requires in_range { RowInRange row.old }
+    requires short { IsTrue short → RowIsShort pivot.now }
     ensures row { MatchResult result (λ _. IsExchangedRow pivot.now row.old row.new p q) (λ e. (number_at row.old p ≢ pos 0) × FirstOfRow pivot.now row.old p e.at e.wide) }
     ensures in_range { RowInRange row.new }
 {
     if row[p] != 0 {
-        match renew(row, pivot, p) {
+        match renew(row, pivot, p, short) {
             Ok(()) => {}
             Err(e) => return Err(e),
         }

@@ -9,7 +9,7 @@ ghost use Rattle.rg_linear.specs.Exchange.{without, exchanged, AllFit, FirstWide
 ghost use Rattle.rg_linear.specs.Table.{IsTable, place_for};
 ghost use Rattle.rg_dictionary.specs.Renewal.{RowInRange, row_at, RowsExchanged, FirstOfRows};
 
-use crate::row::{copy_signed, exchange_row, write_leaving};
+use crate::row::{copy_signed, exchange_row, is_short, write_leaving};
 use rg_fraction::Wide;
 
 /// The first term of an exchange that is out of range: in the new relation of the variable `target`
@@ -75,10 +75,11 @@ pub(crate) fn exchange_rows(
     ensures in_range { RowInRange table.new }
 {
     let width = pivot_row.len();
+    let short = is_short(pivot_row);
     for w in 0..variables {
         if w != pivot && !is_member(members, w) {
             let start = w as usize * width;
-            match exchange_row(&mut table[start..start + width], pivot_row, p, q) {
+            match exchange_row(&mut table[start..start + width], pivot_row, p, q, short) {
                 Ok(()) => {}
                 Err(e) => {
                     return Err(ExchangeWide {

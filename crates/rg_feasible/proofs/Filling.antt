@@ -1,28 +1,44 @@
--- The table of a system, filled row by row.
-use Rattle.std.proofs.Common.{◌≡◌, ℕ, ◌+◌, ◌<◌, ◌≤◌, List, [], length, map, take, slice_index_or, ap, sym, ◌∙◌}
+-- A table that is filled row by row.
+use Rattle.std.proofs.Common.{◌≡◌, ℕ, ◌+◌, ◌<◌, List, [], ◌∷◌, ◌++◌, length, map, take, append_assoc, length-append, slice_index_or, ap, refl, subst, sym, ◌∙◌, arith}
 use Rattle.std.specs.Prelude.{pos}
 use Rattle.std.specs.Int.{w128, cast_signed, cast_unsigned}
-use Rattle.std.proofs.lemmas.List.{take_more, take_all}
+use Rattle.std.proofs.lemmas.List.{take_more, get_or-append_right}
+use Rattle.rg_integers.specs.Range.{InRange}
+use Rattle.rg_integers.specs.Sum.{number_at}
 use Rattle.rg_integers.proofs.Casts.{back}
 use Rattle.rg_linear.specs.System.{LinearSystem, LinearRow, row_at}
 use Rattle.rg_linear.specs.declared.system.Row.{Row}
-use Rattle.rg_linear.specs.View.{linear_row, IsWellFormed}
+use Rattle.rg_linear.specs.View.{linear_row, linear_system, IsWellFormed}
 use Rattle.rg_linear.proofs.KeptRows.{item_is, below_rows, constant_in_range}
-use Rattle.rg_dictionary.specs.Contents.{with_row}
+use Rattle.rg_dictionary.specs.Contents.{Contents, IsDictionary, columns_alone, with_row}
+use Rattle.rg_feasible.specs.Settling.{with_rows}
 
--- its first rows
-abbrev pub first_rows : LinearSystem → ℕ → LinearSystem
-first_rows system n = record { columns = system.columns; rows = take n system.rows }
+module _ (system : LinearSystem) (columns : ℕ) (rows : List Row) (i : ℕ) (item : Row) (well : IsWellFormed (linear_system columns rows)) (lt : i < length rows) (at : item ≡ slice_index_or rows i item) where
+  -- one row more, as the code hands it on
+  pub row_pushed : with_row (with_rows system (take i (map linear_row rows))) item.coeffs.items (cast_signed w128 (cast_unsigned w128 item.constant)) ≡ with_rows system (take (i + 1) (map linear_row rows))
+  row_pushed = ap (with_row (with_rows system (take i (map linear_row rows))) item.coeffs.items) (back item.constant (constant_in_range (linear_system columns rows) well rows i item refl lt at))
+      ∙ ap (λ (r : LinearRow). with_row (with_rows system (take i (map linear_row rows))) r.coeffs r.constant) (item_is (linear_system columns rows) rows i item refl lt at)
+      ∙ (λ j. record { columns = system.columns; rows = (append_assoc system.rows (take i (map linear_row rows)) (row_at (linear_system columns rows) i ∷ []) ∙ ap (λ xs. system.rows ++ xs) (sym (take_more (map linear_row rows) i (record { coeffs = []; constant = pos 0 }) (below_rows (linear_system columns rows) rows i refl lt)))) j })
 
--- the next row
-pub row_added : (system : LinearSystem) (i : ℕ) → i < length system.rows → with_row (first_rows system i) (row_at system i).coeffs (row_at system i).constant ≡ first_rows system (i + 1)
-row_added system i lt = λ j. record { columns = system.columns; rows = sym (take_more system.rows i (record { coeffs = []; constant = pos 0 }) lt) j }
+-- the rows of the system, over its columns alone
+pub all_rows : (system : LinearSystem) (columns : ℕ) (rows : List Row) (d : Contents) → columns ≡ system.columns → map linear_row rows ≡ system.rows → IsDictionary (with_rows (columns_alone columns) (map linear_row rows)) d → IsDictionary system d
+all_rows system columns rows d count are = subst (λ s. IsDictionary s d) (λ j. record { columns = count j; rows = are j })
 
--- all rows
-pub all_rows : (system : LinearSystem) (n : ℕ) → length system.rows ≤ n → first_rows system n ≡ system
-all_rows system n le = λ j. record { columns = system.columns; rows = take_all n system.rows le j }
+-- rows behind those of a system are as well formed as the whole
+pub further_well_formed : (system : LinearSystem) (columns : ℕ) (further : List Row) → columns ≡ system.columns → IsWellFormed (with_rows system (map linear_row further)) → IsWellFormed (linear_system columns further)
+further_well_formed system columns further count well = subst (λ n. IsWellFormed (linear_system n further)) (sym count) (record {
+  few = (let e = size in let f = well.few in omega arith);
+  one_each = λ i lt. subst (λ (r : LinearRow). length r.coeffs ≡ system.columns) (behind i) (well.one_each (length system.rows + i) (past i lt));
+  coeffs = λ i j lt less. subst (λ (r : LinearRow). InRange (number_at r.coeffs j)) (behind i) (well.coeffs (length system.rows + i) j (past i lt) less);
+  constants = λ i lt. subst (λ (r : LinearRow). InRange r.constant) (behind i) (well.constants (length system.rows + i) (past i lt));
+})
+  where
+    size : length (system.rows ++ map linear_row further) ≡ length system.rows + length (map linear_row further)
+    size = length-append system.rows (map linear_row further)
 
-module _ (system : LinearSystem) (well : IsWellFormed system) (rows : List Row) (i : ℕ) (item : Row) (are : map linear_row rows ≡ system.rows) (lt : i < length rows) (at : item ≡ slice_index_or rows i item) where
-  -- the row as the code hands it on
-  pub row_pushed : with_row (first_rows system i) item.coeffs.items (cast_signed w128 (cast_unsigned w128 item.constant)) ≡ first_rows system (i + 1)
-  row_pushed = ap (with_row (first_rows system i) item.coeffs.items) (back item.constant (constant_in_range system well rows i item are lt at)) ∙ ap (λ (r : LinearRow). with_row (first_rows system i) r.coeffs r.constant) (item_is system rows i item are lt at) ∙ row_added system i (below_rows system rows i are lt)
+    past : (i : ℕ) → i < length (map linear_row further) → length system.rows + i < length (system.rows ++ map linear_row further)
+    past i lt = omega (arith, size)
+
+    behind : (i : ℕ) → row_at (with_rows system (map linear_row further)) (length system.rows + i) ≡ row_at (linear_system system.columns further) i
+    behind i = get_or-append_right system.rows (map linear_row further) (length system.rows) (length system.rows + i) (record { coeffs = []; constant = pos 0 }) refl (omega arith)
+        ∙ ap (λ k. slice_index_or (map linear_row further) k (record { coeffs = []; constant = pos 0 })) (omega arith)

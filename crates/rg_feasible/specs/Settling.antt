@@ -1,7 +1,7 @@
 -- What a settled dictionary says of its system.
-use Rattle.std.specs.Prelude.{◌≡◌, ℕ, ◌+◌, List, drop, Some, ◌==◌, if◌then◌else◌, ℤ, neg_ℤ}
+use Rattle.std.specs.Prelude.{◌≡◌, ℕ, ◌+◌, List, ◌++◌, drop, Some, ◌==◌, if◌then◌else◌, ℤ, neg_ℤ}
 use Rattle.rg_integers.specs.Sum.{number_at}
-use Rattle.rg_linear.specs.System.{LinearSystem, IsPoint, MeetsRows}
+use Rattle.rg_linear.specs.System.{LinearSystem, LinearRow, IsPoint, MeetsRows}
 use Rattle.rg_linear.specs.Dictionary.{Relation, numbers_from}
 use Rattle.rg_linear.specs.Descent.{WideAt, Outcome.point, Outcome.refuted, Outcome.wide, DescentFromStart, IsAtZero}
 use Rattle.rg_linear.specs.Table.{number_beside}
@@ -10,6 +10,10 @@ use Rattle.rg_feasible.specs.declared.settled.Settled.{Settled}
 use Rattle.rg_feasible.specs.declared.settled.Settled.TheVariants.{Point, Refuted, Wide}
 use Rattle.rg_feasible.specs.declared.settled.PivotWide.{PivotWide}
 use Rattle.rg_feasible.specs.View.{DescentState}
+
+-- the system with these rows behind its own
+abbrev pub with_rows : LinearSystem → List LinearRow → LinearSystem
+with_rows system rows = record { columns = system.columns; rows = system.rows ++ rows }
 
 -- the dictionary of the system
 abbrev pub IsDictionaryOf : LinearSystem → DescentState → Type 0

@@ -1,18 +1,19 @@
 //! The dictionary of a system, and the descent on it.
 
-ghost use Rattle.std.specs.Prelude.{◌≡◌, ◌↔◌, ℕ, ◌+◌, ◌<◌, ℤ, pos, ◌≤ℤ◌, length, Contains, slice_index, IfOk, IfSome, IfNone};
+ghost use Rattle.std.specs.Prelude.{◌≡◌, ℕ, ◌+◌, ◌^◌, ◌<◌, ◌≤◌, ℤ, pos, ◌≤ℤ◌, length, map, Contains, slice_index, IsOk, IfOk, IfSome, IfNone, OnOk, OnErr};
 ghost use Rattle.rg_linear.specs.System.{LinearSystem, AreFarkasMultipliers};
 ghost use Rattle.rg_linear.specs.Dictionary.{numbers_from, IsFree};
-ghost use Rattle.rg_dictionary.specs.Contents.{IsDictionary, SameShape};
+ghost use Rattle.rg_linear.specs.View.{linear_row, linear_system, IsWellFormed};
+ghost use Rattle.rg_dictionary.specs.Contents.{IsDictionary, columns_alone, SameShape};
 ghost use Rattle.rg_fraction.specs.Fractions.{IsValue};
 ghost use Rattle.rg_feasible.specs.declared.settled.Settled.TheVariants as ends;
-ghost use Rattle.rg_feasible.specs.Settling.{IsDictionaryOf, IsWhole, IsFresh, IsOutcome, IsLeftBy, IsBasicPoint, IsFeasibleAt, IsRefutation, multiplier_with};
+ghost use Rattle.rg_feasible.specs.Settling.{with_rows, IsDictionaryOf, IsWhole, IsFresh, IsOutcome, IsLeftBy, IsBasicPoint, IsFeasibleAt, IsRefutation, multiplier_with};
 
 use crate::descent::descend;
 use crate::settled::Settled;
 use rg_dictionary::Dictionary as Table;
 use rg_fraction::Fraction;
-use rg_linear::System;
+use rg_linear::{Row, System};
 use rg_memory::NoMemory;
 use std::alloc::{AllocError, Global};
 use std::marker::Model;
@@ -47,13 +48,46 @@ impl Dictionary {
         ensures dictionary { IfOk result (IsDictionaryOf system.now) }
         ensures fresh { IfOk result IsFresh }
     {
-        let table = filled(alloc, system)?;
-        let stack = Vec::with_capacity(alloc, system.columns() as usize + 1)?;
-        Ok(Dictionary {
-            table,
-            stack,
-            failing: None,
-        })
+        let rows = system.rows();
+        let mut dictionary = without_rows(alloc, system.columns(), rows.len() as u32)?;
+        add_rows(&mut dictionary.table, rows);
+        Ok(dictionary)
+    }
+
+    /// Makes it the dictionary of the system with these rows behind its own, over its columns, as `new` does. It takes
+    /// memory only where it never had so many rows, or has another number of columns. `NoMemory` where there is
+    /// none; then it is as before.
+    pub fn renew(&mut self, alloc: Global, system: &System, further: &[Row]) -> Result<(), NoMemory>
+        requires { IsWellFormed (with_rows system.now (map linear_row further.now)) }
+        ensures dictionary { OnOk result (IsDictionaryOf (with_rows system.now (map linear_row further.now)) self.new) }
+        ensures fresh { OnOk result (IsFresh self.new) }
+        ensures succeeds { self.old.table.columns ≡ system.now.columns → length system.now.rows + length further.now ≤ self.old.table.rows + self.old.table.room → IsOk result }
+        ensures as_before { OnErr result (self.new ≡ self.old) }
+    {
+        let rows = system.rows();
+        let count = rows.len() + further.len();
+        self.restart(alloc, system.columns(), count as u32)?;
+        add_rows(&mut self.table, rows);
+        add_rows(&mut self.table, further);
+        Ok(())
+    }
+
+    // Takes all rows away, and makes room for so many over so many columns.
+    fn restart(&mut self, alloc: Global, columns: u32, rows: u32) -> Result<(), AllocError>
+        requires { columns + rows < 2 ^ 32 }
+        ensures system { OnOk result (IsDictionaryOf (columns_alone columns) self.new) }
+        ensures members { OnOk result (self.new.table.members ≡ numbers_from 0 columns) }
+        ensures room { OnOk result (rows ≤ self.new.table.room) }
+        ensures succeeds { self.old.table.columns ≡ columns → rows ≤ self.old.table.rows + self.old.table.room → IsOk result }
+        ensures as_before { OnErr result (self.new ≡ self.old) }
+    {
+        if self.table.columns() == columns {
+            self.table.restart(rows)?;
+            self.failing = None;
+        } else {
+            *self = without_rows(alloc, columns, rows)?;
+        }
+        Ok(())
     }
 
     /// Makes the descent, once. Rows are taken in order. One that fails is exchanged with the least variable of the
@@ -124,17 +158,36 @@ impl Dictionary {
     }
 }
 
-// The rows of the system as a table over its columns.
-fn filled(alloc: Global, system: &System) -> Result<Table, AllocError>
-    ensures dictionary { IfOk result (IsDictionary system.now) }
-    ensures start { IfOk result (λ d. d.members ≡ numbers_from 0 d.columns) }
+// The dictionary of so many columns without a row. It has room for so many rows.
+fn without_rows(alloc: Global, columns: u32, rows: u32) -> Result<Dictionary, AllocError>
+    requires { columns + rows < 2 ^ 32 }
+    ensures system { IfOk result (IsDictionaryOf (columns_alone columns)) }
+    ensures members { IfOk result (λ d. d.table.members ≡ numbers_from 0 columns) }
+    ensures room { IfOk result (λ d. d.table.room ≡ rows) }
 {
-    let rows = system.rows();
-    let mut table = Table::with_columns(alloc, system.columns(), rows.len() as u32)?;
+    let table = Table::with_columns(alloc, columns, rows)?;
+    let stack = Vec::with_capacity(alloc, columns as usize + 1)?;
+    Ok(Dictionary {
+        table,
+        stack,
+        failing: None,
+    })
+}
+
+// Adds rows behind those of the table, which is over its columns.
+fn add_rows(table: &mut Table, rows: &[Row])
+    requires start { table.old.members ≡ numbers_from 0 table.old.columns }
+    requires room { length rows.now ≤ table.old.room }
+    requires well_formed { IsWellFormed (linear_system table.old.columns rows.now) }
+    ensures system { (system : LinearSystem) → IsDictionary system table.old → IsDictionary (with_rows system (map linear_row rows.now)) table.new }
+    ensures members { table.new.members ≡ table.old.members }
+    ensures columns { table.new.columns ≡ table.old.columns }
+    ensures rows { table.new.rows ≡ table.old.rows + length rows.now }
+    ensures room { table.new.room + length rows.now ≡ table.old.room }
+{
     for row in rows {
         table.push_row(&row.coeffs, row.constant);
     }
-    Ok(table)
 }
 
 // The place of the variable among the members.

@@ -39,7 +39,7 @@ pub index-last : {A : Type 0} (xs : List A) (y d : A) → slice_index_or (xs ++ 
 index-last [] y d = refl
 index-last (x ∷ xs) y d = index-last xs y d
 
-index-neg : (xs : List ℤ) (j : ℕ) → slice_index_or (map neg_ℤ xs) j (pos 0) ≡ neg_ℤ (slice_index_or xs j (pos 0))
+pub index-neg : (xs : List ℤ) (j : ℕ) → slice_index_or (map neg_ℤ xs) j (pos 0) ≡ neg_ℤ (slice_index_or xs j (pos 0))
 index-neg [] j = refl
 index-neg (x ∷ xs) zero = refl
 index-neg (x ∷ xs) (suc j) = index-neg xs j

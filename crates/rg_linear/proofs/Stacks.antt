@@ -46,7 +46,7 @@ step_end system members i le = last (after_last le)
 
 -- ---- the measure
 
-power_positive : (n : ℕ) → 0 < 3 ^ n
+pub power_positive : (n : ℕ) → 0 < 3 ^ n
 power_positive zero = omega arith
 power_positive (suc n) = let h = power_positive n in let e = power-suc n in omega arith
   where
@@ -66,7 +66,7 @@ power-le a (suc k) = subst (λ n. 3 ^ a ≤ 3 ^ n) (flip k a) (let h = power-le 
     flip : (k a : ℕ) → suc (k + a) ≡ suc k + a
     flip k a = omega arith
 
-power-less : (i r : ℕ) → i < r → 3 * 3 ^ i ≤ 3 ^ r
+pub power-less : (i r : ℕ) → i < r → 3 * 3 ^ i ≤ 3 ^ r
 power-less i r lt = subst (λ n. n ≤ 3 ^ r) (power-next i) (subst (λ n. 3 ^ suc i ≤ 3 ^ n) (sum_is (suc i) r lt) (power-le (suc i) (r - suc i)))
   where
     sum_is : (a r : ℕ) → a ≤ r → r - a + a ≡ r

@@ -3,7 +3,7 @@ use Rattle.std.specs.Prelude.{pos}
 use Rattle.std.proofs.lemmas.Bool.{false≢true}
 use Rattle.rg_integers.specs.Sum.{number_at}
 use Rattle.rg_dictionary.specs.Renewal.{row_at, RowInRange, FirstOfRow, IsExchangedRow, RowsExchanged, IsKept}
-use Rattle.rg_dictionary.proofs.TableRows.{part_is, length-part, in_range-put, in_range-part, row_other, rows_skipped, rows_more, first_of_rows}
+use Rattle.rg_dictionary.proofs.TableRows.{row_inside, part_is, length-part, in_range-put, in_range-part, row_other, rows_skipped, rows_more, first_of_rows}
 use Rattle.rg_dictionary.proofs.table.exchange_rows.Goals as goal
 use Rattle.rg_dictionary.proofs.table.exchange_rows.Goals.{then-w-pivot+then-not-is_member+in-Ok, else-w-pivot, else-w-pivot-via-then-w-pivot+else-not-is_member, else-w-pivot-via-else-w-pivot}
 
@@ -54,3 +54,6 @@ loop-w-preserved c = elim c.if-w-pivot.branch [
         left = λ v le. subst (λ t. row_at (length c.args.pivot_row.now) t v ≡ row_at (length c.args.pivot_row.now) c.args.table.now v) (sym w.table-is) (c.loop-w.invariant.left v (omega arith));
       })
 ]
+
+pub slice_bounds-exchange_row-end : goal.slice_bounds-exchange_row-end
+slice_bounds-exchange_row-end c = row_inside c.loop-w.table (length c.args.pivot_row.now) c.args.variables c.loop-w.w (c.loop-w.invariant.rows.same_length ∙ c.requires.size) c.loop-w-test.true

@@ -1,5 +1,5 @@
 use Rattle.rg_dictionary.specs.Renewal.{RowInRange, RenewsBetween}
-use Rattle.rg_dictionary.proofs.row.renew_between.Given as goal
+use Rattle.rg_dictionary.proofs.row.renew_short.Given as goal
 
 abbrev pub invariant-loop-n : goal.invariant-loop-n
 invariant-loop-n l = record {

@@ -7,7 +7,7 @@ use Rattle.rg_integers.specs.Sum.{number_at}
 use Rattle.rg_integers.proofs.Casts.{back}
 use Rattle.rg_fraction.specs.Terms.{FitsTerm}
 use Rattle.rg_dictionary.proofs.Writing.{in_range-set, renews_more}
-use Rattle.rg_dictionary.proofs.row.renew_between.Goals as goal
+use Rattle.rg_dictionary.proofs.row.renew_each.Goals as goal
 
 pub loop-n-preserved : goal.loop-n-preserved
 loop-n-preserved c =
