@@ -15,4 +15,4 @@ mod texts;
 pub use laws::written_is_accepted;
 pub use rg_separate::{Stage, WideAt};
 pub use run_whole::run;
-pub use status::{Fault, FileFault, Status, Unbuilt, Usage, WideCause};
+pub use status::{Fault, FileFault, Status, Usage, WideCause};
