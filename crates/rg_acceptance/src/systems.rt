@@ -1,7 +1,7 @@
 //! Systems and the nets that they get.
 use crate::harness::{NoRoom, synthesize};
-use crate::worked::{ABA, CHOICE, SIDE};
-use rg_synth::{Status, Unbuilt};
+use crate::worked::{ABA, CHOICE, OF_RING_PLAIN, OF_RING_SAFE, RING, SIDE};
+use rg_synth::Status;
 
 // Two users and one lock.
 const LOCK: &str =
@@ -25,6 +25,11 @@ fn nets_are_written(rt: HostRuntime) -> Result<(), NoRoom> {
         ("pure", CHOICE),
         ("pure", LOCK),
         ("pure,output-nonbranching", STILL),
+        ("plain", SIDE),
+        ("safe", SIDE),
+        ("2-bounded", RING),
+        ("safe,plain,pure", STILL),
+        ("pure,plain,safe", LOCK),
     ] {
         let outcome = synthesize(&rt, rt.alloc(), class, text.as_bytes())?;
         assert_eq!(rt; outcome.status, Status::Done);
@@ -54,17 +59,32 @@ fn a_net_without_places(rt: HostRuntime) -> Result<(), NoRoom> {
 }
 
 #[test]
-fn what_is_not_built(rt: HostRuntime) -> Result<(), NoRoom> {
-    for class in [
-        "plain",
-        "safe",
-        "pure,3-bounded",
-        "plain,output-nonbranching",
+fn whole_tokens_and_weights(rt: HostRuntime) -> Result<(), NoRoom> {
+    for (class, text, status, want) in [
+        (
+            "plain",
+            SIDE,
+            Status::Done,
+            ".type PN\n.places\np0\n.transitions\na\nb\n.flows\na: {p0} -> {p0}\nb: {p0} -> {}\n.initial_marking {p0}\n",
+        ),
+        (
+            "2-bounded",
+            RING,
+            Status::Done,
+            ".type PN\n.places\np0\np1\n.transitions\na\nb\n.flows\na: {p1} -> {p0}\nb: {2*p0} -> {2*p1}\n.initial_marking {2*p1}\n",
+        ),
+        (
+            "safe,plain,pure",
+            STILL,
+            Status::Done,
+            ".type PN\n.places\np0\n.transitions\na\n.flows\na: {p0} -> {}\n.initial_marking {}\n",
+        ),
+        ("plain", RING, Status::No, OF_RING_PLAIN),
+        ("safe", RING, Status::No, OF_RING_SAFE),
     ] {
-        let outcome = synthesize(&rt, rt.alloc(), class, SIDE.as_bytes())?;
-        assert_eq!(rt; outcome.status, Status::Unbuilt(Unbuilt::Class));
-        assert_eq!(rt; outcome.status.number(), 8);
-        assert!(rt; outcome.out.bytes().is_empty());
+        let outcome = synthesize(&rt, rt.alloc(), class, text.as_bytes())?;
+        assert_eq!(rt; outcome.status, status);
+        assert!(rt; outcome.out.bytes() == want.as_bytes());
         assert!(rt; outcome.err.bytes().is_empty());
     }
     Ok(())

@@ -64,9 +64,12 @@ fn negative(z: i128) -> i128
     -z
 }
 
-// Goes to the sides above the next node, past a tree that is done: the innermost low side becomes the high one, and
-// the high sides within it end. Where all sides are high, none is left.
-pub(crate) fn turn(above: &mut Vec<(u32, i64, bool)>)
+/// Goes from the splits above the last node of a tree, or of a side, to those above the next node in preorder: the
+/// innermost low side becomes the high one, and the high sides within it end. Where all sides are high, none is left.
+///
+/// A split is the number of its form, the number at which it is split, and whether the way goes to its high side;
+/// the outermost comes first.
+pub fn turn(above: &mut Vec<(u32, i64, bool)>)
     ensures { sides_of above.new.items ≡ turned (sides_of above.old.items) }
 {
     let mut depth = above.len();

@@ -1,84 +1,195 @@
--- What a refuted descent gives: the relation of the row that fails, what is shown of it, and the case of a leaf.
-use Rattle.std.proofs.Common.{◌≡◌, ℕ, zero, suc, List, [], ◌∷◌, length, map, All, Err, refl, sym, ap, subst, arith}
-use Rattle.rg_theory.specs.System.{System}
+-- The leaves of a case that is refuted, and what is shown where one passes.
+use Rattle.std.proofs.Common.{rules, ◌≡◌, ℕ, zero, suc, ◌+◌, ◌^◌, ◌<◌, ◌≤◌, Bool, true, false, is_some, if◌then◌else◌, List, [], ◌∷◌, map, length, get_or, All, Option, Some, None, Ok, Err, refl, sym, ap, subst, ◌∙◌, arith}
+use Rattle.std.specs.Prelude.{ℤ, pos, negsuc, nat_abs, ◌≤ℤ◌, slice_index_or, FitsSigned}
+use Rattle.std.specs.Int.{w64}
+use Rattle.std.proofs.lemmas.Int.{ints}
+use Rattle.std.proofs.lemmas.List.{length-map, length-append, get_or-map}
+use Rattle.std.proofs.lemmas.List.Elements.{All-nil, All-cons, All-map, All-weaker}
+use Rattle.rg_theory.specs.declared.Arc.{Arc}
+use Rattle.rg_theory.specs.System.{System, states, labels}
 use Rattle.rg_theory.specs.declared.Class.{Class}
 use Rattle.rg_theory.specs.declared.Problem.{Problem}
-use Rattle.rg_refuting.specs.Row.{RowStands, row_expression}
-use Rattle.rg_refuting.specs.Refutes.{LeafRefutes, TreeRefutes}
+use Rattle.rg_refuting.specs.Row.{Form as SplitForm, Form.on_tokens, Form.on_effect, Side, RowStands, row_expression}
+use Rattle.rg_refuting.specs.Refutes.{LeafRefutes}
 use Rattle.rg_fraction.specs.declared.term.Wide.{Wide}
-use Rattle.rg_linear.specs.System.{AreFarkasMultipliers}
-use Rattle.rg_linear.specs.Descent.{Outcome.refuted, DescentFromStart}
-use Rattle.rg_linear.specs.Branching.{weights_from, SplitTree.leaf, BranchOutcome.tree, Branching}
-use Rattle.rg_feasible.specs.View.{DescentState}
-use Rattle.rg_feasible.specs.Settling.{multiplier_with}
-use Rattle.rg_feasible.proofs.Shown.{FailingRelation, failing_relation, multipliers_refute}
-use Rattle.rg_order_of_work.specs.Rewriting.{rows_of}
-use Rattle.rg_order_of_work.specs.Spreading.{spread_fold}
-use Rattle.rg_order_of_work.specs.Shown.{SpreadShown}
+use Rattle.rg_fraction.specs.declared.fraction.Fraction.{Fraction}
+use Rattle.rg_linear.specs.Branching.{SplitSide, side_row, Weight, SplitTree, BranchOutcome.tree, Branching, Form, form_at, weights_from, node_system}
+use Rattle.rg_linear.specs.Cycle.{CycleBasis}
+use Rattle.rg_order_of_work.specs.Fold.{each}
+use Rattle.rg_order_of_work.specs.Meaning.{IsCaseOver}
+use Rattle.rg_order_of_work.specs.Rewriting.{has_label, numbers_where, all_numbers, used_labels, split_forms, form_low, form_fold, rows_of}
+use Rattle.rg_order_of_work.specs.Spreading.{Share, share_fold, spread_fold}
+use Rattle.rg_order_of_work.specs.Shown.{SpreadShown, HasLeaf, named_side, named_sides}
 use Rattle.rg_cycles.specs.View.{cycle_of}
-use Rattle.rg_reasons.specs.declared.certificate.Case.{Case}
-use Rattle.rg_reasons.specs.declared.certificate.Node.{Node}
-use Rattle.rg_reasons.specs.Trees.{TreeNode, TreeNode.leaf_node, TreeNode.split_node, preorder, tree_of, node_of}
-use Rattle.rg_reasons.specs.Certificates.{IsNodeOf}
-use Rattle.rg_farkas.specs.Leaves.{IsLeafWith}
+use Rattle.rg_reasons.specs.declared.side.Side.{Side as SideOfCode}
+use Rattle.rg_reasons.specs.declared.certificate.RowName.{RowName as NameOfCode}
+use Rattle.rg_reasons.specs.Sums.{side_of}
+use Rattle.rg_reasons.specs.Trees as reasons
+use Rattle.rg_reasons.specs.Trees.{TreeNode.leaf_node as made_leaf, TreeNode.split_node as made_split, form_of}
+use Rattle.rg_reasons.specs.Certificates.{IsFormOf, IsNodeOf}
+use Rattle.rg_branch.specs.View.{TreeNode, TreeNode.leaf_node, TreeNode.split_node}
+use Rattle.rg_branch.specs.Asked.{IsSideOf}
 use Rattle.rg_rows.specs.declared.named_system.NamedSystem.{NamedSystem}
+use Rattle.rg_rows.specs.declared.named_form.NamedForm.{NamedForm}
+use Rattle.rg_rows.specs.Forms.{linear_form, split_of}
+use Rattle.rg_farkas.specs.Refuting.{SharesRefute}
+use Rattle.rg_farkas.specs.Leaves.{share_of, IsLeafWith, RefutesCase}
+use Rattle.rg_farkas.proofs.Multipliers.{node_names_stand, node_names_in_range, node_shares_refute}
 use Rattle.rg_separate.specs.declared.wide_at.Stage.TheVariants.{Spread}
 use Rattle.rg_separate.specs.declared.setting.CaseSetting.{CaseSetting}
-use Rattle.rg_separate.specs.Casing.{IsCase, IsNamedSystem, IsRefutedBy}
+use Rattle.rg_separate.specs.Casing.{IsCase, IsNamedSystem, forms_in, AreRefuting, VisitStands, IsMadeOf, SharesFold, LeafPasses}
 use Rattle.rg_separate.specs.Passing.{passed_at}
-use Rattle.rg_separate.specs.Deciding.{RefutesCase}
-use Rattle.rg_separate.proofs.Branches.{tree_alone, case_formless}
+use Rattle.rg_separate.proofs.Factors.{weights_are, weights_few}
+use Rattle.rg_separate.proofs.PlaceOfPoint.{asked, case_over}
+use Rattle.rg_separate.proofs.Walking.{IsWalk, walk_leaf}
 
--- the multipliers of a refuted descent refute the system of the case
-pub farkas : (c : CaseSetting) (named : NamedSystem) (d : DescentState) (i : ℕ) → (system : IsNamedSystem c named) → IsRefutedBy named.system d i → AreFarkasMultipliers (rows_of system.case) (multiplier_with d.table i)
-farkas c named d i system refuted_by =
-    let (fixed, outcome) = refuted_by.outcome in
-    subst (λ s. AreFarkasMultipliers s (multiplier_with d.table i)) system.shows.system (multipliers_refute named.system d.table fixed i refuted_by.dictionary outcome)
+-- ---- the forms of a class are of the system
 
--- ---- what is shown where a share or the leaf passes
+numbers_below : (test : ℕ → Bool) (a n total : ℕ) → a + n ≤ total → All (λ q. q < total) (numbers_where test a n)
+numbers_below test a zero total le = All-nil (λ q. q < total)
+numbers_below test a (suc n) total le = go (test a) (numbers_below test (suc a) n total (omega arith))
+  where
+    go : (b : Bool) → All (λ q. q < total) (numbers_where test (suc a) n) → All (λ q. q < total) (if b then (a ∷ numbers_where test (suc a) n) else numbers_where test (suc a) n)
+    go true rest = All-cons (λ q. q < total) a _ (omega arith) rest
+    go false rest = rest
 
-pub spread_shown : (c : CaseSetting) (named : NamedSystem) (d : DescentState) (i : ℕ) (w : Wide) → IsCase c → (system : IsNamedSystem c named) → IsRefutedBy named.system d i → spread_fold c.setting.lts.now c.setting.tree.now.arcs (cycle_of c.setting.basis.now) c.setting.class c.problem c.number system.case [] [] (weights_from (multiplier_with d.table i) 0 (length (rows_of system.case).rows)) (Err w) → SpreadShown c.setting.lts.now c.setting.class (passed_at Spread c w)
-spread_shown c named d i w is system refuted_by passes =
-    let (fixed, outcome) = refuted_by.outcome in
-    let relation = subst (λ s. FailingRelation s d.table i) system.shows.system (failing_relation named.system d.table fixed i refuted_by.dictionary outcome) in
-    let ends = subst (λ s. DescentFromStart s (refuted d.table.members i fixed)) system.shows.system outcome in
-    let weights = weights_from (multiplier_with d.table i) 0 (length (rows_of system.case).rows) in
-    record {
-      case = system.case;
-      of_case = record {
-        arcs = c.setting.tree.now.arcs;
-        basis = cycle_of c.setting.basis.now;
-        problem = c.problem;
-        is_tree = is.setting.tree.tree;
-        is_basis = is.setting.basis;
-        stands = record { problem_is = refl; has = is.has; live = is.live; case_below = is.below };
-        is_case = system.made;
-      };
-      refuting = leaf weights;
-      sides = [];
-      weights = weights;
-      refutes = subst (λ m. Branching (rows_of system.case) system.case.forms (tree (leaf (weights_from m 0 (length (rows_of system.case).rows))))) (sym relation.multipliers)
-          (tree_alone (rows_of system.case) system.case.forms d.table.members fixed i relation.k (case_formless c.setting.lts.now c.setting.tree.now.arcs (cycle_of c.setting.basis.now) c.setting.class c.problem c.number system.case is.setting.class system.made) ends relation.row);
-      has_leaf = (refl, refl);
-      above_is = refl;
-      nowhere = record { members = refl; pivot = refl; leaves = refl; target = refl; entry = refl };
-      passes = passes;
-    }
+pub forms_of_system : (lts : System) (class : Class) → All (IsFormOf lts) (split_forms lts class)
+forms_of_system lts class = go (is_some class.bound) class.plain
+  where
+    go : (b p : Bool) → All (IsFormOf lts) (if b then map on_tokens (all_numbers (states lts)) else (if p then map on_effect (used_labels lts) else []))
+    go true p = All-map (IsFormOf lts) on_tokens (all_numbers (states lts)) (numbers_below (λ q. true) 0 (states lts) (states lts) (omega arith))
+    go false true = All-map (IsFormOf lts) on_effect (used_labels lts) (numbers_below (λ t. has_label t lts.arcs) 0 (labels lts) (labels lts) (omega arith))
+    go false false = All-nil (IsFormOf lts)
 
--- ---- the case of one leaf
+pub sides_of_system : (lts : System) (class : Class) (sides : List SplitSide) → All (λ side. side.form < length (split_forms lts class)) sides → All (λ s. IsFormOf lts s.form) (named_sides lts class sides)
+sides_of_system lts class sides all =
+    All-map (λ (s : Side). IsFormOf lts s.form) (named_side lts class) sides
+    (All-weaker (λ (side : SplitSide). side.form < length (split_forms lts class)) (λ (side : SplitSide). IsFormOf lts (slice_index_or (split_forms lts class) side.form (on_tokens 0))) (λ side lt. forms_of_system lts class side.form (on_tokens 0) lt) sides all)
 
-one_node : (lts : System) (n : TreeNode) → IsNodeOf lts n → All (IsNodeOf lts) (n ∷ [])
-one_node lts n is zero d lt = is
-one_node lts n is (suc k) d lt = absurd (omega arith)
+-- ---- what is shown where a leaf passes
 
-abbrev RefutesNodes : System → Class → Problem → ℕ → List TreeNode → Type 0
-RefutesNodes lts class problem number nodes = (nodes ≡ preorder (tree_of nodes)) × TreeRefutes lts class problem number [] (tree_of nodes) × All (IsNodeOf lts) (preorder (tree_of nodes))
+pub spread_shown : (c : CaseSetting) (named : NamedSystem) (whole : SplitTree) (sides : List SplitSide) (weights : List Weight) (w : Wide) → IsCase c → (system : IsNamedSystem c named) → Branching named.system (forms_in named) (tree whole) → HasLeaf [] whole sides weights → spread_fold c.setting.lts.now c.setting.tree.now.arcs (cycle_of c.setting.basis.now) c.setting.class c.problem c.number system.case sides (named_sides c.setting.lts.now c.setting.class sides) weights (Err w) → SpreadShown c.setting.lts.now c.setting.class (passed_at Spread c (named_sides c.setting.lts.now c.setting.class sides) w)
+spread_shown c named whole sides weights w is system ends has passes = record {
+  case = system.case;
+  of_case = record {
+    arcs = c.setting.tree.now.arcs;
+    basis = cycle_of c.setting.basis.now;
+    problem = c.problem;
+    is_tree = is.setting.tree.tree;
+    is_basis = is.setting.basis;
+    stands = record { problem_is = refl; has = is.has; live = is.live; case_below = is.below };
+    is_case = system.made;
+  };
+  refuting = whole;
+  sides = sides;
+  weights = weights;
+  refutes = subst (λ s. Branching s system.case.forms (tree whole)) system.shows.system (subst (λ fs. Branching named.system fs (tree whole)) system.shows.forms ends);
+  has_leaf = has;
+  above_is = refl;
+  nowhere = record { members = refl; pivot = refl; leaves = refl; target = refl; entry = refl };
+  passes = passes;
+}
 
-leaf_refutes : (lts : System) (class : Class) (problem : Problem) (number : ℕ) (n : TreeNode) → IsLeafWith (LeafRefutes (RowStands lts class problem number []) (row_expression lts class problem number [])) n → IsNodeOf lts n → RefutesNodes lts class problem number (n ∷ [])
-leaf_refutes lts class problem number (leaf_node rows) refutes is = (refl, refutes, one_node lts (leaf_node rows) is)
-leaf_refutes lts class problem number (split_node form at) refutes is = absurd refutes
+pub leaf_shown : (c : CaseSetting) (named : NamedSystem) (nodes : List TreeNode) (i : ℕ) (above : List SplitSide) (made : List reasons.TreeNode) (n : TreeNode) (w : Wide) → IsCase c → IsNamedSystem c named → IsWalk named.system (forms_in named) c.setting.lts.now c.setting.class c.problem c.number nodes i above made → i < length nodes → get_or nodes i n ≡ n → LeafPasses c named above n w → SpreadShown c.setting.lts.now c.setting.class (passed_at Spread c (named_sides c.setting.lts.now c.setting.class above) w)
+leaf_shown c named nodes i above made (leaf_node weights) w is system walk lt here passes =
+    spread_shown c named walk.whole above weights w is system walk.outcome (walk_leaf named.system (forms_in named) c.setting.lts.now c.setting.class c.problem c.number nodes i above made walk weights lt here) (passes system.case system.shows)
+leaf_shown c named nodes i above made (split_node f u) w is system walk lt here passes = absurd passes
 
-pub refutes_case : (lts : System) (class : Class) (problem : Problem) (number : ℕ) (case : Case) (node : Node) → case.nodes.items ≡ node ∷ [] → IsLeafWith (LeafRefutes (RowStands lts class problem number []) (row_expression lts class problem number [])) (node_of node) → IsNodeOf lts (node_of node) → RefutesCase lts class problem number case
-refutes_case lts class problem number case node one refutes is =
-    let (same, all, range) = subst (RefutesNodes lts class problem number) (sym (ap (map node_of) one)) (leaf_refutes lts class problem number (node_of node) refutes is) in
-    record { whole = same; refutes = all; in_range = range }
+-- ---- what a leaf is asked for
+
+-- the node of the case, its weights and its sides
+refuting_case : (c : CaseSetting) (named : NamedSystem) (system : IsNamedSystem c named) (sides : List SplitSide) (weights : List Weight) → AreRefuting (node_system named.system (forms_in named) sides) weights → AreRefuting (node_system (rows_of system.case) system.case.forms sides) weights
+refuting_case c named system sides weights are = subst (λ s. AreRefuting (node_system s system.case.forms sides) weights) system.shows.system (subst (λ fs. AreRefuting (node_system named.system fs sides) weights) system.shows.forms are)
+
+pub leaf_asked : (c : CaseSetting) (named : NamedSystem) (sides : List SplitSide) (above : List SideOfCode) (weights : List Weight) (shares : List (NameOfCode × Fraction)) → IsCase c → IsNamedSystem c named → VisitStands named.system (forms_in named) (record { sides = sides; node = leaf_node weights }) → map side_of above ≡ named_sides c.setting.lts.now c.setting.class sides → length shares ≡ length weights → SharesFold named sides weights (Ok (map share_of shares)) → RefutesCase c.setting.lts.now c.setting.tree.now c.setting.basis.now c.setting.class c.problem c.number shares above
+leaf_asked c named sides above weights shares is system stands by_name count fold = record {
+  reachable = is.setting.reachable;
+  tree = is.setting.tree;
+  labels = is.setting.labels;
+  basis = is.setting.basis;
+  asked = asked lts problem is.has;
+  case = is.below;
+  sides = subst (All (λ (s : Side). IsFormOf lts s.form)) (sym by_name) (sides_of_system lts class sides (All-weaker (IsSideOf (forms_in named)) (λ (s : SplitSide). s.form < length (split_forms lts class)) (λ s at. (let e = forms_many in let l = at.form in omega arith)) sides stands.sides.each));
+  stand = subst (λ ss. All (λ (s : Share). RowStands lts class problem number ss s.name) (map share_of shares)) (sym by_name) (node_names_stand lts tree cycle class problem number system.case over sides within refuting.multiplier (map share_of shares) made);
+  names = node_names_in_range lts tree cycle class problem number system.case over sides within (let f = stands.few in omega arith) refuting.multiplier (map share_of shares) made;
+  refute = subst (λ ss. SharesRefute lts (row_expression lts class problem number ss) (map share_of shares)) (sym by_name) (node_shares_refute lts tree cycle class problem number system.case over sides within is.live refuting.multiplier refuting.refute (map share_of shares) made);
+  few_rows = (let w = ap length refuting.weights_are in let f = weights_few refuting.multiplier 0 (length (node_system (rows_of system.case) system.case.forms sides).rows) in let g = refuting.few in let e = count in omega arith);
+  few_sides = (let e = sym (length-map above side_of) ∙ ap length by_name ∙ length-map sides (named_side lts class) in let f = stands.few in omega arith);
+}
+  where
+    lts : System
+    lts = c.setting.lts.now
+
+    tree : List Arc
+    tree = c.setting.tree.now.arcs
+
+    cycle : CycleBasis
+    cycle = cycle_of c.setting.basis.now
+
+    class : Class
+    class = c.setting.class
+
+    problem : Problem
+    problem = c.problem
+
+    number : ℕ
+    number = c.number
+
+    over : IsCaseOver lts tree cycle class problem number system.case
+    over = case_over c named is system
+
+    refuting : AreRefuting (node_system (rows_of system.case) system.case.forms sides) weights
+    refuting = refuting_case c named system sides weights stands.node
+
+    forms_many : length (forms_in named) ≡ length (split_forms lts class)
+    forms_many = length-map named.forms.items linear_form ∙ sym (length-map named.forms.items split_of) ∙ ap length system.by_name
+
+    within : All (λ side. side.form < length system.case.forms) sides
+    within = All-weaker (IsSideOf (forms_in named)) (λ (s : SplitSide). s.form < length system.case.forms) (λ s at. subst (λ fs. s.form < length fs) system.shows.forms at.form) sides stands.sides.each
+
+    made : each (share_fold system.case sides) (weights_from refuting.multiplier 0 (length (node_system (rows_of system.case) system.case.forms sides).rows)) (Ok (map share_of shares))
+    made = subst (λ ws. each (share_fold system.case sides) ws (Ok (map share_of shares))) refuting.weights_are (fold system.case system.shows)
+
+-- ---- the leaf that is made
+
+pub leaf_made : (lts : System) (class : Class) (problem : Problem) (number : ℕ) (sides : List SplitSide) (above : List Side) (weights : List Weight) (n : reasons.TreeNode) → above ≡ named_sides lts class sides → IsLeafWith (LeafRefutes (RowStands lts class problem number above) (row_expression lts class problem number above)) n → IsMadeOf lts class problem number sides (leaf_node weights) n
+leaf_made lts class problem number sides above weights (made_leaf rows) e is = subst (λ ss. LeafRefutes (RowStands lts class problem number ss) (row_expression lts class problem number ss) rows) e is
+leaf_made lts class problem number sides above weights (made_split form at) e is = absurd is
+
+-- ---- the split that is made
+
+lows_of : (lts : System) (arcs : List Arc) (basis : CycleBasis) (class : Class) (splits : List SplitForm) (forms : List Form) → each (form_fold lts arcs basis class) splits (Ok forms) → All (λ f. negsuc 0 ≤ℤ f.low) forms
+lows_of lts arcs basis class [] forms e = subst (All (λ (f : Form). negsuc 0 ≤ℤ f.low)) (let s : [] ≡ forms = cc in s) (All-nil (λ (f : Form). negsuc 0 ≤ℤ f.low))
+lows_of lts arcs basis class (s ∷ splits) forms (x, (scaled, made, is), (more, rest, e)) =
+    subst (All (λ (f : Form). negsuc 0 ≤ℤ f.low)) (let t : (x ∷ more) ≡ forms = cc in t)
+    (All-cons (λ (f : Form). negsuc 0 ≤ℤ f.low) x more (subst (λ (z : ℤ). negsuc 0 ≤ℤ z) (let t : form_low class ≡ x.low = (let u = is in cc) in t) (low class.bound)) (lows_of lts arcs basis class splits more rest))
+  where
+    low : (o : Option ℕ) → negsuc 0 ≤ℤ (if is_some o then pos 0 else negsuc 0)
+    low None = omega (arith, ints)
+    low (Some k) = omega (arith, ints)
+
+pub split_fits : (c : CaseSetting) (named : NamedSystem) (f : ℕ) (u : ℤ) (d : NamedForm) → IsNamedSystem c named → f < length (forms_in named) → (form_at (forms_in named) f).low ≤ℤ u → FitsSigned w64 u → IsNodeOf c.setting.lts.now (made_split (form_of (get_or named.forms.items f d).form) u)
+split_fits c named f u d system lt le fits = (
+  subst (IsFormOf c.setting.lts.now) (ap (λ fs. get_or fs f (on_tokens 0)) (sym system.by_name) ∙ get_or-map split_of named.forms.items f d (on_tokens 0) within) (forms_of_system c.setting.lts.now c.setting.class f (on_tokens 0) (let e = sym (length-map named.forms.items split_of) ∙ ap length system.by_name in let w = within in omega arith)),
+  above u fits (let l = least in omega (arith, ints)),
+)
+  where
+    within : f < length named.forms.items
+    within = let e = length-map named.forms.items linear_form in omega arith
+
+    all : All (λ g. negsuc 0 ≤ℤ g.low) system.case.forms
+    all = let (rows, rows_made, (forms, forms_made, (columns, keeps, form_list))) = system.made in subst (All (λ (g : Form). negsuc 0 ≤ℤ g.low)) (sym form_list) (lows_of c.setting.lts.now c.setting.tree.now.arcs (cycle_of c.setting.basis.now) c.setting.class (split_forms c.setting.lts.now c.setting.class) forms forms_made)
+
+    least : negsuc 0 ≤ℤ (form_at (forms_in named) f).low
+    least = subst (All (λ (g : Form). negsuc 0 ≤ℤ g.low)) (sym system.shows.forms) all f (record { scale = pos 1; coeffs = []; low = pos 0; high = pos 0 }) lt
+
+    above : (z : ℤ) → FitsSigned w64 z → negsuc 0 ≤ℤ z → nat_abs z < 2 ^ 63
+    above (pos n) fits le = search rules
+    above (negsuc n) fits le = (let e : n ≡ 0 = omega (arith, ints) in omega arith)
+
+-- the weights of a leaf that stands: their rows are those of its node, and their multipliers are in range
+pub leaf_rows : (c : CaseSetting) (named : NamedSystem) (sides : List SplitSide) (weights : List Weight) → AreRefuting (node_system named.system (forms_in named) sides) weights → All (λ w. w.row < length named.system.rows + length sides) weights
+leaf_rows c named sides weights are = subst (All (λ (w : Weight). w.row < length named.system.rows + length sides)) (sym are.weights_are) (weights_are are.multiplier (λ (w : Weight). w.row < length named.system.rows + length sides) 0 (length (node_system named.system (forms_in named) sides).rows) (length named.system.rows + length sides) (let e = length-append named.system.rows (map (side_row (forms_in named)) sides) in let g = length-map sides (side_row (forms_in named)) in omega arith) (λ i lt. lt))
+
+pub leaf_not_negative : (c : CaseSetting) (named : NamedSystem) (sides : List SplitSide) (weights : List Weight) → AreRefuting (node_system named.system (forms_in named) sides) weights → All (λ w. pos 0 ≤ℤ w.multiplier) weights
+leaf_not_negative c named sides weights are = subst (All (λ (w : Weight). pos 0 ≤ℤ w.multiplier)) (sym are.weights_are) (weights_are are.multiplier (λ (w : Weight). pos 0 ≤ℤ w.multiplier) 0 (length (node_system named.system (forms_in named) sides).rows) (length (node_system named.system (forms_in named) sides).rows) (omega arith) are.refute.not_negative)

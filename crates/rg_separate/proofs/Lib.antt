@@ -1,6 +1,9 @@
 pub mod Order
 pub mod Items
-pub mod Branches
+pub mod Branched
+pub mod Siding
+pub mod Visits
+pub mod Walking
 pub mod DeadLabels
 pub mod ChordVectors
 pub mod Reasons
@@ -8,6 +11,6 @@ pub mod Passing
 pub mod PointValues
 pub mod PlaceOfPoint
 pub mod Leaves
-pub mod Shares
+pub mod Factors
 pub mod Trying
 pub mod Separating

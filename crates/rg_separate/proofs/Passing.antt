@@ -1,10 +1,10 @@
--- What a descent and a fold show where a number passes.
+-- What a branching and a fold show where a number passes.
 use Rattle.std.proofs.Common.{◌≡◌, ℕ, List, [], Err, refl, subst}
 use Rattle.std.specs.Prelude.{ℤ}
 use Rattle.rg_fraction.specs.declared.term.Wide.{Wide}
-use Rattle.rg_linear.specs.Descent.{Outcome.wide, DescentFromStart}
-use Rattle.rg_order_of_work.specs.Rewriting.{rows_of, system_fold}
-use Rattle.rg_order_of_work.specs.Shown.{CycleShown, RowShown, PivotShown}
+use Rattle.rg_linear.specs.Branching.{SplitSide, Branching, BranchOutcome.stopped}
+use Rattle.rg_order_of_work.specs.Rewriting.{system_fold}
+use Rattle.rg_order_of_work.specs.Shown.{CycleShown, RowShown, PivotShown, named_sides}
 use Rattle.rg_order_of_work.specs.Chords.{chord_vectors}
 use Rattle.rg_theory.specs.declared.Arc.{Arc}
 use Rattle.rg_theory.specs.System.{System, labels}
@@ -17,13 +17,12 @@ use Rattle.rg_feasible.specs.Settling.{wide_at}
 use Rattle.rg_rows.specs.declared.named_system.NamedSystem.{NamedSystem}
 use Rattle.rg_separate.specs.declared.wide_at.Stage.TheVariants.{Row}
 use Rattle.rg_separate.specs.declared.setting.CaseSetting.{CaseSetting}
-use Rattle.rg_separate.specs.Casing.{IsCase, IsNamedSystem}
+use Rattle.rg_separate.specs.Casing.{IsCase, IsNamedSystem, forms_in}
 use Rattle.rg_separate.specs.Passing.{passed_at, pivot_at, cycle_passed}
-use Rattle.rg_separate.proofs.Branches.{stopped_alone, case_formless}
 
 -- the term that an exchange of the case's descent shows
-pub pivot_shown : (c : CaseSetting) (named : NamedSystem) (members : List ℕ) (at : PivotWide) → IsCase c → IsNamedSystem c named → DescentFromStart named.system (wide (wide_at members at)) → PivotShown c.setting.lts.now c.setting.class (pivot_at c members at)
-pivot_shown c named members at is system stops = record {
+pub pivot_shown : (c : CaseSetting) (named : NamedSystem) (sides : List SplitSide) (members : List ℕ) (at : PivotWide) → IsCase c → IsNamedSystem c named → Branching named.system (forms_in named) (stopped sides (wide_at members at)) → PivotShown c.setting.lts.now c.setting.class (pivot_at c (named_sides c.setting.lts.now c.setting.class sides) members at)
+pivot_shown c named sides members at is system stops = record {
   case = system.case;
   of_case = record {
     arcs = c.setting.tree.now.arcs;
@@ -34,15 +33,15 @@ pivot_shown c named members at is system stops = record {
     stands = record { problem_is = refl; has = is.has; live = is.live; case_below = is.below };
     is_case = system.made;
   };
-  sides = [];
+  sides = sides;
   at = wide_at members at;
-  stops = stopped_alone (rows_of system.case) system.case.forms (wide_at members at) (case_formless c.setting.lts.now c.setting.tree.now.arcs (cycle_of c.setting.basis.now) c.setting.class c.problem c.number system.case is.setting.class system.made) (subst (λ s. DescentFromStart s (wide (wide_at members at))) system.shows.system stops);
+  stops = subst (λ s. Branching s system.case.forms (stopped sides (wide_at members at))) system.shows.system (subst (λ fs. Branching named.system fs (stopped sides (wide_at members at))) system.shows.forms stops);
   above_is = refl;
   stands = record { members = refl; pivot = refl; leaves = refl; target = refl; entry = refl; wide = refl };
 }
 
 -- the step that the rows of the case show
-pub row_shown : (c : CaseSetting) (w : Wide) → IsCase c → system_fold c.setting.lts.now c.setting.tree.now.arcs (cycle_of c.setting.basis.now) c.setting.class c.problem c.number (Err w) → RowShown c.setting.lts.now c.setting.class (passed_at Row c w)
+pub row_shown : (c : CaseSetting) (w : Wide) → IsCase c → system_fold c.setting.lts.now c.setting.tree.now.arcs (cycle_of c.setting.basis.now) c.setting.class c.problem c.number (Err w) → RowShown c.setting.lts.now c.setting.class (passed_at Row c [] w)
 row_shown c w is passes = record {
   arcs = c.setting.tree.now.arcs;
   basis = cycle_of c.setting.basis.now;

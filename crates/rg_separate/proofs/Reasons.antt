@@ -1,6 +1,5 @@
 -- A problem whose cases are all refuted is a reason.
 use Rattle.std.proofs.Common.{◌≡◌, ◌≢◌, ◌⊎◌, inl, inr, ℕ, zero, suc, ◌*◌, ◌<◌, ◌≤◌, Bool, true, false, if◌then◌else◌, List, [], ◌∷◌, length, map, get_or, All, Option, Some, None, option_map, slice_get, Vec, Global, refl, sym, subst, ◌∙◌, arith}
-use Rattle.std.specs.Option.{MatchOption}
 use Rattle.std.proofs.lemmas.Bool.{cases_eq}
 use Rattle.std.proofs.lemmas.Option.{slice_get-get_or, slice_get-map}
 use Rattle.std.proofs.lemmas.List.{length-map}
@@ -18,10 +17,6 @@ use Rattle.rg_reasons.specs.declared.certificate.Case.{Case}
 use Rattle.rg_reasons.specs.declared.certificate.Reason.TheVariants as reason
 use Rattle.rg_reasons.specs.Certificates.{case_tree, IsTreeOf}
 use Rattle.rg_separate.specs.Deciding.{RefutesCase, IsGoodReason}
-
--- a class without a bound
-unbounded : (class : Class) → class.bound ≡ None → HasBoundInRange class
-unbounded class none = subst (λ (b : Option ℕ). MatchOption b (Unit {0}) (λ k. (1 ≤ k) × (k ≤ 255))) (sym none) tt
 
 -- where there are two states, some label leads to the one that isn't initial
 first_label : (lts : System) → IsInRange lts → (ts : List ℕ) (s s' : ℕ) → Leads lts s ts s' → s ≢ s' → 0 < labels lts
@@ -57,8 +52,8 @@ each_case lts class problem cases all i t e =
     let (case, at, is) = tree_at cases i t e in
     subst (TreeRefutes lts class problem i []) is (all i case at).refutes
 
-pub refuted_all : (lts : System) (class : Class) (s s' : ℕ) (cases : Vec Case Global) → IsInRange lts → IsAllReachable lts → class.bound ≡ None → IsProblem lts (States s s') → length cases.items ≡ cases_of lts class (States s s') → ((i : ℕ) (case : Case) → slice_get cases.items i ≡ Some case → RefutesCase lts class (States s s') i case) → IsGoodReason lts class (reason.States s s' cases)
-refuted_all lts class s s' cases fine reachable none (less, lt) count all =
+pub refuted_all : (lts : System) (class : Class) (s s' : ℕ) (cases : Vec Case Global) → IsInRange lts → IsAllReachable lts → HasBoundInRange class → IsProblem lts (States s s') → length cases.items ≡ cases_of lts class (States s s') → ((i : ℕ) (case : Case) → slice_get cases.items i ≡ Some case → RefutesCase lts class (States s s') i case) → IsGoodReason lts class (reason.States s s' cases)
+refuted_all lts class s s' cases fine reachable bounded (less, lt) count all =
     let below : s < states lts = omega arith in
     record {
       holds = record {
@@ -71,7 +66,7 @@ refuted_all lts class s s' cases fine reachable none (less, lt) count all =
         whole = λ k d lt'. (all k (get_or cases.items k d) (slice_get-get_or cases.items k d lt')).whole;
         claim = record {
           reason = (below, lt, All-map (IsTreeOf lts) case_tree cases.items (λ k d lt'. (all k (get_or cases.items k d) (slice_get-get_or cases.items k d lt')).in_range));
-          bound = unbounded class none;
+          bound = bounded;
         };
       };
     }
@@ -80,15 +75,15 @@ one_tree : (lts : System) (class : Class) (problem : Problem) (case : Case) → 
 one_tree lts class problem case is zero t e = subst (TreeRefutes lts class problem 0 []) (let f : case_tree case ≡ t = cc in f) is.refutes
 one_tree lts class problem case is (suc i) t e = absurd cc
 
-pub refuted_one : (lts : System) (class : Class) (s t : ℕ) (case : Case) → class.bound ≡ None → IsProblem lts (Event s t) → RefutesCase lts class (Event s t) 0 case → IsGoodReason lts class (reason.Event s t case)
-refuted_one lts class s t case none asked is =
+pub refuted_one : (lts : System) (class : Class) (s t : ℕ) (case : Case) → HasBoundInRange class → IsProblem lts (Event s t) → RefutesCase lts class (Event s t) 0 case → IsGoodReason lts class (reason.Event s t case)
+refuted_one lts class s t case bounded asked is =
     record {
       holds = record { asked = asked; cases = refl; some = omega arith; each = one_tree lts class (Event s t) case is };
       in_range = record {
         whole = is.whole;
         claim = record {
           reason = (asked.0, asked.1, refl, one_in_range);
-          bound = unbounded class none;
+          bound = bounded;
         };
       };
     }

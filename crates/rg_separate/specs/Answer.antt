@@ -1,5 +1,5 @@
 -- What the answer says.
-use Rattle.std.specs.Prelude.{◌≡◌, ℕ, ◌<◌, ◌≤◌, List, map, false, None, All}
+use Rattle.std.specs.Prelude.{◌≡◌, ℕ, ◌<◌, ◌≤◌, List, map, All}
 use Rattle.rg_theory.specs.System.{System, states, labels}
 use Rattle.rg_theory.specs.Net.{Place}
 use Rattle.rg_theory.specs.declared.Class.{Class}
@@ -17,11 +17,6 @@ use Rattle.rg_separate.specs.View.{shown_of}
 use Rattle.rg_separate.specs.declared.wide_at.WideAt.{WideAt}
 use Rattle.rg_separate.specs.declared.separation.Separation.{Separation}
 use Rattle.rg_separate.specs.declared.separation.Separation.TheVariants.{Places, Unsolvable, TooWide}
-
--- a class neither plain nor bounded
-pub record IsUnbranched (class : Class) : Type 0 where
-  pub plain : class.plain ≡ false
-  pub bound : class.bound ≡ None
 
 -- the place is a region of the class with numbers of at most 2^127 - 1 at every state
 pub record IsNarrowRegion (lts : System) (class : Class) (p : Place) : Type 0 where

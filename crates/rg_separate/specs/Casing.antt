@@ -1,24 +1,27 @@
--- One case: its system, and what its descent leaves.
-use Rattle.std.specs.Prelude.{◌≡◌, ℕ, ◌-◌, ◌<◌, ◌≤◌, List, [], ◌++◌, map, length, Some, slice_index_or, ℤ, Result, Ok, Err}
+-- One case: its system, and what its branching leaves.
+use Rattle.std.specs.Prelude.{◌≡◌, ℕ, ◌^◌, ◌<◌, List, [], ◌∷◌, ◌++◌, map, length, slice_index_or, ℤ, ◌≤ℤ◌, Result, Ok, Err}
 use Rattle.rg_theory.specs.Problem.{IsProblem}
-use Rattle.rg_refuting.specs.Row.{cases_of}
+use Rattle.rg_theory.specs.System.{System}
+use Rattle.rg_theory.specs.declared.Class.{Class}
+use Rattle.rg_theory.specs.declared.Problem.{Problem}
+use Rattle.rg_refuting.specs.Row.{Form as SplitForm, Form.on_tokens, Side, RowStands, row_expression, cases_of}
+use Rattle.rg_refuting.specs.Refutes.{LeafRefutes}
 use Rattle.rg_fraction.specs.declared.term.Wide.{Wide}
-use Rattle.rg_fraction.specs.declared.fraction.Fraction.{Fraction}
-use Rattle.rg_fraction.specs.Fractions.{IsValue}
-use Rattle.rg_linear.specs.System.{LinearSystem}
-use Rattle.rg_linear.specs.Branching.{weights_from}
+use Rattle.rg_linear.specs.System.{LinearSystem, AreFarkasMultipliers}
+use Rattle.rg_linear.specs.Branching.{Form, form_at, SplitSide, Weight, SplitTree, SplitTree.leaf, SplitTree.split, low_side, high_side, weights_from, node_system}
 use Rattle.rg_order_of_work.specs.Fold.{each}
-use Rattle.rg_order_of_work.specs.Rewriting.{CaseSystem, rows_of, system_fold}
-use Rattle.rg_order_of_work.specs.Spreading.{Share, share_fold}
-use Rattle.rg_order_of_work.specs.Shown.{IsLive}
+use Rattle.rg_order_of_work.specs.Rewriting.{CaseSystem, split_forms, system_fold}
+use Rattle.rg_order_of_work.specs.Spreading.{Share, share_fold, spread_fold}
+use Rattle.rg_order_of_work.specs.Shown.{IsLive, named_sides}
 use Rattle.rg_cycles.specs.View.{cycle_of}
-use Rattle.rg_feasible.specs.View.{DescentState}
-use Rattle.rg_feasible.specs.Settling.{IsDictionaryOf, IsBasicPoint, IsFeasibleAt, IsOutcome, multiplier_with}
-use Rattle.rg_feasible.specs.declared.settled.Settled.TheVariants.{Point, Refuted}
+use Rattle.rg_branch.specs.View.{TreeNode, TreeNode.leaf_node, TreeNode.split_node}
+use Rattle.rg_branch.specs.Asked.{AreSidesOf}
+use Rattle.rg_branch.specs.Turning.{turned}
+use Rattle.rg_rows.specs.Forms.{linear_form, split_of, AreFormsOf}
 use Rattle.rg_rows.specs.Shown.{ShowsCase}
 use Rattle.rg_rows.specs.declared.named_system.NamedSystem.{NamedSystem}
-use Rattle.rg_reasons.specs.declared.certificate.RowName.{RowName}
-use Rattle.rg_farkas.specs.Leaves.{share_of}
+use Rattle.rg_reasons.specs.Trees as reasons
+use Rattle.rg_reasons.specs.Trees.{TreeNode.leaf_node as made_leaf, TreeNode.split_node as made_split}
 use Rattle.rg_separate.specs.declared.setting.CaseSetting.{CaseSetting}
 use Rattle.rg_separate.specs.Keeping.{IsSetting}
 
@@ -29,41 +32,71 @@ pub record IsCase (c : CaseSetting) : Type 0 where
   pub live : IsLive c.setting.lts.now c.problem
   pub below : c.number < cases_of c.setting.lts.now c.setting.class c.problem
 
--- the named system is that of the case
+-- the forms of the system over its columns
+abbrev pub forms_in : NamedSystem → List Form
+forms_in named = map linear_form named.forms.items
+
+-- the named system is that of the case, and a branching on its forms may be asked for
 pub record IsNamedSystem (c : CaseSetting) (named : NamedSystem) : Type 0 where
   pub case : CaseSystem
   pub made : system_fold c.setting.lts.now c.setting.tree.now.arcs (cycle_of c.setting.basis.now) c.setting.class c.problem c.number (Ok case)
   pub shows : ShowsCase named case
+  pub by_name : map split_of named.forms.items ≡ split_forms c.setting.lts.now c.setting.class
+  pub forms : AreFormsOf named.system named.forms.items
 
--- the descent has found a point
-pub record IsAtPoint (system : LinearSystem) (d : DescentState) : Type 0 where
-  pub dictionary : IsDictionaryOf system d
-  pub outcome : IsOutcome system d.table.members Point
-  pub feasible : IsFeasibleAt system d.table.members
+-- ---- the way through a tree of splits
 
--- the descent was refuted by row i
-pub record IsRefutedBy (system : LinearSystem) (d : DescentState) (i : ℕ) : Type 0 where
-  pub dictionary : IsDictionaryOf system d
-  pub outcome : IsOutcome system d.table.members (Refuted i)
-  pub failing : d.failing ≡ Some i
+-- a node of a tree of splits, below the sides that lead to it
+pub record Visit : Type 0 where
+  pub sides : List SplitSide
+  pub node : TreeNode
 
--- the fractions are the values of the columns at the point where every member is 0
-pub record AreColumnValues (system : LinearSystem) (d : DescentState) (point : List Fraction) : Type 0 where
-  pub one_each : length point ≡ system.columns
-  pub values : (j : ℕ) (f : Fraction) → j < length point → (scale : ℤ) (v : ℕ → ℤ) → IsBasicPoint system d.table.members scale v → IsValue (slice_index_or point j f) (v j) scale
+-- the nodes of a tree in preorder: each split, then its low side, then its high side
+abbrev pub visits : List SplitSide → SplitTree → List Visit
+visits above (leaf weights) = record { sides = above; node = leaf_node weights } ∷ []
+visits above (split f u low high) = record { sides = above; node = split_node f u } ∷ (visits (above ++ low_side f u ∷ []) low ++ visits (above ++ high_side f u ∷ []) high)
 
--- the named rows that a refutation by row i uses, each with its row's multiplier times its factor: the fold's result
-abbrev pub SharesFold : NamedSystem → DescentState → Result (List Share) Wide → Type 0
-SharesFold named d result = (case : CaseSystem) (i : ℕ) → ShowsCase named case → IsRefutedBy named.system d i → each (share_fold case []) (weights_from (multiplier_with d.table i) 0 (length (rows_of case).rows)) result
+-- the sides above the node behind this one
+abbrev pub next_sides : List SplitSide → TreeNode → List SplitSide
+next_sides above (leaf_node weights) = turned above
+next_sides above (split_node f u) = above ++ low_side f u ∷ []
 
--- the shares that are made, and behind them those of the result
-abbrev pub put_behind : List Share → Result (List Share) Wide → Result (List Share) Wide
-put_behind made (Ok rest) = Ok (made ++ rest)
-put_behind made (Err w) = Err w
+-- the weights are those of multipliers that refute the rows
+pub record AreRefuting (system : LinearSystem) (weights : List Weight) : Type 0 where
+  pub multiplier : ℕ → ℤ
+  pub weights_are : weights ≡ weights_from multiplier 0 (length system.rows)
+  pub refute : AreFarkasMultipliers system multiplier
+  pub few : length system.rows < 2 ^ 32
 
--- the shares of the rows before this one are made: put before those of the others they are all
-pub record SharesFrom (named : NamedSystem) (d : DescentState) (first : ℕ) (made : List (RowName × Fraction)) : Type 0 where
-  pub ahead : (case : CaseSystem) (i : ℕ) → ShowsCase named case → IsRefutedBy named.system d i → (result : Result (List Share) Wide)
-      → each (share_fold case []) (weights_from (multiplier_with d.table i) first (length (rows_of case).rows - first)) result
-      → each (share_fold case []) (weights_from (multiplier_with d.table i) 0 (length (rows_of case).rows)) (put_behind (map share_of made) result)
-  pub few : length made ≤ first
+-- a leaf refutes the rows of its node; a split is on one of the forms, at no less than its low bound
+abbrev pub NodeStands : LinearSystem → List Form → List SplitSide → TreeNode → Type 0
+NodeStands system forms above (leaf_node weights) = AreRefuting (node_system system forms above) weights
+NodeStands system forms above (split_node f u) = (f < length forms) × ((form_at forms f).low ≤ℤ u)
+
+-- and so few splits on the forms stand above it as the bounds allow
+pub record VisitStands (system : LinearSystem) (forms : List Form) (v : Visit) : Type 0 where
+  pub sides : AreSidesOf forms v.sides
+  pub few : length v.sides < 2 ^ 32
+  pub node : NodeStands system forms v.sides v.node
+
+-- ---- what is made of a node
+
+-- the sides with their forms by name
+abbrev pub sides_among : List SplitForm → List SplitSide → List Side
+sides_among forms sides = map (λ side. record { form = slice_index_or forms side.form (on_tokens 0); at = side.at; high = side.high }) sides
+
+-- the leaf refutes the case below the sides; the split has its form's name
+abbrev pub IsMadeOf : System → Class → Problem → ℕ → List SplitSide → TreeNode → reasons.TreeNode → Type 0
+IsMadeOf lts class problem number above (leaf_node weights) (made_leaf rows) = LeafRefutes (RowStands lts class problem number (named_sides lts class above)) (row_expression lts class problem number (named_sides lts class above)) rows
+IsMadeOf lts class problem number above (leaf_node weights) (made_split form at) = ⊥
+IsMadeOf lts class problem number above (split_node f u) (made_leaf rows) = ⊥
+IsMadeOf lts class problem number above (split_node f u) (made_split form at) = (form ≡ slice_index_or (split_forms lts class) f (on_tokens 0)) × (at ≡ u)
+
+-- the shares of the weights below the sides: the fold's result
+abbrev pub SharesFold : NamedSystem → List SplitSide → List Weight → Result (List Share) Wide → Type 0
+SharesFold named above weights result = (case : CaseSystem) → ShowsCase named case → each (share_fold case above) weights result
+
+-- the first step of a leaf out of range
+abbrev pub LeafPasses : CaseSetting → NamedSystem → List SplitSide → TreeNode → Wide → Type 0
+LeafPasses c named above (leaf_node weights) w = (case : CaseSystem) → ShowsCase named case → spread_fold c.setting.lts.now c.setting.tree.now.arcs (cycle_of c.setting.basis.now) c.setting.class c.problem c.number case above (named_sides c.setting.lts.now c.setting.class above) weights (Err w)
+LeafPasses c named above (split_node f u) w = ⊥

@@ -4,6 +4,7 @@ use Rattle.rg_theory.specs.System.{System, states, labels, IsInRange, IsAllReach
 use Rattle.rg_theory.specs.declared.Class.{Class}
 use Rattle.rg_theory.specs.declared.Problem.{Problem}
 use Rattle.rg_theory.specs.Problem.{IsProblem, ComesBefore}
+use Rattle.rg_theory.specs.ClassWords.{HasBoundInRange}
 use Rattle.rg_spanning.specs.Spanning.{IsTreeOf}
 use Rattle.rg_order_of_work.specs.Chords.{IsBasis}
 use Rattle.rg_order_of_work.specs.Shown.{ShownWide}
@@ -14,16 +15,16 @@ use Rattle.rg_separate.specs.declared.setting.Setting.{Setting}
 use Rattle.rg_separate.specs.declared.found.Found.{Found}
 use Rattle.rg_separate.specs.declared.found.Noted.{Noted}
 use Rattle.rg_separate.specs.View.{shown_of}
-use Rattle.rg_separate.specs.Answer.{IsUnbranched}
 
--- the tree is that of the system, all of whose states are reachable, and the basis is that of its chords
+-- the tree is that of the system, all of whose states are reachable, the basis is that of its chords, and the class's
+-- bound is in range
 pub record IsSetting (s : Setting) : Type 0 where
   pub in_range : IsInRange s.lts.now
   pub reachable : IsAllReachable s.lts.now
   pub tree : IsTreeOf s.lts.now s.tree.now
   pub labels : labels_of s.basis.now ≡ labels s.lts.now
   pub basis : IsBasis s.lts.now s.tree.now.arcs (cycle_of s.basis.now)
-  pub class : IsUnbranched s.class
+  pub bound : HasBoundInRange s.class
 
 -- the place has one number for each state and two for each label
 pub record IsOver (lts : System) (r : RegionPlace) : Type 0 where

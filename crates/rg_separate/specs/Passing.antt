@@ -1,5 +1,6 @@
 -- What is shown of a number that passes.
 use Rattle.std.specs.Prelude.{ℕ, List, [], None, Some}
+use Rattle.rg_refuting.specs.Row.{Side}
 use Rattle.rg_fraction.specs.declared.term.Wide.{Wide}
 use Rattle.rg_order_of_work.specs.Shown as shown
 use Rattle.rg_order_of_work.specs.Shown.{Shown}
@@ -9,13 +10,13 @@ use Rattle.rg_separate.specs.declared.setting.CaseSetting.{CaseSetting}
 use Rattle.rg_separate.specs.declared.wide_at.Stage.{Stage}
 use Rattle.rg_separate.specs.View.{stage_of}
 
--- the first step out of range in this stage of a case
-abbrev pub passed_at : Stage → CaseSetting → Wide → Shown
-passed_at stage c w = record {
+-- the first step out of range in this stage of a case, below these sides
+abbrev pub passed_at : Stage → CaseSetting → List Side → Wide → Shown
+passed_at stage c above w = record {
   stage = stage_of stage;
   problem = Some c.problem;
   case_number = c.number;
-  above = [];
+  above = above;
   members = [];
   pivot_variable = 0;
   leaves = 0;
@@ -39,13 +40,13 @@ cycle_passed w = record {
   wide = w.wide;
 }
 
--- the term of an exchange in the descent of a case, at this set
-abbrev pub pivot_at : CaseSetting → List ℕ → PivotWide → Shown
-pivot_at c members at = record {
+-- the term of an exchange in the descent of a node below these sides, at this set
+abbrev pub pivot_at : CaseSetting → List Side → List ℕ → PivotWide → Shown
+pivot_at c above members at = record {
   stage = shown.Stage.pivot;
   problem = Some c.problem;
   case_number = c.number;
-  above = [];
+  above = above;
   members = members;
   pivot_variable = at.pivot;
   leaves = at.leaves;

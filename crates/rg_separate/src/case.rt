@@ -1,6 +1,11 @@
 //! One case of a problem.
-ghost use Rattle.std.specs.Prelude.{◌≡◌, length, IfOk};
-ghost use Rattle.rg_separate.specs.Casing.{IsCase, IsNamedSystem};
+ghost use Rattle.std.specs.Prelude.{◌≡◌, map, IfOk};
+ghost use Rattle.rg_linear.specs.Branching.{form_at};
+ghost use Rattle.rg_reasons.specs.Sums.{side_of};
+ghost use Rattle.rg_branch.specs.View.{forms_of, sides_of};
+ghost use Rattle.rg_branch.specs.Asked.{CanBranch, AreSidesOf};
+ghost use Rattle.rg_rows.specs.Forms.{linear_form, split_of, AreFormsOf};
+ghost use Rattle.rg_separate.specs.Casing.{IsCase, IsNamedSystem, forms_in, sides_among};
 ghost use Rattle.rg_separate.specs.Deciding.{CaseTells};
 ghost use Rattle.rg_separate.specs.View.{shown_of};
 ghost use Rattle.rg_separate.specs.Passing.{passed_at, pivot_at};
@@ -8,12 +13,14 @@ ghost use Rattle.rg_separate.specs.Passing.{passed_at, pivot_at};
 use crate::placing::placed;
 use crate::refuting::refuted;
 use crate::setting::{CaseSetting, Setting};
+use crate::sides::named_sides;
 use crate::wide_at::{Stage, WideAt};
-use rg_feasible::{Dictionary, PivotWide, Settled};
+use rg_branch::{Bounded, BranchStop, Whole, solve_whole};
+use rg_feasible::PivotWide;
 use rg_fraction::{FoldStop, Wide};
 use rg_places::RegionPlace;
-use rg_reasons::Case;
-use rg_rows::{NamedSystem, system};
+use rg_reasons::{Case, Side};
+use rg_rows::{NamedForm, NamedSystem, system};
 use std::alloc::{AllocError, Global};
 
 // What a case comes to.
@@ -36,37 +43,78 @@ pub(crate) fn solve_case(alloc: Global, c: CaseSetting<'_>) -> Result<CaseAnswer
         class,
     } = c.setting;
     match system(alloc, lts, tree, basis, class, c.problem, c.number) {
-        Ok(named) => settled(alloc, c, &named),
-        Err(FoldStop::Wide(wide)) => Ok(CaseAnswer::Wide(passed(alloc, Stage::Row, c, wide))),
+        Ok(named) => branched(alloc, c, &named),
+        Err(FoldStop::Wide(wide)) => {
+            let above = Vec::new(alloc);
+            Ok(CaseAnswer::Wide(passed(alloc, Stage::Row, c, above, wide)))
+        }
         Err(FoldStop::NoMemory) => Err(AllocError),
     }
 }
 
-// What the descent on the case's system comes to.
-fn settled(alloc: Global, c: CaseSetting<'_>, named: &NamedSystem) -> Result<CaseAnswer, AllocError>
+// What the branching on the case's forms comes to.
+fn branched(
+    alloc: Global,
+    c: CaseSetting<'_>,
+    named: &NamedSystem,
+) -> Result<CaseAnswer, AllocError>
     requires case { IsCase c }
     requires system { IsNamedSystem c named.now }
     ensures { IfOk result (CaseTells c.entry.setting.lts.now c.entry.setting.class c.entry.problem c.entry.number) }
 {
-    let Ok(mut dictionary) = Dictionary::new(alloc, &named.system) else {
-        return Err(AllocError);
-    };
-    match dictionary.settle() {
-        Settled::Point => placed(alloc, c, named, &dictionary),
-        Settled::Refuted(_) => refuted(alloc, c, named, &dictionary),
-        Settled::Wide(at) => Ok(CaseAnswer::Wide(stopped(alloc, c, named, &dictionary, at)?)),
+    let forms = bounded(alloc, named)?;
+    match solve_whole(alloc, &named.system, &forms) {
+        Ok(Whole::Point(point, above)) => placed(alloc, c, named, &point, &above),
+        Ok(Whole::Tree(nodes)) => refuted(alloc, c, named, &nodes),
+        Err(
+            BranchStop::Wide {
+                above,
+                members,
+                wide,
+            },
+        ) => {
+            let above = named_sides(alloc, &named.forms, &above)?;
+            Ok(CaseAnswer::Wide(stopped(c, above, members, wide)))
+        }
+        Err(BranchStop::NoMemory) => Err(AllocError),
     }
 }
 
-// The first step of a fold that is out of range.
-pub(crate) fn passed(alloc: Global, stage: Stage, c: CaseSetting<'_>, wide: Wide) -> WideAt
-    ensures { shown_of result ≡ passed_at stage c.entry wide }
+// The forms as a branching takes them.
+fn bounded(alloc: Global, named: &NamedSystem) -> Result<Vec<Bounded>, AllocError>
+    requires { AreFormsOf named.now.system named.now.forms.items }
+    ensures forms { IfOk result (λ v. forms_of v.items ≡ forms_in named.now) }
+    ensures can { IfOk result (λ v. CanBranch named.now.system v.items) }
+{
+    let mut forms = Vec::new(alloc);
+    for form in &named.forms {
+        forms.push(Bounded {
+            scale: form.scale,
+            coeffs: form.coeffs.to_vec(alloc)?,
+            low: form.low,
+            high: form.high,
+            row: form.row,
+            times: form.times,
+        })?;
+    }
+    Ok(forms)
+}
+
+// The first step of a fold that is out of range, below these sides.
+pub(crate) fn passed(
+    alloc: Global,
+    stage: Stage,
+    c: CaseSetting<'_>,
+    above: Vec<Side>,
+    wide: Wide,
+) -> WideAt
+    ensures { shown_of result ≡ passed_at stage c.entry (map side_of above.items) wide }
 {
     WideAt {
         stage,
         problem: Some(c.problem),
         case: c.number,
-        above: Vec::new(alloc),
+        above,
         members: Vec::new(alloc),
         pivot: 0,
         leaves: 0,
@@ -76,39 +124,20 @@ pub(crate) fn passed(alloc: Global, stage: Stage, c: CaseSetting<'_>, wide: Wide
     }
 }
 
-// The term of an exchange that is out of range.
-fn stopped(
-    alloc: Global,
-    c: CaseSetting<'_>,
-    named: &NamedSystem,
-    dictionary: &Dictionary,
-    at: PivotWide,
-) -> Result<WideAt, AllocError>
-    requires { length dictionary.now.table.members ≡ named.now.system.columns }
-    ensures { IfOk result (λ w. shown_of w ≡ pivot_at c.entry dictionary.now.table.members at) }
+// The term of an exchange that is out of range, below these sides and at this set.
+fn stopped(c: CaseSetting<'_>, above: Vec<Side>, members: Vec<u32>, at: PivotWide) -> WideAt
+    ensures { shown_of result ≡ pivot_at c.entry (map side_of above.items) members.items at }
 {
-    Ok(WideAt {
+    WideAt {
         stage: Stage::Pivot,
         problem: Some(c.problem),
         case: c.number,
-        above: Vec::new(alloc),
-        members: members(alloc, named.system.columns(), dictionary)?,
+        above,
+        members,
         pivot: at.pivot,
         leaves: at.leaves,
         target: at.target,
         entry: at.entry,
         wide: at.wide,
-    })
-}
-
-// The set of the dictionary.
-fn members(alloc: Global, columns: u32, dictionary: &Dictionary) -> Result<Vec<u32>, AllocError>
-    requires { length dictionary.now.table.members ≡ columns }
-    ensures { IfOk result (λ v. v.items ≡ dictionary.now.table.members) }
-{
-    let mut members = Vec::new(alloc);
-    for i in 0..columns {
-        members.push(dictionary.member(i))?;
     }
-    Ok(members)
 }

@@ -11,6 +11,8 @@ mod problem;
 mod refuting;
 mod separation;
 mod setting;
+mod shares;
+mod sides;
 mod states;
 mod vectors;
 mod wide_at;

@@ -1,7 +1,8 @@
 //! One problem, by its cases.
-ghost use Rattle.std.specs.Prelude.{◌≡◌, ℕ, length, Some, None, unwrap_or, slice_get, IfOk};
+ghost use Rattle.std.specs.Prelude.{◌≡◌, ℕ, length, Some, unwrap_or, slice_get, IfOk};
 ghost use Rattle.rg_refuting.specs.Row.{cases_of};
 ghost use Rattle.rg_reasons.specs.declared.certificate.Case.{Case};
+ghost use Rattle.rg_theory.specs.ClassWords.{HasBoundInRange};
 ghost use Rattle.rg_theory.specs.System.{IsAllReachable};
 ghost use Rattle.rg_theory.specs.Problem.{IsProblem};
 ghost use Rattle.rg_order_of_work.specs.Shown.{IsLive};
@@ -77,7 +78,7 @@ impl Tried {
 
 // What the problem comes to where no case gives a place.
 fn without_place(lts: &Lts, class: Class, problem: Problem, tried: Tried) -> ProblemAnswer
-    requires bound { class.bound ≡ None }
+    requires bound { HasBoundInRange class }
     requires reachable { IsAllReachable lts.now }
     requires has { IsProblem lts.now problem }
     requires tried { AreTried lts.now class problem (cases_of lts.now class problem) tried }
@@ -92,7 +93,7 @@ fn without_place(lts: &Lts, class: Class, problem: Problem, tried: Tried) -> Pro
 
 // The reason that these trees give.
 fn reason(lts: &Lts, class: Class, problem: Problem, cases: Vec<Case>) -> Reason
-    requires bound { class.bound ≡ None }
+    requires bound { HasBoundInRange class }
     requires reachable { IsAllReachable lts.now }
     requires has { IsProblem lts.now problem }
     requires all { length cases.items ≡ cases_of lts.now class problem }

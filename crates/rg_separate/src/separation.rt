@@ -1,5 +1,6 @@
 //! The order of work.
 ghost use Rattle.std.specs.Prelude.{◌≡◌, ◌<◌, [], length, map, All, Any, IfOk, IfErr, OnOk, IfSome, IfNone};
+ghost use Rattle.rg_theory.specs.ClassWords.{HasBoundInRange};
 ghost use Rattle.rg_theory.specs.System.{IsAllReachable};
 ghost use Rattle.rg_theory.specs.declared.Problem.{Problem};
 ghost use Rattle.rg_theory.specs.Problem.{IsProblem};
@@ -10,7 +11,7 @@ ghost use Rattle.rg_separate.specs.View.{shown_of};
 ghost use Rattle.rg_separate.specs.Passing.{cycle_passed};
 ghost use Rattle.rg_separate.specs.Keeping.{IsSetting, IsFound, IsOver, IsSettled};
 ghost use Rattle.rg_separate.specs.Deciding.{EndingTells};
-ghost use Rattle.rg_separate.specs.Answer.{IsUnbranched, AreSeparating, IsGoodCertificate, IfPlaces, IfUnsolvable, IfTooWide, SeparationTells};
+ghost use Rattle.rg_separate.specs.Answer.{AreSeparating, IsGoodCertificate, IfPlaces, IfUnsolvable, IfTooWide, SeparationTells};
 
 use crate::events::all_events;
 use crate::found::{Ending, Found, Noted};
@@ -41,18 +42,18 @@ pub enum Separation {
 }
 
 /// Places of the class that together separate all separation problems of the system, each of whose states is
-/// reachable, in a class neither plain nor bounded (Badouel, Bernardinello and Darondeau, *Petri Net Synthesis*).
+/// reachable (Badouel, Bernardinello and Darondeau, *Petri Net Synthesis*).
 ///
 /// The cycle equations are solved first. Event problems are taken before state problems, each kind in order; one that
 /// a kept place separates is passed over, and that of a label without an arc has a place of its own. Of any other
-/// the cases are taken in order: the rows of the case, the descent on them, and the place of its point or the leaf of
-/// its multipliers. The first place is kept. A case in which a number passes is noted with its first such number, and
+/// the cases are taken in order: the rows and forms of the case, the branching on them, and the place of its point or
+/// the leaves of its tree. The first place is kept. A case in which a number passes is noted with its first such number, and
 /// the next one is taken. A problem whose cases are all refuted ends the work: `Unsolvable`. A problem without a
 /// place in which a number passes is noted, and the work goes on; at the end the first noted one that no kept place
 /// separates makes the answer `TooWide`, and without one the answer is `Places`. `NoMemory` where there is none.
 pub fn separate(alloc: Global, lts: &Lts, class: Class) -> Result<Separation, NoMemory>
     requires reachable { IsAllReachable lts.now }
-    requires class { IsUnbranched class }
+    requires bound { HasBoundInRange class }
     ensures places { IfOk result (λ s. IfPlaces s (λ places. AreSeparating lts.now class (map shown_place places))) }
     ensures unsolvable { IfOk result (λ s. IfUnsolvable s (IsGoodCertificate lts.now class)) }
     ensures too_wide { IfOk result (λ s. IfTooWide s (λ w. ShownWide lts.now class (shown_of w))) }

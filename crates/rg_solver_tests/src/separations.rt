@@ -1,5 +1,5 @@
 //! Whole separations.
-ghost use Rattle.rg_separate.specs.Answer.{IsUnbranched};
+ghost use Rattle.rg_theory.specs.ClassWords.{HasBoundInRange};
 
 use crate::systems::{CHOICE, NONBRANCHING, NONE, system};
 use rg_separate::{Separation, separate};
@@ -10,7 +10,7 @@ use std::test::Fail;
 
 // How many places there are, and `None` where a problem has no place.
 fn places(alloc: Global, text: &str, class: Class) -> Result<Option<usize>, Fail>
-    requires { IsUnbranched class }
+    requires { HasBoundInRange class }
 {
     let lts = system(alloc, text)?;
     let Ok(_) = Tree::grow(alloc, &lts) else {

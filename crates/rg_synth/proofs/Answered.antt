@@ -21,14 +21,13 @@ use Rattle.rg_synth.specs.Given.{IsFile, IsTooLong, IsSystemFile}
 use Rattle.rg_synth.specs.Texts.{file_line}
 use Rattle.rg_synth.specs.JudgedTexts.{cert_fault_text, defect_text, refused_line, HasName}
 use Rattle.rg_synth.specs.Judged.{no_text, no_proof}
-use Rattle.rg_synth.specs.Answers.{IsObstructed, IsWithinReach, IsShownFor, MayCome, Answers}
+use Rattle.rg_synth.specs.Answers.{IsObstructed, IsOpen, IsShownFor, MayCome, Answers}
 use Rattle.rg_synth.specs.Requests.{HasBounds, AnswersBytes, AnswersCertificate, AnswersSystem, RefusesSystem, AnswersAsked}
 use Rattle.rg_synth.specs.Run.{Run, Says, Ends, AsksFiles}
 use Rattle.rg_synth.specs.declared.answer.Answer.{Answer}
 use Rattle.rg_synth.specs.declared.answer.Stop.{Stop}
 use Rattle.rg_synth.specs.declared.status.Status.{Status}
-use Rattle.rg_synth.specs.declared.status.Status.TheVariants.{Done, No, Usage, File, ReadFault, WriteFault, NoMemory, TooWide, Unbuilt as NotBuilt}
-use Rattle.rg_synth.specs.declared.status.Unbuilt.TheVariants.{Class as OtherClass}
+use Rattle.rg_synth.specs.declared.status.Status.TheVariants.{Done, No, Usage, File, ReadFault, WriteFault, NoMemory, TooWide}
 use Rattle.rg_synth.specs.declared.status.WideCause.{WideCause}
 use Rattle.rg_synth.specs.declared.status.WideCause.TheVariants.{Synthesis}
 use Rattle.rg_synth.specs.declared.status.FileFault.{FileFault}
@@ -72,7 +71,6 @@ bytes_answered files cert lts bytes No out err file (none, (why, reason, line), 
     (record { bytes = bytes; file = file; none = none }, record { bytes = bytes; file = file; why = why; reason = reason; line = line }, nothing)
 bytes_answered files cert lts bytes (Usage usage) out err file is = absurd is
 bytes_answered files cert lts bytes (File fault) out err file is = absurd is
-bytes_answered files cert lts bytes (NotBuilt unbuilt) out err file is = absurd is
 bytes_answered files cert lts bytes (TooWide cause) out err file is = absurd is
 bytes_answered files cert lts bytes ReadFault out err file is = is
 bytes_answered files cert lts bytes WriteFault out err file is = is
@@ -128,7 +126,7 @@ refused_says words files asked status out err ask is =
     (inl (refl, record { asked = asked; ask = ask; is = is.is }), is.nothing, is.line)
 
 -- a certificate is due where there is an unreachable state or a fork, else it is an end of the search
-no_due : (words : List (List ℕ)) (files : Option Files) (class : Class) (file : List ℕ) (lts : System) → Ask words (net class file) → IsSystemFile files file lts → IsObstructed lts ⊎ IsWithinReach class lts → MayCome words files No
+no_due : (words : List (List ℕ)) (files : Option Files) (class : Class) (file : List ℕ) (lts : System) → Ask words (net class file) → IsSystemFile files file lts → IsObstructed lts ⊎ IsOpen lts → MayCome words files No
 no_due words files class file lts ask at (inl is) = inl (record { asked = net class file; ask = ask; lts = lts; file = at; fact = is })
 no_due words files class file lts ask at (inr is) = inr (record { asked = net class file; ask = ask; lts = lts; file = at; fact = is }, tt)
 
@@ -140,7 +138,6 @@ system_due : (words : List (List ℕ)) (files : Option Files) (asked : Asked) (l
 system_due words files (net class file) lts Done out err ask at is = inr (record { asked = net class file; ask = ask; lts = lts; file = at; fact = is.0 }, tt)
 system_due words files (net class file) lts No out err ask at is = no_due words files class file lts ask at is.0
 system_due words files (net class file) lts (TooWide cause) out err ask at is = wide_due words files class file lts cause ask at is.0
-system_due words files (net class file) lts (NotBuilt OtherClass) out err ask at is = inl (record { asked = net class file; ask = ask; lts = lts; file = at; fact = is.0 })
 system_due words files (net class file) lts (Usage usage) out err ask at is = absurd is
 system_due words files (net class file) lts (File fault) out err ask at is = absurd is
 system_due words files (net class file) lts ReadFault out err ask at is = absurd is
@@ -151,7 +148,6 @@ system_due words files (judgement file cert) lts No out err ask at is = inl (rec
 system_due words files (judgement file cert) lts (File fault) out err ask at is = inl (inr (record { asked = judgement file cert; ask = ask; lts = lts; file = at; fact = (is.0, is.1) }))
 system_due words files (judgement file cert) lts (Usage usage) out err ask at is = absurd is
 system_due words files (judgement file cert) lts (TooWide cause) out err ask at is = absurd is
-system_due words files (judgement file cert) lts (NotBuilt unbuilt) out err ask at is = absurd is
 system_due words files (judgement file cert) lts ReadFault out err ask at is = absurd is
 system_due words files (judgement file cert) lts WriteFault out err ask at is = absurd is
 system_due words files (judgement file cert) lts NoMemory out err ask at is = absurd is
@@ -162,7 +158,6 @@ system_says words files (net class file) lts Done out err ask at is = (record { 
 system_says words files (net class file) lts No out err ask at is = (record { asked = net class file; ask = ask; lts = lts; file = at; fact = is.1 }, is.2)
 system_says words files (net class file) lts (TooWide cause) out err ask at is = (record { asked = net class file; ask = ask; lts = lts; file = at; fact = is.0 }, is.1, is.2)
 system_says words files (judgement file cert) lts (TooWide cause) out err ask at is = absurd is
-system_says words files (net class file) lts (NotBuilt OtherClass) out err ask at is = (record { asked = net class file; ask = ask; lts = lts; file = at; fact = is.0 }, is.1, is.2)
 system_says words files (net class file) lts (Usage usage) out err ask at is = absurd is
 system_says words files (net class file) lts (File fault) out err ask at is = absurd is
 system_says words files (net class file) lts ReadFault out err ask at is = is
@@ -172,7 +167,6 @@ system_says words files (judgement file cert) lts Done out err ask at is = (reco
 system_says words files (judgement file cert) lts No out err ask at is = (record { asked = judgement file cert; ask = ask; lts = lts; file = at; fact = is.1 }, is.2)
 system_says words files (judgement file cert) lts (File fault) out err ask at is = (inr (record { asked = judgement file cert; ask = ask; lts = lts; file = at; fact = (is.0, is.1) }), is.2, is.3)
 system_says words files (judgement file cert) lts (Usage usage) out err ask at is = absurd is
-system_says words files (judgement file cert) lts (NotBuilt unbuilt) out err ask at is = absurd is
 system_says words files (judgement file cert) lts ReadFault out err ask at is = is
 system_says words files (judgement file cert) lts WriteFault out err ask at is = is
 system_says words files (judgement file cert) lts NoMemory out err ask at is = is
@@ -200,4 +194,3 @@ says_ends run ReadFault h = absurd h.due
 says_ends run WriteFault h = absurd h.due
 says_ends run NoMemory h = absurd h.due
 says_ends run (TooWide cause) h = h
-says_ends run (NotBuilt unbuilt) h = h

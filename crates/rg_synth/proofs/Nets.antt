@@ -24,7 +24,7 @@ use Rattle.rg_netfile.specs.Spells.{Spells as NetSpells}
 use Rattle.rg_netfile.proofs.PrintedTexts.{printed_spelled}
 use Rattle.rg_prune.specs.Pruned.{others}
 use Rattle.rg_separate.specs.Answer.{IsNarrowRegion, AreSeparating}
-use Rattle.rg_synth.specs.Answers.{IsOpen, IsObstructed, IsWithinReach, IsReason, IsShownFor}
+use Rattle.rg_synth.specs.Answers.{IsOpen, IsObstructed, IsReason, IsShownFor}
 use Rattle.rg_synth.specs.Texts.{wide_line}
 use Rattle.rg_synth.specs.Requests.{AnswersNet}
 use Rattle.rg_synth.specs.declared.answer.Answer.{Answer}
@@ -35,7 +35,7 @@ use Rattle.rg_synth.specs.declared.status.WideCause.{WideCause}
 -- what the work has found
 pub record IsFound (class : Class) (lts : System) (net : Net) : Type 0 where
   pub formed : IsWellFormed lts
-  pub within : IsWithinReach class lts
+  pub is_open : IsOpen lts
   pub transitions : net.labels ≡ labels lts
   pub numbers : IsNetInRange net
   pub separating : AreSeparating lts class net.places
@@ -57,9 +57,9 @@ narrow_markings lts class net fine sol each m reached i p at =
 -- a net of what was found is an answer
 found : (class : Class) (lts : System) (net : Net) (status : Status) (out err : List ℕ) → IsFound class lts net → status ≡ Done → out ≡ net_text net lts → err ≡ [] → AnswersNet class lts status out err
 found class lts net status out err is done text none =
-    let (solves, in_class) = yes_in_class lts net class is.formed.in_range is.within.is_open.reachable is.transitions (regions_of lts class net.places is.separating.regions) is.separating.separate in
+    let (solves, in_class) = yes_in_class lts net class is.formed.in_range is.is_open.reachable is.transitions (regions_of lts class net.places is.separating.regions) is.separating.separate in
     subst (λ s. AnswersNet class lts s out err) (sym done) (
-      is.within,
+      is.is_open,
       record {
         net = net;
         in_range = is.numbers;
@@ -86,7 +86,7 @@ reason_is lts class (fork s t s₁ s₂) opened is = absurd (is.2 (opened.fork_f
 reason_is lts class (refuted problem trees) opened is = opened
 
 -- a reason is an answer
-pub refutes : (class : Class) (lts : System) (reason : Reason) (status : Status) (out err : List ℕ) → IsInRange lts → IsObstructed lts ⊎ IsWithinReach class lts → IsReason lts reason → Accepts lts class reason → status ≡ No → out ≡ cert_text (record { class = class; reason = reason }) lts → Spells out lts (record { class = class; reason = reason }) → err ≡ [] → AnswersNet class lts status out err
+pub refutes : (class : Class) (lts : System) (reason : Reason) (status : Status) (out err : List ℕ) → IsInRange lts → IsObstructed lts ⊎ IsOpen lts → IsReason lts reason → Accepts lts class reason → status ≡ No → out ≡ cert_text (record { class = class; reason = reason }) lts → Spells out lts (record { class = class; reason = reason }) → err ≡ [] → AnswersNet class lts status out err
 refutes class lts reason status out err fine reached is holds is_no text spelled none =
     subst (λ s. AnswersNet class lts s out err) (sym is_no) (
       reached,

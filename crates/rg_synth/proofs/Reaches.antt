@@ -1,14 +1,13 @@
 -- What a system is for a class, and a certificate's file for a system, each in one way.
-use Rattle.std.proofs.Common.{◌≡◌, ◌⊎◌, inl, inr, ℕ, ◌<◌, ◌≤◌, List, length, Bool, false, Option, Some, None, IsTrue, IsSome, refl, sym, ap, subst, ◌∙◌, arith}
+use Rattle.std.proofs.Common.{◌≡◌, ◌⊎◌, inl, inr, ℕ, ◌<◌, ◌≤◌, List, length, Option, Some, None, refl, sym, ap, subst, ◌∙◌, arith}
 use Rattle.rg_ports.specs.Shelf.{Files, file_of}
 use Rattle.rg_theory.specs.System.{System}
 use Rattle.rg_theory.specs.declared.Class.{Class}
 use Rattle.rg_cert.specs.Spells.{Spells}
-use Rattle.rg_separate.specs.Answer.{IsUnbranched}
 use Rattle.rg_text.specs.Limits.{most_bytes}
 use Rattle.rg_synth.specs.Given.{IsUnread}
 use Rattle.rg_synth.specs.Judged.{IsAccepted, IsNotAccepted}
-use Rattle.rg_synth.specs.Answers.{IsOpen, IsObstructed, IsBeyond, IsWithinReach}
+use Rattle.rg_synth.specs.Answers.{IsOpen, IsObstructed}
 use Rattle.rg_synth.specs.declared.status.Fault.{Fault}
 use Rattle.rg_synth.specs.declared.status.Fault.TheVariants.{Missing, TooLong, Apt}
 
@@ -16,40 +15,22 @@ use Rattle.rg_synth.specs.declared.status.Fault.TheVariants.{Missing, TooLong, A
 
 pub data Reach : Type 0 where
   obstructed : Reach
-  beyond : Reach
-  within : Reach
+  unobstructed : Reach
 
 abbrev pub IsReach : Class → System → Reach → Type 0
 IsReach class lts obstructed = IsObstructed lts
-IsReach class lts beyond = IsBeyond class lts
-IsReach class lts within = IsWithinReach class lts
+IsReach class lts unobstructed = IsOpen lts
 
 -- an obstructed system isn't open
 closed : (lts : System) → IsObstructed lts → IsOpen lts → ⊥
 closed lts (inl (s, h)) open_system = h.unreachable (open_system.reachable.each s h.state)
 closed lts (inr (s, t, s₁, s₂, all, h)) open_system = h.fork.2 (open_system.fork_free.one_target s t s₁ s₂ h.fork.0 h.fork.1)
 
-not_true : (b : Bool) → IsTrue b → b ≡ false → ⊥
-not_true b h e = cc
-
-not_some : (o : Option ℕ) → IsSome o → o ≡ None → ⊥
-not_some None h e = cc
-not_some (Some n) h e = cc
-
-branched : (class : Class) → IsTrue class.plain ⊎ IsSome class.bound → IsUnbranched class → ⊥
-branched class (inl plain) unbranched = not_true class.plain plain unbranched.plain
-branched class (inr bound) unbranched = not_some class.bound bound unbranched.bound
-
 pub one_reach : (class : Class) (lts : System) (v w : Reach) → IsReach class lts v → IsReach class lts w → v ≡ w
 one_reach class lts obstructed obstructed h k = refl
-one_reach class lts obstructed beyond h k = absurd (closed lts h k.0)
-one_reach class lts obstructed within h k = absurd (closed lts h k.is_open)
-one_reach class lts beyond obstructed h k = absurd (closed lts k h.0)
-one_reach class lts beyond beyond h k = refl
-one_reach class lts beyond within h k = absurd (branched class h.1 k.class_is)
-one_reach class lts within obstructed h k = absurd (closed lts k h.is_open)
-one_reach class lts within beyond h k = absurd (branched class k.1 h.class_is)
-one_reach class lts within within h k = refl
+one_reach class lts obstructed unobstructed h k = absurd (closed lts h k)
+one_reach class lts unobstructed obstructed h k = absurd (closed lts k h)
+one_reach class lts unobstructed unobstructed h k = refl
 
 -- ---- files that are told
 

@@ -6,17 +6,15 @@ use Rattle.rg_apt.specs.declared.fault.TextFault.{TextFault}
 use Rattle.rg_apt.specs.Spells.{Spells, FirstFault}
 use Rattle.rg_synth.specs.Words.{Asked, net, judgement, system_file}
 use Rattle.rg_synth.specs.Given.{IsNoSystem, IsSystemFile, AskOf}
-use Rattle.rg_synth.specs.Answers.{IsYes, IsNo, IsSecondUnread, IsUnbuilt, IsSearched, IsFileRefused, IsDue}
+use Rattle.rg_synth.specs.Answers.{IsYes, IsNo, IsSecondUnread, IsSearched, IsFileRefused, IsDue}
 use Rattle.rg_synth.specs.Run.{IsDecided}
 use Rattle.rg_synth.specs.declared.status.Status.{Status}
-use Rattle.rg_synth.specs.declared.status.Status.TheVariants.{Done, No, Usage as Refuses, File, ReadFault, WriteFault, NoMemory, TooWide, Unbuilt as NotBuilt}
-use Rattle.rg_synth.specs.declared.status.Unbuilt.{Unbuilt}
-use Rattle.rg_synth.specs.declared.status.Unbuilt.TheVariants.{Class as OtherClass}
+use Rattle.rg_synth.specs.declared.status.Status.TheVariants.{Done, No, Usage as Refuses, File, ReadFault, WriteFault, NoMemory, TooWide}
 use Rattle.rg_synth.specs.declared.status.Fault.{Fault}
 use Rattle.rg_synth.specs.declared.status.Fault.TheVariants.{Missing, TooLong, Apt}
 use Rattle.rg_synth.specs.declared.status.FileFault.{FileFault}
 use Rattle.rg_synth.proofs.WordKinds.{Kind, refused, asks, IsOfKind, one_kind}
-use Rattle.rg_synth.proofs.Reaches.{Reach, obstructed, beyond, within, IsReach, one_reach, Cert, unread, accepted, not_accepted, IsCert, one_cert, same_bytes, not_there, too_short}
+use Rattle.rg_synth.proofs.Reaches.{Reach, obstructed, unobstructed, IsReach, one_reach, Cert, unread, accepted, not_accepted, IsCert, one_cert, same_bytes, not_there, too_short}
 
 -- ---- what the file of a name is
 
@@ -68,8 +66,7 @@ data End : Type 0 where
 
 abbrev reach_end : Reach → End
 reach_end obstructed = one No
-reach_end beyond = one (NotBuilt OtherClass)
-reach_end within = search
+reach_end unobstructed = search
 
 abbrev cert_status : Cert → Status
 cert_status (unread fault) = File (record { file = 2; fault = fault })
@@ -133,15 +130,10 @@ at_no None asked lts file is = λ told. cc
 at_no (Some files) (net class name) lts file is = (spells lts, file, (obstructed, is, refl))
 at_no (Some files) (judgement name cert) lts file is = (spells lts, file, (not_accepted, is, refl))
 
-at_unbuilt : (files : Option Files) (asked : Asked) (lts : System) (unbuilt : Unbuilt) → IsSystemFile files (system_file asked) lts → IsUnbuilt unbuilt asked lts → AtAsked files asked (one (NotBuilt unbuilt))
-at_unbuilt None asked lts unbuilt file is = λ told. cc
-at_unbuilt (Some files) (judgement name cert) lts OtherClass file is = absurd is
-at_unbuilt (Some files) (net class name) lts OtherClass file is = (spells lts, file, (beyond, is, refl))
-
 at_search : (files : Option Files) (asked : Asked) (lts : System) → IsSystemFile files (system_file asked) lts → IsSearched asked lts → AtAsked files asked search
 at_search None asked lts file is = λ told. cc
 at_search (Some files) (judgement name cert) lts file is = absurd is
-at_search (Some files) (net class name) lts file is = (spells lts, file, (within, is, refl))
+at_search (Some files) (net class name) lts file is = (spells lts, file, (unobstructed, is, refl))
 
 same_fault : (fault : FileFault) (n : ℕ) → fault.file ≡ n → one (File fault) ≡ one (File (record { file = n; fault = fault.fault }))
 same_fault fault n p = ap (λ f. one (File f)) (λ i. record { file = p i; fault = fault.fault })
@@ -164,7 +156,6 @@ placed words files Done h = (asks h.asked, h.ask, at_yes files h.asked h.lts h.f
 placed words files No h = (asks h.asked, h.ask, at_no files h.asked h.lts h.file h.fact)
 placed words files (Refuses usage) h = (refused usage, h, refl)
 placed words files (File fault) h = placed_file words files fault h
-placed words files (NotBuilt unbuilt) h = (asks h.asked, h.ask, at_unbuilt files h.asked h.lts unbuilt h.file h.fact)
 placed words files (TooWide cause) h = absurd h
 placed words files ReadFault h = absurd h
 placed words files WriteFault h = absurd h

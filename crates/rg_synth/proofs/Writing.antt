@@ -5,7 +5,7 @@ use Rattle.rg_ports.specs.Sink.{taken_with, TakesPart}
 use Rattle.rg_synth.specs.Answers.{Answers}
 use Rattle.rg_synth.specs.Run.{Run, Takes, IsLeft, Breaks, FailsToWrite}
 use Rattle.rg_synth.specs.declared.status.Status.{Status}
-use Rattle.rg_synth.specs.declared.status.Status.TheVariants.{Done, No, Usage, File, TooWide, ReadFault, WriteFault, NoMemory, Unbuilt}
+use Rattle.rg_synth.specs.declared.status.Status.TheVariants.{Done, No, Usage, File, TooWide, ReadFault, WriteFault, NoMemory}
 
 -- a status writes to one sink at most
 one_sink : (words : List (List ℕ)) (files : Option Files) (status : Status) (out err : List ℕ) → Answers words files status out err → (out ≡ []) ⊎ (err ≡ [])
@@ -14,7 +14,6 @@ one_sink words files No out err is = inr is.1
 one_sink words files (Usage usage) out err is = inl is.1
 one_sink words files (File fault) out err is = inl is.1
 one_sink words files (TooWide cause) out err is = inl is.1
-one_sink words files (Unbuilt unbuilt) out err is = inl is.1
 one_sink words files ReadFault out err is = absurd is
 one_sink words files WriteFault out err is = absurd is
 one_sink words files NoMemory out err is = absurd is

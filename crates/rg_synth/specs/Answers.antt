@@ -1,5 +1,5 @@
 -- What is due to the words and the files: each status, when it is due, and what it writes.
-use Rattle.std.specs.Prelude.{◌≡◌, ◌⊎◌, ℕ, ◌<◌, ◌≤◌, List, [], length, Option, IsTrue, IsSome}
+use Rattle.std.specs.Prelude.{◌≡◌, ◌⊎◌, ℕ, ◌<◌, ◌≤◌, List, [], length, Option}
 use Rattle.rg_ports.specs.Shelf.{Files}
 use Rattle.rg_theory.specs.System.{System, IsAllReachable, IsForkFree, IsLeastUnreachable, IsLeastFork}
 use Rattle.rg_theory.specs.Net.{Net}
@@ -14,7 +14,6 @@ use Rattle.rg_netfile.specs.Spells.{Spells as NetSpells}
 use Rattle.rg_refuting.specs.Refutes.{Reason, Reason.unreachable, Reason.fork, Reason.refuted, Accepts}
 use Rattle.rg_order_of_work.specs.Shown.{ShownWide}
 use Rattle.rg_separate.specs.View.{shown_of}
-use Rattle.rg_separate.specs.Answer.{IsUnbranched}
 use Rattle.rg_prune.specs.Pruned.{net_without}
 use Rattle.rg_cert.specs.Text.{cert_text}
 use Rattle.rg_cert.specs.Spells.{Spells as CertificateSpells}
@@ -24,9 +23,7 @@ use Rattle.rg_synth.specs.Judged.{IsAccepted, IsNotAccepted, IsRefused}
 use Rattle.rg_synth.specs.JudgedTexts.{accepted_line}
 use Rattle.rg_synth.specs.Texts.{usage_line, file_line, wide_line}
 use Rattle.rg_synth.specs.declared.status.Status.{Status}
-use Rattle.rg_synth.specs.declared.status.Status.TheVariants.{Done, No, Usage, File, TooWide, ReadFault, WriteFault, NoMemory, Unbuilt as NotBuilt}
-use Rattle.rg_synth.specs.declared.status.Unbuilt.{Unbuilt}
-use Rattle.rg_synth.specs.declared.status.Unbuilt.TheVariants.{Class as OtherClass}
+use Rattle.rg_synth.specs.declared.status.Status.TheVariants.{Done, No, Usage, File, TooWide, ReadFault, WriteFault, NoMemory}
 use Rattle.rg_synth.specs.declared.status.FileFault.{FileFault}
 use Rattle.rg_synth.specs.declared.status.WideCause.{WideCause}
 use Rattle.rg_synth.specs.declared.status.WideCause.TheVariants.{Synthesis}
@@ -47,15 +44,6 @@ abbrev pub IsReason : System → Reason → Type 0
 IsReason lts (unreachable s) = IsLeastUnreachable lts s
 IsReason lts (fork s t s₁ s₂) = IsAllReachable lts × IsLeastFork lts s t s₁ s₂
 IsReason lts (refuted problem trees) = IsOpen lts
-
--- what isn't built: a class that is plain or has a bound, for a system without an unreachable state or a fork
-abbrev pub IsBeyond : Class → System → Type 0
-IsBeyond class lts = IsOpen lts × (IsTrue class.plain ⊎ IsSome class.bound)
-
--- what is built: each other class, for such a system
-pub record IsWithinReach (class : Class) (lts : System) : Type 0 where
-  pub is_open : IsOpen lts
-  pub class_is : IsUnbranched class
 
 -- the bytes are the text of a net of the class that solves the system and without any one of its places doesn't, and are read
 -- as that net where a net file may have so many places; no number of the net or of a reachable marking is above 2^127 - 1
@@ -81,7 +69,7 @@ pub record IsCertificateText (class : Class) (lts : System) (out : List ℕ) : T
 
 -- a number that passes in the work on the system for the class, in its stated order
 abbrev pub IsShownFor : Class → System → WideCause → Type 0
-IsShownFor class lts (Synthesis w) = IsWithinReach class lts × ShownWide lts class (shown_of w)
+IsShownFor class lts (Synthesis w) = IsOpen lts × ShownWide lts class (shown_of w)
 
 -- ---- when a status is due
 
@@ -95,9 +83,9 @@ abbrev pub IsNo : Option Files → Asked → System → Type 0
 IsNo files (net class file) lts = IsObstructed lts
 IsNo files (judgement file cert) lts = IsNotAccepted files cert lts
 
--- a net is asked for where that is built: a net, a certificate or a number that passes is the answer
+-- a net is asked for, of an open system: a net, a certificate or a number that passes is the answer
 abbrev pub IsSearched : Asked → System → Type 0
-IsSearched (net class file) lts = IsWithinReach class lts
+IsSearched (net class file) lts = IsOpen lts
 IsSearched (judgement file cert) lts = ⊥
 
 abbrev pub IsSearchEnd : Status → Type 0
@@ -111,10 +99,6 @@ abbrev pub IsSecondUnread : Option Files → Asked → FileFault → Type 0
 IsSecondUnread files (net class file) fault = ⊥
 IsSecondUnread files (judgement file cert) fault = (fault.file ≡ 2) × IsUnread files cert fault.fault
 
-abbrev pub IsUnbuilt : Unbuilt → Asked → System → Type 0
-IsUnbuilt OtherClass (net class file) lts = IsBeyond class lts
-IsUnbuilt OtherClass (judgement file cert) lts = ⊥
-
 -- the first file is not that of a system; or it is, and the second is unread
 abbrev pub IsFileRefused : List (List ℕ) → Option Files → FileFault → Type 0
 IsFileRefused words files fault =
@@ -127,7 +111,6 @@ IsDue words files Done = AskOf words files (IsYes files)
 IsDue words files No = AskOf words files (IsNo files)
 IsDue words files (Usage usage) = AreRefused words usage
 IsDue words files (File fault) = IsFileRefused words files fault
-IsDue words files (NotBuilt unbuilt) = AskOf words files (IsUnbuilt unbuilt)
 IsDue words files (TooWide cause) = ⊥
 IsDue words files ReadFault = ⊥
 IsDue words files WriteFault = ⊥
@@ -162,7 +145,6 @@ Answers words files No out err = AskOf words files (SaysNo files out) × (err �
 Answers words files (Usage usage) out err = AreRefused words usage × (out ≡ []) × (err ≡ usage_line usage)
 Answers words files (File fault) out err = IsFileRefused words files fault × (out ≡ []) × (err ≡ file_line fault)
 Answers words files (TooWide cause) out err = AskOf words files (SaysWide cause) × (out ≡ []) × (err ≡ wide_line cause)
-Answers words files (NotBuilt unbuilt) out err = AskOf words files (IsUnbuilt unbuilt) × (out ≡ []) × (err ≡ [])
 Answers words files ReadFault out err = ⊥
 Answers words files WriteFault out err = ⊥
 Answers words files NoMemory out err = ⊥

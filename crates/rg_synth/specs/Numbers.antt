@@ -1,7 +1,7 @@
 -- The numbers with which the program ends.
 use Rattle.std.specs.Prelude.{ℕ}
 use Rattle.rg_synth.specs.declared.status.Status.{Status}
-use Rattle.rg_synth.specs.declared.status.Status.TheVariants.{Done, No, Usage, File, TooWide, ReadFault, WriteFault, NoMemory, Unbuilt as NotBuilt}
+use Rattle.rg_synth.specs.declared.status.Status.TheVariants.{Done, No, Usage, File, TooWide, ReadFault, WriteFault, NoMemory}
 
 abbrev pub status_number : Status → ℕ
 status_number Done = 0
@@ -12,4 +12,3 @@ status_number (TooWide cause) = 4
 status_number ReadFault = 5
 status_number WriteFault = 6
 status_number NoMemory = 7
-status_number (NotBuilt unbuilt) = 8

@@ -10,7 +10,7 @@ ghost use Rattle.rg_synth.specs.declared.answer.Stop.TheVariants as stop;
 use crate::judging::judgement_answer;
 use crate::netting::net_answer;
 use crate::request::{Request, read_words};
-use crate::status::{Fault, FileFault, Status, Unbuilt, Usage, WideCause};
+use crate::status::{Fault, FileFault, Status, Usage, WideCause};
 use crate::texts::{file_text, usage_text, wide_text};
 use rg_memory::NoMemory;
 use rg_ports::Shelf;
@@ -134,17 +134,4 @@ pub(crate) fn too_wide(alloc: Global, cause: WideCause) -> Result<Answer, AllocE
         out: Vec::new(alloc),
         err,
     })
-}
-
-// Nothing to write.
-pub(crate) fn unbuilt(alloc: Global, what: Unbuilt) -> Answer
-    ensures status { result.status ≡ Status.Unbuilt what }
-    ensures out { result.out.items ≡ [] }
-    ensures err { result.err.items ≡ [] }
-{
-    Answer {
-        status: Status::Unbuilt(what),
-        out: Vec::new(alloc),
-        err: Vec::new(alloc),
-    }
 }

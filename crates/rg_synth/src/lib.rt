@@ -17,4 +17,4 @@ pub use laws::written_is_accepted;
 pub use net_laws::written_net_gets_yes;
 pub use rg_separate::{Stage, WideAt};
 pub use run_whole::run;
-pub use status::{Fault, FileFault, Status, Unbuilt, Usage, WideCause};
+pub use status::{Fault, FileFault, Status, Usage, WideCause};

@@ -11,13 +11,13 @@ ghost use Rattle.rg_separate.specs.Answer.{AreSeparating};
 ghost use Rattle.rg_refuting.specs.Refutes.{Accepts};
 ghost use Rattle.rg_reasons.specs.Certificates.{reason_of, IsCertificateOf};
 ghost use Rattle.rg_synth.specs.Words.{net};
-ghost use Rattle.rg_synth.specs.Answers.{IsOpen, IsObstructed, IsWithinReach, IsReason};
+ghost use Rattle.rg_synth.specs.Answers.{IsOpen, IsObstructed, IsReason};
 ghost use Rattle.rg_synth.specs.Requests.{AnswersNet, AnswersAsked};
 ghost use Rattle.rg_synth.specs.declared.answer.Stop.TheVariants as stop;
 ghost use Rattle.rg_synth.specs.declared.status.Status.TheVariants as status;
 
-use crate::answer::{Answer, Stop, file_refusal, said, too_wide, unbuilt};
-use crate::status::{Status, Unbuilt, WideCause};
+use crate::answer::{Answer, Stop, file_refusal, said, too_wide};
+use crate::status::{Status, WideCause};
 use crate::system_file::{SystemStop, read_system};
 use rg_cert::print;
 use rg_checks::{first_fork, first_unreachable};
@@ -73,7 +73,7 @@ fn system_answer(alloc: Global, class: Class, lts: &Lts) -> Result<Answer, NoMem
 // The certificate that gives the reason.
 fn refutation(alloc: Global, class: Class, reason: Reason, lts: &Lts) -> Result<Answer, NoMemory>
     requires system { IsInRange lts.now }
-    requires reached { IsObstructed lts.now ⊎ IsWithinReach class lts.now }
+    requires reached { IsObstructed lts.now ⊎ IsOpen lts.now }
     requires is { IsReason lts.now (reason_of reason) }
     requires holds { Accepts lts.now class (reason_of reason) }
     requires in_range { IsCertificateOf lts.now (record { class = class; reason = reason }) }
@@ -90,9 +90,6 @@ fn open_answer(alloc: Global, class: Class, lts: &Lts) -> Result<Answer, NoMemor
     requires is_open { IsOpen lts.now }
     ensures { IfOk result (λ a. AnswersNet class lts.now a.status a.out.items a.err.items) }
 {
-    if class.plain || class.bound.is_some() {
-        return Ok(unbuilt(alloc, Unbuilt::Class));
-    }
     match separate(alloc, lts, class) {
         Ok(Separation::Places(places)) => net_of_those_needed(alloc, class, lts, places),
         Ok(Separation::Unsolvable(cert)) => refutation(alloc, class, cert.reason, lts),
@@ -108,7 +105,7 @@ fn net_of_those_needed(
     lts: &Lts,
     places: Vec<Place>,
 ) -> Result<Answer, NoMemory>
-    requires within { IsWithinReach class lts.now }
+    requires is_open { IsOpen lts.now }
     requires separating { AreSeparating lts.now class (map shown_place places.items) }
     ensures { IfOk result (λ a. AnswersNet class lts.now a.status a.out.items a.err.items) }
 {

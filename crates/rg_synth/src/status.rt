@@ -25,8 +25,6 @@ pub enum Status {
     WriteFault,
     /// There was no memory.
     NoMemory,
-    /// What is asked isn't built yet.
-    Unbuilt(Unbuilt),
 }
 
 /// Why the words were refused.
@@ -69,13 +67,6 @@ pub enum WideCause {
     Synthesis(WideAt),
 }
 
-/// What isn't built yet.
-#[derive(Clone, Copy, Debug, PartialEq, Eq)]
-pub enum Unbuilt {
-    /// Nets of a class that is plain or has a bound.
-    Class,
-}
-
 impl Status {
     /// The number with which the program ends.
     pub fn number(&self) -> u8
@@ -90,7 +81,6 @@ impl Status {
             Status::ReadFault => 5,
             Status::WriteFault => 6,
             Status::NoMemory => 7,
-            Status::Unbuilt(_) => 8,
         }
     }
 }

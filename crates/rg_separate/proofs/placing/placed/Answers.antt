@@ -1,19 +1,33 @@
-use Rattle.std.proofs.Common.{Err, sym, subst, ap}
-use Rattle.rg_order_of_work.specs.Shown.{Shown, ShownWide}
-use Rattle.rg_separate.specs.Casing.{AreColumnValues}
-use Rattle.rg_separate.proofs.PlaceOfPoint.{solves, case_columns, place_shown}
+use Rattle.std.proofs.Common.{◌≡◌, ◌<◌, List, [], All, length, map, Err, ap, sym, subst, ◌∙◌}
+use Rattle.rg_refuting.specs.Row.{Side}
+use Rattle.rg_linear.specs.Branching.{SplitSide, BranchOutcome.found}
+use Rattle.rg_linear.proofs.Endings.{splits_within}
+use Rattle.rg_order_of_work.specs.Shown.{Shown, ShownWide, named_sides}
+use Rattle.rg_branch.specs.View.{sides_of}
+use Rattle.rg_rows.specs.declared.named_form.NamedForm.{NamedForm}
+use Rattle.rg_rows.specs.Forms.{split_of}
+use Rattle.rg_separate.specs.declared.wide_at.Stage.TheVariants.{Place}
+use Rattle.rg_separate.specs.Casing.{forms_in, sides_among}
+use Rattle.rg_separate.specs.Passing.{passed_at}
+use Rattle.rg_separate.proofs.PlaceOfPoint.{solves, place_shown}
+use Rattle.rg_separate.proofs.Siding.{sides_on_forms, sides_on_named}
 use Rattle.rg_separate.proofs.placing.placed.Goals as goal
 
-pub returns-in-Ok : goal.returns-in-Ok
-returns-in-Ok c =
-    let are = subst (AreColumnValues c.args.named.now.system c.args.dictionary.now) (sym c.deref.ensures.value) c.in_ok-point.ensures in
-    c.in-Ok.ensures.region
-    c.requires.case.live
-    (solves c.args.c c.args.named.now c.args.dictionary.now c.deref.result.now c.requires.case c.requires.system c.requires.point are)
+pub named_sides-requires : goal.named_sides-requires
+named_sides-requires c =
+    let named = c.args.named.now in
+    let sides = sides_of c.args.above.now in
+    subst (λ (fs : List NamedForm). All (λ (s : SplitSide). s.form < length fs) sides) (sym c.deref.ensures.value)
+    (sides_on_named named.forms.items sides (sides_on_forms (forms_in named) [] sides (splits_within named.system (forms_in named) (found c.requires.found.members sides) c.requires.system.forms.bounded c.requires.found.outcome)))
 
-pub returns-in-Err-Wide : goal.returns-in-Err-Wide
-returns-in-Err-Wide c =
-    let are = subst (AreColumnValues c.args.named.now.system c.args.dictionary.now) (sym c.deref.ensures.value) c.in_ok-point.ensures in
-    subst (λ (w : Shown). ShownWide c.args.c.setting.lts.now c.args.c.setting.class w) (sym c.passed.ensures)
-    (place_shown c.args.c c.args.named.now c.args.dictionary.now c.deref.result.now c.in-Err-Wide.wide c.requires.case c.requires.system c.requires.point are
-    (case_columns c.args.c c.args.named.now c.requires.system) (c.in-Err-Wide.ensures.wide c.in-Err-Wide.wide (ap Err c.in-Err-Wide.field-0-is)))
+pub returns-in-Ok : goal.returns-in-Ok
+returns-in-Ok c = c.in-Ok.ensures.region c.requires.case.live (solves c.args.c c.args.named.now c.args.point.now c.requires.case c.requires.system c.requires.solves)
+
+pub returns-in_ok-above-in-Err-Wide : goal.returns-in_ok-above-in-Err-Wide
+returns-in_ok-above-in-Err-Wide c =
+    let lts = c.args.c.setting.lts.now in
+    let class = c.args.c.setting.class in
+    let sides = sides_of c.args.above.now in
+    let by_name = c.in_ok-above-in-Err-Wide.ensures ∙ ap (λ (fs : List NamedForm). sides_among (map split_of fs) sides) c.deref.ensures.value ∙ ap (λ fs. sides_among fs sides) c.requires.system.by_name in
+    subst (λ (w : Shown). ShownWide lts class w) (sym (c.passed.ensures ∙ ap (λ (ss : List Side). passed_at Place c.args.c ss c.in-Err-Wide.wide) by_name))
+    (place_shown c.args.c c.args.named.now sides c.args.point.now c.in-Err-Wide.wide c.requires.case c.requires.system c.requires.found (c.in-Err-Wide.ensures.wide c.in-Err-Wide.wide (ap Err c.in-Err-Wide.field-0-is)))

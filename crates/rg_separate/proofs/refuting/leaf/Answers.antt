@@ -1,54 +1,57 @@
-use Rattle.std.proofs.Common.{length, [], ◌<◌, map, Ok, Err, inr, sym, ap, subst, arith}
-use Rattle.std.proofs.lemmas.List.Elements.{All-nil}
-use Rattle.rg_linear.specs.System.{AreFarkasMultipliers}
-use Rattle.rg_linear.specs.Branching.{weights_from}
-use Rattle.rg_reasons.specs.Certificates.{IsFormOf}
-use Rattle.rg_order_of_work.specs.Fold.{each}
-use Rattle.rg_order_of_work.specs.Rewriting.{rows_of}
-use Rattle.rg_order_of_work.specs.Shown.{Shown, ShownWide}
-use Rattle.rg_order_of_work.specs.Spreading.{share_fold}
+use Rattle.std.proofs.Common.{rules, ◌≡◌, ◌+◌, ◌<◌, List, All, Result, length, map, Ok, Err, inr, ap, sym, subst, ◌∙◌, arith}
+use Rattle.std.specs.Result.{IfOk}
+use Rattle.std.proofs.lemmas.List.{length-map}
+use Rattle.rg_refuting.specs.Row.{Side, row_expression}
+use Rattle.rg_linear.specs.Branching.{Weight}
+use Rattle.rg_order_of_work.specs.Shown.{named_sides}
 use Rattle.rg_cycles.specs.View.{cycle_of}
-use Rattle.rg_feasible.specs.Settling.{multiplier_with}
-use Rattle.rg_farkas.specs.Leaves.{share_of}
-use Rattle.rg_farkas.proofs.Multipliers.{node_names_stand, node_names_in_range, node_shares_refute}
-use Rattle.rg_separate.proofs.Branches.{root_is}
-use Rattle.rg_separate.proofs.Leaves.{spread_shown, farkas}
-use Rattle.rg_separate.proofs.PlaceOfPoint.{case_over, asked}
+use Rattle.rg_order_of_work.specs.Spreading.{leaf_fold}
+use Rattle.rg_fraction.specs.declared.fraction.Fraction.{Fraction}
+use Rattle.rg_reasons.specs.declared.certificate.RowName.{RowName}
+use Rattle.rg_reasons.specs.Trees.{node_of as made_node_of}
+use Rattle.rg_reasons.specs.declared.side.Side.{Side as SideOfCode}
+use Rattle.rg_reasons.specs.Sums.{side_of as made_side_of}
+use Rattle.rg_branch.specs.View.{side_of, sides_of, weight_of}
+use Rattle.rg_rows.specs.declared.named_form.NamedForm.{NamedForm}
+use Rattle.rg_rows.specs.Forms.{split_of}
+use Rattle.rg_farkas.specs.Leaves.{share_of, RefutesCase}
+use Rattle.rg_separate.specs.Casing.{sides_among}
+use Rattle.rg_separate.proofs.Leaves.{leaf_asked, leaf_made, leaf_rows, leaf_not_negative}
 use Rattle.rg_separate.proofs.refuting.leaf.Goals as goal
+
+-- what holds of a result
+IfOk_weaker : {A E : Type 0} {P Q : A → Type 0} (r : Result A E) → IfOk r P → ((a : A) → P a → Q a) → IfOk r Q
+IfOk_weaker (Ok a) p f = f a p
+IfOk_weaker (Err e) p f = p
+
+pub shares-requires-clause-rows : goal.shares-requires-clause-rows
+shares-requires-clause-rows c = subst (λ n. All (λ (w : Weight). w.row < length c.args.named.now.system.rows + n) (map weight_of c.args.weights.now)) (length-map c.args.above.now side_of) (leaf_rows c.args.c c.args.named.now (sides_of c.args.above.now) (map weight_of c.args.weights.now) c.requires.leaf.node)
+
+pub shares-requires-clause-not_negative : goal.shares-requires-clause-not_negative
+shares-requires-clause-not_negative c = leaf_not_negative c.args.c c.args.named.now (sides_of c.args.above.now) (map weight_of c.args.weights.now) c.requires.leaf.node
 
 pub spread-requires : goal.spread-requires
 spread-requires c =
-    let lts = c.args.c.setting.lts.now in
-    let tree = c.args.c.setting.tree.now.arcs in
-    let cycle = cycle_of c.args.c.setting.basis.now in
-    let problem = c.args.c.problem in
-    let system = c.requires.system.case in
-    let over = case_over c.args.c c.args.named.now c.requires.case c.requires.system in
-    let refuted = c.requires.refuted.1 in
-    let multiplier = multiplier_with c.args.dictionary.now.table c.requires.refuted.0 in
-    let shares = map share_of c.args.shares.now in
-    let root = sym (root_is (rows_of system) system.forms) in
-    let none = All-nil (λ side. side.form < length system.forms) in
-    let fold = subst (λ s. each (share_fold system []) (weights_from multiplier 0 (length s.rows)) (Ok shares)) root (c.requires.shares system c.requires.refuted.0 c.requires.system.shows refuted) in
-    let refutes = subst (λ s. AreFarkasMultipliers s multiplier) root (farkas c.args.c c.args.named.now c.args.dictionary.now c.requires.refuted.0 c.requires.system refuted) in
-    record {
-      reachable = c.requires.case.setting.reachable;
-      tree = c.requires.case.setting.tree;
-      labels = c.requires.case.setting.labels;
-      basis = c.requires.case.setting.basis;
-      asked = asked lts problem c.requires.case.has;
-      case = c.requires.case.below;
-      sides = All-nil (λ s. IsFormOf lts s.form);
-      stand = node_names_stand lts tree cycle c.args.c.setting.class problem c.args.c.number system over [] none multiplier shares fold;
-      names = node_names_in_range lts tree cycle c.args.c.setting.class problem c.args.c.number system over [] none (omega arith) multiplier shares fold;
-      refute = node_shares_refute lts tree cycle c.args.c.setting.class problem c.args.c.number system over [] none c.requires.case.live multiplier refutes shares fold;
-      few_rows = c.requires.few;
-      few_sides = omega arith;
-    }
+    let named = c.args.named.now in
+    let sides = sides_of c.args.above.now in
+    let by_name = c.in_ok-above.ensures ∙ ap (λ (fs : List NamedForm). sides_among (map split_of fs) sides) c.deref.ensures.value ∙ ap (λ fs. sides_among fs sides) c.requires.system.by_name in
+    subst (λ (above : List SideOfCode). RefutesCase c.args.c.setting.lts.now c.args.c.setting.tree.now c.args.c.setting.basis.now c.args.c.setting.class c.args.c.problem c.args.c.number c.deref-2.result.now above) (sym c.deref-3.ensures.value)
+    (subst (λ (shares : List (RowName × Fraction)). RefutesCase c.args.c.setting.lts.now c.args.c.setting.tree.now c.args.c.setting.basis.now c.args.c.setting.class c.args.c.problem c.args.c.number shares c.in_ok-above.above.items) (sym c.deref-2.ensures.value)
+    (leaf_asked c.args.c named sides c.in_ok-above.above.items (map weight_of c.args.weights.now) c.in_ok-shares.shares.items c.requires.case c.requires.system c.requires.leaf by_name (c.in_ok-shares.ensures.one_each ∙ sym (length-map c.args.weights.now weight_of)) c.in_ok-shares.ensures.shares))
 
-pub returns-in-Err-Wide : goal.returns-in-Err-Wide
-returns-in-Err-Wide c =
-    let i = c.requires.refuted.0 in
-    subst (λ (w : Shown). ShownWide c.args.c.setting.lts.now c.args.c.setting.class w) (sym c.passed.ensures)
-    (spread_shown c.args.c c.args.named.now c.args.dictionary.now i c.in-Err-Wide.wide c.requires.case c.requires.system c.requires.refuted.1
-    (inr (map share_of c.args.shares.now, c.requires.shares c.requires.system.case i c.requires.system.shows c.requires.refuted.1, c.in-Err-Wide.ensures.wide c.in-Err-Wide.wide (ap Err c.in-Err-Wide.field-0-is))))
+pub returns-clause-made : goal.returns-clause-made
+returns-clause-made c =
+    let lts = c.args.c.setting.lts.now in
+    let class = c.args.c.setting.class in
+    let sides = sides_of c.args.above.now in
+    let by_name = c.in_ok-above.ensures ∙ ap (λ (fs : List NamedForm). sides_among (map split_of fs) sides) c.deref.ensures.value ∙ ap (λ fs. sides_among fs sides) c.requires.system.by_name in
+    IfOk_weaker c.spread.result c.spread.ensures.refutes (λ node is. leaf_made lts class c.args.c.problem c.args.c.number sides (map made_side_of c.deref-3.result.now) (map weight_of c.args.weights.now) (made_node_of node) (ap (map made_side_of) c.deref-3.ensures.value ∙ by_name) is)
+
+pub returns-clause-wide : goal.returns-clause-wide
+returns-clause-wide c = λ w is case shows.
+    let lts = c.args.c.setting.lts.now in
+    let class = c.args.c.setting.class in
+    let sides = sides_of c.args.above.now in
+    let by_name = c.in_ok-above.ensures ∙ ap (λ (fs : List NamedForm). sides_among (map split_of fs) sides) c.deref.ensures.value ∙ ap (λ fs. sides_among fs sides) c.requires.system.by_name in
+    let Fails : List Side → List (RowName × Fraction) → Type 0 = λ above shares. leaf_fold lts c.args.c.setting.tree.now.arcs (cycle_of c.args.c.setting.basis.now) (row_expression lts class c.args.c.problem c.args.c.number above) (map share_of shares) (Err w) in
+    inr (map share_of c.in_ok-shares.shares.items, c.in_ok-shares.ensures.shares case shows, subst (λ shares. Fails (named_sides lts class sides) shares) c.deref-2.ensures.value (subst (λ above. Fails above c.deref-2.result.now) (ap (map made_side_of) c.deref-3.ensures.value ∙ by_name) (c.spread.ensures.wide w is)))

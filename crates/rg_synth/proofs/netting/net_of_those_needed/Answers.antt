@@ -22,7 +22,7 @@ returns c =
     let separating = left_separating c.args.lts.now c.args.class places left c.requires.separating c.in_ok-needed.ensures in
     let found : IsFound c.args.class c.args.lts.now (record { labels = c.labels-labels.result; places = left }) = record {
       formed = c.labels-labels.ensures.well_formed;
-      within = c.requires.within;
+      is_open = c.requires.is_open;
       transitions = c.labels-labels.ensures.value;
       numbers = subst (λ (n : ℕ). IsNetInRange (record { labels = n; places = left })) (sym c.labels-labels.ensures.value) separating.in_range;
       separating = separating;

@@ -1,0 +1,115 @@
+-- The named rows of a leaf, one after the other.
+use Rattle.std.proofs.Common.{◌≡◌, inl, ℕ, zero, suc, ◌+◌, ◌-◌, ◌<◌, ◌≤◌, Bool, true, false, if◌then◌else◌, ◌||◌, List, [], ◌∷◌, map, length, get_or, All, Result, Ok, Err, sym, ap, subst, ◌∙◌, arith}
+use Rattle.std.specs.Prelude.{ℤ, pos, negsuc, ◌≤ℤ◌, int_lt, nat_lt}
+use Rattle.std.proofs.lemmas.List.{get_or-map, length-map}
+use Rattle.std.proofs.lemmas.List.Elements.{All-nil, All-cons}
+use Rattle.std.proofs.lemmas.Bool.{lt-ltb}
+use Rattle.std.proofs.lemmas.Int.{ints}
+use Rattle.std.specs.Int.Signed.{mag}
+use Rattle.rg_fraction.specs.declared.term.Wide.{Wide}
+use Rattle.rg_fraction.specs.declared.fraction.Fraction.{Fraction}
+use Rattle.rg_fraction.specs.Fractions.{IsValue, IsProduct, numerator_of, denominator_of}
+use Rattle.rg_integers.specs.Range.{InRange}
+use Rattle.rg_refuting.specs.Row.{RowName.above_row}
+use Rattle.rg_linear.specs.System.{LinearSystem}
+use Rattle.rg_linear.specs.Branching.{Weight, weights_from, Form, form_at, SplitSide}
+use Rattle.rg_order_of_work.specs.Fold.{Ratio, whole, ratio_of, shown_result, mul}
+use Rattle.rg_order_of_work.specs.Rewriting.{CaseSystem, rows_of}
+use Rattle.rg_order_of_work.specs.Spreading.{share_fold, kept_at, name_of, side_at, factor_of}
+use Rattle.rg_order_of_work.proofs.FoldLemmas.{ratio_one, new_step, mul_step}
+use Rattle.rg_order_of_work.proofs.Scaling.{whole_ratio}
+use Rattle.rg_reasons.specs.declared.certificate.RowName.{RowName as NameOfCode}
+use Rattle.rg_reasons.specs.Trees.{row_name_of}
+use Rattle.rg_rows.specs.declared.named_system.NamedSystem.{NamedSystem}
+use Rattle.rg_rows.specs.declared.named_form.NamedForm.{NamedForm}
+use Rattle.rg_rows.specs.Forms.{linear_form}
+use Rattle.rg_rows.specs.Shown.{ShowsCase}
+use Rattle.rg_farkas.specs.Leaves.{share_of}
+
+-- ---- the weights of multipliers
+
+-- what holds of the multipliers of so many rows holds of the weights, as does that their rows are among them
+pub weights_are : (multiplier : ℕ → ℤ) (P : Weight → Type 0) (first n total : ℕ) → first + n ≤ total → ((i : ℕ) → i < total → P (record { row = i; multiplier = multiplier i })) → All P (weights_from multiplier first n)
+weights_are multiplier P first zero total le each = All-nil P
+weights_are multiplier P first (suc n) total le each = go (int_lt (multiplier first) (pos 0) || int_lt (pos 0) (multiplier first)) (weights_are multiplier P (suc first) n total (omega arith) each)
+  where
+    go : (b : Bool) → All P (weights_from multiplier (suc first) n) → All P (if b then (record { row = first; multiplier = multiplier first } ∷ weights_from multiplier (suc first) n) else weights_from multiplier (suc first) n)
+    go true rest = All-cons P _ _ (each first (omega arith)) rest
+    go false rest = rest
+
+pub weights_few : (multiplier : ℕ → ℤ) (first n : ℕ) → length (weights_from multiplier first n) ≤ n
+weights_few multiplier first zero = omega arith
+weights_few multiplier first (suc n) = go (int_lt (multiplier first) (pos 0) || int_lt (pos 0) (multiplier first)) (weights_few multiplier (suc first) n)
+  where
+    go : (b : Bool) → length (weights_from multiplier (suc first) n) ≤ n → length (if b then (record { row = first; multiplier = multiplier first } ∷ weights_from multiplier (suc first) n) else weights_from multiplier (suc first) n) ≤ suc n
+    go true le = omega arith
+    go false le = omega arith
+
+-- a number of the machine that is not negative is in range
+pub small : (z : ℤ) → pos 0 ≤ℤ z → mag z < 170141183460469231731687303715884105728 → InRange z
+small (pos n) h lt = lt
+small (negsuc n) h lt = absurd (omega (arith, ints))
+
+-- a row behind those of the system
+not_below : (a b : ℕ) → b ≤ a → nat_lt a b ≡ false
+not_below a b le = grind arith
+
+-- a whole number is the fraction over 1
+whole_fraction : (f : Fraction) (z : ℤ) → IsValue f z (pos 1) → ratio_of f ≡ whole z
+whole_fraction f z is = ratio_one (ratio_of f) (whole z) z (pos 1) (new_step f z (pos 1) (λ e. (omega (arith, ints))) is) (whole_ratio z z (pos 1) (λ e. (omega (arith, ints))) (omega (arith, ints)))
+
+-- ---- the row of the system, its name and its factor
+
+module _ (named : NamedSystem) (case : CaseSystem) (shows : ShowsCase named case) where
+  rows_are : length named.system.rows ≡ length case.kept
+  rows_are = ap (λ (s : LinearSystem). length s.rows) shows.system ∙ length-map case.kept (λ k. k.row)
+
+  pub names_many : length named.names.items ≡ length named.system.rows
+  names_many = sym (length-map named.names.items row_name_of) ∙ ap length shows.names ∙ length-map case.kept (λ k. k.name) ∙ sym rows_are
+
+  pub factors_many : length named.factors.items ≡ length named.system.rows
+  factors_many = sym (length-map named.factors.items ratio_of) ∙ ap length shows.factors ∙ length-map case.kept (λ k. k.factor) ∙ sym rows_are
+
+  pub own_name : (i : ℕ) (n : NameOfCode) → i < length named.system.rows → row_name_of (get_or named.names.items i n) ≡ name_of case i
+  own_name i n lt =
+      let kept : i < length case.kept = (let e = rows_are in omega arith) in
+      sym (get_or-map row_name_of named.names.items i n (row_name_of n) (let e = names_many in omega arith))
+      ∙ ap (λ rs. get_or rs i (row_name_of n)) shows.names
+      ∙ get_or-map (λ k. k.name) case.kept i _ (row_name_of n) kept
+      ∙ sym (ap (λ b. if b then (kept_at case i).name else above_row (i - length case.kept)) (lt-ltb i (length case.kept) kept))
+
+  pub own_factor : (sides : List SplitSide) (i : ℕ) (f : Fraction) → i < length named.system.rows → ratio_of (get_or named.factors.items i f) ≡ factor_of case sides i
+  own_factor sides i f lt =
+      let kept : i < length case.kept = (let e = rows_are in omega arith) in
+      sym (get_or-map ratio_of named.factors.items i f (ratio_of f) (let e = factors_many in omega arith))
+      ∙ ap (λ rs. get_or rs i (ratio_of f)) shows.factors
+      ∙ get_or-map (λ k. k.factor) case.kept i _ (ratio_of f) kept
+      ∙ sym (ap (λ b. if b then (kept_at case i).factor else whole (form_at case.forms (side_at sides (i - length case.kept)).form).scale) (lt-ltb i (length case.kept) kept))
+
+  -- ---- the row of a split
+
+  pub split_name : (i : ℕ) → length named.system.rows ≤ i → above_row (i - length named.system.rows) ≡ name_of case i
+  split_name i le = ap (λ n. above_row (i - n)) rows_are ∙ sym (ap (λ b. if b then (kept_at case i).name else above_row (i - length case.kept)) (not_below i (length case.kept) (let e = rows_are in omega arith)))
+
+  pub split_factor : (sides : List SplitSide) (i : ℕ) (side : SplitSide) (f : NamedForm) (scale : Fraction) → length named.system.rows ≤ i → side_at sides (i - length named.system.rows) ≡ side → side.form < length named.forms.items → get_or named.forms.items side.form f ≡ f → IsValue scale f.scale (pos 1) → ratio_of scale ≡ factor_of case sides i
+  split_factor sides i side f scale le at lt form value =
+      whole_fraction scale f.scale value
+      ∙ ap (λ (g : NamedForm). whole g.scale) (sym form)
+      ∙ ap (λ (g : Form). whole g.scale) (sym (get_or-map linear_form named.forms.items side.form f (record { scale = pos 1; coeffs = []; low = pos 0; high = pos 0 }) lt))
+      ∙ ap (λ fs. whole (form_at fs side.form).scale) shows.forms
+      ∙ ap (λ (s : SplitSide). whole (form_at case.forms s.form).scale) (sym at)
+      ∙ ap (λ n. whole (form_at case.forms (side_at sides (i - n)).form).scale) rows_are
+      ∙ sym (ap (λ b. if b then (kept_at case i).factor else whole (form_at case.forms (side_at sides (i - length case.kept)).form).scale) (not_below i (length case.kept) (let e = rows_are in omega arith)))
+
+-- ---- one share
+
+-- the multiplier times the factor
+product_step : (f factor : Fraction) (z : ℤ) (other : Ratio) (r : Result Fraction Wide) → IsValue f z (pos 1) → ratio_of factor ≡ other → IsProduct (numerator_of f) (denominator_of f) (numerator_of factor) (denominator_of factor) r → mul (whole z) other (shown_result ratio_of r)
+product_step f factor z other r is same product = subst (λ x. mul x other (shown_result ratio_of r)) (whole_fraction f z is) (subst (λ x. mul (ratio_of f) x (shown_result ratio_of r)) same (mul_step f factor r product))
+
+module _ (case : CaseSystem) (sides : List SplitSide) (i : ℕ) (z : ℤ) (f factor : Fraction) (is : IsValue f z (pos 1)) (factor_is : ratio_of factor ≡ factor_of case sides i) where
+  pub share_made : (name : NameOfCode) (share : Fraction) → row_name_of name ≡ name_of case i → IsProduct (numerator_of f) (denominator_of f) (numerator_of factor) (denominator_of factor) (Ok share) → share_fold case sides (record { row = i; multiplier = z }) (Ok (share_of (name, share)))
+  share_made name share named product = (ratio_of share, product_step f factor z (factor_of case sides i) (Ok share) is factor_is product, ap (λ n. record { name = n; multiplier = ratio_of share }) named)
+
+  pub share_fails : (w : Wide) → IsProduct (numerator_of f) (denominator_of f) (numerator_of factor) (denominator_of factor) (Err w) → share_fold case sides (record { row = i; multiplier = z }) (Err w)
+  share_fails w product = inl (product_step f factor z (factor_of case sides i) (Err w) is factor_is product)

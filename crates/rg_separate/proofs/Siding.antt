@@ -1,0 +1,47 @@
+-- The sides of splits with their forms by name.
+use Rattle.std.proofs.Common.{◌≡◌, ℕ, ◌+◌, ◌<◌, Bool, List, [], ◌∷◌, ◌++◌, map, take, length, get_or, All, sym, ap, subst, ◌∙◌, arith}
+use Rattle.std.specs.Prelude.{ℤ}
+use Rattle.std.proofs.lemmas.List.{get_or-map, length-map, map-append, take_more}
+use Rattle.std.proofs.lemmas.List.Elements.{All-nil, All-cons, All-weaker}
+use Rattle.rg_refuting.specs.Row.{Form as SplitForm, Form.on_tokens, Side}
+use Rattle.rg_linear.specs.Branching.{Form, SplitSide, SidesWithin, Weight}
+use Rattle.rg_reasons.specs.declared.side.Side.{Side as SideOfCode}
+use Rattle.rg_reasons.specs.Sums as reasons
+use Rattle.rg_branch.specs.Asked.{IsSideOf, AreSidesOf}
+use Rattle.rg_branch.specs.View.{side_of, sides_of, weight_of}
+use Rattle.rg_rows.specs.declared.named_form.NamedForm.{NamedForm}
+use Rattle.rg_rows.specs.Forms.{linear_form, split_of}
+use Rattle.rg_separate.specs.Casing.{sides_among}
+
+pub side_within : (n : ℕ) (above : List (ℕ × ℤ × Bool)) (i : ℕ) (d : ℕ × ℤ × Bool) → All (λ s. s.form < n) (sides_of above) → i < length above → (get_or above i d).0 < n
+side_within n above i d all lt = subst (λ (s : SplitSide). s.form < n) (get_or-map side_of above i d (side_of d) lt) (all i (side_of d) (let e = length-map above side_of in omega arith))
+
+-- one side by name
+abbrev named : List SplitForm → SplitSide → Side
+named forms side = record { form = get_or forms side.form (on_tokens 0); at = side.at; high = side.high }
+
+pub sides_more : (forms : List NamedForm) (above : List (ℕ × ℤ × Bool)) (i : ℕ) (d : ℕ × ℤ × Bool) (f : NamedForm) (sides : List SideOfCode) → i < length above → (get_or above i d).0 < length forms → map reasons.side_of sides ≡ sides_among (map split_of forms) (sides_of (take i above)) → map reasons.side_of (sides ++ record { form = (get_or forms (get_or above i d).0 f).form; at = (get_or above i d).1; high = (get_or above i d).2 } ∷ []) ≡ sides_among (map split_of forms) (sides_of (take (i + 1) above))
+sides_more forms above i d f sides lt within so_far =
+    map-append reasons.side_of sides (record { form = (get_or forms (get_or above i d).0 f).form; at = (get_or above i d).1; high = (get_or above i d).2 } ∷ [])
+    ∙ ap (λ xs. xs ++ record { form = split_of (get_or forms (get_or above i d).0 f); at = (get_or above i d).1; high = (get_or above i d).2 } ∷ []) so_far
+    ∙ ap (λ g. sides_among (map split_of forms) (sides_of (take i above)) ++ record { form = g; at = (get_or above i d).1; high = (get_or above i d).2 } ∷ []) (sym (get_or-map split_of forms (get_or above i d).0 f (on_tokens 0) within))
+    ∙ sym (ap (λ xs. sides_among (map split_of forms) (sides_of xs)) (take_more above i d lt)
+    ∙ ap (sides_among (map split_of forms)) (map-append side_of (take i above) (get_or above i d ∷ []))
+    ∙ map-append (named (map split_of forms)) (sides_of (take i above)) (side_of (get_or above i d) ∷ []))
+
+-- the splits of a branching are on its forms
+pub sides_on_forms : (forms : List Form) (above sides : List SplitSide) → SidesWithin forms above sides → All (λ s. s.form < length forms) sides
+sides_on_forms forms above [] within = All-nil (λ (s : SplitSide). s.form < length forms)
+sides_on_forms forms above (side ∷ sides) (here, within) = All-cons (λ (s : SplitSide). s.form < length forms) side sides here.0 (sides_on_forms forms (above ++ side ∷ []) sides within)
+
+-- as many as are named
+pub sides_on_named : (forms : List NamedForm) (sides : List SplitSide) → All (λ s. s.form < length (map linear_form forms)) sides → All (λ s. s.form < length forms) sides
+sides_on_named forms sides all = All-weaker (λ (s : SplitSide). s.form < length (map linear_form forms)) (λ (s : SplitSide). s.form < length forms) (λ s lt. (let e = length-map forms linear_form in omega arith)) sides all
+
+-- what holds of the weights holds of each
+pub weight_is : (P : Weight → Type 0) (weights : List (ℕ × ℤ)) (i : ℕ) (d : ℕ × ℤ) → All P (map weight_of weights) → i < length weights → P (weight_of (get_or weights i d))
+weight_is P weights i d all lt = subst P (get_or-map weight_of weights i d (weight_of d) lt) (all i (weight_of d) (let e = length-map weights weight_of in omega arith))
+
+-- so are those above a node that stands
+pub sides_of_visit : (forms : List Form) (sides : List SplitSide) → AreSidesOf forms sides → All (λ s. s.form < length forms) sides
+sides_of_visit forms sides are = All-weaker (IsSideOf forms) (λ (s : SplitSide). s.form < length forms) (λ s is. is.form) sides are.each
