@@ -1,8 +1,8 @@
 //! The systems of problems, with rows, names, factors and forms worked by hand.
 use crate::bases::basis;
 use crate::systems::{
-    ABA, CHOICE, NONBRANCHING, NONE, PLAIN, PURE, PURE_NONBRANCHING, PURE_PLAIN, RING, SAFE, SIDE,
-    STEP, is_asked, system,
+    ABA, CHOICE, NONBRANCHING, NONE, PLAIN, PURE, PURE_NONBRANCHING, PURE_PLAIN, PURE_PLAIN_SAFE,
+    RING, SAFE, SIDE, STEP, is_asked, system,
 };
 use rg_rows::{NamedSystem, cases};
 use rg_spanning::Tree;
@@ -163,6 +163,13 @@ fn systems_of_cases(rt: HostRuntime) -> Result<(), Fail> {
             Event(5, 4),
             0,
             "1 4; Stop(1) [0, 1, 0, 0] -1 1/1; Stop(3) [-1, 0, 0, 0] -1 1/1",
+        ),
+        (
+            LOCK,
+            PURE_PLAIN_SAFE,
+            Event(0, 2),
+            0,
+            "1 5; Block [-1, -1, 0, 0, 0] -1 1/1; Tokens(0) [1, 0, 0, 0, 0] 0 1/1; Tokens(1) [1, 0, 0, -1, -1] 0 1/1; Tokens(2) [1, -1, -1, 0, 0] 0 1/1; Tokens(3) [1, -1, -1, -1, -1] 0 1/1; Tokens(4) [1, 0, -1, 0, 0] 0 1/1; Tokens(5) [1, 0, -1, -1, -1] 0 1/1; Tokens(6) [1, 0, 0, 0, -1] 0 1/1; Tokens(7) [1, -1, -1, 0, -1] 0 1/1; Cap(0) [-1, 0, 0, 0, 0] 1 1/1; Cap(1) [-1, 0, 0, 1, 1] 1 1/1; Cap(2) [-1, 1, 1, 0, 0] 1 1/1; Cap(3) [-1, 1, 1, 1, 1] 1 1/1; Cap(4) [-1, 0, 1, 0, 0] 1 1/1; Cap(5) [-1, 0, 1, 1, 1] 1 1/1; Cap(6) [-1, 0, 0, 0, 1] 1 1/1; Cap(7) [-1, 1, 1, 0, 1] 1 1/1; Up(0) [0, 0, 0, 1, 1] 1 1/1; Up(1) [0, 1, 1, 0, 0] 1 1/1; Up(2) [0, -1, 0, 0, 0] 1 1/1; Up(3) [0, 0, -1, 0, 0] 1 1/1; Up(4) [0, 0, 0, -1, 0] 1 1/1; Up(5) [0, 0, 0, 0, -1] 1 1/1; Down(0) [0, 0, 0, -1, -1] 1 1/1; Down(1) [0, -1, -1, 0, 0] 1 1/1; Down(2) [0, 1, 0, 0, 0] 1 1/1; Down(3) [0, 0, 1, 0, 0] 1 1/1; Down(4) [0, 0, 0, 1, 0] 1 1/1; Down(5) [0, 0, 0, 0, 1] 1 1/1; Tokens(0) 1 [1, 0, 0, 0, 0] 0 1 1 1; Tokens(1) 1 [1, 0, 0, -1, -1] 0 1 2 1; Tokens(2) 1 [1, -1, -1, 0, 0] 0 1 3 1; Tokens(3) 1 [1, -1, -1, -1, -1] 0 1 4 1; Tokens(4) 1 [1, 0, -1, 0, 0] 0 1 5 1; Tokens(5) 1 [1, 0, -1, -1, -1] 0 1 6 1; Tokens(6) 1 [1, 0, 0, 0, -1] 0 1 7 1; Tokens(7) 1 [1, -1, -1, 0, -1] 0 1 8 1",
         ),
     ] {
         let told = told(rt.alloc(), text, class, problem, number)?;

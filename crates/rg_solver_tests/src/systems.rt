@@ -42,6 +42,11 @@ pub(crate) const SAFE: Class = Class {
     ..NONE
 };
 
+pub(crate) const PURE_PLAIN_SAFE: Class = Class {
+    bound: Some(1),
+    ..PURE_PLAIN
+};
+
 pub(crate) const TWO_BOUNDED: Class = Class {
     bound: Some(2),
     ..NONE
