@@ -12,4 +12,6 @@ mod random;
 #[cfg(test)]
 mod systems;
 #[cfg(test)]
+mod turning;
+#[cfg(test)]
 mod worked;
