@@ -1,0 +1,151 @@
+-- A case comes to one result.
+use Rattle.std.proofs.Common.{◌≡◌, ◌⊎◌, inl, inr, ℕ, ◌<◌, List, [], ◌∷◌, ◌++◌, Result, Ok, Err, refl, sym, ap, subst, ◌∙◌, arith}
+use Rattle.std.proofs.lemmas.List.{ext_get_or, length-map}
+use Rattle.std.specs.Prelude.{pos, drop, if◌then◌else◌}
+use Rattle.rg_theory.specs.declared.Arc.{Arc}
+use Rattle.rg_theory.specs.System.{System}
+use Rattle.rg_theory.specs.Net.{Place}
+use Rattle.rg_theory.specs.declared.Class.{Class}
+use Rattle.rg_theory.specs.declared.Problem.{Problem}
+use Rattle.rg_refuting.specs.Refutes.{Tree, Tree.leaf as refuting_leaf, Tree.split as refuting_split}
+use Rattle.rg_fraction.specs.declared.term.Wide.{Wide}
+use Rattle.rg_linear.specs.System.{LinearSystem}
+use Rattle.rg_linear.specs.Dictionary.{Relation}
+use Rattle.rg_linear.specs.Cycle.{CycleBasis}
+use Rattle.rg_linear.specs.Branching.{SplitTree, SplitTree.leaf, SplitTree.split, SplitSide, low_side, high_side, node_system, Branching, BranchOutcome, BranchOutcome.found, BranchOutcome.tree, BranchOutcome.stopped}
+use Rattle.rg_linear.proofs.Unique.{same_relation}
+use Rattle.rg_linear.proofs.Branches.{same_branch}
+use Rattle.rg_order_of_work.specs.Fold.{Ratio, whole, IsRatio, ratio_of}
+use Rattle.rg_order_of_work.specs.Rewriting.{free_columns, has_start, CaseSystem, rows_of, system_fold}
+use Rattle.rg_order_of_work.specs.Meaning.{first_column}
+use Rattle.rg_places.specs.PointValues.{ratios_of, ratio_beside, point_start, point_value}
+use Rattle.rg_fraction.specs.declared.fraction.Fraction.{Fraction}
+use Rattle.rg_order_of_work.specs.Placing.{ratio_at, place_fold}
+use Rattle.rg_order_of_work.specs.Shown.{Stage, IsValueAt, named_side, named_sides}
+use Rattle.rg_order_of_work.proofs.FoldLemmas.{ok_is, err_is, ok_not_err, ratio_one}
+use Rattle.rg_order_of_work.proofs.OneResult.{system_one, place_one, spread_one}
+use Rattle.rg_outcome.specs.Casing.{CaseResult, CaseResult.makes, CaseResult.refutes, CaseResult.passes, AreColumnValues, LeafWide, spread_tree, step_at, term_at, CaseComes, CaseComes.row_passes, CaseComes.pivot_passes, CaseComes.place_passes, CaseComes.place_is_made, CaseComes.leaf_passes, CaseComes.is_refuted}
+
+-- ---- the values of columns
+
+same_value : (system : LinearSystem) (members : List ℕ) (j : ℕ) (f g : Ratio) → IsValueAt system members j f → IsValueAt system members j g → f ≡ g
+same_value system members j f g (inl (has, e)) (inl (has', e')) = e ∙ sym e'
+same_value system members j f g (inl (has, e)) (inr (k, row, is)) = absurd (row.outside has)
+same_value system members j f g (inr (k, row, is)) (inl (has, e)) = absurd (row.outside has)
+same_value system members j f g (inr (k, row, is)) (inr (k', row', is')) =
+    let same : k' ≡ k = same_relation system members j k' k row' row in
+    ratio_one f g k.constant k.d is (subst (λ (x : Relation). IsRatio g x.constant x.d) same is')
+
+pub same_values : (system : LinearSystem) (members : List ℕ) (point point' : List Fraction) → AreColumnValues system members point → AreColumnValues system members point' → ratios_of point ≡ ratios_of point'
+same_values system members point point' are are' =
+    ext_get_or (whole (pos 0)) (ratios_of point) (ratios_of point') (length-map point ratio_of ∙ are.one_each ∙ sym (length-map point' ratio_of ∙ are'.one_each))
+    (λ j lt. (let below : j < system.columns = (let l = length-map point ratio_of in let e = are.one_each in omega arith) in same_value system members j (ratio_at (ratios_of point) j) (ratio_at (ratios_of point') j) (are.each j below) (are'.each j below)))
+
+-- the place of a point is made of its ratios
+same_point : (lts : System) (arcs : List Arc) (basis : CycleBasis) (class : Class) (problem : Problem) (point point' : List Fraction) (made : Result Place Wide) → ratios_of point' ≡ ratios_of point
+    → place_fold lts arcs basis class problem (point_start class point') (point_value lts basis class point') made → place_fold lts arcs basis class problem (point_start class point) (point_value lts basis class point) made
+same_point lts arcs basis class problem point point' made same is =
+    subst (λ (v : List Ratio). place_fold lts arcs basis class problem (if has_start class then ratio_at v 0 else whole (pos 0)) (ratio_beside (free_columns lts basis) (drop (first_column class) v)) made) same is
+
+-- ---- the leaves of a tree
+
+same_leaf_wide : (at at' : LeafWide) → at.above ≡ at'.above → at.wide ≡ at'.wide → at ≡ at'
+same_leaf_wide at at' e f = λ i. record { above = e i; wide = f i }
+
+abbrev SameTree : Result Tree LeafWide → Result Tree LeafWide → Type 0
+SameTree r r' = r ≡ r'
+
+tree_ok : (t t' : Tree) → SameTree (Ok t) (Ok t') → t ≡ t'
+tree_ok t t' e = cc
+
+tree_err : (at at' : LeafWide) → SameTree (Err at) (Err at') → at ≡ at'
+tree_err at at' e = cc
+
+tree_ok_not_err : (t : Tree) (at : LeafWide) → SameTree (Ok t) (Err at) → ⊥
+tree_ok_not_err t at e = cc
+
+module _ (lts : System) (arcs : List Arc) (basis : CycleBasis) (class : Class) (problem : Problem) (number : ℕ) (case : CaseSystem) where
+  pub same_tree : (above : List SplitSide) (t : SplitTree) (r r' : Result Tree LeafWide) → spread_tree lts arcs basis class problem number case above t r → spread_tree lts arcs basis class problem number case above t r' → r ≡ r'
+  same_tree above (leaf weights) (Ok t) (Ok t') (rows, made, e) (rows', made', e') =
+      let same : rows ≡ rows' = ok_is rows rows' ((spread_one lts arcs basis class problem number case above (named_sides lts class above) weights).one (Ok rows) (Ok rows') made made') in
+      ap Ok (e ∙ ap refuting_leaf same ∙ sym e')
+  same_tree above (leaf weights) (Ok t) (Err at) (rows, made, e) (e', err) = absurd (ok_not_err rows at.wide ((spread_one lts arcs basis class problem number case above (named_sides lts class above) weights).one (Ok rows) (Err at.wide) made err))
+  same_tree above (leaf weights) (Err at) (Ok t) (e, err) (rows, made, e') = absurd (ok_not_err rows at.wide ((spread_one lts arcs basis class problem number case above (named_sides lts class above) weights).one (Ok rows) (Err at.wide) made err))
+  same_tree above (leaf weights) (Err at) (Err at') (e, err) (e', err') =
+      ap Err (same_leaf_wide at at' (e ∙ sym e') (err_is at.wide at'.wide ((spread_one lts arcs basis class problem number case above (named_sides lts class above) weights).one (Err at.wide) (Err at'.wide) err err')))
+  same_tree above (split f u low high) (Ok t) (Ok t') (l, h, is_l, is_h, e) (l', h', is_l', is_h', e') =
+      let el : l ≡ l' = tree_ok l l' (same_tree (above ++ low_side f u ∷ []) low (Ok l) (Ok l') is_l is_l') in
+      let eh : h ≡ h' = tree_ok h h' (same_tree (above ++ high_side f u ∷ []) high (Ok h) (Ok h') is_h is_h') in
+      ap Ok (e ∙ ap (λ x. refuting_split (named_side lts class (low_side f u)).form u x h) el ∙ ap (λ x. refuting_split (named_side lts class (low_side f u)).form u l' x) eh ∙ sym e')
+  same_tree above (split f u low high) (Ok t) (Err at) (l, h, is_l, is_h, e) (inl err) = absurd (tree_ok_not_err l at (same_tree (above ++ low_side f u ∷ []) low (Ok l) (Err at) is_l err))
+  same_tree above (split f u low high) (Ok t) (Err at) (l, h, is_l, is_h, e) (inr (l', is_l', err)) = absurd (tree_ok_not_err h at (same_tree (above ++ high_side f u ∷ []) high (Ok h) (Err at) is_h err))
+  same_tree above (split f u low high) (Err at) (Ok t) (inl err) (l, h, is_l, is_h, e) = absurd (tree_ok_not_err l at (same_tree (above ++ low_side f u ∷ []) low (Ok l) (Err at) is_l err))
+  same_tree above (split f u low high) (Err at) (Ok t) (inr (l', is_l', err)) (l, h, is_l, is_h, e) = absurd (tree_ok_not_err h at (same_tree (above ++ high_side f u ∷ []) high (Ok h) (Err at) is_h err))
+  same_tree above (split f u low high) (Err at) (Err at') (inl err) (inl err') = same_tree (above ++ low_side f u ∷ []) low (Err at) (Err at') err err'
+  same_tree above (split f u low high) (Err at) (Err at') (inl err) (inr (l, is_l, err')) = absurd (tree_ok_not_err l at (same_tree (above ++ low_side f u ∷ []) low (Ok l) (Err at) is_l err))
+  same_tree above (split f u low high) (Err at) (Err at') (inr (l, is_l, err)) (inl err') = absurd (tree_ok_not_err l at' (same_tree (above ++ low_side f u ∷ []) low (Ok l) (Err at') is_l err'))
+  same_tree above (split f u low high) (Err at) (Err at') (inr (l, is_l, err)) (inr (l', is_l', err')) = same_tree (above ++ high_side f u ∷ []) high (Err at) (Err at') err err'
+
+-- ---- a case
+
+-- what the place, or the leaves, of a case come to
+abbrev placing : System → Class → Problem → ℕ → List SplitSide → Result Place Wide → CaseResult
+placing lts class problem number sides (Ok p) = makes p
+placing lts class problem number sides (Err w) = passes (step_at Stage.place problem number (named_sides lts class sides) w)
+
+abbrev leaving : System → Class → Problem → ℕ → Result Tree LeafWide → CaseResult
+leaving lts class problem number (Ok t) = refutes t
+leaving lts class problem number (Err at) = passes (step_at Stage.spread problem number (named_sides lts class at.above) at.wide)
+
+-- what follows where a branching ends in this way
+abbrev EndsIn : System → List Arc → CycleBasis → Class → Problem → ℕ → CaseSystem → BranchOutcome → CaseResult → Type 0
+EndsIn lts arcs basis class problem number case (stopped sides at) r = r ≡ passes (term_at problem number (named_sides lts class sides) at)
+EndsIn lts arcs basis class problem number case (found members sides) r =
+    (point : List Fraction) × (made : Result Place Wide) × AreColumnValues (node_system (rows_of case) case.forms sides) members point
+    × place_fold lts arcs basis class problem (point_start class point) (point_value lts basis class point) made × (r ≡ placing lts class problem number sides made)
+EndsIn lts arcs basis class problem number case (tree multipliers) r =
+    (made : Result Tree LeafWide) × spread_tree lts arcs basis class problem number case [] multipliers made × (r ≡ leaving lts class problem number made)
+
+record Stops (lts : System) (arcs : List Arc) (basis : CycleBasis) (class : Class) (problem : Problem) (number : ℕ) (r : CaseResult) : Type 0 where
+  pub w : Wide
+  pub passes_at : system_fold lts arcs basis class problem number (Err w)
+  pub is : r ≡ passes (step_at Stage.row problem number [] w)
+
+record GoesOn (lts : System) (arcs : List Arc) (basis : CycleBasis) (class : Class) (problem : Problem) (number : ℕ) (r : CaseResult) : Type 0 where
+  pub case : CaseSystem
+  pub made : system_fold lts arcs basis class problem number (Ok case)
+  pub outcome : BranchOutcome
+  pub branching : Branching (rows_of case) case.forms outcome
+  pub ends : EndsIn lts arcs basis class problem number case outcome r
+
+module _ (lts : System) (arcs : List Arc) (basis : CycleBasis) (class : Class) (problem : Problem) (number : ℕ) where
+  unfolded : (r : CaseResult) → CaseComes lts arcs basis class problem number r → Stops lts arcs basis class problem number r ⊎ GoesOn lts arcs basis class problem number r
+  unfolded r (row_passes w is) = inl (record { w = w; passes_at = is; is = refl })
+  unfolded r (pivot_passes case sides at made b) = inr (record { case = case; made = made; outcome = stopped sides at; branching = b; ends = refl })
+  unfolded r (place_passes case members sides point w made b are is) = inr (record { case = case; made = made; outcome = found members sides; branching = b; ends = (point, Err w, are, is, refl) })
+  unfolded r (place_is_made case members sides point p made b are is) = inr (record { case = case; made = made; outcome = found members sides; branching = b; ends = (point, Ok p, are, is, refl) })
+  unfolded r (leaf_passes case multipliers at made b is) = inr (record { case = case; made = made; outcome = tree multipliers; branching = b; ends = (Err at, is, refl) })
+  unfolded r (is_refuted case multipliers t made b is) = inr (record { case = case; made = made; outcome = tree multipliers; branching = b; ends = (Ok t, is, refl) })
+
+  same_end : (case : CaseSystem) (o : BranchOutcome) (r r' : CaseResult) → EndsIn lts arcs basis class problem number case o r → EndsIn lts arcs basis class problem number case o r' → r ≡ r'
+  same_end case (stopped sides at) r r' e e' = e ∙ sym e'
+  same_end case (found members sides) r r' (point, made, are, is, e) (point', made', are', is', e') =
+      let same : ratios_of point' ≡ ratios_of point = same_values (node_system (rows_of case) case.forms sides) members point' point are' are in
+      let one : made ≡ made' = (place_one lts arcs basis class problem (point_start class point) (point_value lts basis class point)).one made made' is (same_point lts arcs basis class problem point point' made' same is') in
+      e ∙ ap (placing lts class problem number sides) one ∙ sym e'
+  same_end case (tree multipliers) r r' (made, is, e) (made', is', e') =
+      e ∙ ap (leaving lts class problem number) (same_tree lts arcs basis class problem number case [] multipliers made made' is is') ∙ sym e'
+
+  pub same_result : (r r' : CaseResult) → CaseComes lts arcs basis class problem number r → CaseComes lts arcs basis class problem number r' → r ≡ r'
+  same_result r r' c c' = go (unfolded r c) (unfolded r' c')
+    where
+      go : Stops lts arcs basis class problem number r ⊎ GoesOn lts arcs basis class problem number r → Stops lts arcs basis class problem number r' ⊎ GoesOn lts arcs basis class problem number r' → r ≡ r'
+      go (inl a) (inl b) = a.is ∙ ap (λ w. passes (step_at Stage.row problem number [] w)) (err_is a.w b.w ((system_one lts arcs basis class problem number).one (Err a.w) (Err b.w) a.passes_at b.passes_at)) ∙ sym b.is
+      go (inl a) (inr b) = absurd (ok_not_err b.case a.w ((system_one lts arcs basis class problem number).one (Ok b.case) (Err a.w) b.made a.passes_at))
+      go (inr a) (inl b) = absurd (ok_not_err a.case b.w ((system_one lts arcs basis class problem number).one (Ok a.case) (Err b.w) a.made b.passes_at))
+      go (inr a) (inr b) =
+          let same : a.case ≡ b.case = ok_is a.case b.case ((system_one lts arcs basis class problem number).one (Ok a.case) (Ok b.case) a.made b.made) in
+          let branching' : Branching (rows_of b.case) b.case.forms a.outcome = subst (λ (x : CaseSystem). Branching (rows_of x) x.forms a.outcome) same a.branching in
+          let outcomes : a.outcome ≡ b.outcome = same_branch (rows_of b.case) b.case.forms [] a.outcome b.outcome branching' b.branching in
+          let ends' = subst (λ o. EndsIn lts arcs basis class problem number b.case o r) outcomes (subst (λ (x : CaseSystem). EndsIn lts arcs basis class problem number x a.outcome r) same a.ends) in
+          same_end b.case b.outcome r r' ends' b.ends

@@ -1,0 +1,109 @@
+-- What one case of a problem comes to.
+use Rattle.std.specs.Prelude.{◌≡◌, ◌⊎◌, ℕ, ◌<◌, List, [], ◌∷◌, ◌++◌, length, Some, Result, Ok, Err}
+use Rattle.rg_theory.specs.declared.Arc.{Arc}
+use Rattle.rg_theory.specs.System.{System}
+use Rattle.rg_theory.specs.Net.{Place}
+use Rattle.rg_theory.specs.declared.Class.{Class}
+use Rattle.rg_theory.specs.declared.Problem.{Problem}
+use Rattle.rg_refuting.specs.Row.{Side}
+use Rattle.rg_refuting.specs.Refutes.{NamedRow, Tree, Tree.leaf as refuting_leaf, Tree.split as refuting_split}
+use Rattle.rg_fraction.specs.declared.term.Wide.{Wide}
+use Rattle.rg_fraction.specs.declared.fraction.Fraction.{Fraction}
+use Rattle.rg_linear.specs.System.{LinearSystem}
+use Rattle.rg_linear.specs.Descent.{WideAt}
+use Rattle.rg_linear.specs.Cycle.{CycleBasis}
+use Rattle.rg_linear.specs.Branching.{SplitTree, SplitTree.leaf, SplitTree.split, SplitSide, low_side, high_side, node_system, Branching, BranchOutcome.found, BranchOutcome.tree, BranchOutcome.stopped}
+use Rattle.rg_order_of_work.specs.Rewriting.{CaseSystem, rows_of, system_fold}
+use Rattle.rg_order_of_work.specs.Placing.{ratio_at, place_fold}
+use Rattle.rg_order_of_work.specs.Spreading.{spread_fold}
+use Rattle.rg_places.specs.PointValues.{ratios_of, point_start, point_value}
+use Rattle.rg_order_of_work.specs.Shown.{Stage, Shown, IsValueAt, named_side, named_sides}
+
+-- a place, a tree that refutes the case, or the first term out of range
+pub data CaseResult : Type 0 where
+  makes : Place → CaseResult
+  refutes : Tree → CaseResult
+  passes : Shown → CaseResult
+
+-- ---- the point at which every member of a set is 0
+
+-- the point has the values of the columns, in order
+pub record AreColumnValues (system : LinearSystem) (members : List ℕ) (point : List Fraction) : Type 0 where
+  pub one_each : length point ≡ system.columns
+  pub each : (j : ℕ) → j < system.columns → IsValueAt system members j (ratio_at (ratios_of point) j)
+
+-- ---- the leaves of a tree, in order
+
+-- a step out of range, and the splits above the leaf in which it stands
+pub record LeafWide : Type 0 where
+  pub above : List SplitSide
+  pub wide : Wide
+
+-- the tree of the leaves of all the multipliers, or the first step out of range, the low side before the high one
+abbrev pub spread_tree : System → List Arc → CycleBasis → Class → Problem → ℕ → CaseSystem → List SplitSide → SplitTree → Result Tree LeafWide → Type 0
+spread_tree lts arcs basis class problem number case above (leaf weights) (Ok t) = (rows : List NamedRow) × spread_fold lts arcs basis class problem number case above (named_sides lts class above) weights (Ok rows) × (t ≡ refuting_leaf rows)
+spread_tree lts arcs basis class problem number case above (leaf weights) (Err at) = (at.above ≡ above) × spread_fold lts arcs basis class problem number case above (named_sides lts class above) weights (Err at.wide)
+spread_tree lts arcs basis class problem number case above (split f u low high) (Ok t) =
+    (l h : Tree) × spread_tree lts arcs basis class problem number case (above ++ low_side f u ∷ []) low (Ok l)
+    × spread_tree lts arcs basis class problem number case (above ++ high_side f u ∷ []) high (Ok h)
+    × (t ≡ refuting_split (named_side lts class (low_side f u)).form u l h)
+spread_tree lts arcs basis class problem number case above (split f u low high) (Err at) =
+    spread_tree lts arcs basis class problem number case (above ++ low_side f u ∷ []) low (Err at)
+    ⊎ ((l : Tree) × spread_tree lts arcs basis class problem number case (above ++ low_side f u ∷ []) low (Ok l) × spread_tree lts arcs basis class problem number case (above ++ high_side f u ∷ []) high (Err at))
+
+-- ---- what is shown
+
+-- a step of a fold that is out of range, in this stage of a case, below these splits
+abbrev pub step_at : Stage → Problem → ℕ → List Side → Wide → Shown
+step_at stage problem number above w = record {
+  stage = stage;
+  problem = Some problem;
+  case_number = number;
+  above = above;
+  members = [];
+  pivot_variable = 0;
+  leaves = 0;
+  target = 0;
+  entry = 0;
+  wide = w;
+}
+
+-- a term of a descent that is out of range, below these splits
+abbrev pub term_at : Problem → ℕ → List Side → WideAt → Shown
+term_at problem number above at = record {
+  stage = Stage.pivot;
+  problem = Some problem;
+  case_number = number;
+  above = above;
+  members = at.members;
+  pivot_variable = at.pivot;
+  leaves = at.leaves;
+  target = at.target;
+  entry = at.entry;
+  wide = at.term;
+}
+
+-- what a case comes to, over the tree of the system and the basis of its chords: its rows, the branching on them, and then the
+-- place of the point or the leaves of the multipliers
+pub data CaseComes (lts : System) (arcs : List Arc) (basis : CycleBasis) (class : Class) (problem : Problem) (number : ℕ) : CaseResult → Type 0 where
+  row_passes : (w : Wide) → system_fold lts arcs basis class problem number (Err w)
+      → CaseComes lts arcs basis class problem number (passes (step_at Stage.row problem number [] w))
+  pivot_passes : (case : CaseSystem) (sides : List SplitSide) (at : WideAt) → system_fold lts arcs basis class problem number (Ok case)
+      → Branching (rows_of case) case.forms (stopped sides at)
+      → CaseComes lts arcs basis class problem number (passes (term_at problem number (named_sides lts class sides) at))
+  place_passes : (case : CaseSystem) (members : List ℕ) (sides : List SplitSide) (point : List Fraction) (w : Wide)
+      → system_fold lts arcs basis class problem number (Ok case) → Branching (rows_of case) case.forms (found members sides)
+      → AreColumnValues (node_system (rows_of case) case.forms sides) members point
+      → place_fold lts arcs basis class problem (point_start class point) (point_value lts basis class point) (Err w)
+      → CaseComes lts arcs basis class problem number (passes (step_at Stage.place problem number (named_sides lts class sides) w))
+  place_is_made : (case : CaseSystem) (members : List ℕ) (sides : List SplitSide) (point : List Fraction) (p : Place)
+      → system_fold lts arcs basis class problem number (Ok case) → Branching (rows_of case) case.forms (found members sides)
+      → AreColumnValues (node_system (rows_of case) case.forms sides) members point
+      → place_fold lts arcs basis class problem (point_start class point) (point_value lts basis class point) (Ok p)
+      → CaseComes lts arcs basis class problem number (makes p)
+  leaf_passes : (case : CaseSystem) (multipliers : SplitTree) (at : LeafWide) → system_fold lts arcs basis class problem number (Ok case)
+      → Branching (rows_of case) case.forms (tree multipliers) → spread_tree lts arcs basis class problem number case [] multipliers (Err at)
+      → CaseComes lts arcs basis class problem number (passes (step_at Stage.spread problem number (named_sides lts class at.above) at.wide))
+  is_refuted : (case : CaseSystem) (multipliers : SplitTree) (t : Tree) → system_fold lts arcs basis class problem number (Ok case)
+      → Branching (rows_of case) case.forms (tree multipliers) → spread_tree lts arcs basis class problem number case [] multipliers (Ok t)
+      → CaseComes lts arcs basis class problem number (refutes t)

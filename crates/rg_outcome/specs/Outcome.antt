@@ -1,0 +1,40 @@
+-- The one answer for a system and a class.
+use Rattle.std.specs.Prelude.{◌≡◌, ℕ, List}
+use Rattle.rg_theory.specs.declared.Arc.{Arc}
+use Rattle.rg_theory.specs.System.{System, IsAllReachable, IsForkFree, IsLeastUnreachable, IsLeastFork}
+use Rattle.rg_theory.specs.Net.{Place}
+use Rattle.rg_theory.specs.declared.Class.{Class}
+use Rattle.rg_theory.specs.Tree.{IsTree}
+use Rattle.rg_refuting.specs.Refutes.{Reason, Reason.unreachable, Reason.fork, Reason.refuted}
+use Rattle.rg_prune.specs.Pruned.{IsPruned}
+use Rattle.rg_linear.specs.Cycle.{CycleBasis}
+use Rattle.rg_order_of_work.specs.Chords.{IsBasis}
+use Rattle.rg_order_of_work.specs.Shown.{Stage, Shown, CycleShown}
+use Rattle.rg_outcome.specs.Solving.{ProblemComes}
+use Rattle.rg_outcome.specs.Coming.{Separation, Separation.places, Separation.unsolvable as of_problem, Separation.too_wide as of_term, Comes}
+
+-- the places of a net, the reason of a certificate, or the term that is shown
+pub data Answer : Type 0 where
+  net : List Place → Answer
+  unsolvable : Reason → Answer
+  too_wide : Shown → Answer
+
+-- what the problems come to is the answer, but for the places that are left out of the net
+abbrev pub Gives : System → Separation → Answer → Type 0
+Gives lts (places kept) (net left) = IsPruned lts kept left
+Gives lts (of_problem problem trees) (unsolvable reason) = reason ≡ refuted problem trees
+Gives lts (of_term w) (too_wide w') = w ≡ w'
+Gives lts _ _ = ⊥
+
+-- what a search for places comes to: the term out of range of the walk over the cycle equations, else what the problems come to over
+-- the basis with which that walk ends
+pub data Searched (lts : System) (class : Class) : Separation → Type 0 where
+  a_cycle : (w : Shown) → w.stage ≡ Stage.cycle → CycleShown lts w → Searched lts class (of_term w)
+  all_problems : (arcs : List Arc) (basis : CycleBasis) (o : Separation) → IsTree lts arcs → IsBasis lts arcs basis
+      → Comes lts (ProblemComes lts arcs basis class) o → Searched lts class o
+
+-- the answer for a system and a class: the least unreachable state, else the first fork, else what the search comes to
+pub data Out (lts : System) (class : Class) : Answer → Type 0 where
+  a_state : (s : ℕ) → IsLeastUnreachable lts s → Out lts class (unsolvable (unreachable s))
+  a_fork : (s t s₁ s₂ : ℕ) → IsAllReachable lts → IsLeastFork lts s t s₁ s₂ → Out lts class (unsolvable (fork s t s₁ s₂))
+  a_search : (o : Separation) (a : Answer) → IsAllReachable lts → IsForkFree lts → Searched lts class o → Gives lts o a → Out lts class a

@@ -1,0 +1,41 @@
+-- What one problem comes to. Nothing here knows of the places that are kept, so a problem may be solved at any time.
+use Rattle.std.specs.Prelude.{◌≡◌, ◌⊎◌, ℕ, ◌<◌, List, length, slice_get, Some}
+use Rattle.rg_theory.specs.declared.Arc.{Arc}
+use Rattle.rg_theory.specs.System.{System, labels, IsDead}
+use Rattle.rg_theory.specs.Net.{Place}
+use Rattle.rg_theory.specs.declared.Class.{Class}
+use Rattle.rg_theory.specs.Region.{blocking}
+use Rattle.rg_theory.specs.declared.Problem.{Problem}
+use Rattle.rg_theory.specs.declared.Problem.TheVariants.{Event, States}
+use Rattle.rg_refuting.specs.Row.{cases_of}
+use Rattle.rg_refuting.specs.Refutes.{Tree}
+use Rattle.rg_linear.specs.Cycle.{CycleBasis}
+use Rattle.rg_order_of_work.specs.Shown.{Shown}
+use Rattle.rg_outcome.specs.Casing.{CaseResult, CaseResult.makes, CaseResult.refutes, CaseResult.passes, CaseComes}
+
+-- a place, a tree for each case, or the term out of range that is shown
+pub data Solved : Type 0 where
+  placed : Place → Solved
+  refuted : List Tree → Solved
+  passed : Shown → Solved
+
+-- no case before this one makes a place; none shows a term out of range
+abbrev pub NoneMakes : (ℕ → CaseResult → Type 0) → ℕ → Type 0
+NoneMakes comes n = (i : ℕ) (p : Place) → i < n → ¬ comes i (makes p)
+
+abbrev pub NonePasses : (ℕ → CaseResult → Type 0) → ℕ → Type 0
+NonePasses comes n = (i : ℕ) (w : Shown) → i < n → ¬ comes i (passes w)
+
+-- what n cases come to together: the place of the first case that makes one; else, where none shows a term out of range, the trees
+-- of all; else the term of the first case that shows one
+pub data CasesCome (comes : ℕ → CaseResult → Type 0) (n : ℕ) : Solved → Type 0 where
+  first_place : (i : ℕ) (p : Place) → i < n → comes i (makes p) → NoneMakes comes i → CasesCome comes n (placed p)
+  all_refuted : (trees : List Tree) → length trees ≡ n → ((i : ℕ) (t : Tree) → slice_get trees i ≡ Some t → comes i (refutes t)) → CasesCome comes n (refuted trees)
+  first_term : (i : ℕ) (w : Shown) → i < n → comes i (passes w) → NonePasses comes i → NoneMakes comes n → CasesCome comes n (passed w)
+
+-- what a problem comes to; that of a label without an arc has a place of its own
+abbrev pub ProblemComes : System → List Arc → CycleBasis → Class → Problem → Solved → Type 0
+ProblemComes lts arcs basis class (Event s t) r =
+    (IsDead lts t × (r ≡ placed (blocking (labels lts) t)))
+    ⊎ (¬ IsDead lts t × CasesCome (CaseComes lts arcs basis class (Event s t)) (cases_of lts class (Event s t)) r)
+ProblemComes lts arcs basis class (States s s') r = CasesCome (CaseComes lts arcs basis class (States s s')) (cases_of lts class (States s s')) r
