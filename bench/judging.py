@@ -3,9 +3,10 @@
 
     bench/judging.py crates/regions/out/regions [crates/judge_bench/out/judge_bench]
 
-The nets are those that the first program writes for the grid of 63 and the lock of nine users, for the class `none`, and a made one:
-16,384 places over 4,096 states and 262,144 arcs, which it solves, so that every chord is compared on every place. `seconds` is what
-the judge takes beyond reading, `in all` and `MiB` are those of the whole run. It is run by hand and is no test.
+The nets are those that the first program writes for the grid of 63 and the lock of nine users, for the class `none`, and two made
+ones of 16,384 places for 4,096 states and 262,144 arcs, which they solve, so that every chord is compared on every place: in the first
+one each label but one moves tokens on two places, in the second on 8,192, which makes a net file of 10 MB. `seconds` is what the judge
+takes beyond reading, `in all` and `MiB` are those of the whole run. It is run by hand and is no test.
 """
 import os
 import re
@@ -27,8 +28,7 @@ def steps(up, down):
 
 
 def made():
-    """Two counters from 0 to 63 that move by up to 19, and a loop while the first is at least 27. Each counter has two places, one
-    for what it has and one for what it lacks, and each place has 4,096 multiples."""
+    """Two counters from 0 to 63 that move by up to 19, and a loop while the first is at least 27."""
     moves = {'a': steps(19, 19), 'b': steps(19, 18)}
     labels = [axis + word for axis in moves for _, word in moves[axis]] + ['loop']
     states, arcs = [f's{i}_{j}' for i in range(SIDE) for j in range(SIDE)], []
@@ -42,22 +42,24 @@ def made():
     return states, labels, arcs
 
 
-def members(axis, kind, weight):
-    return ', '.join(f'{weight * n}*{axis}{kind}{n}' for n in range(1, COPIES + 1))
+def members(axis, kind, weight, moved):
+    return ', '.join(f'{weight * n}*{axis}{kind}{n}' for n in range(1, moved + 1))
 
 
-def made_net():
+def made_net(moved):
+    """A net for the made system. Each counter has 4,096 places for what it has and 4,096 for what it lacks: so many multiples, and
+    the others without any token."""
     places = [f'{axis}{kind}{n}' for axis in 'ab' for kind in ('has', 'lacks') for n in range(1, COPIES + 1)]
     moves = {'a': steps(19, 19), 'b': steps(19, 18)}
     flows = []
     for axis in moves:
         for k, word in moves[axis]:
             less, more = ('lacks', 'has') if k > 0 else ('has', 'lacks')
-            flows.append(f'{axis}{word}: {{{members(axis, less, abs(k))}}} -> {{{members(axis, more, abs(k))}}}')
-    loop = members('a', 'has', 27)
+            flows.append(f'{axis}{word}: {{{members(axis, less, abs(k), moved)}}} -> {{{members(axis, more, abs(k), moved)}}}')
+    loop = members('a', 'has', 27, moved)
     flows.append(f'loop: {{{loop}}} -> {{{loop}}}')
     labels = made()[1]
-    start = ', '.join(members(axis, 'lacks', SIDE - 1) for axis in moves)
+    start = ', '.join(members(axis, 'lacks', SIDE - 1, moved) for axis in moves)
     lines = ['.type PN', '.places', *places, '.transitions', *labels, '.flows', *flows, f'.initial_marking {{{start}}}']
     return '\n'.join(lines) + '\n'
 
@@ -85,10 +87,10 @@ def main():
     print(' | '.join(HEAD))
     with tempfile.TemporaryDirectory() as folder:
         system_path, net_path = os.path.join(folder, 'system.apt'), os.path.join(folder, 'net')
-        for name, system in (('grid 63', grid(63)), ('lock 9', lock(9)), ('made', made())):
+        for name, system, moved in (('grid 63', grid(63), 0), ('lock 9', lock(9), 0), ('made', made(), 1), ('made, dense', made(), COPIES)):
             with open(system_path, 'w') as file:
                 file.write(text(*system))
-            net = made_net() if name == 'made' else synthesized(sys.argv[1], system_path)
+            net = made_net(moved) if moved else synthesized(sys.argv[1], system_path)
             with open(net_path, 'w') as file:
                 file.write(net)
             lines = net.split('\n')

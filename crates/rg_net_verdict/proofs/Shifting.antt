@@ -7,7 +7,7 @@ use Rattle.std.proofs.lemmas.List.Elements.{All-more, All-set}
 use Rattle.rg_integers.specs.Range.{greatest}
 use Rattle.rg_theory.specs.Net.{Marking}
 use Rattle.rg_net_verdict.specs.declared.flow.Flow.{Flow}
-use Rattle.rg_net_verdict.specs.Flows.{AreListed, left_by, IsMoved, IsFirstOver}
+use Rattle.rg_net_verdict.specs.Flows.{AreListed, HasTokens, left_by, IsMoved, IsFirstOver}
 
 -- what is read past a list's end
 abbrev pub no_flow : Flow
@@ -99,6 +99,7 @@ pub record AgreeSoFar (flow : List Flow) (from to : Marking) (k start : ℕ) : T
   pub bound : start ≤ length from
   pub before : (j : ℕ) (d : Flow) → j < k → j < length flow → (get_or flow j d).place < start
   pub after : (j : ℕ) (d : Flow) → k ≤ j → j < length flow → start ≤ (get_or flow j d).place
+  pub tokens : All (λ f. f.pre ≤ get_or from f.place 0) (take k flow)
   pub each : All (λ f. get_or to f.place 0 ≡ left_by from f) (take k flow)
   pub others : (i : ℕ) → i < start → All (λ f. f.place ≢ i) flow → get_or to i 0 ≡ get_or from i 0
 
@@ -107,6 +108,7 @@ agree_start flow from to = record {
   bound = omega arith;
   before = λ j d less. absurd (omega arith);
   after = λ j d le lt. omega arith;
+  tokens = λ j d lt. absurd (let long = length-take 0 flow in omega arith);
   each = λ j d lt. absurd (let long = length-take 0 flow in omega arith);
   others = λ i lt. absurd (omega arith);
 }
@@ -147,14 +149,15 @@ module _ (flow : List Flow) (from to : Marking) (listed : AreListed flow (length
     pub agree_here : IsMoved flow from to → get_or to next.place 0 ≡ left_by from next
     agree_here moved = moved.each k d lt
 
-    pub agree_more : SameBetween from to start next.place → get_or to next.place 0 ≡ left_by from next → AgreeSoFar flow from to (k + 1) (next.place + 1)
-    agree_more same here = record {
+    pub agree_more : SameBetween from to start next.place → next.pre ≤ get_or from next.place 0 → get_or to next.place 0 ≡ left_by from next → AgreeSoFar flow from to (k + 1) (next.place + 1)
+    agree_more same enough here = record {
       bound = let below = listed.within k d lt in omega arith;
       before = before;
       after = λ j e le lt'. (let order = listed.ordered k j e (omega arith) lt' in
           let at = get_or_default flow k e d lt in
           let place = ap (λ (g : Flow). g.place) at in
           omega arith);
+      tokens = All-more (λ f. f.pre ≤ get_or from f.place 0) flow k d lt so_far.tokens enough;
       each = All-more (λ f. get_or to f.place 0 ≡ left_by from f) flow k d lt so_far.each here;
       others = λ i less apart. ⊎_elim
           (λ early. so_far.others i early apart)
@@ -179,9 +182,12 @@ module _ (flow : List Flow) (from to : Marking) (listed : AreListed flow (length
     pub agree_rest : IsMoved flow from to → SameBetween from to start (length from)
     agree_rest moved i le lt = moved.others i lt (between (length from) (nothing (length from)) i le lt)
 
-    pub agree_all : length to ≡ length from → SameBetween from to start (length from) → IsMoved flow from to
-    agree_all long same = record {
-      long = long;
-      each = subst (All (λ f. get_or to f.place 0 ≡ left_by from f)) (take_all k flow past) so_far.each;
-      others = λ i lt apart. ⊎_elim (λ early. so_far.others i early apart) (λ late. same i late lt) (cases_lt i start);
-    }
+    pub agree_all : length to ≡ length from → SameBetween from to start (length from) → HasTokens flow from × IsMoved flow from to
+    agree_all long same = (
+      subst (All (λ f. f.pre ≤ get_or from f.place 0)) (take_all k flow past) so_far.tokens,
+      record {
+        long = long;
+        each = subst (All (λ f. get_or to f.place 0 ≡ left_by from f)) (take_all k flow past) so_far.each;
+        others = λ i lt apart. ⊎_elim (λ early. so_far.others i early apart) (λ late. same i late lt) (cases_lt i start);
+      },
+    )

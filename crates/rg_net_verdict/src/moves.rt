@@ -42,18 +42,20 @@ pub(crate) fn moved(alloc: Global, flow: &[Flow], row: &[u128]) -> Result<Vec<u1
     Ok(after)
 }
 
-// Whether the firing leads from one row to the other.
-pub(crate) fn is_moved(flow: &[Flow], from: &[u128], to: &[u128]) -> bool
+// Whether the label is enabled at one row and its firing leads to the other. Each place is looked at once.
+pub(crate) fn leads(flow: &[Flow], from: &[u128], to: &[u128]) -> bool
     requires listed { AreListed flow.now (length from.now) }
-    requires tokens { HasTokens flow.now from.now }
     requires long { length to.now ≡ length from.now }
     requires in_range { All (λ n. n ≤ greatest) from.now }
-    ensures { IsTrue result ↔ IsMoved flow.now from.now to.now }
+    ensures { IsTrue result ↔ (HasTokens flow.now from.now × IsMoved flow.now from.now to.now) }
 {
     let mut start = 0;
     for f in flow {
         let place = f.place as usize;
         if !are_same(from, to, start, place) {
+            return false;
+        }
+        if from[place] < f.pre {
             return false;
         }
         if to[place] != left(f, from) {

@@ -9,7 +9,7 @@ ghost use Rattle.rg_net_verdict.specs.Verdict.{IsRightAt, AreRightBefore};
 ghost use Rattle.rg_net_verdict.specs.Wrong.{IsWrongAt, IsFirstWrong};
 
 use crate::flow::Flow;
-use crate::moves::{allows, is_moved};
+use crate::moves::{allows, leads};
 use crate::verdict::NetNo;
 use rg_lts::Lts;
 use rg_net::Net;
@@ -68,9 +68,9 @@ fn wrong_at(marked: Marked<'_>, s: u32, t: u32) -> Option<NetNo>
         None if is_enabled(marked, s, t) => Some(NetNo::Enabled(s, t)),
         None => None,
         Some(to) if is_grown(marked, s, t, to) => None,
-        Some(_) if !is_enabled(marked, s, t) => Some(NetNo::NotEnabled(s, t)),
-        Some(to) if !is_step(marked, s, t, to) => Some(NetNo::WrongStep(s, t)),
-        Some(_) => None,
+        Some(to) if is_step(marked, s, t, to) => None,
+        Some(_) if is_enabled(marked, s, t) => Some(NetNo::WrongStep(s, t)),
+        Some(_) => Some(NetNo::NotEnabled(s, t)),
     }
 }
 
@@ -96,13 +96,12 @@ fn is_enabled(marked: Marked<'_>, s: u32, t: u32) -> bool
     allows(&marked.flows[t as usize], &marked.rows[s as usize])
 }
 
-// Whether the firing of the label, which is enabled, leads along the arc.
+// Whether the label is enabled at the state and its firing leads along the arc.
 fn is_step(marked: Marked<'_>, s: u32, t: u32, to: u32) -> bool
     requires marked { IsMarked marked }
     requires arc { HasArc marked.lts.now s t to }
-    requires enabled { IsEnabled marked.net.now (marking_of (shown_markings marked.rows.now) s) t }
     ensures { IsTrue result ↔ Fires marked.entry.net.now (marking_of (shown_markings marked.entry.rows.now) s) t (marking_of (shown_markings marked.entry.rows.now) to) }
 {
     let flow = &marked.flows[t as usize];
-    is_moved(flow, &marked.rows[s as usize], &marked.rows[to as usize])
+    leads(flow, &marked.rows[s as usize], &marked.rows[to as usize])
 }

@@ -1,5 +1,5 @@
 use Rattle.rg_net_verdict.proofs.Shifting.{AgreeSoFar}
-use Rattle.rg_net_verdict.proofs.moves.is_moved.Given as goal
+use Rattle.rg_net_verdict.proofs.moves.leads.Given as goal
 
 abbrev pub invariant-loop-f : goal.invariant-loop-f
 invariant-loop-f l = AgreeSoFar l.flow l.from l.to l.f-index l.start
