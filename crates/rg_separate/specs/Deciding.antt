@@ -4,7 +4,10 @@ use Rattle.rg_theory.specs.System.{System}
 use Rattle.rg_theory.specs.declared.Class.{Class}
 use Rattle.rg_theory.specs.declared.Problem.{Problem}
 use Rattle.rg_refuting.specs.Refutes.{TreeRefutes, Accepts}
+use Rattle.rg_net.specs.Shown.{shown_place}
 use Rattle.rg_order_of_work.specs.Shown.{ShownWide}
+use Rattle.rg_cycles.specs.View.{cycle_of}
+use Rattle.rg_outcome.specs.Casing.{CaseResult, CaseResult.makes, CaseResult.refutes, CaseResult.passes, CaseComes}
 use Rattle.rg_reasons.specs.declared.certificate.Case.{Case}
 use Rattle.rg_reasons.specs.declared.certificate.Reason.{Reason}
 use Rattle.rg_reasons.specs.Certificates.{case_tree, reason_of, IsWhole, IsTreeOf, IsCertificateOf}
@@ -16,6 +19,7 @@ use Rattle.rg_separate.specs.declared.problem.ProblemAnswer.TheVariants as probl
 use Rattle.rg_separate.specs.declared.problem.Tried.{Tried}
 use Rattle.rg_separate.specs.declared.found.Ending.{Ending}
 use Rattle.rg_separate.specs.declared.found.Ending.TheVariants as ending
+use Rattle.rg_separate.specs.declared.setting.CaseSetting.{CaseSetting}
 use Rattle.rg_separate.specs.View.{shown_of}
 
 -- the nodes are those of one whole tree, which refutes the case, and its numbers are in range
@@ -29,6 +33,15 @@ abbrev pub CaseTells : System → Class → Problem → ℕ → CaseAnswer → T
 CaseTells lts class problem number (answer.Place r) = IsRegionPlace lts class r × PlaceSeparates problem r
 CaseTells lts class problem number (answer.Refuted case) = RefutesCase lts class problem number case
 CaseTells lts class problem number (answer.Wide w) = ShownWide lts class (shown_of w)
+
+-- the same, in the words of the one answer
+abbrev pub case_result : CaseAnswer → CaseResult
+case_result (answer.Place r) = makes (shown_place r.place)
+case_result (answer.Refuted case) = refutes (case_tree case)
+case_result (answer.Wide w) = passes (shown_of w)
+
+abbrev pub CaseComesTo : CaseSetting → CaseAnswer → Type 0
+CaseComesTo c a = CaseComes c.setting.lts.now c.setting.tree.now.arcs (cycle_of c.setting.basis.now) c.setting.class c.problem c.number (case_result a)
 
 -- the first cases, so many, were tried: each is refuted, or the first term that passes is kept
 pub record AreTried (lts : System) (class : Class) (problem : Problem) (number : ℕ) (tried : Tried) : Type 0 where

@@ -13,9 +13,9 @@ loop-case-preserved c =
       | in-Refuted+in_ok-push-in-Refuted w ↦
           subst (λ (t : Tried). AreTried lts class c.args.problem (c.loop-case.case + 1) t) (sym w.tried-is)
           (tried_refuted lts class c.args.problem c.loop-case.case c.loop-case.tried (record { refuted = w.push.new.self; passed = c.loop-case.tried.passed }) w.in-Refuted.case c.loop-case.invariant w.in_ok-push-in-Refuted.ensures.items refl
-          (subst (CaseTells lts class c.args.problem c.loop-case.case) w.in-Refuted.is c.in_ok-region.ensures))
+          (subst (CaseTells lts class c.args.problem c.loop-case.case) w.in-Refuted.is c.in_ok-region.ensures.tells))
       | in-Wide w ↦
           subst (λ (t : Tried). AreTried lts class c.args.problem (c.loop-case.case + 1) t) (sym w.tried-is)
           (tried_passed lts class c.args.problem c.loop-case.case (c.loop-case.case + 1) c.loop-case.tried w.note.new.self w.in-Wide.at c.loop-case.invariant w.note.ensures.passed
-          (subst (CaseTells lts class c.args.problem c.loop-case.case) w.in-Wide.is c.in_ok-region.ensures))
+          (subst (CaseTells lts class c.args.problem c.loop-case.case) w.in-Wide.is c.in_ok-region.ensures.tells))
     ]
