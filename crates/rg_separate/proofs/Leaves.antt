@@ -18,7 +18,7 @@ use Rattle.rg_linear.specs.Cycle.{CycleBasis}
 use Rattle.rg_order_of_work.specs.Fold.{each}
 use Rattle.rg_order_of_work.specs.Meaning.{IsCaseOver}
 use Rattle.rg_order_of_work.specs.Rewriting.{has_label, numbers_where, all_numbers, used_labels, split_forms, form_low, form_fold, rows_of}
-use Rattle.rg_order_of_work.specs.Spreading.{Share, share_fold, spread_fold}
+use Rattle.rg_order_of_work.specs.Spreading.{Share, share_fold, leaf_fold, spread_fold}
 use Rattle.rg_order_of_work.specs.Shown.{SpreadShown, HasLeaf, named_side, named_sides}
 use Rattle.rg_cycles.specs.View.{cycle_of}
 use Rattle.rg_reasons.specs.declared.side.Side.{Side as SideOfCode}
@@ -69,7 +69,7 @@ sides_of_system lts class sides all =
 -- ---- what is shown where a leaf passes
 
 pub spread_shown : (c : CaseSetting) (named : NamedSystem) (whole : SplitTree) (sides : List SplitSide) (weights : List Weight) (w : Wide) → IsCase c → (system : IsNamedSystem c named) → Branching named.system (forms_in named) (tree whole) → HasLeaf [] whole sides weights → spread_fold c.setting.lts.now c.setting.tree.now.arcs (cycle_of c.setting.basis.now) c.setting.class c.problem c.number system.case sides (named_sides c.setting.lts.now c.setting.class sides) weights (Err w) → SpreadShown c.setting.lts.now c.setting.class (passed_at Spread c (named_sides c.setting.lts.now c.setting.class sides) w)
-spread_shown c named whole sides weights w is system ends has passes = record {
+spread_shown c named whole sides weights w is system ends has fails = record {
   case = system.case;
   of_case = record {
     arcs = c.setting.tree.now.arcs;
@@ -87,13 +87,13 @@ spread_shown c named whole sides weights w is system ends has passes = record {
   has_leaf = has;
   above_is = refl;
   nowhere = record { members = refl; pivot = refl; leaves = refl; target = refl; entry = refl };
-  passes = passes;
+  passes = fails;
 }
 
-pub leaf_shown : (c : CaseSetting) (named : NamedSystem) (nodes : List TreeNode) (i : ℕ) (above : List SplitSide) (made : List reasons.TreeNode) (n : TreeNode) (w : Wide) → IsCase c → IsNamedSystem c named → IsWalk named.system (forms_in named) c.setting.lts.now c.setting.class c.problem c.number nodes i above made → i < length nodes → get_or nodes i n ≡ n → LeafPasses c named above n w → SpreadShown c.setting.lts.now c.setting.class (passed_at Spread c (named_sides c.setting.lts.now c.setting.class above) w)
-leaf_shown c named nodes i above made (leaf_node weights) w is system walk lt here passes =
-    spread_shown c named walk.whole above weights w is system walk.outcome (walk_leaf named.system (forms_in named) c.setting.lts.now c.setting.class c.problem c.number nodes i above made walk weights lt here) (passes system.case system.shows)
-leaf_shown c named nodes i above made (split_node f u) w is system walk lt here passes = absurd passes
+pub leaf_shown : (c : CaseSetting) (named : NamedSystem) (nodes : List TreeNode) (i : ℕ) (above : List SplitSide) (made : List reasons.TreeNode) (n : TreeNode) (w : Wide) → IsCase c → IsNamedSystem c named → IsWalk c named nodes i above made → i < length nodes → get_or nodes i n ≡ n → LeafPasses c named above n w → SpreadShown c.setting.lts.now c.setting.class (passed_at Spread c (named_sides c.setting.lts.now c.setting.class above) w)
+leaf_shown c named nodes i above made (leaf_node weights) w is system walk lt here fails =
+    spread_shown c named walk.whole above weights w is system walk.outcome (walk_leaf c named nodes i above made walk weights lt here) (fails system.case system.shows)
+leaf_shown c named nodes i above made (split_node f u) w is system walk lt here fails = absurd fails
 
 -- ---- what a leaf is asked for
 
@@ -152,9 +152,14 @@ leaf_asked c named sides above weights shares is system stands by_name count fol
 
 -- ---- the leaf that is made
 
-pub leaf_made : (lts : System) (class : Class) (problem : Problem) (number : ℕ) (sides : List SplitSide) (above : List Side) (weights : List Weight) (n : reasons.TreeNode) → above ≡ named_sides lts class sides → IsLeafWith (LeafRefutes (RowStands lts class problem number above) (row_expression lts class problem number above)) n → IsMadeOf lts class problem number sides (leaf_node weights) n
-leaf_made lts class problem number sides above weights (made_leaf rows) e is = subst (λ ss. LeafRefutes (RowStands lts class problem number ss) (row_expression lts class problem number ss) rows) e is
-leaf_made lts class problem number sides above weights (made_split form at) e is = absurd is
+pub leaf_made : (c : CaseSetting) (named : NamedSystem) (sides : List SplitSide) (above : List Side) (weights : List Weight) (shares : List Share) (n : reasons.TreeNode) → above ≡ named_sides c.setting.lts.now c.setting.class sides → SharesFold named sides weights (Ok shares)
+    → IsLeafWith (λ rows. leaf_fold c.setting.lts.now c.setting.tree.now.arcs (cycle_of c.setting.basis.now) (row_expression c.setting.lts.now c.setting.class c.problem c.number above) shares (Ok rows)) n
+    → IsLeafWith (LeafRefutes (RowStands c.setting.lts.now c.setting.class c.problem c.number above) (row_expression c.setting.lts.now c.setting.class c.problem c.number above)) n → IsMadeOf c named sides (leaf_node weights) n
+leaf_made c named sides above weights shares (made_leaf rows) e fold leaf is = record {
+  refutes = subst (λ ss. LeafRefutes (RowStands c.setting.lts.now c.setting.class c.problem c.number ss) (row_expression c.setting.lts.now c.setting.class c.problem c.number ss) rows) e is;
+  spreads = λ case shows. (shares, fold case shows, subst (λ ss. leaf_fold c.setting.lts.now c.setting.tree.now.arcs (cycle_of c.setting.basis.now) (row_expression c.setting.lts.now c.setting.class c.problem c.number ss) shares (Ok rows)) e leaf);
+}
+leaf_made c named sides above weights shares (made_split form at) e fold leaf is = absurd is
 
 -- ---- the split that is made
 

@@ -13,4 +13,5 @@ pub mod PlaceOfPoint
 pub mod Leaves
 pub mod Factors
 pub mod Trying
+pub mod Coming
 pub mod Separating

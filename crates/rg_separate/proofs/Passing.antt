@@ -9,6 +9,8 @@ use Rattle.rg_order_of_work.specs.Chords.{chord_vectors}
 use Rattle.rg_theory.specs.declared.Arc.{Arc}
 use Rattle.rg_theory.specs.System.{System, labels}
 use Rattle.rg_theory.specs.Tree.{IsTree}
+use Rattle.rg_linear.specs.Descent.{WideAt}
+use Rattle.rg_outcome.specs.Casing.{term_at, CaseResult.passes, CaseComes, CaseComes.pivot_passes}
 use Rattle.rg_cycles.specs.declared.stop.CycleWide.{CycleWide}
 use Rattle.rg_cycles.specs.Refusal.{PassesAt, shown_term}
 use Rattle.rg_cycles.specs.View.{cycle_of}
@@ -40,9 +42,13 @@ pivot_shown c named sides members at is system stops = record {
   stands = record { members = refl; pivot = refl; leaves = refl; target = refl; entry = refl; wide = refl };
 }
 
+-- the case comes to that term
+pub pivot_comes : (c : CaseSetting) (named : NamedSystem) (sides : List SplitSide) (at : WideAt) → (system : IsNamedSystem c named) → Branching named.system (forms_in named) (stopped sides at) → CaseComes c.setting.lts.now c.setting.tree.now.arcs (cycle_of c.setting.basis.now) c.setting.class c.problem c.number (passes (term_at c.problem c.number (named_sides c.setting.lts.now c.setting.class sides) at))
+pivot_comes c named sides at system stops = pivot_passes system.case sides at system.made (subst (λ s. Branching s system.case.forms (stopped sides at)) system.shows.system (subst (λ fs. Branching named.system fs (stopped sides at)) system.shows.forms stops))
+
 -- the step that the rows of the case show
 pub row_shown : (c : CaseSetting) (w : Wide) → IsCase c → system_fold c.setting.lts.now c.setting.tree.now.arcs (cycle_of c.setting.basis.now) c.setting.class c.problem c.number (Err w) → RowShown c.setting.lts.now c.setting.class (passed_at Row c [] w)
-row_shown c w is passes = record {
+row_shown c w is fails = record {
   arcs = c.setting.tree.now.arcs;
   basis = cycle_of c.setting.basis.now;
   problem = c.problem;
@@ -51,13 +57,13 @@ row_shown c w is passes = record {
   stands = record { problem_is = refl; has = is.has; live = is.live; case_below = is.below };
   nowhere = record { members = refl; pivot = refl; leaves = refl; target = refl; entry = refl };
   no_split = refl;
-  passes = passes;
+  passes = fails;
 }
 
 -- the term that the walk over the chords shows
 pub cycle_shown : (lts : System) (tree : List Arc) (vectors : List (List ℤ)) (n : ℕ) (w : CycleWide) → IsTree lts tree → vectors ≡ chord_vectors lts tree → n ≡ labels lts → PassesAt n vectors (shown_term w) → CycleShown lts (cycle_passed w)
-cycle_shown lts tree vectors n w is are count passes =
-    let at : PassesAt (labels lts) (chord_vectors lts tree) (shown_term w) = subst (λ k. PassesAt k (chord_vectors lts tree) (shown_term w)) count (subst (λ vs. PassesAt n vs (shown_term w)) are passes) in
+cycle_shown lts tree vectors n w is are count fails =
+    let at : PassesAt (labels lts) (chord_vectors lts tree) (shown_term w) = subst (λ k. PassesAt k (chord_vectors lts tree) (shown_term w)) count (subst (λ vs. PassesAt n vs (shown_term w)) are fails) in
     record {
       arcs = tree;
       kept = at.kept;

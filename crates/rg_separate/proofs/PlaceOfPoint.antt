@@ -1,5 +1,5 @@
 -- The point of a case's branching, as the place asks for it and as the term that it shows.
-use Rattle.std.proofs.Common.{◌≡◌, ℕ, ◌<◌, List, [], ◌∷◌, length, get_or, Err, refl, sym, ap, subst, ◌∙◌, arith}
+use Rattle.std.proofs.Common.{◌≡◌, ℕ, ◌<◌, List, [], ◌∷◌, length, get_or, Ok, Err, refl, sym, ap, subst, ◌∙◌, arith}
 use Rattle.std.specs.Prelude.{ℤ, pos}
 use Rattle.std.proofs.lemmas.List.{get_or-map}
 use Rattle.rg_theory.specs.System.{System}
@@ -20,17 +20,19 @@ use Rattle.rg_linear.proofs.Widths.{descent_has}
 use Rattle.rg_linear.proofs.Splits.{found_well}
 use Rattle.rg_linear.specs.Cycle.{CycleBasis}
 use Rattle.rg_order_of_work.specs.Fold.{Ratio, whole, ratio_of}
-use Rattle.rg_order_of_work.specs.Rewriting.{column_count}
+use Rattle.rg_order_of_work.specs.Rewriting.{column_count, rows_of}
 use Rattle.rg_order_of_work.specs.Placing.{ratio_at, place_fold}
 use Rattle.rg_order_of_work.specs.Shown.{IsValueAt, PointOf, PlaceShown, named_sides}
 use Rattle.rg_order_of_work.specs.Meaning.{IsCaseOver}
 use Rattle.rg_order_of_work.proofs.ColumnValues.{columns_of_case}
 use Rattle.rg_cycles.specs.View.{cycle_of}
+use Rattle.rg_theory.specs.Net.{Place}
+use Rattle.rg_outcome.specs.Casing.{AreColumnValues, CaseResult.makes, CaseResult.passes, CaseComes, CaseComes.place_is_made, CaseComes.place_passes}
 use Rattle.rg_branch.specs.Answer.{AreValuesAt, IsFoundPoint, IsWholeSolution}
 use Rattle.rg_rows.specs.declared.named_system.NamedSystem.{NamedSystem}
 use Rattle.rg_places.specs.PointValues.{ratios_of, point_start, point_value, SolvesCase}
 use Rattle.rg_places.proofs.PointPlaces.{point_of}
-use Rattle.rg_separate.specs.declared.wide_at.Stage.TheVariants.{Place}
+use Rattle.rg_separate.specs.declared.wide_at.Stage.TheVariants.{Place as PlaceStage}
 use Rattle.rg_separate.specs.declared.setting.CaseSetting.{CaseSetting}
 use Rattle.rg_separate.specs.Casing.{IsCase, IsNamedSystem, forms_in}
 use Rattle.rg_separate.specs.Passing.{passed_at}
@@ -80,6 +82,28 @@ found_has system forms sides members b =
     let node = node_system system forms sides in
     descent_has node (column_set node) [] (length node.rows) 0 (descent.Outcome.point members) (found_well system forms [] (found members sides) b).descent (columns_have node)
 
+-- the numbers of the point are the values of the columns at the set
+columns_are : (node : LinearSystem) (members : List ℕ) (point : List Fraction) → HasDictionary node members → AreValuesAt node members point → AreColumnValues node members point
+columns_are node members point has are = record {
+  one_each = are.one_each;
+  each = λ j lt. ratio_is point j (IsValueAt node members j) (let e = are.one_each in omega arith) (λ f. value_at node members has j (get_or point j f) (let e = are.one_each in omega arith) (λ scale v basic. are.each j f (let e = are.one_each in omega arith) scale v basic));
+}
+
+module _ (c : CaseSetting) (named : NamedSystem) (sides : List SplitSide) (point : List Fraction) (system : IsNamedSystem c named) (at : IsFoundPoint named.system (forms_in named) sides point) where
+  case_found : Branching (rows_of system.case) system.case.forms (found at.members sides)
+  case_found = subst (λ s. Branching s system.case.forms (found at.members sides)) system.shows.system (subst (λ fs. Branching named.system fs (found at.members sides)) system.shows.forms at.outcome)
+
+  case_values : AreColumnValues (node_system (rows_of system.case) system.case.forms sides) at.members point
+  case_values = subst (λ s. AreColumnValues (node_system s system.case.forms sides) at.members point) system.shows.system
+      (subst (λ fs. AreColumnValues (node_system named.system fs sides) at.members point) system.shows.forms (columns_are (node_system named.system (forms_in named) sides) at.members point (found_has named.system (forms_in named) sides at.members at.outcome) at.values_are))
+
+  -- the case comes to the place of the point, or to its first step out of range
+  pub place_comes : (p : Place) → place_fold c.setting.lts.now c.setting.tree.now.arcs (cycle_of c.setting.basis.now) c.setting.class c.problem (point_start c.setting.class point) (point_value c.setting.lts.now (cycle_of c.setting.basis.now) c.setting.class point) (Ok p) → CaseComes c.setting.lts.now c.setting.tree.now.arcs (cycle_of c.setting.basis.now) c.setting.class c.problem c.number (makes p)
+  place_comes p fold = place_is_made system.case at.members sides point p system.made case_found case_values fold
+
+  pub place_fails : (w : Wide) → place_fold c.setting.lts.now c.setting.tree.now.arcs (cycle_of c.setting.basis.now) c.setting.class c.problem (point_start c.setting.class point) (point_value c.setting.lts.now (cycle_of c.setting.basis.now) c.setting.class point) (Err w) → CaseComes c.setting.lts.now c.setting.tree.now.arcs (cycle_of c.setting.basis.now) c.setting.class c.problem c.number (passes (passed_at PlaceStage c (named_sides c.setting.lts.now c.setting.class sides) w))
+  place_fails w fold = place_passes system.case at.members sides point w system.made case_found case_values fold
+
 -- Start and the values of the labels are those of the columns at the set
 point_is : (lts : System) (basis : CycleBasis) (class : Class) (node : LinearSystem) (members : List ℕ) (point : List Fraction) → HasDictionary node members → AreValuesAt node members point → node.columns ≡ column_count lts basis class → PointOf lts basis class node members (point_start class point) (point_value lts basis class point)
 point_is lts basis class node members point has are count =
@@ -87,8 +111,8 @@ point_is lts basis class node members point has are count =
     (λ j lt. ratio_is point j (IsValueAt node members j) lt (λ f. value_at node members has j (get_or point j f) (let e = are.one_each in omega arith) (λ scale v basic. are.each j f lt scale v basic)))
 
 -- the step that the place of the point shows
-pub place_shown : (c : CaseSetting) (named : NamedSystem) (sides : List SplitSide) (fractions : List Fraction) (w : Wide) → IsCase c → IsNamedSystem c named → IsFoundPoint named.system (forms_in named) sides fractions → place_fold c.setting.lts.now c.setting.tree.now.arcs (cycle_of c.setting.basis.now) c.setting.class c.problem (point_start c.setting.class fractions) (point_value c.setting.lts.now (cycle_of c.setting.basis.now) c.setting.class fractions) (Err w) → PlaceShown c.setting.lts.now c.setting.class (passed_at Place c (named_sides c.setting.lts.now c.setting.class sides) w)
-place_shown c named sides fractions w is system at passes = record {
+pub place_shown : (c : CaseSetting) (named : NamedSystem) (sides : List SplitSide) (fractions : List Fraction) (w : Wide) → IsCase c → IsNamedSystem c named → IsFoundPoint named.system (forms_in named) sides fractions → place_fold c.setting.lts.now c.setting.tree.now.arcs (cycle_of c.setting.basis.now) c.setting.class c.problem (point_start c.setting.class fractions) (point_value c.setting.lts.now (cycle_of c.setting.basis.now) c.setting.class fractions) (Err w) → PlaceShown c.setting.lts.now c.setting.class (passed_at PlaceStage c (named_sides c.setting.lts.now c.setting.class sides) w)
+place_shown c named sides fractions w is system at fails = record {
   case = system.case;
   of_case = record {
     arcs = c.setting.tree.now.arcs;
@@ -109,5 +133,5 @@ place_shown c named sides fractions w is system at passes = record {
   point = subst (λ s. PointOf c.setting.lts.now (cycle_of c.setting.basis.now) c.setting.class (node_system s system.case.forms sides) at.members (point_start c.setting.class fractions) (point_value c.setting.lts.now (cycle_of c.setting.basis.now) c.setting.class fractions)) system.shows.system
       (subst (λ fs. PointOf c.setting.lts.now (cycle_of c.setting.basis.now) c.setting.class (node_system named.system fs sides) at.members (point_start c.setting.class fractions) (point_value c.setting.lts.now (cycle_of c.setting.basis.now) c.setting.class fractions)) system.shows.forms
       (point_is c.setting.lts.now (cycle_of c.setting.basis.now) c.setting.class (node_system named.system (forms_in named) sides) at.members fractions (found_has named.system (forms_in named) sides at.members at.outcome) at.values_are (case_columns c named system)));
-  passes = passes;
+  passes = fails;
 }

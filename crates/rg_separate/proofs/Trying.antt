@@ -14,7 +14,7 @@ use Rattle.rg_separate.specs.View.{shown_of}
 use Rattle.rg_separate.specs.Deciding.{RefutesCase, AreTried}
 
 -- all cases before, and one more
-case_more : (P : ℕ → Case → Type 0) (xs : List Case) (x : Case) → ((i : ℕ) (y : Case) → slice_get xs i ≡ Some y → P i y) → P (length xs) x → (i : ℕ) (y : Case) → slice_get (xs ++ x ∷ []) i ≡ Some y → P i y
+pub case_more : (P : ℕ → Case → Type 0) (xs : List Case) (x : Case) → ((i : ℕ) (y : Case) → slice_get xs i ≡ Some y → P i y) → P (length xs) x → (i : ℕ) (y : Case) → slice_get (xs ++ x ∷ []) i ≡ Some y → P i y
 case_more P xs x each here i y at = go (cases_lt i (length xs))
   where
     lt : i < length (xs ++ x ∷ [])

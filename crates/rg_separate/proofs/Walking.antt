@@ -1,41 +1,46 @@
 -- The nodes that are made on the way through a tree, and the tree that they are.
-use Rattle.std.proofs.Common.{◌≡◌, ◌⊎◌, inl, inr, ℕ, zero, suc, ◌+◌, ◌<◌, ◌≤◌, Bool, true, false, List, [], ◌∷◌, ◌++◌, map, length, length-append, get_or, append_assoc, append-nil, All, refl, ap, ap₂, sym, subst, ◌∙◌, arith}
+use Rattle.std.proofs.Common.{◌≡◌, ◌⊎◌, inl, inr, ⊎_elim, ℕ, zero, suc, ◌+◌, ◌<◌, ◌≤◌, Bool, true, false, List, [], ◌∷◌, ◌++◌, map, length, length-append, get_or, append_assoc, append-nil, All, Ok, Err, refl, ap, ap₂, sym, subst, ◌∙◌, arith}
 use Rattle.std.specs.Prelude.{ℤ, slice_index_or}
 use Rattle.std.proofs.lemmas.List.{map-append, length-map}
 use Rattle.std.proofs.Math.Seq.{get_or-append_seam}
 use Rattle.std.proofs.lemmas.List.Elements.{All-nil, All-push}
-use Rattle.rg_theory.specs.System.{System}
-use Rattle.rg_theory.specs.declared.Class.{Class}
-use Rattle.rg_theory.specs.declared.Problem.{Problem}
 use Rattle.rg_refuting.specs.Row.{Form as SplitForm, Form.on_tokens, Side}
 use Rattle.rg_refuting.specs.Refutes.{Tree, Tree.leaf as leaf_of, Tree.split as split_of, TreeRefutes}
-use Rattle.rg_linear.specs.System.{LinearSystem}
+use Rattle.rg_fraction.specs.declared.term.Wide.{Wide}
 use Rattle.rg_linear.specs.Branching.{Form, SplitSide, Weight, SplitTree, SplitTree.leaf, SplitTree.split, low_side, high_side, BranchOutcome.tree, Branching, AreBounded}
 use Rattle.rg_linear.specs.Room.{room}
-use Rattle.rg_order_of_work.specs.Rewriting.{split_forms}
+use Rattle.rg_order_of_work.specs.Rewriting.{split_forms, CaseSystem, rows_of}
 use Rattle.rg_order_of_work.specs.Shown.{HasLeaf, named_side, named_sides}
 use Rattle.rg_reasons.specs.declared.certificate.Case.{Case}
 use Rattle.rg_reasons.specs.Trees as reasons
 use Rattle.rg_reasons.specs.Trees.{TreeNode.leaf_node as made_leaf, TreeNode.split_node as made_split, tree_of, nodes_of}
-use Rattle.rg_reasons.specs.Certificates.{IsNodeOf}
+use Rattle.rg_reasons.specs.Certificates.{IsNodeOf, case_tree}
 use Rattle.rg_reasons.proofs.Trees.{tree_is}
 use Rattle.rg_branch.specs.View.{TreeNode, TreeNode.leaf_node, TreeNode.split_node, preorder}
 use Rattle.rg_branch.specs.Answer.{IsSplitTree}
 use Rattle.rg_branch.specs.Turning.{turned}
-use Rattle.rg_separate.specs.Casing.{Visit, visits, next_sides, VisitStands, IsMadeOf}
-use Rattle.rg_separate.specs.Deciding.{RefutesCase}
+use Rattle.rg_cycles.specs.View.{cycle_of}
+use Rattle.rg_outcome.specs.Casing.{spread_tree, CaseResult.passes, CaseComes, CaseComes.is_refuted, CaseComes.leaf_passes}
+use Rattle.rg_rows.specs.declared.named_system.NamedSystem.{NamedSystem}
+use Rattle.rg_rows.specs.Shown.{ShowsCase}
+use Rattle.rg_separate.specs.declared.case.CaseAnswer.TheVariants as answer
+use Rattle.rg_separate.specs.declared.setting.CaseSetting.{CaseSetting}
+use Rattle.rg_separate.specs.declared.wide_at.Stage.TheVariants.{Spread}
+use Rattle.rg_separate.specs.Casing.{IsNamedSystem, forms_in, Visit, visits, next_sides, VisitStands, IsMadeOf, LeafPasses}
+use Rattle.rg_separate.specs.Passing.{passed_at}
+use Rattle.rg_separate.specs.Deciding.{RefutesCase, CaseComesTo}
 use Rattle.rg_separate.proofs.Visits.{Follows, tree_follows, nodes_visited, IsLeafOf, leaves_visited, visits_stand}
 
 -- ---- nodes beside the visits of which they are made
 
-module _ (lts : System) (class : Class) (problem : Problem) (number : ℕ) where
+module _ (c : CaseSetting) (named : NamedSystem) where
   abbrev pub AreMadeOf : List Visit → List reasons.TreeNode → Type 0
   AreMadeOf [] [] = Unit {0}
   AreMadeOf [] (n ∷ nodes) = ⊥
   AreMadeOf (v ∷ more) [] = ⊥
-  AreMadeOf (v ∷ more) (n ∷ nodes) = IsMadeOf lts class problem number v.sides v.node n × AreMadeOf more nodes
+  AreMadeOf (v ∷ more) (n ∷ nodes) = IsMadeOf c named v.sides v.node n × AreMadeOf more nodes
 
-  made_more : (vs : List Visit) (nodes : List reasons.TreeNode) (v : Visit) (n : reasons.TreeNode) → AreMadeOf vs nodes → IsMadeOf lts class problem number v.sides v.node n → AreMadeOf (vs ++ v ∷ []) (nodes ++ n ∷ [])
+  made_more : (vs : List Visit) (nodes : List reasons.TreeNode) (v : Visit) (n : reasons.TreeNode) → AreMadeOf vs nodes → IsMadeOf c named v.sides v.node n → AreMadeOf (vs ++ v ∷ []) (nodes ++ n ∷ [])
   made_more [] [] v n made is = (is, tt)
   made_more [] (m ∷ nodes) v n made is = absurd made
   made_more (w ∷ vs) [] v n made is = absurd made
@@ -49,54 +54,93 @@ module _ (lts : System) (class : Class) (problem : Problem) (number : ℕ) where
       let (front, back, e, a, b) = made_apart xs ys nodes made in
       (n ∷ front, back, ap (λ ns. n ∷ ns) e, (here, a), b)
 
-  -- the nodes of a tree are those of a tree that refutes
-  pub tree_made : (above : List SplitSide) (t : SplitTree) (nodes : List reasons.TreeNode) → AreMadeOf (visits above t) nodes → (made : Tree) × (nodes ≡ reasons.preorder made) × TreeRefutes lts class problem number (named_sides lts class above) made
+  -- the nodes of a tree are those of a tree that refutes, which has the leaves of all the multipliers
+  pub record IsTreeMade (above : List SplitSide) (t : SplitTree) (nodes : List reasons.TreeNode) : Type 0 where
+    pub made : Tree
+    pub nodes_are : nodes ≡ reasons.preorder made
+    pub refutes : TreeRefutes c.setting.lts.now c.setting.class c.problem c.number (named_sides c.setting.lts.now c.setting.class above) made
+    pub spreads : (case : CaseSystem) → ShowsCase named case → spread_tree c.setting.lts.now c.setting.tree.now.arcs (cycle_of c.setting.basis.now) c.setting.class c.problem c.number case above t (Ok made)
+
+  pub tree_made : (above : List SplitSide) (t : SplitTree) (nodes : List reasons.TreeNode) → AreMadeOf (visits above t) nodes → IsTreeMade above t nodes
   tree_made above (leaf weights) [] made = absurd made
-  tree_made above (leaf weights) (made_leaf rows ∷ []) (here, made) = (leaf_of rows, refl, here)
+  tree_made above (leaf weights) (made_leaf rows ∷ []) (here, made) = record { made = leaf_of rows; nodes_are = refl; refutes = here.refutes; spreads = λ case shows. (rows, here.spreads case shows, refl) }
   tree_made above (leaf weights) (made_split form at ∷ []) (here, made) = absurd here
   tree_made above (leaf weights) (n ∷ m ∷ nodes) (here, made) = absurd made
   tree_made above (split f u low high) [] made = absurd made
   tree_made above (split f u low high) (made_leaf rows ∷ nodes) (here, made) = absurd here
-  tree_made above (split f u low high) (made_split form at ∷ nodes) ((named, number_is), made) =
+  tree_made above (split f u low high) (made_split form at ∷ nodes) ((by_name, number_is), made) =
       let (front, back, e, a, b) = made_apart (visits (above ++ low_side f u ∷ []) low) (visits (above ++ high_side f u ∷ []) high) nodes made in
-      let (one, one_is, one_refutes) = tree_made (above ++ low_side f u ∷ []) low front a in
-      let (two, two_is, two_refutes) = tree_made (above ++ high_side f u ∷ []) high back b in (
-        split_of form at one two,
-        ap (λ ns. made_split form at ∷ ns) (e ∙ ap₂ (λ xs ys. xs ++ ys) one_is two_is),
-        (
-          subst (λ sides. TreeRefutes lts class problem number sides one) (below (low_side f u) false named number_is refl refl refl) one_refutes,
-          subst (λ sides. TreeRefutes lts class problem number sides two) (below (high_side f u) true named number_is refl refl refl) two_refutes,
-        ),
-      )
+      let one = tree_made (above ++ low_side f u ∷ []) low front a in
+      let two = tree_made (above ++ high_side f u ∷ []) high back b in
+      record {
+        made = split_of form at one.made two.made;
+        nodes_are = ap (λ ns. made_split form at ∷ ns) (e ∙ ap₂ (λ xs ys. xs ++ ys) one.nodes_are two.nodes_are);
+        refutes = (
+          subst (λ sides. TreeRefutes c.setting.lts.now c.setting.class c.problem c.number sides one.made) (below (low_side f u) false by_name number_is refl refl refl) one.refutes,
+          subst (λ sides. TreeRefutes c.setting.lts.now c.setting.class c.problem c.number sides two.made) (below (high_side f u) true by_name number_is refl refl refl) two.refutes,
+        );
+        spreads = λ case shows. (one.made, two.made, one.spreads case shows, two.spreads case shows, ap₂ (λ g z. split_of g z one.made two.made) by_name number_is);
+      }
     where
-      below : (side : SplitSide) (is_high : Bool) → form ≡ slice_index_or (split_forms lts class) f (on_tokens 0) → at ≡ u → side.form ≡ f → side.at ≡ u → side.high ≡ is_high → named_sides lts class (above ++ side ∷ []) ≡ named_sides lts class above ++ record { form = form; at = at; high = is_high } ∷ []
-      below side is_high named number_is e g h =
-          map-append (named_side lts class) above (side ∷ [])
-          ∙ ap (λ side'. named_sides lts class above ++ side' ∷ []) (same side.form side.at side.high e g h)
+      below : (side : SplitSide) (is_high : Bool) → form ≡ slice_index_or (split_forms c.setting.lts.now c.setting.class) f (on_tokens 0) → at ≡ u → side.form ≡ f → side.at ≡ u → side.high ≡ is_high → named_sides c.setting.lts.now c.setting.class (above ++ side ∷ []) ≡ named_sides c.setting.lts.now c.setting.class above ++ record { form = form; at = at; high = is_high } ∷ []
+      below side is_high by_name number_is e g h =
+          map-append (named_side c.setting.lts.now c.setting.class) above (side ∷ [])
+          ∙ ap (λ side'. named_sides c.setting.lts.now c.setting.class above ++ side' ∷ []) (same side.form side.at side.high e g h)
         where
           side_by : SplitForm → ℤ → Bool → Side
           side_by form at high = record { form = form; at = at; high = high }
 
-          same : (a : ℕ) (b : ℤ) (c : Bool) → a ≡ f → b ≡ u → c ≡ is_high → side_by (slice_index_or (split_forms lts class) a (on_tokens 0)) b c ≡ side_by form at is_high
-          same a b c e g h = ap (λ k. side_by (slice_index_or (split_forms lts class) k (on_tokens 0)) b c) e ∙ ap (λ x. side_by x b c) (sym named) ∙ ap (λ x. side_by form x c) (g ∙ sym number_is) ∙ ap (side_by form at) h
+          same : (x : ℕ) (y : ℤ) (z : Bool) → x ≡ f → y ≡ u → z ≡ is_high → side_by (slice_index_or (split_forms c.setting.lts.now c.setting.class) x (on_tokens 0)) y z ≡ side_by form at is_high
+          same x y z e g h = ap (λ k. side_by (slice_index_or (split_forms c.setting.lts.now c.setting.class) k (on_tokens 0)) y z) e ∙ ap (λ g. side_by g y z) (sym by_name) ∙ ap (λ k. side_by form k z) (g ∙ sym number_is) ∙ ap (side_by form at) h
+
+  -- ---- the first leaf that passes
+
+  -- one of two lists has what stands behind the first ones
+  list_apart : (xs ys front : List Visit) (v : Visit) (rest : List Visit) → xs ++ ys ≡ front ++ v ∷ rest → ((more : List Visit) × (xs ≡ front ++ v ∷ more)) ⊎ ((further : List Visit) × (front ≡ xs ++ further) × (ys ≡ further ++ v ∷ rest))
+  list_apart [] ys front v rest e = inr (front, refl, e)
+  list_apart (x ∷ xs) ys [] v rest e = inl (xs, ap (λ y. y ∷ xs) (let h : x ≡ v = cc in h))
+  list_apart (x ∷ xs) ys (y ∷ front) v rest e = ⊎_elim
+      (λ (more, is). inl (more, ap₂ (λ z zs. z ∷ zs) (let h : x ≡ y = cc in h) is))
+      (λ (further, is, left). inr (further, ap₂ (λ z zs. z ∷ zs) (let h : y ≡ x = cc in h) is, left))
+      (list_apart xs ys front v rest (let t : xs ++ ys ≡ front ++ v ∷ rest = cc in t))
+
+  -- the leaves before it are made, so it is the first whose step is shown
+  pub tree_fails : (above : List SplitSide) (t : SplitTree) (front : List Visit) (nodes : List reasons.TreeNode) (v : Visit) (rest : List Visit) (w : Wide) → visits above t ≡ front ++ v ∷ rest → AreMadeOf front nodes → LeafPasses c named v.sides v.node w
+      → (case : CaseSystem) → ShowsCase named case → spread_tree c.setting.lts.now c.setting.tree.now.arcs (cycle_of c.setting.basis.now) c.setting.class c.problem c.number case above t (Err (record { above = v.sides; wide = w }))
+  tree_fails above (leaf weights) [] nodes v rest w e made fails case shows =
+      let is : record { sides = above; node = leaf_node weights } ≡ v = cc in
+      subst (λ (x : Visit). spread_tree c.setting.lts.now c.setting.tree.now.arcs (cycle_of c.setting.basis.now) c.setting.class c.problem c.number case above (leaf weights) (Err (record { above = x.sides; wide = w }))) is
+      (refl, subst (λ (x : Visit). LeafPasses c named x.sides x.node w) (sym is) fails case shows)
+  tree_fails above (leaf weights) (d ∷ front) nodes v rest w e made fails case shows = absurd (let l = ap length e ∙ ap suc (length-append front (v ∷ rest)) in omega arith)
+  tree_fails above (split f u low high) [] nodes v rest w e made fails case shows =
+      let is : record { sides = above; node = split_node f u } ≡ v = cc in
+      absurd (subst (λ (x : Visit). LeafPasses c named x.sides x.node w) (sym is) fails)
+  tree_fails above (split f u low high) (d ∷ front) [] v rest w e made fails case shows = absurd made
+  tree_fails above (split f u low high) (d ∷ front) (n ∷ nodes) v rest w e (here, made) fails case shows =
+      ⊎_elim
+      (λ (more, is). inl (tree_fails (above ++ low_side f u ∷ []) low front nodes v more w is made fails case shows))
+      (λ (further, is, left). (let (before, behind, same, a, b) = made_apart (visits (above ++ low_side f u ∷ []) low) further nodes (subst (λ vs. AreMadeOf vs nodes) is made) in
+      let one = tree_made (above ++ low_side f u ∷ []) low before a in
+      inr (one.made, one.spreads case shows, tree_fails (above ++ high_side f u ∷ []) high further behind v rest w left b fails case shows)))
+      (list_apart (visits (above ++ low_side f u ∷ []) low) (visits (above ++ high_side f u ∷ []) high) front v rest (let t : visits (above ++ low_side f u ∷ []) low ++ visits (above ++ high_side f u ∷ []) high ≡ front ++ v ∷ rest = cc in t))
 
 -- ---- the loop
 
 -- the nodes before number i are made, and the way has gone on to the node below these sides
-pub record IsWalk (system : LinearSystem) (forms : List Form) (lts : System) (class : Class) (problem : Problem) (number : ℕ) (nodes : List TreeNode) (i : ℕ) (above : List SplitSide) (made : List reasons.TreeNode) : Type 0 where
+pub record IsWalk (c : CaseSetting) (named : NamedSystem) (nodes : List TreeNode) (i : ℕ) (above : List SplitSide) (made : List reasons.TreeNode) : Type 0 where
   pub whole : SplitTree
-  pub outcome : Branching system forms (tree whole)
+  pub outcome : Branching named.system (forms_in named) (tree whole)
   pub done : List Visit
   pub left : List Visit
   pub visits_are : visits [] whole ≡ done ++ left
   pub nodes_are : nodes ≡ map (λ v. v.node) done ++ map (λ v. v.node) left
   pub count : length done ≡ i
   pub follows : Follows above left []
-  pub made_are : AreMadeOf lts class problem number done made
-  pub in_range : All (IsNodeOf lts) made
+  pub made_are : AreMadeOf c named done made
+  pub in_range : All (IsNodeOf c.setting.lts.now) made
 
-module _ (system : LinearSystem) (forms : List Form) (lts : System) (class : Class) (problem : Problem) (number : ℕ) (nodes : List TreeNode) where
-  pub walk_start : (above : List SplitSide) (made : List reasons.TreeNode) → IsSplitTree system forms nodes → above ≡ [] → made ≡ [] → IsWalk system forms lts class problem number nodes 0 above made
+module _ (c : CaseSetting) (named : NamedSystem) (nodes : List TreeNode) where
+  pub walk_start : (above : List SplitSide) (made : List reasons.TreeNode) → IsSplitTree named.system (forms_in named) nodes → above ≡ [] → made ≡ [] → IsWalk c named nodes 0 above made
   walk_start above made t none empty = record {
     whole = t.whole;
     outcome = t.outcome;
@@ -106,11 +150,11 @@ module _ (system : LinearSystem) (forms : List Form) (lts : System) (class : Cla
     nodes_are = t.nodes_are ∙ sym (nodes_visited [] t.whole);
     count = refl;
     follows = subst (λ s. Follows s (visits [] t.whole) []) (sym none) (tree_follows [] t.whole);
-    made_are = subst (AreMadeOf lts class problem number []) (sym empty) tt;
-    in_range = subst (All (IsNodeOf lts)) (sym empty) (All-nil (IsNodeOf lts));
+    made_are = subst (AreMadeOf c named []) (sym empty) tt;
+    in_range = subst (All (IsNodeOf c.setting.lts.now)) (sym empty) (All-nil (IsNodeOf c.setting.lts.now));
   }
 
-  module _ (i : ℕ) (above : List SplitSide) (made : List reasons.TreeNode) (w : IsWalk system forms lts class problem number nodes i above made) where
+  module _ (i : ℕ) (above : List SplitSide) (made : List reasons.TreeNode) (w : IsWalk c named nodes i above made) where
     -- the node that is visited next
     record HasVisit (n : TreeNode) : Type 0 where
       v : Visit
@@ -148,13 +192,13 @@ module _ (system : LinearSystem) (forms : List Form) (lts : System) (class : Cla
         within : length w.done < length (visits [] w.whole)
         within = let e = ap length is ∙ length-append w.done (h.v ∷ h.rest) in omega arith
 
-    pub walk_stands : AreBounded system forms → system.columns + length system.rows + room forms [] < 4294967296 → (n : TreeNode) → i < length nodes → get_or nodes i n ≡ n → VisitStands system forms (record { sides = above; node = n })
-    walk_stands bounded small n lt here = held (VisitStands system forms) n (visits_stand system forms bounded small w.whole w.outcome) (visit_here n lt here)
+    pub walk_stands : AreBounded named.system (forms_in named) → named.system.columns + length named.system.rows + room (forms_in named) [] < 4294967296 → (n : TreeNode) → i < length nodes → get_or nodes i n ≡ n → VisitStands named.system (forms_in named) (record { sides = above; node = n })
+    walk_stands bounded small n lt here = held (VisitStands named.system (forms_in named)) n (visits_stand named.system (forms_in named) bounded small w.whole w.outcome) (visit_here n lt here)
 
     pub walk_leaf : (weights : List Weight) → i < length nodes → get_or nodes i (leaf_node weights) ≡ leaf_node weights → HasLeaf [] w.whole above weights
     walk_leaf weights lt here = held (IsLeafOf [] w.whole) (leaf_node weights) (leaves_visited [] w.whole) (visit_here (leaf_node weights) lt here) weights refl
 
-    pub walk_next : (n : TreeNode) (m : reasons.TreeNode) → i < length nodes → get_or nodes i n ≡ n → IsMadeOf lts class problem number above n m → IsNodeOf lts m → IsWalk system forms lts class problem number nodes (i + 1) (next_sides above n) (made ++ m ∷ [])
+    pub walk_next : (n : TreeNode) (m : reasons.TreeNode) → i < length nodes → get_or nodes i n ≡ n → IsMadeOf c named above n m → IsNodeOf c.setting.lts.now m → IsWalk c named nodes (i + 1) (next_sides above n) (made ++ m ∷ [])
     walk_next n m lt here is fits =
         let h = visit_here n lt here in
         let follows : (h.v.sides ≡ above) × Follows (next_sides h.v.sides h.v.node) h.rest [] = subst (λ vs. Follows above vs []) h.left_is w.follows in
@@ -167,24 +211,46 @@ module _ (system : LinearSystem) (forms : List Form) (lts : System) (class : Cla
           nodes_are = w.nodes_are ∙ ap (λ vs. map (λ v. v.node) w.done ++ map (λ v. v.node) vs) h.left_is ∙ sym (append_assoc (map (λ (v : Visit). v.node) w.done) (h.v.node ∷ []) (map (λ v. v.node) h.rest)) ∙ ap (λ ns. ns ++ map (λ v. v.node) h.rest) (sym (map-append (λ (v : Visit). v.node) w.done (h.v ∷ [])));
           count = length-append w.done (h.v ∷ []) ∙ (let c = w.count in omega arith);
           follows = subst (λ s. Follows s h.rest []) (ap₂ next_sides h.sides h.node) follows.1;
-          made_are = made_more lts class problem number w.done made h.v m w.made_are (subst (λ s. IsMadeOf lts class problem number s h.v.node m) (sym h.sides) (subst (λ x. IsMadeOf lts class problem number above x m) (sym h.node) is));
-          in_range = All-push (IsNodeOf lts) made m w.in_range fits;
+          made_are = made_more c named w.done made h.v m w.made_are (subst (λ s. IsMadeOf c named s h.v.node m) (sym h.sides) (subst (λ x. IsMadeOf c named above x m) (sym h.node) is));
+          in_range = All-push (IsNodeOf c.setting.lts.now) made m w.in_range fits;
         }
 
-    pub walk_end : length nodes ≤ i → (t : Tree) × (made ≡ reasons.preorder t) × TreeRefutes lts class problem number [] t
+    pub walk_end : length nodes ≤ i → IsTreeMade c named [] w.whole made
     walk_end past = go w.left refl
       where
-        go : (left : List Visit) → w.left ≡ left → (t : Tree) × (made ≡ reasons.preorder t) × TreeRefutes lts class problem number [] t
-        go [] e = tree_made lts class problem number [] w.whole made (subst (λ vs. AreMadeOf lts class problem number vs made) (sym (w.visits_are ∙ ap (λ vs. w.done ++ vs) e ∙ append-nil w.done)) w.made_are)
+        go : (left : List Visit) → w.left ≡ left → IsTreeMade c named [] w.whole made
+        go [] e = tree_made c named [] w.whole made (subst (λ vs. AreMadeOf c named vs made) (sym (w.visits_are ∙ ap (λ vs. w.done ++ vs) e ∙ append-nil w.done)) w.made_are)
         go (v ∷ rest) e = absurd (let l = ap length (w.nodes_are ∙ ap (λ xs. map (λ v. v.node) w.done ++ map (λ v. v.node) xs) e) ∙ length-append (map (λ (v : Visit). v.node) w.done) (v.node ∷ map (λ v. v.node) rest) in let k = length-map w.done (λ v. v.node) ∙ w.count in omega arith)
 
+    pub walk_fails : (n : TreeNode) (wide : Wide) → i < length nodes → get_or nodes i n ≡ n → LeafPasses c named above n wide → (case : CaseSystem) → ShowsCase named case → spread_tree c.setting.lts.now c.setting.tree.now.arcs (cycle_of c.setting.basis.now) c.setting.class c.problem c.number case [] w.whole (Err (record { above = above; wide = wide }))
+    walk_fails n wide lt here fails case shows =
+        let h = visit_here n lt here in
+        subst (λ sides. spread_tree c.setting.lts.now c.setting.tree.now.arcs (cycle_of c.setting.basis.now) c.setting.class c.problem c.number case [] w.whole (Err (record { above = sides; wide = wide }))) h.sides
+        (tree_fails c named [] w.whole w.done made h.v h.rest wide (w.visits_are ∙ ap (λ vs. w.done ++ vs) h.left_is) w.made_are (subst (λ sides. LeafPasses c named sides h.v.node wide) (sym h.sides) (subst (λ m. LeafPasses c named above m wide) (sym h.node) fails)) case shows)
+
 -- the case of the nodes that are made
-pub walk_refutes : (system : LinearSystem) (forms : List Form) (lts : System) (class : Class) (problem : Problem) (number : ℕ) (nodes : List TreeNode) (i : ℕ) (above : List SplitSide) (case : Case) → IsWalk system forms lts class problem number nodes i above (nodes_of case) → length nodes ≤ i → RefutesCase lts class problem number case
-walk_refutes system forms lts class problem number nodes i above case w past =
-    let (t, nodes_are, refutes) = walk_end system forms lts class problem number nodes i above (nodes_of case) w past in
-    let same = tree_is (nodes_of case) t nodes_are in
+pub walk_refutes : (c : CaseSetting) (named : NamedSystem) (nodes : List TreeNode) (i : ℕ) (above : List SplitSide) (case : Case) → IsWalk c named nodes i above (nodes_of case) → length nodes ≤ i → RefutesCase c.setting.lts.now c.setting.class c.problem c.number case
+walk_refutes c named nodes i above case w past =
+    let end = walk_end c named nodes i above (nodes_of case) w past in
+    let same = tree_is (nodes_of case) end.made end.nodes_are in
     record {
-      whole = nodes_are ∙ ap reasons.preorder (sym same);
-      refutes = subst (TreeRefutes lts class problem number []) (sym same) refutes;
-      in_range = subst (All (IsNodeOf lts)) (nodes_are ∙ ap reasons.preorder (sym same)) w.in_range;
+      whole = end.nodes_are ∙ ap reasons.preorder (sym same);
+      refutes = subst (TreeRefutes c.setting.lts.now c.setting.class c.problem c.number []) (sym same) end.refutes;
+      in_range = subst (All (IsNodeOf c.setting.lts.now)) (end.nodes_are ∙ ap reasons.preorder (sym same)) w.in_range;
     }
+
+-- ---- what a case with a tree comes to
+
+module _ (c : CaseSetting) (named : NamedSystem) (system : IsNamedSystem c named) (nodes : List TreeNode) (i : ℕ) (above : List SplitSide) where
+  case_branching : (whole : SplitTree) → Branching named.system (forms_in named) (tree whole) → Branching (rows_of system.case) system.case.forms (tree whole)
+  case_branching whole b = subst (λ s. Branching s system.case.forms (tree whole)) system.shows.system (subst (λ fs. Branching named.system fs (tree whole)) system.shows.forms b)
+
+  pub walk_comes : (case : Case) → IsWalk c named nodes i above (nodes_of case) → length nodes ≤ i → CaseComesTo c (answer.Refuted case)
+  walk_comes case w past =
+      let end = walk_end c named nodes i above (nodes_of case) w past in
+      let same = tree_is (nodes_of case) end.made end.nodes_are in
+      is_refuted system.case w.whole (case_tree case) system.made (case_branching w.whole w.outcome)
+      (subst (λ t. spread_tree c.setting.lts.now c.setting.tree.now.arcs (cycle_of c.setting.basis.now) c.setting.class c.problem c.number system.case [] w.whole (Ok t)) (sym same) (end.spreads system.case system.shows))
+
+  pub walk_passes : (made : List reasons.TreeNode) (n : TreeNode) (wide : Wide) → IsWalk c named nodes i above made → i < length nodes → get_or nodes i n ≡ n → LeafPasses c named above n wide → CaseComes c.setting.lts.now c.setting.tree.now.arcs (cycle_of c.setting.basis.now) c.setting.class c.problem c.number (passes (passed_at Spread c (named_sides c.setting.lts.now c.setting.class above) wide))
+  walk_passes made n wide w lt here fails = leaf_passes system.case w.whole (record { above = above; wide = wide }) system.made (case_branching w.whole w.outcome) (walk_fails c named nodes i above made w n wide lt here fails system.case system.shows)

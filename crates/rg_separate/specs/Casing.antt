@@ -1,11 +1,8 @@
 -- One case: its system, and what its branching leaves.
 use Rattle.std.specs.Prelude.{◌≡◌, ℕ, ◌^◌, ◌<◌, List, [], ◌∷◌, ◌++◌, map, length, slice_index_or, ℤ, ◌≤ℤ◌, Result, Ok, Err}
 use Rattle.rg_theory.specs.Problem.{IsProblem}
-use Rattle.rg_theory.specs.System.{System}
-use Rattle.rg_theory.specs.declared.Class.{Class}
-use Rattle.rg_theory.specs.declared.Problem.{Problem}
 use Rattle.rg_refuting.specs.Row.{Form as SplitForm, Form.on_tokens, Side, RowStands, row_expression, cases_of}
-use Rattle.rg_refuting.specs.Refutes.{LeafRefutes}
+use Rattle.rg_refuting.specs.Refutes.{NamedRow, LeafRefutes}
 use Rattle.rg_fraction.specs.declared.term.Wide.{Wide}
 use Rattle.rg_linear.specs.System.{LinearSystem, AreFarkasMultipliers}
 use Rattle.rg_linear.specs.Branching.{Form, form_at, SplitSide, Weight, SplitTree, SplitTree.leaf, SplitTree.split, low_side, high_side, weights_from, node_system}
@@ -85,12 +82,17 @@ pub record VisitStands (system : LinearSystem) (forms : List Form) (v : Visit) :
 abbrev pub sides_among : List SplitForm → List SplitSide → List Side
 sides_among forms sides = map (λ side. record { form = slice_index_or forms side.form (on_tokens 0); at = side.at; high = side.high }) sides
 
--- the leaf refutes the case below the sides; the split has its form's name
-abbrev pub IsMadeOf : System → Class → Problem → ℕ → List SplitSide → TreeNode → reasons.TreeNode → Type 0
-IsMadeOf lts class problem number above (leaf_node weights) (made_leaf rows) = LeafRefutes (RowStands lts class problem number (named_sides lts class above)) (row_expression lts class problem number (named_sides lts class above)) rows
-IsMadeOf lts class problem number above (leaf_node weights) (made_split form at) = ⊥
-IsMadeOf lts class problem number above (split_node f u) (made_leaf rows) = ⊥
-IsMadeOf lts class problem number above (split_node f u) (made_split form at) = (form ≡ slice_index_or (split_forms lts class) f (on_tokens 0)) × (at ≡ u)
+-- the rows refute the case below the sides, and are the leaf of the weights
+pub record IsLeafMade (c : CaseSetting) (named : NamedSystem) (above : List SplitSide) (weights : List Weight) (rows : List NamedRow) : Type 0 where
+  pub refutes : LeafRefutes (RowStands c.setting.lts.now c.setting.class c.problem c.number (named_sides c.setting.lts.now c.setting.class above)) (row_expression c.setting.lts.now c.setting.class c.problem c.number (named_sides c.setting.lts.now c.setting.class above)) rows
+  pub spreads : (case : CaseSystem) → ShowsCase named case → spread_fold c.setting.lts.now c.setting.tree.now.arcs (cycle_of c.setting.basis.now) c.setting.class c.problem c.number case above (named_sides c.setting.lts.now c.setting.class above) weights (Ok rows)
+
+-- the leaf is made; the split has its form's name
+abbrev pub IsMadeOf : CaseSetting → NamedSystem → List SplitSide → TreeNode → reasons.TreeNode → Type 0
+IsMadeOf c named above (leaf_node weights) (made_leaf rows) = IsLeafMade c named above weights rows
+IsMadeOf c named above (leaf_node weights) (made_split form at) = ⊥
+IsMadeOf c named above (split_node f u) (made_leaf rows) = ⊥
+IsMadeOf c named above (split_node f u) (made_split form at) = (form ≡ slice_index_or (split_forms c.setting.lts.now c.setting.class) f (on_tokens 0)) × (at ≡ u)
 
 -- the shares of the weights below the sides: the fold's result
 abbrev pub SharesFold : NamedSystem → List SplitSide → List Weight → Result (List Share) Wide → Type 0

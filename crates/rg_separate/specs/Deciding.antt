@@ -1,10 +1,15 @@
 -- What a case and a problem come to.
-use Rattle.std.specs.Prelude.{◌≡◌, ℕ, [], length, None, Some, IfSome, slice_get}
+use Rattle.std.specs.Prelude.{◌≡◌, ℕ, ◌<◌, List, [], length, None, Some, IfSome, slice_get}
 use Rattle.rg_theory.specs.System.{System}
 use Rattle.rg_theory.specs.declared.Class.{Class}
 use Rattle.rg_theory.specs.declared.Problem.{Problem}
-use Rattle.rg_refuting.specs.Refutes.{TreeRefutes, Accepts}
+use Rattle.rg_refuting.specs.Refutes.{Tree, Reason.refuted, TreeRefutes, Accepts}
+use Rattle.rg_net.specs.Shown.{shown_place}
 use Rattle.rg_order_of_work.specs.Shown.{ShownWide}
+use Rattle.rg_cycles.specs.View.{cycle_of}
+use Rattle.rg_outcome.specs.Casing.{CaseResult, CaseResult.makes, CaseResult.refutes, CaseResult.passes, CaseComes}
+use Rattle.rg_outcome.specs.Solving as solved
+use Rattle.rg_outcome.specs.Solving.{Solved.placed, Solved.passed, NoneMakes, NonePasses, ProblemComes}
 use Rattle.rg_reasons.specs.declared.certificate.Case.{Case}
 use Rattle.rg_reasons.specs.declared.certificate.Reason.{Reason}
 use Rattle.rg_reasons.specs.Certificates.{case_tree, reason_of, IsWhole, IsTreeOf, IsCertificateOf}
@@ -16,6 +21,8 @@ use Rattle.rg_separate.specs.declared.problem.ProblemAnswer.TheVariants as probl
 use Rattle.rg_separate.specs.declared.problem.Tried.{Tried}
 use Rattle.rg_separate.specs.declared.found.Ending.{Ending}
 use Rattle.rg_separate.specs.declared.found.Ending.TheVariants as ending
+use Rattle.rg_separate.specs.declared.setting.CaseSetting.{CaseSetting}
+use Rattle.rg_separate.specs.declared.setting.Setting.{Setting}
 use Rattle.rg_separate.specs.View.{shown_of}
 
 -- the nodes are those of one whole tree, which refutes the case, and its numbers are in range
@@ -30,11 +37,31 @@ CaseTells lts class problem number (answer.Place r) = IsRegionPlace lts class r 
 CaseTells lts class problem number (answer.Refuted case) = RefutesCase lts class problem number case
 CaseTells lts class problem number (answer.Wide w) = ShownWide lts class (shown_of w)
 
+-- the same, in the words of the one answer
+abbrev pub case_result : CaseAnswer → CaseResult
+case_result (answer.Place r) = makes (shown_place r.place)
+case_result (answer.Refuted case) = refutes (case_tree case)
+case_result (answer.Wide w) = passes (shown_of w)
+
+abbrev pub CaseComesTo : CaseSetting → CaseAnswer → Type 0
+CaseComesTo c a = CaseComes c.setting.lts.now c.setting.tree.now.arcs (cycle_of c.setting.basis.now) c.setting.class c.problem c.number (case_result a)
+
 -- the first cases, so many, were tried: each is refuted, or the first term that passes is kept
 pub record AreTried (lts : System) (class : Class) (problem : Problem) (number : ℕ) (tried : Tried) : Type 0 where
   pub all : tried.passed ≡ None → length tried.refuted.items ≡ number
   pub refuted : tried.passed ≡ None → (i : ℕ) (case : Case) → slice_get tried.refuted.items i ≡ Some case → RefutesCase lts class problem i case
   pub passed : IfSome tried.passed (λ w. ShownWide lts class (shown_of w))
+
+-- the first cases, so many, come to no place; to the trees that are kept, or to the first term that passes
+pub record HaveCome (comes : ℕ → CaseResult → Type 0) (number : ℕ) (tried : Tried) : Type 0 where
+  pub none_makes : NoneMakes comes number
+  pub none_passes : tried.passed ≡ None → NonePasses comes number
+  pub all : tried.passed ≡ None → length tried.refuted.items ≡ number
+  pub refuted : tried.passed ≡ None → (i : ℕ) (case : Case) → slice_get tried.refuted.items i ≡ Some case → comes i (refutes (case_tree case))
+  pub passed : IfSome tried.passed (λ w. (i : ℕ) × (i < number) × comes i (passes (shown_of w)) × NonePasses comes i)
+
+abbrev pub CasesCameTo : Setting → Problem → ℕ → Tried → Type 0
+CasesCameTo s problem number tried = HaveCome (CaseComes s.lts.now s.tree.now.arcs (cycle_of s.basis.now) s.class problem) number tried
 
 -- the reason holds, and its numbers are in range
 pub record IsGoodReason (lts : System) (class : Class) (reason : Reason) : Type 0 where
@@ -46,6 +73,12 @@ abbrev pub ProblemTells : System → Class → Problem → ProblemAnswer → Typ
 ProblemTells lts class problem (problem_answer.Place r) = IsRegionPlace lts class r × PlaceSeparates problem r
 ProblemTells lts class problem (problem_answer.Refuted reason) = IsGoodReason lts class reason
 ProblemTells lts class problem (problem_answer.Wide w) = ShownWide lts class (shown_of w)
+
+-- the same, in the words of the one answer: of a reason also that it is that of the problem and its trees
+abbrev pub ProblemComesTo : Setting → Problem → ProblemAnswer → Type 0
+ProblemComesTo s problem (problem_answer.Place r) = ProblemComes s.lts.now s.tree.now.arcs (cycle_of s.basis.now) s.class problem (placed (shown_place r.place))
+ProblemComesTo s problem (problem_answer.Refuted reason) = (trees : List Tree) × (reason_of reason ≡ refuted problem trees) × ProblemComes s.lts.now s.tree.now.arcs (cycle_of s.basis.now) s.class problem (solved.Solved.refuted trees)
+ProblemComesTo s problem (problem_answer.Wide w) = ProblemComes s.lts.now s.tree.now.arcs (cycle_of s.basis.now) s.class problem (passed (shown_of w))
 
 -- what ends the work early
 abbrev pub EndingTells : System → Class → Ending → Type 0

@@ -6,7 +6,7 @@ ghost use Rattle.rg_branch.specs.View.{forms_of, sides_of};
 ghost use Rattle.rg_branch.specs.Asked.{CanBranch, AreSidesOf};
 ghost use Rattle.rg_rows.specs.Forms.{linear_form, split_of, AreFormsOf};
 ghost use Rattle.rg_separate.specs.Casing.{IsCase, IsNamedSystem, forms_in, sides_among};
-ghost use Rattle.rg_separate.specs.Deciding.{CaseTells};
+ghost use Rattle.rg_separate.specs.Deciding.{CaseTells, CaseComesTo};
 ghost use Rattle.rg_separate.specs.View.{shown_of};
 ghost use Rattle.rg_separate.specs.Passing.{passed_at, pivot_at};
 
@@ -34,7 +34,8 @@ pub(crate) enum CaseAnswer {
 // A place that separates the problem in this case, what refutes the case, or the first term out of range.
 pub(crate) fn solve_case(alloc: Global, c: CaseSetting<'_>) -> Result<CaseAnswer, AllocError>
     requires { IsCase c }
-    ensures { IfOk result (CaseTells c.entry.setting.lts.now c.entry.setting.class c.entry.problem c.entry.number) }
+    ensures tells { IfOk result (CaseTells c.entry.setting.lts.now c.entry.setting.class c.entry.problem c.entry.number) }
+    ensures comes { IfOk result (CaseComesTo c.entry) }
 {
     let Setting {
         lts,
@@ -60,7 +61,8 @@ fn branched(
 ) -> Result<CaseAnswer, AllocError>
     requires case { IsCase c }
     requires system { IsNamedSystem c named.now }
-    ensures { IfOk result (CaseTells c.entry.setting.lts.now c.entry.setting.class c.entry.problem c.entry.number) }
+    ensures tells { IfOk result (CaseTells c.entry.setting.lts.now c.entry.setting.class c.entry.problem c.entry.number) }
+    ensures comes { IfOk result (CaseComesTo c.entry) }
 {
     let forms = bounded(alloc, named)?;
     match solve_whole(alloc, &named.system, &forms) {

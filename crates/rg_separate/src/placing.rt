@@ -3,7 +3,7 @@ ghost use Rattle.std.specs.Prelude.{IfOk};
 ghost use Rattle.rg_branch.specs.View.{sides_of};
 ghost use Rattle.rg_branch.specs.Answer.{IsFoundPoint, IsWholeSolution};
 ghost use Rattle.rg_separate.specs.Casing.{IsCase, IsNamedSystem, forms_in};
-ghost use Rattle.rg_separate.specs.Deciding.{CaseTells};
+ghost use Rattle.rg_separate.specs.Deciding.{CaseTells, CaseComesTo};
 
 use crate::case::{CaseAnswer, passed};
 use crate::setting::{CaseSetting, Setting};
@@ -26,7 +26,8 @@ pub(crate) fn placed(
     requires system { IsNamedSystem c named.now }
     requires found { IsFoundPoint named.now.system (forms_in named.now) (sides_of above.now) point.now }
     requires solves { IsWholeSolution named.now.system (forms_in named.now) point.now }
-    ensures { IfOk result (CaseTells c.entry.setting.lts.now c.entry.setting.class c.entry.problem c.entry.number) }
+    ensures tells { IfOk result (CaseTells c.entry.setting.lts.now c.entry.setting.class c.entry.problem c.entry.number) }
+    ensures comes { IfOk result (CaseComesTo c.entry) }
 {
     let Setting {
         lts,

@@ -1,13 +1,15 @@
 //! One problem, by its cases.
-ghost use Rattle.std.specs.Prelude.{◌≡◌, ℕ, length, Some, unwrap_or, slice_get, IfOk};
+ghost use Rattle.std.specs.Prelude.{◌≡◌, ℕ, length, map, Some, unwrap_or, slice_get, IfOk};
 ghost use Rattle.rg_refuting.specs.Row.{cases_of};
+ghost use Rattle.rg_refuting.specs.Refutes.{Reason.refuted};
 ghost use Rattle.rg_reasons.specs.declared.certificate.Case.{Case};
+ghost use Rattle.rg_reasons.specs.Certificates.{case_tree, reason_of};
 ghost use Rattle.rg_theory.specs.ClassWords.{HasBoundInRange};
 ghost use Rattle.rg_theory.specs.System.{IsAllReachable};
 ghost use Rattle.rg_theory.specs.Problem.{IsProblem};
 ghost use Rattle.rg_order_of_work.specs.Shown.{IsLive};
 ghost use Rattle.rg_separate.specs.Keeping.{IsSetting};
-ghost use Rattle.rg_separate.specs.Deciding.{RefutesCase, AreTried, IsGoodReason, ProblemTells};
+ghost use Rattle.rg_separate.specs.Deciding.{RefutesCase, AreTried, CasesCameTo, IsGoodReason, ProblemTells, ProblemComesTo};
 
 use crate::case::{CaseAnswer, solve_case};
 use crate::setting::{CaseSetting, Setting};
@@ -44,7 +46,8 @@ pub(crate) fn solve_problem(
     requires setting { IsSetting setting }
     requires has { IsProblem setting.lts.now problem }
     requires live { IsLive setting.lts.now problem }
-    ensures { IfOk result (ProblemTells setting.entry.lts.now setting.entry.class problem) }
+    ensures tells { IfOk result (ProblemTells setting.entry.lts.now setting.entry.class problem) }
+    ensures comes { IfOk result (ProblemComesTo setting.entry problem) }
 {
     let mut tried = Tried {
         refuted: Vec::new(alloc),
@@ -62,7 +65,7 @@ pub(crate) fn solve_problem(
             CaseAnswer::Wide(at) => tried.note(at),
         }
     }
-    Ok(without_place(setting.lts, setting.class, problem, tried))
+    Ok(without_place(setting, problem, tried))
 }
 
 impl Tried {
@@ -77,17 +80,19 @@ impl Tried {
 }
 
 // What the problem comes to where no case gives a place.
-fn without_place(lts: &Lts, class: Class, problem: Problem, tried: Tried) -> ProblemAnswer
-    requires bound { HasBoundInRange class }
-    requires reachable { IsAllReachable lts.now }
-    requires has { IsProblem lts.now problem }
-    requires tried { AreTried lts.now class problem (cases_of lts.now class problem) tried }
-    ensures { ProblemTells lts.now class problem result }
+fn without_place(setting: Setting<'_>, problem: Problem, tried: Tried) -> ProblemAnswer
+    requires setting { IsSetting setting }
+    requires has { IsProblem setting.lts.now problem }
+    requires live { IsLive setting.lts.now problem }
+    requires tried { AreTried setting.lts.now setting.class problem (cases_of setting.lts.now setting.class problem) tried }
+    requires come { CasesCameTo setting problem (cases_of setting.lts.now setting.class problem) tried }
+    ensures tells { ProblemTells setting.entry.lts.now setting.entry.class problem result }
+    ensures comes { ProblemComesTo setting.entry problem result }
 {
     let Tried { refuted, passed } = tried;
     match passed {
         Some(at) => ProblemAnswer::Wide(at),
-        None => ProblemAnswer::Refuted(reason(lts, class, problem, refuted)),
+        None => ProblemAnswer::Refuted(reason(setting.lts, setting.class, problem, refuted)),
     }
 }
 
@@ -98,7 +103,8 @@ fn reason(lts: &Lts, class: Class, problem: Problem, cases: Vec<Case>) -> Reason
     requires has { IsProblem lts.now problem }
     requires all { length cases.items ≡ cases_of lts.now class problem }
     requires refuted { (i : ℕ) (case : Case) → slice_get cases.items i ≡ Some case → RefutesCase lts.now class problem i case }
-    ensures { IsGoodReason lts.now class result }
+    ensures good { IsGoodReason lts.now class result }
+    ensures trees { reason_of result ≡ refuted problem (map case_tree cases.items) }
 {
     lts.is_well_formed();
     match problem {

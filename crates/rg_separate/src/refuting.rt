@@ -7,7 +7,7 @@ ghost use Rattle.rg_reasons.specs.Certificates.{IsNodeOf};
 ghost use Rattle.rg_branch.specs.View.{TreeNode.leaf_node, sides_of, weight_of, node_of};
 ghost use Rattle.rg_branch.specs.Answer.{IsSplitTree};
 ghost use Rattle.rg_separate.specs.Casing.{IsCase, IsNamedSystem, forms_in, VisitStands, next_sides, IsMadeOf, LeafPasses};
-ghost use Rattle.rg_separate.specs.Deciding.{CaseTells};
+ghost use Rattle.rg_separate.specs.Deciding.{CaseTells, CaseComesTo};
 
 use crate::case::{CaseAnswer, passed};
 use crate::setting::{CaseSetting, Setting};
@@ -31,7 +31,8 @@ pub(crate) fn refuted(
     requires case { IsCase c }
     requires system { IsNamedSystem c named.now }
     requires tree { IsSplitTree named.now.system (forms_in named.now) (map node_of nodes.now) }
-    ensures { IfOk result (CaseTells c.entry.setting.lts.now c.entry.setting.class c.entry.problem c.entry.number) }
+    ensures tells { IfOk result (CaseTells c.entry.setting.lts.now c.entry.setting.class c.entry.problem c.entry.number) }
+    ensures comes { IfOk result (CaseComesTo c.entry) }
 {
     let mut above = Vec::new(alloc);
     let mut made = Vec::new(alloc);
@@ -71,7 +72,7 @@ fn made_of(
     requires case { IsCase c }
     requires system { IsNamedSystem c named.now }
     requires node { VisitStands named.now.system (forms_in named.now) (record { sides = sides_of above.now; node = node_of node.now }) }
-    ensures made { IfOk result (λ made. IsMadeOf c.entry.setting.lts.now c.entry.setting.class c.entry.problem c.entry.number (sides_of above.now) (node_of node.now) (made_node_of made)) }
+    ensures made { IfOk result (λ made. IsMadeOf c.entry named.now (sides_of above.now) (node_of node.now) (made_node_of made)) }
     ensures in_range { IfOk result (λ made. IsNodeOf c.entry.setting.lts.now (made_node_of made)) }
     ensures wide { (w : Wide) → IsErrOf result (stop.Wide w) → LeafPasses c.entry named.now (sides_of above.now) (node_of node.now) w }
 {
@@ -92,7 +93,7 @@ fn leaf(
     requires case { IsCase c }
     requires system { IsNamedSystem c named.now }
     requires leaf { VisitStands named.now.system (forms_in named.now) (record { sides = sides_of above.now; node = leaf_node (map weight_of weights.now) }) }
-    ensures made { IfOk result (λ made. IsMadeOf c.entry.setting.lts.now c.entry.setting.class c.entry.problem c.entry.number (sides_of above.now) (leaf_node (map weight_of weights.now)) (made_node_of made)) }
+    ensures made { IfOk result (λ made. IsMadeOf c.entry named.now (sides_of above.now) (leaf_node (map weight_of weights.now)) (made_node_of made)) }
     ensures in_range { IfOk result (λ made. IsNodeOf c.entry.setting.lts.now (made_node_of made)) }
     ensures wide { (w : Wide) → IsErrOf result (stop.Wide w) → LeafPasses c.entry named.now (sides_of above.now) (leaf_node (map weight_of weights.now)) w }
 {

@@ -7,8 +7,8 @@ use Rattle.rg_separate.specs.Deciding.{RefutesCase}
 use Rattle.rg_separate.proofs.Reasons.{refuted_all, refuted_one}
 use Rattle.rg_separate.proofs.problem.reason.Goals as goal
 
-pub returns-in-States : goal.returns-in-States
-returns-in-States c =
+pub returns-in-States-clause-good : goal.returns-in-States-clause-good
+returns-in-States-clause-good c =
     let lts = c.args.lts.now in
     let class = c.args.class in
     refuted_all lts class c.in-States.s c.in-States.other c.args.cases c.is_well_formed.ensures.in_range c.requires.reachable c.requires.bound
@@ -16,8 +16,8 @@ returns-in-States c =
     (subst (λ (p : Problem). length c.args.cases.items ≡ cases_of lts class p) c.in-States.is c.requires.all)
     (subst (λ (p : Problem). (i : ℕ) (case : Case) → slice_get c.args.cases.items i ≡ Some case → RefutesCase lts class p i case) c.in-States.is c.requires.refuted)
 
-pub returns-in-Some : goal.returns-in-Some
-returns-in-Some c =
+pub returns-in-Some-clause-good : goal.returns-in-Some-clause-good
+returns-in-Some-clause-good c =
     let lts = c.args.lts.now in
     let class = c.args.class in
     refuted_one lts class c.in-Event.s c.in-Event.t c.in-Some.case c.requires.bound

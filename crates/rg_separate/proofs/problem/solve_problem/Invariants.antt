@@ -1,5 +1,8 @@
-use Rattle.rg_separate.specs.Deciding.{AreTried}
+use Rattle.rg_separate.specs.Deciding.{AreTried, CasesCameTo}
 use Rattle.rg_separate.proofs.problem.solve_problem.Given as goal
 
 abbrev pub invariant-loop-case : goal.invariant-loop-case
-invariant-loop-case l = AreTried l.setting.lts.now l.setting.class l.problem l.case l.tried
+invariant-loop-case l = record {
+  tried : AreTried l.setting.lts.now l.setting.class l.problem l.case l.tried;
+  come : CasesCameTo l.setting l.problem l.case l.tried;
+}

@@ -15,14 +15,14 @@ use Rattle.rg_branch.specs.View.{side_of, sides_of, weight_of}
 use Rattle.rg_rows.specs.declared.named_form.NamedForm.{NamedForm}
 use Rattle.rg_rows.specs.Forms.{split_of}
 use Rattle.rg_farkas.specs.Leaves.{share_of, RefutesCase}
-use Rattle.rg_separate.specs.Casing.{sides_among}
+use Rattle.rg_separate.specs.Casing.{sides_among, SharesFold}
 use Rattle.rg_separate.proofs.Leaves.{leaf_asked, leaf_made, leaf_rows, leaf_not_negative}
 use Rattle.rg_separate.proofs.refuting.leaf.Goals as goal
 
 -- what holds of a result
-IfOk_weaker : {A E : Type 0} {P Q : A → Type 0} (r : Result A E) → IfOk r P → ((a : A) → P a → Q a) → IfOk r Q
-IfOk_weaker (Ok a) p f = f a p
-IfOk_weaker (Err e) p f = p
+IfOk_both : {A E : Type 0} {P Q R : A → Type 0} (r : Result A E) → IfOk r P → IfOk r Q → ((a : A) → P a → Q a → R a) → IfOk r R
+IfOk_both (Ok a) p q f = f a p q
+IfOk_both (Err e) p q f = p
 
 pub shares-requires-clause-rows : goal.shares-requires-clause-rows
 shares-requires-clause-rows c = subst (λ n. All (λ (w : Weight). w.row < length c.args.named.now.system.rows + n) (map weight_of c.args.weights.now)) (length-map c.args.above.now side_of) (leaf_rows c.args.c c.args.named.now (sides_of c.args.above.now) (map weight_of c.args.weights.now) c.requires.leaf.node)
@@ -41,11 +41,10 @@ spread-requires c =
 
 pub returns-clause-made : goal.returns-clause-made
 returns-clause-made c =
-    let lts = c.args.c.setting.lts.now in
-    let class = c.args.c.setting.class in
     let sides = sides_of c.args.above.now in
     let by_name = c.in_ok-above.ensures ∙ ap (λ (fs : List NamedForm). sides_among (map split_of fs) sides) c.deref.ensures.value ∙ ap (λ fs. sides_among fs sides) c.requires.system.by_name in
-    IfOk_weaker c.spread.result c.spread.ensures.refutes (λ node is. leaf_made lts class c.args.c.problem c.args.c.number sides (map made_side_of c.deref-3.result.now) (map weight_of c.args.weights.now) (made_node_of node) (ap (map made_side_of) c.deref-3.ensures.value ∙ by_name) is)
+    let fold = subst (λ (shares : List (RowName × Fraction)). SharesFold c.args.named.now sides (map weight_of c.args.weights.now) (Ok (map share_of shares))) (sym c.deref-2.ensures.value) c.in_ok-shares.ensures.shares in
+    IfOk_both c.spread.result c.spread.ensures.leaf c.spread.ensures.refutes (λ node leaf is. leaf_made c.args.c c.args.named.now sides (map made_side_of c.deref-3.result.now) (map weight_of c.args.weights.now) (map share_of c.deref-2.result.now) (made_node_of node) (ap (map made_side_of) c.deref-3.ensures.value ∙ by_name) fold leaf is)
 
 pub returns-clause-wide : goal.returns-clause-wide
 returns-clause-wide c = λ w is case shows.
