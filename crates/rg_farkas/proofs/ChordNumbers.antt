@@ -14,7 +14,7 @@ use Rattle.rg_integers.proofs.Divisors.{IsGcd-neg_first}
 use Rattle.rg_fraction.specs.declared.term.Wide.{Wide}
 use Rattle.rg_fraction.specs.declared.fraction.Fraction.{Fraction}
 use Rattle.rg_fraction.specs.Fractions.{numerator_of, denominator_of, IsValue, IsProduct}
-use Rattle.rg_order_of_work.specs.Fold.{further, joined, Ratio, whole, ratio_of, shown_result, quotient, add, mul}
+use Rattle.rg_order_of_work.specs.Fold.{and_then, further, joined, Ratio, whole, ratio_of, shown_result, quotient, add, mul}
 use Rattle.rg_order_of_work.specs.Placing.{negated}
 use Rattle.rg_order_of_work.proofs.FoldLemmas.{ratio_one, new_step, mul_step}
 use Rattle.rg_cycles.specs.declared.relation.Relation.{Relation}
@@ -24,6 +24,9 @@ use Rattle.rg_farkas.specs.View.{LabelCount, counted_of, count_fold, counts_fold
 use Rattle.rg_farkas.specs.declared.multiplied.Counted.{Counted}
 use Rattle.rg_farkas.proofs.Steps.{sum_next, sum_unmade, sum_unjoined, sum_ends}
 use Rattle.rg_cycles.proofs.Folding.{whole_is}
+use Rattle.rg_cycles.proofs.AddsNothing.{times_none, number_adds_nothing}
+use Rattle.rg_order_of_work.proofs.Zeros.{count_adds_nothing}
+use Rattle.rg_integers.specs.Range.{InRange}
 use Rattle.std.proofs.lemmas.List.{length-map, get_or-map}
 use Rattle.rg_theory.proofs.Lists.{Contains-cons_cases}
 use Rattle.std.proofs.lemmas.List.Elements.{Contains-get_or, All-from_get_or, All-head, All-tail}
@@ -90,24 +93,51 @@ chord_number_is labels vectors cycle t c r basis shows lt member =
         label : m < labels → test m ≡ false
         label below = ap (λ a. not a && not (int_eq ((cycle.relation t).coefficient m) (pos 0))) (below_test m labels below)
 
+-- a chord's number is in range, as all that are listed are
+pub number_in_range : (pairs : List (ℕ × ℤ)) (c : ℕ) → ((n : ℕ) → InRange (slice_index_or pairs n (0, pos 0)).1) → InRange (number_with pairs c)
+number_in_range [] c all = omega arith
+number_in_range (p ∷ pairs) c all = go (p.0 == c) (number_in_range pairs c (λ n. all (suc n)))
+  where
+    go : (b : Bool) → InRange (number_with pairs c) → InRange (if b then p.1 else number_with pairs c)
+    go true rest = all 0
+    go false rest = rest
+
 -- ---- what a count gives a chord
 
 one_differs : pos 1 ≢ pos 0
 one_differs e = omega (arith, ints)
 
+-- the multiplier times the count
+product_made : (k : LabelCount) (multiplier count : Fraction) → k.multiplier ≡ ratio_of multiplier → ratio_of count ≡ whole k.count → (r : Result Fraction Wide) → IsProduct (numerator_of multiplier) (denominator_of multiplier) (numerator_of count) (denominator_of count) r → mul k.multiplier (whole k.count) (shown_result ratio_of r)
+product_made k multiplier count is whole_count r told = subst (λ f. mul f (whole k.count) (shown_result ratio_of r)) (sym is) (subst (λ f. mul (ratio_of multiplier) f (shown_result ratio_of r)) whole_count (mul_step multiplier count r told))
+
 pub count_first : (cycle : CycleBasis) (c : ℕ) (k : LabelCount) (multiplier count : Fraction) → k.multiplier ≡ ratio_of multiplier → ratio_of count ≡ whole k.count → (w : Wide) → IsProduct (numerator_of multiplier) (denominator_of multiplier) (numerator_of count) (denominator_of count) (Err w) → count_fold cycle c k (Err w)
-count_first cycle c k multiplier count is whole_count w told = inl (subst (λ f. mul f (whole k.count) (Err w)) (sym is) (subst (λ f. mul (ratio_of multiplier) f (Err w)) whole_count (mul_step multiplier count (Err w) told)))
+count_first cycle c k multiplier count is whole_count w told = inl (product_made k multiplier count is whole_count (Err w) told)
 
 module _ (cycle : CycleBasis) (c : ℕ) (k : LabelCount) (multiplier count number : Fraction) (n d : ℤ) (is : k.multiplier ≡ ratio_of multiplier) (whole_count : ratio_of count ≡ whole k.count) (value : IsValue number n d) (nonzero : d ≢ pos 0) (same_n : n ≡ (cycle.relation k.label).coefficient c) (same_d : d ≡ (cycle.relation k.label).d) where
-  first : (r : Result Fraction Wide) → IsProduct (numerator_of multiplier) (denominator_of multiplier) (numerator_of count) (denominator_of count) r → mul k.multiplier (whole k.count) (shown_result ratio_of r)
-  first r told = subst (λ f. mul f (whole k.count) (shown_result ratio_of r)) (sym is) (subst (λ f. mul (ratio_of multiplier) f (shown_result ratio_of r)) whole_count (mul_step multiplier count r told))
-
   second : quotient ((cycle.relation k.label).coefficient c) (cycle.relation k.label).d (Ok (ratio_of number))
   second = subst (λ z. quotient z (cycle.relation k.label).d (Ok (ratio_of number))) same_n (subst (λ z. quotient n z (Ok (ratio_of number))) same_d (new_step number n d nonzero value))
 
   pub count_made : (f : Fraction) (r : Result Fraction Wide) → IsProduct (numerator_of multiplier) (denominator_of multiplier) (numerator_of count) (denominator_of count) (Ok f) → IsProduct (numerator_of f) (denominator_of f) (numerator_of number) (denominator_of number) r → count_fold cycle c k (shown_result ratio_of r)
-  count_made f (Ok g) told told' = (ratio_of f, first (Ok f) told, (ratio_of number, second, mul_step f number (Ok g) told'))
-  count_made f (Err w) told told' = inr (ratio_of f, first (Ok f) told, inr (ratio_of number, second, mul_step f number (Err w) told'))
+  count_made f (Ok g) told told' = (ratio_of f, product_made k multiplier count is whole_count (Ok f) told, (ratio_of number, second, mul_step f number (Ok g) told'))
+  count_made f (Err w) told told' = inr (ratio_of f, product_made k multiplier count is whole_count (Ok f) told, inr (ratio_of number, second, mul_step f number (Err w) told'))
+
+-- a count of 0 gives nothing, nor does a number of 0 whose product is in range
+module _ (cycle : CycleBasis) (c : ℕ) (k : LabelCount) (multiplier none : Fraction) (n d : ℤ) (is : k.multiplier ≡ ratio_of multiplier) (value : IsValue none (pos 0) (pos 1)) (nonzero : d ≢ pos 0) (same_n : n ≡ (cycle.relation k.label).coefficient c) (same_d : d ≡ (cycle.relation k.label).d) where
+  times_number : (x : Ratio) → and_then (quotient n d) (mul x) (Ok (whole (pos 0))) → and_then (quotient ((cycle.relation k.label).coefficient c) (cycle.relation k.label).d) (λ y. mul x y) (Ok (ratio_of none))
+  times_number x h = subst (λ z. and_then (quotient z (cycle.relation k.label).d) (λ y. mul x y) (Ok (ratio_of none))) same_n
+      (subst (λ z. and_then (quotient n z) (λ y. mul x y) (Ok (ratio_of none))) same_d
+      (subst (λ r. and_then (quotient n d) (λ y. mul x y) (Ok r)) (sym (whole_is none (pos 0) value)) h))
+
+  pub no_count : k.count ≡ pos 0 → InRange n → InRange d → count_fold cycle c k (Ok (ratio_of none))
+  no_count e hn hd = (
+    whole (pos 0),
+    subst (λ z. mul k.multiplier (whole z) (Ok (whole (pos 0)))) (sym e) (subst (λ f. mul f (whole (pos 0)) (Ok (whole (pos 0)))) (sym is) (times_none multiplier)),
+    times_number (whole (pos 0)) (count_adds_nothing n d nonzero hn hd),
+  )
+
+  pub no_number : (count f : Fraction) → ratio_of count ≡ whole k.count → IsProduct (numerator_of multiplier) (denominator_of multiplier) (numerator_of count) (denominator_of count) (Ok f) → n ≡ pos 0 → count_fold cycle c k (Ok (ratio_of none))
+  no_number count f whole_count told e = (ratio_of f, product_made k multiplier count is whole_count (Ok f) told, times_number (ratio_of f) (number_adds_nothing n d f nonzero e))
 
 -- the opposite fraction is the negated one
 pub opposite_is : (f g : Fraction) → IsValue g (neg_ℤ (numerator_of f)) (denominator_of f) → ratio_of g ≡ negated (ratio_of f)

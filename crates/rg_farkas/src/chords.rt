@@ -126,12 +126,14 @@ fn chord_sum(lts: &Lts, basis: &Basis, counts: &[Counted], chord: u32) -> Result
     let mut sum = chord_term(lts, basis, first, chord)?;
     for pair in rest {
         let term = chord_term(lts, basis, pair, chord)?;
-        sum = sum.add(term)?;
+        if term.numerator() != 0 {
+            sum = sum.add(term)?;
+        }
     }
     Ok(sum)
 }
 
-// What a count gives the chord with this number.
+// What a count gives the chord with this number: 0 where it is 0 or the label's relation doesn't name the chord.
 fn chord_term(lts: &Lts, basis: &Basis, pair: &Counted, chord: u32) -> Result<Fraction, Wide>
     requires labels { labels_of basis.now ≡ labels lts.now }
     requires basis { (vectors : List (List ℤ)) × IsCycleBasis (labels lts.now) vectors (cycle_of basis.now) }
@@ -145,11 +147,17 @@ fn chord_term(lts: &Lts, basis: &Basis, pair: &Counted, chord: u32) -> Result<Fr
     let Some(relation) = basis.relation(pair.label) else {
         unreachable!()
     };
+    if pair.count == 0 {
+        return Ok(Fraction::new(0, 1));
+    }
     let count = Fraction::new(pair.count, 1);
     let product = pair.multiplier.mul(count)?;
     let place = basis.kept()[chord as usize];
-    let number = Fraction::new(chord_number(relation, place), relation.d);
-    product.mul(number)
+    let number = chord_number(relation, place);
+    if number == 0 {
+        return Ok(Fraction::new(0, 1));
+    }
+    product.mul(Fraction::new(number, relation.d))
 }
 
 // The number of the chord at this place in the relation, 0 where it isn't named.

@@ -8,6 +8,9 @@ use Rattle.rg_integers.proofs.Order.{mul_positive, positive_differs}
 use Rattle.rg_order_of_work.specs.Fold.{and_then, joined, ratio_of, shown_result, quotient, add, mul, Ratio, whole}
 use Rattle.rg_order_of_work.specs.Placing.{negated, ratio_at, top_at}
 use Rattle.std.proofs.lemmas.List.{length-map, get_or_default}
+use Rattle.rg_integers.specs.Range.{InRange}
+use Rattle.rg_cycles.proofs.Folding.{whole_is}
+use Rattle.rg_cycles.proofs.AddsNothing.{value_adds_nothing, number_adds_nothing}
 use Rattle.rg_places.specs.PointValues.{ratios_of}
 use Rattle.rg_places.proofs.FoldSteps.{map_at}
 use Rattle.rg_order_of_work.proofs.FoldLemmas.{new_step, mul_step}
@@ -24,6 +27,14 @@ share_step n d value share r ne v p = go r (mul_step value share r p)
     go : (r : Result Fraction Wide) → mul (ratio_of value) (ratio_of share) (shown_result ratio_of r) → and_then (quotient n d) (λ k. mul (ratio_of value) k) (shown_result ratio_of r)
     go (Ok h) m = (ratio_of share, new_step share n d ne v, m)
     go (Err w) m = inr (ratio_of share, new_step share n d ne v, m)
+
+-- where the value or the number is 0
+module _ (n d : ℤ) (value none : Fraction) (nonzero : d ≢ pos 0) where
+  pub share_of_no_value : InRange n → InRange d → numerator_of value ≡ pos 0 → IsValue none (pos 0) (pos 1) → and_then (quotient n d) (λ k. mul (ratio_of value) k) (Ok (ratio_of none))
+  share_of_no_value hn hd e v = subst (λ r. and_then (quotient n d) (λ k. mul (ratio_of value) k) (Ok r)) (sym (whole_is none (pos 0) v)) (value_adds_nothing n d value nonzero hn hd e)
+
+  pub share_of_no_number : n ≡ pos 0 → IsValue none (pos 0) (pos 1) → and_then (quotient n d) (λ k. mul (ratio_of value) k) (Ok (ratio_of none))
+  share_of_no_number e v = subst (λ r. and_then (quotient n d) (λ k. mul (ratio_of value) k) (Ok r)) (sym (whole_is none (pos 0) v)) (number_adds_nothing n d value nonzero e)
 
 -- of no items
 pub joined_none : {A X : Type 0} (join : X → X → Result X Wide → Type 0) (make : A → Result X Wide → Type 0) (none x : X) (items : List A) → length items ≡ 0 → x ≡ none → joined join make none items (Ok x)

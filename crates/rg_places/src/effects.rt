@@ -80,17 +80,25 @@ fn sum_of_shares(relation: &Relation, columns: &[Column]) -> Result<Fraction, Wi
     let mut sum = share_of(relation, first)?;
     for column in rest {
         let share = share_of(relation, column)?;
-        sum = sum.add(share)?;
+        if share.numerator() != 0 {
+            sum = sum.add(share)?;
+        }
     }
     Ok(sum)
 }
 
-// What a free label adds to the effect of a label with this relation.
+// What a free label adds to the effect of a label with this relation: 0 where its value or its number is 0.
 fn share_of(relation: &Relation, column: &Column) -> Result<Fraction, Wide>
     requires in_range { IsRelationInRange relation.now }
     requires place { column.now.place < length relation.now.free.items }
     ensures { column_share relation.now column.now (shown_result ratio_of result) }
 {
-    let number = Fraction::new(relation.free[column.place], relation.d);
-    column.value.mul(number)
+    if column.value.numerator() == 0 {
+        return Ok(Fraction::new(0, 1));
+    }
+    let number = relation.free[column.place];
+    if number == 0 {
+        return Ok(Fraction::new(0, 1));
+    }
+    column.value.mul(Fraction::new(number, relation.d))
 }

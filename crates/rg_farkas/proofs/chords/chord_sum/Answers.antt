@@ -1,11 +1,13 @@
-use Rattle.std.proofs.Common.{rules, ◌≡◌, ◌+◌, Err, Ok}
+use Rattle.std.proofs.Common.{rules, ◌≡◌, ◌+◌, Err, Ok, sym, ◌∙◌}
 use Rattle.rg_theory.specs.System.{labels}
 use Rattle.rg_order_of_work.specs.Fold.{ratio_of}
 use Rattle.rg_order_of_work.proofs.FoldLemmas.{add_step}
 use Rattle.rg_cycles.specs.View.{cycle_of}
 use Rattle.rg_farkas.specs.View.{count_fold}
 use Rattle.rg_farkas.proofs.ChordNumbers.{IsDependent, first_count, rest_count, no_counts, first_fails, first_made, next_fails, next_unjoined, next_made, counts_end}
+use Rattle.rg_cycles.proofs.AddsNothing.{zero_of_bits, plus_none}
 use Rattle.rg_farkas.proofs.chords.chord_sum.Goals as goal
+use Rattle.rg_farkas.proofs.chords.chord_sum.Goals.{then-numerator-ne0+in_ok-sum-2, else-numerator-ne0}
 
 pub returns-in_default : goal.returns-in_default
 returns-in_default c = no_counts (count_fold (cycle_of c.args.basis.now) (labels c.args.lts.now + c.args.chord)) c.args.counts.now c.new.result c.in_default.ensures.cases c.new.ensures
@@ -41,7 +43,14 @@ returns-in_err-sum-2 c =
     rw same (next_unjoined (count_fold (cycle_of c.args.basis.now) (labels c.args.lts.now + c.args.chord)) c.args.counts.now c.in-Some.rest.now c.loop-pair.pair-index c.pair-item.result c.loop-pair-test.true c.pair-item.is (ratio_of c.loop-pair.sum) c.loop-pair.invariant (ratio_of c.in_ok-term.term) c.in_err-sum-2.field-0.0 c.in_ok-term.ensures (add_step c.loop-pair.sum c.in_ok-term.term (Err c.in_err-sum-2.field-0.0) c.in_err-sum-2.ensures))
 
 pub loop-pair-preserved : goal.loop-pair-preserved
-loop-pair-preserved c = next_made (count_fold (cycle_of c.args.basis.now) (labels c.args.lts.now + c.args.chord)) c.args.counts.now c.in-Some.rest.now c.loop-pair.pair-index c.pair-item.result c.loop-pair-test.true c.pair-item.is (ratio_of c.loop-pair.sum) c.loop-pair.invariant (ratio_of c.in_ok-term.term) (ratio_of c.in_ok-sum-2.sum) c.in_ok-term.ensures (add_step c.loop-pair.sum c.in_ok-term.term (Ok c.in_ok-sum-2.sum) c.in_ok-sum-2.ensures)
+loop-pair-preserved c =
+    elim c.if-numerator-ne0.branch [
+      | then-numerator-ne0+in_ok-sum-2 w ↦
+          rw w.sum-is (next_made (count_fold (cycle_of c.args.basis.now) (labels c.args.lts.now + c.args.chord)) c.args.counts.now c.in-Some.rest.now c.loop-pair.pair-index c.pair-item.result c.loop-pair-test.true c.pair-item.is (ratio_of c.loop-pair.sum) c.loop-pair.invariant (ratio_of c.in_ok-term.term) (ratio_of w.in_ok-sum-2.sum) c.in_ok-term.ensures (add_step c.loop-pair.sum c.in_ok-term.term (Ok w.in_ok-sum-2.sum) w.in_ok-sum-2.ensures))
+      | else-numerator-ne0 w ↦
+          let none = sym c.numerator.ensures.value ∙ zero_of_bits c.numerator.result c.numerator.ensures.in_range w.if-numerator-ne0.false in
+          rw w.sum-is (next_made (count_fold (cycle_of c.args.basis.now) (labels c.args.lts.now + c.args.chord)) c.args.counts.now c.in-Some.rest.now c.loop-pair.pair-index c.pair-item.result c.loop-pair-test.true c.pair-item.is (ratio_of c.loop-pair.sum) c.loop-pair.invariant (ratio_of c.in_ok-term.term) (ratio_of c.loop-pair.sum) c.in_ok-term.ensures (plus_none c.loop-pair.sum c.in_ok-term.term none))
+    ]
 
 pub returns : goal.returns
 returns c = counts_end (count_fold (cycle_of c.args.basis.now) (labels c.args.lts.now + c.args.chord)) c.args.counts.now c.in-Some.rest.now c.loop-pair.pair-index (ratio_of c.loop-pair.sum) c.loop-pair.invariant c.loop-pair-test.false

@@ -4,12 +4,24 @@ use Rattle.rg_integers.specs.Range.{InRange}
 use Rattle.rg_integers.specs.Sum.{number_at}
 use Rattle.rg_integers.proofs.Casts.{back}
 use Rattle.rg_integers.proofs.Order.{positive_differs}
-use Rattle.rg_places.proofs.FractionSteps.{share_step}
+use Rattle.rg_cycles.proofs.AddsNothing.{zero_of_bits}
+use Rattle.rg_places.proofs.FractionSteps.{share_step, share_of_no_value, share_of_no_number}
 use Rattle.rg_places.proofs.effects.share_of.Goals as goal
+
+pub returns-then-numerator-eq0 : goal.returns-then-numerator-eq0
+returns-then-numerator-eq0 c =
+    let none = sym c.numerator.ensures.value ∙ zero_of_bits c.numerator.result c.numerator.ensures.in_range c.if-numerator-eq0.true in
+    share_of_no_value (number_at c.args.relation.now.free.items c.args.column.now.place) c.args.relation.now.d c.args.column.now.value c.new.result (positive_differs _ c.requires.in_range.positive) (c.requires.in_range.free c.args.column.now.place) c.requires.in_range.d none c.new.ensures
+
+pub returns-then-number-eq0 : goal.returns-then-number-eq0
+returns-then-number-eq0 c =
+    let number = c.index-number.ensures ∙ get_or_default c.args.relation.now.free.items c.args.column.now.place c.index-number.result.now _ c.requires.place in
+    let none = sym number ∙ zero_of_bits c.index-number.result.now (subst InRange (sym number) (c.requires.in_range.free c.args.column.now.place)) c.if-number-eq0.true in
+    share_of_no_number (number_at c.args.relation.now.free.items c.args.column.now.place) c.args.relation.now.d c.args.column.now.value c.new-then-number-eq0.result (positive_differs _ c.requires.in_range.positive) none c.new-then-number-eq0.ensures
 
 pub returns : goal.returns
 returns c =
-    let number = c.index.ensures ∙ get_or_default c.args.relation.now.free.items c.args.column.now.place c.index.result.now _ c.requires.place in
+    let number = c.index-number.ensures ∙ get_or_default c.args.relation.now.free.items c.args.column.now.place c.index-number.result.now _ c.requires.place in
     let d = back c.args.relation.now.d c.requires.in_range.d in
-    let z = back c.index.result.now (subst InRange (sym number) (c.requires.in_range.free c.args.column.now.place)) in
-    share_step (number_at c.args.relation.now.free.items c.args.column.now.place) c.args.relation.now.d c.args.column.now.value c.new-number.result c.mul.result (positive_differs _ c.requires.in_range.positive) (rw (z, number, d) at c.new-number.ensures) c.mul.ensures.product
+    let z = back c.index-number.result.now (subst InRange (sym number) (c.requires.in_range.free c.args.column.now.place)) in
+    share_step (number_at c.args.relation.now.free.items c.args.column.now.place) c.args.relation.now.d c.args.column.now.value c.new-2.result c.mul.result (positive_differs _ c.requires.in_range.positive) (rw (z, number, d) at c.new-2.ensures) c.mul.ensures.product

@@ -1,13 +1,15 @@
-use Rattle.std.proofs.Common.{rules, ◌≡◌, ◌<◌, Err, length, subst, sym}
+use Rattle.std.proofs.Common.{rules, ◌≡◌, ◌<◌, Err, length, subst, sym, ◌∙◌}
 use Rattle.std.specs.Prelude.{pos}
 use Rattle.rg_order_of_work.specs.Fold.{joined, add, whole, ratio_of}
 use Rattle.rg_order_of_work.proofs.FoldLemmas.{add_step}
 use Rattle.rg_cycles.proofs.Folding.{whole_is}
+use Rattle.rg_cycles.proofs.AddsNothing.{zero_of_bits, plus_none}
 use Rattle.rg_places.specs.Steps.{column_share}
 use Rattle.rg_places.proofs.FractionSteps.{joined_none}
 use Rattle.rg_places.proofs.FoldSteps.{sum_leads, first_fails, sum_ends, sum_next, item_fails, join_fails}
 use Rattle.rg_places.proofs.ColumnLists.{rest_has}
 use Rattle.rg_places.proofs.effects.sum_of_shares.Goals as goal
+use Rattle.rg_places.proofs.effects.sum_of_shares.Goals.{then-numerator-ne0+in_ok-sum-2, else-numerator-ne0}
 
 pub returns-in_default : goal.returns-in_default
 returns-in_default c = joined_none add (column_share c.args.relation.now) (whole (pos 0)) (ratio_of c.new.result) c.args.columns.now c.in_default.ensures.cases (whole_is c.new.result (pos 0) c.new.ensures)
@@ -36,8 +38,15 @@ returns-in_err-sum-2 c =
 
 pub loop-column-preserved : goal.loop-column-preserved
 loop-column-preserved c =
-    let joins = add_step c.loop-column.sum c.in_ok-share.share c.add.result c.add.ensures in
-    sum_next add (column_share c.args.relation.now) (joined add (column_share c.args.relation.now) (whole (pos 0)) c.args.columns.now) c.in-Some.rest.now c.loop-column.column-index (ratio_of c.loop-column.sum) c.loop-column.invariant c.column-item.result c.loop-column-test.true c.column-item.is (ratio_of c.in_ok-share.share) (ratio_of c.in_ok-sum-2.sum) (rw c.in_ok-share.was at c.share_of-in-loop-column.ensures) (rw c.in_ok-sum-2.was at joins)
+    let made = rw c.in_ok-share.was at c.share_of-in-loop-column.ensures in
+    elim c.if-numerator-ne0.branch [
+      | then-numerator-ne0+in_ok-sum-2 w ↦
+          let joins = add_step c.loop-column.sum c.in_ok-share.share w.add.result w.add.ensures in
+          rw w.sum-is (sum_next add (column_share c.args.relation.now) (joined add (column_share c.args.relation.now) (whole (pos 0)) c.args.columns.now) c.in-Some.rest.now c.loop-column.column-index (ratio_of c.loop-column.sum) c.loop-column.invariant c.column-item.result c.loop-column-test.true c.column-item.is (ratio_of c.in_ok-share.share) (ratio_of w.in_ok-sum-2.sum) made (rw w.in_ok-sum-2.was at joins))
+      | else-numerator-ne0 w ↦
+          let none = sym c.numerator.ensures.value ∙ zero_of_bits c.numerator.result c.numerator.ensures.in_range w.if-numerator-ne0.false in
+          rw w.sum-is (sum_next add (column_share c.args.relation.now) (joined add (column_share c.args.relation.now) (whole (pos 0)) c.args.columns.now) c.in-Some.rest.now c.loop-column.column-index (ratio_of c.loop-column.sum) c.loop-column.invariant c.column-item.result c.loop-column-test.true c.column-item.is (ratio_of c.in_ok-share.share) (ratio_of c.loop-column.sum) made (plus_none c.loop-column.sum c.in_ok-share.share none))
+    ]
 
 pub returns : goal.returns
 returns c = sum_ends add (column_share c.args.relation.now) (joined add (column_share c.args.relation.now) (whole (pos 0)) c.args.columns.now) c.in-Some.rest.now c.loop-column.column-index (ratio_of c.loop-column.sum) c.loop-column.invariant c.loop-column-test.false
