@@ -1,5 +1,5 @@
-pub mod Order
-pub mod Items
+pub mod Keeping
+pub mod Few
 pub mod Branched
 pub mod Siding
 pub mod Visits
@@ -15,3 +15,4 @@ pub mod Factors
 pub mod Trying
 pub mod Coming
 pub mod Separating
+pub mod Ending

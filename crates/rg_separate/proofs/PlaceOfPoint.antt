@@ -27,7 +27,7 @@ use Rattle.rg_order_of_work.specs.Meaning.{IsCaseOver}
 use Rattle.rg_order_of_work.proofs.ColumnValues.{columns_of_case}
 use Rattle.rg_cycles.specs.View.{cycle_of}
 use Rattle.rg_theory.specs.Net.{Place}
-use Rattle.rg_outcome.specs.Casing.{AreColumnValues, CaseResult.makes, CaseResult.passes, CaseComes, CaseComes.place_is_made, CaseComes.place_passes}
+use Rattle.rg_outcome.specs.Casing.{CaseResult.makes, CaseResult.passes, CaseComes, CaseComes.place_is_made, CaseComes.place_passes}
 use Rattle.rg_branch.specs.Answer.{AreValuesAt, IsFoundPoint, IsWholeSolution}
 use Rattle.rg_rows.specs.declared.named_system.NamedSystem.{NamedSystem}
 use Rattle.rg_places.specs.PointValues.{ratios_of, point_start, point_value, SolvesCase}
@@ -82,33 +82,27 @@ found_has system forms sides members b =
     let node = node_system system forms sides in
     descent_has node (column_set node) [] (length node.rows) 0 (descent.Outcome.point members) (found_well system forms [] (found members sides) b).descent (columns_have node)
 
--- the numbers of the point are the values of the columns at the set
-columns_are : (node : LinearSystem) (members : List ℕ) (point : List Fraction) → HasDictionary node members → AreValuesAt node members point → AreColumnValues node members point
-columns_are node members point has are = record {
-  one_each = are.one_each;
-  each = λ j lt. ratio_is point j (IsValueAt node members j) (let e = are.one_each in omega arith) (λ f. value_at node members has j (get_or point j f) (let e = are.one_each in omega arith) (λ scale v basic. are.each j f (let e = are.one_each in omega arith) scale v basic));
-}
-
-module _ (c : CaseSetting) (named : NamedSystem) (sides : List SplitSide) (point : List Fraction) (system : IsNamedSystem c named) (at : IsFoundPoint named.system (forms_in named) sides point) where
-  case_found : Branching (rows_of system.case) system.case.forms (found at.members sides)
-  case_found = subst (λ s. Branching s system.case.forms (found at.members sides)) system.shows.system (subst (λ fs. Branching named.system fs (found at.members sides)) system.shows.forms at.outcome)
-
-  case_values : AreColumnValues (node_system (rows_of system.case) system.case.forms sides) at.members point
-  case_values = subst (λ s. AreColumnValues (node_system s system.case.forms sides) at.members point) system.shows.system
-      (subst (λ fs. AreColumnValues (node_system named.system fs sides) at.members point) system.shows.forms (columns_are (node_system named.system (forms_in named) sides) at.members point (found_has named.system (forms_in named) sides at.members at.outcome) at.values_are))
-
-  -- the case comes to the place of the point, or to its first step out of range
-  pub place_comes : (p : Place) → place_fold c.setting.lts.now c.setting.tree.now.arcs (cycle_of c.setting.basis.now) c.setting.class c.problem (point_start c.setting.class point) (point_value c.setting.lts.now (cycle_of c.setting.basis.now) c.setting.class point) (Ok p) → CaseComes c.setting.lts.now c.setting.tree.now.arcs (cycle_of c.setting.basis.now) c.setting.class c.problem c.number (makes p)
-  place_comes p fold = place_is_made system.case at.members sides point p system.made case_found case_values fold
-
-  pub place_fails : (w : Wide) → place_fold c.setting.lts.now c.setting.tree.now.arcs (cycle_of c.setting.basis.now) c.setting.class c.problem (point_start c.setting.class point) (point_value c.setting.lts.now (cycle_of c.setting.basis.now) c.setting.class point) (Err w) → CaseComes c.setting.lts.now c.setting.tree.now.arcs (cycle_of c.setting.basis.now) c.setting.class c.problem c.number (passes (passed_at PlaceStage c (named_sides c.setting.lts.now c.setting.class sides) w))
-  place_fails w fold = place_passes system.case at.members sides point w system.made case_found case_values fold
-
 -- Start and the values of the labels are those of the columns at the set
 point_is : (lts : System) (basis : CycleBasis) (class : Class) (node : LinearSystem) (members : List ℕ) (point : List Fraction) → HasDictionary node members → AreValuesAt node members point → node.columns ≡ column_count lts basis class → PointOf lts basis class node members (point_start class point) (point_value lts basis class point)
 point_is lts basis class node members point has are count =
     point_of lts basis class point (are.one_each ∙ count) node members
     (λ j lt. ratio_is point j (IsValueAt node members j) lt (λ f. value_at node members has j (get_or point j f) (let e = are.one_each in omega arith) (λ scale v basic. are.each j f lt scale v basic)))
+
+module _ (c : CaseSetting) (named : NamedSystem) (sides : List SplitSide) (point : List Fraction) (system : IsNamedSystem c named) (at : IsFoundPoint named.system (forms_in named) sides point) where
+  case_found : Branching (rows_of system.case) system.case.forms (found at.members sides)
+  case_found = subst (λ s. Branching s system.case.forms (found at.members sides)) system.shows.system (subst (λ fs. Branching named.system fs (found at.members sides)) system.shows.forms at.outcome)
+
+  case_point : PointOf c.setting.lts.now (cycle_of c.setting.basis.now) c.setting.class (node_system (rows_of system.case) system.case.forms sides) at.members (point_start c.setting.class point) (point_value c.setting.lts.now (cycle_of c.setting.basis.now) c.setting.class point)
+  case_point = subst (λ s. PointOf c.setting.lts.now (cycle_of c.setting.basis.now) c.setting.class (node_system s system.case.forms sides) at.members (point_start c.setting.class point) (point_value c.setting.lts.now (cycle_of c.setting.basis.now) c.setting.class point)) system.shows.system
+      (subst (λ fs. PointOf c.setting.lts.now (cycle_of c.setting.basis.now) c.setting.class (node_system named.system fs sides) at.members (point_start c.setting.class point) (point_value c.setting.lts.now (cycle_of c.setting.basis.now) c.setting.class point)) system.shows.forms
+      (point_is c.setting.lts.now (cycle_of c.setting.basis.now) c.setting.class (node_system named.system (forms_in named) sides) at.members point (found_has named.system (forms_in named) sides at.members at.outcome) at.values_are (case_columns c named system)))
+
+  -- the case comes to the place of the point, or to its first step out of range
+  pub place_comes : (p : Place) → place_fold c.setting.lts.now c.setting.tree.now.arcs (cycle_of c.setting.basis.now) c.setting.class c.problem (point_start c.setting.class point) (point_value c.setting.lts.now (cycle_of c.setting.basis.now) c.setting.class point) (Ok p) → CaseComes c.setting.lts.now c.setting.tree.now.arcs (cycle_of c.setting.basis.now) c.setting.class c.problem c.number (makes p)
+  place_comes p fold = place_is_made system.case at.members sides (point_start c.setting.class point) (point_value c.setting.lts.now (cycle_of c.setting.basis.now) c.setting.class point) p system.made case_found case_point fold
+
+  pub place_fails : (w : Wide) → place_fold c.setting.lts.now c.setting.tree.now.arcs (cycle_of c.setting.basis.now) c.setting.class c.problem (point_start c.setting.class point) (point_value c.setting.lts.now (cycle_of c.setting.basis.now) c.setting.class point) (Err w) → CaseComes c.setting.lts.now c.setting.tree.now.arcs (cycle_of c.setting.basis.now) c.setting.class c.problem c.number (passes (passed_at PlaceStage c (named_sides c.setting.lts.now c.setting.class sides) w))
+  place_fails w fold = place_passes system.case at.members sides (point_start c.setting.class point) (point_value c.setting.lts.now (cycle_of c.setting.basis.now) c.setting.class point) w system.made case_found case_point fold
 
 -- the step that the place of the point shows
 pub place_shown : (c : CaseSetting) (named : NamedSystem) (sides : List SplitSide) (fractions : List Fraction) (w : Wide) → IsCase c → IsNamedSystem c named → IsFoundPoint named.system (forms_in named) sides fractions → place_fold c.setting.lts.now c.setting.tree.now.arcs (cycle_of c.setting.basis.now) c.setting.class c.problem (point_start c.setting.class fractions) (point_value c.setting.lts.now (cycle_of c.setting.basis.now) c.setting.class fractions) (Err w) → PlaceShown c.setting.lts.now c.setting.class (passed_at PlaceStage c (named_sides c.setting.lts.now c.setting.class sides) w)
@@ -127,11 +121,9 @@ place_shown c named sides fractions w is system at fails = record {
   set = at.members;
   start = point_start c.setting.class fractions;
   value = point_value c.setting.lts.now (cycle_of c.setting.basis.now) c.setting.class fractions;
-  finds = subst (λ s. Branching s system.case.forms (found at.members sides)) system.shows.system (subst (λ fs. Branching named.system fs (found at.members sides)) system.shows.forms at.outcome);
+  finds = case_found c named sides fractions system at;
   above_is = refl;
   nowhere = record { members = refl; pivot = refl; leaves = refl; target = refl; entry = refl };
-  point = subst (λ s. PointOf c.setting.lts.now (cycle_of c.setting.basis.now) c.setting.class (node_system s system.case.forms sides) at.members (point_start c.setting.class fractions) (point_value c.setting.lts.now (cycle_of c.setting.basis.now) c.setting.class fractions)) system.shows.system
-      (subst (λ fs. PointOf c.setting.lts.now (cycle_of c.setting.basis.now) c.setting.class (node_system named.system fs sides) at.members (point_start c.setting.class fractions) (point_value c.setting.lts.now (cycle_of c.setting.basis.now) c.setting.class fractions)) system.shows.forms
-      (point_is c.setting.lts.now (cycle_of c.setting.basis.now) c.setting.class (node_system named.system (forms_in named) sides) at.members fractions (found_has named.system (forms_in named) sides at.members at.outcome) at.values_are (case_columns c named system)));
+  point = case_point c named sides fractions system at;
   passes = fails;
 }

@@ -10,7 +10,10 @@ use Rattle.rg_integers.specs.Range.{greatest}
 use Rattle.rg_net.specs.declared.net.Place.{Place as PlaceOfCode}
 use Rattle.rg_reasons.specs.declared.certificate.Certificate.{Certificate}
 use Rattle.rg_net.specs.Shown.{shown_place}
-use Rattle.rg_refuting.specs.Refutes.{Accepts}
+use Rattle.rg_theory.specs.declared.Problem.{Problem}
+use Rattle.rg_refuting.specs.Refutes.{Tree, Reason.refuted, Accepts}
+use Rattle.rg_outcome.specs.Coming as outcome
+use Rattle.rg_outcome.specs.Outcome.{Searched}
 use Rattle.rg_reasons.specs.Certificates.{reason_of, IsCertificateOf}
 use Rattle.rg_order_of_work.specs.Shown.{ShownWide}
 use Rattle.rg_separate.specs.View.{shown_of}
@@ -54,3 +57,15 @@ abbrev pub SeparationTells : System → Class → Separation → Type 0
 SeparationTells lts class (Places places) = AreSeparating lts class (map shown_place places.items)
 SeparationTells lts class (Unsolvable cert) = IsGoodCertificate lts class cert
 SeparationTells lts class (TooWide w) = ShownWide lts class (shown_of w)
+
+-- the separation is this one, in the words of the one answer
+abbrev pub ShowsSeparation : Separation → outcome.Separation → Type 0
+ShowsSeparation (Places places) o = o ≡ outcome.Separation.places (map shown_place places.items)
+ShowsSeparation (Unsolvable cert) o = (problem : Problem) × (trees : List Tree) × (reason_of cert.reason ≡ refuted problem trees) × (o ≡ outcome.Separation.unsolvable problem trees)
+ShowsSeparation (TooWide w) o = o ≡ outcome.Separation.too_wide (shown_of w)
+
+-- the separation is the one to which the search for places of the class comes
+pub record IsSearched (lts : System) (class : Class) (s : Separation) : Type 0 where
+  pub o : outcome.Separation
+  pub searched : Searched lts class o
+  pub shows : ShowsSeparation s o

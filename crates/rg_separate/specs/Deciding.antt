@@ -1,13 +1,16 @@
 -- What a case and a problem come to.
-use Rattle.std.specs.Prelude.{◌≡◌, ℕ, ◌<◌, List, [], length, None, Some, IfSome, slice_get}
+use Rattle.std.specs.Prelude.{◌≡◌, ◌⊎◌, ℕ, ◌<◌, List, [], length, None, Some, IfSome, slice_get}
 use Rattle.rg_theory.specs.System.{System}
 use Rattle.rg_theory.specs.declared.Class.{Class}
 use Rattle.rg_theory.specs.declared.Problem.{Problem}
 use Rattle.rg_refuting.specs.Refutes.{Tree, Reason.refuted, TreeRefutes, Accepts}
 use Rattle.rg_net.specs.Shown.{shown_place}
-use Rattle.rg_order_of_work.specs.Shown.{ShownWide}
+use Rattle.rg_order_of_work.specs.Shown.{Shown, ShownWide}
 use Rattle.rg_cycles.specs.View.{cycle_of}
 use Rattle.rg_outcome.specs.Casing.{CaseResult, CaseResult.makes, CaseResult.refutes, CaseResult.passes, CaseComes}
+use Rattle.rg_theory.specs.Problem.{IsProblem}
+use Rattle.rg_outcome.specs.Coming.{Separation, Separation.unsolvable, Separation.too_wide}
+use Rattle.rg_outcome.specs.Outcome.{Searched}
 use Rattle.rg_outcome.specs.Solving as solved
 use Rattle.rg_outcome.specs.Solving.{Solved.placed, Solved.passed, NoneMakes, NonePasses, ProblemComes}
 use Rattle.rg_reasons.specs.declared.certificate.Case.{Case}
@@ -19,8 +22,6 @@ use Rattle.rg_separate.specs.declared.case.CaseAnswer.TheVariants as answer
 use Rattle.rg_separate.specs.declared.problem.ProblemAnswer.{ProblemAnswer}
 use Rattle.rg_separate.specs.declared.problem.ProblemAnswer.TheVariants as problem_answer
 use Rattle.rg_separate.specs.declared.problem.Tried.{Tried}
-use Rattle.rg_separate.specs.declared.found.Ending.{Ending}
-use Rattle.rg_separate.specs.declared.found.Ending.TheVariants as ending
 use Rattle.rg_separate.specs.declared.setting.CaseSetting.{CaseSetting}
 use Rattle.rg_separate.specs.declared.setting.Setting.{Setting}
 use Rattle.rg_separate.specs.View.{shown_of}
@@ -80,7 +81,10 @@ ProblemComesTo s problem (problem_answer.Place r) = ProblemComes s.lts.now s.tre
 ProblemComesTo s problem (problem_answer.Refuted reason) = (trees : List Tree) × (reason_of reason ≡ refuted problem trees) × ProblemComes s.lts.now s.tree.now.arcs (cycle_of s.basis.now) s.class problem (solved.Solved.refuted trees)
 ProblemComesTo s problem (problem_answer.Wide w) = ProblemComes s.lts.now s.tree.now.arcs (cycle_of s.basis.now) s.class problem (passed (shown_of w))
 
--- what ends the work early
-abbrev pub EndingTells : System → Class → Ending → Type 0
-EndingTells lts class (ending.Refuted reason) = IsGoodReason lts class reason
-EndingTells lts class ending.NoMemory = Unit {0}
+-- the problem of the system ends the search: it is refuted, or shows its term
+pub record EndsWith (s : Setting) (problem : Problem) : Type 0 where
+  pub has : IsProblem s.lts.now problem
+  pub o : Separation
+  pub searched : Searched s.lts.now s.class o
+  pub ends : ((trees : List Tree) × (o ≡ unsolvable problem trees) × ProblemComes s.lts.now s.tree.now.arcs (cycle_of s.basis.now) s.class problem (solved.Solved.refuted trees))
+      ⊎ ((w : Shown) × (o ≡ too_wide w) × ProblemComes s.lts.now s.tree.now.arcs (cycle_of s.basis.now) s.class problem (passed w))

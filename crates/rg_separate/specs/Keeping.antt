@@ -32,23 +32,11 @@ pub record IsOver (lts : System) (r : RegionPlace) : Type 0 where
   pub pre : length r.place.pre.items ≡ labels lts
   pub post : length r.place.post.items ≡ labels lts
 
--- the problem is of the system, and a number passes in it
-abbrev pub IsNoted : System → Class → Noted → Type 0
-IsNoted lts class n = IsProblem lts n.problem × ShownWide lts class (shown_of n.at)
+-- the place is a region, of some class, and its numbers fit
+abbrev pub MayKeep : System → RegionPlace → Type 0
+MayKeep lts r = (class : Class) × IsRegionPlace lts class r
 
--- regions of the class are kept, and problems in which a number passes are noted
-pub record IsFound (lts : System) (class : Class) (found : Found) : Type 0 where
-  pub kept : All (IsRegionPlace lts class) found.kept.items
-  pub noted : All (IsNoted lts class) found.noted.items
-
--- a kept place separates the problem, or the problem is noted
-abbrev pub IsSettled : Found → Problem → Type 0
-IsSettled found problem = Any (PlaceSeparates problem) found.kept.items ⊎ Any (λ n. n.problem ≡ problem) found.noted.items
-
--- each problem of the system before the bound is settled
-abbrev pub SettledBefore : System → Problem → Found → Type 0
-SettledBefore lts bound found = (problem : Problem) → IsProblem lts problem → ComesBefore problem bound → IsSettled found problem
-
--- what is settled stays settled
-abbrev pub StaySettled : Found → Found → Type 0
-StaySettled before after = (problem : Problem) → IsSettled before problem → IsSettled after problem
+-- each state can be reached, and such places are kept
+pub record AreKept (lts : System) (kept : List RegionPlace) : Type 0 where
+  pub reachable : IsAllReachable lts
+  pub each : All (MayKeep lts) kept

@@ -52,6 +52,7 @@ fn no_tokens(alloc: Global, states: u32) -> Result<Vec<u128>, AllocError>
 pub(crate) fn blocked(alloc: Global, lts: &Lts, t: u32) -> Result<RegionPlace, AllocError>
     requires label { t < labels lts.now }
     requires dead { IsDead lts.now t }
+    ensures place { IfOk result (λ r. shown_place r.place ≡ blocking (labels lts.now) t) }
     ensures region { IfOk result (λ r. (class : Class) → IsRegionPlace lts.now class r) }
     ensures separates { IfOk result (λ r. (s : ℕ) → PlaceSeparates (problem.Event s t) r) }
 {

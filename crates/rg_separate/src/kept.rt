@@ -4,16 +4,42 @@ ghost use Rattle.rg_theory.specs.System.{labels, states};
 ghost use Rattle.rg_theory.specs.declared.Problem.TheVariants as problem;
 ghost use Rattle.rg_theory.specs.Problem.{IsProblem};
 ghost use Rattle.rg_places.specs.RegionPlaces.{PlaceSeparates};
-ghost use Rattle.rg_separate.specs.Keeping.{IsOver};
+ghost use Rattle.rg_net.specs.Shown.{shown_place};
+ghost use Rattle.rg_separate.specs.Keeping.{IsOver, AreKept, MayKeep};
 
+use rg_blocks::Keeping;
 use rg_lts::Lts;
+use rg_memory::NoMemory;
 use rg_net::Place;
 use rg_places::RegionPlace;
 use rg_theory::Problem;
 use std::alloc::{AllocError, Global};
 
+// Places of the system that are kept, with their tokens at the states.
+#[derive(Drop)]
+pub(crate) struct Kept {
+    pub(crate) regions: Vec<RegionPlace>,
+}
+
+impl Keeping for Kept {
+    ghost places = { λ k. map (λ r. shown_place r.place) k.regions.items };
+
+    ghost keeps_for = { λ k lts. AreKept lts k.regions.items };
+
+    ghost may_keep = { MayKeep };
+
+    fn separates(&self, lts: &Lts, problem: Problem) -> bool {
+        is_separated(lts, &self.regions, problem)
+    }
+
+    fn keep(&mut self, _: &Lts, place: RegionPlace) -> Result<(), NoMemory> {
+        self.regions.push(place)?;
+        Ok(())
+    }
+}
+
 // Whether one of the places separates the problem.
-pub(crate) fn is_separated(lts: &Lts, kept: &[RegionPlace], problem: Problem) -> bool
+fn is_separated(lts: &Lts, kept: &[RegionPlace], problem: Problem) -> bool
     requires kept { All (IsOver lts.now) kept.now }
     requires problem { IsProblem lts.now problem }
     ensures { IsTrue result ↔ Any (PlaceSeparates problem) kept.now }

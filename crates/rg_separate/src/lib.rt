@@ -3,8 +3,6 @@
 
 mod case;
 mod dead;
-mod events;
-mod found;
 mod kept;
 mod placing;
 mod problem;
@@ -13,7 +11,7 @@ mod separation;
 mod setting;
 mod shares;
 mod sides;
-mod states;
+mod solving;
 mod vectors;
 mod wide_at;
 

@@ -12,6 +12,7 @@ ghost use Rattle.rg_separate.specs.Keeping.{IsSetting};
 ghost use Rattle.rg_separate.specs.Deciding.{RefutesCase, AreTried, CasesCameTo, IsGoodReason, ProblemTells, ProblemComesTo};
 
 use crate::case::{CaseAnswer, solve_case};
+use crate::dead::{blocked, is_dead};
 use crate::setting::{CaseSetting, Setting};
 use crate::wide_at::WideAt;
 use rg_lts::Lts;
@@ -36,9 +37,29 @@ struct Tried {
     passed: Option<WideAt>,
 }
 
+// What a problem comes to: that of a label without an arc to the place that alone stops it, and each other one to what
+// its cases do.
+pub(crate) fn solve_problem(
+    alloc: Global,
+    setting: Setting<'_>,
+    problem: Problem,
+) -> Result<ProblemAnswer, AllocError>
+    requires setting { IsSetting setting }
+    requires has { IsProblem setting.lts.now problem }
+    ensures tells { IfOk result (ProblemTells setting.entry.lts.now setting.entry.class problem) }
+    ensures comes { IfOk result (ProblemComesTo setting.entry problem) }
+{
+    match problem {
+        Problem::Event(_, t) if is_dead(setting.lts, t) => {
+            Ok(ProblemAnswer::Place(blocked(alloc, setting.lts, t)?))
+        }
+        _ => solve_live(alloc, setting, problem),
+    }
+}
+
 // The place of the first case that gives one; else, where no number passes, what refutes all cases; else the first
 // term that passes.
-pub(crate) fn solve_problem(
+fn solve_live(
     alloc: Global,
     setting: Setting<'_>,
     problem: Problem,

@@ -13,8 +13,9 @@ use crate::request::{Request, read_words};
 use crate::status::{Fault, FileFault, Status, Usage, WideCause};
 use crate::texts::{file_text, usage_text, wide_text};
 use rg_memory::NoMemory;
-use rg_ports::Shelf;
+use rg_ports::{Gate, Shelf};
 use std::alloc::{AllocError, Global};
+use std::thread::Threads;
 
 // A status, and the bytes that it writes to out and to err.
 #[derive(Drop)]
@@ -47,10 +48,12 @@ impl From<AllocError> for Stop {
 }
 
 // What is due to the words.
-pub(crate) fn make_answer<H: Shelf>(
+pub(crate) fn make_answer<R: Threads + Sync, H: Shelf, G: Gate + Sync>(
+    rt: &R,
     alloc: Global,
     words: &[String],
     shelf: &mut H,
+    gate: &G,
 ) -> Result<Answer, Stop>
     ensures asked { AsksAtMost (map string_bytes words.now) (H.files shelf.old) (H.asked shelf.old) (H.asked shelf.new) }
     ensures reads { ReadsAtMost H.finds H.hands (map string_bytes words.now) (H.files shelf.old) shelf.old shelf.new }
@@ -59,16 +62,18 @@ pub(crate) fn make_answer<H: Shelf>(
     ensures fault { IsErrOf result stop.ReadFault → IsReadFault (map string_bytes words.now) (record { before = H.faults shelf.old; after = H.faults shelf.new }) }
 {
     match read_words(words) {
-        Ok(request) => request_answer(alloc, request, shelf),
+        Ok(request) => request_answer(rt, alloc, request, shelf, gate),
         Err(usage) => Ok(usage_refusal(alloc, usage)?),
     }
 }
 
 // The answer to a request.
-fn request_answer<H: Shelf>(
+fn request_answer<R: Threads + Sync, H: Shelf, G: Gate + Sync>(
+    rt: &R,
     alloc: Global,
     request: Request<'_>,
     shelf: &mut H,
+    gate: &G,
 ) -> Result<Answer, Stop>
     requires { HasBounds (asked_by request) }
     ensures asked { AsksFiles (H.files shelf.old) (asked_by request.entry) (H.asked shelf.old) (H.asked shelf.new) }
@@ -77,7 +82,7 @@ fn request_answer<H: Shelf>(
     ensures fault { IsErrOf result stop.ReadFault → HasRisen (H.faults shelf.old) (H.faults shelf.new) }
 {
     match request {
-        Request::Net(class, file) => net_answer(alloc, class, file, shelf),
+        Request::Net(class, file) => net_answer(rt, alloc, class, file, shelf, gate),
         Request::Judgement(file, cert) => judgement_answer(alloc, file, cert, shelf),
     }
 }

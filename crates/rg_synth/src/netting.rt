@@ -25,19 +25,25 @@ use rg_lts::Lts;
 use rg_memory::NoMemory;
 use rg_net::{Net, Place};
 use rg_netfile::print_net;
-use rg_ports::Shelf;
+use rg_ports::{Gate, Shelf};
 use rg_prune::prune;
 use rg_reasons::{Certificate, Reason};
 use rg_separate::{Separation, separate};
 use rg_theory::Class;
 use std::alloc::Global;
+use std::thread::Threads;
+
+// How many problems are solved at once.
+const JOBS: u8 = 1;
 
 // A net of the class for the system of the file, or why there is none.
-pub(crate) fn net_answer<H: Shelf>(
+pub(crate) fn net_answer<R: Threads + Sync, H: Shelf, G: Gate + Sync>(
+    rt: &R,
     alloc: Global,
     class: Class,
     file: &str,
     shelf: &mut H,
+    gate: &G,
 ) -> Result<Answer, Stop>
     requires { HasBoundInRange class }
     ensures asked { H.asked shelf.new ≡ asked_with (H.asked shelf.old) file.now }
@@ -46,7 +52,7 @@ pub(crate) fn net_answer<H: Shelf>(
     ensures fault { IsErrOf result stop.ReadFault → HasRisen (H.faults shelf.old) (H.faults shelf.new) }
 {
     match read_system(alloc, shelf, file) {
-        Ok(lts) => Ok(system_answer(alloc, class, &lts)?),
+        Ok(lts) => Ok(system_answer(rt, alloc, class, &lts, gate)?),
         Err(SystemStop::Refused(fault)) => Ok(file_refusal(alloc, 1, fault)?),
         Err(SystemStop::Failed) => Err(Stop::ReadFault),
         Err(SystemStop::NoMemory) => Err(Stop::NoMemory),
@@ -54,14 +60,20 @@ pub(crate) fn net_answer<H: Shelf>(
 }
 
 // The answer to a system.
-fn system_answer(alloc: Global, class: Class, lts: &Lts) -> Result<Answer, NoMemory>
+fn system_answer<R: Threads + Sync, G: Gate + Sync>(
+    rt: &R,
+    alloc: Global,
+    class: Class,
+    lts: &Lts,
+    gate: &G,
+) -> Result<Answer, NoMemory>
     requires { HasBoundInRange class }
     ensures { IfOk result (λ a. AnswersNet class lts.now a.status a.out.items a.err.items) }
 {
     lts.is_well_formed();
     match first_unreachable(alloc, lts)? {
         None => match first_fork(lts) {
-            None => open_answer(alloc, class, lts),
+            None => open_answer(rt, alloc, class, lts, gate),
             Some((s, t, to, other)) => {
                 refutation(alloc, class, Reason::Fork(s, t, to, other), lts)
             }
@@ -84,13 +96,19 @@ fn refutation(alloc: Global, class: Class, reason: Reason, lts: &Lts) -> Result<
 }
 
 // The answer to a system without an unreachable state or a fork.
-fn open_answer(alloc: Global, class: Class, lts: &Lts) -> Result<Answer, NoMemory>
+fn open_answer<R: Threads + Sync, G: Gate + Sync>(
+    rt: &R,
+    alloc: Global,
+    class: Class,
+    lts: &Lts,
+    gate: &G,
+) -> Result<Answer, NoMemory>
     requires system { IsInRange lts.now }
     requires bound { HasBoundInRange class }
     requires is_open { IsOpen lts.now }
     ensures { IfOk result (λ a. AnswersNet class lts.now a.status a.out.items a.err.items) }
 {
-    match separate(alloc, lts, class) {
+    match separate(rt, alloc, lts, class, JOBS, gate) {
         Ok(Separation::Places(places)) => net_of_those_needed(alloc, class, lts, places),
         Ok(Separation::Unsolvable(cert)) => refutation(alloc, class, cert.reason, lts),
         Ok(Separation::TooWide(at)) => Ok(too_wide(alloc, WideCause::Synthesis(at))?),

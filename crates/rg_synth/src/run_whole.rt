@@ -15,18 +15,19 @@ use std::thread::Threads;
 /// reads both files, and writes to `out` whether the certificate is accepted for the system. A refusal of words or files, and
 /// a number out of range, is a line to `err`. What is due is whole before the first write, and each write offers all that isn't
 /// taken yet. A file isn't read on once its end was found, and the second one is asked for only where the first spells a system.
-/// The runtime and the gate are there for later commands, and unused.
+/// The problems of a system are solved one after the other: the gate is entered and left for each number of a block of them, and no
+/// other thread is used yet.
 ///
 /// The status says how it ended: each has its cause in `Ends`, a status that is due comes by `ComesIfDue`, and a search ends by
 /// `EndsSearch` with a net, a certificate or a number out of range.
 pub fn run<R: Threads + Sync, H: Shelf, O: Sink, E: Sink, G: Gate + Sync>(
-    _rt: &R,
+    rt: &R,
     alloc: Global,
     words: &[String],
     shelf: &mut H,
     out: &mut O,
     err: &mut E,
-    _gate: &G,
+    gate: &G,
 ) -> Status
     ensures ends { Ends (record {
       words = map string_bytes words.now;
@@ -48,7 +49,7 @@ pub fn run<R: Threads + Sync, H: Shelf, O: Sink, E: Sink, G: Gate + Sync>(
     ensures asked { AsksAtMost (map string_bytes words.now) (H.files shelf.old) (H.asked shelf.old) (H.asked shelf.new) }
     ensures reads { ReadsAtMost H.finds H.hands (map string_bytes words.now) (H.files shelf.old) shelf.old shelf.new }
 {
-    let made = match make_answer(alloc, words, shelf) {
+    let made = match make_answer(rt, alloc, words, shelf, gate) {
         Ok(made) => made,
         Err(Stop::ReadFault) => return Status::ReadFault,
         Err(Stop::NoMemory) => return Status::NoMemory,

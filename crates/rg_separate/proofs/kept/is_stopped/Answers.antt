@@ -1,7 +1,7 @@
 use Rattle.std.proofs.Common.{◌<◌, length, refl, sym, arith}
 use Rattle.std.proofs.lemmas.List.{get_or_read}
 use Rattle.rg_separate.specs.Keeping.{IsOver}
-use Rattle.rg_separate.proofs.Items.{item_is}
+use Rattle.rg_separate.proofs.Keeping.{item_is}
 use Rattle.rg_separate.proofs.kept.is_stopped.Goals as goal
 
 pub returns-then-index : goal.returns-then-index

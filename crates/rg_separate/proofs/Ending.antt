@@ -1,0 +1,125 @@
+-- How the search for places ends.
+use Rattle.std.proofs.Common.{◌≡◌, ◌⊎◌, inl, inr, List, [], map, refl, sym, ap, subst, ◌∙◌}
+use Rattle.rg_theory.specs.System.{System}
+use Rattle.rg_theory.specs.Net.{Place}
+use Rattle.rg_theory.specs.declared.Problem.{Problem}
+use Rattle.rg_refuting.specs.Refutes.{Tree}
+use Rattle.rg_net.specs.Shown.{shown_place}
+use Rattle.rg_net.specs.declared.net.Place.{Place as PlaceOfCode}
+use Rattle.rg_order_of_work.specs.Shown.{Shown}
+use Rattle.rg_cycles.specs.View.{cycle_of}
+use Rattle.rg_reasons.specs.declared.certificate.Reason.{Reason}
+use Rattle.rg_reasons.specs.Certificates.{reason_of}
+use Rattle.rg_places.specs.declared.region_place.RegionPlace.{RegionPlace}
+use Rattle.rg_outcome.specs.Solving as solved
+use Rattle.rg_outcome.specs.Solving.{Solved, Solved.placed, Solved.passed, ProblemComes}
+use Rattle.rg_outcome.specs.Coming as outcome
+use Rattle.rg_outcome.specs.Coming.{PlacesSeparate, Comes, Separation.places, Separation.unsolvable, Separation.too_wide}
+use Rattle.rg_outcome.specs.Outcome.{Searched, Searched.all_problems}
+use Rattle.rg_outcome.proofs.Solvings.{same_solved}
+use Rattle.rg_outcome.proofs.Placed.{placed_separates}
+use Rattle.rg_blocks.specs.Taking.{IsEnd, ShowsSeparation, IsRight}
+use Rattle.rg_blocks.specs.declared.separation.SeparationOutcome.TheVariants as ended
+use Rattle.rg_separate.specs.declared.problem.ProblemAnswer.TheVariants as problem_answer
+use Rattle.rg_separate.specs.declared.separation.Separation.TheVariants as separation
+use Rattle.rg_separate.specs.declared.setting.Setting.{Setting}
+use Rattle.rg_separate.specs.declared.wide_at.WideAt.{WideAt}
+use Rattle.rg_separate.specs.View.{shown_of}
+use Rattle.rg_separate.specs.Answer.{AreSeparating, IsSearched}
+use Rattle.rg_separate.specs.Keeping.{IsSetting, AreKept}
+use Rattle.rg_separate.specs.Deciding.{ProblemComesTo, EndsWith}
+use Rattle.rg_separate.proofs.Few.{few_places}
+use Rattle.rg_separate.proofs.Keeping.{kept_places}
+use Rattle.rg_separate.proofs.Separating.{shown_kept, separating}
+
+-- what a problem comes to in a setting
+abbrev pub comes_of : Setting → Problem → Solved → Type 0
+comes_of s = ProblemComes s.lts.now s.tree.now.arcs (cycle_of s.basis.now) s.class
+
+module _ (s : Setting) (is : IsSetting s) where
+  pub places_right : IsRight s.lts.now (comes_of s)
+  places_right = record { separate = λ problem p has come. (let (m, region, separates) = placed_separates s.lts.now s.tree.now.arcs (cycle_of s.basis.now) s.class is.in_range is.reachable is.tree.tree is.basis problem p has come in (m, region.region, separates)) }
+
+  searched_of : (o : outcome.Separation) → Comes s.lts.now (comes_of s) o → Searched s.lts.now s.class o
+  searched_of o come = all_problems s.tree.now.arcs (cycle_of s.basis.now) o is.tree.tree is.basis come
+
+  -- the places that are kept are those with which the problems end
+  all_kept : (kept : List Place) (o : outcome.Separation) → Comes s.lts.now (comes_of s) o → ShowsSeparation s.lts.now (comes_of s) kept ended.Separated o → Comes s.lts.now (comes_of s) (places kept)
+  all_kept kept (places after) come e = subst (λ ps. Comes s.lts.now (comes_of s) (places ps)) e come
+  all_kept kept (unsolvable problem trees) come shows = absurd shows
+  all_kept kept (too_wide w) come shows = absurd shows
+
+  module _ (kept : List RegionPlace) (are : AreKept s.lts.now kept) (end : IsEnd s.lts.now (comes_of s) (kept_places kept) ended.Separated) (made : List PlaceOfCode) (made_are : made ≡ map (λ k. k.place) kept) where
+    shown_are : map shown_place made ≡ kept_places kept
+    shown_are = ap (map shown_place) made_are ∙ shown_kept kept
+
+    all_come : Comes s.lts.now (comes_of s) (places (kept_places kept))
+    all_come = all_kept (kept_places kept) end.o end.comes_to end.shows
+
+    pub separated_tells : AreSeparating s.lts.now s.class (map shown_place made)
+    separated_tells = subst (AreSeparating s.lts.now s.class) (sym shown_are) (separating s.lts.now s.class kept is.in_range are (few_places s.lts.now (comes_of s) (kept_places kept) is.in_range all_come) (searched_of (places (kept_places kept)) all_come))
+
+    pub separated_searched : Searched s.lts.now s.class (places (map shown_place made))
+    separated_searched = subst (λ ps. Searched s.lts.now s.class (places ps)) (sym shown_are) (searched_of (places (kept_places kept)) all_come)
+
+  -- the problem that ends the search
+  refuted_last : (kept : List Place) (q : Problem) (o : outcome.Separation) → Comes s.lts.now (comes_of s) o → ShowsSeparation s.lts.now (comes_of s) kept (ended.Unsolvable q) o → EndsWith s q
+  refuted_last kept q (places after) come shows = absurd shows
+  refuted_last kept q (unsolvable problem trees) come (same, has, refuted) = record { has = has; o = unsolvable problem trees; searched = searched_of (unsolvable problem trees) come; ends = inl (trees, ap (λ x. unsolvable x trees) same, refuted) }
+  refuted_last kept q (too_wide w) come shows = absurd shows
+
+  left_last : (kept : List Place) (q : Problem) (o : outcome.Separation) → Comes s.lts.now (comes_of s) o → ShowsSeparation s.lts.now (comes_of s) kept (ended.TooWide q) o → EndsWith s q
+  left_last kept q (places after) come shows = absurd shows
+  left_last kept q (unsolvable problem trees) come shows = absurd shows
+  left_last kept q (too_wide w) come (first, passes) = record { has = first.0.0; o = too_wide w; searched = searched_of (too_wide w) come; ends = inr (w, refl, passes) }
+
+  pub ends_refuted : (kept : List Place) (q : Problem) → IsEnd s.lts.now (comes_of s) kept (ended.Unsolvable q) → EndsWith s q
+  ends_refuted kept q end = refuted_last kept q end.o end.comes_to end.shows
+
+  pub ends_wide : (kept : List Place) (q : Problem) → IsEnd s.lts.now (comes_of s) kept (ended.TooWide q) → EndsWith s q
+  ends_wide kept q end = left_last kept q end.o end.comes_to end.shows
+
+-- ---- the problem solved once more
+
+module _ (s : Setting) (q : Problem) (ends : EndsWith s q) where
+  one : (r r' : Solved) → comes_of s q r → comes_of s q r' → r ≡ r'
+  one r r' a b = same_solved s.lts.now s.tree.now.arcs (cycle_of s.basis.now) s.class q r r' a b
+
+  pub shown_refuted : (reason : Reason) → ProblemComesTo s q (problem_answer.Refuted reason) → IsSearched s.lts.now s.class (separation.Unsolvable (record { class = s.class; reason = reason }))
+  shown_refuted reason (trees, is, come) = go ends.ends
+    where
+      same : (a b : List Tree) → solved.Solved.refuted a ≡ solved.Solved.refuted b → a ≡ b
+      same a b e = cc
+
+      clash : (w : Shown) (a : List Tree) → passed w ≡ solved.Solved.refuted a → ⊥
+      clash w a e = absurd cc
+
+      go : ((a : List Tree) × (ends.o ≡ unsolvable q a) × comes_of s q (solved.Solved.refuted a)) ⊎ ((w : Shown) × (ends.o ≡ too_wide w) × comes_of s q (passed w)) → IsSearched s.lts.now s.class (separation.Unsolvable (record { class = s.class; reason = reason }))
+      go (inl (a, o_is, other)) = record { o = ends.o; searched = ends.searched; shows = (q, trees, is, o_is ∙ ap (unsolvable q) (same a trees (one (solved.Solved.refuted a) (solved.Solved.refuted trees) other come))) }
+      go (inr (w, o_is, other)) = absurd (clash w trees (one (passed w) (solved.Solved.refuted trees) other come))
+
+  pub shown_wide : (at : WideAt) → ProblemComesTo s q (problem_answer.Wide at) → IsSearched s.lts.now s.class (separation.TooWide at)
+  shown_wide at come = go ends.ends
+    where
+      same : (a b : Shown) → passed a ≡ passed b → a ≡ b
+      same a b e = cc
+
+      clash : (w : Shown) (a : List Tree) → solved.Solved.refuted a ≡ passed w → ⊥
+      clash w a e = absurd cc
+
+      go : ((a : List Tree) × (ends.o ≡ unsolvable q a) × comes_of s q (solved.Solved.refuted a)) ⊎ ((w : Shown) × (ends.o ≡ too_wide w) × comes_of s q (passed w)) → IsSearched s.lts.now s.class (separation.TooWide at)
+      go (inl (a, o_is, other)) = absurd (clash (shown_of at) a (one (solved.Solved.refuted a) (passed (shown_of at)) other come))
+      go (inr (w, o_is, other)) = record { o = ends.o; searched = ends.searched; shows = o_is ∙ ap too_wide (same w (shown_of at) (one (passed w) (passed (shown_of at)) other come)) }
+
+  pub shown_never : (r : RegionPlace) → ProblemComesTo s q (problem_answer.Place r) → ⊥
+  shown_never r come = go ends.ends
+    where
+      clash : (p : Place) (a : List Tree) → solved.Solved.refuted a ≡ placed p → ⊥
+      clash p a e = absurd cc
+
+      clash' : (p : Place) (w : Shown) → passed w ≡ placed p → ⊥
+      clash' p w e = absurd cc
+
+      go : ((a : List Tree) × (ends.o ≡ unsolvable q a) × comes_of s q (solved.Solved.refuted a)) ⊎ ((w : Shown) × (ends.o ≡ too_wide w) × comes_of s q (passed w)) → ⊥
+      go (inl (a, o_is, other)) = clash (shown_place r.place) a (one (solved.Solved.refuted a) (placed (shown_place r.place)) other come)
+      go (inr (w, o_is, other)) = clash' (shown_place r.place) w (one (passed w) (placed (shown_place r.place)) other come)

@@ -1,0 +1,36 @@
+//! The problems of a system, as a block of them is solved.
+ghost use Rattle.rg_theory.specs.Problem.{IsProblem};
+ghost use Rattle.rg_cycles.specs.View.{cycle_of};
+ghost use Rattle.rg_places.specs.RegionPlaces.{IsRegionPlace};
+ghost use Rattle.rg_outcome.specs.Solving.{ProblemComes};
+ghost use Rattle.rg_separate.specs.Keeping.{IsSetting};
+
+use crate::problem::{ProblemAnswer, solve_problem};
+use crate::setting::Setting;
+use rg_blocks::{ProblemOutcome, Solving};
+use rg_memory::NoMemory;
+use rg_theory::Problem;
+use std::alloc::Global;
+
+// The problems of a system and a class.
+#[derive(Clone, Copy)]
+pub(crate) struct Problems<'a> {
+    pub(crate) alloc: Global,
+    pub(crate) setting: Setting<'a>,
+}
+
+impl Solving for Problems<'_> {
+    ghost asks = { λ s problem. IsSetting s.setting × IsProblem s.setting.lts.now problem };
+
+    ghost comes = { λ s. ProblemComes s.setting.lts.now s.setting.tree.now.arcs (cycle_of s.setting.basis.now) s.setting.class };
+
+    ghost makes = { λ s. IsRegionPlace s.setting.lts.now s.setting.class };
+
+    fn solve(&self, problem: Problem) -> Result<ProblemOutcome, NoMemory> {
+        match solve_problem(self.alloc, self.setting, problem)? {
+            ProblemAnswer::Place(region) => Ok(ProblemOutcome::Place(region)),
+            ProblemAnswer::Refuted(_) => Ok(ProblemOutcome::Refuted),
+            ProblemAnswer::Wide(_) => Ok(ProblemOutcome::TooWide),
+        }
+    }
+}
