@@ -1,7 +1,5 @@
 -- A case comes to one result.
-use Rattle.std.proofs.Common.{◌≡◌, ◌⊎◌, inl, inr, ℕ, ◌<◌, List, [], ◌∷◌, ◌++◌, Result, Ok, Err, refl, sym, ap, subst, ◌∙◌, arith}
-use Rattle.std.proofs.lemmas.List.{ext_get_or, length-map}
-use Rattle.std.specs.Prelude.{pos, drop, if◌then◌else◌}
+use Rattle.std.proofs.Common.{◌≡◌, ◌⊎◌, inl, inr, ℕ, List, [], ◌∷◌, ◌++◌, Result, Ok, Err, refl, sym, ap, subst, ◌∙◌}
 use Rattle.rg_theory.specs.declared.Arc.{Arc}
 use Rattle.rg_theory.specs.System.{System}
 use Rattle.rg_theory.specs.Net.{Place}
@@ -9,43 +7,17 @@ use Rattle.rg_theory.specs.declared.Class.{Class}
 use Rattle.rg_theory.specs.declared.Problem.{Problem}
 use Rattle.rg_refuting.specs.Refutes.{Tree, Tree.leaf as refuting_leaf, Tree.split as refuting_split}
 use Rattle.rg_fraction.specs.declared.term.Wide.{Wide}
-use Rattle.rg_linear.specs.System.{LinearSystem}
-use Rattle.rg_linear.specs.Dictionary.{Relation}
 use Rattle.rg_linear.specs.Cycle.{CycleBasis}
 use Rattle.rg_linear.specs.Branching.{SplitTree, SplitTree.leaf, SplitTree.split, SplitSide, low_side, high_side, node_system, Branching, BranchOutcome, BranchOutcome.found, BranchOutcome.tree, BranchOutcome.stopped}
-use Rattle.rg_linear.proofs.Unique.{same_relation}
 use Rattle.rg_linear.proofs.Branches.{same_branch}
-use Rattle.rg_order_of_work.specs.Fold.{Ratio, whole, IsRatio, ratio_of}
-use Rattle.rg_order_of_work.specs.Rewriting.{free_columns, has_start, CaseSystem, rows_of, system_fold}
-use Rattle.rg_order_of_work.specs.Meaning.{first_column}
-use Rattle.rg_places.specs.PointValues.{ratios_of, ratio_beside, point_start, point_value}
-use Rattle.rg_fraction.specs.declared.fraction.Fraction.{Fraction}
-use Rattle.rg_order_of_work.specs.Placing.{ratio_at, place_fold}
-use Rattle.rg_order_of_work.specs.Shown.{Stage, IsValueAt, named_side, named_sides}
-use Rattle.rg_order_of_work.proofs.FoldLemmas.{ok_is, err_is, ok_not_err, ratio_one}
+use Rattle.rg_order_of_work.specs.Fold.{Ratio}
+use Rattle.rg_order_of_work.specs.Rewriting.{CaseSystem, rows_of, system_fold}
+use Rattle.rg_order_of_work.specs.Placing.{place_fold}
+use Rattle.rg_order_of_work.specs.Shown.{Stage, PointOf, named_side, named_sides}
+use Rattle.rg_order_of_work.proofs.FoldLemmas.{ok_is, err_is, ok_not_err}
 use Rattle.rg_order_of_work.proofs.OneResult.{system_one, place_one, spread_one}
-use Rattle.rg_outcome.specs.Casing.{CaseResult, CaseResult.makes, CaseResult.refutes, CaseResult.passes, AreColumnValues, LeafWide, spread_tree, step_at, term_at, CaseComes, CaseComes.row_passes, CaseComes.pivot_passes, CaseComes.place_passes, CaseComes.place_is_made, CaseComes.leaf_passes, CaseComes.is_refuted}
-
--- ---- the values of columns
-
-same_value : (system : LinearSystem) (members : List ℕ) (j : ℕ) (f g : Ratio) → IsValueAt system members j f → IsValueAt system members j g → f ≡ g
-same_value system members j f g (inl (has, e)) (inl (has', e')) = e ∙ sym e'
-same_value system members j f g (inl (has, e)) (inr (k, row, is)) = absurd (row.outside has)
-same_value system members j f g (inr (k, row, is)) (inl (has, e)) = absurd (row.outside has)
-same_value system members j f g (inr (k, row, is)) (inr (k', row', is')) =
-    let same : k' ≡ k = same_relation system members j k' k row' row in
-    ratio_one f g k.constant k.d is (subst (λ (x : Relation). IsRatio g x.constant x.d) same is')
-
-pub same_values : (system : LinearSystem) (members : List ℕ) (point point' : List Fraction) → AreColumnValues system members point → AreColumnValues system members point' → ratios_of point ≡ ratios_of point'
-same_values system members point point' are are' =
-    ext_get_or (whole (pos 0)) (ratios_of point) (ratios_of point') (length-map point ratio_of ∙ are.one_each ∙ sym (length-map point' ratio_of ∙ are'.one_each))
-    (λ j lt. (let below : j < system.columns = (let l = length-map point ratio_of in let e = are.one_each in omega arith) in same_value system members j (ratio_at (ratios_of point) j) (ratio_at (ratios_of point') j) (are.each j below) (are'.each j below)))
-
--- the place of a point is made of its ratios
-same_point : (lts : System) (arcs : List Arc) (basis : CycleBasis) (class : Class) (problem : Problem) (point point' : List Fraction) (made : Result Place Wide) → ratios_of point' ≡ ratios_of point
-    → place_fold lts arcs basis class problem (point_start class point') (point_value lts basis class point') made → place_fold lts arcs basis class problem (point_start class point) (point_value lts basis class point) made
-same_point lts arcs basis class problem point point' made same is =
-    subst (λ (v : List Ratio). place_fold lts arcs basis class problem (if has_start class then ratio_at v 0 else whole (pos 0)) (ratio_beside (free_columns lts basis) (drop (first_column class) v)) made) same is
+use Rattle.rg_outcome.proofs.PointLemmas.{one_start, one_value, one_place}
+use Rattle.rg_outcome.specs.Casing.{CaseResult, CaseResult.makes, CaseResult.refutes, CaseResult.passes, LeafWide, spread_tree, step_at, term_at, CaseComes, CaseComes.row_passes, CaseComes.pivot_passes, CaseComes.place_passes, CaseComes.place_is_made, CaseComes.leaf_passes, CaseComes.is_refuted}
 
 -- ---- the leaves of a tree
 
@@ -101,8 +73,8 @@ leaving lts class problem number (Err at) = passes (step_at Stage.spread problem
 abbrev EndsIn : System → List Arc → CycleBasis → Class → Problem → ℕ → CaseSystem → BranchOutcome → CaseResult → Type 0
 EndsIn lts arcs basis class problem number case (stopped sides at) r = r ≡ passes (term_at problem number (named_sides lts class sides) at)
 EndsIn lts arcs basis class problem number case (found members sides) r =
-    (point : List Fraction) × (made : Result Place Wide) × AreColumnValues (node_system (rows_of case) case.forms sides) members point
-    × place_fold lts arcs basis class problem (point_start class point) (point_value lts basis class point) made × (r ≡ placing lts class problem number sides made)
+    (start : Ratio) × (value : ℕ → Ratio) × (made : Result Place Wide) × PointOf lts basis class (node_system (rows_of case) case.forms sides) members start value
+    × place_fold lts arcs basis class problem start value made × (r ≡ placing lts class problem number sides made)
 EndsIn lts arcs basis class problem number case (tree multipliers) r =
     (made : Result Tree LeafWide) × spread_tree lts arcs basis class problem number case [] multipliers made × (r ≡ leaving lts class problem number made)
 
@@ -122,16 +94,19 @@ module _ (lts : System) (arcs : List Arc) (basis : CycleBasis) (class : Class) (
   unfolded : (r : CaseResult) → CaseComes lts arcs basis class problem number r → Stops lts arcs basis class problem number r ⊎ GoesOn lts arcs basis class problem number r
   unfolded r (row_passes w is) = inl (record { w = w; passes_at = is; is = refl })
   unfolded r (pivot_passes case sides at made b) = inr (record { case = case; made = made; outcome = stopped sides at; branching = b; ends = refl })
-  unfolded r (place_passes case members sides point w made b are is) = inr (record { case = case; made = made; outcome = found members sides; branching = b; ends = (point, Err w, are, is, refl) })
-  unfolded r (place_is_made case members sides point p made b are is) = inr (record { case = case; made = made; outcome = found members sides; branching = b; ends = (point, Ok p, are, is, refl) })
+  unfolded r (place_passes case members sides start value w made b point is) = inr (record { case = case; made = made; outcome = found members sides; branching = b; ends = (start, value, Err w, point, is, refl) })
+  unfolded r (place_is_made case members sides start value p made b point is) = inr (record { case = case; made = made; outcome = found members sides; branching = b; ends = (start, value, Ok p, point, is, refl) })
   unfolded r (leaf_passes case multipliers at made b is) = inr (record { case = case; made = made; outcome = tree multipliers; branching = b; ends = (Err at, is, refl) })
   unfolded r (is_refuted case multipliers t made b is) = inr (record { case = case; made = made; outcome = tree multipliers; branching = b; ends = (Ok t, is, refl) })
 
   same_end : (case : CaseSystem) (o : BranchOutcome) (r r' : CaseResult) → EndsIn lts arcs basis class problem number case o r → EndsIn lts arcs basis class problem number case o r' → r ≡ r'
   same_end case (stopped sides at) r r' e e' = e ∙ sym e'
-  same_end case (found members sides) r r' (point, made, are, is, e) (point', made', are', is', e') =
-      let same : ratios_of point' ≡ ratios_of point = same_values (node_system (rows_of case) case.forms sides) members point' point are' are in
-      let one : made ≡ made' = (place_one lts arcs basis class problem (point_start class point) (point_value lts basis class point)).one made made' is (same_point lts arcs basis class problem point point' made' same is') in
+  same_end case (found members sides) r r' (start, value, made, point, is, e) (start', value', made', point', is', e') =
+      let node = node_system (rows_of case) case.forms sides in
+      let starts : start' ≡ start = one_start lts basis class node members start' start value' value point' point in
+      let from_start : place_fold lts arcs basis class problem start value' made' = subst (λ (s : Ratio). place_fold lts arcs basis class problem s value' made') starts is' in
+      let from_value = one_place lts arcs basis class problem start value' value (one_value lts basis class node members start' start value' value point' point) made' from_start in
+      let one : made ≡ made' = (place_one lts arcs basis class problem start value).one made made' is from_value in
       e ∙ ap (placing lts class problem number sides) one ∙ sym e'
   same_end case (tree multipliers) r r' (made, is, e) (made', is', e') =
       e ∙ ap (leaving lts class problem number) (same_tree lts arcs basis class problem number case [] multipliers made made' is is') ∙ sym e'

@@ -195,7 +195,7 @@ separates_is_decided p m (States s s') = go (cases_eq (m s) (m s'))
 
 module _ (lts : System) (reachable : IsAllReachable lts) where
   -- the numbers of a region are told by its place
-  other_numbers : (p : Place) (m m' : ℕ → ℕ) (problem : Problem) → IsProblem lts problem → Region lts p m → Region lts p m' → Separates p m' problem → Separates p m problem
+  pub other_numbers : (p : Place) (m m' : ℕ → ℕ) (problem : Problem) → IsProblem lts problem → Region lts p m → Region lts p m' → Separates p m' problem → Separates p m problem
   other_numbers p m m' (Event s t) is r r' sep =
       let same = region_unique lts p m m' r r' s (reachable.each s is.0) in
       subst (λ k. k < pre_weight p t) (sym same) sep

@@ -63,8 +63,8 @@ passes_or_refutes w t e = cc
 has_tree : (lts : System) (arcs : List Arc) (basis : CycleBasis) (class : Class) (problem : Problem) (number : ℕ) (r : CaseResult) (t : Tree) → CaseComes lts arcs basis class problem number r → r ≡ refutes t → HasTree lts arcs basis class problem number
 has_tree lts arcs basis class problem number r t (row_passes w is) e = absurd (passes_or_refutes _ t e)
 has_tree lts arcs basis class problem number r t (pivot_passes case sides at made b) e = absurd (passes_or_refutes _ t e)
-has_tree lts arcs basis class problem number r t (place_passes case members sides values w made b are is) e = absurd (passes_or_refutes _ t e)
-has_tree lts arcs basis class problem number r t (place_is_made case members sides values p made b are is) e = absurd (makes_or_refutes p t e)
+has_tree lts arcs basis class problem number r t (place_passes case members sides start value w made b point is) e = absurd (passes_or_refutes _ t e)
+has_tree lts arcs basis class problem number r t (place_is_made case members sides start value p made b point is) e = absurd (makes_or_refutes p t e)
 has_tree lts arcs basis class problem number r t (leaf_passes case multipliers at made b is) e = absurd (passes_or_refutes _ t e)
 has_tree lts arcs basis class problem number r t (is_refuted case multipliers t' made b is) e = record { case = case; made = made; multipliers = multipliers; branching = b }
 
@@ -93,7 +93,7 @@ some_case lts class (States s s') fine reachable (less, lt) = go class.nonbranch
     go true some = omega arith
     go false some = omega arith
 
-asked : (lts : System) (problem : Problem) → IsProblem lts problem → IsSeparationProblem lts problem
+pub asked : (lts : System) (problem : Problem) → IsProblem lts problem → IsSeparationProblem lts problem
 asked lts (Event s t) is = is
 asked lts (States s s') is = let a = is.0 in let b = is.1 in (omega arith, b, λ e. (omega arith))
 

@@ -1,5 +1,5 @@
 -- What one case of a problem comes to.
-use Rattle.std.specs.Prelude.{◌≡◌, ◌⊎◌, ℕ, ◌<◌, List, [], ◌∷◌, ◌++◌, length, Some, Result, Ok, Err}
+use Rattle.std.specs.Prelude.{◌≡◌, ◌⊎◌, ℕ, List, [], ◌∷◌, ◌++◌, Some, Result, Ok, Err}
 use Rattle.rg_theory.specs.declared.Arc.{Arc}
 use Rattle.rg_theory.specs.System.{System}
 use Rattle.rg_theory.specs.Net.{Place}
@@ -8,29 +8,20 @@ use Rattle.rg_theory.specs.declared.Problem.{Problem}
 use Rattle.rg_refuting.specs.Row.{Side}
 use Rattle.rg_refuting.specs.Refutes.{NamedRow, Tree, Tree.leaf as refuting_leaf, Tree.split as refuting_split}
 use Rattle.rg_fraction.specs.declared.term.Wide.{Wide}
-use Rattle.rg_fraction.specs.declared.fraction.Fraction.{Fraction}
-use Rattle.rg_linear.specs.System.{LinearSystem}
 use Rattle.rg_linear.specs.Descent.{WideAt}
 use Rattle.rg_linear.specs.Cycle.{CycleBasis}
 use Rattle.rg_linear.specs.Branching.{SplitTree, SplitTree.leaf, SplitTree.split, SplitSide, low_side, high_side, node_system, Branching, BranchOutcome.found, BranchOutcome.tree, BranchOutcome.stopped}
+use Rattle.rg_order_of_work.specs.Fold.{Ratio}
 use Rattle.rg_order_of_work.specs.Rewriting.{CaseSystem, rows_of, system_fold}
-use Rattle.rg_order_of_work.specs.Placing.{ratio_at, place_fold}
+use Rattle.rg_order_of_work.specs.Placing.{place_fold}
 use Rattle.rg_order_of_work.specs.Spreading.{spread_fold}
-use Rattle.rg_places.specs.PointValues.{ratios_of, point_start, point_value}
-use Rattle.rg_order_of_work.specs.Shown.{Stage, Shown, IsValueAt, named_side, named_sides}
+use Rattle.rg_order_of_work.specs.Shown.{Stage, Shown, PointOf, named_side, named_sides}
 
 -- a place, a tree that refutes the case, or the first term out of range
 pub data CaseResult : Type 0 where
   makes : Place → CaseResult
   refutes : Tree → CaseResult
   passes : Shown → CaseResult
-
--- ---- the point at which every member of a set is 0
-
--- the point has the values of the columns, in order
-pub record AreColumnValues (system : LinearSystem) (members : List ℕ) (point : List Fraction) : Type 0 where
-  pub one_each : length point ≡ system.columns
-  pub each : (j : ℕ) → j < system.columns → IsValueAt system members j (ratio_at (ratios_of point) j)
 
 -- ---- the leaves of a tree, in order
 
@@ -91,15 +82,15 @@ pub data CaseComes (lts : System) (arcs : List Arc) (basis : CycleBasis) (class 
   pivot_passes : (case : CaseSystem) (sides : List SplitSide) (at : WideAt) → system_fold lts arcs basis class problem number (Ok case)
       → Branching (rows_of case) case.forms (stopped sides at)
       → CaseComes lts arcs basis class problem number (passes (term_at problem number (named_sides lts class sides) at))
-  place_passes : (case : CaseSystem) (members : List ℕ) (sides : List SplitSide) (point : List Fraction) (w : Wide)
+  place_passes : (case : CaseSystem) (members : List ℕ) (sides : List SplitSide) (start : Ratio) (value : ℕ → Ratio) (w : Wide)
       → system_fold lts arcs basis class problem number (Ok case) → Branching (rows_of case) case.forms (found members sides)
-      → AreColumnValues (node_system (rows_of case) case.forms sides) members point
-      → place_fold lts arcs basis class problem (point_start class point) (point_value lts basis class point) (Err w)
+      → PointOf lts basis class (node_system (rows_of case) case.forms sides) members start value
+      → place_fold lts arcs basis class problem start value (Err w)
       → CaseComes lts arcs basis class problem number (passes (step_at Stage.place problem number (named_sides lts class sides) w))
-  place_is_made : (case : CaseSystem) (members : List ℕ) (sides : List SplitSide) (point : List Fraction) (p : Place)
+  place_is_made : (case : CaseSystem) (members : List ℕ) (sides : List SplitSide) (start : Ratio) (value : ℕ → Ratio) (p : Place)
       → system_fold lts arcs basis class problem number (Ok case) → Branching (rows_of case) case.forms (found members sides)
-      → AreColumnValues (node_system (rows_of case) case.forms sides) members point
-      → place_fold lts arcs basis class problem (point_start class point) (point_value lts basis class point) (Ok p)
+      → PointOf lts basis class (node_system (rows_of case) case.forms sides) members start value
+      → place_fold lts arcs basis class problem start value (Ok p)
       → CaseComes lts arcs basis class problem number (makes p)
   leaf_passes : (case : CaseSystem) (multipliers : SplitTree) (at : LeafWide) → system_fold lts arcs basis class problem number (Ok case)
       → Branching (rows_of case) case.forms (tree multipliers) → spread_tree lts arcs basis class problem number case [] multipliers (Err at)

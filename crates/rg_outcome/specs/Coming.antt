@@ -1,10 +1,11 @@
 -- What all problems of a system come to together, in their order, whatever the solving of one problem comes to.
-use Rattle.std.specs.Prelude.{◌≡◌, ◌⊎◌, List, [], ◌∷◌, ◌++◌, Option, None, Some, Any, All}
+use Rattle.std.specs.Prelude.{◌≡◌, ◌⊎◌, ℕ, List, [], ◌∷◌, ◌++◌, Option, None, Some, Any, All}
 use Rattle.rg_theory.specs.System.{System}
 use Rattle.rg_theory.specs.Net.{Place}
-use Rattle.rg_theory.specs.Region.{IsRegion}
+use Rattle.rg_theory.specs.Region.{IsRegion, RegionIn}
+use Rattle.rg_theory.specs.declared.Class.{Class}
 use Rattle.rg_theory.specs.declared.Problem.{Problem}
-use Rattle.rg_theory.specs.Problem.{IsProblem, IsSeparatedBy, SeparateAll, ComesBefore}
+use Rattle.rg_theory.specs.Problem.{IsProblem, Separates, IsSeparatedBy, SeparateAll, ComesBefore}
 use Rattle.rg_refuting.specs.Refutes.{Tree}
 use Rattle.rg_order_of_work.specs.Shown.{Shown}
 use Rattle.rg_outcome.specs.Solving.{Solved, Solved.placed, Solved.refuted, Solved.passed}
@@ -22,6 +23,10 @@ pub data Separation : Type 0 where
 -- one of the places separates the problem
 abbrev pub IsSeparated : System → List Place → Problem → Type 0
 IsSeparated lts kept problem = Any (IsSeparatedBy lts problem) kept
+
+-- the place is a region of the class that separates
+abbrev pub IsSeparatedIn : System → Class → Problem → Place → Type 0
+IsSeparatedIn lts class problem p = (m : ℕ → ℕ) × RegionIn lts class p m × Separates p m problem
 
 -- the system has the problem, and none of the places separates it
 abbrev pub IsLeft : System → List Place → Problem → Type 0

@@ -1,15 +1,19 @@
 -- The one answer for a system and a class.
-use Rattle.std.specs.Prelude.{◌≡◌, ℕ, List}
+use Rattle.std.specs.Prelude.{◌≡◌, ℕ, List, All}
 use Rattle.rg_theory.specs.declared.Arc.{Arc}
-use Rattle.rg_theory.specs.System.{System, IsAllReachable, IsForkFree, IsLeastUnreachable, IsLeastFork}
+use Rattle.rg_theory.specs.System.{System, labels, IsAllReachable, IsForkFree, IsLeastUnreachable, IsLeastFork}
 use Rattle.rg_theory.specs.Net.{Place}
 use Rattle.rg_theory.specs.declared.Class.{Class}
+use Rattle.rg_theory.specs.Class.{InClass, NoNet}
+use Rattle.rg_theory.specs.Region.{IsRegionIn}
+use Rattle.rg_theory.specs.Problem.{IsProblem, SeparateAll, IsInseparable}
+use Rattle.rg_theory.specs.Solves.{Solves}
 use Rattle.rg_theory.specs.Tree.{IsTree}
 use Rattle.rg_refuting.specs.Refutes.{Reason, Reason.unreachable, Reason.fork, Reason.refuted}
 use Rattle.rg_prune.specs.Pruned.{IsPruned}
 use Rattle.rg_linear.specs.Cycle.{CycleBasis}
 use Rattle.rg_order_of_work.specs.Chords.{IsBasis}
-use Rattle.rg_order_of_work.specs.Shown.{Stage, Shown, CycleShown}
+use Rattle.rg_order_of_work.specs.Shown.{Stage, Shown, CycleShown, ShownWide}
 use Rattle.rg_outcome.specs.Solving.{ProblemComes}
 use Rattle.rg_outcome.specs.Coming.{Separation, Separation.places, Separation.unsolvable as of_problem, Separation.too_wide as of_term, Comes}
 
@@ -38,3 +42,17 @@ pub data Out (lts : System) (class : Class) : Answer → Type 0 where
   a_state : (s : ℕ) → IsLeastUnreachable lts s → Out lts class (unsolvable (unreachable s))
   a_fork : (s t s₁ s₂ : ℕ) → IsAllReachable lts → IsLeastFork lts s t s₁ s₂ → Out lts class (unsolvable (fork s t s₁ s₂))
   a_search : (o : Separation) (a : Answer) → IsAllReachable lts → IsForkFree lts → Searched lts class o → Gives lts o a → Out lts class a
+
+-- ---- what they say of the system and the class
+
+-- the places are regions of the class that separate all problems; no region of the class separates the problem; the term is fixed
+abbrev pub IsSearchRight : System → Class → Separation → Type 0
+IsSearchRight lts class (places kept) = All (IsRegionIn lts class) kept × SeparateAll kept lts
+IsSearchRight lts class (of_problem problem trees) = IsProblem lts problem × IsInseparable lts class problem
+IsSearchRight lts class (of_term w) = ShownWide lts class w
+
+-- the places make a net of the class that solves the system; no net of the class does; the term is fixed
+abbrev pub IsRight : System → Class → Answer → Type 0
+IsRight lts class (net kept) = Solves (record { labels = labels lts; places = kept }) lts × InClass (record { labels = labels lts; places = kept }) class
+IsRight lts class (unsolvable reason) = NoNet lts class
+IsRight lts class (too_wide w) = ShownWide lts class w

@@ -18,6 +18,10 @@ use rg_order_of_work::meaning::{
 use rg_order_of_work::rows::{expression_is_rewritten, row_is_exact, system_is_exact};
 use rg_order_of_work::shown::shown_is_one;
 use rg_order_of_work::spanning::{basis_is_exact, chords_are_exact, ways_are_one};
+use rg_outcome::{
+    blocks_come_to_the_same, outcome_is_one, outcome_is_right, placed_separates,
+    refuted_is_inseparable, separation_is_one, separation_says, solving_is_one,
+};
 use rg_places::{place_is_region, points_make_places};
 
 #[test]
@@ -73,4 +77,16 @@ fn laws_of_regions_are_called(_rt: HostRuntime) {
     place_is_region();
     points_make_places();
     node_multipliers_refute();
+}
+
+#[test]
+fn laws_of_the_answer_are_called(_rt: HostRuntime) {
+    solving_is_one();
+    separation_is_one();
+    blocks_come_to_the_same();
+    separation_says();
+    refuted_is_inseparable();
+    placed_separates();
+    outcome_is_one();
+    outcome_is_right();
 }
