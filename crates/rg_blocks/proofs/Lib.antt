@@ -1,0 +1,5 @@
+pub mod LeftLemmas
+pub mod RankLemmas
+pub mod SolvedLemmas
+pub mod TakingLemmas
+pub mod SeparationLemmas

@@ -1,0 +1,60 @@
+-- What is said of all problems of a block, and its last one.
+use Rattle.std.proofs.Common.{◌≡◌, ℕ, suc, ◌+◌, ◌-◌, ◌<◌, List, [], ◌∷◌, length, get_or, All, Option, Some, Result, Ok, Err, IfOk, refl, sym, ap, ap₂, subst, ◌∙◌, arith}
+use Rattle.std.specs.Prelude.{slice_get}
+use Rattle.std.proofs.lemmas.Option.{same_Some}
+use Rattle.std.proofs.lemmas.List.Elements.{All-cons}
+use Rattle.rg_theory.specs.System.{System}
+use Rattle.rg_theory.specs.Net.{Place}
+use Rattle.rg_theory.specs.declared.Problem.{Problem}
+use Rattle.rg_theory.specs.Problem.{IsProblem}
+use Rattle.rg_phase.specs.Answers.{AreAnswers}
+use Rattle.rg_places.specs.declared.region_place.RegionPlace.{RegionPlace}
+use Rattle.rg_outcome.specs.Solving.{Solved}
+use Rattle.rg_outcome.specs.Coming.{IsBehind}
+use Rattle.rg_outcome.specs.Blocks.{IsBlock, last_of}
+use Rattle.rg_outcome.proofs.BlockLemmas.{behind_too}
+use Rattle.rg_blocks.specs.declared.solving.SolvedProblem.{SolvedProblem}
+use Rattle.rg_blocks.specs.Taking.{IsSolvedBy, problems_of, AsksAll}
+
+same_list : (problems : List Problem) (xs : List SolvedProblem) → length xs ≡ length problems → ((i : ℕ) (x : SolvedProblem) → slice_get xs i ≡ Some x → slice_get problems i ≡ Some x.problem) → problems_of xs ≡ problems
+same_list [] [] e each = refl
+same_list [] (x ∷ xs) e each = absurd (omega arith)
+same_list (p ∷ problems) [] e each = absurd (omega arith)
+same_list (p ∷ problems) (x ∷ xs) e each = ap₂ ◌∷◌ (sym (same_Some p x.problem (each 0 x refl))) (same_list problems xs (omega arith) (λ i y at. each (suc i) y at))
+
+pub same_problems : {E V : Type 0} (items : V → List SolvedProblem) (problems : List Problem) (comes : Problem → Solved → Type 0) (makes : RegionPlace → Type 0) (r : Result V E)
+    → IfOk r (λ v. AreAnswers (λ i s. (slice_get problems i ≡ Some s.problem) × IsSolvedBy comes makes s) 0 (length problems - 0) (items v)) → IfOk r (λ v. problems_of (items v) ≡ problems)
+same_problems items problems comes makes (Ok v) are = same_list problems (items v) (let e = are.one_each in omega arith) (λ i x at. (let e : 0 + i ≡ i = omega arith in subst (λ k. slice_get problems k ≡ Some x.problem) e (are.each i x at).0))
+same_problems items problems comes makes (Err e) are = are
+
+-- what is asked of all problems is asked of those of a block
+pub block_asks : (lts : System) (kept : List Place) (asks : Problem → Type 0) (last : Option Problem) (block : List Problem) → AsksAll lts asks → IsBlock lts kept last block → All asks block
+block_asks lts kept asks last [] all is = λ i d lt. absurd (omega arith)
+block_asks lts kept asks last (p ∷ block) all is = All-cons asks p block (all.each p is.0.0.0.0) (block_asks lts kept asks (Some p) block all is.1)
+
+pub all_have : (lts : System) → AsksAll lts (IsProblem lts)
+all_have lts = record { each = λ problem is. is }
+
+-- what holds of the problems holds of what was solved
+pub of_solved : (P : Problem → Type 0) (solved : List SolvedProblem) → All P (problems_of solved) → All (λ s. P s.problem) solved
+of_solved P [] all = λ i d lt. absurd (omega arith)
+of_solved P (s ∷ solved) all = All-cons (λ x. P x.problem) s solved (all 0 s.problem (omega arith)) (of_solved P solved (λ i d lt. all (suc i) d (omega arith)))
+
+-- the last problem of a block
+pub end_of : (lts : System) (kept : List Place) (last : Option Problem) (block : List Problem) (d : Problem) → IsBlock lts kept last block → 0 < length block
+    → (last_of last block ≡ Some (get_or block (length block - 1) d)) × IsProblem lts (get_or block (length block - 1) d) × IsBehind last (get_or block (length block - 1) d)
+end_of lts kept last [] d is some = absurd (omega arith)
+end_of lts kept last (p ∷ []) d is some = (refl, is.0.0.0.0, is.0.0.1)
+end_of lts kept last (p ∷ q ∷ block) d is some =
+    let (e, has, behind) = end_of lts kept (Some p) (q ∷ block) d is.1 (omega arith) in
+    let place : length (q ∷ block) ≡ length (p ∷ q ∷ block) - 1 = omega arith in
+    let place' : suc (length (q ∷ block) - 1) ≡ length (p ∷ q ∷ block) - 1 = omega arith in
+    let same : get_or (q ∷ block) (length (q ∷ block) - 1) d ≡ get_or (p ∷ q ∷ block) (length (p ∷ q ∷ block) - 1) d = ap (λ k. get_or (p ∷ q ∷ block) k d) place' in
+    (e ∙ ap Some same, subst (IsProblem lts) same has, subst (IsBehind last) same (behind_too last p _ is.0.0.1 behind))
+
+pub end_is : (lts : System) (kept : List Place) (last : Option Problem) (block : List Problem) (x : Problem) (n : ℕ) → IsBlock lts kept last block → 0 < length block → n ≡ length block → x ≡ get_or block (n - 1) x
+    → (last_of last block ≡ Some x) × IsProblem lts x × IsBehind last x
+end_is lts kept last block x n is some e at =
+    let (f, has, behind) = end_of lts kept last block x is some in
+    let same : get_or block (length block - 1) x ≡ x = ap (λ k. get_or block (k - 1) x) (sym e) ∙ sym at in
+    (f ∙ ap Some same, subst (IsProblem lts) same has, subst (IsBehind last) same behind)

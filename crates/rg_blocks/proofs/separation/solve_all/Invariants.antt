@@ -1,0 +1,16 @@
+use Rattle.std.proofs.Common.{◌-◌, IfSome}
+use Rattle.rg_theory.specs.Problem.{IsProblem}
+use Rattle.rg_outcome.specs.Coming.{IsSound}
+use Rattle.rg_blocks.specs.Taking.{LeadsTo}
+use Rattle.rg_blocks.specs.Ranks.{rank, top_rank}
+use Rattle.rg_blocks.proofs.separation.solve_all.Given as goal
+
+abbrev pub invariant-loop-block : goal.invariant-loop-block
+invariant-loop-block g l =
+    LeadsTo l.lts (g.S.Solving.comes l.solving) (g.K.Keeping.places l.initial.kept) (g.K.Keeping.places l.kept) l.last
+    × IfSome l.last (IsProblem l.lts)
+    × IsSound l.lts (g.S.Solving.comes l.solving) l.last (g.K.Keeping.places l.kept)
+    × g.K.Keeping.keeps_for l.kept l.lts
+
+abbrev pub decreases-loop-block : goal.decreases-loop-block
+decreases-loop-block g l = top_rank l.lts - rank l.lts l.last

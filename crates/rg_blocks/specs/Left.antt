@@ -1,0 +1,23 @@
+-- Problems that are left, from a bound on.
+use Rattle.std.specs.Prelude.{List}
+use Rattle.rg_theory.specs.System.{System}
+use Rattle.rg_theory.specs.Net.{Place}
+use Rattle.rg_theory.specs.declared.Problem.{Problem}
+use Rattle.rg_theory.specs.Problem.{ComesBefore}
+use Rattle.rg_outcome.specs.Coming.{IsFirstProblem, IsLeft}
+
+-- the problem is left, and doesn't come before the bound
+abbrev pub IsLeftFrom : System → List Place → Problem → Problem → Type 0
+IsLeftFrom lts kept bound problem = IsLeft lts kept problem × ¬ ComesBefore problem bound
+
+-- the first such problem
+pub record IsFirstFrom (lts : System) (kept : List Place) (bound problem : Problem) : Type 0 where
+  pub first : IsFirstProblem (IsLeftFrom lts kept bound) problem
+
+-- each such problem doesn't come before the second bound either
+pub record NoneBetween (lts : System) (kept : List Place) (bound end : Problem) : Type 0 where
+  pub none : (problem : Problem) → IsLeftFrom lts kept bound problem → ¬ ComesBefore problem end
+
+-- there is no such problem
+pub record NoneFrom (lts : System) (kept : List Place) (bound : Problem) : Type 0 where
+  pub none : (problem : Problem) → ¬ IsLeftFrom lts kept bound problem

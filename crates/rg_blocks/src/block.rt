@@ -1,0 +1,89 @@
+//! A block of problems: how it is formed and solved.
+ghost use Rattle.std.specs.Prelude.{◌≡◌, ◌<◌, ◌≤◌, All, Some, IfSome, IfOk, length, slice_get};
+ghost use Rattle.rg_theory.specs.Problem.{IsProblem};
+ghost use Rattle.rg_outcome.specs.Blocks.{IsBlock, last_of};
+ghost use Rattle.rg_outcome.specs.Coming.{IsDone};
+ghost use Rattle.rg_blocks.specs.Taking.{IsSolvedBy, problems_of};
+
+use crate::keeping::Keeping;
+use crate::left::next_problem;
+use crate::solving::{SolvedProblem, Solving};
+use rg_lts::Lts;
+use rg_memory::NoMemory;
+use rg_phase::{Task, block};
+use rg_ports::Gate;
+use rg_theory::Problem;
+use std::alloc::Global;
+use std::thread::Threads;
+
+// How many problems a block has at most.
+const BLOCK: u32 = 64;
+
+/// The first 64 problems behind the last one that was taken, or of all where none was, that no kept place separates, in order; fewer
+/// where no more are left. `NoMemory` where there is none.
+pub fn next_block<K: Keeping>(
+    alloc: Global,
+    lts: &Lts,
+    kept: &K,
+    last: Option<Problem>,
+) -> Result<Vec<Problem>, NoMemory>
+    requires kept { K.keeps_for kept.now lts.now }
+    requires last { IfSome last (IsProblem lts.now) }
+    ensures block { IfOk result (λ v. IsBlock lts.now (K.places kept.now) last v.items) }
+    ensures few { IfOk result (λ v. length v.items ≤ 64) }
+    ensures end { IfOk result (λ v. length v.items < 64 → IsDone lts.now (K.places kept.now) (last_of last v.items)) }
+{
+    let mut block = Vec::new(alloc);
+    let mut at = last;
+    for _i in 0..BLOCK {
+        match next_problem(lts, kept, at) {
+            Some(problem) => {
+                block.push(problem)?;
+                at = Some(problem);
+            }
+            None => return Ok(block),
+        }
+    }
+    Ok(block)
+}
+
+// The solving of the problems of a block, by their numbers in it.
+#[derive(Drop)]
+struct Problems<'a, S> {
+    solving: &'a S,
+    problems: &'a [Problem],
+}
+
+impl<S: Solving> Task for Problems<'_, S> {
+    type Out = SolvedProblem;
+
+    ghost asks = { λ s i. (i < length s.problems.now) × All (S.asks s.solving.now) s.problems.now };
+
+    ghost answers = { λ s i v. (slice_get s.problems.now i ≡ Some v.problem) × IsSolvedBy (S.comes s.solving.now) (S.makes s.solving.now) v };
+
+    fn run(&self, i: u32) -> Result<SolvedProblem, NoMemory> {
+        let problem = self.problems[i as usize];
+        let outcome = self.solving.solve(problem)?;
+        Ok(SolvedProblem { problem, outcome })
+    }
+}
+
+/// What the problems of a block come to, in their order, solved by at most `jobs` parts that run beside each other. The gate is
+/// entered before each number of the block and left after it. `NoMemory` where there is none.
+pub fn solve_block<R: Threads + Sync, S: Solving + Sync, G: Gate + Sync>(
+    rt: &R,
+    alloc: Global,
+    solving: &S,
+    problems: &[Problem],
+    jobs: u8,
+    gate: &G,
+) -> Result<Vec<SolvedProblem>, NoMemory>
+    requires few { length problems.now ≤ 64 }
+    requires some { 1 ≤ jobs }
+    requires asked { All (S.asks solving.now) problems.now }
+    ensures solved { IfOk result (λ v. All (IsSolvedBy (S.comes solving.now) (S.makes solving.now)) v.items) }
+    ensures same { IfOk result (λ v. problems_of v.items ≡ problems.now) }
+{
+    let task = Problems { solving, problems };
+    block(rt, alloc, &task, 0, problems.len() as u32, jobs, gate)
+}

@@ -1,0 +1,38 @@
+//! What is kept of the places.
+ghost use Rattle.std.specs.Prelude.{◌≡◌, ◌↔◌, ◌++◌, ◌∷◌, [], List, IsTrue, OnOk};
+ghost use Rattle.rg_theory.specs.System.{System};
+ghost use Rattle.rg_theory.specs.Net.{Place};
+ghost use Rattle.rg_theory.specs.Problem.{IsProblem};
+ghost use Rattle.rg_net.specs.Shown.{shown_place};
+ghost use Rattle.rg_places.specs.declared.region_place.RegionPlace.{RegionPlace};
+ghost use Rattle.rg_outcome.specs.Coming.{IsSeparated};
+
+use rg_lts::Lts;
+use rg_memory::NoMemory;
+use rg_places::RegionPlace;
+use rg_theory::Problem;
+
+/// Places of a system that are kept, in the order in which they were made.
+pub trait Keeping {
+    /// The places, in order.
+    ghost places: { Self → List Place };
+
+    /// They are kept for this system.
+    ghost keeps_for: { Self → System → Type 0 };
+
+    /// What is asked of a place that is kept.
+    ghost may_keep: { System → RegionPlace → Type 0 };
+
+    /// Whether one of the places separates the problem of the system.
+    fn separates(&self, lts: &Lts, problem: Problem) -> bool
+        requires system { keeps_for self.now lts.now }
+        requires problem { IsProblem lts.now problem }
+        ensures { IsTrue result ↔ IsSeparated lts.now (places self.now) problem };
+
+    /// Keeps one more place, behind the others. `NoMemory` where there is none.
+    fn keep(&mut self, lts: &Lts, place: RegionPlace) -> Result<(), NoMemory>
+        requires system { keeps_for self.old lts.now }
+        requires place { may_keep lts.now place }
+        ensures system { OnOk result (keeps_for self.new lts.now) }
+        ensures places { OnOk result (places self.new ≡ places self.old ++ shown_place place.place ∷ []) };
+}

@@ -1,0 +1,122 @@
+//! The next problem that is left.
+ghost use Rattle.std.specs.Prelude.{◌+◌, ◌<◌, IfSome, IfNone};
+ghost use Rattle.rg_theory.specs.System.{states};
+ghost use Rattle.rg_theory.specs.declared.Problem.TheVariants as problem;
+ghost use Rattle.rg_theory.specs.Problem.{IsProblem};
+ghost use Rattle.rg_outcome.specs.Coming.{IsNext, IsDone};
+ghost use Rattle.rg_blocks.specs.Left.{IsFirstFrom, NoneBetween, NoneFrom};
+
+use crate::keeping::Keeping;
+use rg_lts::Lts;
+use rg_theory::Problem;
+
+// The first event problem of state `s` that is left, from label `first` on.
+fn event_of_state<K: Keeping>(lts: &Lts, kept: &K, s: u32, first: u32) -> Option<Problem>
+    requires kept { K.keeps_for kept.now lts.now }
+    requires state { s < states lts.now }
+    ensures some { IfSome result (IsFirstFrom lts.now (K.places kept.now) (problem.Event s first)) }
+    ensures none { IfNone result (NoneBetween lts.now (K.places kept.now) (problem.Event s first) (problem.Event (s + 1) 0)) }
+{
+    for t in first..lts.labels() {
+        let problem = Problem::Event(s, t);
+        if lts.arc_at(s, t).is_some() {
+            continue;
+        }
+        if kept.separates(lts, problem) {
+            continue;
+        }
+        return Some(problem);
+    }
+    None
+}
+
+// The first state problem of state `s` and a later one that is left, from the other state `first` on.
+fn states_of_state<K: Keeping>(lts: &Lts, kept: &K, s: u32, first: u32) -> Option<Problem>
+    requires kept { K.keeps_for kept.now lts.now }
+    requires later { s < first }
+    ensures some { IfSome result (IsFirstFrom lts.now (K.places kept.now) (problem.States s first)) }
+    ensures none { IfNone result (NoneBetween lts.now (K.places kept.now) (problem.States s first) (problem.States (s + 1) 0)) }
+{
+    for other in first..lts.states() {
+        let problem = Problem::States(s, other);
+        if kept.separates(lts, problem) {
+            continue;
+        }
+        return Some(problem);
+    }
+    None
+}
+
+// The first event problem that is left, from state `s` and label `first` on.
+fn event_left<K: Keeping>(lts: &Lts, kept: &K, s: u32, first: u32) -> Option<Problem>
+    requires kept { K.keeps_for kept.now lts.now }
+    requires state { s < states lts.now }
+    ensures some { IfSome result (IsFirstFrom lts.now (K.places kept.now) (problem.Event s first)) }
+    ensures none { IfNone result (NoneBetween lts.now (K.places kept.now) (problem.Event s first) (problem.States 0 0)) }
+{
+    let states = lts.states();
+    let found = event_of_state(lts, kept, s, first);
+    if found.is_some() {
+        return found;
+    }
+    for q in s + 1..states {
+        let found = event_of_state(lts, kept, q, 0);
+        if found.is_some() {
+            return found;
+        }
+    }
+    None
+}
+
+// The first state problem that is left, from state `s` and the other state `first` on.
+fn states_left<K: Keeping>(lts: &Lts, kept: &K, s: u32, first: u32) -> Option<Problem>
+    requires kept { K.keeps_for kept.now lts.now }
+    requires state { s < states lts.now }
+    requires later { s < first }
+    ensures some { IfSome result (IsFirstFrom lts.now (K.places kept.now) (problem.States s first)) }
+    ensures none { IfNone result (NoneFrom lts.now (K.places kept.now) (problem.States s first)) }
+{
+    let states = lts.states();
+    let found = states_of_state(lts, kept, s, first);
+    if found.is_some() {
+        return found;
+    }
+    for q in s + 1..states {
+        let found = states_of_state(lts, kept, q, q + 1);
+        if found.is_some() {
+            return found;
+        }
+    }
+    None
+}
+
+// The first problem that is left, from an event problem's numbers on.
+fn left_from<K: Keeping>(lts: &Lts, kept: &K, s: u32, first: u32) -> Option<Problem>
+    requires kept { K.keeps_for kept.now lts.now }
+    requires state { s < states lts.now }
+    ensures some { IfSome result (IsFirstFrom lts.now (K.places kept.now) (problem.Event s first)) }
+    ensures none { IfNone result (NoneFrom lts.now (K.places kept.now) (problem.Event s first)) }
+{
+    let found = event_left(lts, kept, s, first);
+    if found.is_some() {
+        return found;
+    }
+    states_left(lts, kept, 0, 1)
+}
+
+/// The next problem: of those behind the last one that was taken, or of all where none was, the first that no kept place separates.
+/// Event problems come before state problems, each kind by its numbers. None where no problem is left behind the last one.
+pub fn next_problem<K: Keeping>(lts: &Lts, kept: &K, last: Option<Problem>) -> Option<Problem>
+    requires kept { K.keeps_for kept.now lts.now }
+    requires last { IfSome last (IsProblem lts.now) }
+    ensures some { IfSome result (IsNext lts.now (K.places kept.now) last) }
+    ensures none { IfNone result (IsDone lts.now (K.places kept.now) last) }
+{
+    let _states = lts.states();
+    let _labels = lts.labels();
+    match last {
+        None => left_from(lts, kept, 0, 0),
+        Some(Problem::Event(s, t)) => left_from(lts, kept, s, t + 1),
+        Some(Problem::States(s, other)) => states_left(lts, kept, s, other + 1),
+    }
+}

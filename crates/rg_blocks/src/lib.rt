@@ -1,0 +1,21 @@
+//! All separation problems of a system, block by block.
+//!
+//! Places that separate all problems, kept one after the other, are the usual way to a net (Badouel, Bernardinello and Darondeau,
+//! *Petri Net Synthesis*). The problems are solved in blocks, each beside the others, and what they come to is taken over in their
+//! order, so that it is the same as if they were solved one after the other.
+#![tactic(auto)]
+
+mod block;
+mod keeping;
+mod left;
+mod separation;
+mod solving;
+mod taking;
+
+pub use block::{next_block, solve_block};
+pub use keeping::Keeping;
+pub use left::next_problem;
+pub use rg_memory::NoMemory;
+pub use separation::{SeparationOutcome, separate_all, solve_all};
+pub use solving::{ProblemOutcome, SolvedProblem, Solving};
+pub use taking::{solve_in_turn, take_over};

@@ -1,0 +1,122 @@
+//! All problems.
+ghost use Rattle.std.specs.Prelude.{◌≡◌, ◌≤◌, [], All, IfOk, OnOk, None, length};
+ghost use Rattle.rg_theory.specs.System.{IsAllReachable};
+ghost use Rattle.rg_theory.specs.Problem.{IsProblem};
+ghost use Rattle.rg_outcome.specs.Coming.{IsSound};
+ghost use Rattle.rg_blocks.specs.Taking.{IsTakenOver, AreKeepable, AsksAll, EndsAll, IsRight, IsEnd};
+
+use crate::block::{next_block, solve_block};
+use crate::keeping::Keeping;
+use crate::left::next_problem;
+use crate::solving::Solving;
+use crate::taking::{solve_in_turn, take_over};
+use rg_lts::Lts;
+use rg_memory::NoMemory;
+use rg_ports::Gate;
+use rg_theory::Problem;
+use std::alloc::Global;
+use std::thread::Threads;
+
+/// What all problems of a system come to.
+#[derive(Clone, Copy, Debug, PartialEq, Eq)]
+pub enum SeparationOutcome {
+    /// The places that are kept separate all problems.
+    Separated,
+    /// The problem is refuted.
+    Unsolvable(Problem),
+    /// No kept place separates the problem, and a number passes in it. It is the first such problem.
+    TooWide(Problem),
+}
+
+// Solves the problems of a block and takes over what they come to: with one job problem by problem, else when all of them are solved.
+fn take_block<R: Threads + Sync, K: Keeping, S: Solving + Sync, G: Gate + Sync>(
+    rt: &R,
+    alloc: Global,
+    lts: &Lts,
+    kept: &mut K,
+    solving: &S,
+    problems: &[Problem],
+    jobs: u8,
+    gate: &G,
+) -> Result<Option<Problem>, NoMemory>
+    requires few { length problems.now ≤ 64 }
+    requires some { 1 ≤ jobs }
+    requires kept { K.keeps_for kept.old lts.now }
+    requires keepable { AreKeepable (S.makes solving.now) (K.may_keep lts.now) }
+    requires problems { All (IsProblem lts.now) problems.now }
+    requires asked { All (S.asks solving.now) problems.now }
+    ensures kept { OnOk result (K.keeps_for kept.new lts.now) }
+    ensures taken { IfOk result (λ end. IsTakenOver lts.now (S.comes solving.now) (K.places kept.old) problems.now (K.places kept.new) end) }
+{
+    if jobs == 1 {
+        return solve_in_turn(lts, kept, solving, problems, gate);
+    }
+    let solved = solve_block(rt, alloc, solving, problems, jobs, gate)?;
+    take_over(lts, kept, solving, solved)
+}
+
+/// Takes all problems, block by block, as long as one is left behind the last one. The first problem that is refuted ends it, and is given;
+/// None where none is. `NoMemory` where there is none.
+pub fn solve_all<R: Threads + Sync, K: Keeping, S: Solving + Sync, G: Gate + Sync>(
+    rt: &R,
+    alloc: Global,
+    lts: &Lts,
+    kept: &mut K,
+    solving: &S,
+    jobs: u8,
+    gate: &G,
+) -> Result<Option<Problem>, NoMemory>
+    requires some { 1 ≤ jobs }
+    requires asked { AsksAll lts.now (S.asks solving.now) }
+    requires reachable { IsAllReachable lts.now }
+    requires right { IsRight lts.now (S.comes solving.now) }
+    requires kept { K.keeps_for kept.old lts.now }
+    requires keepable { AreKeepable (S.makes solving.now) (K.may_keep lts.now) }
+    requires sound { IsSound lts.now (S.comes solving.now) None (K.places kept.old) }
+    ensures kept { OnOk result (K.keeps_for kept.new lts.now) }
+    ensures ends { IfOk result (λ end. EndsAll lts.now (S.comes solving.now) (K.places kept.old) (K.places kept.new) end) }
+{
+    let mut last = None;
+    loop {
+        let block = next_block(alloc, lts, kept, last)?;
+        if block.is_empty() {
+            return Ok(None);
+        }
+        let end = block[block.len() - 1];
+        if let Some(refuted) = take_block(rt, alloc, lts, kept, solving, &block, jobs, gate)? {
+            return Ok(Some(refuted));
+        }
+        last = Some(end);
+    }
+}
+
+/// Separates all problems of the system, each of whose states is reachable, from no place on. What the problems come to, and the places
+/// that are kept, are the same for any number of jobs and any gate. `NoMemory` where there is none.
+pub fn separate_all<R: Threads + Sync, K: Keeping, S: Solving + Sync, G: Gate + Sync>(
+    rt: &R,
+    alloc: Global,
+    lts: &Lts,
+    kept: &mut K,
+    solving: &S,
+    jobs: u8,
+    gate: &G,
+) -> Result<SeparationOutcome, NoMemory>
+    requires some { 1 ≤ jobs }
+    requires asked { AsksAll lts.now (S.asks solving.now) }
+    requires reachable { IsAllReachable lts.now }
+    requires right { IsRight lts.now (S.comes solving.now) }
+    requires kept { K.keeps_for kept.old lts.now }
+    requires keepable { AreKeepable (S.makes solving.now) (K.may_keep lts.now) }
+    requires empty { K.places kept.old ≡ [] }
+    ensures kept { OnOk result (K.keeps_for kept.new lts.now) }
+    ensures comes { IfOk result (IsEnd lts.now (S.comes solving.now) (K.places kept.new)) }
+{
+    let refuted = solve_all(rt, alloc, lts, kept, solving, jobs, gate)?;
+    match refuted {
+        Some(problem) => Ok(SeparationOutcome::Unsolvable(problem)),
+        None => match next_problem(lts, kept, None) {
+            Some(problem) => Ok(SeparationOutcome::TooWide(problem)),
+            None => Ok(SeparationOutcome::Separated),
+        },
+    }
+}

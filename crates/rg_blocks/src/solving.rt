@@ -1,0 +1,46 @@
+//! How a problem is solved.
+ghost use Rattle.std.specs.Prelude.{IfOk};
+ghost use Rattle.rg_theory.specs.declared.Problem.{Problem};
+ghost use Rattle.rg_places.specs.declared.region_place.RegionPlace.{RegionPlace};
+ghost use Rattle.rg_outcome.specs.Solving.{Solved};
+ghost use Rattle.rg_blocks.specs.Taking.{IsOutcome};
+
+use rg_memory::NoMemory;
+use rg_places::RegionPlace;
+use rg_theory::Problem;
+
+/// What a problem comes to. It is small, so that many may wait for being taken over: of a refuted problem it has no trees, and of
+/// one in which a number passes no term.
+#[derive(Drop)]
+pub enum ProblemOutcome {
+    /// A place that separates it, with its tokens at the states.
+    Place(RegionPlace),
+    /// Trees refute all its cases.
+    Refuted,
+    /// A number passes in one of its cases, and none makes a place.
+    TooWide,
+}
+
+/// A problem, and what it comes to.
+#[derive(Drop)]
+pub struct SolvedProblem {
+    pub problem: Problem,
+    pub outcome: ProblemOutcome,
+}
+
+/// How the problems of a system are solved, each by itself: what one comes to doesn't depend on the places that are kept.
+pub trait Solving {
+    /// What the solving of a problem asks for.
+    ghost asks: { Self → Problem → Type 0 };
+
+    /// What a problem comes to.
+    ghost comes: { Self → Problem → Solved → Type 0 };
+
+    /// What is said of each place that is made.
+    ghost makes: { Self → RegionPlace → Type 0 };
+
+    /// Solves a problem. `NoMemory` where there is none.
+    fn solve(&self, problem: Problem) -> Result<ProblemOutcome, NoMemory>
+        requires { asks self.now problem }
+        ensures { IfOk result (IsOutcome (comes self.now) (makes self.now) problem) };
+}

@@ -1,0 +1,126 @@
+//! How what the problems of a block come to is taken over.
+ghost use Rattle.std.specs.Prelude.{◌≡◌, ◌≤◌, [], ◌∷◌, All, IfOk, IfSome, IfNone, OnOk, length};
+ghost use Rattle.rg_theory.specs.Problem.{IsProblem};
+ghost use Rattle.rg_outcome.specs.Coming.{IsSeparated};
+ghost use Rattle.rg_blocks.specs.Taking.{IsSolvedBy, problems_of, IsTakenOver, AreKeepable};
+
+use crate::keeping::Keeping;
+use crate::solving::{ProblemOutcome, SolvedProblem, Solving};
+use rg_lts::Lts;
+use rg_memory::NoMemory;
+use rg_ports::Gate;
+use rg_theory::Problem;
+
+// Takes over what a problem comes to that no kept place separates; the problem, where it is refuted.
+fn take<K: Keeping, S: Solving>(
+    lts: &Lts,
+    kept: &mut K,
+    _solving: &S,
+    solved: SolvedProblem,
+) -> Result<Option<Problem>, NoMemory>
+    requires kept { K.keeps_for kept.old lts.now }
+    requires keepable { AreKeepable (S.makes _solving.now) (K.may_keep lts.now) }
+    requires left { ¬ IsSeparated lts.now (K.places kept.old) solved.problem }
+    requires solved { IsSolvedBy (S.comes _solving.now) (S.makes _solving.now) solved }
+    ensures kept { OnOk result (K.keeps_for kept.new lts.now) }
+    ensures taken { IfOk result (λ end. IsTakenOver lts.now (S.comes _solving.now) (K.places kept.old) (solved.problem ∷ []) (K.places kept.new) end) }
+{
+    let SolvedProblem { problem, outcome } = solved;
+    match outcome {
+        ProblemOutcome::Place(place) => {
+            kept.keep(lts, place)?;
+            Ok(None)
+        }
+        ProblemOutcome::Refuted => Ok(Some(problem)),
+        ProblemOutcome::TooWide => Ok(None),
+    }
+}
+
+/// Takes over what the problems of a block come to, in their order: a place is kept, and a problem in which a number passes is passed over.
+/// What a problem comes to that a place kept meanwhile separates is dropped, whatever it is. The first other one that is refuted ends it,
+/// and is given; None where there is no such problem. `NoMemory` where there is none.
+pub fn take_over<K: Keeping, S: Solving>(
+    lts: &Lts,
+    kept: &mut K,
+    solving: &S,
+    solved: Vec<SolvedProblem>,
+) -> Result<Option<Problem>, NoMemory>
+    requires kept { K.keeps_for kept.old lts.now }
+    requires keepable { AreKeepable (S.makes solving.now) (K.may_keep lts.now) }
+    requires problems { All (λ s. IsProblem lts.now s.problem) solved.items }
+    requires solved { All (IsSolvedBy (S.comes solving.now) (S.makes solving.now)) solved.items }
+    ensures kept { OnOk result (K.keeps_for kept.new lts.now) }
+    ensures taken { IfOk result (λ end. IsTakenOver lts.now (S.comes solving.now) (K.places kept.old) (problems_of solved.items) (K.places kept.new) end) }
+{
+    for s in solved {
+        if kept.separates(lts, s.problem) {
+            continue;
+        }
+        if let Some(refuted) = take(lts, kept, solving, s)? {
+            return Ok(Some(refuted));
+        }
+    }
+    Ok(None)
+}
+
+// Solves the problem, unless a kept place separates it.
+fn solve_left<K: Keeping, S: Solving>(
+    lts: &Lts,
+    kept: &K,
+    solving: &S,
+    problem: Problem,
+) -> Result<Option<SolvedProblem>, NoMemory>
+    requires kept { K.keeps_for kept.now lts.now }
+    requires problem { IsProblem lts.now problem }
+    requires asked { S.asks solving.now problem }
+    ensures separated { IfOk result (λ o. IfNone o (IsSeparated lts.now (K.places kept.now) problem)) }
+    ensures left { IfOk result (λ o. IfSome o (λ s. (s.problem ≡ problem) × ¬ IsSeparated lts.now (K.places kept.now) problem)) }
+    ensures solved { IfOk result (λ o. IfSome o (IsSolvedBy (S.comes solving.now) (S.makes solving.now))) }
+{
+    if kept.separates(lts, problem) {
+        return Ok(None);
+    }
+    let outcome = solving.solve(problem)?;
+    Ok(Some(SolvedProblem { problem, outcome }))
+}
+
+// Enters and leaves the gate for the numbers from `from` on below `to`.
+fn pass_by<G: Gate>(gate: &G, from: u32, to: u32) {
+    for i in from..to {
+        gate.enter(i);
+        gate.leave(i);
+    }
+}
+
+/// Solves the problems of a block one after the other, and takes over what each comes to at once. One that a place kept meanwhile separates
+/// isn't solved. The first one that is refuted ends it, and is given; None where there is no such problem. The gate is entered and left once
+/// for each number of the block, also for those that aren't solved. `NoMemory` where there is none.
+pub fn solve_in_turn<K: Keeping, S: Solving, G: Gate>(
+    lts: &Lts,
+    kept: &mut K,
+    solving: &S,
+    problems: &[Problem],
+    gate: &G,
+) -> Result<Option<Problem>, NoMemory>
+    requires few { length problems.now ≤ 64 }
+    requires kept { K.keeps_for kept.old lts.now }
+    requires keepable { AreKeepable (S.makes solving.now) (K.may_keep lts.now) }
+    requires problems { All (IsProblem lts.now) problems.now }
+    requires asked { All (S.asks solving.now) problems.now }
+    ensures kept { OnOk result (K.keeps_for kept.new lts.now) }
+    ensures taken { IfOk result (λ end. IsTakenOver lts.now (S.comes solving.now) (K.places kept.old) problems.now (K.places kept.new) end) }
+{
+    for (i, &problem) in problems.iter().enumerate() {
+        gate.enter(i as u32);
+        let solved = solve_left(lts, kept, solving, problem);
+        gate.leave(i as u32);
+        let Some(solved) = solved? else {
+            continue;
+        };
+        if let Some(refuted) = take(lts, kept, solving, solved)? {
+            pass_by(gate, i as u32 + 1, problems.len() as u32);
+            return Ok(Some(refuted));
+        }
+    }
+    Ok(None)
+}
