@@ -1,12 +1,16 @@
 -- How the search for places ends.
-use Rattle.std.proofs.Common.{◌≡◌, ◌⊎◌, inl, inr, List, [], map, refl, sym, ap, subst, ◌∙◌}
+use Rattle.std.proofs.Common.{◌≡◌, ◌⊎◌, inl, inr, List, [], map, length, refl, sym, ap, subst, ◌∙◌, arith}
+use Rattle.std.proofs.lemmas.List.{length-map}
 use Rattle.rg_theory.specs.System.{System}
+use Rattle.rg_lts.specs.WellFormed.{IsWellFormed}
 use Rattle.rg_theory.specs.Net.{Place}
 use Rattle.rg_theory.specs.declared.Problem.{Problem}
 use Rattle.rg_refuting.specs.Refutes.{Tree}
 use Rattle.rg_net.specs.Shown.{shown_place}
 use Rattle.rg_net.specs.declared.net.Place.{Place as PlaceOfCode}
-use Rattle.rg_order_of_work.specs.Shown.{Shown}
+use Rattle.rg_order_of_work.specs.Shown.{Shown, CycleShown}
+use Rattle.rg_theory.specs.declared.Class.{Class}
+use Rattle.rg_cycles.specs.declared.stop.CycleWide.{CycleWide}
 use Rattle.rg_cycles.specs.View.{cycle_of}
 use Rattle.rg_reasons.specs.declared.certificate.Reason.{Reason}
 use Rattle.rg_reasons.specs.Certificates.{reason_of}
@@ -15,7 +19,7 @@ use Rattle.rg_outcome.specs.Solving as solved
 use Rattle.rg_outcome.specs.Solving.{Solved, Solved.placed, Solved.passed, ProblemComes}
 use Rattle.rg_outcome.specs.Coming as outcome
 use Rattle.rg_outcome.specs.Coming.{PlacesSeparate, Comes, Separation.places, Separation.unsolvable, Separation.too_wide}
-use Rattle.rg_outcome.specs.Outcome.{Searched, Searched.all_problems}
+use Rattle.rg_outcome.specs.Outcome.{Searched, Searched.a_cycle, Searched.all_problems}
 use Rattle.rg_outcome.proofs.Solvings.{same_solved}
 use Rattle.rg_outcome.proofs.Placed.{placed_separates}
 use Rattle.rg_blocks.specs.Taking.{IsEnd, ShowsSeparation, IsRight}
@@ -24,6 +28,7 @@ use Rattle.rg_separate.specs.declared.problem.ProblemAnswer.TheVariants as probl
 use Rattle.rg_separate.specs.declared.separation.Separation.TheVariants as separation
 use Rattle.rg_separate.specs.declared.setting.Setting.{Setting}
 use Rattle.rg_separate.specs.declared.wide_at.WideAt.{WideAt}
+use Rattle.rg_separate.specs.Passing.{cycle_passed}
 use Rattle.rg_separate.specs.View.{shown_of}
 use Rattle.rg_separate.specs.Answer.{AreSeparating, IsSearched}
 use Rattle.rg_separate.specs.Keeping.{IsSetting, AreKept}
@@ -49,7 +54,7 @@ module _ (s : Setting) (is : IsSetting s) where
   all_kept kept (unsolvable problem trees) come shows = absurd shows
   all_kept kept (too_wide w) come shows = absurd shows
 
-  module _ (kept : List RegionPlace) (are : AreKept s.lts.now kept) (end : IsEnd s.lts.now (comes_of s) (kept_places kept) ended.Separated) (made : List PlaceOfCode) (made_are : made ≡ map (λ k. k.place) kept) where
+  module _ (fine : IsWellFormed s.lts.now) (kept : List RegionPlace) (are : AreKept s.lts.now kept) (end : IsEnd s.lts.now (comes_of s) (kept_places kept) ended.Separated) (made : List PlaceOfCode) (made_are : made ≡ map (λ k. k.place) kept) where
     shown_are : map shown_place made ≡ kept_places kept
     shown_are = ap (map shown_place) made_are ∙ shown_kept kept
 
@@ -57,7 +62,7 @@ module _ (s : Setting) (is : IsSetting s) where
     all_come = all_kept (kept_places kept) end.o end.comes_to end.shows
 
     pub separated_tells : AreSeparating s.lts.now s.class (map shown_place made)
-    separated_tells = subst (AreSeparating s.lts.now s.class) (sym shown_are) (separating s.lts.now s.class kept is.in_range are (few_places s.lts.now (comes_of s) (kept_places kept) is.in_range all_come) (searched_of (places (kept_places kept)) all_come))
+    separated_tells = subst (AreSeparating s.lts.now s.class) (sym shown_are) (separating s.lts.now s.class kept is.in_range are (let few = few_places s.lts.now (comes_of s) (kept_places kept) fine all_come in let l = length-map kept (λ k. shown_place k.place) in omega arith) (searched_of (places (kept_places kept)) all_come))
 
     pub separated_searched : Searched s.lts.now s.class (places (map shown_place made))
     separated_searched = subst (λ ps. Searched s.lts.now s.class (places ps)) (sym shown_are) (searched_of (places (kept_places kept)) all_come)
@@ -78,6 +83,10 @@ module _ (s : Setting) (is : IsSetting s) where
 
   pub ends_wide : (kept : List Place) (q : Problem) → IsEnd s.lts.now (comes_of s) kept (ended.TooWide q) → EndsWith s q
   ends_wide kept q end = left_last kept q end.o end.comes_to end.shows
+
+-- the term of the walk over the chords ends it before any problem
+pub cycle_searched : (lts : System) (class : Class) (at : WideAt) (w : CycleWide) → shown_of at ≡ cycle_passed w → CycleShown lts (cycle_passed w) → IsSearched lts class (separation.TooWide at)
+cycle_searched lts class at w same shown = record { o = too_wide (cycle_passed w); searched = a_cycle (cycle_passed w) refl shown; shows = ap too_wide (sym same) }
 
 -- ---- the problem solved once more
 

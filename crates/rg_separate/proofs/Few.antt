@@ -1,6 +1,8 @@
 -- A search keeps no more places than there are problems.
 use Rattle.std.proofs.Common.{◌≡◌, ℕ, ◌+◌, ◌*◌, ◌-◌, ◌<◌, ◌≤◌, List, [], ◌∷◌, ◌++◌, length, length-append, Option, Some, None, IfSome, arith}
-use Rattle.rg_theory.specs.System.{System, states, labels, IsInRange}
+use Rattle.std.proofs.lemmas.Nat.{mul-le}
+use Rattle.rg_theory.specs.System.{System, states, labels}
+use Rattle.rg_lts.specs.WellFormed.{IsWellFormed}
 use Rattle.rg_theory.specs.Net.{Place}
 use Rattle.rg_theory.specs.declared.Problem.{Problem}
 use Rattle.rg_theory.specs.Problem.{IsProblem}
@@ -27,10 +29,13 @@ few_from lts comes last kept o n has le (ends problem trees next is) = tt
 few_from lts comes last kept o n has le (all_separated all) = omega arith
 few_from lts comes last kept o n has le (one_is_left problem w done first is) = tt
 
-pub few_places : (lts : System) (comes : Problem → Solved → Type 0) (kept : List Place) → IsInRange lts → Comes lts comes (places kept) → length kept < 4294967296
+pub few_places : (lts : System) (comes : Problem → Solved → Type 0) (kept : List Place) → IsWellFormed lts → Comes lts comes (places kept) → length kept < 4294967296
 few_places lts comes kept fine come =
     let few = few_from lts comes None [] (places kept) (top_rank lts) tt (omega arith) come in
     top few
   where
     top : length kept ≤ top_rank lts → length kept < 4294967296
-    top le = (let s = fine.few_states in let l = fine.few_labels in omega arith)
+    top le =
+        let events : states lts * labels lts ≤ 4096 * 256 = mul-le (states lts) (labels lts) 4096 256 fine.few_states fine.few_labels in
+        let pairs : states lts * states lts ≤ 4096 * 4096 = mul-le (states lts) (states lts) 4096 4096 fine.few_states fine.few_states in
+        omega arith

@@ -1,20 +1,14 @@
 -- What is found on the way through the problems.
-use Rattle.std.specs.Prelude.{◌≡◌, ◌⊎◌, length, Any, All}
+use Rattle.std.specs.Prelude.{◌≡◌, List, length, All}
 use Rattle.rg_theory.specs.System.{System, states, labels, IsInRange, IsAllReachable}
 use Rattle.rg_theory.specs.declared.Class.{Class}
-use Rattle.rg_theory.specs.declared.Problem.{Problem}
-use Rattle.rg_theory.specs.Problem.{IsProblem, ComesBefore}
 use Rattle.rg_theory.specs.ClassWords.{HasBoundInRange}
 use Rattle.rg_spanning.specs.Spanning.{IsTreeOf}
 use Rattle.rg_order_of_work.specs.Chords.{IsBasis}
-use Rattle.rg_order_of_work.specs.Shown.{ShownWide}
 use Rattle.rg_cycles.specs.View.{labels_of, cycle_of}
 use Rattle.rg_places.specs.declared.region_place.RegionPlace.{RegionPlace}
-use Rattle.rg_places.specs.RegionPlaces.{IsRegionPlace, PlaceSeparates}
+use Rattle.rg_places.specs.RegionPlaces.{IsRegionPlace}
 use Rattle.rg_separate.specs.declared.setting.Setting.{Setting}
-use Rattle.rg_separate.specs.declared.found.Found.{Found}
-use Rattle.rg_separate.specs.declared.found.Noted.{Noted}
-use Rattle.rg_separate.specs.View.{shown_of}
 
 -- the tree is that of the system, all of whose states are reachable, the basis is that of its chords, and the class's
 -- bound is in range

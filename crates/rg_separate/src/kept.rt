@@ -32,7 +32,7 @@ impl Keeping for Kept {
         is_separated(lts, &self.regions, problem)
     }
 
-    fn keep(&mut self, _: &Lts, place: RegionPlace) -> Result<(), NoMemory> {
+    fn keep(&mut self, _lts: &Lts, place: RegionPlace) -> Result<(), NoMemory> {
         self.regions.push(place)?;
         Ok(())
     }

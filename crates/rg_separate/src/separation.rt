@@ -103,15 +103,15 @@ fn separated<R: Threads + Sync, G: Gate + Sync>(
     ensures searched { IfOk result (IsSearched setting.entry.lts.now setting.entry.class) }
 {
     let lts = setting.lts;
+    lts.is_well_formed();
     let problems = Problems { alloc, setting };
     let mut kept = Kept {
         regions: Vec::new(alloc),
     };
     match separate_all(rt, alloc, lts, &mut kept, &problems, jobs, gate)? {
         SeparationOutcome::Separated => Ok(Separation::Places(places_of(alloc, kept.regions)?)),
-        SeparationOutcome::Unsolvable(problem) | SeparationOutcome::TooWide(problem) => {
-            shown(alloc, setting, problem)
-        }
+        SeparationOutcome::Unsolvable(refuted) => shown(alloc, setting, refuted),
+        SeparationOutcome::TooWide(left) => shown(alloc, setting, left),
     }
 }
 

@@ -1,55 +1,25 @@
-use Rattle.std.proofs.Common.{◌≡◌, ℕ, ◌+◌, ◌<◌, refl, sym, subst}
+use Rattle.std.proofs.Common.{inl, ap, sym, subst}
+use Rattle.rg_theory.specs.System.{labels}
+use Rattle.rg_theory.specs.Region.{blocking}
+use Rattle.rg_theory.specs.declared.Problem.{Problem}
+use Rattle.rg_theory.specs.declared.Problem.TheVariants.{Event}
 use Rattle.rg_net.specs.Shown.{shown_place}
-use Rattle.rg_refuting.specs.Row.{cases_of}
-use Rattle.rg_outcome.specs.Solving.{Solved.placed}
 use Rattle.rg_cycles.specs.View.{cycle_of}
-use Rattle.rg_outcome.specs.Casing.{CaseResult, CaseComes}
-use Rattle.rg_outcome.proofs.Cases.{same_result}
-use Rattle.rg_separate.specs.declared.case.CaseAnswer.{CaseAnswer}
-use Rattle.rg_separate.specs.declared.problem.Tried.{Tried}
-use Rattle.rg_separate.specs.Deciding.{CaseTells, CaseComesTo, AreTried, CasesCameTo}
-use Rattle.rg_separate.proofs.Coming.{none_come, refuted_more, passed_more, place_first, live_comes}
-use Rattle.rg_separate.proofs.Trying.{tried_refuted, tried_passed}
+use Rattle.rg_places.specs.RegionPlaces.{PlaceSeparates}
+use Rattle.rg_outcome.specs.Solving.{Solved.placed, ProblemComes}
 use Rattle.rg_separate.proofs.problem.solve_problem.Goals as goal
-use Rattle.rg_separate.proofs.problem.solve_problem.Goals.{in-Refuted+in_ok-push-in-Refuted, in-Wide}
 
-pub returns-in-Place-clause-comes : goal.returns-in-Place-clause-comes
-returns-in-Place-clause-comes c =
-    let setting = c.args.setting in
-    let arcs = setting.tree.now.arcs in
-    let basis = cycle_of setting.basis.now in
-    let comes : ℕ → CaseResult → Type 0 = CaseComes setting.lts.now arcs basis setting.class c.args.problem in
-    let lt : c.loop-case.case < cases_of setting.lts.now setting.class c.args.problem = subst (λ (n : ℕ). c.loop-case.case < n) c.cases-case-end.ensures.value c.loop-case-test.true in
-    live_comes setting.lts.now arcs basis setting.class c.args.problem (placed (shown_place c.in-Place.region.place)) c.requires.live
-    (place_first comes (λ i r r'. same_result setting.lts.now arcs basis setting.class c.args.problem i r r') c.loop-case.case (cases_of setting.lts.now setting.class c.args.problem) c.loop-case.tried (shown_place c.in-Place.region.place) c.loop-case.invariant.come lt
-    (subst (CaseComesTo (record { setting = setting; problem = c.args.problem; number = c.loop-case.case })) c.in-Place.is c.in_ok-region.ensures.comes))
+pub blocked-requires-clause-dead : goal.blocked-requires-clause-dead
+blocked-requires-clause-dead c = c.is_dead.ensures.0 c.if-is_dead.true
 
-pub loop-case-preserved : goal.loop-case-preserved
-loop-case-preserved c =
+pub returns-in_ok-blocked-in-Event-clause-tells : goal.returns-in_ok-blocked-in-Event-clause-tells
+returns-in_ok-blocked-in-Event-clause-tells c = (
+  c.in_ok-blocked-in-Event.ensures.region c.args.setting.class,
+  subst (λ (p : Problem). PlaceSeparates p c.in_ok-blocked-in-Event.field-0) (sym c.in-Event.is) (c.in_ok-blocked-in-Event.ensures.separates c.in-Event.field-0),
+)
+
+pub returns-in_ok-blocked-in-Event-clause-comes : goal.returns-in_ok-blocked-in-Event-clause-comes
+returns-in_ok-blocked-in-Event-clause-comes c =
     let setting = c.args.setting in
-    let lts = c.args.setting.lts.now in
-    let class = c.args.setting.class in
-    let n = c.loop-case.case in
-    let comes : ℕ → CaseResult → Type 0 = CaseComes lts setting.tree.now.arcs (cycle_of setting.basis.now) class c.args.problem in
-    let one : (i : ℕ) (r r' : CaseResult) → comes i r → comes i r' → r ≡ r' = λ i r r'. same_result lts setting.tree.now.arcs (cycle_of setting.basis.now) class c.args.problem i r r' in
-    elim c.match-branch-2.branch [
-      | in-Refuted+in_ok-push-in-Refuted w ↦
-          (let after : Tried = record { refuted = w.push.new.self; passed = c.loop-case.tried.passed } in
-          record {
-            tried = subst (λ (t : Tried). AreTried lts class c.args.problem (n + 1) t) (sym w.tried-is)
-                (tried_refuted lts class c.args.problem n c.loop-case.tried after w.in-Refuted.case c.loop-case.invariant.tried w.in_ok-push-in-Refuted.ensures.items refl
-                (subst (CaseTells lts class c.args.problem n) w.in-Refuted.is c.in_ok-region.ensures.tells));
-            come = subst (λ (t : Tried). CasesCameTo setting c.args.problem (n + 1) t) (sym w.tried-is)
-                (refuted_more comes one n c.loop-case.tried after w.in-Refuted.case c.loop-case.invariant.come w.in_ok-push-in-Refuted.ensures.items refl
-                (subst (CaseComesTo (record { setting = setting; problem = c.args.problem; number = n })) w.in-Refuted.is c.in_ok-region.ensures.comes));
-          })
-      | in-Wide w ↦
-          record {
-            tried = subst (λ (t : Tried). AreTried lts class c.args.problem (n + 1) t) (sym w.tried-is)
-                (tried_passed lts class c.args.problem n (n + 1) c.loop-case.tried w.note.new.self w.in-Wide.at c.loop-case.invariant.tried w.note.ensures.passed
-                (subst (CaseTells lts class c.args.problem n) w.in-Wide.is c.in_ok-region.ensures.tells));
-            come = subst (λ (t : Tried). CasesCameTo setting c.args.problem (n + 1) t) (sym w.tried-is)
-                (passed_more comes one n c.loop-case.tried w.note.new.self w.in-Wide.at c.loop-case.invariant.come w.note.ensures.passed
-                (subst (CaseComesTo (record { setting = setting; problem = c.args.problem; number = n })) w.in-Wide.is c.in_ok-region.ensures.comes));
-          }
-    ]
+    subst (λ (p : Problem). ProblemComes setting.lts.now setting.tree.now.arcs (cycle_of setting.basis.now) setting.class p (placed (shown_place c.in_ok-blocked-in-Event.field-0.place))) (sym c.in-Event.is)
+    (inl (c.is_dead.ensures.0 c.if-is_dead.true, ap placed c.in_ok-blocked-in-Event.ensures.place))

@@ -1,5 +1,5 @@
 use Rattle.rg_separate.specs.Deciding.{AreTried, CasesCameTo}
-use Rattle.rg_separate.proofs.problem.solve_problem.Given as goal
+use Rattle.rg_separate.proofs.problem.solve_live.Given as goal
 
 abbrev pub invariant-loop-case : goal.invariant-loop-case
 invariant-loop-case l = record {
