@@ -1,4 +1,4 @@
--- The place of a problem in the order rises with the order.
+-- The place of a problem in the order, as a number, which rises with the order.
 use Rattle.std.proofs.Common.{◌≡◌, inl, inr, ℕ, suc, ◌+◌, ◌-◌, ◌*◌, ◌<◌, Option, None, Some, IfSome, ap, arith}
 use Rattle.std.proofs.Math.Nat.{mul-le-mul_right, suc-mul}
 use Rattle.rg_theory.specs.System.{System, states, labels}
@@ -6,7 +6,16 @@ use Rattle.rg_theory.specs.declared.Problem.{Problem}
 use Rattle.rg_theory.specs.declared.Problem.TheVariants.{Event, States}
 use Rattle.rg_theory.specs.Problem.{IsProblem, ComesBefore}
 use Rattle.rg_outcome.specs.Coming.{IsBehind}
-use Rattle.rg_blocks.specs.Ranks.{rank, top_rank}
+
+-- the place in the order of the last problem
+abbrev pub rank : System → Option Problem → ℕ
+rank lts None = 0
+rank lts (Some (Event s t)) = 1 + (s * labels lts + t)
+rank lts (Some (States s r)) = 1 + (states lts * labels lts + (s * states lts + r))
+
+-- a number above those of all problems
+abbrev pub top_rank : System → ℕ
+top_rank lts = 1 + (states lts * labels lts + states lts * states lts)
 
 more_rows : (s r n t u : ℕ) → s < r → t < n → s * n + t < r * n + u
 more_rows s r n t u lt below =

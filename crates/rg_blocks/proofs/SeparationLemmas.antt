@@ -10,8 +10,8 @@ use Rattle.rg_outcome.specs.Coming.{Separation.places, Separation.unsolvable, Se
 use Rattle.rg_outcome.specs.Blocks.{IsBlock, last_of, AfterBlock.kept_places, AfterBlock.refuted_one, TakenOver}
 use Rattle.rg_outcome.proofs.BlockLemmas.{taken_over, sound_after}
 use Rattle.rg_outcome.proofs.Existing.{all_separated_at, shows_its_term}
-use Rattle.rg_blocks.specs.declared.separation.SeparationOutcome.TheVariants as ended
-use Rattle.rg_blocks.specs.Taking.{LeadsTo, EndsAll, IsRight, IsEnd}
+use Rattle.rg_blocks.specs.declared.separation.SeparationOutcome.TheVariants as outcome
+use Rattle.rg_blocks.specs.Separating.{LeadsTo, EndsAll, EachPlaceSeparates, IsSeparationOutcome}
 
 pub block_leads : (lts : System) (comes : Problem → Solved → Type 0) (before now after : List Place) (last end : Option Problem) (problems : List Problem) → LeadsTo lts comes before now last → IsBlock lts now last problems → last_of last problems ≡ end
     → TakenOver lts comes now problems (kept_places after) → LeadsTo lts comes before after end
@@ -24,7 +24,7 @@ block_ends lts comes before now last problems q leads is (trees, taken) = (trees
 pub leads_start : (lts : System) (comes : Problem → Solved → Type 0) (before : List Place) → LeadsTo lts comes before before None
 leads_start lts comes before = record { leads = λ o d. d }
 
-pub block_sound : (lts : System) (comes : Problem → Solved → Type 0) (now after : List Place) (last end : Option Problem) (problems : List Problem) → IsAllReachable lts → IsRight lts comes → IsSound lts comes last now → IsBlock lts now last problems → last_of last problems ≡ end
+pub block_sound : (lts : System) (comes : Problem → Solved → Type 0) (now after : List Place) (last end : Option Problem) (problems : List Problem) → IsAllReachable lts → EachPlaceSeparates lts comes → IsSound lts comes last now → IsBlock lts now last problems → last_of last problems ≡ end
     → TakenOver lts comes now problems (kept_places after) → IsSound lts comes end after
 block_sound lts comes now after last end problems reachable right sound is e taken = subst (λ x. IsSound lts comes x after) e (sound_after lts comes reachable right.separate now now last problems (kept_places after) (λ q sep. sep) is taken sound)
 
@@ -36,10 +36,10 @@ refuted_has lts comes last kept q trees (keeps problem p is has d) = refuted_has
 refuted_has lts comes last kept q trees (goes_on problem w is has d) = refuted_has lts comes (Some problem) kept q trees d
 refuted_has lts comes last kept q trees (ends problem all is has) = (is.0.0.0, has)
 
-pub ends_refuted : (lts : System) (comes : Problem → Solved → Type 0) (before after : List Place) (q : Problem) → before ≡ [] → EndsAll lts comes before after (Some q) → IsEnd lts comes after (ended.Unsolvable q)
+pub ends_refuted : (lts : System) (comes : Problem → Solved → Type 0) (before after : List Place) (q : Problem) → before ≡ [] → EndsAll lts comes before after (Some q) → IsSeparationOutcome lts comes after (outcome.Unsolvable q)
 ends_refuted lts comes before after q none (trees, d) = record { o = unsolvable q trees; comes_to = subst (λ xs. ComesFrom lts comes None xs (unsolvable q trees)) none d; shows = (refl, (refuted_has lts comes None before q trees d).0, (refuted_has lts comes None before q trees d).1) }
 
-pub ends_left : (lts : System) (comes : Problem → Solved → Type 0) (before after : List Place) (q : Problem) → before ≡ [] → IsAllReachable lts → EndsAll lts comes before after None → IsNext lts after None q → IsEnd lts comes after (ended.TooWide q)
+pub ends_left : (lts : System) (comes : Problem → Solved → Type 0) (before after : List Place) (q : Problem) → before ≡ [] → IsAllReachable lts → EndsAll lts comes before after None → IsNext lts after None q → IsSeparationOutcome lts comes after (outcome.TooWide q)
 ends_left lts comes before after q none reachable (last, done, leads, sound) next =
     let first : IsFirstProblem (IsLeft lts after) q = (next.0.0, λ earlier less left. next.1 earlier less (left, tt)) in
     let (w, has) = shows_its_term lts comes reachable last after q sound done next.0.0 in
@@ -49,9 +49,11 @@ ends_left lts comes before after q none reachable (last, done, leads, sound) nex
       shows = (first, has);
     }
 
-pub ends_separated : (lts : System) (comes : Problem → Solved → Type 0) (before after : List Place) → before ≡ [] → IsAllReachable lts → EndsAll lts comes before after None → IsDone lts after None → IsEnd lts comes after ended.Separated
-ends_separated lts comes before after none reachable (last, done, leads, sound) all = record {
-  o = places after;
-  comes_to = subst (λ xs. ComesFrom lts comes None xs (places after)) none (leads.leads (places after) (all_separated (all_separated_at lts comes reachable after sound.regions (λ q left. all q tt left))));
-  shows = refl;
-}
+pub ends_separated : (lts : System) (comes : Problem → Solved → Type 0) (before after : List Place) → before ≡ [] → IsAllReachable lts → EndsAll lts comes before after None → IsDone lts after None → IsSeparationOutcome lts comes after outcome.Separated
+ends_separated lts comes before after none reachable (last, done, leads, sound) all =
+    let separate = all_separated_at lts comes reachable after sound.regions (λ q left. all q tt left) in
+    record {
+      o = places after;
+      comes_to = subst (λ xs. ComesFrom lts comes None xs (places after)) none (leads.leads (places after) (all_separated separate));
+      shows = (refl, separate);
+    }

@@ -14,7 +14,8 @@ use Rattle.rg_outcome.specs.Coming.{IsBehind}
 use Rattle.rg_outcome.specs.Blocks.{IsBlock, last_of}
 use Rattle.rg_outcome.proofs.BlockLemmas.{behind_too}
 use Rattle.rg_blocks.specs.declared.solving.SolvedProblem.{SolvedProblem}
-use Rattle.rg_blocks.specs.Taking.{IsSolvedBy, problems_of, AsksAll}
+use Rattle.rg_blocks.specs.Taking.{IsSolvedBy, problems_of}
+use Rattle.rg_blocks.specs.Separating.{AsksAll}
 
 same_list : (problems : List Problem) (xs : List SolvedProblem) → length xs ≡ length problems → ((i : ℕ) (x : SolvedProblem) → slice_get xs i ≡ Some x → slice_get problems i ≡ Some x.problem) → problems_of xs ≡ problems
 same_list [] [] e each = refl

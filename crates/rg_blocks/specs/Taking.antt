@@ -1,21 +1,17 @@
 -- What the problems of a block come to, and what comes of it.
-use Rattle.std.specs.Prelude.{◌≡◌, List, [], map, Option, None, Some}
+use Rattle.std.specs.Prelude.{List, map, Option, None, Some}
 use Rattle.rg_theory.specs.System.{System}
 use Rattle.rg_theory.specs.Net.{Place}
 use Rattle.rg_theory.specs.declared.Problem.{Problem}
-use Rattle.rg_theory.specs.Problem.{IsProblem}
 use Rattle.rg_net.specs.Shown.{shown_place}
 use Rattle.rg_places.specs.declared.region_place.RegionPlace.{RegionPlace}
 use Rattle.rg_refuting.specs.Refutes.{Tree}
 use Rattle.rg_order_of_work.specs.Shown.{Shown}
 use Rattle.rg_outcome.specs.Solving.{Solved, Solved.placed, Solved.refuted, Solved.passed}
-use Rattle.rg_outcome.specs.Coming.{Separation, Separation.places, Separation.unsolvable, Separation.too_wide, IsFirstProblem, IsLeft, IsDone, ComesFrom, Comes, PlacesSeparate, IsSound}
 use Rattle.rg_outcome.specs.Blocks.{AfterBlock.kept_places, AfterBlock.refuted_one, TakenOver}
 use Rattle.rg_blocks.specs.declared.solving.ProblemOutcome.{ProblemOutcome}
 use Rattle.rg_blocks.specs.declared.solving.ProblemOutcome.TheVariants as outcome
 use Rattle.rg_blocks.specs.declared.solving.SolvedProblem.{SolvedProblem}
-use Rattle.rg_blocks.specs.declared.separation.SeparationOutcome.{SeparationOutcome}
-use Rattle.rg_blocks.specs.declared.separation.SeparationOutcome.TheVariants as ended
 
 -- the problem comes to this; of a place the fact holds that is said of all
 abbrev pub IsOutcome : (Problem → Solved → Type 0) → (RegionPlace → Type 0) → Problem → ProblemOutcome → Type 0
@@ -37,34 +33,3 @@ pub record AreKeepable (makes may_keep : RegionPlace → Type 0) : Type 0 where
 abbrev pub IsTakenOver : System → (Problem → Solved → Type 0) → List Place → List Problem → List Place → Option Problem → Type 0
 IsTakenOver lts comes before problems after None = TakenOver lts comes before problems (kept_places after)
 IsTakenOver lts comes before problems after (Some q) = (trees : List Tree) × TakenOver lts comes before problems (refuted_one q trees)
-
--- each problem of the system may be solved
-pub record AsksAll (lts : System) (asks : Problem → Type 0) : Type 0 where
-  pub each : (problem : Problem) → IsProblem lts problem → asks problem
-
--- what comes behind the last problem, with the places kept now, comes of all problems
-pub record LeadsTo (lts : System) (comes : Problem → Solved → Type 0) (before now : List Place) (last : Option Problem) : Type 0 where
-  pub leads : (o : Separation) → ComesFrom lts comes last now o → ComesFrom lts comes None before o
-
--- no problem is left behind some last one, or this one was refuted
-abbrev pub EndsAll : System → (Problem → Solved → Type 0) → List Place → List Place → Option Problem → Type 0
-EndsAll lts comes before after None = (last : Option Problem) × IsDone lts after last × LeadsTo lts comes before after last × IsSound lts comes last after
-EndsAll lts comes before after (Some q) = (trees : List Tree) × ComesFrom lts comes None before (unsolvable q trees)
-
--- what is asked of the solving of problems
-pub record IsRight (lts : System) (comes : Problem → Solved → Type 0) : Type 0 where
-  pub separate : PlacesSeparate lts comes
-
--- what all problems come to, as code tells it: places that separate all, the problem that is refuted, or the first that is left, which shows
--- its term
-abbrev pub ShowsSeparation : System → (Problem → Solved → Type 0) → List Place → SeparationOutcome → Separation → Type 0
-ShowsSeparation lts comes after ended.Separated (places kept) = kept ≡ after
-ShowsSeparation lts comes after (ended.Unsolvable q) (unsolvable problem trees) = (problem ≡ q) × IsProblem lts q × comes q (refuted trees)
-ShowsSeparation lts comes after (ended.TooWide q) (too_wide w) = IsFirstProblem (IsLeft lts after) q × comes q (passed w)
-ShowsSeparation lts comes after _ _ = ⊥
-
--- all problems come to this
-pub record IsEnd (lts : System) (comes : Problem → Solved → Type 0) (after : List Place) (e : SeparationOutcome) : Type 0 where
-  pub o : Separation
-  pub comes_to : Comes lts comes o
-  pub shows : ShowsSeparation lts comes after e o

@@ -16,6 +16,6 @@ pub use block::{next_block, solve_block};
 pub use keeping::Keeping;
 pub use left::next_problem;
 pub use rg_memory::NoMemory;
-pub use separation::{SeparationOutcome, separate_all, solve_all};
+pub use separation::{SeparationOutcome, separate_all};
 pub use solving::{ProblemOutcome, SolvedProblem, Solving};
 pub use taking::{solve_in_turn, take_over};

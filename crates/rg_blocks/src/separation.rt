@@ -3,7 +3,8 @@ ghost use Rattle.std.specs.Prelude.{◌≡◌, ◌≤◌, [], All, IfOk, OnOk, N
 ghost use Rattle.rg_theory.specs.System.{IsAllReachable};
 ghost use Rattle.rg_theory.specs.Problem.{IsProblem};
 ghost use Rattle.rg_outcome.specs.Coming.{IsSound};
-ghost use Rattle.rg_blocks.specs.Taking.{IsTakenOver, AreKeepable, AsksAll, EndsAll, IsRight, IsEnd};
+ghost use Rattle.rg_blocks.specs.Taking.{IsTakenOver, AreKeepable};
+ghost use Rattle.rg_blocks.specs.Separating.{AsksAll, EndsAll, EachPlaceSeparates, IsSeparationOutcome};
 
 use crate::block::{next_block, solve_block};
 use crate::keeping::Keeping;
@@ -55,9 +56,9 @@ fn take_block<R: Threads + Sync, K: Keeping, S: Solving + Sync, G: Gate + Sync>(
     take_over(lts, kept, solving, solved)
 }
 
-/// Takes all problems, block by block, as long as one is left behind the last one. The first problem that is refuted ends it, and is given;
-/// None where none is. `NoMemory` where there is none.
-pub fn solve_all<R: Threads + Sync, K: Keeping, S: Solving + Sync, G: Gate + Sync>(
+// Takes all problems, block by block, as long as one is left behind the last one. The first problem that is refuted ends it, and is given;
+// None where none is.
+fn solve_all<R: Threads + Sync, K: Keeping, S: Solving + Sync, G: Gate + Sync>(
     rt: &R,
     alloc: Global,
     lts: &Lts,
@@ -69,7 +70,7 @@ pub fn solve_all<R: Threads + Sync, K: Keeping, S: Solving + Sync, G: Gate + Syn
     requires some { 1 ≤ jobs }
     requires asked { AsksAll lts.now (S.asks solving.now) }
     requires reachable { IsAllReachable lts.now }
-    requires right { IsRight lts.now (S.comes solving.now) }
+    requires separating { EachPlaceSeparates lts.now (S.comes solving.now) }
     requires kept { K.keeps_for kept.old lts.now }
     requires keepable { AreKeepable (S.makes solving.now) (K.may_keep lts.now) }
     requires sound { IsSound lts.now (S.comes solving.now) None (K.places kept.old) }
@@ -104,12 +105,12 @@ pub fn separate_all<R: Threads + Sync, K: Keeping, S: Solving + Sync, G: Gate + 
     requires some { 1 ≤ jobs }
     requires asked { AsksAll lts.now (S.asks solving.now) }
     requires reachable { IsAllReachable lts.now }
-    requires right { IsRight lts.now (S.comes solving.now) }
+    requires separating { EachPlaceSeparates lts.now (S.comes solving.now) }
     requires kept { K.keeps_for kept.old lts.now }
     requires keepable { AreKeepable (S.makes solving.now) (K.may_keep lts.now) }
     requires empty { K.places kept.old ≡ [] }
     ensures kept { OnOk result (K.keeps_for kept.new lts.now) }
-    ensures comes { IfOk result (IsEnd lts.now (S.comes solving.now) (K.places kept.new)) }
+    ensures comes { IfOk result (IsSeparationOutcome lts.now (S.comes solving.now) (K.places kept.new)) }
 {
     let refuted = solve_all(rt, alloc, lts, kept, solving, jobs, gate)?;
     match refuted {

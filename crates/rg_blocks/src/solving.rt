@@ -24,7 +24,9 @@ pub enum ProblemOutcome {
 /// A problem, and what it comes to.
 #[derive(Drop)]
 pub struct SolvedProblem {
+    /// The problem.
     pub problem: Problem,
+    /// What it comes to.
     pub outcome: ProblemOutcome,
 }
 

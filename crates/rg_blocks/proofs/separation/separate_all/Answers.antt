@@ -1,5 +1,5 @@
 use Rattle.std.proofs.Common.{subst}
-use Rattle.rg_blocks.specs.Taking.{EndsAll}
+use Rattle.rg_blocks.specs.Separating.{EndsAll}
 use Rattle.rg_blocks.proofs.SeparationLemmas.{ends_refuted, ends_left, ends_separated}
 use Rattle.rg_blocks.proofs.separation.separate_all.Goals as goal
 

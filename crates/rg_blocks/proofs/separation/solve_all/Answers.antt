@@ -47,6 +47,6 @@ loop-block-preserved g c =
     let taken_all = subst (IsTakenOver lts comes now c.in_ok-block.block.items after) c.in_default.is taken in (
       block_leads lts comes before now after c.loop-block.last _ c.in_ok-block.block.items c.loop-block.invariant.0 c.in_ok-block.ensures.block end.0 taken_all,
       end.1,
-      block_sound lts comes now after c.loop-block.last _ c.in_ok-block.block.items c.requires.reachable c.requires.right c.loop-block.invariant.2 c.in_ok-block.ensures.block end.0 taken_all,
+      block_sound lts comes now after c.loop-block.last _ c.in_ok-block.block.items c.requires.reachable c.requires.separating c.loop-block.invariant.2 c.in_ok-block.ensures.block end.0 taken_all,
       c.in_ok-refuted.ensures.kept,
     )

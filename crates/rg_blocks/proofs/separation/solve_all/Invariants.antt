@@ -1,8 +1,8 @@
 use Rattle.std.proofs.Common.{◌-◌, IfSome}
 use Rattle.rg_theory.specs.Problem.{IsProblem}
 use Rattle.rg_outcome.specs.Coming.{IsSound}
-use Rattle.rg_blocks.specs.Taking.{LeadsTo}
-use Rattle.rg_blocks.specs.Ranks.{rank, top_rank}
+use Rattle.rg_blocks.specs.Separating.{LeadsTo}
+use Rattle.rg_blocks.proofs.RankLemmas.{rank, top_rank}
 use Rattle.rg_blocks.proofs.separation.solve_all.Given as goal
 
 abbrev pub invariant-loop-block : goal.invariant-loop-block
