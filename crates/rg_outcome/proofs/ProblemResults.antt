@@ -68,7 +68,7 @@ beside_is (x ∷ xs) at order (suc i) lt = ⊎_elim (λ same. absurd (differs (e
     differs : x ≢ slice_index_or xs i 0
     differs e = let k = above in omega arith
 
-in_order : (test : ℕ → Bool) (a n : ℕ) → IsInOrder (numbers_where test a n)
+pub in_order : (test : ℕ → Bool) (a n : ℕ) → IsInOrder (numbers_where test a n)
 in_order test a zero = tt
 in_order test a (suc n) = by (test a) (in_order test (suc a) n)
   where

@@ -151,7 +151,7 @@ same_number (negsuc a) (negsuc b) = by (cases_eq a b)
     by (inl e) = inl (ap negsuc e)
     by (inr differ) = inr (λ e. differ (let f : a ≡ b = omega (arith, ints) in f))
 
-same_numbers : (xs ys : List ℤ) → (xs ≡ ys) ⊎ ¬ (xs ≡ ys)
+pub same_numbers : (xs ys : List ℤ) → (xs ≡ ys) ⊎ ¬ (xs ≡ ys)
 same_numbers [] [] = inl refl
 same_numbers [] (y ∷ ys) = inr (λ e. absurd cc)
 same_numbers (x ∷ xs) [] = inr (λ e. absurd cc)
@@ -170,20 +170,20 @@ same_row a b = by (same_numbers a.coeffs b.coeffs) (same_number a.constant b.con
     by (inl e) (inr differ) = inr (λ f. differ (ap (λ r. r.constant) f))
     by (inr differ) _ = inr (λ f. differ (ap (λ r. r.coeffs) f))
 
-among : (seen : List LinearRow) (row : LinearRow) → Contains seen row ⊎ ¬ Contains seen row
-among [] row = inr (λ (k, lt, e). (omega arith))
-among (x ∷ seen) row = by (same_row x row) (among seen row)
+pub among : {K : Type 0} → ((a b : K) → (a ≡ b) ⊎ ¬ (a ≡ b)) → (seen : List K) (x : K) → Contains seen x ⊎ ¬ Contains seen x
+among same [] x = inr (λ (k, lt, e). (omega arith))
+among {K} same (y ∷ seen) x = by (same y x) (among same seen x)
   where
-    by : (x ≡ row) ⊎ ¬ (x ≡ row) → Contains seen row ⊎ ¬ Contains seen row → Contains (x ∷ seen) row ⊎ ¬ Contains (x ∷ seen) row
-    by (inl e) _ = inl (subst (λ r. Contains (x ∷ seen) r) e (first x seen))
-    by (inr differ) (inl has) = inl (behind x row seen has)
-    by (inr differ) (inr lacks) = inr (λ has. neither differ lacks (Contains-cons_cases x row seen has))
-      where
-        neither : ¬ (x ≡ row) → ¬ Contains seen row → (x ≡ row) ⊎ Contains seen row → ⊥
-        neither a b (inl e) = a e
-        neither a b (inr h) = b h
+    neither : ¬ (y ≡ x) → ¬ Contains seen x → (y ≡ x) ⊎ Contains seen x → ⊥
+    neither a b (inl e) = a e
+    neither a b (inr h) = b h
 
-all_zero : (numbers : List ℤ) → IsZeroVector numbers ⊎ ¬ IsZeroVector numbers
+    by : (y ≡ x) ⊎ ¬ (y ≡ x) → Contains seen x ⊎ ¬ Contains seen x → Contains (y ∷ seen) x ⊎ ¬ Contains (y ∷ seen) x
+    by (inl e) _ = inl (subst (λ z. Contains (y ∷ seen) z) e (first y seen))
+    by (inr differ) (inl has) = inl (behind y x seen has)
+    by (inr differ) (inr lacks) = inr (λ has. neither differ lacks (Contains-cons_cases y x seen has))
+
+pub all_zero : (numbers : List ℤ) → IsZeroVector numbers ⊎ ¬ IsZeroVector numbers
 all_zero [] = inl (All-nil (λ z. z ≡ pos 0))
 all_zero (z ∷ numbers) = by (same_number z (pos 0)) (all_zero numbers)
   where
@@ -200,13 +200,13 @@ idle k = by (all_zero k.row.coeffs) k.row.constant refl
     by (inl zeros) (negsuc n) e = inr (λ (_, least). (let least' : pos 0 ≤ℤ negsuc n = subst (λ c. pos 0 ≤ℤ c) e least in omega (arith, ints)))
     by (inr some) c e = inr (λ (zeros, _). some zeros)
 
-some_firsts : (seen : List LinearRow) (xs : List KeptRow) → (kept : List KeptRow) × KeepsFirsts (λ k. k.row) IsIdle seen xs kept
-some_firsts seen [] = ([], refl)
-some_firsts seen (x ∷ xs) = by (idle x) (among seen x.row) (some_firsts seen xs) (some_firsts (x.row ∷ seen) xs)
+pub some_firsts : {X K : Type 0} (key : X → K) (Drops : X → Type 0) → ((x : X) → Drops x ⊎ ¬ Drops x) → ((a b : K) → (a ≡ b) ⊎ ¬ (a ≡ b)) → (seen : List K) (xs : List X) → (kept : List X) × KeepsFirsts key Drops seen xs kept
+some_firsts key Drops drops same seen [] = ([], refl)
+some_firsts {X} {K} key Drops drops same seen (x ∷ xs) = by (drops x) (among same seen (key x)) (some_firsts key Drops drops same seen xs) (some_firsts key Drops drops same (key x ∷ seen) xs)
   where
-    by : IsIdle x ⊎ ¬ IsIdle x → Contains seen x.row ⊎ ¬ Contains seen x.row → (kept : List KeptRow) × KeepsFirsts (λ k. k.row) IsIdle seen xs kept → (kept : List KeptRow) × KeepsFirsts (λ k. k.row) IsIdle (x.row ∷ seen) xs kept
-        → (kept : List KeptRow) × KeepsFirsts (λ k. k.row) IsIdle seen (x ∷ xs) kept
-    by (inl drops) _ (kept, keeps) _ = (kept, inl (inl drops, keeps))
+    by : Drops x ⊎ ¬ Drops x → Contains seen (key x) ⊎ ¬ Contains seen (key x) → (kept : List X) × KeepsFirsts key Drops seen xs kept → (kept : List X) × KeepsFirsts key Drops (key x ∷ seen) xs kept
+        → (kept : List X) × KeepsFirsts key Drops seen (x ∷ xs) kept
+    by (inl dropped) _ (kept, keeps) _ = (kept, inl (inl dropped, keeps))
     by (inr stays) (inl has) (kept, keeps) _ = (kept, inl (inr has, keeps))
     by (inr stays) (inr lacks) _ (kept, keeps) = (x ∷ kept, inr (stays, lacks, (kept, refl, keeps)))
 
@@ -224,4 +224,4 @@ some_system lts arcs basis class problem number related =
     (λ all _. some_then (each (form_fold lts arcs basis class) (split_forms lts class)) (λ forms. kept_of lts basis class all forms) (some_each (form_fold lts arcs basis class) (split_forms lts class) (λ form has. some_form lts arcs basis class form related)) (λ forms _. kept all forms))
   where
     kept : (all : List KeptRow) (forms : List Form) → HasSome (kept_of lts basis class all forms)
-    kept all forms = let (rows, keeps) = some_firsts [] all in (Ok (record { columns = column_count lts basis class; kept = rows; forms = forms }), (refl, keeps, refl))
+    kept all forms = let (rows, keeps) = some_firsts (λ (k : KeptRow). k.row) IsIdle idle same_row [] all in (Ok (record { columns = column_count lts basis class; kept = rows; forms = forms }), (refl, keeps, refl))

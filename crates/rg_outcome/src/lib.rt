@@ -61,10 +61,11 @@ pub fn placed_separates()
     ensures { (lts : System) (arcs : List Arc) (basis : CycleBasis) (class : Class) (problem : Problem) (p : Place) → IsInRange lts → IsAllReachable lts → IsTree lts arcs → IsBasis lts arcs basis → IsProblem lts problem → ProblemComes lts arcs basis class problem (Solved.placed p) → IsSeparatedIn lts class problem p }
 {}
 
-/// A search for places comes to one result, and a system and a class have one answer.
+/// A search for places comes to one result. A system and a class have one answer, and always one.
 pub fn outcome_is_one()
     ensures search { (lts : System) (class : Class) (o o' : Separation) → Searched lts class o → Searched lts class o' → o ≡ o' }
     ensures answer { (lts : System) (class : Class) (a a' : Answer) → Out lts class a → Out lts class a' → a ≡ a' }
+    ensures some { (lts : System) (class : Class) → IsInRange lts → (a : Answer) × Out lts class a }
 {
     one_least_fork();
     pruned_is_one();
