@@ -1,10 +1,12 @@
 //! The descent made a second time, over a table, with its exchanges counted.
 
-ghost use Rattle.std.specs.Prelude.{◌≢◌, ◌+◌, ◌<◌, ◌≤◌, length, pos, IfSome};
+ghost use Rattle.std.specs.Prelude.{◌≡◌, ◌≢◌, ◌+◌, ◌<◌, ◌≤◌, length, pos, IfSome, OnOk};
 ghost use Rattle.rg_integers.specs.Sum.{number_at};
+ghost use Rattle.rg_linear.specs.Dictionary.{numbers_from};
+ghost use Rattle.rg_linear.specs.View.{linear_system, IsWellFormed};
 
 use rg_dictionary::Dictionary as Table;
-use rg_linear::System;
+use rg_linear::{Row, System};
 use std::alloc::{AllocError, Global};
 
 // What came of a row.
@@ -38,14 +40,28 @@ pub(crate) struct Counted {
 pub(crate) fn table_of(alloc: Global, system: &System) -> Result<Table, AllocError> {
     let rows = system.rows();
     let mut table = Table::with_columns(alloc, system.columns(), rows.len() as u32)?;
-    for row in rows {
-        table.push_row(&row.coeffs, row.constant);
-    }
+    add_rows(&mut table, rows);
     Ok(table)
 }
 
+/// Adds rows behind those of the table, which is over its columns.
+pub(crate) fn add_rows(table: &mut Table, rows: &[Row])
+    requires start { table.old.members ≡ numbers_from 0 table.old.columns }
+    requires room { length rows.now ≤ table.old.room }
+    requires well_formed { IsWellFormed (linear_system table.old.columns rows.now) }
+    ensures members { table.new.members ≡ table.old.members }
+    ensures columns { table.new.columns ≡ table.old.columns }
+    ensures room { table.new.room + length rows.now ≡ table.old.room }
+{
+    for row in rows {
+        table.push_row(&row.coeffs, row.constant);
+    }
+}
+
 /// Makes the descent, and cuts it off once it has taken so many rows. Each row goes by its variable: the columns come first.
-pub(crate) fn descend(alloc: Global, mut table: Table, most: u64) -> Result<Counted, AllocError> {
+pub(crate) fn descend(alloc: Global, table: &mut Table, most: u64) -> Result<Counted, AllocError>
+    ensures { OnOk result (table.new.columns ≡ table.old.columns) }
+{
     let mut counted = Counted {
         ending: Ending::CutOff,
         exchanges: 0,
@@ -67,7 +83,7 @@ pub(crate) fn descend(alloc: Global, mut table: Table, most: u64) -> Result<Coun
                 }
             }
         } else {
-            match take_row(&mut table, &stack, row) {
+            match take_row(table, &stack, row) {
                 Step::Passed => row += 1,
                 Step::Stuck => {
                     counted.ending = Ending::Refuted;
@@ -91,7 +107,9 @@ pub(crate) fn descend(alloc: Global, mut table: Table, most: u64) -> Result<Coun
 }
 
 // Takes the row of this variable, where the variables of the stack are fixed.
-fn take_row(table: &mut Table, stack: &[u32], pivot: u32) -> Step {
+fn take_row(table: &mut Table, stack: &[u32], pivot: u32) -> Step
+    ensures { table.new.columns ≡ table.old.columns }
+{
     if pivot >= table.variables() || table.contains(pivot) {
         return Step::Passed;
     }

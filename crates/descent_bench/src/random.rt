@@ -8,8 +8,8 @@ use std::alloc::{AllocError, Global};
 
 // An xorshift generator of 64 bits (Marsaglia, *Xorshift RNGs*).
 #[derive(Drop)]
-struct Generator {
-    state: u64,
+pub(crate) struct Generator {
+    pub(crate) state: u64,
 }
 
 impl Generator {
@@ -28,6 +28,11 @@ impl Generator {
         ensures { InRange result }
     {
         i128::from((self.next() >> 32) % 7) - 3
+    }
+
+    // A number from 0 to `most`.
+    pub(crate) fn up_to(&mut self, most: u8) -> i64 {
+        ((self.next() >> 32) % (u64::from(most) + 1)) as i64
     }
 
     // A number from -5 to 5.

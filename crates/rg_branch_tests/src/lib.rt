@@ -4,8 +4,6 @@
 #[cfg(test)]
 mod agreeing;
 #[cfg(test)]
-mod asking;
-#[cfg(test)]
 mod plain;
 #[cfg(test)]
 mod random;

@@ -1,6 +1,6 @@
 //! Small systems worked by hand.
-use crate::asking::{Top, can_branch};
 use crate::systems::{Told, ToldForm, forms, system};
+use rg_bounded_forms::{Top, can_branch};
 use rg_branch::{BranchStop, RawNode, Whole, solve_whole};
 use rg_feasible::PivotWide;
 use rg_fraction::{Fraction, Wide};

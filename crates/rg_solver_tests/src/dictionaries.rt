@@ -1,4 +1,6 @@
 //! Exchanges in a dictionary.
+ghost use Rattle.rg_dictionary.specs.Contents.{SameShape};
+
 use rg_dictionary::{Dictionary, ExchangeWide};
 use rg_fraction::Wide;
 use std::process::Abort;
@@ -10,7 +12,9 @@ fn exchange(
     dictionary: &mut Dictionary,
     pivot: u32,
     place: usize,
-) -> Result<(), ExchangeWide> {
+) -> Result<(), ExchangeWide>
+    ensures { SameShape dictionary.old dictionary.new }
+{
     assert!(rt; pivot < dictionary.variables() && !dictionary.contains(pivot));
     assert!(rt; place < dictionary.members().len());
     let numbers = dictionary.numbers(pivot);
@@ -84,5 +88,25 @@ fn greatest_number_fits(rt: HostRuntime) -> Result<(), Fail> {
     dictionary.push_row(&[1], -half - 1);
     assert_eq!(rt; exchange(&rt, &mut dictionary, 1, 0), Ok(()));
     shows(&rt, &dictionary, 2, &[1, -most, 1]);
+    Ok(())
+}
+
+#[test]
+fn restart_takes_rows_away(rt: HostRuntime) -> Result<(), Fail> {
+    // 2*x0 + 4*x1 + 8 in place of x0; then 3*x0 + 5*x1 + 7, for which there is room; then two rows, for one more
+    let mut dictionary = Dictionary::with_columns(rt.alloc(), 2, 1)?;
+    dictionary.push_row(&[2, 4], 8);
+    assert_eq!(rt; exchange(&rt, &mut dictionary, 2, 0), Ok(()));
+    assert_eq!(rt; dictionary.members(), [1, 2].as_slice());
+    dictionary.restart(0)?;
+    assert_eq!(rt; dictionary.rows(), 0);
+    assert_eq!(rt; dictionary.members(), [0, 1].as_slice());
+    dictionary.push_row(&[3, 5], 7);
+    shows(&rt, &dictionary, 2, &[1, 7, 3, 5]);
+    dictionary.restart(2)?;
+    dictionary.push_row(&[1, 1], 0);
+    dictionary.push_row(&[1, -1], 0);
+    shows(&rt, &dictionary, 3, &[1, 0, 1, -1]);
+    assert_eq!(rt; dictionary.variables(), 4);
     Ok(())
 }

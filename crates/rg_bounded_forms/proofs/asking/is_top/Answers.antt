@@ -1,9 +1,9 @@
 use Rattle.std.proofs.Common.{rules, ◌≡◌, ◌<◌, length}
 use Rattle.std.specs.Prelude.{pos, ◌*ℤ◌, ◌≤ℤ◌, ◌<ℤ◌, neg_ℤ}
 use Rattle.rg_integers.proofs.Casts.{casts}
-use Rattle.rg_branch_tests.specs.Bounds.{AreTimes}
-use Rattle.rg_branch_tests.proofs.Bounding.{top_asked}
-use Rattle.rg_branch_tests.proofs.asking.is_top.Goals as goal
+use Rattle.rg_bounded_forms.specs.Bounds.{AreTimes}
+use Rattle.rg_bounded_forms.proofs.Bounding.{top_asked}
+use Rattle.rg_bounded_forms.proofs.asking.is_top.Goals as goal
 
 pub returns-then-row-most : goal.returns-then-row-most
 returns-then-row-most c = λ e.

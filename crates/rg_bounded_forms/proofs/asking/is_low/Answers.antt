@@ -1,8 +1,8 @@
 use Rattle.std.proofs.Common.{rules, ◌≡◌, ◌<◌, length}
 use Rattle.std.specs.Prelude.{◌*ℤ◌, ◌≤ℤ◌, neg_ℤ}
 use Rattle.rg_integers.proofs.Casts.{casts}
-use Rattle.rg_branch_tests.proofs.Bounding.{low_asked}
-use Rattle.rg_branch_tests.proofs.asking.is_low.Goals as goal
+use Rattle.rg_bounded_forms.proofs.Bounding.{low_asked}
+use Rattle.rg_bounded_forms.proofs.asking.is_low.Goals as goal
 
 pub returns : goal.returns
 returns c = λ e.

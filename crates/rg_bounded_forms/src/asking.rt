@@ -1,19 +1,22 @@
-//! Whether a branching may be asked for.
+//! Tests whether a branching may be asked for.
 ghost use Rattle.std.specs.Prelude.{◌≡◌, pos, ◌-ℤ◌, ◌*ℤ◌, ◌≤ℤ◌, All, IsTrue, IfSome};
 ghost use Rattle.rg_integers.specs.Range.{InRange};
 ghost use Rattle.rg_branch.specs.Asked.{IsFormOf, CanBranch};
-ghost use Rattle.rg_branch_tests.specs.Bounds.{AreTimes, IsLow, IsTop};
+ghost use Rattle.rg_bounded_forms.specs.Bounds.{AreTimes, IsLow, IsTop};
 
 use rg_branch::Bounded;
 use rg_fraction::whole_product;
 use rg_linear::System;
 
+// So many forms are tested at most.
+const MOST_FORMS: usize = 1000;
+
 /// A row that bounds a form from above: its coefficients are those of the form, each times `-times`, where `times` is
 /// above 0.
-#[derive(Clone, Copy)]
-pub(crate) struct Top {
-    pub(crate) row: u32,
-    pub(crate) times: i128,
+#[derive(Clone, Copy, PartialEq, Eq, Debug)]
+pub struct Top {
+    pub row: u32,
+    pub times: i128,
 }
 
 // Whether the number is the other one times the factor.
@@ -133,12 +136,12 @@ fn gap(low: i64, high: i64) -> u64
     high.abs_diff(low)
 }
 
-/// Whether `solve_whole` may be asked: each form is one of the system, its own row bounds it from below, and its top
-/// row from above.
-pub(crate) fn can_branch(system: &System, forms: &[Bounded], tops: &[Top]) -> bool
+/// Whether `solve_whole` may be asked, as far as single rows tell: each form is one of the system, its own row bounds it
+/// from below, and its top row from above. There is one top for each form, and up to 1,000 forms.
+pub fn can_branch(system: &System, forms: &[Bounded], tops: &[Top]) -> bool
     ensures { IsTrue result → CanBranch system.now forms.now }
 {
-    if tops.len() != forms.len() || forms.len() > 1000 {
+    if tops.len() != forms.len() || forms.len() > MOST_FORMS {
         return false;
     }
     let mut room = 0u64;

@@ -22,7 +22,7 @@ use Rattle.rg_branch.specs.Asked.{IsFormOf, CanBranch}
 use Rattle.rg_branch.proofs.Values.{form_value, most_of_times}
 use Rattle.rg_branch.proofs.Nodes.{form_here}
 use Rattle.rg_branch.proofs.Points.{form_is}
-use Rattle.rg_branch_tests.specs.Bounds.{AreTimes, IsLow, IsTop, IsBoundedForm}
+use Rattle.rg_bounded_forms.specs.Bounds.{AreTimes, IsLow, IsTop, IsBoundedForm}
 
 -- ---- numbers
 

@@ -5,8 +5,8 @@ use Rattle.std.proofs.lemmas.Int.{to_z-of_z}
 use Rattle.std.proofs.lemmas.List.{length-map}
 use Rattle.rg_linear.specs.View.{linear_row}
 use Rattle.rg_branch.specs.Asked.{IsFormOf}
-use Rattle.rg_branch_tests.proofs.Bounding.{AreKnown, bounded_form, one_more_known, all_known}
-use Rattle.rg_branch_tests.proofs.asking.can_branch.Goals as goal
+use Rattle.rg_bounded_forms.proofs.Bounding.{AreKnown, bounded_form, one_more_known, all_known}
+use Rattle.rg_bounded_forms.proofs.asking.can_branch.Goals as goal
 
 pub loop-f-preserved : goal.loop-f-preserved
 loop-f-preserved c =

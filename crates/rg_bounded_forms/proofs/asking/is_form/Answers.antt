@@ -3,9 +3,9 @@ use Rattle.std.specs.Prelude.{pos, ◌*ℤ◌, ◌≤ℤ◌, ◌<ℤ◌, All, Fi
 use Rattle.std.specs.Int.{w128}
 use Rattle.rg_integers.specs.Range.{InRange}
 use Rattle.rg_integers.proofs.Casts.{casts}
-use Rattle.rg_branch_tests.specs.Bounds.{AreTimes}
-use Rattle.rg_branch_tests.proofs.Bounding.{form_asked}
-use Rattle.rg_branch_tests.proofs.asking.is_form.Goals as goal
+use Rattle.rg_bounded_forms.specs.Bounds.{AreTimes}
+use Rattle.rg_bounded_forms.proofs.Bounding.{form_asked}
+use Rattle.rg_bounded_forms.proofs.asking.is_form.Goals as goal
 
 pub returns-then-is_in_range : goal.returns-then-is_in_range
 returns-then-is_in_range c = λ e.
