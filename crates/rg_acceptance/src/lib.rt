@@ -10,6 +10,8 @@ mod harness;
 #[cfg(test)]
 mod inseparable;
 #[cfg(test)]
+mod laws;
+#[cfg(test)]
 mod refutations;
 #[cfg(test)]
 mod systems;

@@ -1,9 +1,6 @@
-use Rattle.std.proofs.Common.{◌≡◌, List, map, sym, subst, ◌∙◌}
+use Rattle.std.proofs.Common.{◌≡◌, sym, subst, ◌∙◌}
 use Rattle.rg_theory.specs.System.{labels}
-use Rattle.rg_theory.specs.Net.{Place}
 use Rattle.rg_theory.specs.Problem.{SeparateAll}
-use Rattle.rg_theory.specs.Solves.{Solves}
-use Rattle.rg_net.specs.Shown.{shown_place}
 use Rattle.rg_prune_tests.proofs.Narrowing.{narrow_places}
 use Rattle.rg_prune_tests.proofs.rows.left.Goals as goal
 
