@@ -5,10 +5,10 @@
     bench/families.py run crates/regions/out/regions [none pure ..]
     bench/families.py beside EARLIER crates/regions/out/regions [none pure ..]
 
-`run` prints for each system and class (`none` and `pure`, unless classes are named) the status, the seconds, the peak memory as
-GNU time tells it, the numbers of states and of separation problems, how many places the net has, and what err says. `beside` runs
-an earlier program first, and prints its seconds, memory and places in columns of their own: a program that prunes no places shows
-how many are found. It is run by hand and is no test.
+`run` prints for each system and class (`none`, `pure`, `safe` and `pure,plain,safe`, unless classes are named) the status, the
+seconds, the peak memory as GNU time tells it, the numbers of states and of separation problems, how many places the net has, and
+what err says. `beside` runs an earlier program first, and prints its seconds, memory and places in columns of their own: a program
+that prunes no places shows how many are found. It is run by hand and is no test.
 """
 import itertools
 import os
@@ -106,6 +106,7 @@ def prefixes(n):
     return states, ['c', 'd'] + [f't{i}' for i in range(n + 1)], arcs
 
 
+CLASSES = ('none', 'pure', 'safe', 'pure,plain,safe')
 FAMILIES = {'grid': grid, 'doubling': doubling, 'lock': lock, 'philosophers': philosophers,
             'star': star, 'word': word, 'prefixes': prefixes}
 SIZES = {'grid': (10, 20, 40, 63), 'lock': (2, 3, 4, 5, 6), 'doubling': (20, 40), 'philosophers': (3, 4, 5, 6),
@@ -162,9 +163,9 @@ def main():
     if len(words) == 3 and words[0] == 'write' and words[1] in FAMILIES:
         sys.stdout.write(text(*FAMILIES[words[1]](int(words[2]))))
     elif len(words) >= 2 and words[0] == 'run':
-        run(words[1:2], words[2:] or ['none', 'pure'])
+        run(words[1:2], words[2:] or CLASSES)
     elif len(words) >= 3 and words[0] == 'beside':
-        run(words[1:3], words[3:] or ['none', 'pure'])
+        run(words[1:3], words[3:] or CLASSES)
     else:
         sys.exit(__doc__)
 
