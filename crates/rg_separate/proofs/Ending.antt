@@ -22,7 +22,7 @@ use Rattle.rg_outcome.specs.Coming.{PlacesSeparate, Comes, Separation.places, Se
 use Rattle.rg_outcome.specs.Outcome.{Searched, Searched.a_cycle, Searched.all_problems}
 use Rattle.rg_outcome.proofs.Solvings.{same_solved}
 use Rattle.rg_outcome.proofs.Placed.{placed_separates}
-use Rattle.rg_blocks.specs.Taking.{IsEnd, ShowsSeparation, IsRight}
+use Rattle.rg_blocks.specs.Separating.{EachPlaceSeparates, ShowsSeparation, IsSeparationOutcome}
 use Rattle.rg_blocks.specs.declared.separation.SeparationOutcome.TheVariants as ended
 use Rattle.rg_separate.specs.declared.problem.ProblemAnswer.TheVariants as problem_answer
 use Rattle.rg_separate.specs.declared.separation.Separation.TheVariants as separation
@@ -42,19 +42,19 @@ abbrev pub comes_of : Setting → Problem → Solved → Type 0
 comes_of s = ProblemComes s.lts.now s.tree.now.arcs (cycle_of s.basis.now) s.class
 
 module _ (s : Setting) (is : IsSetting s) where
-  pub places_right : IsRight s.lts.now (comes_of s)
-  places_right = record { separate = λ problem p has come. (let (m, region, separates) = placed_separates s.lts.now s.tree.now.arcs (cycle_of s.basis.now) s.class is.in_range is.reachable is.tree.tree is.basis problem p has come in (m, region.region, separates)) }
+  pub places_separate : EachPlaceSeparates s.lts.now (comes_of s)
+  places_separate = record { separate = λ problem p has come. (let (m, region, separates) = placed_separates s.lts.now s.tree.now.arcs (cycle_of s.basis.now) s.class is.in_range is.reachable is.tree.tree is.basis problem p has come in (m, region.region, separates)) }
 
   searched_of : (o : outcome.Separation) → Comes s.lts.now (comes_of s) o → Searched s.lts.now s.class o
   searched_of o come = all_problems s.tree.now.arcs (cycle_of s.basis.now) o is.tree.tree is.basis come
 
   -- the places that are kept are those with which the problems end
   all_kept : (kept : List Place) (o : outcome.Separation) → Comes s.lts.now (comes_of s) o → ShowsSeparation s.lts.now (comes_of s) kept ended.Separated o → Comes s.lts.now (comes_of s) (places kept)
-  all_kept kept (places after) come e = subst (λ ps. Comes s.lts.now (comes_of s) (places ps)) e come
+  all_kept kept (places after) come (e, separate) = subst (λ ps. Comes s.lts.now (comes_of s) (places ps)) e come
   all_kept kept (unsolvable problem trees) come shows = absurd shows
   all_kept kept (too_wide w) come shows = absurd shows
 
-  module _ (fine : IsWellFormed s.lts.now) (kept : List RegionPlace) (are : AreKept s.lts.now kept) (end : IsEnd s.lts.now (comes_of s) (kept_places kept) ended.Separated) (made : List PlaceOfCode) (made_are : made ≡ map (λ k. k.place) kept) where
+  module _ (fine : IsWellFormed s.lts.now) (kept : List RegionPlace) (are : AreKept s.lts.now kept) (end : IsSeparationOutcome s.lts.now (comes_of s) (kept_places kept) ended.Separated) (made : List PlaceOfCode) (made_are : made ≡ map (λ k. k.place) kept) where
     shown_are : map shown_place made ≡ kept_places kept
     shown_are = ap (map shown_place) made_are ∙ shown_kept kept
 
@@ -78,10 +78,10 @@ module _ (s : Setting) (is : IsSetting s) where
   left_last kept q (unsolvable problem trees) come shows = absurd shows
   left_last kept q (too_wide w) come (first, passes) = record { has = first.0.0; o = too_wide w; searched = searched_of (too_wide w) come; ends = inr (w, refl, passes) }
 
-  pub ends_refuted : (kept : List Place) (q : Problem) → IsEnd s.lts.now (comes_of s) kept (ended.Unsolvable q) → EndsWith s q
+  pub ends_refuted : (kept : List Place) (q : Problem) → IsSeparationOutcome s.lts.now (comes_of s) kept (ended.Unsolvable q) → EndsWith s q
   ends_refuted kept q end = refuted_last kept q end.o end.comes_to end.shows
 
-  pub ends_wide : (kept : List Place) (q : Problem) → IsEnd s.lts.now (comes_of s) kept (ended.TooWide q) → EndsWith s q
+  pub ends_wide : (kept : List Place) (q : Problem) → IsSeparationOutcome s.lts.now (comes_of s) kept (ended.TooWide q) → EndsWith s q
   ends_wide kept q end = left_last kept q end.o end.comes_to end.shows
 
 -- the term of the walk over the chords ends it before any problem

@@ -8,8 +8,7 @@ use Rattle.rg_theory.specs.declared.Problem.{Problem}
 use Rattle.rg_theory.specs.Problem.{IsProblem}
 use Rattle.rg_outcome.specs.Solving.{Solved}
 use Rattle.rg_outcome.specs.Coming.{Separation, Separation.places, Separation.unsolvable, Separation.too_wide, ComesFrom, ComesFrom.keeps, ComesFrom.goes_on, ComesFrom.ends, ComesFrom.all_separated, ComesFrom.one_is_left, Comes}
-use Rattle.rg_blocks.specs.Ranks.{rank, top_rank}
-use Rattle.rg_blocks.proofs.RankLemmas.{behind_rises}
+use Rattle.rg_blocks.proofs.RankLemmas.{rank, top_rank, behind_rises}
 
 -- the places with which it ends are few
 abbrev AreFewIn : ℕ → Separation → Type 0

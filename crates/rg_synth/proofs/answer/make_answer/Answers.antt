@@ -4,7 +4,7 @@ use Rattle.rg_synth.proofs.Answered.{bounds, asked_due_if}
 use Rattle.rg_synth.proofs.answer.make_answer.Goals as goal
 
 pub request_answer-requires : goal.request_answer-requires
-request_answer-requires g c = bounds (map string_bytes c.args.words.now) (asked_by c.in-Ok.request) c.in-Ok.ensures.ok
+request_answer-requires g c = λ lives within. bounds (map string_bytes c.args.words.now) (asked_by c.in-Ok.request) c.in-Ok.ensures.ok
 
 pub returns-in-Ok-clause-may_come : goal.returns-in-Ok-clause-may_come
 returns-in-Ok-clause-may_come g c =
