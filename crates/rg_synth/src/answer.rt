@@ -75,7 +75,7 @@ fn request_answer<R: Threads + Sync, H: Shelf, G: Gate + Sync>(
     shelf: &mut H,
     gate: &G,
 ) -> Result<Answer, Stop>
-    requires { HasBounds (asked_by request) }
+    requires bounds { HasBounds (asked_by request) }
     ensures asked { AsksFiles (H.files shelf.old) (asked_by request.entry) (H.asked shelf.old) (H.asked shelf.new) }
     ensures reads { ReadsFiles H.finds H.hands (H.files shelf.old) (asked_by request.entry) shelf.old shelf.new }
     ensures ok { IfOk result (λ a. AnswersAsked (H.files shelf.old) (asked_by request.entry) a.status a.out.items a.err.items) }

@@ -3,8 +3,8 @@ use Rattle.rg_synth.specs.Requests.{asked_by}
 use Rattle.rg_synth.proofs.Answered.{bounds, asked_due_if}
 use Rattle.rg_synth.proofs.answer.make_answer.Goals as goal
 
-pub request_answer-requires : goal.request_answer-requires
-request_answer-requires g c = λ lives within. bounds (map string_bytes c.args.words.now) (asked_by c.in-Ok.request) c.in-Ok.ensures.ok
+pub request_answer-requires-clause-bounds : goal.request_answer-requires-clause-bounds
+request_answer-requires-clause-bounds g c = λ lives within. bounds (map string_bytes c.args.words.now) (asked_by c.in-Ok.request) c.in-Ok.ensures.ok
 
 pub returns-in-Ok-clause-may_come : goal.returns-in-Ok-clause-may_come
 returns-in-Ok-clause-may_come g c =
