@@ -16,25 +16,25 @@ ghost use Rattle.rg_linear.specs.Cycle.{CycleBasis};
 ghost use Rattle.rg_order_of_work.specs.Chords.{IsBasis};
 ghost use Rattle.rg_outcome.specs.Casing.{CaseResult, CaseComes};
 ghost use Rattle.rg_outcome.specs.Solving.{Solved, ProblemComes};
-ghost use Rattle.rg_outcome.specs.Coming.{Separation, ComesFrom, Comes, IsSeparatedIn, HasResults, Says};
+ghost use Rattle.rg_outcome.specs.Coming.{Separation, ComesFrom, Comes, IsSeparatedIn, Says};
 ghost use Rattle.rg_outcome.specs.Blocks.{ComesByBlocks};
 ghost use Rattle.rg_outcome.specs.Outcome.{Answer, Searched, Out, IsSearchRight, IsRight};
 
 use rg_prune::pruned_is_one;
 use rg_theory::{Arc, Class, Problem, one_least_fork};
 
-/// A case of a problem comes to one result: a place, a tree that refutes it, or a term out of range. So does a problem.
-/// Neither knows of places that are kept, so a problem may be solved at any time.
+/// A case of a problem comes to one result: a place, a tree that refutes it, or a term out of range. So does a problem, and
+/// each problem of a system comes to some: every computation ends, or stops at its first step out of range. Neither knows of places that are kept, so a problem may be solved at any time.
 pub fn solving_is_one()
     ensures case { (lts : System) (arcs : List Arc) (basis : CycleBasis) (class : Class) (problem : Problem) (number : ℕ) (r r' : CaseResult) → CaseComes lts arcs basis class problem number r → CaseComes lts arcs basis class problem number r' → r ≡ r' }
     ensures problem { (lts : System) (arcs : List Arc) (basis : CycleBasis) (class : Class) (problem : Problem) (r r' : Solved) → ProblemComes lts arcs basis class problem r → ProblemComes lts arcs basis class problem r' → r ≡ r' }
+    ensures some { (lts : System) (arcs : List Arc) (basis : CycleBasis) (class : Class) (problem : Problem) → IsInRange lts → IsAllReachable lts → IsTree lts arcs → IsBasis lts arcs basis → IsProblem lts problem → (r : Solved) × ProblemComes lts arcs basis class problem r }
 {}
 
-/// What is left of all problems, with the places kept so far, comes to one result; and all of them come to some result
-/// where each problem does.
+/// What is left of all problems, with the places kept so far, comes to one result, and all of them come to some.
 pub fn separation_is_one()
     ensures one { (lts : System) (arcs : List Arc) (basis : CycleBasis) (class : Class) (last : Option Problem) (kept : List Place) (o o' : Separation) → ComesFrom lts (ProblemComes lts arcs basis class) last kept o → ComesFrom lts (ProblemComes lts arcs basis class) last kept o' → o ≡ o' }
-    ensures some { (lts : System) (arcs : List Arc) (basis : CycleBasis) (class : Class) → IsInRange lts → IsAllReachable lts → IsTree lts arcs → IsBasis lts arcs basis → HasResults lts (ProblemComes lts arcs basis class) → (o : Separation) × Comes lts (ProblemComes lts arcs basis class) o }
+    ensures some { (lts : System) (arcs : List Arc) (basis : CycleBasis) (class : Class) → IsInRange lts → IsAllReachable lts → IsTree lts arcs → IsBasis lts arcs basis → (o : Separation) × Comes lts (ProblemComes lts arcs basis class) o }
 {}
 
 /// Solved in blocks of any lengths, whose results are taken over in the order of the problems, the problems come to what
@@ -61,10 +61,11 @@ pub fn placed_separates()
     ensures { (lts : System) (arcs : List Arc) (basis : CycleBasis) (class : Class) (problem : Problem) (p : Place) → IsInRange lts → IsAllReachable lts → IsTree lts arcs → IsBasis lts arcs basis → IsProblem lts problem → ProblemComes lts arcs basis class problem (Solved.placed p) → IsSeparatedIn lts class problem p }
 {}
 
-/// A search for places comes to one result, and a system and a class have one answer.
+/// A search for places comes to one result. A system and a class have one answer, and always one.
 pub fn outcome_is_one()
     ensures search { (lts : System) (class : Class) (o o' : Separation) → Searched lts class o → Searched lts class o' → o ≡ o' }
     ensures answer { (lts : System) (class : Class) (a a' : Answer) → Out lts class a → Out lts class a' → a ≡ a' }
+    ensures some { (lts : System) (class : Class) → IsInRange lts → (a : Answer) × Out lts class a }
 {
     one_least_fork();
     pruned_is_one();

@@ -1,0 +1,141 @@
+-- The place of a point has a result, or its first step out of range.
+use Rattle.std.proofs.Common.{◌≡◌, ◌≢◌, ℕ, zero, suc, ◌==◌, ◌&&◌, ◌||◌, not, is_some, Bool, true, false, if◌then◌else◌, List, [], ◌∷◌, ◌++◌, map, Result, Ok, refl, sym, ap, ap₂, subst, arith}
+use Rattle.std.specs.Prelude.{pos, int_lt, ◌*ℤ◌}
+use Rattle.rg_theory.specs.declared.Arc.{Arc}
+use Rattle.rg_theory.specs.System.{System, states, labels}
+use Rattle.rg_theory.specs.Net.{Place}
+use Rattle.rg_theory.specs.declared.Class.{Class}
+use Rattle.rg_theory.specs.declared.Problem.{Problem}
+use Rattle.rg_fraction.specs.declared.term.Wide.{Wide}
+use Rattle.rg_linear.specs.Cycle.{CycleBasis}
+use Rattle.rg_order_of_work.specs.Fold.{gives, and_then, either, each, joined, Ratio, whole, quotient, add, mul, whole_sum, multiple_of_all}
+use Rattle.rg_order_of_work.specs.Rewriting.{is_in, has_label, free_columns, all_numbers}
+use Rattle.rg_order_of_work.specs.Placing.{effect_fold, negated, made_whole, ratio_at, along_tree, lesser, least_from, least_of, is_shifted, shift_fold, top_at, taken, place_of, place_fold}
+use Rattle.rg_order_of_work.proofs.Lists.{first, behind, where_is, where_has, Contains-of_map}
+use Rattle.rg_outcome.proofs.Steps.{HasSome, Makes, Each, each_none, each_cons, some_given, some_then, makes_then, some_each, makes_each, some_joined, makes_joined, IsOver, whole_over, some_quotient, some_sum, some_product, some_term, sums_join, product_over, some_multiple}
+use Rattle.rg_outcome.proofs.SystemResults.{HaveRelations, each_append}
+
+-- ---- numbers with a positive denominator
+
+pub each_mapped : {A X : Type 0} (P : X → Type 0) (f : A → X) (items : List A) → Each (λ a. P (f a)) items → Each P (map f items)
+each_mapped P f items all x has = let (a, in_items, e) = Contains-of_map f items x has in subst P e (all a in_items)
+
+at_over : (numbers : List Ratio) → Each IsOver numbers → (i : ℕ) → IsOver (ratio_at numbers i)
+at_over [] all i = whole_over (pos 0)
+at_over (r ∷ numbers) all zero = all r (first r numbers)
+at_over (r ∷ numbers) all (suc i) = at_over numbers (λ x has. all x (behind r x numbers has)) i
+
+least_over : (f : Ratio) (rest : List Ratio) → IsOver f → Each IsOver rest → IsOver (least_from f rest)
+least_over f [] over all = over
+least_over f (g ∷ rest) over all = least_over (lesser f g) rest (by (int_lt (g.top *ℤ f.bottom) (f.top *ℤ g.bottom))) (λ x has. all x (behind g x rest has))
+  where
+    by : (b : Bool) → IsOver (if b then g else f)
+    by true = all g (first g rest)
+    by false = over
+
+least_of_over : (numbers : List Ratio) → Each IsOver numbers → IsOver (least_of numbers)
+least_of_over [] all = whole_over (pos 0)
+least_of_over (f ∷ rest) all = least_over f rest (all f (first f rest)) (λ x has. all x (behind f x rest has))
+
+-- ---- effects
+
+module _ (lts : System) (basis : CycleBasis) (related : HaveRelations lts basis) (value : ℕ → Ratio) (over : Each (λ f. IsOver (value f)) (free_columns lts basis)) where
+  abbrev share : ℕ → ℕ → Result Ratio Wide → Type 0
+  share t f = and_then (quotient ((basis.relation t).coefficient f) (basis.relation t).d) (λ k. mul (value f) k)
+
+  some_share : (t : ℕ) → (basis.relation t).d ≢ pos 0 → Each (λ f. HasSome (share t f)) (free_columns lts basis)
+  some_share t differs f has = some_then (quotient ((basis.relation t).coefficient f) (basis.relation t).d) (λ k. mul (value f) k) (some_quotient _ _ differs) (λ k q. some_product (value f) k (over f has) q.positive)
+
+  share_over : (t : ℕ) → Each (λ f. Makes IsOver (share t f)) (free_columns lts basis)
+  share_over t f has = makes_then IsOver (quotient ((basis.relation t).coefficient f) (basis.relation t).d) (λ k. mul (value f) k) (λ k q. product_over (value f) k)
+
+  some_effect : Each (λ t. HasSome (effect_fold lts basis value t)) (all_numbers (labels lts))
+  some_effect t has = by (has_label t lts.arcs) (is_in basis.members t) refl
+    where
+      by : (used free : Bool) → is_in basis.members t ≡ free → HasSome (either (not used) (gives (whole (pos 0))) (either free (gives (value t)) (joined add (share t) (whole (pos 0)) (free_columns lts basis))))
+      by false free e = some_given (whole (pos 0))
+      by true true e = some_given (value t)
+      by true false e = some_joined IsOver add (share t) (whole (pos 0)) (free_columns lts basis) sums_join (some_share t (related t (where_has (λ u. not (is_in basis.members u)) 0 (labels lts) t (ap not e) (omega arith) (where_is (λ u. true) 0 (labels lts) t has).2))) (share_over t)
+
+  effect_over : Each (λ t. Makes IsOver (effect_fold lts basis value t)) (all_numbers (labels lts))
+  effect_over t has = by (has_label t lts.arcs) refl (is_in basis.members t) refl
+    where
+      by : (used : Bool) → has_label t lts.arcs ≡ used → (free : Bool) → is_in basis.members t ≡ free → Makes IsOver (either (not used) (gives (whole (pos 0))) (either free (gives (value t)) (joined add (share t) (whole (pos 0)) (free_columns lts basis))))
+      by false u free e = λ x g. subst IsOver (sym g) (whole_over (pos 0))
+      by true u true e = λ x g. subst IsOver (sym g) (over t (where_has (λ u. is_in basis.members u && has_label u lts.arcs) 0 (labels lts) t (ap₂ (λ a b. a && b) e u) (omega arith) (where_is (λ u. true) 0 (labels lts) t has).2))
+      by true u false e = makes_joined IsOver add (share t) (whole (pos 0)) (free_columns lts basis) sums_join (whole_over (pos 0)) (share_over t)
+
+-- ---- made whole
+
+module _ (class : Class) (numbers : List Ratio) (over : Each IsOver numbers) where
+  some_whole : HasSome (made_whole class numbers)
+  some_whole = by (class.plain || is_some class.bound)
+    where
+      by : (b : Bool) → HasSome (either b (gives numbers) (and_then (multiple_of_all (map (λ r. r.bottom) numbers)) (λ m. each (λ r. mul r (whole m)) numbers)))
+      by true = some_given numbers
+      by false = some_then (multiple_of_all (map (λ r. r.bottom) numbers)) (λ m. each (λ r. mul r (whole m)) numbers) (some_multiple (map (λ r. r.bottom) numbers)) (λ m _. some_each (λ r. mul r (whole m)) numbers (λ r has. some_product r (whole m) (over r has) (whole_over m)))
+
+  whole_made_over : Makes (Each IsOver) (made_whole class numbers)
+  whole_made_over = by (class.plain || is_some class.bound)
+    where
+      by : (b : Bool) → Makes (Each IsOver) (either b (gives numbers) (and_then (multiple_of_all (map (λ r. r.bottom) numbers)) (λ m. each (λ r. mul r (whole m)) numbers)))
+      by true = λ x e. subst (Each IsOver) (sym e) over
+      by false = makes_then (Each IsOver) (multiple_of_all (map (λ r. r.bottom) numbers)) (λ m. each (λ r. mul r (whole m)) numbers) (λ m _. makes_each IsOver (λ r. mul r (whole m)) numbers (λ r has. product_over r (whole m)))
+
+  some_shift : HasSome (shift_fold class numbers)
+  some_shift = by (is_shifted class)
+    where
+      by : (b : Bool) → HasSome (either b (each (λ m. add m (negated (least_of numbers))) numbers) (gives numbers))
+      by true = some_each (λ m. add m (negated (least_of numbers))) numbers (λ m has. some_sum m (negated (least_of numbers)) (over m has) (least_of_over numbers over))
+      by false = some_given numbers
+
+-- ---- along the tree
+
+stepped_over : (number : ℕ → Ratio) (to : ℕ) (m : Ratio) → ((s : ℕ) → IsOver (number s)) → IsOver m → (s : ℕ) → IsOver (if s == to then m else number s)
+stepped_over number to m all over s = by (s == to)
+  where
+    by : (b : Bool) → IsOver (if b then m else number s)
+    by true = over
+    by false = all s
+
+some_along : (effect number : ℕ → Ratio) (arcs : List Arc) → ((t : ℕ) → IsOver (effect t)) → ((s : ℕ) → IsOver (number s)) → HasSome (along_tree effect number arcs)
+some_along effect number [] effects numbers = some_given number
+some_along effect number (a ∷ arcs) effects numbers =
+    some_then (add (number a.from) (effect a.label)) (λ m. along_tree effect (λ s. if s == a.to then m else number s) arcs) (some_sum (number a.from) (effect a.label) (numbers a.from) (effects a.label))
+    (λ m h. some_along effect (λ s. if s == a.to then m else number s) arcs effects (stepped_over number a.to m numbers (sums_join.makes (number a.from) (effect a.label) (numbers a.from) (effects a.label) m h)))
+
+along_over : (effect number : ℕ → Ratio) (arcs : List Arc) → ((t : ℕ) → IsOver (effect t)) → ((s : ℕ) → IsOver (number s)) → Makes (λ n. (s : ℕ) → IsOver (n s)) (along_tree effect number arcs)
+along_over effect number [] effects numbers = λ n e. subst (λ (n : ℕ → Ratio). (s : ℕ) → IsOver (n s)) (sym e) numbers
+along_over effect number (a ∷ arcs) effects numbers =
+    makes_then (λ (n : ℕ → Ratio). (s : ℕ) → IsOver (n s)) (add (number a.from) (effect a.label)) (λ m. along_tree effect (λ s. if s == a.to then m else number s) arcs)
+    (λ m h. along_over effect (λ s. if s == a.to then m else number s) arcs effects (stepped_over number a.to m numbers (sums_join.makes (number a.from) (effect a.label) (numbers a.from) (effects a.label) m h)))
+
+-- ---- the place
+
+module _ (lts : System) (arcs : List Arc) (basis : CycleBasis) (class : Class) (problem : Problem) where
+  abbrev from_shifted : List Ratio → List Ratio → Result Place Wide → Type 0
+  from_shifted found numbers = and_then (each (λ u. whole_sum (taken lts class problem numbers found u) (top_at found u)) (all_numbers (labels lts))) (λ post. gives (place_of lts numbers (map (taken lts class problem numbers found) (all_numbers (labels lts))) post))
+
+  abbrev from_number : List Ratio → (ℕ → Ratio) → Result Place Wide → Type 0
+  from_number found number = and_then (shift_fold class (map number (all_numbers (states lts)))) (from_shifted found)
+
+  abbrev from_found : List Ratio → Result Place Wide → Type 0
+  from_found found = and_then (along_tree (ratio_at found) (λ s. ratio_at found (labels lts)) arcs) (from_number found)
+
+  some_shifted : (found numbers : List Ratio) → HasSome (from_shifted found numbers)
+  some_shifted found numbers = some_then (each (λ u. whole_sum (taken lts class problem numbers found u) (top_at found u)) (all_numbers (labels lts))) (λ post. gives (place_of lts numbers (map (taken lts class problem numbers found) (all_numbers (labels lts))) post)) (some_each (λ u. whole_sum (taken lts class problem numbers found u) (top_at found u)) (all_numbers (labels lts)) (λ u has. some_term _)) (λ post _. some_given (place_of lts numbers (map (taken lts class problem numbers found) (all_numbers (labels lts))) post))
+
+  some_numbered : (found : List Ratio) (number : ℕ → Ratio) → ((s : ℕ) → IsOver (number s)) → HasSome (from_number found number)
+  some_numbered found number over = some_then (shift_fold class (map number (all_numbers (states lts)))) (from_shifted found) (some_shift class (map number (all_numbers (states lts))) (each_mapped IsOver number (all_numbers (states lts)) (λ s has. over s))) (λ numbers _. some_shifted found numbers)
+
+  some_found : (found : List Ratio) → Each IsOver found → HasSome (from_found found)
+  some_found found over = some_then (along_tree (ratio_at found) (λ s. ratio_at found (labels lts)) arcs) (from_number found) (some_along (ratio_at found) (λ s. ratio_at found (labels lts)) arcs (at_over found over) (λ s. at_over found over (labels lts)))
+      (λ number h. some_numbered found number (along_over (ratio_at found) (λ s. ratio_at found (labels lts)) arcs (at_over found over) (λ s. at_over found over (labels lts)) number h))
+
+  pub some_place : (start : Ratio) (value : ℕ → Ratio) → HaveRelations lts basis → IsOver start → Each (λ f. IsOver (value f)) (free_columns lts basis) → HasSome (place_fold lts arcs basis class problem start value)
+  some_place start value related over values =
+      some_then (each (effect_fold lts basis value) (all_numbers (labels lts))) (λ effects. and_then (made_whole class (effects ++ start ∷ [])) from_found) (some_each (effect_fold lts basis value) (all_numbers (labels lts)) (some_effect lts basis related value values))
+      (λ effects h. some_then (made_whole class (effects ++ start ∷ [])) from_found (some_whole class (effects ++ start ∷ []) (all effects h)) (λ found g. some_found found (whole_made_over class (effects ++ start ∷ []) (all effects h) found g)))
+    where
+      all : (effects : List Ratio) → each (effect_fold lts basis value) (all_numbers (labels lts)) (Ok effects) → Each IsOver (effects ++ start ∷ [])
+      all effects h = each_append IsOver effects (start ∷ []) (makes_each IsOver (effect_fold lts basis value) (all_numbers (labels lts)) (effect_over lts basis related value values) effects h) (each_cons IsOver start [] over (each_none IsOver))
