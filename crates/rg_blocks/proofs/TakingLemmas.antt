@@ -11,10 +11,8 @@ use Rattle.rg_outcome.specs.Coming.{IsSeparated}
 use Rattle.rg_outcome.specs.Blocks.{AfterBlock, AfterBlock.kept_places, AfterBlock.refuted_one, GoesOn, TakenOver}
 use Rattle.rg_net.specs.Shown.{shown_place}
 use Rattle.rg_places.specs.declared.region_place.RegionPlace.{RegionPlace}
-use Rattle.rg_blocks.specs.declared.solving.ProblemOutcome.TheVariants as outcome
-use Rattle.rg_blocks.specs.declared.solving.ProblemOutcome.{ProblemOutcome}
 use Rattle.rg_blocks.specs.declared.solving.SolvedProblem.{SolvedProblem}
-use Rattle.rg_blocks.specs.Taking.{IsOutcome, IsSolvedBy, problems_of, IsTakenOver}
+use Rattle.rg_blocks.specs.Taking.{problems_of, IsTakenOver}
 
 module _ (lts : System) (comes : Problem → Solved → Type 0) where
   -- some problems are taken over, and then the rest

@@ -1,15 +1,13 @@
 -- What a system with one state and no arc gives.
-use Rattle.std.proofs.Common.{◌≡◌, ℕ, zero, suc, ◌+◌, ◌-◌, ◌<◌, ◌≤◌, List, [], ◌∷◌, length, map, get_or, All, Any, refl, sym, ap, subst, ◌∙◌, arith}
-use Rattle.std.specs.Prelude.{◌↔◌}
-use Rattle.rg_theory.specs.System.{System, states, labels, HasArc, IsAllReachable}
+use Rattle.std.proofs.Common.{◌≡◌, ℕ, zero, suc, ◌<◌, List, [], ◌∷◌, map, Any, refl, sym, ap, subst, ◌∙◌, arith}
+use Rattle.rg_theory.specs.System.{System, states, labels, IsAllReachable}
 use Rattle.rg_theory.specs.Net.{Place, pre_weight}
-use Rattle.rg_theory.specs.Region.{Region}
 use Rattle.rg_theory.specs.declared.Problem.{Problem}
 use Rattle.rg_theory.specs.declared.Problem.TheVariants.{Event, States}
 use Rattle.rg_theory.specs.Problem.{IsProblem, IsSeparatedBy}
 use Rattle.rg_net.specs.Shown.{shown_place}
 use Rattle.rg_places.specs.declared.region_place.RegionPlace.{RegionPlace}
-use Rattle.rg_outcome.specs.Solving.{Solved, Solved.placed}
+use Rattle.rg_outcome.specs.Solving.{Solved.placed}
 use Rattle.rg_outcome.specs.Coming.{IsSeparated}
 use Rattle.rg_blocks.specs.Separating.{AsksAll, EachPlaceSeparates}
 use Rattle.rg_blocks_tests.specs.Single.{IsSingle, Stops, RegionStops, MayCome, AsksFor}
