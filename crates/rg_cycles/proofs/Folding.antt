@@ -11,12 +11,13 @@ use Rattle.rg_fraction.specs.declared.term.Wide.{Wide}
 use Rattle.rg_fraction.specs.declared.fraction.Fraction.{Fraction}
 use Rattle.rg_fraction.specs.Fractions.{numerator_of, denominator_of, IsValue, IsProduct}
 use Rattle.rg_order_of_work.specs.Fold.{and_then, each, further, Ratio, whole, ratio_of, shown_result, IsRatio, quotient, add, mul}
-use Rattle.rg_order_of_work.specs.Rewriting.{is_in, numbers_where, free_labels, dependent_term, coefficient_fold}
+use Rattle.rg_order_of_work.specs.Rewriting.{is_in, numbers_where, free_labels, dependent_labels, dependent_term, coefficient_fold}
 use Rattle.rg_integers.specs.Sum.{number_at}
 use Rattle.rg_linear.specs.Cycle.{CycleBasis}
 use Rattle.rg_cycles.specs.declared.relation.Relation.{Relation}
 use Rattle.rg_cycles.specs.Basis.{ShowsRelation}
-use Rattle.rg_cycles.proofs.Labels.{in_set, not_in_set, where_from}
+use Rattle.std.proofs.lemmas.Bool.{false≢true}
+use Rattle.rg_cycles.proofs.Labels.{in_set, not_in_set, FromWhere, where_from}
 use Rattle.rg_order_of_work.proofs.FoldLemmas.{ratio_one, new_step, mul_step}
 
 -- ---- fractions
@@ -96,6 +97,14 @@ module _ (test : ℕ → Bool) (t n : ℕ) where
       none : n ≤ t → n - t ≡ 0
       none h = omega arith
 
+-- what passes the test, behind what was found before
+module _ (test : ℕ → Bool) (n i : ℕ) (out whole : List ℕ) (so_far : out ++ numbers_where test i (n - i) ≡ whole) where
+  pub number_taken : i < n → test i ≡ true → (out ++ i ∷ []) ++ numbers_where test (i + 1) (n - (i + 1)) ≡ whole
+  number_taken lt e = append_assoc out (i ∷ []) (numbers_where test (i + 1) (n - (i + 1))) ∙ ap (λ l. out ++ l) (sym (where_taken test i n lt e)) ∙ so_far
+
+  pub number_left : i < n → test i ≡ false → out ++ numbers_where test (i + 1) (n - (i + 1)) ≡ whole
+  number_left lt e = ap (λ l. out ++ l) (sym (where_left test i n lt e)) ∙ so_far
+
 -- ---- labels
 
 -- what a label that is not free adds, by the numbers that its relation shows
@@ -124,43 +133,39 @@ shows_length labels cycle t place r shows lt = subst (λ l. place < length l) (s
 
 -- ---- the coefficient of a free label, label by label
 
--- what is left to add from label t on leads to the coefficient
-abbrev pub AddsOn : ℕ → CycleBasis → List ℤ → ℕ → Ratio → ℕ → Type 0
-AddsOn labels cycle counts f sum t = (r : Result Ratio Wide) → further add (dependent_term cycle (number_at counts) f) sum (numbers_where (λ u. not (is_in cycle.members u)) t (labels - t)) r → coefficient_fold labels cycle (number_at counts) f r
+-- what is left to add leads to the coefficient
+abbrev pub AddsOn : ℕ → CycleBasis → List ℤ → ℕ → Ratio → List ℕ → Type 0
+AddsOn labels cycle counts f sum left = (r : Result Ratio Wide) → further add (dependent_term cycle (number_at counts) f) sum left r → coefficient_fold labels cycle (number_at counts) f r
 
-pub leads_start : (labels : ℕ) (cycle : CycleBasis) (counts : List ℤ) (f : ℕ) (sum : Ratio) → sum ≡ whole (number_at counts f) → AddsOn labels cycle counts f sum 0
-leads_start labels cycle counts f sum e r h = subst (λ x. further add (dependent_term cycle (number_at counts) f) x (numbers_where (λ u. not (is_in cycle.members u)) 0 labels) r) e (subst (λ n. further add (dependent_term cycle (number_at counts) f) sum (numbers_where (λ u. not (is_in cycle.members u)) 0 n) r) (all labels) h)
-  where
-    all : (n : ℕ) → n - 0 ≡ n
-    all n = omega arith
+pub leads_start : (labels : ℕ) (cycle : CycleBasis) (counts : List ℤ) (f : ℕ) (sum : Ratio) (others : List ℕ) → others ≡ dependent_labels labels cycle → sum ≡ whole (number_at counts f) → AddsOn labels cycle counts f sum others
+leads_start labels cycle counts f sum others all e r h = subst (λ x. further add (dependent_term cycle (number_at counts) f) x (dependent_labels labels cycle) r) e (subst (λ l. further add (dependent_term cycle (number_at counts) f) sum l r) all h)
 
-module _ (labels : ℕ) (cycle : CycleBasis) (counts : List ℤ) (f : ℕ) (sum : Ratio) (t : ℕ) (leads : AddsOn labels cycle counts f sum t) where
-  pub leads_end : labels ≤ t → coefficient_fold labels cycle (number_at counts) f (Ok sum)
-  leads_end past = leads (Ok sum) (subst (λ l. further add (dependent_term cycle (number_at counts) f) sum l (Ok sum)) (sym (where_ends (λ u. not (is_in cycle.members u)) t labels past)) refl)
+module _ (labels : ℕ) (cycle : CycleBasis) (counts : List ℤ) (f : ℕ) (sum : Ratio) (others : List ℕ) (i : ℕ) (leads : AddsOn labels cycle counts f sum (drop i others)) where
+  pub leads_end : length others ≤ i → coefficient_fold labels cycle (number_at counts) f (Ok sum)
+  leads_end past = leads (Ok sum) (subst (λ l. further add (dependent_term cycle (number_at counts) f) sum l (Ok sum)) (sym (drop_all i others past)) refl)
 
-  pub leads_past_free : t < labels → Contains cycle.members t → AddsOn labels cycle counts f sum (t + 1)
-  leads_past_free lt has r h = leads r (subst (λ l. further add (dependent_term cycle (number_at counts) f) sum l r) (sym (where_left (λ u. not (is_in cycle.members u)) t labels lt (is_free cycle t has))) h)
-
-  module _ (lt : t < labels) (lacks : ¬ Contains cycle.members t) where
-    at : (r : Result Ratio Wide) → further add (dependent_term cycle (number_at counts) f) sum (t ∷ numbers_where (λ u. not (is_in cycle.members u)) (t + 1) (labels - (t + 1))) r → coefficient_fold labels cycle (number_at counts) f r
-    at r h = leads r (subst (λ l. further add (dependent_term cycle (number_at counts) f) sum l r) (sym (where_taken (λ u. not (is_in cycle.members u)) t labels lt (is_dependent cycle t lacks))) h)
-
-    pub leads_on : (x more : Ratio) → dependent_term cycle (number_at counts) f t (Ok x) → add sum x (Ok more) → AddsOn labels cycle counts f more (t + 1)
-    leads_on x more made joins r h = at r (further_next add (dependent_term cycle (number_at counts) f) t (numbers_where (λ u. not (is_in cycle.members u)) (t + 1) (labels - (t + 1))) sum x more made joins r h)
-
-    pub term_passes : (w : Wide) → dependent_term cycle (number_at counts) f t (Err w) → coefficient_fold labels cycle (number_at counts) f (Err w)
-    term_passes w made = at (Err w) (further_unmade add (dependent_term cycle (number_at counts) f) t (numbers_where (λ u. not (is_in cycle.members u)) (t + 1) (labels - (t + 1))) sum w made)
-
-    pub sum_passes : (x : Ratio) (w : Wide) → dependent_term cycle (number_at counts) f t (Ok x) → add sum x (Err w) → coefficient_fold labels cycle (number_at counts) f (Err w)
-    sum_passes x w made joins = at (Err w) (further_unjoined add (dependent_term cycle (number_at counts) f) t (numbers_where (λ u. not (is_in cycle.members u)) (t + 1) (labels - (t + 1))) sum x w made joins)
+  module _ (lt : i < length others) where
+    at : (r : Result Ratio Wide) → further add (dependent_term cycle (number_at counts) f) sum (slice_index others i ∷ drop (i + 1) others) r → coefficient_fold labels cycle (number_at counts) f r
+    at r h = leads r (subst (λ l. further add (dependent_term cycle (number_at counts) f) sum l r) (sym (drop-cons others i 0 lt ∙ ap (λ n. slice_index others i ∷ drop n others) (sym (add-one i)))) h)
 
     -- what the label adds to the sum, in one step
-    pub leads_with : (s : Ratio) → and_then (dependent_term cycle (number_at counts) f t) (add sum) (Ok s) → AddsOn labels cycle counts f s (t + 1)
-    leads_with s (x, made, joins) = leads_on x s made joins
+    pub leads_with : (s : Ratio) → and_then (dependent_term cycle (number_at counts) f (slice_index others i)) (add sum) (Ok s) → AddsOn labels cycle counts f s (drop (i + 1) others)
+    leads_with s (x, made, joins) r h = at r (further_next add (dependent_term cycle (number_at counts) f) (slice_index others i) (drop (i + 1) others) sum x s made joins r h)
 
-    pub passes_with : (w : Wide) → and_then (dependent_term cycle (number_at counts) f t) (add sum) (Err w) → coefficient_fold labels cycle (number_at counts) f (Err w)
-    passes_with w (inl made) = term_passes w made
-    passes_with w (inr (x, made, joins)) = sum_passes x w made joins
+    pub passes_with : (w : Wide) → and_then (dependent_term cycle (number_at counts) f (slice_index others i)) (add sum) (Err w) → coefficient_fold labels cycle (number_at counts) f (Err w)
+    passes_with w (inl made) = at (Err w) (further_unmade add (dependent_term cycle (number_at counts) f) (slice_index others i) (drop (i + 1) others) sum w made)
+    passes_with w (inr (x, made, joins)) = at (Err w) (further_unjoined add (dependent_term cycle (number_at counts) f) (slice_index others i) (drop (i + 1) others) sum x w made joins)
+
+-- a label that isn't free is a label, and no member
+module _ (labels : ℕ) (cycle : CycleBasis) (others : List ℕ) (i : ℕ) (all : others ≡ dependent_labels labels cycle) (lt : i < length others) where
+  among : FromWhere (λ t. not (is_in cycle.members t)) 0 labels (slice_index others i)
+  among = where_from (λ t. not (is_in cycle.members t)) 0 labels (slice_index others i) (subst (λ l. Contains l (slice_index others i)) all (Contains-get_or others i 0 lt))
+
+  pub other_below : slice_index others i < labels
+  other_below = let b = among.below in omega arith
+
+  pub other_outside : ¬ Contains cycle.members (slice_index others i)
+  other_outside has = false≢true (sym (is_free cycle (slice_index others i) has) ∙ among.passes)
 
 -- what a label adds to a sum, by the numbers that its relation shows
 pub stepped : (labels : ℕ) (cycle : CycleBasis) (counts : List ℤ) (t place : ℕ) (rel : Relation) (count : ℤ) (sum : Ratio) (r : Result Ratio Wide)

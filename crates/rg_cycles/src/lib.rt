@@ -18,4 +18,4 @@ pub use basis::Basis;
 pub use relation::Relation;
 pub use solving::reduce;
 pub use stop::{CycleWide, Stop};
-pub use substitution::{FreeRow, substitute};
+pub use substitution::{FreeRow, dependent, substitute};

@@ -4,7 +4,7 @@ ghost use Rattle.rg_integers.specs.Range.{InRange};
 ghost use Rattle.rg_integers.specs.Sum.{number_at};
 ghost use Rattle.rg_fraction.specs.declared.term.Wide.{Wide};
 ghost use Rattle.rg_order_of_work.specs.Fold.{whole, ratio_of, shown_result, quotient, add, mul, and_then};
-ghost use Rattle.rg_order_of_work.specs.Rewriting.{free_labels, coefficient_fold, substitute_fold};
+ghost use Rattle.rg_order_of_work.specs.Rewriting.{is_in, free_labels, dependent_labels, coefficient_fold, substitute_fold};
 ghost use Rattle.rg_fraction.specs.declared.fold_stop.FoldStop.TheVariants as stop;
 ghost use Rattle.rg_cycles.specs.Basis.{IsRelationInRange};
 ghost use Rattle.rg_cycles.specs.View.{labels_of, cycle_of};
@@ -12,7 +12,7 @@ ghost use Rattle.rg_cycles.specs.View.{labels_of, cycle_of};
 use crate::basis::Basis;
 use crate::relation::Relation;
 use rg_fraction::{FoldStop, Fraction, Wide};
-use std::alloc::Global;
+use std::alloc::{AllocError, Global};
 
 /// A sum over the free labels: one coefficient for each, in order.
 #[derive(PartialEq, Debug, Drop)]
@@ -34,26 +34,58 @@ pub fn substitute(alloc: Global, basis: &Basis, counts: &[i128]) -> Result<FreeR
     ensures value { IfOk result (λ row. substitute_fold (labels_of basis.now) (cycle_of basis.now) (number_at counts.now) (Ok (map ratio_of row.coeffs.items))) }
     ensures wide { (w : Wide) → IsErrOf result (stop.Wide w) → substitute_fold (labels_of basis.now) (cycle_of basis.now) (number_at counts.now) (Err w) }
 {
+    let others = dependent(alloc, basis, counts.len() as u32)?;
     let mut coeffs = Vec::new(alloc);
     for place in 0..basis.free().len() {
-        let sum = coefficient(basis, counts, place)?;
+        let sum = coefficient(basis, counts, &others, place)?;
         coeffs.push(sum)?;
     }
     Ok(FreeRow { coeffs })
 }
 
-// The coefficient of the free label at this place.
-fn coefficient(basis: &Basis, counts: &[i128], place: usize) -> Result<Fraction, Wide>
+/// The labels that aren't free, in order; there are so many labels.
+pub fn dependent(alloc: Global, basis: &Basis, labels: u32) -> Result<Vec<u32>, AllocError>
+    requires { labels ≡ labels_of basis.now }
+    ensures { IfOk result (λ v. v.items ≡ dependent_labels labels (cycle_of basis.now)) }
+{
+    let mut dependent = Vec::new(alloc);
+    for t in 0..labels {
+        if !is_free(basis, t) {
+            dependent.push(t)?;
+        }
+    }
+    Ok(dependent)
+}
+
+// Whether the label is free.
+fn is_free(basis: &Basis, t: u32) -> bool
+    requires { t < labels_of basis.now }
+    ensures { result ≡ is_in (cycle_of basis.now).members t }
+{
+    match basis.relation(t) {
+        Some(_) => false,
+        None => true,
+    }
+}
+
+// The coefficient of the free label at this place; the others aren't free.
+fn coefficient(
+    basis: &Basis,
+    counts: &[i128],
+    others: &[u32],
+    place: usize,
+) -> Result<Fraction, Wide>
     requires counts { length counts.now ≡ labels_of basis.now }
     requires in_range { (t : ℕ) → t < length counts.now → InRange (number_at counts.now t) }
+    requires others { others.now ≡ dependent_labels (labels_of basis.now) (cycle_of basis.now) }
     requires place { place < length (free_labels (labels_of basis.now) (cycle_of basis.now)) }
     ensures { coefficient_fold (labels_of basis.now) (cycle_of basis.now) (number_at counts.now) (slice_index (free_labels (labels_of basis.now) (cycle_of basis.now)) place) (shown_result ratio_of result) }
 {
     let own = basis.free()[place];
     let mut sum = Fraction::new(counts[own as usize], 1);
-    for (t, &count) in counts.iter().enumerate() {
-        if let Some(relation) = basis.relation(t as u32) {
-            sum = with_term(sum, relation, count, place)?;
+    for &t in others {
+        if let Some(relation) = basis.relation(t) {
+            sum = with_term(sum, relation, counts[t as usize], place)?;
         }
     }
     Ok(sum)

@@ -1,5 +1,5 @@
 -- The steps of loops.
-use Rattle.std.proofs.Common.{◌≡◌, ℕ, suc, ◌+◌, ◌-◌, ◌<◌, ◌≤◌, Bool, true, false, if◌then◌else◌, List, [], ◌∷◌, ◌++◌, map, drop, length, Result, Ok, Err, Contains, ap, refl, subst, sym, ◌∙◌, inl, inr, arith, add-one, append_assoc}
+use Rattle.std.proofs.Common.{◌≡◌, ℕ, suc, ◌+◌, ◌-◌, ◌<◌, ◌≤◌, Bool, true, if◌then◌else◌, List, [], ◌∷◌, ◌++◌, map, drop, length, Result, Ok, Err, Contains, ap, refl, subst, sym, ◌∙◌, inl, inr, arith, add-one, append_assoc}
 use Rattle.std.specs.Prelude.{slice_index_or}
 use Rattle.std.proofs.lemmas.List.{drop_all, append-nil}
 use Rattle.rg_fraction.specs.declared.term.Wide.{Wide}
@@ -89,12 +89,6 @@ module _ (test : ℕ → Bool) (n i : ℕ) (out whole : List ℕ) (so_far : out 
     where
       more : n - i ≡ suc (n - (i + 1))
       more = omega arith
-
-  pub number_taken : i < n → test i ≡ true → (out ++ i ∷ []) ++ numbers_where test (i + 1) (n - (i + 1)) ≡ whole
-  number_taken lt e = append_assoc out (i ∷ []) (numbers_where test (i + 1) (n - (i + 1))) ∙ ap (λ l. out ++ l) (sym (where_is_next lt true e)) ∙ so_far
-
-  pub number_left : i < n → test i ≡ false → out ++ numbers_where test (i + 1) (n - (i + 1)) ≡ whole
-  number_left lt e = ap (λ l. out ++ l) (sym (where_is_next lt false e)) ∙ so_far
 
   pub numbers_end : n ≤ i → out ≡ whole
   numbers_end past = sym (append-nil out) ∙ ap (λ k. out ++ numbers_where test i k) (none past) ∙ so_far

@@ -5,7 +5,7 @@ ghost use Rattle.rg_refuting.specs.Row.{row_expression};
 ghost use Rattle.rg_spanning.specs.Spanning.{IsTreeOf};
 ghost use Rattle.rg_cycles.specs.View.{labels_of, cycle_of};
 ghost use Rattle.rg_order_of_work.specs.Fold.{ratio_of};
-ghost use Rattle.rg_order_of_work.specs.Rewriting.{is_in, dependent_labels};
+ghost use Rattle.rg_order_of_work.specs.Rewriting.{dependent_labels};
 ghost use Rattle.rg_order_of_work.specs.Spreading.{pairs_of};
 ghost use Rattle.rg_reasons.specs.Trees.{row_name_of};
 ghost use Rattle.rg_reasons.specs.Sums.{side_of, expression_of};
@@ -14,7 +14,7 @@ ghost use Rattle.rg_farkas.specs.View.{counted_of, pair_count, label_count, AreR
 ghost use Rattle.rg_reasons.specs.Certificates.{IsTermWithin};
 
 use crate::multiplied::Counted;
-use rg_cycles::Basis;
+use rg_cycles::{Basis, dependent};
 use rg_expressions::count;
 use rg_fraction::Fraction;
 use rg_lts::Lts;
@@ -44,31 +44,6 @@ pub(crate) fn row_counts(
         push_counts(&mut counts, tree, &labels, multiplier, &row)?;
     }
     Ok(counts)
-}
-
-// The labels that aren't free.
-fn dependent(alloc: Global, basis: &Basis, labels: u32) -> Result<Vec<u32>, AllocError>
-    requires { labels ≡ labels_of basis.now }
-    ensures { IfOk result (λ v. v.items ≡ dependent_labels labels (cycle_of basis.now)) }
-{
-    let mut dependent = Vec::new(alloc);
-    for t in 0..labels {
-        if !is_free(basis, t) {
-            dependent.push(t)?;
-        }
-    }
-    Ok(dependent)
-}
-
-// Whether the label is free.
-fn is_free(basis: &Basis, t: u32) -> bool
-    requires { t < labels_of basis.now }
-    ensures { result ≡ is_in (cycle_of basis.now).members t }
-{
-    match basis.relation(t) {
-        Some(_) => false,
-        None => true,
-    }
 }
 
 // Adds the counts of one row.

@@ -1,6 +1,6 @@
 //! Small bases worked by hand, and the walk at the limit of the range.
 use crate::bases::solved;
-use rg_cycles::{CycleWide, Relation, Stop, substitute};
+use rg_cycles::{CycleWide, Relation, Stop, dependent, substitute};
 use rg_fraction::{FoldStop, Fraction, Wide};
 use std::alloc::{AllocError, Global};
 use std::test::Fail;
@@ -105,6 +105,8 @@ fn a_shorter_walk_fits(rt: HostRuntime) -> Result<(), Fail> {
 fn sums_are_written_over_the_free_labels(rt: HostRuntime) -> Result<(), Fail> {
     let chords = [[2, -1].to_vec(rt.alloc())?];
     let basis = solved(rt.alloc(), 2, &chords)?;
+    let others = dependent(rt.alloc(), &basis, 2)?;
+    assert!(rt; others.as_slice() == [0].as_slice());
     let row = substitute(rt.alloc(), &basis, &[3, 1])?;
     assert!(rt; row.coeffs.as_slice() == [Fraction::new(5, 2)].as_slice());
     let passes = Wide {

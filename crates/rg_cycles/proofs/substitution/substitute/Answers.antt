@@ -10,7 +10,7 @@ use Rattle.rg_cycles.proofs.substitution.substitute.Goals as goal
 
 pub returns-in_err-sum-clause-wide : goal.returns-in_err-sum-clause-wide
 returns-in_err-sum-clause-wide c = λ w e.
-    let same : c.from_residual.result ≡ Err (stop.Wide c.in_err-sum.field-0.0) = search rules in
+    let same : c.from_residual-in_err-sum.result ≡ Err (stop.Wide c.in_err-sum.field-0.0) = search rules in
     let lt = subst (λ l. c.loop-place.place < length l) c.free-place-end.ensures c.loop-place-test.true in
     let is : c.in_err-sum.field-0.0 ≡ w = cc in
     subst (λ v. Rattle.rg_order_of_work.specs.Rewriting.substitute_fold (labels_of c.args.basis.now) (cycle_of c.args.basis.now) (number_at c.args.counts.now) (Err v)) is (place_fails (coefficient_fold (labels_of c.args.basis.now) (cycle_of c.args.basis.now) (number_at c.args.counts.now)) (free_labels (labels_of c.args.basis.now) (cycle_of c.args.basis.now)) c.loop-place.place (map ratio_of c.loop-place.coeffs.items) c.loop-place.invariant lt c.in_err-sum.field-0.0 c.in_err-sum.ensures)

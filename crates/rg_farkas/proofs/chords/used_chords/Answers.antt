@@ -3,7 +3,7 @@ use Rattle.rg_theory.specs.System.{labels}
 use Rattle.rg_cycles.specs.View.{cycle_of}
 use Rattle.rg_order_of_work.specs.Rewriting.{is_in}
 use Rattle.rg_order_of_work.specs.Spreading.{used_chords}
-use Rattle.rg_farkas.proofs.Steps.{number_taken, number_left}
+use Rattle.rg_cycles.proofs.Folding.{number_taken, number_left}
 use Rattle.rg_farkas.proofs.chords.used_chords.Goals as goal
 use Rattle.rg_farkas.proofs.chords.used_chords.Goals.{then-is_member+in_ok-push, else-is_member}
 

@@ -1,9 +1,9 @@
 use Rattle.std.proofs.Common.{not, ap, sym, ◌∙◌}
 use Rattle.rg_cycles.specs.View.{cycle_of}
 use Rattle.rg_order_of_work.specs.Rewriting.{is_in, dependent_labels}
-use Rattle.rg_farkas.proofs.Steps.{number_taken, number_left}
-use Rattle.rg_farkas.proofs.counts.dependent.Goals as goal
-use Rattle.rg_farkas.proofs.counts.dependent.Goals.{then-not-is_free+in_ok-push, else-not-is_free}
+use Rattle.rg_cycles.proofs.Folding.{number_taken, number_left}
+use Rattle.rg_cycles.proofs.substitution.dependent.Goals as goal
+use Rattle.rg_cycles.proofs.substitution.dependent.Goals.{then-not-is_free+in_ok-push, else-not-is_free}
 
 pub loop-t-preserved : goal.loop-t-preserved
 loop-t-preserved c =
