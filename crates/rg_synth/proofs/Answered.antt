@@ -21,7 +21,7 @@ use Rattle.rg_synth.specs.Given.{IsFile, IsTooLong, IsSystemFile}
 use Rattle.rg_synth.specs.Texts.{file_line}
 use Rattle.rg_synth.specs.JudgedTexts.{cert_fault_text, defect_text, refused_line, HasName}
 use Rattle.rg_synth.specs.Judged.{no_text, no_proof}
-use Rattle.rg_synth.specs.Answers.{IsObstructed, IsOpen, IsShownFor, MayCome, Answers}
+use Rattle.rg_synth.specs.Answers.{IsShownFor, IsDue, Answers}
 use Rattle.rg_synth.specs.Requests.{HasBounds, AnswersBytes, AnswersCertificate, AnswersSystem, RefusesSystem, AnswersAsked}
 use Rattle.rg_synth.specs.Run.{Run, Says, Ends, AsksFiles}
 use Rattle.rg_synth.specs.declared.answer.Answer.{Answer}
@@ -116,36 +116,32 @@ pub bounds : (words : List (List ℕ)) (asked : Asked) → Ask words asked → H
 bounds words (net class file) ask = named_bound ask.0 class ask.2
 bounds words (judgement file cert) ask = tt
 
-refused_due : (words : List (List ℕ)) (files : Option Files) (asked : Asked) (status : Status) (out err : List ℕ) → Ask words asked → RefusesSystem files (system_file asked) status out err → MayCome words files status
+refused_due : (words : List (List ℕ)) (files : Option Files) (asked : Asked) (status : Status) (out err : List ℕ) → Ask words asked → RefusesSystem files (system_file asked) status out err → IsDue words files status
 refused_due words files asked status out err ask is =
-    subst (MayCome words files) (sym is.says) (inl (inl (refl, record { asked = asked; ask = ask; is = is.is })))
+    subst (IsDue words files) (sym is.says) (inl (refl, record { asked = asked; ask = ask; is = is.is }))
 
 refused_says : (words : List (List ℕ)) (files : Option Files) (asked : Asked) (status : Status) (out err : List ℕ) → Ask words asked → RefusesSystem files (system_file asked) status out err → Answers words files status out err
 refused_says words files asked status out err ask is =
     subst (λ s. Answers words files s out err) (sym is.says)
     (inl (refl, record { asked = asked; ask = ask; is = is.is }), is.nothing, is.line)
 
--- a certificate is due where there is an unreachable state or a fork, else it is an end of the search
-no_due : (words : List (List ℕ)) (files : Option Files) (class : Class) (file : List ℕ) (lts : System) → Ask words (net class file) → IsSystemFile files file lts → IsObstructed lts ⊎ IsOpen lts → MayCome words files No
-no_due words files class file lts ask at (inl is) = inl (record { asked = net class file; ask = ask; lts = lts; file = at; fact = is })
-no_due words files class file lts ask at (inr is) = inr (record { asked = net class file; ask = ask; lts = lts; file = at; fact = is }, tt)
+-- a number that passes is due where it is the answer
+wide_due : (words : List (List ℕ)) (files : Option Files) (class : Class) (file : List ℕ) (lts : System) (cause : WideCause) → Ask words (net class file) → IsSystemFile files file lts → IsShownFor class lts cause → IsDue words files (TooWide cause)
+wide_due words files class file lts (Synthesis w) ask at is = record { asked = net class file; ask = ask; lts = lts; file = at; fact = is.2 }
 
-wide_due : (words : List (List ℕ)) (files : Option Files) (class : Class) (file : List ℕ) (lts : System) (cause : WideCause) → Ask words (net class file) → IsSystemFile files file lts → IsShownFor class lts cause → MayCome words files (TooWide cause)
-wide_due words files class file lts (Synthesis w) ask at is = inr (record { asked = net class file; ask = ask; lts = lts; file = at; fact = is.0 }, tt)
-
--- what is answered to a system may come for the words
-system_due : (words : List (List ℕ)) (files : Option Files) (asked : Asked) (lts : System) (status : Status) (out err : List ℕ) → Ask words asked → IsSystemFile files (system_file asked) lts → AnswersSystem files asked lts status out err → MayCome words files status
-system_due words files (net class file) lts Done out err ask at is = inr (record { asked = net class file; ask = ask; lts = lts; file = at; fact = is.0 }, tt)
-system_due words files (net class file) lts No out err ask at is = no_due words files class file lts ask at is.0
+-- what is answered to a system is due to the words
+system_due : (words : List (List ℕ)) (files : Option Files) (asked : Asked) (lts : System) (status : Status) (out err : List ℕ) → Ask words asked → IsSystemFile files (system_file asked) lts → AnswersSystem files asked lts status out err → IsDue words files status
+system_due words files (net class file) lts Done out err ask at is = record { asked = net class file; ask = ask; lts = lts; file = at; fact = (is.0.net.places, is.0.answer) }
+system_due words files (net class file) lts No out err ask at is = record { asked = net class file; ask = ask; lts = lts; file = at; fact = (is.0.reason, is.0.answer) }
 system_due words files (net class file) lts (TooWide cause) out err ask at is = wide_due words files class file lts cause ask at is.0
 system_due words files (net class file) lts (Usage usage) out err ask at is = absurd is
 system_due words files (net class file) lts (File fault) out err ask at is = absurd is
 system_due words files (net class file) lts ReadFault out err ask at is = absurd is
 system_due words files (net class file) lts WriteFault out err ask at is = absurd is
 system_due words files (net class file) lts NoMemory out err ask at is = absurd is
-system_due words files (judgement file cert) lts Done out err ask at is = inl (record { asked = judgement file cert; ask = ask; lts = lts; file = at; fact = (is.0.0, is.0.1) })
-system_due words files (judgement file cert) lts No out err ask at is = inl (record { asked = judgement file cert; ask = ask; lts = lts; file = at; fact = is.0 })
-system_due words files (judgement file cert) lts (File fault) out err ask at is = inl (inr (record { asked = judgement file cert; ask = ask; lts = lts; file = at; fact = (is.0, is.1) }))
+system_due words files (judgement file cert) lts Done out err ask at is = record { asked = judgement file cert; ask = ask; lts = lts; file = at; fact = (is.0.0, is.0.1) }
+system_due words files (judgement file cert) lts No out err ask at is = record { asked = judgement file cert; ask = ask; lts = lts; file = at; fact = is.0 }
+system_due words files (judgement file cert) lts (File fault) out err ask at is = inr (record { asked = judgement file cert; ask = ask; lts = lts; file = at; fact = (is.0, is.1) })
 system_due words files (judgement file cert) lts (Usage usage) out err ask at is = absurd is
 system_due words files (judgement file cert) lts (TooWide cause) out err ask at is = absurd is
 system_due words files (judgement file cert) lts ReadFault out err ask at is = absurd is
@@ -154,8 +150,8 @@ system_due words files (judgement file cert) lts NoMemory out err ask at is = ab
 
 -- and so is what it writes
 system_says : (words : List (List ℕ)) (files : Option Files) (asked : Asked) (lts : System) (status : Status) (out err : List ℕ) → Ask words asked → IsSystemFile files (system_file asked) lts → AnswersSystem files asked lts status out err → Answers words files status out err
-system_says words files (net class file) lts Done out err ask at is = (record { asked = net class file; ask = ask; lts = lts; file = at; fact = is.1 }, is.2)
-system_says words files (net class file) lts No out err ask at is = (record { asked = net class file; ask = ask; lts = lts; file = at; fact = is.1 }, is.2)
+system_says words files (net class file) lts Done out err ask at is = (record { asked = net class file; ask = ask; lts = lts; file = at; fact = is.0 }, is.1)
+system_says words files (net class file) lts No out err ask at is = (record { asked = net class file; ask = ask; lts = lts; file = at; fact = is.0 }, is.1)
 system_says words files (net class file) lts (TooWide cause) out err ask at is = (record { asked = net class file; ask = ask; lts = lts; file = at; fact = is.0 }, is.1, is.2)
 system_says words files (judgement file cert) lts (TooWide cause) out err ask at is = absurd is
 system_says words files (net class file) lts (Usage usage) out err ask at is = absurd is
@@ -171,12 +167,12 @@ system_says words files (judgement file cert) lts ReadFault out err ask at is = 
 system_says words files (judgement file cert) lts WriteFault out err ask at is = is
 system_says words files (judgement file cert) lts NoMemory out err ask at is = is
 
-pub asked_due : (words : List (List ℕ)) (files : Option Files) (asked : Asked) (status : Status) (out err : List ℕ) → Ask words asked → AnswersAsked files asked status out err → MayCome words files status
+pub asked_due : (words : List (List ℕ)) (files : Option Files) (asked : Asked) (status : Status) (out err : List ℕ) → Ask words asked → AnswersAsked files asked status out err → IsDue words files status
 asked_due words files asked status out err ask (inl is) = refused_due words files asked status out err ask is
 asked_due words files asked status out err ask (inr is) = system_due words files asked is.0 status out err ask is.1 is.2
 
 -- where there is an answer
-pub asked_due_if : (words : List (List ℕ)) (files : Option Files) (asked : Asked) (r : Result Answer Stop) → Ask words asked → IfOk r (λ a. AnswersAsked files asked a.status a.out.items a.err.items) → IfOk r (λ a. MayCome words files a.status)
+pub asked_due_if : (words : List (List ℕ)) (files : Option Files) (asked : Asked) (r : Result Answer Stop) → Ask words asked → IfOk r (λ a. AnswersAsked files asked a.status a.out.items a.err.items) → IfOk r (λ a. IsDue words files a.status)
 asked_due_if words files asked (Ok a) ask is = asked_due words files asked a.status a.out.items a.err.items ask is
 asked_due_if words files asked (Err e) ask is = tt
 

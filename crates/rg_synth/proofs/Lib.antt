@@ -6,5 +6,4 @@ pub mod Answered
 pub mod WordKinds
 pub mod Reaches
 pub mod Statuses
-pub mod Coming
 pub mod Writing

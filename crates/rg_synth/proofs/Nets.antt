@@ -1,5 +1,5 @@
 -- What is found for a system is an answer.
-use Rattle.std.proofs.Common.{◌≡◌, ◌⊎◌, ℕ, ◌<◌, ◌≤◌, List, [], length, All, Result, Ok, Err, IfOk, true≢false, sym, ap, subst, ◌∙◌}
+use Rattle.std.proofs.Common.{◌≡◌, ℕ, ◌<◌, ◌≤◌, List, [], length, map, Vec, Global, All, Result, Ok, Err, IfOk, refl, sym, ap, subst, ◌∙◌}
 use Rattle.std.proofs.lemmas.Option.{get_or_from_slice_get, slice_get_within}
 use Rattle.rg_theory.specs.System.{System, labels, IsInRange}
 use Rattle.rg_theory.specs.Net.{Place, Net, tokens}
@@ -9,7 +9,6 @@ use Rattle.rg_theory.specs.declared.Class.{Class}
 use Rattle.rg_theory.specs.Region.{IsRegionIn}
 use Rattle.rg_theory.specs.Problem.{SeparateAll}
 use Rattle.rg_theory.proofs.Classes.{yes_in_class}
-use Rattle.rg_theory.proofs.Closed.{stays_inside}
 use Rattle.rg_theory.proofs.Solution.{solution_of, places_are_regions, solved_reachable, solved_separates}
 use Rattle.rg_theory.proofs.Yes.{region_unique}
 use Rattle.rg_net.specs.Range.{IsNetInRange}
@@ -23,8 +22,18 @@ use Rattle.rg_lts.specs.WellFormed.{IsWellFormed}
 use Rattle.rg_netfile.specs.Spells.{Spells as NetSpells}
 use Rattle.rg_netfile.proofs.PrintedTexts.{printed_spelled}
 use Rattle.rg_prune.specs.Pruned.{others}
-use Rattle.rg_separate.specs.Answer.{IsNarrowRegion, AreSeparating}
-use Rattle.rg_synth.specs.Answers.{IsOpen, IsObstructed, IsReason, IsShownFor}
+use Rattle.rg_prune.specs.Pruned.{IsPruned}
+use Rattle.rg_net.specs.Shown.{shown_place}
+use Rattle.rg_net.specs.declared.net.Place.{Place as PlaceOfCode}
+use Rattle.rg_reasons.specs.declared.certificate.Certificate.{Certificate}
+use Rattle.rg_reasons.specs.Certificates.{reason_of}
+use Rattle.rg_outcome.specs.Coming.{Separation, Separation.places as places_of, Separation.unsolvable as problem_of, Separation.too_wide as term_of}
+use Rattle.rg_outcome.specs.Outcome.{Gives, Searched, Out, Out.a_state, Out.a_fork, Out.a_search, Answer.net as of_net, Answer.unsolvable as of_reason, Answer.too_wide as of_term}
+use Rattle.rg_separate.specs.View.{shown_of}
+use Rattle.rg_separate.specs.declared.wide_at.WideAt.{WideAt}
+use Rattle.rg_separate.specs.declared.separation.Separation.TheVariants as separation
+use Rattle.rg_separate.specs.Answer.{IsNarrowRegion, AreSeparating, IsSearched}
+use Rattle.rg_synth.specs.Answers.{IsOpen, IsReason, IsShownFor}
 use Rattle.rg_synth.specs.Texts.{wide_line}
 use Rattle.rg_synth.specs.Requests.{AnswersNet}
 use Rattle.rg_synth.specs.declared.answer.Answer.{Answer}
@@ -36,6 +45,7 @@ use Rattle.rg_synth.specs.declared.status.WideCause.{WideCause}
 pub record IsFound (class : Class) (lts : System) (net : Net) : Type 0 where
   pub formed : IsWellFormed lts
   pub is_open : IsOpen lts
+  pub answer : Out lts class (of_net net.places)
   pub transitions : net.labels ≡ labels lts
   pub numbers : IsNetInRange net
   pub separating : AreSeparating lts class net.places
@@ -59,9 +69,9 @@ found : (class : Class) (lts : System) (net : Net) (status : Status) (out err : 
 found class lts net status out err is done text none =
     let (solves, in_class) = yes_in_class lts net class is.formed.in_range is.is_open.reachable is.transitions (regions_of lts class net.places is.separating.regions) is.separating.separate in
     subst (λ s. AnswersNet class lts s out err) (sym done) (
-      is.is_open,
       record {
         net = net;
+        answer = is.answer;
         in_range = is.numbers;
         solves = solves;
         in_class = in_class;
@@ -77,28 +87,41 @@ pub found_if : {E : Type 0} (class : Class) (lts : System) (net : Net) (r : Resu
 found_if class lts net (Ok a) is done text none = found class lts net a.status a.out.items a.err.items is done text none
 found_if class lts net (Err e) is done text none = tt
 
--- what holds of an open system is refuted problems
-pub reason_is : (lts : System) (class : Class) (reason : Reason) → IsOpen lts → Accepts lts class reason → IsReason lts reason
-reason_is lts class (unreachable s) opened (lt, (inside, closed)) =
-    let (ts, path) = opened.reachable.each s lt in
-    absurd (true≢false (sym (stays_inside lts inside closed.closed lts.initial ts s path closed.initial) ∙ closed.without))
-reason_is lts class (fork s t s₁ s₂) opened is = absurd (is.2 (opened.fork_free.one_target s t s₁ s₂ is.0 is.1))
-reason_is lts class (refuted problem trees) opened is = opened
+-- ---- what the search ends with is the answer
+
+pub net_out : (lts : System) (class : Class) (kept left : List Place) → IsOpen lts → Searched lts class (places_of kept) → IsPruned lts kept left → Out lts class (of_net left)
+net_out lts class kept left opened searched pruned = a_search (places_of kept) (of_net left) opened.reachable opened.fork_free searched pruned
+
+pub places_searched : (lts : System) (class : Class) (places : Vec PlaceOfCode Global) → IsSearched lts class (separation.Places places) → Searched lts class (places_of (map shown_place places.items))
+places_searched lts class places is = subst (Searched lts class) is.shows is.searched
+
+pub reason_out : (lts : System) (class : Class) (cert : Certificate) → IsOpen lts → IsSearched lts class (separation.Unsolvable cert) → Out lts class (of_reason (reason_of cert.reason))
+reason_out lts class cert opened is =
+    let (problem, trees, reason_is, o_is) = is.shows in
+    a_search is.o (of_reason (reason_of cert.reason)) opened.reachable opened.fork_free is.searched (subst (λ o. Gives lts o (of_reason (reason_of cert.reason))) (sym o_is) reason_is)
+
+pub term_out : (lts : System) (class : Class) (at : WideAt) → IsOpen lts → IsSearched lts class (separation.TooWide at) → Out lts class (of_term (shown_of at))
+term_out lts class at opened is = a_search is.o (of_term (shown_of at)) opened.reachable opened.fork_free is.searched (subst (λ o. Gives lts o (of_term (shown_of at))) (sym is.shows) refl)
+
+-- the reason that is the answer
+refuted_is : (lts : System) (o : Separation) (reason : Reason) → IsOpen lts → Gives lts o (of_reason reason) → IsReason lts reason
+refuted_is lts (places_of kept) reason opened is = absurd is
+refuted_is lts (problem_of problem trees) reason opened is = subst (IsReason lts) (sym is) opened
+refuted_is lts (term_of w) reason opened is = absurd is
+
+reason_is : (lts : System) (class : Class) (reason : Reason) → Out lts class (of_reason reason) → IsReason lts reason
+reason_is lts class _ (a_state s least) = least
+reason_is lts class _ (a_fork s t s₁ s₂ reachable least) = (reachable, least)
+reason_is lts class reason (a_search o _ reachable fork_free searched gives) = refuted_is lts o reason (record { reachable = reachable; fork_free = fork_free }) gives
 
 -- a reason is an answer
-pub refutes : (class : Class) (lts : System) (reason : Reason) (status : Status) (out err : List ℕ) → IsInRange lts → IsObstructed lts ⊎ IsOpen lts → IsReason lts reason → Accepts lts class reason → status ≡ No → out ≡ cert_text (record { class = class; reason = reason }) lts → Spells out lts (record { class = class; reason = reason }) → err ≡ [] → AnswersNet class lts status out err
-refutes class lts reason status out err fine reached is holds is_no text spelled none =
+pub refutes : (class : Class) (lts : System) (reason : Reason) (status : Status) (out err : List ℕ) → IsInRange lts → Out lts class (of_reason reason) → Accepts lts class reason → status ≡ No → out ≡ cert_text (record { class = class; reason = reason }) lts → Spells out lts (record { class = class; reason = reason }) → err ≡ [] → AnswersNet class lts status out err
+refutes class lts reason status out err fine answer holds is_no text spelled none =
     subst (λ s. AnswersNet class lts s out err) (sym is_no) (
-      reached,
-      record { reason = reason; is = is; holds = holds; none = accepted lts class reason fine holds; text = text; spelled = spelled },
+      record { reason = reason; answer = answer; is = reason_is lts class reason answer; holds = holds; none = accepted lts class reason fine holds; text = text; spelled = spelled },
       none,
     )
 
 -- a number that passes is an answer
-wide : (class : Class) (lts : System) (cause : WideCause) (status : Status) (out err : List ℕ) → IsShownFor class lts cause → status ≡ TooWide cause → out ≡ [] → err ≡ wide_line cause → AnswersNet class lts status out err
+pub wide : (class : Class) (lts : System) (cause : WideCause) (status : Status) (out err : List ℕ) → IsShownFor class lts cause → status ≡ TooWide cause → out ≡ [] → err ≡ wide_line cause → AnswersNet class lts status out err
 wide class lts cause status out err is says nothing line = subst (λ s. AnswersNet class lts s out err) (sym says) (is, nothing, line)
-
--- a number that passes is an answer, where there is memory for its line
-pub wide_if : {E : Type 0} (class : Class) (lts : System) (cause : WideCause) (r : Result Answer E) → IsShownFor class lts cause → IfOk r (λ a. a.status ≡ TooWide cause) → IfOk r (λ a. a.out.items ≡ []) → IfOk r (λ a. a.err.items ≡ wide_line cause) → IfOk r (λ a. AnswersNet class lts a.status a.out.items a.err.items)
-wide_if class lts cause (Ok a) is says nothing line = wide class lts cause a.status a.out.items a.err.items is says nothing line
-wide_if class lts cause (Err e) is says nothing line = tt

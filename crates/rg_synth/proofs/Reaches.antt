@@ -1,5 +1,5 @@
--- What a system is for a class, and a certificate's file for a system, each in one way.
-use Rattle.std.proofs.Common.{◌≡◌, ◌⊎◌, inl, inr, ℕ, ◌<◌, ◌≤◌, List, length, Option, Some, None, refl, sym, ap, subst, ◌∙◌, arith}
+-- What a certificate's file is for a system, in one way.
+use Rattle.std.proofs.Common.{◌≡◌, ℕ, ◌<◌, ◌≤◌, List, length, Option, Some, None, refl, sym, ap, subst, ◌∙◌, arith}
 use Rattle.rg_ports.specs.Shelf.{Files, file_of}
 use Rattle.rg_theory.specs.System.{System}
 use Rattle.rg_theory.specs.declared.Class.{Class}
@@ -7,30 +7,8 @@ use Rattle.rg_cert.specs.Spells.{Spells}
 use Rattle.rg_text.specs.Limits.{most_bytes}
 use Rattle.rg_synth.specs.Given.{IsUnread}
 use Rattle.rg_synth.specs.Judged.{IsAccepted, IsNotAccepted}
-use Rattle.rg_synth.specs.Answers.{IsOpen, IsObstructed}
 use Rattle.rg_synth.specs.declared.status.Fault.{Fault}
 use Rattle.rg_synth.specs.declared.status.Fault.TheVariants.{Missing, TooLong, Apt}
-
--- ---- a system
-
-pub data Reach : Type 0 where
-  obstructed : Reach
-  unobstructed : Reach
-
-abbrev pub IsReach : Class → System → Reach → Type 0
-IsReach class lts obstructed = IsObstructed lts
-IsReach class lts unobstructed = IsOpen lts
-
--- an obstructed system isn't open
-closed : (lts : System) → IsObstructed lts → IsOpen lts → ⊥
-closed lts (inl (s, h)) open_system = h.unreachable (open_system.reachable.each s h.state)
-closed lts (inr (s, t, s₁, s₂, all, h)) open_system = h.fork.2 (open_system.fork_free.one_target s t s₁ s₂ h.fork.0 h.fork.1)
-
-pub one_reach : (class : Class) (lts : System) (v w : Reach) → IsReach class lts v → IsReach class lts w → v ≡ w
-one_reach class lts obstructed obstructed h k = refl
-one_reach class lts obstructed unobstructed h k = absurd (closed lts h k)
-one_reach class lts unobstructed obstructed h k = absurd (closed lts k h)
-one_reach class lts unobstructed unobstructed h k = refl
 
 -- ---- files that are told
 

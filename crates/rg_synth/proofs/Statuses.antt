@@ -4,17 +4,22 @@ use Rattle.rg_ports.specs.Shelf.{Files}
 use Rattle.rg_theory.specs.System.{System}
 use Rattle.rg_apt.specs.declared.fault.TextFault.{TextFault}
 use Rattle.rg_apt.specs.Spells.{Spells, FirstFault}
+use Rattle.rg_theory.specs.declared.Class.{Class}
+use Rattle.rg_order_of_work.specs.Shown.{Shown}
+use Rattle.rg_outcome.specs.Outcome.{Out, Answer, Answer.net as of_net, Answer.unsolvable as of_reason, Answer.too_wide as of_term}
+use Rattle.rg_separate.specs.View.{shown_of}
 use Rattle.rg_synth.specs.Words.{Asked, net, judgement, system_file}
 use Rattle.rg_synth.specs.Given.{IsNoSystem, IsSystemFile, AskOf}
-use Rattle.rg_synth.specs.Answers.{IsYes, IsNo, IsSecondUnread, IsSearched, IsFileRefused, IsDue}
-use Rattle.rg_synth.specs.Run.{IsDecided}
+use Rattle.rg_synth.specs.Answers.{IsYes, IsNo, Passes, IsSecondUnread, IsFileRefused, IsDue}
+use Rattle.rg_synth.specs.Run.{IsDecided, ShowsTerm, IsTheOne}
 use Rattle.rg_synth.specs.declared.status.Status.{Status}
 use Rattle.rg_synth.specs.declared.status.Status.TheVariants.{Done, No, Usage as Refuses, File, ReadFault, WriteFault, NoMemory, TooWide}
+use Rattle.rg_synth.specs.declared.status.WideCause.TheVariants.{Synthesis}
 use Rattle.rg_synth.specs.declared.status.Fault.{Fault}
 use Rattle.rg_synth.specs.declared.status.Fault.TheVariants.{Missing, TooLong, Apt}
 use Rattle.rg_synth.specs.declared.status.FileFault.{FileFault}
 use Rattle.rg_synth.proofs.WordKinds.{Kind, refused, asks, IsOfKind, one_kind}
-use Rattle.rg_synth.proofs.Reaches.{Reach, obstructed, unobstructed, IsReach, one_reach, Cert, unread, accepted, not_accepted, IsCert, one_cert, same_bytes, not_there, too_short}
+use Rattle.rg_synth.proofs.Reaches.{Cert, unread, accepted, not_accepted, IsCert, one_cert, same_bytes, not_there, too_short}
 
 -- ---- what the file of a name is
 
@@ -26,11 +31,12 @@ abbrev IsVerdict : Files → List ℕ → Verdict → Type 0
 IsVerdict files name (no_system fault) = IsNoSystem (Some files) name fault
 IsVerdict files name (spells lts) = IsSystemFile (Some files) name lts
 
--- a text spells one system or has one first fault, never both
+-- a text spells one system or has one first fault, never both; a system and a class have one answer
 pub record OneAnswer : Type 0 where
   pub one_system : (bytes : List ℕ) (a b : System) → Spells bytes a → Spells bytes b → a ≡ b
   pub one_fault : (bytes : List ℕ) (f g : TextFault) → FirstFault bytes f → FirstFault bytes g → f ≡ g
   pub not_both : (bytes : List ℕ) (a : System) (f : TextFault) → Spells bytes a → FirstFault bytes f → ⊥
+  pub one_out : (lts : System) (class : Class) (a b : Answer) → Out lts class a → Out lts class b → a ≡ b
 
 one_no_system : OneAnswer → (files : Files) (name : List ℕ) (f g : Fault) → IsNoSystem (Some files) name f → IsNoSystem (Some files) name g → f ≡ g
 one_no_system one files name Missing Missing h k = refl
@@ -59,14 +65,19 @@ one_verdict one files name (spells lts) (spells other) h k =
 
 -- ---- the one end of all that
 
--- one status, or one of those to which a search comes
+-- one status, or the term that is shown
 data End : Type 0 where
   one : Status → End
-  search : End
+  passes : Shown → End
 
-abbrev reach_end : Reach → End
-reach_end obstructed = one No
-reach_end unobstructed = search
+abbrev answer_end : Answer → End
+answer_end (of_net places) = one Done
+answer_end (of_reason reason) = one No
+answer_end (of_term w) = passes w
+
+abbrev end_of : Status → End
+end_of (TooWide (Synthesis at)) = passes (shown_of at)
+end_of s = one s
 
 abbrev cert_status : Cert → Status
 cert_status (unread fault) = File (record { file = 2; fault = fault })
@@ -76,10 +87,20 @@ cert_status not_accepted = No
 -- what is decided by what is told
 abbrev IsDecidedEnd : Option Files → End → Type 0
 IsDecidedEnd files (one s) = IsDecided files s
-IsDecidedEnd files search = IsSome files
+IsDecidedEnd files (passes w) = IsSome files
+
+end_decided : (files : Option Files) (s : Status) → IsDecided files s → IsDecidedEnd files (end_of s)
+end_decided files Done told = told
+end_decided files No told = told
+end_decided files (Refuses usage) told = told
+end_decided files (File fault) told = told
+end_decided files (TooWide (Synthesis at)) told = told
+end_decided files ReadFault told = told
+end_decided files WriteFault told = told
+end_decided files NoMemory told = told
 
 abbrev AtSystem : Files → Asked → System → End → Type 0
-AtSystem files (net class file) lts e = (reach : Reach) × IsReach class lts reach × (e ≡ reach_end reach)
+AtSystem files (net class file) lts e = (a : Answer) × Out lts class a × (e ≡ answer_end a)
 AtSystem files (judgement file cert) lts e = (v : Cert) × IsCert files cert lts v × (e ≡ one (cert_status v))
 
 abbrev AtVerdict : Files → Asked → Verdict → End → Type 0
@@ -97,9 +118,9 @@ AtKind files (asks asked) e = AtAsked files asked e
 abbrev Placed : List (List ℕ) → Option Files → End → Type 0
 Placed words files e = (kind : Kind) × IsOfKind words kind × AtKind files kind e
 
-system_same : (files : Files) (asked : Asked) (lts : System) (a b : End) → AtSystem files asked lts a → AtSystem files asked lts b → a ≡ b
-system_same files (net class file) lts a b x y = x.2 ∙ ap reach_end (one_reach class lts x.0 y.0 x.1 y.1) ∙ sym y.2
-system_same files (judgement file cert) lts a b x y = x.2 ∙ ap (λ v. one (cert_status v)) (one_cert files cert lts x.0 y.0 x.1 y.1) ∙ sym y.2
+system_same : OneAnswer → (files : Files) (asked : Asked) (lts : System) (a b : End) → AtSystem files asked lts a → AtSystem files asked lts b → a ≡ b
+system_same answers files (net class file) lts a b x y = x.2 ∙ ap answer_end (answers.one_out lts class x.0 y.0 x.1 y.1) ∙ sym y.2
+system_same answers files (judgement file cert) lts a b x y = x.2 ∙ ap (λ v. one (cert_status v)) (one_cert files cert lts x.0 y.0 x.1 y.1) ∙ sym y.2
 
 verdict_same : OneAnswer → (files : Files) (asked : Asked) (v w : Verdict) (a b : End) → IsVerdict files (system_file asked) v → IsVerdict files (system_file asked) w → AtVerdict files asked v a → AtVerdict files asked w b → a ≡ b
 verdict_same answers files asked v w a b h k x y =
@@ -107,7 +128,7 @@ verdict_same answers files asked v w a b h k x y =
   where
     by : (v : Verdict) → AtVerdict files asked v a → AtVerdict files asked v b → a ≡ b
     by (no_system f) x y = x ∙ sym y
-    by (spells lts) x y = system_same files asked lts a b x y
+    by (spells lts) x y = system_same answers files asked lts a b x y
 
 kind_same : OneAnswer → (files : Option Files) (kind : Kind) (a b : End) → IsDecidedEnd files b → AtKind files kind a → AtKind files kind b → a ≡ b
 kind_same answers files (refused usage) a b told x y = x ∙ sym y
@@ -122,18 +143,18 @@ placed_same answers words files a b told x y =
 
 at_yes : (files : Option Files) (asked : Asked) (lts : System) → IsSystemFile files (system_file asked) lts → IsYes files asked lts → AtAsked files asked (one Done)
 at_yes None asked lts file is = λ told. cc
-at_yes (Some files) (net class name) lts file is = absurd is
+at_yes (Some files) (net class name) lts file (places, out) = (spells lts, file, (of_net places, out, refl))
 at_yes (Some files) (judgement name cert) lts file is = (spells lts, file, (accepted, is, refl))
 
 at_no : (files : Option Files) (asked : Asked) (lts : System) → IsSystemFile files (system_file asked) lts → IsNo files asked lts → AtAsked files asked (one No)
 at_no None asked lts file is = λ told. cc
-at_no (Some files) (net class name) lts file is = (spells lts, file, (obstructed, is, refl))
+at_no (Some files) (net class name) lts file (reason, out) = (spells lts, file, (of_reason reason, out, refl))
 at_no (Some files) (judgement name cert) lts file is = (spells lts, file, (not_accepted, is, refl))
 
-at_search : (files : Option Files) (asked : Asked) (lts : System) → IsSystemFile files (system_file asked) lts → IsSearched asked lts → AtAsked files asked search
-at_search None asked lts file is = λ told. cc
-at_search (Some files) (judgement name cert) lts file is = absurd is
-at_search (Some files) (net class name) lts file is = (spells lts, file, (unobstructed, is, refl))
+at_term : (files : Option Files) (asked : Asked) (lts : System) (w : Shown) → IsSystemFile files (system_file asked) lts → Passes w asked lts → AtAsked files asked (passes w)
+at_term None asked lts w file is = λ told. cc
+at_term (Some files) (judgement name cert) lts w file is = absurd is
+at_term (Some files) (net class name) lts w file is = (spells lts, file, (of_term w, is, refl))
 
 same_fault : (fault : FileFault) (n : ℕ) → fault.file ≡ n → one (File fault) ≡ one (File (record { file = n; fault = fault.fault }))
 same_fault fault n p = ap (λ f. one (File f)) (λ i. record { file = p i; fault = fault.fault })
@@ -151,30 +172,64 @@ placed_file : (words : List (List ℕ)) (files : Option Files) (fault : FileFaul
 placed_file words files fault (inl (first, h)) = (asks h.asked, h.ask, at_first files h.asked fault first h.is)
 placed_file words files fault (inr h) = (asks h.asked, h.ask, at_second files h.asked h.lts fault h.file h.fact)
 
-placed : (words : List (List ℕ)) (files : Option Files) (s : Status) → IsDue words files s → Placed words files (one s)
+placed_term : (words : List (List ℕ)) (files : Option Files) (w : Shown) → AskOf words files (Passes w) → Placed words files (passes w)
+placed_term words files w h = (asks h.asked, h.ask, at_term files h.asked h.lts w h.file h.fact)
+
+placed : (words : List (List ℕ)) (files : Option Files) (s : Status) → IsDue words files s → Placed words files (end_of s)
 placed words files Done h = (asks h.asked, h.ask, at_yes files h.asked h.lts h.file h.fact)
 placed words files No h = (asks h.asked, h.ask, at_no files h.asked h.lts h.file h.fact)
 placed words files (Refuses usage) h = (refused usage, h, refl)
 placed words files (File fault) h = placed_file words files fault h
-placed words files (TooWide cause) h = absurd h
+placed words files (TooWide (Synthesis at)) h = placed_term words files (shown_of at) h
 placed words files ReadFault h = absurd h
 placed words files WriteFault h = absurd h
 placed words files NoMemory h = absurd h
 
-placed_search : (words : List (List ℕ)) (files : Option Files) → AskOf words files IsSearched → Placed words files search
-placed_search words files h = (asks h.asked, h.ask, at_search files h.asked h.lts h.file h.fact)
+-- ---- the same end is the same status, or shows the same term
 
 same_one : (a b : Status) → one a ≡ one b → a ≡ b
 same_one a b e = cc
 
--- two statuses that are due are one, where the second is decided by what is told
-pub one_status : OneAnswer → (words : List (List ℕ)) (files : Option Files) (a b : Status) → IsDecided files b → IsDue words files a → IsDue words files b → a ≡ b
-one_status answers words files a b told x y = same_one a b (placed_same answers words files (one a) (one b) told (placed words files a x) (placed words files b y))
+same_term : (a b : Shown) → passes a ≡ passes b → a ≡ b
+same_term a b e = cc
 
--- where a search is asked for no status is due, where it is decided by what is told
-pub none_due : OneAnswer → (words : List (List ℕ)) (files : Option Files) (b : Status) → IsDecided files b → AskOf words files IsSearched → IsDue words files b → ⊥
-none_due answers words files b told x y = let e = placed_same answers words files search (one b) told (placed_search words files x) (placed words files b y) in cc
+clash : (s : Status) (w : Shown) → one s ≡ passes w → ⊥
+clash s w e = absurd cc
 
--- nor is one due then, where the files are told
-pub no_search : OneAnswer → (words : List (List ℕ)) (files : Option Files) (a : Status) → IsSome files → IsDue words files a → AskOf words files IsSearched → ⊥
-no_search answers words files a told x y = let e = placed_same answers words files (one a) search told (placed words files a x) (placed_search words files y) in cc
+shows_term : (w : Shown) (s : Status) → end_of s ≡ passes w → ShowsTerm w s
+shows_term w (TooWide (Synthesis at)) e = same_term (shown_of at) w e
+shows_term w Done e = absurd (clash Done w e)
+shows_term w No e = absurd (clash No w e)
+shows_term w (Refuses usage) e = absurd (clash (Refuses usage) w e)
+shows_term w (File fault) e = absurd (clash (File fault) w e)
+shows_term w ReadFault e = absurd (clash ReadFault w e)
+shows_term w WriteFault e = absurd (clash WriteFault w e)
+shows_term w NoMemory e = absurd (clash NoMemory w e)
+
+is_status : (due s : Status) → end_of s ≡ one due → s ≡ due
+is_status due (TooWide (Synthesis at)) e = absurd (clash due (shown_of at) (sym e))
+is_status due Done e = same_one Done due e
+is_status due No e = same_one No due e
+is_status due (Refuses usage) e = same_one (Refuses usage) due e
+is_status due (File fault) e = same_one (File fault) due e
+is_status due ReadFault e = same_one ReadFault due e
+is_status due WriteFault e = same_one WriteFault due e
+is_status due NoMemory e = same_one NoMemory due e
+
+is_the_one : (due s : Status) → end_of s ≡ end_of due → IsTheOne due s
+is_the_one (TooWide (Synthesis at)) s e = shows_term (shown_of at) s e
+is_the_one Done s e = is_status Done s e
+is_the_one No s e = is_status No s e
+is_the_one (Refuses usage) s e = is_status (Refuses usage) s e
+is_the_one (File fault) s e = is_status (File fault) s e
+is_the_one ReadFault s e = is_status ReadFault s e
+is_the_one WriteFault s e = is_status WriteFault s e
+is_the_one NoMemory s e = is_status NoMemory s e
+
+-- of two statuses that are due the first is the second, or shows its term, where that is decided by what is told
+pub one_status : OneAnswer → (words : List (List ℕ)) (files : Option Files) (a b : Status) → IsDecided files b → IsDue words files a → IsDue words files b → IsTheOne b a
+one_status answers words files a b told x y = is_the_one b a (placed_same answers words files (end_of a) (end_of b) (end_decided files b told) (placed words files a x) (placed words files b y))
+
+-- where the answer is a term, a status that is due shows it
+pub term_shown : OneAnswer → (words : List (List ℕ)) (files : Option Files) (w : Shown) (a : Status) → IsSome files → IsDue words files a → AskOf words files (Passes w) → ShowsTerm w a
+term_shown answers words files w a told x y = shows_term w a (placed_same answers words files (end_of a) (passes w) told (placed words files a x) (placed_term words files w y))

@@ -2,7 +2,7 @@
 use Rattle.std.specs.Prelude.{◌≡◌, ◌⊎◌, ℕ, ◌<◌, ◌≤◌, List, [], length, Option}
 use Rattle.rg_ports.specs.Shelf.{Files}
 use Rattle.rg_theory.specs.System.{System, IsAllReachable, IsForkFree, IsLeastUnreachable, IsLeastFork}
-use Rattle.rg_theory.specs.Net.{Net}
+use Rattle.rg_theory.specs.Net.{Place, Net}
 use Rattle.rg_theory.specs.Solves.{Solves}
 use Rattle.rg_theory.specs.declared.Class.{Class}
 use Rattle.rg_theory.specs.Class.{IsBounded, InClass, NoNet}
@@ -12,7 +12,8 @@ use Rattle.rg_net.specs.NetText.{net_text}
 use Rattle.rg_netfile.specs.Contents.{most_places}
 use Rattle.rg_netfile.specs.Spells.{Spells as NetSpells}
 use Rattle.rg_refuting.specs.Refutes.{Reason, Reason.unreachable, Reason.fork, Reason.refuted, Accepts}
-use Rattle.rg_order_of_work.specs.Shown.{ShownWide}
+use Rattle.rg_order_of_work.specs.Shown.{Shown, ShownWide}
+use Rattle.rg_outcome.specs.Outcome.{Out, Answer.net as of_net, Answer.unsolvable as of_reason, Answer.too_wide as of_term}
 use Rattle.rg_separate.specs.View.{shown_of}
 use Rattle.rg_prune.specs.Pruned.{net_without}
 use Rattle.rg_cert.specs.Text.{cert_text}
@@ -35,20 +36,18 @@ pub record IsOpen (lts : System) : Type 0 where
   pub reachable : IsAllReachable lts
   pub fork_free : IsForkFree lts
 
--- some state can't be reached, or there is a fork
-abbrev pub IsObstructed : System → Type 0
-IsObstructed lts = ((s : ℕ) × IsLeastUnreachable lts s) ⊎ ((s t s₁ s₂ : ℕ) × IsAllReachable lts × IsLeastFork lts s t s₁ s₂)
-
 -- why no net of the class solves the system: the least unreachable state, else the first fork, else a problem
 abbrev pub IsReason : System → Reason → Type 0
 IsReason lts (unreachable s) = IsLeastUnreachable lts s
 IsReason lts (fork s t s₁ s₂) = IsAllReachable lts × IsLeastFork lts s t s₁ s₂
 IsReason lts (refuted problem trees) = IsOpen lts
 
--- the bytes are the text of a net of the class that solves the system and without any one of its places doesn't, and are read
--- as that net where a net file may have so many places; no number of the net or of a reachable marking is above 2^127 - 1
+-- the bytes are the text of the net that is the answer for the system and the class: it is of the class, solves the system, and
+-- without any one of its places doesn't; they are read as that net where a net file may have so many places; no number of the
+-- net or of a reachable marking is above 2^127 - 1
 pub record IsNetText (class : Class) (lts : System) (out : List ℕ) : Type 0 where
   pub net : Net
+  pub answer : Out lts class (of_net net.places)
   pub in_range : IsNetInRange net
   pub solves : Solves net lts
   pub in_class : InClass net class
@@ -57,42 +56,37 @@ pub record IsNetText (class : Class) (lts : System) (out : List ℕ) : Type 0 wh
   pub text : out ≡ net_text net lts
   pub spelled : length net.places ≤ most_places → NetSpells out lts net
 
--- the bytes are the text of a certificate of the class that holds, and are read as that certificate; no net of the class
--- solves the system
+-- the bytes are the text of the certificate with the reason that is the answer for the system and the class; it holds, and the
+-- bytes are read as it; no net of the class solves the system
 pub record IsCertificateText (class : Class) (lts : System) (out : List ℕ) : Type 0 where
   pub reason : Reason
+  pub answer : Out lts class (of_reason reason)
   pub is : IsReason lts reason
   pub holds : Accepts lts class reason
   pub none : NoNet lts class
   pub text : out ≡ cert_text (record { class = class; reason = reason }) lts
   pub spelled : CertificateSpells out lts (record { class = class; reason = reason })
 
--- a number that passes in the work on the system for the class, in its stated order
+-- a number that passes in the work on the system for the class, in its stated order; it is the answer for them
 abbrev pub IsShownFor : Class → System → WideCause → Type 0
-IsShownFor class lts (Synthesis w) = IsOpen lts × ShownWide lts class (shown_of w)
+IsShownFor class lts (Synthesis w) = IsOpen lts × ShownWide lts class (shown_of w) × Out lts class (of_term (shown_of w))
 
 -- ---- when a status is due
 
--- the command's yes: the certificate of the second file is accepted
+-- the command's yes: the answer is a net, or the certificate of the second file is accepted
 abbrev pub IsYes : Option Files → Asked → System → Type 0
-IsYes files (net class file) lts = ⊥
+IsYes files (net class file) lts = (places : List Place) × Out lts class (of_net places)
 IsYes files (judgement file cert) lts = (class : Class) × IsAccepted files cert lts class
 
--- the command's no: an unreachable state or a fork, or no certificate that is accepted
+-- the command's no: the answer is a reason, or there is no certificate that is accepted
 abbrev pub IsNo : Option Files → Asked → System → Type 0
-IsNo files (net class file) lts = IsObstructed lts
+IsNo files (net class file) lts = (reason : Reason) × Out lts class (of_reason reason)
 IsNo files (judgement file cert) lts = IsNotAccepted files cert lts
 
--- a net is asked for, of an open system: a net, a certificate or a number that passes is the answer
-abbrev pub IsSearched : Asked → System → Type 0
-IsSearched (net class file) lts = IsOpen lts
-IsSearched (judgement file cert) lts = ⊥
-
-abbrev pub IsSearchEnd : Status → Type 0
-IsSearchEnd Done = Unit {0}
-IsSearchEnd No = Unit {0}
-IsSearchEnd (TooWide cause) = Unit {0}
-IsSearchEnd _ = ⊥
+-- a net is asked for, and the answer is this term, which is out of range
+abbrev pub Passes : Shown → Asked → System → Type 0
+Passes w (net class file) lts = Out lts class (of_term w)
+Passes w (judgement file cert) lts = ⊥
 
 -- the second file isn't there or is too long
 abbrev pub IsSecondUnread : Option Files → Asked → FileFault → Type 0
@@ -111,14 +105,10 @@ IsDue words files Done = AskOf words files (IsYes files)
 IsDue words files No = AskOf words files (IsNo files)
 IsDue words files (Usage usage) = AreRefused words usage
 IsDue words files (File fault) = IsFileRefused words files fault
-IsDue words files (TooWide cause) = ⊥
+IsDue words files (TooWide (Synthesis w)) = AskOf words files (Passes (shown_of w))
 IsDue words files ReadFault = ⊥
 IsDue words files WriteFault = ⊥
 IsDue words files NoMemory = ⊥
-
--- the status may come: it is due, or it is one of the three to which a search comes
-abbrev pub MayCome : List (List ℕ) → Option Files → Status → Type 0
-MayCome words files status = IsDue words files status ⊎ (AskOf words files IsSearched × IsSearchEnd status)
 
 -- ---- what a status says
 

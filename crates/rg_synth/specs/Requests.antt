@@ -11,7 +11,7 @@ use Rattle.rg_synth.specs.Words.{Asked, net, judgement, system_file}
 use Rattle.rg_synth.specs.Given.{IsUnread, IsNoSystem, IsSystemFile}
 use Rattle.rg_verify.specs.Judged.{Holds}
 use Rattle.rg_synth.specs.Judged.{IsAccepted, IsNotAccepted, IsRefusedFor, IsRefused}
-use Rattle.rg_synth.specs.Answers.{IsObstructed, IsOpen, IsShownFor, IsNetText, IsCertificateText}
+use Rattle.rg_synth.specs.Answers.{IsShownFor, IsNetText, IsCertificateText}
 use Rattle.rg_synth.specs.JudgedTexts.{accepted_line, refused_line}
 use Rattle.rg_synth.specs.Texts.{file_line, wide_line}
 use Rattle.rg_synth.specs.declared.request.Request.{Request}
@@ -32,8 +32,8 @@ HasBounds (judgement file cert) = Unit {0}
 
 -- the answer to a system of which a net of the class is asked
 abbrev pub AnswersNet : Class → System → Status → List ℕ → List ℕ → Type 0
-AnswersNet class lts Done out err = IsOpen lts × IsNetText class lts out × (err ≡ [])
-AnswersNet class lts No out err = (IsObstructed lts ⊎ IsOpen lts) × IsCertificateText class lts out × (err ≡ [])
+AnswersNet class lts Done out err = IsNetText class lts out × (err ≡ [])
+AnswersNet class lts No out err = IsCertificateText class lts out × (err ≡ [])
 AnswersNet class lts (TooWide cause) out err = IsShownFor class lts cause × (out ≡ []) × (err ≡ wide_line cause)
 AnswersNet class lts _ out err = ⊥
 

@@ -7,9 +7,12 @@ use Rattle.rg_ports.specs.Sink.{taken_with, TakesPart}
 use Rattle.rg_theory.specs.System.{System}
 use Rattle.rg_synth.specs.Words.{Asked, judgement, Ask, file_words, system_file}
 use Rattle.rg_synth.specs.Given.{IsSystemFile, AskOf}
-use Rattle.rg_synth.specs.Answers.{Answers, IsDue, IsSearched, IsSearchEnd}
+use Rattle.rg_order_of_work.specs.Shown.{Shown}
+use Rattle.rg_separate.specs.View.{shown_of}
+use Rattle.rg_synth.specs.Answers.{Answers, IsDue, Passes}
 use Rattle.rg_synth.specs.declared.status.Status.{Status}
-use Rattle.rg_synth.specs.declared.status.Status.TheVariants.{Usage, ReadFault, WriteFault, NoMemory}
+use Rattle.rg_synth.specs.declared.status.Status.TheVariants.{Usage, TooWide, ReadFault, WriteFault, NoMemory}
+use Rattle.rg_synth.specs.declared.status.WideCause.TheVariants.{Synthesis}
 
 -- a value before the run and after it
 pub record Change (A : Type 0) : Type 0 where
@@ -121,12 +124,22 @@ abbrev pub IsDecided : Option Files → Status → Type 0
 IsDecided files (Usage usage) = Unit {0}
 IsDecided files status = IsSome files
 
+-- the status shows this term
+abbrev pub ShowsTerm : Shown → Status → Type 0
+ShowsTerm w (TooWide (Synthesis at)) = shown_of at ≡ w
+ShowsTerm w _ = ⊥
+
+-- the status is the one that is due, or shows the same term
+abbrev pub IsTheOne : Status → Status → Type 0
+IsTheOne (TooWide (Synthesis at)) result = ShowsTerm (shown_of at) result
+IsTheOne due result = result ≡ due
+
 -- where the status is due to the words and the files that are told it comes, unless a fault or want of memory comes in
 -- its place
 abbrev pub ComesIfDue : List (List ℕ) → Option Files → Status → Status → Type 0
-ComesIfDue words files due result = IsDecided files due → IsDue words files due → (result ≡ due) ⊎ IsMishap result
+ComesIfDue words files due result = IsDecided files due → IsDue words files due → IsTheOne due result ⊎ IsMishap result
 
--- where a net is asked for and that is built, and the shelf tells its files, a net, a certificate or a number that passes
--- is the answer, unless a fault or want of memory comes in its place
-abbrev pub EndsSearch : List (List ℕ) → Option Files → Status → Type 0
-EndsSearch words files result = IsSome files → AskOf words files IsSearched → IsSearchEnd result ⊎ IsMishap result
+-- where a net is asked for, the shelf tells its files, and the answer is a term that is out of range, the status shows that term,
+-- unless a fault or want of memory comes in its place
+abbrev pub ComesIfPassed : List (List ℕ) → Option Files → Shown → Status → Type 0
+ComesIfPassed words files w result = IsSome files → AskOf words files (Passes w) → ShowsTerm w result ⊎ IsMishap result

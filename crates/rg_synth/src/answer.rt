@@ -2,7 +2,7 @@
 ghost use Rattle.std.specs.Prelude.{◌≡◌, ℕ, [], map, string_bytes, IfOk, IsErrOf};
 ghost use Rattle.rg_ports.specs.Count.{HasRisen};
 ghost use Rattle.rg_synth.specs.Texts.{usage_line, file_line, wide_line};
-ghost use Rattle.rg_synth.specs.Answers.{Answers, MayCome};
+ghost use Rattle.rg_synth.specs.Answers.{Answers, IsDue};
 ghost use Rattle.rg_synth.specs.Requests.{asked_by, HasBounds, AnswersAsked};
 ghost use Rattle.rg_synth.specs.Run.{AsksAtMost, AsksFiles, ReadsAtMost, ReadsFiles, IsReadFault};
 ghost use Rattle.rg_synth.specs.declared.answer.Stop.TheVariants as stop;
@@ -57,7 +57,7 @@ pub(crate) fn make_answer<R: Threads + Sync, H: Shelf, G: Gate + Sync>(
 ) -> Result<Answer, Stop>
     ensures asked { AsksAtMost (map string_bytes words.now) (H.files shelf.old) (H.asked shelf.old) (H.asked shelf.new) }
     ensures reads { ReadsAtMost H.finds H.hands (map string_bytes words.now) (H.files shelf.old) shelf.old shelf.new }
-    ensures may_come { IfOk result (λ a. MayCome (map string_bytes words.now) (H.files shelf.old) a.status) }
+    ensures due { IfOk result (λ a. IsDue (map string_bytes words.now) (H.files shelf.old) a.status) }
     ensures says { IfOk result (λ a. Answers (map string_bytes words.now) (H.files shelf.old) a.status a.out.items a.err.items) }
     ensures fault { IsErrOf result stop.ReadFault → IsReadFault (map string_bytes words.now) (record { before = H.faults shelf.old; after = H.faults shelf.new }) }
 {

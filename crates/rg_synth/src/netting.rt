@@ -1,5 +1,5 @@
 //! The answer to a request for a net.
-ghost use Rattle.std.specs.Prelude.{◌≡◌, ◌⊎◌, [], map, IfOk, IsErrOf};
+ghost use Rattle.std.specs.Prelude.{◌≡◌, [], map, IfOk, IsErrOf};
 ghost use Rattle.rg_ports.specs.Calls.{LastCall, ReadsFile};
 ghost use Rattle.rg_ports.specs.Count.{HasRisen};
 ghost use Rattle.rg_ports.specs.Shelf.{asked_with};
@@ -7,11 +7,13 @@ ghost use Rattle.rg_theory.specs.System.{labels, IsInRange};
 ghost use Rattle.rg_theory.specs.ClassWords.{HasBoundInRange};
 ghost use Rattle.rg_net.specs.NetText.{net_text};
 ghost use Rattle.rg_net.specs.Shown.{shown_place};
+ghost use Rattle.rg_outcome.specs.Coming.{Separation.places as places_of};
+ghost use Rattle.rg_outcome.specs.Outcome.{Searched, Out, Answer.unsolvable as of_reason};
 ghost use Rattle.rg_separate.specs.Answer.{AreSeparating};
 ghost use Rattle.rg_refuting.specs.Refutes.{Accepts};
 ghost use Rattle.rg_reasons.specs.Certificates.{reason_of, IsCertificateOf};
 ghost use Rattle.rg_synth.specs.Words.{net};
-ghost use Rattle.rg_synth.specs.Answers.{IsOpen, IsObstructed, IsReason};
+ghost use Rattle.rg_synth.specs.Answers.{IsOpen};
 ghost use Rattle.rg_synth.specs.Requests.{AnswersNet, AnswersAsked};
 ghost use Rattle.rg_synth.specs.declared.answer.Stop.TheVariants as stop;
 ghost use Rattle.rg_synth.specs.declared.status.Status.TheVariants as status;
@@ -85,8 +87,7 @@ fn system_answer<R: Threads + Sync, G: Gate + Sync>(
 // The certificate that gives the reason.
 fn refutation(alloc: Global, class: Class, reason: Reason, lts: &Lts) -> Result<Answer, NoMemory>
     requires system { IsInRange lts.now }
-    requires reached { IsObstructed lts.now ⊎ IsOpen lts.now }
-    requires is { IsReason lts.now (reason_of reason) }
+    requires answer { Out lts.now class (of_reason (reason_of reason)) }
     requires holds { Accepts lts.now class (reason_of reason) }
     requires in_range { IsCertificateOf lts.now (record { class = class; reason = reason }) }
     ensures { IfOk result (λ a. AnswersNet class lts.now a.status a.out.items a.err.items) }
@@ -125,6 +126,7 @@ fn net_of_those_needed(
 ) -> Result<Answer, NoMemory>
     requires is_open { IsOpen lts.now }
     requires separating { AreSeparating lts.now class (map shown_place places.items) }
+    requires searched { Searched lts.now class (places_of (map shown_place places.items)) }
     ensures { IfOk result (λ a. AnswersNet class lts.now a.status a.out.items a.err.items) }
 {
     let labels = lts.labels();

@@ -1,11 +1,13 @@
 //! The top call.
 ghost use Rattle.std.specs.Prelude.{map, string_bytes};
 ghost use Rattle.rg_ports.specs.Offer.{Offers};
-ghost use Rattle.rg_synth.specs.Run.{Ends, AsksAtMost, ReadsAtMost, ComesIfDue, EndsSearch};
+ghost use Rattle.rg_order_of_work.specs.Shown.{Shown};
+ghost use Rattle.rg_synth.specs.Run.{Ends, AsksAtMost, ReadsAtMost, ComesIfDue, ComesIfPassed};
 ghost use Rattle.rg_synth.specs.declared.status.Status.{Status};
 
 use crate::answer::{Stop, make_answer};
 use crate::status::Status;
+use rg_outcome::outcome_is_one;
 use rg_ports::{Gate, Shelf, Sink, write_all};
 use std::alloc::Global;
 use std::thread::Threads;
@@ -18,8 +20,9 @@ use std::thread::Threads;
 /// The problems of a system are solved one after the other: the gate is entered and left for each number of a block of them, and no
 /// other thread is used yet.
 ///
-/// The status says how it ended: each has its cause in `Ends`, a status that is due comes by `ComesIfDue`, and a search ends by
-/// `EndsSearch` with a net, a certificate or a number out of range.
+/// The status says how it ended: each has its cause in `Ends`, and a status that is due comes by `ComesIfDue`. Of `synthesize` the one
+/// answer for the system and the class is due (`Out`, in `rg_outcome`): a net, a reason why there is none, or by `ComesIfPassed` a
+/// number out of range. Neither the threads nor the gate can change it.
 pub fn run<R: Threads + Sync, H: Shelf, O: Sink, E: Sink, G: Gate + Sync>(
     rt: &R,
     alloc: Global,
@@ -45,10 +48,11 @@ pub fn run<R: Threads + Sync, H: Shelf, O: Sink, E: Sink, G: Gate + Sync>(
       };
     }) result }
     ensures exactly { (due : Status) → ComesIfDue (map string_bytes words.now) (H.files shelf.old) due result }
-    ensures searched { EndsSearch (map string_bytes words.now) (H.files shelf.old) result }
+    ensures passed { (w : Shown) → ComesIfPassed (map string_bytes words.now) (H.files shelf.old) w result }
     ensures asked { AsksAtMost (map string_bytes words.now) (H.files shelf.old) (H.asked shelf.old) (H.asked shelf.new) }
     ensures reads { ReadsAtMost H.finds H.hands (map string_bytes words.now) (H.files shelf.old) shelf.old shelf.new }
 {
+    outcome_is_one();
     let made = match make_answer(rt, alloc, words, shelf, gate) {
         Ok(made) => made,
         Err(Stop::ReadFault) => return Status::ReadFault,

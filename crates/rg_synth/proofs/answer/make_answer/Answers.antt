@@ -6,6 +6,6 @@ use Rattle.rg_synth.proofs.answer.make_answer.Goals as goal
 pub request_answer-requires-clause-bounds : goal.request_answer-requires-clause-bounds
 request_answer-requires-clause-bounds g c = λ lives within. bounds (map string_bytes c.args.words.now) (asked_by c.in-Ok.request) c.in-Ok.ensures.ok
 
-pub returns-in-Ok-clause-may_come : goal.returns-in-Ok-clause-may_come
-returns-in-Ok-clause-may_come g c =
+pub returns-in-Ok-clause-due : goal.returns-in-Ok-clause-due
+returns-in-Ok-clause-due g c =
     asked_due_if (map string_bytes c.args.words.now) (g.H.Shelf.files c.args.shelf.now) (asked_by c.in-Ok.request) c.request_answer.result c.in-Ok.ensures.ok c.request_answer.ensures.ok

@@ -3,7 +3,7 @@ use Rattle.rg_theory.specs.Net.{Place, Net}
 use Rattle.rg_net.specs.Range.{IsNetInRange}
 use Rattle.rg_net.specs.Shown.{shown_place}
 use Rattle.rg_prune.proofs.Leaving.{left_needed}
-use Rattle.rg_synth.proofs.Nets.{IsFound, found_if}
+use Rattle.rg_synth.proofs.Nets.{IsFound, found_if, net_out}
 use Rattle.rg_synth.proofs.Pruned.{left_separating, narrow_all}
 use Rattle.rg_synth.proofs.netting.net_of_those_needed.Goals as goal
 
@@ -23,6 +23,7 @@ returns c =
     let found : IsFound c.args.class c.args.lts.now (record { labels = c.labels-labels.result; places = left }) = record {
       formed = c.labels-labels.ensures.well_formed;
       is_open = c.requires.is_open;
+      answer = net_out c.args.lts.now c.args.class places left c.requires.is_open c.requires.searched c.in_ok-needed.ensures;
       transitions = c.labels-labels.ensures.value;
       numbers = subst (λ (n : ℕ). IsNetInRange (record { labels = n; places = left })) (sym c.labels-labels.ensures.value) separating.in_range;
       separating = separating;

@@ -7,6 +7,6 @@ use Rattle.rg_synth.proofs.netting.refutation.Goals as goal
 pub returns : goal.returns
 returns c =
     refutes c.args.class c.args.lts.now (reason_of c.args.reason) c.said.result.status c.said.result.out.items c.said.result.err.items
-    c.requires.system c.requires.reached c.requires.is c.requires.holds c.said.ensures.status (c.said.ensures.out ∙ c.in_ok-out.ensures.text)
+    c.requires.system c.requires.answer c.requires.holds c.said.ensures.status (c.said.ensures.out ∙ c.in_ok-out.ensures.text)
     (subst (λ (bytes : List ℕ). Spells bytes c.args.lts.now (record { class = c.args.class; reason = reason_of c.args.reason })) (sym c.said.ensures.out) c.in_ok-out.ensures.spelled)
     c.said.ensures.err

@@ -1,10 +1,12 @@
-use Rattle.std.proofs.Common.{inl, ℕ, true, false, refl, Err, List, ap, subst, ◌∙◌, map, string_bytes}
+use Rattle.std.proofs.Common.{◌≡◌, inl, ℕ, true, false, refl, Err, List, ap, subst, ◌∙◌, map, string_bytes}
 use Rattle.rg_ports.specs.Offer.{Offers, done}
 use Rattle.rg_ports.specs.Sink.{taken_with, TakesPart}
 use Rattle.rg_apt.proofs.WholeTexts.{one_spelled, one_first_fault, spelled_or_fault}
 use Rattle.rg_synth.proofs.Answered.{says_ends}
-use Rattle.rg_synth.proofs.Statuses.{OneAnswer}
-use Rattle.rg_synth.proofs.Coming.{exactly_due, ends_search}
+use Rattle.rg_theory.specs.System.{System}
+use Rattle.rg_theory.specs.declared.Class.{Class}
+use Rattle.rg_outcome.specs.Outcome.{Out, Answer}
+use Rattle.rg_synth.proofs.Statuses.{OneAnswer, one_status, term_shown}
 use Rattle.rg_synth.proofs.Writing.{second_fails}
 use Rattle.rg_synth.proofs.run_whole.run.Goals as goal
 
@@ -66,12 +68,13 @@ returns-in_default-clause-ends g c = record {
   );
 }
 
+answers : ((lts : System) (class : Class) (a b : Answer) → Out lts class a → Out lts class b → a ≡ b) → OneAnswer
+answers one = record { one_system = one_spelled; one_fault = one_first_fault; not_both = spelled_or_fault; one_out = one }
+
 pub returns-clause-exactly : goal.returns-clause-exactly
 returns-clause-exactly g c = λ due decided is.
-    let one : OneAnswer = record { one_system = one_spelled; one_fault = one_first_fault; not_both = spelled_or_fault } in
-    inl (exactly_due one (map string_bytes c.args.words.now) (g.H.Shelf.files c.args.shelf.now) c.in-Ok.made.status due c.in-Ok.ensures.may_come decided is)
+    inl (one_status (answers c.outcome_is_one.ensures.answer) (map string_bytes c.args.words.now) (g.H.Shelf.files c.args.shelf.now) c.in-Ok.made.status due decided c.in-Ok.ensures.due is)
 
-pub returns-clause-searched : goal.returns-clause-searched
-returns-clause-searched g c = λ told asked.
-    let one : OneAnswer = record { one_system = one_spelled; one_fault = one_first_fault; not_both = spelled_or_fault } in
-    inl (ends_search one (map string_bytes c.args.words.now) (g.H.Shelf.files c.args.shelf.now) c.in-Ok.made.status c.in-Ok.ensures.may_come told asked)
+pub returns-clause-passed : goal.returns-clause-passed
+returns-clause-passed g c = λ w told is.
+    inl (term_shown (answers c.outcome_is_one.ensures.answer) (map string_bytes c.args.words.now) (g.H.Shelf.files c.args.shelf.now) w c.in-Ok.made.status told c.in-Ok.ensures.due is)
