@@ -7,3 +7,4 @@ pub mod WordKinds
 pub mod Reaches
 pub mod Statuses
 pub mod Writing
+pub mod OneWritten

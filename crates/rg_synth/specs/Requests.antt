@@ -1,4 +1,4 @@
--- What the parts of the answer say. Contracts of the crate's private functions cite it.
+-- What the parts of the answer say. Contracts of the crate's private functions cite it, and the law that the answer is one.
 use Rattle.std.specs.Prelude.{◌≡◌, ◌⊎◌, ℕ, List, [], Option}
 use Rattle.rg_ports.specs.Shelf.{Files}
 use Rattle.rg_theory.specs.System.{System}

@@ -13,7 +13,7 @@ mod status;
 mod system_file;
 mod texts;
 
-pub use laws::written_is_accepted;
+pub use laws::{written_is_accepted, written_is_one};
 pub use net_laws::written_net_gets_yes;
 pub use rg_separate::{Stage, WideAt};
 pub use run_whole::run;
