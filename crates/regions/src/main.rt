@@ -2,7 +2,7 @@
 #![tactic(auto)]
 
 use rg_ports::{FolderShelf, NoGate, StdSink};
-use rg_synth::run;
+use rg_top::run;
 use std::env;
 use std::io::ErrorKind;
 use std::process::ExitCode;

@@ -5,7 +5,7 @@ use crate::worked::{
     RING, SIDE,
 };
 use itoa::Buffer;
-use rg_synth::Status;
+use rg_top::Status;
 use std::alloc::Global;
 
 #[test]

@@ -1,6 +1,6 @@
 //! A shelf or a sink that fails in the middle.
 use crate::harness::{NoRoom, run_over, shelf, sink};
-use rg_synth::Status;
+use rg_top::Status;
 
 const LOOP: &[u8] = b".type LTS\n.states\ns0[initial]\n.labels\na\n.arcs\ns0 a s0\n";
 

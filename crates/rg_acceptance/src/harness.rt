@@ -1,6 +1,6 @@
 //! A run over one file in memory.
 use rg_ports::{MemoryShelf, MemorySink, NoGate};
-use rg_synth::{Status, run};
+use rg_top::{Status, run};
 use std::alloc::{AllocError, AllocFailed, Global};
 use std::thread::Threads;
 

@@ -4,7 +4,7 @@ use crate::harness::{NoRoom, judge, synthesize};
 use crate::worked::{
     ABBAA, CHOICE, CYCLE, OF_ABBAA, OF_CHOICE, OF_CYCLE, OF_PURE_CHOICE, OF_SIDE, SIDE,
 };
-use rg_synth::{Status, written_is_accepted, written_is_one};
+use rg_top::{Status, written_is_accepted, written_is_one};
 use std::alloc::Global;
 
 #[test]

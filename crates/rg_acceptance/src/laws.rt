@@ -1,5 +1,5 @@
 //! The law on nets that are written.
-use rg_synth::written_net_gets_yes;
+use rg_top::written_net_gets_yes;
 
 #[test]
 fn law_is_called(_rt: HostRuntime) {

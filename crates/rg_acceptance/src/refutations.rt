@@ -1,6 +1,6 @@
 //! Systems without a net, their certificates, and what `verify` says of those.
 use crate::harness::{NoRoom, judge, run_over, shelf, sink, synthesize};
-use rg_synth::{Fault, FileFault, Status};
+use rg_top::{Fault, FileFault, Status};
 
 // A fork, and a state that can't be reached.
 const APART: &str = ".type LTS .states s0[initial] s1 s2 s3 .labels a .arcs s0 a s1 s0 a s2";

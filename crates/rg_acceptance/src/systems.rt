@@ -1,7 +1,7 @@
 //! Systems and the nets that they get.
 use crate::harness::{NoRoom, synthesize};
 use crate::worked::{ABA, CHOICE, OF_RING_PLAIN, OF_RING_SAFE, RING, SIDE};
-use rg_synth::Status;
+use rg_top::Status;
 
 // Two users and one lock.
 const LOCK: &str =

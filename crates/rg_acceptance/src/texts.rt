@@ -4,7 +4,7 @@ use crate::worked::CHOICE;
 use itoa::Buffer;
 use rg_apt::TextFault;
 use rg_lexer::Want;
-use rg_synth::{Fault, FileFault, Status};
+use rg_top::{Fault, FileFault, Status};
 use std::alloc::Global;
 
 // A loop and a step, as a user has them.

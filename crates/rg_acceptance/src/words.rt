@@ -1,6 +1,6 @@
 //! Words that are refused, and a file that isn't there.
 use crate::harness::{NoRoom, run_over, shelf, sink};
-use rg_synth::{Fault, FileFault, Status, Usage};
+use rg_top::{Fault, FileFault, Status, Usage};
 use rg_theory::ClassFault;
 
 #[test]

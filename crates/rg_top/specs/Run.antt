@@ -1,0 +1,145 @@
+-- What is seen of one run, and how it may end.
+use Rattle.std.specs.Prelude.{◌≡◌, ◌⊎◌, ℕ, ◌<◌, Bool, true, false, List, [], ◌++◌, length, Option, option_map, IsSome}
+use Rattle.rg_ports.specs.Calls.{LastCall, finds_end, ReadsFile}
+use Rattle.rg_ports.specs.Count.{HasRisen}
+use Rattle.rg_ports.specs.Shelf.{Files}
+use Rattle.rg_ports.specs.Sink.{taken_with, TakesPart}
+use Rattle.rg_theory.specs.System.{System}
+use Rattle.rg_top.specs.Words.{Asked, judgement, Ask, file_words, system_file}
+use Rattle.rg_top.specs.Given.{IsSystemFile, AskOf}
+use Rattle.rg_order_of_work.specs.Shown.{Shown}
+use Rattle.rg_separate.specs.View.{shown_of}
+use Rattle.rg_top.specs.Answers.{Answers, IsDue, Passes}
+use Rattle.rg_top.specs.declared.status.Status.{Status}
+use Rattle.rg_top.specs.declared.status.Status.TheVariants.{Usage, TooWide, ReadFault, WriteFault, NoMemory}
+use Rattle.rg_top.specs.declared.status.WideCause.TheVariants.{Synthesis}
+
+-- a value before the run and after it
+pub record Change (A : Type 0) : Type 0 where
+  pub before : A
+  pub after : A
+
+-- what is seen of a sink: what was taken and how often a call failed, before the run and after it, and which runs of writes lead
+-- from its state before the run to that after it: those that offer these bytes, each time all that are left, to the end or not
+pub record Writes : Type 1 where
+  pub taken : Change (Option (List ℕ))
+  pub faults : Change ℕ
+  pub offers : List ℕ → Bool → Type 0
+
+-- the words, what the shelf tells of its files, how often its calls failed, and what is seen of both sinks
+pub record Run : Type 1 where
+  pub words : List (List ℕ)
+  pub files : Option Files
+  pub shelf_faults : Change ℕ
+  pub out : Writes
+  pub err : Writes
+
+-- the sink was offered these bytes, each time all that it hadn't taken, and took them after what it had
+pub record Takes (sink : Writes) (bytes : List ℕ) : Type 0 where
+  pub taken : sink.taken.after ≡ taken_with sink.taken.before bytes
+  pub offered : sink.offers bytes true
+
+-- the sink was offered nothing, and took nothing
+pub record IsLeft (sink : Writes) : Type 0 where
+  pub taken : sink.taken.after ≡ sink.taken.before
+  pub offered : sink.offers [] true
+
+-- the sink was offered the bytes, each time all that it hadn't taken, and failed after a proper prefix
+pub record Breaks (sink : Writes) (bytes : List ℕ) : Type 0 where
+  pub part : TakesPart sink.taken.before bytes sink.taken.after
+  pub risen : HasRisen sink.faults.before sink.faults.after
+  pub offered : sink.offers bytes false
+
+-- the status is due, and all that it writes was taken
+pub record Says (run : Run) (status : Status) : Type 0 where
+  pub out_bytes : List ℕ
+  pub err_bytes : List ℕ
+  pub due : Answers run.words run.files status out_bytes err_bytes
+  pub out : Takes run.out out_bytes
+  pub err : Takes run.err err_bytes
+
+-- a fault of the shelf: the words name files, and its count of faults has risen
+pub record IsReadFault (words : List (List ℕ)) (faults : Change ℕ) : Type 0 where
+  pub asked : Asked
+  pub ask : Ask words asked
+  pub risen : HasRisen faults.before faults.after
+
+-- a file that the words name couldn't be read; nothing was written
+pub record FailsToRead (run : Run) : Type 0 where
+  pub fault : IsReadFault run.words run.shelf_faults
+  pub out : IsLeft run.out
+  pub err : IsLeft run.err
+
+-- a status was due, and the sink to which it writes failed after a proper prefix; the other sink took nothing
+pub record FailsToWrite (run : Run) : Type 0 where
+  pub status : Status
+  pub out_bytes : List ℕ
+  pub err_bytes : List ℕ
+  pub due : Answers run.words run.files status out_bytes err_bytes
+  pub broken : (Breaks run.out out_bytes × IsLeft run.err) ⊎ (IsLeft run.out × Breaks run.err err_bytes)
+
+-- there was no memory; nothing was written
+pub record LacksMemory (run : Run) : Type 0 where
+  pub out : IsLeft run.out
+  pub err : IsLeft run.err
+
+-- how the run ended, for each status
+abbrev pub Ends : Run → Status → Type 0
+Ends run ReadFault = FailsToRead run
+Ends run WriteFault = FailsToWrite run
+Ends run NoMemory = LacksMemory run
+Ends run status = Says run status
+
+-- the shelf was asked for some first ones of the files of what is asked, each once and in order, and for the second one only
+-- where the first spells a system
+abbrev pub AsksFiles : Option Files → Asked → Option (List (List ℕ)) → Option (List (List ℕ)) → Type 0
+AsksFiles files asked before after =
+    (names left : List (List ℕ)) × (file_words asked ≡ names ++ left) × (after ≡ option_map (λ all. all ++ names) before)
+    × (1 < length names → (lts : System) × IsSystemFile files (system_file asked) lts)
+
+-- the shelf was asked for some first ones of the files that the words name, or for nothing
+abbrev pub AsksAtMost : List (List ℕ) → Option Files → Option (List (List ℕ)) → Option (List (List ℕ)) → Type 0
+AsksAtMost words files before after = (after ≡ before) ⊎ ((asked : Asked) × Ask words asked × AsksFiles files asked before after)
+
+-- the calls that read the first file of what is asked, and behind them, where its end was found and it spells a system, those
+-- that read the second one
+pub data ReadsFiles {S : Type 0} (finds : S → List ℕ → Option Bool → S → Type 0) (hands : S → ℕ → Option ℕ → S → Type 0) (files : Option Files) : Asked → S → S → Type 0 where
+  first_alone : (asked : Asked) (s t : S) (last : LastCall) → ReadsFile finds hands (system_file asked) s last t → ReadsFiles finds hands files asked s t
+  both : (file cert : List ℕ) (s m t : S) (lts : System) (last : LastCall) → ReadsFile finds hands file s finds_end m → IsSystemFile files file lts
+      → ReadsFile finds hands cert m last t → ReadsFiles finds hands files (judgement file cert) s t
+
+-- no call of the shelf, or those that read the files that the words name; none after the end of a file was found
+abbrev pub ReadsAtMost : {S : Type 0} (finds : S → List ℕ → Option Bool → S → Type 0) (hands : S → ℕ → Option ℕ → S → Type 0) → List (List ℕ) → Option Files → S → S → Type 0
+ReadsAtMost finds hands words files s t = (t ≡ s) ⊎ ((asked : Asked) × Ask words asked × ReadsFiles finds hands files asked s t)
+
+-- a fault, or want of memory
+abbrev pub IsMishap : Status → Type 0
+IsMishap ReadFault = Unit {0}
+IsMishap WriteFault = Unit {0}
+IsMishap NoMemory = Unit {0}
+IsMishap _ = ⊥
+
+-- what the words don't decide alone is decided where the shelf tells its files
+abbrev pub IsDecided : Option Files → Status → Type 0
+IsDecided files (Usage usage) = Unit {0}
+IsDecided files status = IsSome files
+
+-- the status shows this term
+abbrev pub ShowsTerm : Shown → Status → Type 0
+ShowsTerm w (TooWide (Synthesis at)) = shown_of at ≡ w
+ShowsTerm w _ = ⊥
+
+-- the status is the one that is due, or shows the same term
+abbrev pub IsTheOne : Status → Status → Type 0
+IsTheOne (TooWide (Synthesis at)) result = ShowsTerm (shown_of at) result
+IsTheOne due result = result ≡ due
+
+-- where the status is due to the words and the files that are told it comes, unless a fault or want of memory comes in
+-- its place
+abbrev pub ComesIfDue : List (List ℕ) → Option Files → Status → Status → Type 0
+ComesIfDue words files due result = IsDecided files due → IsDue words files due → IsTheOne due result ⊎ IsMishap result
+
+-- where a net is asked for, the shelf tells its files, and the answer is a term that is out of range, the status shows that term,
+-- unless a fault or want of memory comes in its place
+abbrev pub ComesIfPassed : List (List ℕ) → Option Files → Shown → Status → Type 0
+ComesIfPassed words files w result = IsSome files → AskOf words files (Passes w) → ShowsTerm w result ⊎ IsMishap result

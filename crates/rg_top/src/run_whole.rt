@@ -1,0 +1,68 @@
+//! The top call.
+ghost use Rattle.std.specs.Prelude.{map, string_bytes};
+ghost use Rattle.rg_ports.specs.Offer.{Offers};
+ghost use Rattle.rg_order_of_work.specs.Shown.{Shown};
+ghost use Rattle.rg_top.specs.Run.{Ends, AsksAtMost, ReadsAtMost, ComesIfDue, ComesIfPassed};
+ghost use Rattle.rg_top.specs.declared.status.Status.{Status};
+
+use crate::answer::{Stop, make_answer};
+use crate::status::Status;
+use rg_outcome::outcome_is_one;
+use rg_ports::{Gate, Shelf, Sink, write_all};
+use std::alloc::Global;
+use std::thread::Threads;
+
+/// Runs the command that the words name. `synthesize CLASS FILE` reads the file of that name from the shelf, and writes to
+/// `out` the text of a net of the class that solves its system, or of a certificate that there is none. `verify FILE CERT`
+/// reads both files, and writes to `out` whether the certificate is accepted for the system. A refusal of words or files, and
+/// a number out of range, is a line to `err`. What is due is whole before the first write, and each write offers all that isn't
+/// taken yet. A file isn't read on once its end was found, and the second one is asked for only where the first spells a system.
+/// The problems of a system are solved one after the other: the gate is entered and left for each number of a block of them, and no
+/// other thread is used yet.
+///
+/// The status says how it ended: each has its cause in `Ends`, and a status that is due comes by `ComesIfDue`. Of `synthesize` the one
+/// answer for the system and the class is due (`Out`, in `rg_outcome`): a net, a reason why there is none, or by `ComesIfPassed` a
+/// number out of range. Neither the threads nor the gate can change it.
+pub fn run<R: Threads + Sync, H: Shelf, O: Sink, E: Sink, G: Gate + Sync>(
+    rt: &R,
+    alloc: Global,
+    words: &[String],
+    shelf: &mut H,
+    out: &mut O,
+    err: &mut E,
+    gate: &G,
+) -> Status
+    ensures ends { Ends (record {
+      words = map string_bytes words.now;
+      files = H.files shelf.old;
+      shelf_faults = record { before = H.faults shelf.old; after = H.faults shelf.new };
+      out = record {
+        taken = record { before = O.taken out.old; after = O.taken out.new };
+        faults = record { before = O.faults out.old; after = O.faults out.new };
+        offers = λ bytes whole. Offers O.gives out.old bytes whole out.new;
+      };
+      err = record {
+        taken = record { before = E.taken err.old; after = E.taken err.new };
+        faults = record { before = E.faults err.old; after = E.faults err.new };
+        offers = λ bytes whole. Offers E.gives err.old bytes whole err.new;
+      };
+    }) result }
+    ensures exactly { (due : Status) → ComesIfDue (map string_bytes words.now) (H.files shelf.old) due result }
+    ensures passed { (w : Shown) → ComesIfPassed (map string_bytes words.now) (H.files shelf.old) w result }
+    ensures asked { AsksAtMost (map string_bytes words.now) (H.files shelf.old) (H.asked shelf.old) (H.asked shelf.new) }
+    ensures reads { ReadsAtMost H.finds H.hands (map string_bytes words.now) (H.files shelf.old) shelf.old shelf.new }
+{
+    outcome_is_one();
+    let made = match make_answer(rt, alloc, words, shelf, gate) {
+        Ok(made) => made,
+        Err(Stop::ReadFault) => return Status::ReadFault,
+        Err(Stop::NoMemory) => return Status::NoMemory,
+    };
+    let Ok(()) = write_all(out, &made.out) else {
+        return Status::WriteFault;
+    };
+    let Ok(()) = write_all(err, &made.err) else {
+        return Status::WriteFault;
+    };
+    made.status
+}
