@@ -21,9 +21,6 @@ pub block_ends : (lts : System) (comes : Problem → Solved → Type 0) (before 
     → ((trees : List Tree) × TakenOver lts comes now problems (refuted_one q trees)) → (trees : List Tree) × ComesFrom lts comes None before (unsolvable q trees)
 block_ends lts comes before now last problems q leads is (trees, taken) = (trees, leads.leads (unsolvable q trees) (taken_over lts comes now now last problems (refuted_one q trees) (λ q sep. sep) is taken))
 
-pub leads_start : (lts : System) (comes : Problem → Solved → Type 0) (before : List Place) → LeadsTo lts comes before before None
-leads_start lts comes before = record { leads = λ o d. d }
-
 pub block_sound : (lts : System) (comes : Problem → Solved → Type 0) (now after : List Place) (last end : Option Problem) (problems : List Problem) → IsAllReachable lts → EachPlaceSeparates lts comes → IsSound lts comes last now → IsBlock lts now last problems → last_of last problems ≡ end
     → TakenOver lts comes now problems (kept_places after) → IsSound lts comes end after
 block_sound lts comes now after last end problems reachable right sound is e taken = subst (λ x. IsSound lts comes x after) e (sound_after lts comes reachable right.separate now now last problems (kept_places after) (λ q sep. sep) is taken sound)

@@ -1,7 +1,7 @@
 -- Taking over, problem by problem.
-use Rattle.std.proofs.Common.{◌≡◌, ◌⊎◌, inl, inr, ℕ, suc, ◌+◌, ◌-◌, ◌<◌, List, [], ◌∷◌, ◌++◌, length, length-append, get_or, take, drop, All, Option, None, Some, IfSome, IfNone, refl, sym, ap, subst, ◌∙◌, arith}
+use Rattle.std.proofs.Common.{◌≡◌, ◌⊎◌, inl, inr, ℕ, suc, ◌+◌, ◌<◌, List, [], ◌∷◌, ◌++◌, length, get_or, take, drop, Option, None, Some, IfSome, IfNone, refl, sym, ap, subst, ◌∙◌}
 use Rattle.std.proofs.Math.Seq.{split_at}
-use Rattle.std.proofs.lemmas.List.{append_assoc, map-append, get_or-append_right, take_more}
+use Rattle.std.proofs.lemmas.List.{append_assoc, map-append, take_more}
 use Rattle.rg_theory.specs.System.{System}
 use Rattle.rg_theory.specs.Net.{Place}
 use Rattle.rg_theory.specs.declared.Problem.{Problem}
@@ -9,8 +9,6 @@ use Rattle.rg_refuting.specs.Refutes.{Tree}
 use Rattle.rg_outcome.specs.Solving.{Solved, Solved.placed, Solved.refuted, Solved.passed}
 use Rattle.rg_outcome.specs.Coming.{IsSeparated}
 use Rattle.rg_outcome.specs.Blocks.{AfterBlock, AfterBlock.kept_places, AfterBlock.refuted_one, GoesOn, TakenOver}
-use Rattle.rg_net.specs.Shown.{shown_place}
-use Rattle.rg_places.specs.declared.region_place.RegionPlace.{RegionPlace}
 use Rattle.rg_blocks.specs.declared.solving.SolvedProblem.{SolvedProblem}
 use Rattle.rg_blocks.specs.Taking.{problems_of, IsTakenOver}
 
@@ -55,15 +53,6 @@ module _ (lts : System) (comes : Problem → Solved → Type 0) where
   pub one_dropped : (kept : List Place) (p : Problem) → IsSeparated lts kept p → TakenOver lts comes kept (p ∷ []) (kept_places kept)
   one_dropped kept p sep = inl (sep, refl)
 
-  pub one_kept : (before after : List Place) (p : Problem) (r : RegionPlace) → ¬ IsSeparated lts before p → comes p (placed (shown_place r.place)) → after ≡ before ++ shown_place r.place ∷ [] → TakenOver lts comes before (p ∷ []) (kept_places after)
-  one_kept before after p r lacks has are = inr (lacks, (placed (shown_place r.place), has, ap kept_places are))
-
-  pub one_passed : (kept : List Place) (p : Problem) → ¬ IsSeparated lts kept p → ((w : _) × comes p (passed w)) → TakenOver lts comes kept (p ∷ []) (kept_places kept)
-  one_passed kept p lacks (w, has) = inr (lacks, (passed w, has, refl))
-
-  pub one_refuted : (kept after : List Place) (p : Problem) → ¬ IsSeparated lts kept p → ((trees : List Tree) × comes p (refuted trees)) → IsTakenOver lts comes kept (p ∷ []) after (Some p)
-  one_refuted kept after p lacks (trees, has) = (trees, inr (lacks, (refuted trees, has, refl)))
-
   -- ---- after others
 
   pub one_more : (before now after : List Place) (done : List Problem) (p : Problem) (end : Option Problem) → end ≡ None → TakenOver lts comes before done (kept_places now) → IsTakenOver lts comes now (p ∷ []) after end → TakenOver lts comes before (done ++ p ∷ []) (kept_places after)
@@ -76,19 +65,6 @@ module _ (lts : System) (comes : Problem → Solved → Type 0) where
       (trees, subst (λ xs. TakenOver lts comes before xs (refuted_one q trees)) (append_assoc done (p ∷ []) rest) (ended_taken before (done ++ p ∷ []) rest q trees (more_taken before now done (p ∷ []) (refuted_one q trees) taken t)))
 
 -- ---- as loops have them
-
--- what holds of all holds of the one that is yielded
-pub at_yielded : {X : Type 0} (P : X → Type 0) (items yielded : List X) (s : X) (rest : List X) → All P items → items ≡ yielded ++ s ∷ rest → P s
-at_yielded P items yielded s rest all e = subst P same (subst (All P) e all (length yielded) s lt)
-  where
-    lt : length yielded < length (yielded ++ s ∷ rest)
-    lt = let l = length-append yielded (s ∷ rest) in omega arith
-
-    first : (n : ℕ) → n ≡ 0 → get_or (s ∷ rest) n s ≡ s
-    first n z = ap (λ k. get_or (s ∷ rest) k s) z
-
-    same : get_or (yielded ++ s ∷ rest) (length yielded) s ≡ s
-    same = get_or-append_right yielded (s ∷ rest) (length yielded) (length yielded) s refl (omega arith) ∙ first (length yielded - length yielded) (omega arith)
 
 pub one_more_problem : (yielded : List SolvedProblem) (s : SolvedProblem) → problems_of (yielded ++ s ∷ []) ≡ problems_of yielded ++ s.problem ∷ []
 one_more_problem yielded s = map-append (λ x. x.problem) yielded (s ∷ [])
