@@ -1,0 +1,8 @@
+mod WordLemmas
+mod Taken
+mod Numbers
+mod Firsts
+mod Examples
+mod OneThing
+mod ClassSome
+mod SomeThing

@@ -1,0 +1,5 @@
+pub mod Command
+pub mod Table
+pub mod Values
+pub mod Requests
+pub mod Says

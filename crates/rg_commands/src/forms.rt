@@ -1,0 +1,56 @@
+//! Forms of systems.
+ghost use Rattle.std.specs.Prelude.{◌≡◌, option_map};
+ghost use Rattle.rg_commands.specs.Values.{form_in, target_in};
+
+/// The forms in which a system is read.
+#[derive(Clone, Copy, Debug, PartialEq, Eq)]
+pub enum Form {
+    /// A system file in the format of APT.
+    Apt,
+    /// A state graph, as petrify and Genet have them.
+    Graph,
+    /// A word list.
+    Words,
+}
+
+/// The forms in which a system is written.
+#[derive(Clone, Copy, Debug, PartialEq, Eq)]
+pub enum Target {
+    /// A system file in the format of APT.
+    Apt,
+    /// A state graph, as petrify and Genet have them.
+    Graph,
+}
+
+// The form that a word names; without one that of APT.
+pub(crate) fn form_of(word: Option<&str>) -> Option<Form>
+    ensures { result ≡ form_in (option_map (λ s. s.now) word.entry) }
+{
+    match word {
+        None => Some(Form::Apt),
+        Some(word) => {
+            if word == "apt" {
+                Some(Form::Apt)
+            } else if word == "graph" {
+                Some(Form::Graph)
+            } else if word == "words" {
+                Some(Form::Words)
+            } else {
+                None
+            }
+        }
+    }
+}
+
+// The form to write that a word names.
+pub(crate) fn target_of(word: &str) -> Option<Target>
+    ensures { result ≡ target_in word.now }
+{
+    if word == "apt" {
+        Some(Target::Apt)
+    } else if word == "graph" {
+        Some(Target::Graph)
+    } else {
+        None
+    }
+}
