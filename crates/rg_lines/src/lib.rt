@@ -1,0 +1,20 @@
+//! The lines of out and err.
+#![tactic(auto)]
+
+mod checked;
+mod fault;
+mod fault_words;
+mod judged;
+mod laws;
+mod lost;
+mod pieces;
+mod usages;
+mod wide;
+
+pub use checked::{check_text, yes_text};
+pub use fault::{Fault, FileFault, file_text};
+pub use judged::{accepted_text, defect_text, fault_text};
+pub use laws::{loss_has_name, verdict_has_names};
+pub use lost::{label_loss_text, state_loss_text};
+pub use usages::usage_text;
+pub use wide::{WideCause, wide_text};
