@@ -1,0 +1,3 @@
+pub mod Pruned
+pub mod Nets
+pub mod Answers

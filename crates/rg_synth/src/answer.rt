@@ -1,0 +1,16 @@
+//! What is answered for a system and a class.
+
+use rg_net::Net;
+use rg_reasons::Certificate;
+use rg_separate::WideAt;
+
+/// The answer for a system and a class.
+#[derive(Drop)]
+pub enum Answer {
+    /// A net of the class whose reachability graph is the system, without a place that could be left out.
+    Net(Net),
+    /// Why there is none.
+    Unsolvable(Certificate),
+    /// A number that the stated order of work forms is out of range.
+    TooWide(WideAt),
+}

@@ -1,0 +1,107 @@
+//! The order of work on a system.
+ghost use Rattle.std.specs.Prelude.{◌≡◌, ◌≤◌, map, All, IfOk};
+ghost use Rattle.rg_theory.specs.System.{labels, IsAllReachable};
+ghost use Rattle.rg_theory.specs.ClassWords.{HasBoundInRange};
+ghost use Rattle.rg_theory.specs.Problem.{SeparateAll};
+ghost use Rattle.rg_net.specs.Range.{IsNetInRange};
+ghost use Rattle.rg_net.specs.Shown.{shown_place};
+ghost use Rattle.rg_prune.specs.Pruned.{IsPruned};
+ghost use Rattle.rg_prune.specs.Tokens.{IsNarrow};
+ghost use Rattle.rg_order_of_work.specs.Shown.{ShownWide};
+ghost use Rattle.rg_outcome.specs.Outcome.{Out};
+ghost use Rattle.rg_separate.specs.View.{shown_of};
+ghost use Rattle.rg_synth.specs.Answer.{answer_of, IsOpen, IsSolvingNet, IsRightCertificate, IfNet, IfUnsolvable, IfTooWide};
+
+use crate::answer::Answer;
+use rg_checks::{first_fork, first_unreachable};
+use rg_lts::Lts;
+use rg_memory::NoMemory;
+use rg_net::{Net, Place};
+use rg_ports::Gate;
+use rg_prune::prune;
+use rg_reasons::{Certificate, Reason};
+use rg_separate::{Separation, separate};
+use rg_theory::Class;
+use std::alloc::Global;
+use std::thread::Threads;
+
+/// The answer for the system and the class: a net of the class whose reachability graph is the system, or a certificate
+/// that no net of the class has it (Badouel, Bernardinello and Darondeau, *Petri Net Synthesis*).
+///
+/// An unreachable state is the reason that is told first, the least one; then the first fork; and then the first separation
+/// problem that no region of the class separates. Where there is none of these, the regions that were found make the net,
+/// but for those that the others make superfluous: no place of the net can be left out. `TooWide` where a number of the
+/// work on the problems is out of range, and no answer was found without it. `NoMemory` where there is none.
+///
+/// There is one answer for a system and a class, and it is this one, for any number of jobs and any gate: `out`, with
+/// `outcome_is_one`, is "exactly". The problems are solved on so many threads as `jobs` says at most.
+pub fn synthesize<R: Threads + Sync, G: Gate + Sync>(
+    rt: &R,
+    alloc: Global,
+    lts: &Lts,
+    class: Class,
+    jobs: u8,
+    gate: &G,
+) -> Result<Answer, NoMemory>
+    requires bound { HasBoundInRange class }
+    requires some { 1 ≤ jobs }
+    ensures out { IfOk result (λ a. Out lts.now class (answer_of a)) }
+    ensures net { IfOk result (λ a. IfNet a (IsSolvingNet lts.now class)) }
+    ensures unsolvable { IfOk result (λ a. IfUnsolvable a (IsRightCertificate lts.now class)) }
+    ensures too_wide { IfOk result (λ a. IfTooWide a (λ w. IsOpen lts.now × ShownWide lts.now class (shown_of w))) }
+{
+    lts.is_well_formed();
+    match first_unreachable(alloc, lts)? {
+        None => match first_fork(lts) {
+            None => open_answer(rt, alloc, lts, class, jobs, gate),
+            Some((s, t, to, other)) => {
+                let reason = Reason::Fork(s, t, to, other);
+                Ok(Answer::Unsolvable(Certificate { class, reason }))
+            }
+        },
+        Some(s) => {
+            let reason = Reason::Unreachable(s);
+            Ok(Answer::Unsolvable(Certificate { class, reason }))
+        }
+    }
+}
+
+// The answer for a system without an unreachable state or a fork.
+fn open_answer<R: Threads + Sync, G: Gate + Sync>(
+    rt: &R,
+    alloc: Global,
+    lts: &Lts,
+    class: Class,
+    jobs: u8,
+    gate: &G,
+) -> Result<Answer, NoMemory>
+    requires is_open { IsOpen lts.now }
+    requires bound { HasBoundInRange class }
+    requires some { 1 ≤ jobs }
+    ensures out { IfOk result (λ a. Out lts.now class (answer_of a)) }
+    ensures net { IfOk result (λ a. IfNet a (IsSolvingNet lts.now class)) }
+    ensures unsolvable { IfOk result (λ a. IfUnsolvable a (IsRightCertificate lts.now class)) }
+    ensures too_wide { IfOk result (λ a. IfTooWide a (λ w. IsOpen lts.now × ShownWide lts.now class (shown_of w))) }
+{
+    lts.is_well_formed();
+    match separate(rt, alloc, lts, class, jobs, gate)? {
+        Separation::Places(places) => Ok(Answer::Net(net_of_those_needed(alloc, lts, places)?)),
+        Separation::Unsolvable(cert) => Ok(Answer::Unsolvable(cert)),
+        Separation::TooWide(at) => Ok(Answer::TooWide(at)),
+    }
+}
+
+// The net of those places of which none can be left out.
+fn net_of_those_needed(alloc: Global, lts: &Lts, places: Vec<Place>) -> Result<Net, NoMemory>
+    requires reachable { IsAllReachable lts.now }
+    requires narrow { All (λ p. IsNarrow lts.now (shown_place p)) places.items }
+    requires separate { SeparateAll (map shown_place places.items) lts.now }
+    requires in_range { IsNetInRange (record { labels = labels lts.now; places = map shown_place places.items }) }
+    ensures labels { IfOk result (λ net. net.labels ≡ labels lts.now) }
+    ensures in_range { IfOk result IsNetInRange }
+    ensures pruned { IfOk result (λ net. IsPruned lts.now (map shown_place places.items) net.places) }
+{
+    let labels = lts.labels();
+    let needed = prune(alloc, lts, places)?;
+    Ok(Net::new(labels, needed))
+}
