@@ -1,0 +1,6 @@
+use Rattle.std.proofs.Common.{◌≡◌, take}
+use Rattle.rg_families.specs.Named.{names_of}
+use Rattle.rg_families.proofs.named.add_states.Given as goal
+
+abbrev pub invariant-loop-name : goal.invariant-loop-name
+invariant-loop-name l = l.builder ≡ record l.fn.builder { state_names = take l.name-index (names_of l.names) }

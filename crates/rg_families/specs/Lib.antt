@@ -1,0 +1,5 @@
+pub mod Named
+pub mod Grid
+pub mod Doubling
+pub mod Lock
+pub mod Families

@@ -1,0 +1,55 @@
+//! Families of systems, each of them given by a number.
+#![tactic(auto)]
+
+ghost use Rattle.std.specs.Prelude.{◌↔◌, ◌≤◌, IsTrue, IfOk};
+ghost use Rattle.rg_families.specs.Families.{IsFamilyNumber, IsOfFamily};
+
+mod doubling;
+mod grid;
+mod laws;
+mod lock;
+mod named;
+
+pub use doubling::MOST_DOUBLING;
+pub use grid::MOST_GRID;
+pub use laws::{arcs_are_counted, one_of_each, states_are_counted, systems_are_open};
+pub use lock::MOST_LOCK;
+use rg_lts::Lts;
+use rg_memory::NoMemory;
+use std::alloc::Global;
+
+/// A family of systems.
+#[derive(Clone, Copy, Debug, PartialEq, Eq)]
+pub enum Kind {
+    /// Two counters that count up to the number.
+    Grid,
+    /// Labels each of which has twice the effect of the one before it, so many doublings.
+    Doubling,
+    /// So many users of one lock.
+    Lock,
+}
+
+/// Whether the family has a system of this number: 1 to 63 for grids, 1 to 255 for doublings, 1 to 9 for locks.
+pub fn is_family_number(kind: Kind, n: u32) -> bool
+    ensures { IsTrue result ↔ IsFamilyNumber kind n }
+{
+    let greatest = match kind {
+        Kind::Grid => MOST_GRID,
+        Kind::Doubling => MOST_DOUBLING,
+        Kind::Lock => MOST_LOCK,
+    };
+    1 <= n && n <= greatest
+}
+
+/// The system of the family that this number gives, as `is_family_number` says that there is one. `NoMemory` where there is no
+/// memory for it, and for no other reason.
+pub fn generate(alloc: Global, kind: Kind, n: u32) -> Result<Lts, NoMemory>
+    requires { IsFamilyNumber kind n }
+    ensures { IfOk result (IsOfFamily kind n) }
+{
+    match kind {
+        Kind::Grid => grid::grid(alloc, n),
+        Kind::Doubling => doubling::doubling(alloc, n),
+        Kind::Lock => lock::lock(alloc, n),
+    }
+}
