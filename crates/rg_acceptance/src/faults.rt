@@ -1,41 +1,321 @@
-//! A shelf or a sink that fails in the middle.
-use crate::harness::{NoRoom, run_over, shelf, sink};
-use rg_top::Status;
+//! Every call of the outside fails once: each call of the shelf, each call of the sink that is written to, and each room that is too
+//! small; and the same run again ends as it should. The shelf gives at most 7 bytes a read, a sink takes at most 10 bytes a write.
+use crate::harness::{NoRoom, owned};
+use crate::worked::ABA;
+use rg_ports::{MemoryShelf, MemorySink, NoGate};
+use rg_top::run;
+use std::alloc::Global;
+use std::thread::Threads;
 
-const LOOP: &[u8] = b".type LTS\n.states\ns0[initial]\n.labels\na\n.arcs\ns0 a s0\n";
+const READ: usize = 7;
+
+const WRITE: usize = 10;
+
+const ROOM: usize = 4096;
+
+// What is run, and what is due to out and to err. A run makes `calls` calls of the shelf: for each file of n bytes one
+// that picks it, `ceil(n / 7)` that give bytes, and one that finds its end.
+#[derive(Clone, Copy)]
+struct Case<'a> {
+    words: &'a [&'a str],
+    f: &'a str,
+    c: &'a str,
+    calls: u64,
+    number: u8,
+    out: &'a str,
+    err: &'a str,
+}
+
+// A loop and a step, as a user has them: 153 bytes.
+const SIDE: &str =
+    ".name \"side\"\n.description \"a loop, then b\"\n.type LTS\n\n.states\ns0[initial=\"true\"] s1[final]\n.labels\na[uncontrollable] b\n.arcs\ns0 a s0 // the loop\ns0 b s1\n";
+
+const SIDE_NET: &str =
+    ".type PN\n.places\np0\n.transitions\na\nb\n.flows\na: {p0} -> {p0}\nb: {p0} -> {}\n.initial_marking {p0}\n";
+
+const OF_SIDE: &str =
+    "certificate 1\nclass pure\nevent s1 a\ncase\nleaf\n1 block\n1 tokens s1\n1 arc s0 a s0\nend\n";
+
+const ABA_GRAPH: &str =
+    ".model lts\n.outputs a b\n.state graph\ns0 a s1\ns1 b s2\ns2 a s3\n.marking {s0}\n.end\n";
+
+fn shelf(alloc: Global, case: Case<'_>, fail: &[u64]) -> Result<MemoryShelf, NoRoom> {
+    let mut files = Vec::new(alloc);
+    files.push((
+        String::from_str(alloc, "f")?,
+        Vec::from_slice(alloc, case.f.as_bytes())?,
+    ))?;
+    files.push((
+        String::from_str(alloc, "c")?,
+        Vec::from_slice(alloc, case.c.as_bytes())?,
+    ))?;
+    Ok(MemoryShelf::new(files, READ, Vec::from_slice(alloc, fail)?))
+}
+
+fn sink(alloc: Global, room: usize, fail: &[u64]) -> Result<MemorySink, NoRoom> {
+    Ok(MemorySink::new(alloc, room, WRITE, Vec::from_slice(alloc, fail)?)?)
+}
+
+// Whether the run ends with this number and leaves these bytes in out and in err.
+fn ends<R: Threads + Sync>(
+    rt: &R,
+    alloc: Global,
+    case: Case<'_>,
+    shelf: &mut MemoryShelf,
+    out: &mut MemorySink,
+    err: &mut MemorySink,
+    wanted: (u8, &[u8], &[u8]),
+) -> Result<bool, NoRoom> {
+    let words = owned(alloc, case.words)?;
+    let status = run(rt, alloc, &words, shelf, out, err, &NoGate);
+    Ok(status.number() == wanted.0 && out.bytes() == wanted.1 && err.bytes() == wanted.2)
+}
+
+// Call k of the shelf fails: nothing is written, and the same run again ends as without.
+fn shelf_fails<R: Threads + Sync>(
+    rt: &R,
+    alloc: Global,
+    case: Case<'_>,
+    k: u64,
+) -> Result<bool, NoRoom> {
+    let mut shelf = shelf(alloc, case, &[k])?;
+    let mut out = sink(alloc, ROOM, &[])?;
+    let mut err = sink(alloc, ROOM, &[])?;
+    let due = (case.number, case.out.as_bytes(), case.err.as_bytes());
+    let none: &[u8] = &[];
+    let fails = ends(
+        rt,
+        alloc,
+        case,
+        &mut shelf,
+        &mut out,
+        &mut err,
+        (5, none, none),
+    )?;
+    Ok(fails && ends(rt, alloc, case, &mut shelf, &mut out, &mut err, due)?)
+}
+
+// Each call of the shelf fails once, and one more than a run makes is none of its calls.
+fn each_call_of_the_shelf<R: Threads + Sync>(
+    rt: &R,
+    alloc: Global,
+    case: Case<'_>,
+) -> Result<bool, NoRoom> {
+    for k in 1..=case.calls {
+        if !shelf_fails(rt, alloc, case, k)? {
+            return Ok(false);
+        }
+    }
+    let mut shelf = shelf(alloc, case, &[case.calls.saturating_add(1)])?;
+    let mut out = sink(alloc, ROOM, &[])?;
+    let mut err = sink(alloc, ROOM, &[])?;
+    let due = (case.number, case.out.as_bytes(), case.err.as_bytes());
+    ends(rt, alloc, case, &mut shelf, &mut out, &mut err, due)
+}
+
+// The run writes the taken bytes of what is due, and fails: with this room, or at this call of the sink that is written to. Where a
+// call failed, the same run again writes all that is due behind them.
+fn write_fails<R: Threads + Sync>(
+    rt: &R,
+    alloc: Global,
+    case: Case<'_>,
+    room: usize,
+    fail: &[u64],
+    taken: &[u8],
+) -> Result<bool, NoRoom> {
+    let none: &[u8] = &[];
+    let mut shelf = shelf(alloc, case, &[])?;
+    let to_out = case.err.is_empty();
+    let mut out = sink(
+        alloc,
+        if to_out { room } else { ROOM },
+        if to_out { fail } else { &[] },
+    )?;
+    let mut err = sink(
+        alloc,
+        if to_out { ROOM } else { room },
+        if to_out { &[] } else { fail },
+    )?;
+    let first = if to_out {
+        (6, taken, none)
+    } else {
+        (6, none, taken)
+    };
+    if !ends(rt, alloc, case, &mut shelf, &mut out, &mut err, first)? {
+        return Ok(false);
+    }
+    if fail.is_empty() {
+        return Ok(true);
+    }
+    let mut both = Vec::from_slice(alloc, taken)?;
+    both.extend_from_slice(due(&case))?;
+    let again = if to_out {
+        (case.number, both.as_slice(), none)
+    } else {
+        (case.number, none, both.as_slice())
+    };
+    ends(rt, alloc, case, &mut shelf, &mut out, &mut err, again)
+}
+
+// The text that is due.
+fn due<'a>(case: &Case<'a>) -> &'a [u8] {
+    if case.err.is_empty() {
+        case.out.as_bytes()
+    } else {
+        case.err.as_bytes()
+    }
+}
+
+// Each call of the sink fails once: it took ten bytes a call before.
+fn each_call_of_the_sink<R: Threads + Sync>(
+    rt: &R,
+    alloc: Global,
+    case: Case<'_>,
+) -> Result<bool, NoRoom> {
+    let mut taken = Vec::new(alloc);
+    let mut call = 1u64;
+    for piece in due(&case).chunks(WRITE) {
+        if !write_fails(rt, alloc, case, ROOM, &[call], &taken)? {
+            return Ok(false);
+        }
+        taken.extend_from_slice(piece)?;
+        call = call.saturating_add(1);
+    }
+    Ok(true)
+}
+
+// Each room less than the text is full.
+fn each_room<R: Threads + Sync>(rt: &R, alloc: Global, case: Case<'_>) -> Result<bool, NoRoom> {
+    let mut taken = Vec::new(alloc);
+    for byte in due(&case) {
+        let room = taken.len();
+        if !write_fails(rt, alloc, case, room, &[], &taken)? {
+            return Ok(false);
+        }
+        taken.push(*byte)?;
+    }
+    Ok(true)
+}
+
+// What is run, over files of 153, 14, 84, 96 and 5 bytes.
+const CASES: [Case<'static>; 7] = [
+    Case {
+        words: &["synthesize", "none", "f"],
+        f: SIDE,
+        c: "",
+        calls: 24,
+        number: 0,
+        out: SIDE_NET,
+        err: "",
+    },
+    Case {
+        words: &["synthesize", "pure", "f"],
+        f: SIDE,
+        c: "",
+        calls: 24,
+        number: 1,
+        out: OF_SIDE,
+        err: "",
+    },
+    Case {
+        words: &["synthesize", "none", "f"],
+        f: ".type LTS /* x",
+        c: "",
+        calls: 4,
+        number: 3,
+        out: "",
+        err: "file 1: open comment at 10\n",
+    },
+    Case {
+        words: &["verify", "f", "c"],
+        f: SIDE,
+        c: OF_SIDE,
+        calls: 38,
+        number: 0,
+        out: "accepted: no net of class pure\n",
+        err: "",
+    },
+    Case {
+        words: &["check", "none", "f", "c"],
+        f: SIDE,
+        c: SIDE_NET,
+        calls: 40,
+        number: 0,
+        out: "yes\n",
+        err: "",
+    },
+    Case {
+        words: &["convert", "graph", "f", "--from", "words"],
+        f: "a b a",
+        c: "",
+        calls: 3,
+        number: 0,
+        out: ABA_GRAPH,
+        err: "",
+    },
+    Case {
+        words: &[],
+        f: "",
+        c: "",
+        calls: 0,
+        number: 2,
+        out: "",
+        err: "usage: no command\n",
+    },
+];
 
 #[test]
-fn the_second_write_fails(rt: HostRuntime) -> Result<(), NoRoom> {
-    let alloc = rt.alloc();
-    let words = ["synthesize", "none", "f"];
-    let made = run_over(
-        &rt,
-        alloc,
-        &words,
-        shelf(alloc, LOOP, &[])?,
-        sink(alloc, 10, &[2])?,
-    )?;
-    assert_eq!(rt; made.status, Status::WriteFault);
-    assert_eq!(rt; made.status.number(), 6);
-    assert!(rt; made.out.bytes() == b".type PN\n.".as_slice());
-    assert!(rt; made.err.bytes().is_empty());
+fn each_call_of_the_shelf_fails(rt: HostRuntime) -> Result<(), NoRoom> {
+    for case in CASES {
+        assert!(rt; each_call_of_the_shelf(&rt, rt.alloc(), case)?);
+    }
     Ok(())
 }
 
 #[test]
-fn the_third_call_of_the_shelf_fails(rt: HostRuntime) -> Result<(), NoRoom> {
-    let alloc = rt.alloc();
-    let words = ["synthesize", "none", "f"];
-    let made = run_over(
-        &rt,
-        alloc,
-        &words,
-        shelf(alloc, LOOP, &[3])?,
-        sink(alloc, 64, &[])?,
-    )?;
-    assert_eq!(rt; made.status, Status::ReadFault);
-    assert_eq!(rt; made.status.number(), 5);
-    assert!(rt; made.out.bytes().is_empty());
-    assert!(rt; made.err.bytes().is_empty());
+fn each_call_of_a_sink_fails(rt: HostRuntime) -> Result<(), NoRoom> {
+    for case in CASES {
+        assert!(rt; each_call_of_the_sink(&rt, rt.alloc(), case)?);
+        assert!(rt; each_room(&rt, rt.alloc(), case)?);
+    }
+    Ok(())
+}
+
+#[test]
+fn a_file_is_missing(rt: HostRuntime) -> Result<(), NoRoom> {
+    let none: &[u8] = &[];
+    for (words, line) in [
+        (["synthesize", "none", "g"].as_slice(), "file 1: missing\n"),
+        (["verify", "g", "c"].as_slice(), "file 1: missing\n"),
+        (["verify", "f", "g"].as_slice(), "file 2: missing\n"),
+        (["check", "none", "g", "c"].as_slice(), "file 1: missing\n"),
+        (["check", "none", "f", "g"].as_slice(), "file 2: missing\n"),
+        (["convert", "apt", "g"].as_slice(), "file 1: missing\n"),
+    ] {
+        let case = Case {
+            words,
+            f: ABA,
+            c: "",
+            calls: 0,
+            number: 3,
+            out: "",
+            err: line,
+        };
+        let mut shelf = shelf(rt.alloc(), case, &[])?;
+        let mut out = sink(rt.alloc(), ROOM, &[])?;
+        let mut err = sink(rt.alloc(), ROOM, &[])?;
+        let wanted = (3, none, line.as_bytes());
+        assert!(rt;
+            ends(
+                &rt,
+                rt.alloc(),
+                case,
+                &mut shelf,
+                &mut out,
+                &mut err,
+                wanted
+            )?
+        );
+    }
     Ok(())
 }

@@ -1,5 +1,5 @@
 //! A run over one file in memory.
-use rg_ports::{MemoryShelf, MemorySink, NoGate};
+use rg_ports::{Gate, MemoryShelf, MemorySink, NoGate};
 use rg_top::{Status, run};
 use std::alloc::{AllocError, AllocFailed, Global};
 use std::thread::Threads;
@@ -34,8 +34,8 @@ impl From<rg_ports::NoMemory> for NoRoom {
     }
 }
 
-// The words as owned strings.
-fn owned(alloc: Global, words: &[&str]) -> Result<Vec<String>, NoRoom> {
+/// The words as owned strings.
+pub fn owned(alloc: Global, words: &[&str]) -> Result<Vec<String>, NoRoom> {
     let mut all = Vec::new(alloc);
     for word in words {
         all.push(String::from_str(alloc, word)?)?;
@@ -76,12 +76,24 @@ pub fn run_over<R: Threads + Sync>(
     rt: &R,
     alloc: Global,
     words: &[&str],
+    shelf: MemoryShelf,
+    out: MemorySink,
+) -> Result<Outcome, NoRoom> {
+    run_through(rt, alloc, words, shelf, out, &NoGate)
+}
+
+/// The same through a gate.
+pub fn run_through<R: Threads + Sync, G: Gate + Sync>(
+    rt: &R,
+    alloc: Global,
+    words: &[&str],
     mut shelf: MemoryShelf,
     mut out: MemorySink,
+    gate: &G,
 ) -> Result<Outcome, NoRoom> {
     let words = owned(alloc, words)?;
     let mut err = sink(alloc, 4096, &[])?;
-    let status = run(rt, alloc, &words, &mut shelf, &mut out, &mut err, &NoGate);
+    let status = run(rt, alloc, &words, &mut shelf, &mut out, &mut err, gate);
     Ok(Outcome { status, out, err })
 }
 

@@ -4,7 +4,7 @@ use crate::harness::{NoRoom, judge, synthesize};
 use crate::worked::{
     ABBAA, CHOICE, CYCLE, OF_ABBAA, OF_CHOICE, OF_CYCLE, OF_PURE_CHOICE, OF_SIDE, SIDE,
 };
-use rg_top::{Status, written_is_accepted, written_is_one};
+use rg_top::Status;
 use std::alloc::Global;
 
 #[test]
@@ -24,8 +24,6 @@ fn certificates_are_written(rt: HostRuntime) -> Result<(), NoRoom> {
         let judged = judge(&rt, rt.alloc(), text.as_bytes(), outcome.out.bytes())?;
         assert_eq!(rt; judged.status, Status::Done);
     }
-    written_is_accepted();
-    written_is_one();
     Ok(())
 }
 

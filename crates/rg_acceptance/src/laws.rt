@@ -1,7 +1,16 @@
-//! The law on nets that are written.
-use rg_top::written_net_gets_yes;
+//! The laws on how often a command can end, and on what is written.
+use rg_top::{
+    answers_are_one, check_ends_once, convert_ends_once, synthesize_ends_once, verify_ends_once,
+    written_is_accepted, written_net_gets_yes,
+};
 
 #[test]
-fn law_is_called(_rt: HostRuntime) {
+fn laws_are_called(_rt: HostRuntime) {
+    answers_are_one();
+    synthesize_ends_once();
+    verify_ends_once();
+    check_ends_once();
+    convert_ends_once();
+    written_is_accepted();
     written_net_gets_yes();
 }

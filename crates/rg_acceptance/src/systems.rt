@@ -1,11 +1,7 @@
 //! Systems and the nets that they get.
 use crate::harness::{NoRoom, synthesize};
-use crate::worked::{ABA, CHOICE, OF_RING_PLAIN, OF_RING_SAFE, RING, SIDE};
+use crate::worked::{ABA, CHOICE, LOCK, OF_RING_PLAIN, OF_RING_SAFE, RING, SIDE};
 use rg_top::Status;
-
-// Two users and one lock.
-const LOCK: &str =
-    ".type LTS\n.states\nii[initial]\niw\nic\nwi\nww\nwc\nci\ncw\n.labels\nask1\nget1\nput1\nask2\nget2\nput2\n.arcs\nii ask1 wi\nii ask2 iw\niw ask1 ww\niw get2 ic\nic ask1 wc\nic put2 ii\nwi get1 ci\nwi ask2 ww\nww get1 cw\nww get2 wc\nwc put2 wi\nci put1 ii\nci ask2 cw\ncw put1 iw\n";
 
 // One state and seven loops.
 const LOOPS: &str =

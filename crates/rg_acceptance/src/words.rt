@@ -1,7 +1,7 @@
 //! Words that are refused, and a file that isn't there.
 use crate::harness::{NoRoom, run_over, shelf, sink};
-use rg_top::{Fault, FileFault, Status, Usage};
 use rg_theory::ClassFault;
+use rg_top::{Fault, FileFault, Status, Usage};
 
 #[test]
 fn words_are_refused(rt: HostRuntime) -> Result<(), NoRoom> {

@@ -51,3 +51,7 @@ pub const OF_RING_PLAIN: &str =
 /// No region of a safe net stops b at the beginning.
 pub const OF_RING_SAFE: &str =
     "certificate 1\nclass safe\nevent s0 b\ncase\nsplit tokens s1 0\nleaf\n1 stop s2\n2 tokens s0\n2 above 0\n-1 arc s0 a s1\n1 arc s1 a s2\nleaf\n1 stop s2\n2 cap s2\n2 above 0\n1 arc s0 a s1\n-1 arc s1 a s2\nend\n";
+
+/// Two users and one lock.
+pub const LOCK: &str =
+    ".type LTS\n.states\nii[initial]\niw\nic\nwi\nww\nwc\nci\ncw\n.labels\nask1\nget1\nput1\nask2\nget2\nput2\n.arcs\nii ask1 wi\nii ask2 iw\niw ask1 ww\niw get2 ic\nic ask1 wc\nic put2 ii\nwi get1 ci\nwi ask2 ww\nww get1 cw\nww get2 wc\nwc put2 wi\nci put1 ii\nci ask2 cw\ncw put1 iw\n";

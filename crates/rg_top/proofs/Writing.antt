@@ -2,21 +2,55 @@
 use Rattle.std.proofs.Common.{◌≡◌, ◌⊎◌, inl, inr, ℕ, true, List, [], Option, Some, None, append-nil, refl, ap, subst, ◌∙◌, arith}
 use Rattle.rg_ports.specs.Shelf.{Files}
 use Rattle.rg_ports.specs.Sink.{taken_with, TakesPart}
-use Rattle.rg_top.specs.Answers.{Answers}
-use Rattle.rg_top.specs.Run.{Run, Takes, IsLeft, Breaks, FailsToWrite}
+use Rattle.rg_theory.specs.System.{System}
+use Rattle.rg_commands.specs.Requests.{Asked, net, judgement, verdict, conversion}
+use Rattle.rg_top.specs.Synthesize.{a_net, a_certificate, a_term}
+use Rattle.rg_top.specs.Verify as verify
+use Rattle.rg_top.specs.Check as check
+use Rattle.rg_top.specs.Convert.{as_apt, as_graph, label_lost, state_lost}
+use Rattle.rg_top.specs.Ends.{EndsOn, EndsOf, no_system, on_system, Answers, refused, asked}
+use Rattle.rg_top.specs.Run.{Run, Takes, IsLeft, Breaks, Says, Ends, FailsToWrite}
 use Rattle.rg_top.specs.declared.status.Status.{Status}
-use Rattle.rg_top.specs.declared.status.Status.TheVariants.{Done, No, Usage, File, TooWide, ReadFault, WriteFault, NoMemory}
+use Rattle.rg_top.specs.declared.status.Status.TheVariants.{Done, No, Usage, File, TooWide}
 
--- a status writes to one sink at most
-one_sink : (words : List (List ℕ)) (files : Option Files) (status : Status) (out err : List ℕ) → Answers words files status out err → (out ≡ []) ⊎ (err ≡ [])
-one_sink words files Done out err is = inr is.1
-one_sink words files No out err is = inr is.1
-one_sink words files (Usage usage) out err is = inl is.1
-one_sink words files (File fault) out err is = inl is.1
-one_sink words files (TooWide cause) out err is = inl is.1
-one_sink words files ReadFault out err is = absurd is
-one_sink words files WriteFault out err is = absurd is
-one_sink words files NoMemory out err is = absurd is
+-- a status that is answered is no fault, and writes to one sink at most
+data Due (out err : List ℕ) : Status → Type 0 where
+  done : err ≡ [] → Due out err Done
+  no : err ≡ [] → Due out err No
+  usage : (u : _) → out ≡ [] → Due out err (Usage u)
+  file : (f : _) → out ≡ [] → Due out err (File f)
+  wide : (w : _) → out ≡ [] → Due out err (TooWide w)
+
+on_one_sink : (files : Option Files) (asked : Asked) (lts : System) (s : Status) (out err : List ℕ) → EndsOn files asked lts s out err → Due out err s
+on_one_sink files (net class name form) lts s out err (a_net text is) = done refl
+on_one_sink files (net class name form) lts s out err (a_certificate text is) = no refl
+on_one_sink files (net class name form) lts s out err (a_term at is) = wide _ refl
+on_one_sink files (judgement name cert form) lts s out err (verify.unread fault is) = file _ refl
+on_one_sink files (judgement name cert form) lts s out err (verify.accepted class is none) = done refl
+on_one_sink files (judgement name cert form) lts s out err (verify.refused text is why) = no refl
+on_one_sink files (verdict class name other form) lts s out err (check.unread fault is) = file _ refl
+on_one_sink files (verdict class name other form) lts s out err (check.yes is right) = done refl
+on_one_sink files (verdict class name other form) lts s out err (check.no n is wrong) = no refl
+on_one_sink files (verdict class name other form) lts s out err (check.passes w is) = wide _ refl
+on_one_sink files (conversion target name form) lts s out err (as_apt spelled) = done refl
+on_one_sink files (conversion target name form) lts s out err (as_graph l r again) = done refl
+on_one_sink files (conversion target name form) lts s out err (label_lost t is) = no refl
+on_one_sink files (conversion target name form) lts s out err (state_lost q is) = no refl
+
+of_one_sink : (files : Option Files) (asked : Asked) (s : Status) (out err : List ℕ) → EndsOf files asked s out err → Due out err s
+of_one_sink files request s out err (no_system fault is) = file _ refl
+of_one_sink files request s out err (on_system lts _ _ _ is formed x) = on_one_sink files request lts s out err x
+
+one_sink : (words : List (List ℕ)) (files : Option Files) (s : Status) (out err : List ℕ) → Answers words files s out err → Due out err s
+one_sink words files s out err (refused u is) = usage u refl
+one_sink words files s out err (asked request _ _ _ ask x) = of_one_sink files request s out err x
+
+nothing_to_one : (s : Status) (out err : List ℕ) → Due out err s → (out ≡ []) ⊎ (err ≡ [])
+nothing_to_one s out err (done e) = inr e
+nothing_to_one s out err (no e) = inr e
+nothing_to_one s out err (usage u e) = inl e
+nothing_to_one s out err (file f e) = inl e
+nothing_to_one s out err (wide w e) = inl e
 
 no_part : (before after : Option (List ℕ)) → TakesPart before [] after → ⊥
 no_part before after (k, lt, e) = omega arith
@@ -27,7 +61,7 @@ nothing_taken (Some bytes) = ap Some (append-nil bytes)
 
 -- all was written to out, and the writes to err failed
 pub second_fails : (run : Run) (status : Status) (out err : List ℕ) → Answers run.words run.files status out err → Takes run.out out → Breaks run.err err → FailsToWrite run
-second_fails run status out err due took breaks = go (one_sink run.words run.files status out err due)
+second_fails run status out err due took breaks = go (nothing_to_one status out err (one_sink run.words run.files status out err due))
   where
     go : (out ≡ []) ⊎ (err ≡ []) → FailsToWrite run
     go (inl none) =
@@ -37,3 +71,14 @@ second_fails run status out err due took breaks = go (one_sink run.words run.fil
         } in
         record { status = status; out_bytes = out; err_bytes = err; due = due; broken = inr (left, breaks) }
     go (inr none) = absurd (no_part run.err.taken.before run.err.taken.after (subst (λ b. TakesPart run.err.taken.before b run.err.taken.after) none breaks.part))
+
+-- a run that says what is due ended so
+pub says_ends : (run : Run) (status : Status) → Says run status → Ends run status
+says_ends run status h = by status h (one_sink run.words run.files status h.out_bytes h.err_bytes h.due)
+  where
+    by : (s : Status) → Says run s → Due h.out_bytes h.err_bytes s → Ends run s
+    by s h (done e) = h
+    by s h (no e) = h
+    by s h (usage u e) = h
+    by s h (file f e) = h
+    by s h (wide w e) = h

@@ -3,12 +3,16 @@ use Rattle.std.specs.Prelude.{◌≡◌, ◌≢◌, ℕ, ◌<◌, ◌≤◌, Lis
 use Rattle.rg_ports.specs.Shelf.{Files, file_of}
 use Rattle.rg_text.specs.Limits.{most_bytes}
 use Rattle.rg_theory.specs.System.{System}
-use Rattle.rg_apt.specs.Spells.{Spells, FirstFault}
-use Rattle.rg_apt.specs.declared.fault.TextFault.{TextFault}
-use Rattle.rg_apt.specs.declared.fault.TextFault.TheVariants.{NoMemory}
-use Rattle.rg_top.specs.Words.{Asked, Ask, system_file}
-use Rattle.rg_top.specs.declared.status.Fault.{Fault}
-use Rattle.rg_top.specs.declared.status.Fault.TheVariants.{Missing, TooLong, Apt}
+use Rattle.rg_apt.specs.Spells.{Spells as AptSpells, FirstFault as FirstAptFault}
+use Rattle.rg_apt.specs.declared.fault.TextFault.TheVariants as apt_fault
+use Rattle.rg_genet.specs.Spells.{Spells as GraphSpells, FirstFault as FirstGraphFault}
+use Rattle.rg_genet.specs.declared.fault.GraphFault.TheVariants as graph_fault
+use Rattle.rg_words.specs.Spells.{Spells as WordsSpell, FirstFault as FirstWordFault}
+use Rattle.rg_words.specs.declared.fault.WordFault.TheVariants as word_fault
+use Rattle.rg_commands.specs.declared.forms.Form.{Form}
+use Rattle.rg_commands.specs.declared.forms.Form.TheVariants as form
+use Rattle.rg_lines.specs.declared.fault.Fault.{Fault}
+use Rattle.rg_lines.specs.declared.fault.Fault.TheVariants.{Missing, TooLong, Apt, Graph, Words}
 
 -- the shelf, as far as it tells its files, has these bytes under the name, or no such file
 abbrev pub MayHold : Option Files → List ℕ → Option (List ℕ) → Type 0
@@ -30,36 +34,35 @@ pub record IsTooLong (files : Option Files) (name : List ℕ) : Type 0 where
 abbrev pub IsUnread : Option Files → List ℕ → Fault → Type 0
 IsUnread files name Missing = MayHold files name None
 IsUnread files name TooLong = IsTooLong files name
-IsUnread files name (Apt fault) = ⊥
+IsUnread files name _ = ⊥
 
--- the file's text has the first fault, which isn't want of memory
-pub record IsFaulty (files : Option Files) (name : List ℕ) (fault : TextFault) : Type 0 where
+-- the bytes spell the system in the form
+abbrev pub SpellsAs : Form → List ℕ → System → Type 0
+SpellsAs form.Apt bytes lts = AptSpells bytes lts
+SpellsAs form.Graph bytes lts = GraphSpells bytes lts
+SpellsAs form.Words bytes lts = WordsSpell bytes lts
+
+-- the first fault of the bytes in the form, which isn't want of memory
+abbrev pub IsFaultAs : Form → List ℕ → Fault → Type 0
+IsFaultAs form.Apt bytes (Apt fault) = FirstAptFault bytes fault × (fault ≢ apt_fault.NoMemory)
+IsFaultAs form.Graph bytes (Graph fault) = FirstGraphFault bytes fault × (fault ≢ graph_fault.NoMemory)
+IsFaultAs form.Words bytes (Words fault) = FirstWordFault bytes fault × (fault ≢ word_fault.NoMemory)
+IsFaultAs _ bytes _ = ⊥
+
+-- the file's text has the first fault in the form
+pub record IsFaulty (files : Option Files) (form : Form) (name : List ℕ) (fault : Fault) : Type 0 where
   pub bytes : List ℕ
   pub file : IsFile files name bytes
-  pub first : FirstFault bytes fault
-  pub real : fault ≢ NoMemory
+  pub first : IsFaultAs form bytes fault
 
--- the file is not that of a system
-abbrev pub IsNoSystem : Option Files → List ℕ → Fault → Type 0
-IsNoSystem files name (Apt fault) = IsFaulty files name fault
-IsNoSystem files name fault = IsUnread files name fault
+-- the file is not that of a system in the form
+abbrev pub IsNoSystem : Option Files → Form → List ℕ → Fault → Type 0
+IsNoSystem files form name Missing = MayHold files name None
+IsNoSystem files form name TooLong = IsTooLong files name
+IsNoSystem files form name fault = IsFaulty files form name fault
 
--- the file spells the system
-pub record IsSystemFile (files : Option Files) (name : List ℕ) (lts : System) : Type 0 where
+-- the file spells the system in the form
+pub record IsSystemFile (files : Option Files) (form : Form) (name : List ℕ) (lts : System) : Type 0 where
   pub bytes : List ℕ
   pub file : IsFile files name bytes
-  pub spelled : Spells bytes lts
-
--- the words ask for something whose first file is not that of a system
-pub record AskForNoSystem (words : List (List ℕ)) (files : Option Files) (fault : Fault) : Type 0 where
-  pub asked : Asked
-  pub ask : Ask words asked
-  pub is : IsNoSystem files (system_file asked) fault
-
--- the words ask for something whose first file spells a system, and a fact holds of both
-pub record AskOf (words : List (List ℕ)) (files : Option Files) (Fact : Asked → System → Type 0) : Type 0 where
-  pub asked : Asked
-  pub ask : Ask words asked
-  pub lts : System
-  pub file : IsSystemFile files (system_file asked) lts
-  pub fact : Fact asked lts
+  pub spelled : SpellsAs form bytes lts

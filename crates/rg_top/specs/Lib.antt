@@ -1,9 +1,12 @@
 pub mod Numbers
-pub mod Words
 pub mod Given
-pub mod Texts
-pub mod JudgedTexts
-pub mod Judged
-pub mod Answers
+pub mod Second
+pub mod Synthesize
+pub mod Verify
+pub mod Check
+pub mod Convert
+pub mod Ends
+pub mod Due
 pub mod Run
+pub mod One
 pub mod Requests

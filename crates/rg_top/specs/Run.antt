@@ -1,18 +1,20 @@
 -- What is seen of one run, and how it may end.
-use Rattle.std.specs.Prelude.{◌≡◌, ◌⊎◌, ℕ, ◌<◌, Bool, true, false, List, [], ◌++◌, length, Option, option_map, IsSome}
+use Rattle.std.specs.Prelude.{◌≡◌, ◌⊎◌, ℕ, ◌<◌, Bool, true, false, List, [], ◌∷◌, ◌++◌, length, Option, option_map, IsSome}
 use Rattle.rg_ports.specs.Calls.{LastCall, finds_end, ReadsFile}
 use Rattle.rg_ports.specs.Count.{HasRisen}
 use Rattle.rg_ports.specs.Shelf.{Files}
 use Rattle.rg_ports.specs.Sink.{taken_with, TakesPart}
 use Rattle.rg_theory.specs.System.{System}
-use Rattle.rg_top.specs.Words.{Asked, judgement, Ask, file_words, system_file}
-use Rattle.rg_top.specs.Given.{IsSystemFile, AskOf}
 use Rattle.rg_order_of_work.specs.Shown.{Shown}
 use Rattle.rg_separate.specs.View.{shown_of}
-use Rattle.rg_top.specs.Answers.{Answers, IsDue, Passes}
+use Rattle.rg_commands.specs.Requests.{Asked, file_words, system_file, system_form}
+use Rattle.rg_commands.specs.Says.{Ask}
+use Rattle.rg_lines.specs.declared.wide.WideCause.TheVariants.{Synthesis}
+use Rattle.rg_top.specs.Given.{IsSystemFile}
+use Rattle.rg_top.specs.Ends.{Answers}
+use Rattle.rg_top.specs.Due.{IsDue, IsPassed}
 use Rattle.rg_top.specs.declared.status.Status.{Status}
 use Rattle.rg_top.specs.declared.status.Status.TheVariants.{Usage, TooWide, ReadFault, WriteFault, NoMemory}
-use Rattle.rg_top.specs.declared.status.WideCause.TheVariants.{Synthesis}
 
 -- a value before the run and after it
 pub record Change (A : Type 0) : Type 0 where
@@ -95,7 +97,7 @@ Ends run status = Says run status
 abbrev pub AsksFiles : Option Files → Asked → Option (List (List ℕ)) → Option (List (List ℕ)) → Type 0
 AsksFiles files asked before after =
     (names left : List (List ℕ)) × (file_words asked ≡ names ++ left) × (after ≡ option_map (λ all. all ++ names) before)
-    × (1 < length names → (lts : System) × IsSystemFile files (system_file asked) lts)
+    × (1 < length names → (lts : System) × IsSystemFile files (system_form asked) (system_file asked) lts)
 
 -- the shelf was asked for some first ones of the files that the words name, or for nothing
 abbrev pub AsksAtMost : List (List ℕ) → Option Files → Option (List (List ℕ)) → Option (List (List ℕ)) → Type 0
@@ -103,10 +105,11 @@ AsksAtMost words files before after = (after ≡ before) ⊎ ((asked : Asked) ×
 
 -- the calls that read the first file of what is asked, and behind them, where its end was found and it spells a system, those
 -- that read the second one
-pub data ReadsFiles {S : Type 0} (finds : S → List ℕ → Option Bool → S → Type 0) (hands : S → ℕ → Option ℕ → S → Type 0) (files : Option Files) : Asked → S → S → Type 0 where
-  first_alone : (asked : Asked) (s t : S) (last : LastCall) → ReadsFile finds hands (system_file asked) s last t → ReadsFiles finds hands files asked s t
-  both : (file cert : List ℕ) (s m t : S) (lts : System) (last : LastCall) → ReadsFile finds hands file s finds_end m → IsSystemFile files file lts
-      → ReadsFile finds hands cert m last t → ReadsFiles finds hands files (judgement file cert) s t
+pub data ReadsFiles {S : Type 0} (finds : S → List ℕ → Option Bool → S → Type 0) (hands : S → ℕ → Option ℕ → S → Type 0) (files : Option Files) (asked : Asked) : S → S → Type 0 where
+  first_alone : (s t : S) (last : LastCall) → ReadsFile finds hands (system_file asked) s last t → ReadsFiles finds hands files asked s t
+  both : (second : List ℕ) (s m t : S) (lts : System) (last : LastCall) → file_words asked ≡ system_file asked ∷ second ∷ []
+      → ReadsFile finds hands (system_file asked) s finds_end m → IsSystemFile files (system_form asked) (system_file asked) lts
+      → ReadsFile finds hands second m last t → ReadsFiles finds hands files asked s t
 
 -- no call of the shelf, or those that read the files that the words name; none after the end of a file was found
 abbrev pub ReadsAtMost : {S : Type 0} (finds : S → List ℕ → Option Bool → S → Type 0) (hands : S → ℕ → Option ℕ → S → Type 0) → List (List ℕ) → Option Files → S → S → Type 0
@@ -134,6 +137,10 @@ abbrev pub IsTheOne : Status → Status → Type 0
 IsTheOne (TooWide (Synthesis at)) result = ShowsTerm (shown_of at) result
 IsTheOne due result = result ≡ due
 
+-- two ends are one: the same status, or one that shows the same term, and the same bytes
+abbrev pub AreOne : Status → Status → List ℕ → List ℕ → List ℕ → List ℕ → Type 0
+AreOne s s' out out' err err' = IsTheOne s' s × (out ≡ out') × (err ≡ err')
+
 -- where the status is due to the words and the files that are told it comes, unless a fault or want of memory comes in
 -- its place
 abbrev pub ComesIfDue : List (List ℕ) → Option Files → Status → Status → Type 0
@@ -142,4 +149,4 @@ ComesIfDue words files due result = IsDecided files due → IsDue words files du
 -- where a net is asked for, the shelf tells its files, and the answer is a term that is out of range, the status shows that term,
 -- unless a fault or want of memory comes in its place
 abbrev pub ComesIfPassed : List (List ℕ) → Option Files → Shown → Status → Type 0
-ComesIfPassed words files w result = IsSome files → AskOf words files (Passes w) → ShowsTerm w result ⊎ IsMishap result
+ComesIfPassed words files w result = IsSome files → IsPassed words files w → ShowsTerm w result ⊎ IsMishap result

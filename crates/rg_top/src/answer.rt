@@ -1,17 +1,25 @@
 //! The answer to the words, whole before anything is written.
-ghost use Rattle.std.specs.Prelude.{◌≡◌, ℕ, [], map, string_bytes, IfOk, IsErrOf};
+ghost use Rattle.std.specs.Prelude.{◌≡◌, ℕ, ◌≤◌, [], map, string_bytes, IfOk, IsErrOf};
 ghost use Rattle.rg_ports.specs.Count.{HasRisen};
-ghost use Rattle.rg_top.specs.Texts.{usage_line, file_line, wide_line};
-ghost use Rattle.rg_top.specs.Answers.{Answers, IsDue};
-ghost use Rattle.rg_top.specs.Requests.{asked_by, HasBounds, AnswersAsked};
+ghost use Rattle.rg_lts.specs.WellFormed.{IsWellFormed};
+ghost use Rattle.rg_commands.specs.Requests.{asked_by, system_file, system_form, HasBounds};
+ghost use Rattle.rg_lines.specs.Usages.{usage_line};
+ghost use Rattle.rg_lines.specs.Files.{file_line};
+ghost use Rattle.rg_lines.specs.Wides.{wide_line};
+ghost use Rattle.rg_top.specs.Ends.{EndsOn, EndsOf, Answers};
+ghost use Rattle.rg_top.specs.Requests.{HasJobs, more_files, asked_more, ReadsMore};
 ghost use Rattle.rg_top.specs.Run.{AsksAtMost, AsksFiles, ReadsAtMost, ReadsFiles, IsReadFault};
 ghost use Rattle.rg_top.specs.declared.answer.Stop.TheVariants as stop;
 
-use crate::judging::judgement_answer;
-use crate::netting::net_answer;
-use crate::request::{Request, read_words};
-use crate::status::{Fault, FileFault, Status, Usage, WideCause};
-use crate::texts::{file_text, usage_text, wide_text};
+use crate::checking::verdict_answer;
+use crate::converting::conversion_answer;
+use crate::files::{FileStop, read_system};
+use crate::status::Status;
+use crate::synthesizing::net_answer;
+use crate::verifying::judgement_answer;
+use rg_commands::{Form, Request, Usage, WordsStop, read_words};
+use rg_lines::{Fault, FileFault, WideCause, file_text, usage_text, wide_text};
+use rg_lts::Lts;
 use rg_memory::NoMemory;
 use rg_ports::{Gate, Shelf};
 use std::alloc::{AllocError, Global};
@@ -57,13 +65,13 @@ pub(crate) fn make_answer<R: Threads + Sync, H: Shelf, G: Gate + Sync>(
 ) -> Result<Answer, Stop>
     ensures asked { AsksAtMost (map string_bytes words.now) (H.files shelf.old) (H.asked shelf.old) (H.asked shelf.new) }
     ensures reads { ReadsAtMost H.finds H.hands (map string_bytes words.now) (H.files shelf.old) shelf.old shelf.new }
-    ensures due { IfOk result (λ a. IsDue (map string_bytes words.now) (H.files shelf.old) a.status) }
     ensures says { IfOk result (λ a. Answers (map string_bytes words.now) (H.files shelf.old) a.status a.out.items a.err.items) }
     ensures fault { IsErrOf result stop.ReadFault → IsReadFault (map string_bytes words.now) (record { before = H.faults shelf.old; after = H.faults shelf.new }) }
 {
-    match read_words(words) {
+    match read_words(alloc, words) {
         Ok(request) => request_answer(rt, alloc, request, shelf, gate),
-        Err(usage) => Ok(usage_refusal(alloc, usage)?),
+        Err(WordsStop::Refused(usage)) => Ok(usage_refusal(alloc, usage)?),
+        Err(WordsStop::NoMemory) => Err(Stop::NoMemory),
     }
 }
 
@@ -76,14 +84,70 @@ fn request_answer<R: Threads + Sync, H: Shelf, G: Gate + Sync>(
     gate: &G,
 ) -> Result<Answer, Stop>
     requires bounds { HasBounds (asked_by request) }
+    requires jobs { HasJobs request }
     ensures asked { AsksFiles (H.files shelf.old) (asked_by request.entry) (H.asked shelf.old) (H.asked shelf.new) }
     ensures reads { ReadsFiles H.finds H.hands (H.files shelf.old) (asked_by request.entry) shelf.old shelf.new }
-    ensures ok { IfOk result (λ a. AnswersAsked (H.files shelf.old) (asked_by request.entry) a.status a.out.items a.err.items) }
+    ensures ok { IfOk result (λ a. EndsOf (H.files shelf.old) (asked_by request.entry) a.status a.out.items a.err.items) }
     ensures fault { IsErrOf result stop.ReadFault → HasRisen (H.faults shelf.old) (H.faults shelf.new) }
 {
+    match read_system(alloc, shelf, file_of(&request), form_of(&request)) {
+        Ok(lts) => system_answer(rt, alloc, request, &lts, shelf, gate),
+        Err(FileStop::Refused(fault)) => Ok(file_refusal(alloc, 1, fault)?),
+        Err(FileStop::Failed) => Err(Stop::ReadFault),
+        Err(FileStop::NoMemory) => Err(Stop::NoMemory),
+    }
+}
+
+// The name of the file of the system.
+fn file_of<'a>(request: &Request<'a>) -> &'a str
+    ensures { result.now ≡ system_file (asked_by request.now) }
+{
     match request {
-        Request::Net(class, file) => net_answer(rt, alloc, class, file, shelf, gate),
-        Request::Judgement(file, cert) => judgement_answer(alloc, file, cert, shelf),
+        Request::Synthesize(words) => words.file,
+        Request::Verify(words) => words.file,
+        Request::Check(words) => words.file,
+        Request::Convert(words) => words.file,
+    }
+}
+
+// The form of the file of the system.
+fn form_of(request: &Request<'_>) -> Form
+    ensures { result ≡ system_form (asked_by request.now) }
+{
+    match request {
+        Request::Synthesize(words) => words.form,
+        Request::Verify(words) => words.form,
+        Request::Check(words) => words.form,
+        Request::Convert(words) => words.form,
+    }
+}
+
+// The answer to a system of which something is asked.
+fn system_answer<R: Threads + Sync, H: Shelf, G: Gate + Sync>(
+    rt: &R,
+    alloc: Global,
+    request: Request<'_>,
+    lts: &Lts,
+    shelf: &mut H,
+    gate: &G,
+) -> Result<Answer, Stop>
+    requires bounds { HasBounds (asked_by request) }
+    requires jobs { HasJobs request }
+    ensures formed { IsWellFormed lts.now }
+    ensures asked { H.asked shelf.new ≡ asked_more (H.asked shelf.old) (more_files (asked_by request.entry)) }
+    ensures reads { ReadsMore H.finds H.hands (more_files (asked_by request.entry)) shelf.old shelf.new }
+    ensures ok { IfOk result (λ a. EndsOn (H.files shelf.old) (asked_by request.entry) lts.now a.status a.out.items a.err.items) }
+    ensures never_falls { H.faults shelf.old ≤ H.faults shelf.new }
+    ensures fault { IsErrOf result stop.ReadFault → HasRisen (H.faults shelf.old) (H.faults shelf.new) }
+{
+    lts.is_well_formed();
+    match request {
+        Request::Synthesize(words) => {
+            Ok(net_answer(rt, alloc, words.class, lts, words.jobs, gate)?)
+        }
+        Request::Verify(words) => judgement_answer(alloc, lts, words.cert, shelf),
+        Request::Check(words) => verdict_answer(alloc, lts, words.class, words.net, shelf),
+        Request::Convert(words) => Ok(conversion_answer(alloc, lts, words.target)?),
     }
 }
 

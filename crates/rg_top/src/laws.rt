@@ -1,26 +1,76 @@
-//! What `synthesize` writes is one, and `verify` accepts it.
-ghost use Rattle.std.specs.Prelude.{◌≡◌, ℕ, List, Option};
+//! How often and where a command can end.
+ghost use Rattle.std.specs.Prelude.{◌≡◌, ℕ, List, Option, Some};
 ghost use Rattle.rg_ports.specs.Shelf.{Files};
-ghost use Rattle.rg_theory.specs.System.{System};
+ghost use Rattle.rg_theory.specs.System.{System, IsInRange};
 ghost use Rattle.rg_theory.specs.declared.Class.{Class};
+ghost use Rattle.rg_lts.specs.WellFormed.{IsWellFormed};
+ghost use Rattle.rg_commands.specs.declared.forms.Target.{Target};
 ghost use Rattle.rg_top.specs.Given.{IsFile};
-ghost use Rattle.rg_top.specs.Judged.{IsAccepted};
-ghost use Rattle.rg_top.specs.Answers.{IsCertificateText};
-ghost use Rattle.rg_top.specs.Requests.{AnswersNet};
-ghost use Rattle.rg_top.specs.Run.{IsTheOne};
+ghost use Rattle.rg_top.specs.Synthesize.{IsCertificateText, SynthesizeEnds, SynthesizeIsDue};
+ghost use Rattle.rg_top.specs.Verify.{IsAccepted, VerifyEnds, VerifyIsDue};
+ghost use Rattle.rg_top.specs.Check.{CheckEnds, CheckIsDue};
+ghost use Rattle.rg_top.specs.Convert.{ConvertEnds, ConvertIsDue};
+ghost use Rattle.rg_top.specs.Run.{IsTheOne, AreOne};
+ghost use Rattle.rg_top.specs.One.{OneAnswer};
 ghost use Rattle.rg_top.specs.declared.status.Status.{Status};
 
+use rg_commands::words_say_one_thing;
+use rg_net_verdict::verdict_is_one;
 use rg_outcome::outcome_is_one;
+use rg_verify::one_verdict;
 
 /// What `synthesize` writes with status 1 is accepted by `verify` for the same system, wherever it stands in a file.
 pub fn written_is_accepted()
     ensures { (class : Class) (lts : System) (out : List ℕ) (files : Option Files) (name : List ℕ) → IsCertificateText class lts out → IsFile files name out → IsAccepted files name lts class }
 {}
 
-/// What `synthesize` answers for a system and a class is one: two answers have the same status, or show the same term, and the same bytes
-/// for out and for err. So two runs for them in which there is memory and no call fails end alike, with any threads and any gates.
-pub fn written_is_one()
-    ensures { (class : Class) (lts : System) (s s' : Status) (out err out' err' : List ℕ) → AnswersNet class lts s out err → AnswersNet class lts s' out' err' → IsTheOne s' s × (out ≡ out') × (err ≡ err') }
+/// `synthesize` ends in one way for a system and a class: two ends have the same status, or show the same term, and the same bytes for
+/// out and for err; and that status is the one that is due.
+pub fn synthesize_ends_once()
+    ensures once { (class : Class) (lts : System) (s s' : Status) (out err out' err' : List ℕ) → SynthesizeEnds class lts s out err → SynthesizeEnds class lts s' out' err' → AreOne s s' out out' err err' }
+    ensures due { (class : Class) (lts : System) (s due : Status) (out err : List ℕ) → SynthesizeEnds class lts s out err → SynthesizeIsDue class lts due → IsTheOne due s }
 {
     outcome_is_one();
+}
+
+/// `verify` ends in one way for a system and the files that are told, with the status that is due.
+pub fn verify_ends_once()
+    ensures once { (files : Files) (cert : List ℕ) (lts : System) (s s' : Status) (out err out' err' : List ℕ) → IsWellFormed lts → VerifyEnds (Some files) cert lts s out err → VerifyEnds (Some files) cert lts s' out' err' → AreOne s s' out out' err err' }
+    ensures due { (files : Files) (cert : List ℕ) (lts : System) (s due : Status) (out err : List ℕ) → VerifyEnds (Some files) cert lts s out err → VerifyIsDue (Some files) cert lts due → IsTheOne due s }
+{
+    rg_cert::one_answer();
+    one_verdict();
+}
+
+/// `check` ends in one way for a system, a class and the files that are told, with the status that is due.
+pub fn check_ends_once()
+    ensures once { (files : Files) (class : Class) (name : List ℕ) (lts : System) (s s' : Status) (out err out' err' : List ℕ) → IsInRange lts → CheckEnds (Some files) class name lts s out err → CheckEnds (Some files) class name lts s' out' err' → AreOne s s' out out' err err' }
+    ensures due { (files : Files) (class : Class) (name : List ℕ) (lts : System) (s due : Status) (out err : List ℕ) → IsInRange lts → CheckEnds (Some files) class name lts s out err → CheckIsDue (Some files) class name lts due → IsTheOne due s }
+{
+    rg_netfile::one_answer();
+    verdict_is_one();
+}
+
+/// `convert` ends in one way for a system and a form, with the status that is due.
+pub fn convert_ends_once()
+    ensures once { (lts : System) (target : Target) (s s' : Status) (out err out' err' : List ℕ) → ConvertEnds lts target s out err → ConvertEnds lts target s' out' err' → AreOne s s' out out' err err' }
+    ensures due { (lts : System) (target : Target) (s due : Status) (out err : List ℕ) → ConvertEnds lts target s out err → ConvertIsDue lts target due → IsTheOne due s }
+{}
+
+/// Words and files have one answer: where the files are told, two answers have the same status, or show the same term, and the same bytes
+/// for out and for err. So two runs over them in which there is memory and no call fails end alike and write the same, with any
+/// numbers of jobs and any gates. The status is the one that is due, and where the answer for the system and the class is a term that is out
+/// of range it shows that term.
+pub fn answers_are_one()
+    ensures { OneAnswer }
+{
+    words_say_one_thing();
+    outcome_is_one();
+    verdict_is_one();
+    one_verdict();
+    rg_apt::one_answer();
+    rg_genet::one_answer();
+    rg_words::one_answer();
+    rg_cert::one_answer();
+    rg_netfile::one_answer();
 }

@@ -1,20 +1,24 @@
-//! The top call: from words and a shelf of files to the bytes of a net, a certificate or a verdict.
+//! The top call: from words and a shelf of files to the bytes of a net, a certificate, a verdict or a system in another form.
 #![tactic(auto)]
 
 mod answer;
-mod judged_texts;
-mod judging;
+mod checking;
+mod converting;
+mod files;
 mod laws;
 mod net_laws;
-mod netting;
-mod request;
 mod run_whole;
 mod status;
-mod system_file;
-mod texts;
+mod synthesizing;
+mod verifying;
 
-pub use laws::{written_is_accepted, written_is_one};
+pub use laws::{
+    answers_are_one, check_ends_once, convert_ends_once, synthesize_ends_once, verify_ends_once,
+    written_is_accepted,
+};
 pub use net_laws::written_net_gets_yes;
+pub use rg_commands::Usage;
+pub use rg_lines::{Fault, FileFault, WideCause};
 pub use rg_separate::{Stage, WideAt};
 pub use run_whole::run;
-pub use status::{Fault, FileFault, Status, Usage, WideCause};
+pub use status::Status;

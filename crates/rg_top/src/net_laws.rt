@@ -7,7 +7,7 @@ ghost use Rattle.rg_netfile.specs.Contents.{most_places};
 ghost use Rattle.rg_netfile.specs.Spells.{Spells};
 ghost use Rattle.rg_net_verdict.specs.declared.verdict.NetVerdict.TheVariants as verdict;
 ghost use Rattle.rg_net_verdict.specs.Verdict.{Told, IsVerdict};
-ghost use Rattle.rg_top.specs.Answers.{IsNetText};
+ghost use Rattle.rg_top.specs.Synthesize.{IsNetText};
 
 use rg_net_verdict::solving_net_gets_yes;
 use rg_netfile::one_answer;

@@ -6,23 +6,23 @@ ghost use Rattle.rg_top.specs.Run.{Ends, AsksAtMost, ReadsAtMost, ComesIfDue, Co
 ghost use Rattle.rg_top.specs.declared.status.Status.{Status};
 
 use crate::answer::{Stop, make_answer};
+use crate::laws::answers_are_one;
 use crate::status::Status;
-use rg_outcome::outcome_is_one;
 use rg_ports::{Gate, Shelf, Sink, write_all};
 use std::alloc::Global;
 use std::thread::Threads;
 
-/// Runs the command that the words name. `synthesize CLASS FILE` reads the file of that name from the shelf, and writes to
-/// `out` the text of a net of the class that solves its system, or of a certificate that there is none. `verify FILE CERT`
-/// reads both files, and writes to `out` whether the certificate is accepted for the system. A refusal of words or files, and
-/// a number out of range, is a line to `err`. What is due is whole before the first write, and each write offers all that isn't
-/// taken yet. A file isn't read on once its end was found, and the second one is asked for only where the first spells a system.
-/// The problems of a system are solved one after the other: the gate is entered and left for each number of a block of them, and no
-/// other thread is used yet.
+/// Runs the command that the words name. `synthesize CLASS FILE` writes to `out` the text of a net of the class that solves the system of
+/// the file, or of a certificate that there is none; `verify FILE CERT` whether the certificate is accepted for the system; `check CLASS
+/// FILE NET` whether the net solves the system and is of the class; `convert FORM FILE` the system in another form. A refusal of
+/// words or files, and a number out of range, is a line to `err`. What is due is whole before the first write, and each write offers
+/// all that isn't taken yet. A file isn't read on once its end was found, and the second one is asked for only where the first spells
+/// a system. The problems of a system are solved by as many jobs as the words say, and the gate is entered and left for each
+/// number of a block of them.
 ///
 /// The status says how it ended: each has its cause in `Ends`, and a status that is due comes by `ComesIfDue`. Of `synthesize` the one
-/// answer for the system and the class is due (`Out`, in `rg_outcome`): a net, a reason why there is none, or by `ComesIfPassed` a
-/// number out of range. Neither the threads nor the gate can change it.
+/// answer for the system and the class is due (`Out`, in `rg_outcome`): a net, a reason, or by `ComesIfPassed` a number out of range.
+/// Neither the jobs nor the gate can change it (`answers_are_one`).
 pub fn run<R: Threads + Sync, H: Shelf, O: Sink, E: Sink, G: Gate + Sync>(
     rt: &R,
     alloc: Global,
@@ -52,7 +52,7 @@ pub fn run<R: Threads + Sync, H: Shelf, O: Sink, E: Sink, G: Gate + Sync>(
     ensures asked { AsksAtMost (map string_bytes words.now) (H.files shelf.old) (H.asked shelf.old) (H.asked shelf.new) }
     ensures reads { ReadsAtMost H.finds H.hands (map string_bytes words.now) (H.files shelf.old) shelf.old shelf.new }
 {
-    outcome_is_one();
+    answers_are_one();
     let made = match make_answer(rt, alloc, words, shelf, gate) {
         Ok(made) => made,
         Err(Stop::ReadFault) => return Status::ReadFault,

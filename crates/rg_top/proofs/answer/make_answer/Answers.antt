@@ -1,11 +1,27 @@
-use Rattle.std.proofs.Common.{map, string_bytes}
-use Rattle.rg_top.specs.Requests.{asked_by}
-use Rattle.rg_top.proofs.Answered.{bounds, asked_due_if}
+use Rattle.std.proofs.Common.{[], map, string_bytes, subst}
+use Rattle.rg_commands.specs.Requests.{asked_by}
+use Rattle.rg_commands.specs.Says.{AreRefused, IsStopOf}
+use Rattle.rg_lines.specs.Usages.{usage_line}
+use Rattle.rg_top.specs.Ends.{EndsOf, Answers, refused, asked}
+use Rattle.rg_top.specs.declared.answer.Answer.{Answer}
+use Rattle.rg_top.specs.declared.status.Status.TheVariants.{Usage as Refuses}
+use Rattle.rg_top.proofs.Written.{written, if_ok}
 use Rattle.rg_top.proofs.answer.make_answer.Goals as goal
 
-pub request_answer-requires-clause-bounds : goal.request_answer-requires-clause-bounds
-request_answer-requires-clause-bounds g c = λ lives within. bounds (map string_bytes c.args.words.now) (asked_by c.in-Ok.request) c.in-Ok.ensures.ok
+pub returns-in-Ok-clause-says : goal.returns-in-Ok-clause-says
+returns-in-Ok-clause-says g c =
+    let words = map string_bytes c.args.words.now in
+    let files = g.H.Shelf.files c.args.shelf.now in
+    let request = asked_by c.in-Ok.request in
+    if_ok (λ (a : Answer). EndsOf files request a.status a.out.items a.err.items) (λ (a : Answer). Answers words files a.status a.out.items a.err.items)
+    (λ a x. asked request a.status a.out.items a.err.items c.in-Ok.ensures.asks x) c.request_answer.result c.request_answer.ensures.ok
 
-pub returns-in-Ok-clause-due : goal.returns-in-Ok-clause-due
-returns-in-Ok-clause-due g c =
-    asked_due_if (map string_bytes c.args.words.now) (g.H.Shelf.files c.args.shelf.now) (asked_by c.in-Ok.request) c.request_answer.result c.in-Ok.ensures.ok c.request_answer.ensures.ok
+pub returns-in_ok-usage_refusal-in-Err-Refused-clause-says :
+    goal.returns-in_ok-usage_refusal-in-Err-Refused-clause-says
+returns-in_ok-usage_refusal-in-Err-Refused-clause-says g c =
+    let words = map string_bytes c.args.words.now in
+    let usage = c.in-Err-Refused.usage in
+    let made = c.in_ok-usage_refusal-in-Err-Refused in
+    let are = subst (IsStopOf (AreRefused words)) c.in-Err-Refused.field-0-is c.in-Err-Refused.ensures.refused in
+    written (Answers words (g.H.Shelf.files c.args.shelf.now)) made.field-0.status (Refuses usage) made.field-0.out.items [] made.field-0.err.items (usage_line usage)
+    made.ensures.status made.ensures.out made.ensures.err (refused usage are)

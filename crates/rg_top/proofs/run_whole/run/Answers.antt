@@ -1,13 +1,7 @@
-use Rattle.std.proofs.Common.{◌≡◌, inl, ℕ, true, false, refl, Err, List, ap, subst, ◌∙◌, map, string_bytes}
+use Rattle.std.proofs.Common.{inl, ℕ, true, false, refl, Err, List, ap, subst, ◌∙◌, map, string_bytes}
 use Rattle.rg_ports.specs.Offer.{Offers, done}
 use Rattle.rg_ports.specs.Sink.{taken_with, TakesPart}
-use Rattle.rg_apt.proofs.WholeTexts.{one_spelled, one_first_fault, spelled_or_fault}
-use Rattle.rg_top.proofs.Answered.{says_ends}
-use Rattle.rg_theory.specs.System.{System}
-use Rattle.rg_theory.specs.declared.Class.{Class}
-use Rattle.rg_outcome.specs.Outcome.{Out, Answer}
-use Rattle.rg_top.proofs.Statuses.{OneAnswer, one_status, term_shown}
-use Rattle.rg_top.proofs.Writing.{second_fails}
+use Rattle.rg_top.proofs.Writing.{second_fails, says_ends}
 use Rattle.rg_top.proofs.run_whole.run.Goals as goal
 
 pub returns-clause-ends : goal.returns-clause-ends
@@ -68,13 +62,10 @@ returns-in_default-clause-ends g c = record {
   );
 }
 
-answers : ((lts : System) (class : Class) (a b : Answer) → Out lts class a → Out lts class b → a ≡ b) → OneAnswer
-answers one = record { one_system = one_spelled; one_fault = one_first_fault; not_both = spelled_or_fault; one_out = one }
-
 pub returns-clause-exactly : goal.returns-clause-exactly
 returns-clause-exactly g c = λ due decided is.
-    inl (one_status (answers c.outcome_is_one.ensures.answer) (map string_bytes c.args.words.now) (g.H.Shelf.files c.args.shelf.now) c.in-Ok.made.status due decided c.in-Ok.ensures.due is)
+    inl (c.answers_are_one.ensures.due (map string_bytes c.args.words.now) (g.H.Shelf.files c.args.shelf.now) c.in-Ok.made.status due c.in-Ok.made.out.items c.in-Ok.made.err.items decided c.in-Ok.ensures.says is)
 
 pub returns-clause-passed : goal.returns-clause-passed
 returns-clause-passed g c = λ w told is.
-    inl (term_shown (answers c.outcome_is_one.ensures.answer) (map string_bytes c.args.words.now) (g.H.Shelf.files c.args.shelf.now) w c.in-Ok.made.status told c.in-Ok.ensures.due is)
+    inl (c.answers_are_one.ensures.term (map string_bytes c.args.words.now) (g.H.Shelf.files c.args.shelf.now) w c.in-Ok.made.status c.in-Ok.made.out.items c.in-Ok.made.err.items told c.in-Ok.ensures.says is)

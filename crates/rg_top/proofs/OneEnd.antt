@@ -1,0 +1,138 @@
+-- Words and files have one end.
+use Rattle.std.proofs.Common.{◌≡◌, ℕ, List, Option, Some, None, IsSome, Result, Ok, Err, refl, ap, subst}
+use Rattle.rg_ports.specs.Shelf.{Files}
+use Rattle.rg_theory.specs.System.{System}
+use Rattle.rg_lts.specs.WellFormed.{IsWellFormed}
+use Rattle.rg_order_of_work.specs.Shown.{Shown}
+use Rattle.rg_outcome.specs.Outcome.{Out, Answer.too_wide as of_term}
+use Rattle.rg_commands.specs.Requests.{Asked, net, judgement, verdict, conversion, system_file, system_form}
+use Rattle.rg_commands.specs.Says.{WordsSay, Ask, AreRefused}
+use Rattle.rg_commands.specs.declared.usage.Usage.{Usage}
+use Rattle.rg_commands.specs.declared.forms.Target.TheVariants as target
+use Rattle.rg_lines.specs.Files.{file_line}
+use Rattle.rg_lines.specs.Usages.{usage_line}
+use Rattle.rg_top.specs.Second.{first_fault}
+use Rattle.rg_top.specs.Ends.{EndsOn, EndsOf, no_system as ends_no_system, on_system as ends_on_system, Answers, refused as ends_refused, asked as ends_asked}
+use Rattle.rg_top.specs.Due.{DueOn, DueOf, no_system as due_no_system, on_system as due_on_system, IsDue, refused as due_refused, asked as due_asked, IsPassed}
+use Rattle.rg_top.specs.Run.{IsDecided, ShowsTerm, IsTheOne, AreOne}
+use Rattle.rg_top.specs.One.{OneAnswer}
+use Rattle.rg_top.specs.declared.status.Status.{Status}
+use Rattle.rg_top.specs.declared.status.Status.TheVariants.{Done, No, Usage as Refuses, File, TooWide, ReadFault, WriteFault, NoMemory}
+use Rattle.rg_top.proofs.OneFile.{OneReading, one_no_system, system_or_none, one_system}
+use Rattle.rg_top.proofs.SynthesizeOnce.{OneOut, synthesize_due, synthesize_once, synthesize_term}
+use Rattle.rg_top.proofs.VerifyOnce.{OneJudgement, verify_due, verify_once}
+use Rattle.rg_top.proofs.CheckOnce.{OneVerdict, check_due, check_once}
+use Rattle.rg_top.proofs.ConvertOnce.{convert_due, convert_once}
+
+-- what is one: what words say, what is read, what comes out, what is judged
+pub record OneOfAll : Type 0 where
+  pub words : (words : List (List ℕ)) (a b : Result Asked Usage) → WordsSay words a → WordsSay words b → a ≡ b
+  pub reading : OneReading
+  pub out : OneOut
+  pub judgement : OneJudgement
+  pub verdict : OneVerdict
+
+-- ---- a request
+
+on_due : OneOfAll → (files : Files) (asked : Asked) (lts : System) (s d : Status) (out err : List ℕ) → IsWellFormed lts → EndsOn (Some files) asked lts s out err → DueOn (Some files) asked lts d → IsTheOne d s
+on_due one files (net class file form) lts s d out err formed x y = synthesize_due one.out class lts s d out err x y
+on_due one files (judgement file cert form) lts s d out err formed x y = verify_due files cert lts s d out err x y
+on_due one files (verdict class file name form) lts s d out err formed x y = check_due one.verdict files class name lts s d out err formed.in_range x y
+on_due one files (conversion target file form) lts s d out err formed x y = convert_due lts target s d out err x y
+
+on_once : OneOfAll → (files : Files) (asked : Asked) (lts : System) (s s' : Status) (out err out' err' : List ℕ) → IsWellFormed lts → EndsOn (Some files) asked lts s out err → EndsOn (Some files) asked lts s' out' err' → AreOne s s' out out' err err'
+on_once one files (net class file form) lts s s' out err out' err' formed x y = synthesize_once one.out class lts s s' out err out' err' x y
+on_once one files (judgement file cert form) lts s s' out err out' err' formed x y = verify_once one.judgement files cert lts s s' out err out' err' formed x y
+on_once one files (verdict class file name form) lts s s' out err out' err' formed x y = check_once one.verdict files class name lts s s' out err out' err' formed.in_range x y
+on_once one files (conversion target file form) lts s s' out err out' err' formed x y = convert_once lts target s s' out err out' err' x y
+
+of_due : OneOfAll → (files : Files) (asked : Asked) (s d : Status) (out err : List ℕ) → EndsOf (Some files) asked s out err → DueOf (Some files) asked d → IsTheOne d s
+of_due one files asked s d out err (ends_no_system f h) (due_no_system g k) = ap (λ x. File (first_fault x)) (one_no_system one.reading files (system_form asked) (system_file asked) f g h k)
+of_due one files asked s d out err (ends_no_system f h) (due_on_system lts _ k is) = absurd (system_or_none one.reading files (system_form asked) (system_file asked) f lts h k)
+of_due one files asked s d out err (ends_on_system lts _ _ _ h formed x) (due_no_system g k) = absurd (system_or_none one.reading files (system_form asked) (system_file asked) g lts k h)
+of_due one files asked s d out err (ends_on_system lts _ _ _ h formed x) (due_on_system other _ k y) =
+    let same = one_system one.reading files (system_form asked) (system_file asked) other lts k h in
+    on_due one files asked lts s d out err formed x (subst (λ l. DueOn (Some files) asked l d) same y)
+
+of_once : OneOfAll → (files : Files) (asked : Asked) (s s' : Status) (out err out' err' : List ℕ) → EndsOf (Some files) asked s out err → EndsOf (Some files) asked s' out' err' → AreOne s s' out out' err err'
+of_once one files asked s s' out err out' err' (ends_no_system f h) (ends_no_system g k) =
+    let same = one_no_system one.reading files (system_form asked) (system_file asked) f g h k in
+    (ap (λ x. File (first_fault x)) same, refl, ap (λ x. file_line (first_fault x)) same)
+of_once one files asked s s' out err out' err' (ends_no_system f h) (ends_on_system lts _ _ _ k formed y) = absurd (system_or_none one.reading files (system_form asked) (system_file asked) f lts h k)
+of_once one files asked s s' out err out' err' (ends_on_system lts _ _ _ h formed x) (ends_no_system g k) = absurd (system_or_none one.reading files (system_form asked) (system_file asked) g lts k h)
+of_once one files asked s s' out err out' err' (ends_on_system lts _ _ _ h formed x) (ends_on_system other _ _ _ k formed' y) =
+    let same = one_system one.reading files (system_form asked) (system_file asked) other lts k h in
+    on_once one files asked lts s s' out err out' err' formed x (subst (λ l. EndsOn (Some files) asked l s' out' err') same y)
+
+-- ---- words
+
+same_asked : OneOfAll → (words : List (List ℕ)) (a b : Asked) → Ask words a → Ask words b → a ≡ b
+same_asked one words a b x y = let e = one.words words (Ok a) (Ok b) x y in cc
+
+same_usage : OneOfAll → (words : List (List ℕ)) (a b : Usage) → AreRefused words a → AreRefused words b → a ≡ b
+same_usage one words a b x y = let e = one.words words (Err a) (Err b) x y in cc
+
+not_both : OneOfAll → (words : List (List ℕ)) (a : Asked) (b : Usage) → Ask words a → AreRefused words b → ⊥
+not_both one words a b x y = let e = one.words words (Ok a) (Err b) x y in cc
+
+told_due : OneOfAll → (files : Option Files) (asked : Asked) (s d : Status) (out err : List ℕ) → IsSome files → EndsOf files asked s out err → DueOf files asked d → IsTheOne d s
+told_due one None asked s d out err there x y = let none : ⊥ = cc in absurd none
+told_due one (Some files) asked s d out err there x y = of_due one files asked s d out err x y
+
+-- no command is refused once its words are taken
+never_refused : (files : Option Files) (asked : Asked) (lts : System) (usage : Usage) → DueOn files asked lts (Refuses usage) → ⊥
+never_refused files (net class file form) lts usage is = is
+never_refused files (judgement file cert form) lts usage is = is
+never_refused files (verdict class file name form) lts usage is = is
+never_refused files (conversion target.Apt file form) lts usage is = is
+never_refused files (conversion target.Graph file form) lts usage is = is
+
+-- a status that is due to a request is decided where the files are told
+on_told : (files : Option Files) (asked : Asked) (lts : System) (d : Status) → IsDecided files d → DueOn files asked lts d → IsSome files
+on_told files asked lts (Refuses usage) decided is = absurd (never_refused files asked lts usage is)
+on_told files asked lts Done decided is = decided
+on_told files asked lts No decided is = decided
+on_told files asked lts (File fault) decided is = decided
+on_told files asked lts (TooWide cause) decided is = decided
+on_told files asked lts ReadFault decided is = decided
+on_told files asked lts WriteFault decided is = decided
+on_told files asked lts NoMemory decided is = decided
+
+told : (files : Option Files) (asked : Asked) (d : Status) → IsDecided files d → DueOf files asked d → IsSome files
+told files asked d decided (due_no_system f h) = decided
+told files asked d decided (due_on_system lts status h is) = on_told files asked lts status decided is
+
+pub answers_due : OneOfAll → (words : List (List ℕ)) (files : Option Files) (s d : Status) (out err : List ℕ) → IsDecided files d → Answers words files s out err → IsDue words files d → IsTheOne d s
+answers_due one words files s d out err decided (ends_refused u is) (due_refused v also) = ap Refuses (same_usage one words u v is also)
+answers_due one words files s d out err decided (ends_refused u is) (due_asked asked _ ask y) = absurd (not_both one words asked u ask is)
+answers_due one words files s d out err decided (ends_asked asked _ _ _ ask x) (due_refused v also) = absurd (not_both one words asked v ask also)
+answers_due one words files s d out err decided (ends_asked asked status o e ask x) (due_asked other due ask' y) =
+    let y' = subst (λ a. DueOf files a due) (same_asked one words other asked ask' ask) y in
+    told_due one files asked status due o e (told files asked due decided y') x y'
+
+pub answers_once : OneOfAll → (words : List (List ℕ)) (files : Files) (s s' : Status) (out err out' err' : List ℕ) → Answers words (Some files) s out err → Answers words (Some files) s' out' err' → AreOne s s' out out' err err'
+answers_once one words files s s' out err out' err' (ends_refused u is) (ends_refused v also) =
+    let same = same_usage one words u v is also in
+    (ap Refuses same, refl, ap usage_line same)
+answers_once one words files s s' out err out' err' (ends_refused u is) (ends_asked asked _ _ _ ask y) = absurd (not_both one words asked u ask is)
+answers_once one words files s s' out err out' err' (ends_asked asked _ _ _ ask x) (ends_refused v also) = absurd (not_both one words asked v ask also)
+answers_once one words files s s' out err out' err' (ends_asked asked status o e ask x) (ends_asked other status' o' e' ask' y) =
+    of_once one files asked status status' o e o' e' x (subst (λ a. EndsOf (Some files) a status' o' e') (same_asked one words other asked ask' ask) y)
+
+-- ---- a term that is out of range
+
+of_term_shown : OneOfAll → (files : Files) (words : List (List ℕ)) (w : Shown) (s : Status) (out err : List ℕ) (passed : IsPassed words (Some files) w)
+    → EndsOf (Some files) (net passed.class passed.file passed.form) s out err → ShowsTerm w s
+of_term_shown one files words w s out err passed (ends_no_system f h) = absurd (system_or_none one.reading files passed.form passed.file f passed.lts h passed.spelled)
+of_term_shown one files words w s out err passed (ends_on_system lts status o e h formed x) =
+    let same = one_system one.reading files passed.form passed.file passed.lts lts passed.spelled h in
+    synthesize_term one.out passed.class lts w status o e x (subst (λ l. Out l passed.class (of_term w)) same passed.answer)
+
+pub answers_term : OneOfAll → (words : List (List ℕ)) (files : Option Files) (w : Shown) (s : Status) (out err : List ℕ) → IsSome files → Answers words files s out err → IsPassed words files w → ShowsTerm w s
+answers_term one words None w s out err there x passed = let none : ⊥ = cc in absurd none
+answers_term one words (Some files) w s out err there (ends_refused u is) passed = absurd (not_both one words (net passed.class passed.file passed.form) u passed.ask is)
+answers_term one words (Some files) w s out err there (ends_asked asked status o e ask x) passed =
+    of_term_shown one files words w status o e passed (subst (λ a. EndsOf (Some files) a status o e) (same_asked one words asked (net passed.class passed.file passed.form) ask passed.ask) x)
+
+pub all_one : OneOfAll → OneAnswer
+all_one one = record { once = answers_once one; due = answers_due one; term = answers_term one }

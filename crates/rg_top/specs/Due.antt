@@ -1,0 +1,47 @@
+-- When a status is due to the words and the files. A fault or want of memory never is.
+use Rattle.std.specs.Prelude.{ℕ, List, Option}
+use Rattle.rg_ports.specs.Shelf.{Files}
+use Rattle.rg_theory.specs.System.{System}
+use Rattle.rg_theory.specs.declared.Class.{Class}
+use Rattle.rg_order_of_work.specs.Shown.{Shown}
+use Rattle.rg_outcome.specs.Outcome.{Out, Answer.too_wide as of_term}
+use Rattle.rg_commands.specs.Requests.{Asked, net, judgement, verdict, conversion, system_file, system_form}
+use Rattle.rg_commands.specs.Says.{Ask, AreRefused}
+use Rattle.rg_commands.specs.declared.usage.Usage.{Usage}
+use Rattle.rg_commands.specs.declared.forms.Form.{Form}
+use Rattle.rg_lines.specs.declared.fault.Fault.{Fault}
+use Rattle.rg_top.specs.Given.{IsNoSystem, IsSystemFile}
+use Rattle.rg_top.specs.Second.{first_fault}
+use Rattle.rg_top.specs.Synthesize.{SynthesizeIsDue}
+use Rattle.rg_top.specs.Verify.{VerifyIsDue}
+use Rattle.rg_top.specs.Check.{CheckIsDue}
+use Rattle.rg_top.specs.Convert.{ConvertIsDue}
+use Rattle.rg_top.specs.declared.status.Status.{Status}
+use Rattle.rg_top.specs.declared.status.Status.TheVariants.{Usage as Refuses, File}
+
+-- the status is due to a request whose first file spells the system
+abbrev pub DueOn : Option Files → Asked → System → Status → Type 0
+DueOn files (net class file form) lts = SynthesizeIsDue class lts
+DueOn files (judgement file cert form) lts = VerifyIsDue files cert lts
+DueOn files (verdict class file named form) lts = CheckIsDue files class named lts
+DueOn files (conversion target file form) lts = ConvertIsDue lts target
+
+-- the status is due to a request
+pub data DueOf (files : Option Files) (asked : Asked) : Status → Type 0 where
+  no_system : (fault : Fault) → IsNoSystem files (system_form asked) (system_file asked) fault → DueOf files asked (File (first_fault fault))
+  on_system : (lts : System) (status : Status) → IsSystemFile files (system_form asked) (system_file asked) lts → DueOn files asked lts status → DueOf files asked status
+
+-- the status is due to the words
+pub data IsDue (words : List (List ℕ)) (files : Option Files) : Status → Type 0 where
+  refused : (usage : Usage) → AreRefused words usage → IsDue words files (Refuses usage)
+  asked : (request : Asked) (status : Status) → Ask words request → DueOf files request status → IsDue words files status
+
+-- a net is asked for, and the answer for the system and the class is this term, which is out of range
+pub record IsPassed (words : List (List ℕ)) (files : Option Files) (w : Shown) : Type 0 where
+  pub class : Class
+  pub file : List ℕ
+  pub form : Form
+  pub ask : Ask words (net class file form)
+  pub lts : System
+  pub spelled : IsSystemFile files form file lts
+  pub answer : Out lts class (of_term w)

@@ -1,0 +1,60 @@
+-- How `synthesize CLASS FILE` ends where FILE spells a system.
+use Rattle.std.specs.Prelude.{◌≡◌, ℕ, ◌≤◌, List, [], length}
+use Rattle.rg_theory.specs.System.{System}
+use Rattle.rg_theory.specs.Net.{Place, Net}
+use Rattle.rg_theory.specs.declared.Class.{Class}
+use Rattle.rg_theory.specs.Class.{NoNet}
+use Rattle.rg_net.specs.NetText.{net_text}
+use Rattle.rg_netfile.specs.Contents.{most_places}
+use Rattle.rg_netfile.specs.Spells.{Spells as NetSpells}
+use Rattle.rg_refuting.specs.Refutes.{Reason, Accepts}
+use Rattle.rg_order_of_work.specs.Shown.{Shown, ShownWide}
+use Rattle.rg_outcome.specs.Outcome.{Out, Answer.net as of_net, Answer.unsolvable as of_reason, Answer.too_wide as of_term}
+use Rattle.rg_separate.specs.View.{shown_of}
+use Rattle.rg_separate.specs.declared.wide_at.WideAt.{WideAt}
+use Rattle.rg_cert.specs.Text.{cert_text}
+use Rattle.rg_cert.specs.Spells.{Spells as CertificateSpells}
+use Rattle.rg_synth.specs.Answer.{IsOpen, IsReason, IsSolvingNet}
+use Rattle.rg_lines.specs.Wides.{wide_line}
+use Rattle.rg_lines.specs.declared.wide.WideCause.TheVariants.{Synthesis}
+use Rattle.rg_top.specs.declared.status.Status.{Status}
+use Rattle.rg_top.specs.declared.status.Status.TheVariants.{Done, No, TooWide}
+
+-- the bytes are the text of the net that is the answer for the system and the class: it is of the class, solves the system, and
+-- without any one of its places doesn't; they are read as that net where a net file may have so many places
+pub record IsNetText (class : Class) (lts : System) (out : List ℕ) : Type 0 where
+  pub net : Net
+  pub answer : Out lts class (of_net net.places)
+  pub right : IsSolvingNet lts class net
+  pub text : out ≡ net_text net lts
+  pub spelled : length net.places ≤ most_places → NetSpells out lts net
+
+-- the bytes are the text of the certificate with the reason that is the answer for the system and the class; it holds, no net of
+-- the class solves the system, and the bytes are read as it
+pub record IsCertificateText (class : Class) (lts : System) (out : List ℕ) : Type 0 where
+  pub reason : Reason
+  pub answer : Out lts class (of_reason reason)
+  pub is : IsReason lts reason
+  pub holds : Accepts lts class reason
+  pub none : NoNet lts class
+  pub text : out ≡ cert_text (record { class = class; reason = reason }) lts
+  pub spelled : CertificateSpells out lts (record { class = class; reason = reason })
+
+-- a number that passes in the work on the system for the class, in its stated order; it is the answer for them
+pub record IsShownFor (class : Class) (lts : System) (w : Shown) : Type 0 where
+  pub is_open : IsOpen lts
+  pub passes : ShownWide lts class w
+  pub answer : Out lts class (of_term w)
+
+-- the status, and what it writes to out and to err
+pub data SynthesizeEnds (class : Class) (lts : System) : Status → List ℕ → List ℕ → Type 0 where
+  a_net : (out : List ℕ) → IsNetText class lts out → SynthesizeEnds class lts Done out []
+  a_certificate : (out : List ℕ) → IsCertificateText class lts out → SynthesizeEnds class lts No out []
+  a_term : (at : WideAt) → IsShownFor class lts (shown_of at) → SynthesizeEnds class lts (TooWide (Synthesis at)) [] (wide_line (Synthesis at))
+
+-- when each status is due: as the one answer is a net, a reason or a term
+abbrev pub SynthesizeIsDue : Class → System → Status → Type 0
+SynthesizeIsDue class lts Done = (places : List Place) × Out lts class (of_net places)
+SynthesizeIsDue class lts No = (reason : Reason) × Out lts class (of_reason reason)
+SynthesizeIsDue class lts (TooWide (Synthesis at)) = Out lts class (of_term (shown_of at))
+SynthesizeIsDue class lts _ = ⊥
