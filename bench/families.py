@@ -4,11 +4,14 @@
     bench/families.py write doubling 100 > doubling100.apt
     bench/families.py run crates/regions/out/regions [none pure ..]
     bench/families.py beside EARLIER crates/regions/out/regions [none pure ..]
+    bench/families.py jobs crates/regions/out/regions [none pure ..]
 
 `run` prints for each system and class (`none`, `pure`, `safe` and `pure,plain,safe`, unless classes are named) the status, the
-seconds, the peak memory as GNU time tells it, the numbers of states and of separation problems, how many places the net has, and
-what err says. `beside` runs an earlier program first, and prints its seconds, memory and places in columns of their own: a program
-that prunes no places shows how many are found. It is run by hand and is no test.
+seconds, the peak memory as GNU time tells it, the numbers of states and of separation problems, how many places the net has or how
+many nodes (splits and leaves) the certificate's trees, and what err says. `beside` runs an earlier program first, and prints its
+seconds, memory and places in columns of their own: a program that prunes no places shows how many are found. `jobs` prints the
+seconds and the memory with 1, 2, 4 and 16 jobs, and says so where the bytes differ, which they never may. It is run by hand and is no
+test.
 """
 import itertools
 import os
@@ -123,9 +126,10 @@ def problems(states, labels, arcs):
     return len(states) * len(labels) - enabled + len(states) * (len(states) - 1) // 2
 
 
-def measure(program, class_word, path):
+def measure(program, class_word, path, *options):
     begin = time.monotonic()
-    child = subprocess.run(['/usr/bin/time', '-q', '-f', '%M', program, 'synthesize', class_word, path], capture_output=True)
+    words = [program, 'synthesize', class_word, path, *options]
+    child = subprocess.run(['/usr/bin/time', '-q', '-f', '%M', *words], capture_output=True)
     seconds = time.monotonic() - begin
     *said, peak = child.stderr.decode().strip().split('\n')
     return child.returncode, seconds, int(peak) / 1024, child.stdout, ' '.join(said)
@@ -140,22 +144,48 @@ def places(out):
     return lines.index('.transitions') - first
 
 
+def nodes(out):
+    """The splits and leaves of the certificate's trees."""
+    return sum(line == 'leaf' or line.startswith('split ') for line in out.decode().split('\n'))
+
+
+def systems(folder):
+    """Each system with its file."""
+    for family, sizes in SIZES.items():
+        for n in sizes:
+            system = FAMILIES[family](n)
+            path = os.path.join(folder, f'{family}{n}.apt')
+            with open(path, 'w') as file:
+                file.write(text(*system))
+            yield f'{family} {n}', system, path
+
+
 def run(programs, classes):
-    columns = ['status', 'seconds', 'MiB', 'places'] * len(programs)
+    columns = ['status', 'seconds', 'MiB', 'places', 'nodes'] * len(programs)
     print(' | '.join(['family', 'class', 'states', 'problems', *columns, 'err']))
     with tempfile.TemporaryDirectory() as folder:
-        for family, sizes in SIZES.items():
-            for n in sizes:
-                system = FAMILIES[family](n)
-                path = os.path.join(folder, f'{family}{n}.apt')
-                with open(path, 'w') as file:
-                    file.write(text(*system))
-                for class_word in classes:
-                    line = [f'{family} {n}', class_word, f'{len(system[0]):,}', f'{problems(*system):,}']
-                    for program in programs:
-                        status, seconds, peak, out, said = measure(program, class_word, path)
-                        line += [str(status), f'{seconds:.2f}', f'{peak:.1f}', f'{places(out):,}']
-                    print(' | '.join([*line, said]), flush=True)
+        for name, system, path in systems(folder):
+            for class_word in classes:
+                line = [name, class_word, f'{len(system[0]):,}', f'{problems(*system):,}']
+                for program in programs:
+                    status, seconds, peak, out, said = measure(program, class_word, path)
+                    line += [str(status), f'{seconds:.2f}', f'{peak:.1f}', f'{places(out):,}', f'{nodes(out):,}']
+                print(' | '.join([*line, said]), flush=True)
+
+
+def with_jobs(program, classes):
+    counts = ('1', '2', '4', '16')
+    columns = [f'{what} with {count}' for count in counts for what in ('seconds', 'MiB')]
+    print(' | '.join(['family', 'class', 'status', *columns]))
+    with tempfile.TemporaryDirectory() as folder:
+        for name, _, path in systems(folder):
+            for class_word in classes:
+                ran = [measure(program, class_word, path, '--jobs', count) for count in counts]
+                line = [name, class_word, str(ran[0][0])]
+                line += [part for one in ran for part in (f'{one[1]:.2f}', f'{one[2]:.1f}')]
+                if any((one[0], one[3]) != (ran[0][0], ran[0][3]) for one in ran):
+                    line.append('THE BYTES DIFFER')
+                print(' | '.join(line), flush=True)
 
 
 def main():
@@ -164,6 +194,8 @@ def main():
         sys.stdout.write(text(*FAMILIES[words[1]](int(words[2]))))
     elif len(words) >= 2 and words[0] == 'run':
         run(words[1:2], words[2:] or CLASSES)
+    elif len(words) >= 2 and words[0] == 'jobs':
+        with_jobs(words[1], words[2:] or CLASSES)
     elif len(words) >= 3 and words[0] == 'beside':
         run(words[1:3], words[3:] or CLASSES)
     else:
