@@ -266,36 +266,3 @@ fn forms_are_read(rt: HostRuntime) -> Result<(), NoRoom> {
     }
     Ok(())
 }
-
-#[test]
-fn a_net_is_written_in_each_form(rt: HostRuntime) -> Result<(), NoRoom> {
-    let alloc = rt.alloc();
-    let words = ["synthesize", "none", "f"];
-    let by_apt = run_over(
-        &rt,
-        alloc,
-        &words,
-        shelf_of_two(alloc, ABA.as_bytes(), b"")?,
-        sink(alloc, 4096, &[])?,
-    )?;
-    assert_eq!(rt; by_apt.status.number(), 0);
-    let words = ["synthesize", "none", "f", "--from", "graph"];
-    let by_graph = run_over(
-        &rt,
-        alloc,
-        &words,
-        shelf_of_two(alloc, ABA_GRAPH.as_bytes(), b"")?,
-        sink(alloc, 4096, &[])?,
-    )?;
-    assert!(rt; by_graph.out.bytes() == by_apt.out.bytes());
-    let words = ["synthesize", "--from=words", "none", "f"];
-    let by_words = run_over(
-        &rt,
-        alloc,
-        &words,
-        shelf_of_two(alloc, b"a b a", b"")?,
-        sink(alloc, 4096, &[])?,
-    )?;
-    assert!(rt; by_words.out.bytes() == by_apt.out.bytes());
-    Ok(())
-}
