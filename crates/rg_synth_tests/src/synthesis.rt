@@ -75,7 +75,7 @@ fn system(alloc: Global, text: &str) -> Result<Lts, Fail> {
 }
 
 // What comes of a system.
-fn found<R: Threads + Sync>(
+fn come_to<R: Threads + Sync>(
     rt: &R,
     alloc: Global,
     lts: &Lts,
@@ -115,7 +115,7 @@ fn answers_are_told(rt: HostRuntime) -> Result<(), Fail> {
             (THERE_AND_BACK, NONE, Found::States(0, 1)),
         ] {
             let lts = system(rt.alloc(), text)?;
-            let is = found(&rt, rt.alloc(), &lts, class, jobs)?;
+            let is = come_to(&rt, rt.alloc(), &lts, class, jobs)?;
             assert_eq!(rt; is, answer, "{jobs} jobs");
         }
     }
@@ -127,7 +127,7 @@ fn answers_are_told(rt: HostRuntime) -> Result<(), Fail> {
 fn a_number_passes(rt: HostRuntime) -> Result<(), Fail> {
     let lts = generate(rt.alloc(), Kind::Doubling, 127)?;
     for jobs in [1u8, 7] {
-        let is = found(&rt, rt.alloc(), &lts, NONE, jobs)?;
+        let is = come_to(&rt, rt.alloc(), &lts, NONE, jobs)?;
         assert_eq!(rt; is, Found::Wide(Stage::Cycle), "{jobs} jobs");
     }
     Ok(())
