@@ -3,7 +3,7 @@ ghost use Rattle.std.specs.Prelude.{◌≤◌};
 ghost use Rattle.rg_theory.specs.ClassWords.{HasBoundInRange};
 
 use rg_apt::read_lts;
-use rg_families::{Kind, generate};
+use rg_families::{Kind, generate, is_family_number};
 use rg_lts::Lts;
 use rg_ports::NoGate;
 use rg_reasons::Reason;
@@ -125,6 +125,7 @@ fn answers_are_told(rt: HostRuntime) -> Result<(), Fail> {
 // The effect of the last label of 127 doublings is 2^127 times that of the first.
 #[test]
 fn a_number_passes(rt: HostRuntime) -> Result<(), Fail> {
+    assert!(rt; is_family_number(Kind::Doubling, 127));
     let lts = generate(rt.alloc(), Kind::Doubling, 127)?;
     for jobs in [1u8, 7] {
         let is = come_to(&rt, rt.alloc(), &lts, NONE, jobs)?;
