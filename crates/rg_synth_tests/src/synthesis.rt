@@ -104,20 +104,20 @@ fn reason_found(reason: &Reason) -> Found {
 
 #[test]
 fn answers_are_told(rt: HostRuntime) -> Result<(), Fail> {
-    for jobs in [1u8, 7] {
-        for (text, class, answer) in [
-            (SIDE, NONE, Found::Places(1)),
-            (RING, TWO_BOUNDED, Found::Places(2)),
-            (FORK_AND_ISLAND, NONE, Found::Unreachable(3)),
-            (FORK, NONE, Found::Fork(1, 1, 0, 2)),
-            (CHOICE, NONBRANCHING, Found::Event(1, 1)),
-            (RING, SAFE, Found::Event(0, 1)),
-            (THERE_AND_BACK, NONE, Found::States(0, 1)),
-        ] {
-            let lts = system(rt.alloc(), text)?;
-            let is = come_to(&rt, rt.alloc(), &lts, class, jobs)?;
-            assert_eq!(rt; is, answer, "{jobs} jobs");
-        }
+    for (text, class, answer) in [
+        (SIDE, NONE, Found::Places(1)),
+        (RING, TWO_BOUNDED, Found::Places(2)),
+        (FORK_AND_ISLAND, NONE, Found::Unreachable(3)),
+        (FORK, NONE, Found::Fork(1, 1, 0, 2)),
+        (CHOICE, NONBRANCHING, Found::Event(1, 1)),
+        (RING, SAFE, Found::Event(0, 1)),
+        (THERE_AND_BACK, NONE, Found::States(0, 1)),
+    ] {
+        let lts = system(rt.alloc(), text)?;
+        let with_one = come_to(&rt, rt.alloc(), &lts, class, 1)?;
+        assert_eq!(rt; with_one, answer);
+        let with_seven = come_to(&rt, rt.alloc(), &lts, class, 7)?;
+        assert_eq!(rt; with_seven, answer);
     }
     Ok(())
 }
@@ -127,9 +127,9 @@ fn answers_are_told(rt: HostRuntime) -> Result<(), Fail> {
 fn a_number_passes(rt: HostRuntime) -> Result<(), Fail> {
     assert!(rt; is_family_number(Kind::Doubling, 127));
     let lts = generate(rt.alloc(), Kind::Doubling, 127)?;
-    for jobs in [1u8, 7] {
-        let is = come_to(&rt, rt.alloc(), &lts, NONE, jobs)?;
-        assert_eq!(rt; is, Found::Wide(Stage::Cycle), "{jobs} jobs");
-    }
+    let with_one = come_to(&rt, rt.alloc(), &lts, NONE, 1)?;
+    assert_eq!(rt; with_one, Found::Wide(Stage::Cycle));
+    let with_seven = come_to(&rt, rt.alloc(), &lts, NONE, 7)?;
+    assert_eq!(rt; with_seven, Found::Wide(Stage::Cycle));
     Ok(())
 }
