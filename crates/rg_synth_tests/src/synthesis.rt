@@ -1,5 +1,5 @@
 //! The answers for whole systems, with one job and with seven.
-ghost use Rattle.std.specs.Prelude.{◌≤◌};
+ghost use Rattle.std.specs.Prelude.{◌≤◌, IsTrue};
 ghost use Rattle.rg_theory.specs.ClassWords.{HasBoundInRange};
 
 use rg_apt::read_lts;
@@ -74,6 +74,16 @@ fn system(alloc: Global, text: &str) -> Result<Lts, Fail> {
     Ok(read_lts(alloc, text.as_bytes())?)
 }
 
+// Whether the class has no bound, or one from 1 to 255.
+fn has_bound(class: Class) -> bool
+    ensures { IsTrue result → HasBoundInRange class }
+{
+    match class.bound {
+        None => true,
+        Some(bound) => 1 <= bound && bound <= 255,
+    }
+}
+
 // What comes of a system.
 fn come_to<R: Threads + Sync>(
     rt: &R,
@@ -114,6 +124,7 @@ fn answers_are_told(rt: HostRuntime) -> Result<(), Fail> {
         (THERE_AND_BACK, NONE, Found::States(0, 1)),
     ] {
         let lts = system(rt.alloc(), text)?;
+        assert!(rt; has_bound(class));
         let with_one = come_to(&rt, rt.alloc(), &lts, class, 1)?;
         assert_eq!(rt; with_one, answer);
         let with_seven = come_to(&rt, rt.alloc(), &lts, class, 7)?;
