@@ -43,7 +43,7 @@ impl Model for Dictionary {
 
 impl Dictionary {
     /// The dictionary of so many columns without a row. It takes the memory for so many rows, and no
-    /// later call takes any. `AllocError` where there is none.
+    /// later call but `restart` takes any. `AllocError` where there is none.
     pub fn with_columns(alloc: Global, columns: u32, rows: u32) -> Result<Dictionary, AllocError>
         requires { columns + rows < 2 ^ 32 }
         ensures system { IfOk result (IsDictionary (columns_alone columns)) }
@@ -67,8 +67,8 @@ impl Dictionary {
     }
 
     /// Takes all rows away, so that it is the dictionary of its columns alone. It has room for as many rows as it had,
-    /// or for so many where that is more. It takes memory only in this case, and no later call takes any.
-    /// `AllocError` where there is none; then it is as before.
+    /// or for so many where that is more. It takes memory only in this case, and no later call but
+    /// `restart` takes any. `AllocError` where there is none; then it is as before.
     pub fn restart(&mut self, rows: u32) -> Result<(), AllocError>
         requires { self.old.columns + rows < 2 ^ 32 }
         ensures system { OnOk result (IsDictionary (columns_alone self.old.columns) self.new) }

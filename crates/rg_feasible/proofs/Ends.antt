@@ -1,11 +1,14 @@
 -- What is left of a dictionary after each outcome.
-use Rattle.std.proofs.Common.{◌≡◌, ℕ, ap, refl, subst, sym}
+use Rattle.std.proofs.Common.{◌≡◌, ℕ, List, ap, refl, subst, sym}
 use Rattle.rg_linear.specs.System.{LinearSystem}
+use Rattle.rg_linear.specs.Descent.{Outcome.wide}
+use Rattle.rg_linear.specs.Width.{IsNarrow}
+use Rattle.rg_linear.proofs.Widths.{narrow_is_not_wide}
 use Rattle.rg_dictionary.specs.Contents.{Contents, IsDictionary}
 use Rattle.rg_feasible.specs.declared.settled.Settled.{Settled}
 use Rattle.rg_feasible.specs.declared.settled.Settled.TheVariants.{Point, Refuted, Wide}
 use Rattle.rg_feasible.specs.View.{DescentState}
-use Rattle.rg_feasible.specs.Settling.{IsDictionaryOf, IsOutcome, IsLeftBy, IsNotWide, IsFeasibleAt}
+use Rattle.rg_feasible.specs.Settling.{IsDictionaryOf, IsOutcome, IsLeftBy, IsNotWide, IsFeasibleAt, wide_at}
 use Rattle.rg_feasible.proofs.Shown.{point_feasible}
 
 -- where no row failed, or nothing is to be kept
@@ -24,3 +27,9 @@ same_refuted i k e = ap row e
     row Point = 0
     row (Refuted i) = i
     row (Wide w) = 0
+
+-- on few columns with small numbers no term is out of range
+pub narrow_by : (system : LinearSystem) (members : List ℕ) (r : Settled) → IsNarrow system → IsOutcome system members r → IsNotWide r
+narrow_by system members Point small outcome = tt
+narrow_by system members (Refuted i) small outcome = tt
+narrow_by system members (Wide w) small outcome = narrow_is_not_wide system (wide (wide_at members w)) small outcome

@@ -4,10 +4,11 @@ ghost use Rattle.std.specs.Prelude.{◌≡◌, ℕ, ◌+◌, ◌^◌, ◌<◌, �
 ghost use Rattle.rg_linear.specs.System.{LinearSystem, AreFarkasMultipliers};
 ghost use Rattle.rg_linear.specs.Dictionary.{numbers_from, IsFree};
 ghost use Rattle.rg_linear.specs.View.{linear_row, linear_system, IsWellFormed};
+ghost use Rattle.rg_linear.specs.Width.{IsNarrow};
 ghost use Rattle.rg_dictionary.specs.Contents.{IsDictionary, columns_alone, SameShape};
 ghost use Rattle.rg_fraction.specs.Fractions.{IsValue};
 ghost use Rattle.rg_feasible.specs.declared.settled.Settled.TheVariants as ends;
-ghost use Rattle.rg_feasible.specs.Settling.{with_rows, IsDictionaryOf, IsWhole, IsFresh, IsOutcome, IsLeftBy, IsBasicPoint, IsFeasibleAt, IsRefutation, multiplier_with};
+ghost use Rattle.rg_feasible.specs.Settling.{with_rows, IsDictionaryOf, IsWhole, IsFresh, IsOutcome, IsLeftBy, IsBasicPoint, IsFeasibleAt, IsRefutation, IsNotWide, multiplier_with};
 
 use crate::descent::descend;
 use crate::settled::Settled;
@@ -96,7 +97,8 @@ impl Dictionary {
     ///
     /// `Settled::Point` comes exactly where this ends behind the last row, `Settled::Refuted` exactly where it
     /// reaches a row that fails and names fixed variables alone, and `Settled::Wide` exactly where it reaches an
-    /// exchange with a term out of range, with the first such term. A system has one outcome.
+    /// exchange with a term out of range, with the first such term. A system has one outcome. On at most 5 columns with
+    /// numbers below `2^(2^(6 - columns) - 1)` in absolute value it is never `Wide`.
     pub fn settle(&mut self) -> Settled
         requires fresh { IsFresh self.old }
         ensures outcome { (system : LinearSystem) → IsDictionaryOf system self.old → IsOutcome system self.new.table.members result }
@@ -105,6 +107,7 @@ impl Dictionary {
         ensures point { result ≡ ends.Point → (system : LinearSystem) → IsDictionaryOf system self.old → IsFeasibleAt system self.new.table.members }
         ensures refutes { (i : ℕ) → result ≡ ends.Refuted i → (system : LinearSystem) → IsDictionaryOf system self.old → AreFarkasMultipliers system (multiplier_with self.new.table i) }
         ensures shape { SameShape self.old.table self.new.table }
+        ensures narrow { (system : LinearSystem) → IsDictionaryOf system self.old → IsNarrow system → IsNotWide result }
     {
         self.stack.clear();
         let settled = descend(&mut self.table, &mut self.stack);

@@ -2,7 +2,7 @@ use Rattle.std.proofs.Common.{rules, subst, sym}
 use Rattle.rg_linear.specs.System.{AreFarkasMultipliers}
 use Rattle.rg_feasible.specs.Settling.{IsDictionaryOf, multiplier_with}
 use Rattle.rg_feasible.proofs.Shown.{multipliers_refute}
-use Rattle.rg_feasible.proofs.Ends.{left_by, point_by, same_refuted}
+use Rattle.rg_feasible.proofs.Ends.{left_by, point_by, same_refuted, narrow_by}
 use Rattle.rg_feasible.proofs.dictionary.Dictionary.settle.Goals as goal
 
 pub returns-in-Refuted-clause-refutes : goal.returns-in-Refuted-clause-refutes
@@ -20,4 +20,5 @@ returns-in_default c = record {
   point = λ e system whole. (let old = subst (IsDictionaryOf system) (sym c.self.view_is) whole in point_by system c.descend-settled.new.table c.descend-settled.result e (λ narrow. c.descend-settled.ensures.stays narrow system old) (c.descend-settled.ensures.outcome system old));
   refutes = λ i e. absurd (c.in_default.not-Refuted i e);
   shape = search rules;
+  narrow = λ system whole small. narrow_by system _ c.descend-settled.result small (c.descend-settled.ensures.outcome system (subst (IsDictionaryOf system) (sym c.self.view_is) whole));
 }
