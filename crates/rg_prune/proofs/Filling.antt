@@ -1,7 +1,7 @@
 -- The tokens of a place, tree arc by tree arc.
 use Rattle.std.proofs.Common.{◌≡◌, ℕ, ◌+◌, ◌-◌, ◌<◌, ◌≤◌, List, [], ◌∷◌, ◌++◌, length, get_or, set, drop, drop-cons, add-one, Contains, ⊎_elim, refl, sym, ap, ◌∙◌, subst, arith}
 use Rattle.std.proofs.lemmas.List.{length-set, get_or-set_other}
-use Rattle.std.proofs.lemmas.Grind.{get_or-set_at, get_or_default_zero}
+use Rattle.std.proofs.lemmas.Grind.{get_or-set_at}
 use Rattle.std.proofs.lemmas.List.Elements.{Contains-append_left, Contains-push_cases}
 use Rattle.rg_theory.specs.declared.Arc.{Arc}
 use Rattle.rg_theory.specs.System.{System, states, labels, IsInRange, IsAllReachable, IsReachable}
@@ -12,11 +12,8 @@ use Rattle.rg_theory.proofs.Lists.{Contains-cons_cases}
 use Rattle.rg_theory.proofs.Arcs.{arc_in_range}
 use Rattle.rg_theory.proofs.Trees.{source_met, led_is_met}
 use Rattle.rg_integers.specs.Range.{greatest}
-use Rattle.rg_prune.specs.Tokens.{IsNarrow, AreTokens}
-
--- a weight that was read
-pub weight_read : (ws : List ℕ) (t x : ℕ) → t < length ws → x ≡ get_or ws t x → x ≡ get_or ws t 0
-weight_read ws t x lt e = e ∙ get_or_default_zero ws t x lt
+use Rattle.rg_separated.specs.Tokens.{IsNarrow, AreTokens}
+use Rattle.rg_separated.proofs.Marking.{weight_read}
 
 -- the tokens are right at the states that are met, and the rest of the tree grows from these
 pub record FilledSoFar (lts : System) (p : Place) (rest : List Arc) (tokens : List ℕ) : Type 0 where

@@ -1,20 +1,18 @@
 //! The problems that a place is the first to separate.
-ghost use Rattle.std.specs.Prelude.{◌≡◌, ℕ, ◌<◌, List, [], ◌++◌, ◌∷◌, length, map, take, All, Some, IfOk, OnOk, slice_get};
-ghost use Rattle.rg_theory.specs.System.{states, IsAllReachable};
+ghost use Rattle.std.specs.Prelude.{◌++◌, ◌∷◌, List, [], map, All, IfOk, OnOk};
+ghost use Rattle.rg_theory.specs.System.{IsAllReachable};
 ghost use Rattle.rg_theory.specs.Net.{Place as PlaceOfTheory};
 ghost use Rattle.rg_theory.specs.Tree.{IsTree};
 ghost use Rattle.rg_net.specs.Shown.{shown_place};
-ghost use Rattle.rg_prune.specs.Tokens.{IsNarrow, AreTokens};
-ghost use Rattle.rg_prune.specs.Stops.{rows_in, MarksStops};
-ghost use Rattle.rg_prune.specs.Blocks.{AreBlocks};
-ghost use Rattle.rg_prune.specs.Firsts.{AreFirsts};
-ghost use Rattle.rg_prune.specs.Separated.{SeparateSoMuch, AreAllFirsts, AreSome};
+ghost use Rattle.rg_separated.specs.Tokens.{IsNarrow, AreTokens};
+ghost use Rattle.rg_separated.specs.Separated.{SeparateSoMuch, AreSome};
+ghost use Rattle.rg_prune.specs.Firsts.{AreFirsts, AreAllFirsts};
 
-use crate::blocks::refined;
-use crate::stops::{mark, new_stops, no_marks};
+use crate::stops::new_stops;
 use crate::tokens::{fill, no_tokens};
 use rg_lts::Lts;
 use rg_net::Place;
+use rg_separated::Separated;
 use rg_theory::Arc;
 use std::alloc::{AllocError, Global};
 
@@ -25,22 +23,6 @@ pub(crate) struct Firsts {
     pub(crate) events: Vec<(u32, u32)>,
     /// The blocks of the places in front, where the place splits one.
     pub(crate) blocks: Option<Vec<u32>>,
-}
-
-/// What some places separate: the labels that they stop at states, and the blocks of states that they don't tell apart.
-#[derive(Drop)]
-pub(crate) struct Separated {
-    pub(crate) stops: Vec<Vec<bool>>,
-    pub(crate) blocks: Vec<u32>,
-}
-
-// What no place separates.
-pub(crate) fn nothing(alloc: Global, lts: &Lts) -> Result<Separated, AllocError>
-    ensures { IfOk result (SeparateSoMuch lts.now []) }
-{
-    let stops = no_marks(alloc, lts)?;
-    let blocks = vec![in alloc; 0; lts.states() as usize]?;
-    Ok(Separated { stops, blocks })
 }
 
 // For each place the problems that it is the first to separate.
@@ -55,7 +37,7 @@ pub(crate) fn all_firsts(
     requires narrow { All (λ p. IsNarrow lts.now (shown_place p)) places.now }
     ensures { IfOk result (λ all. AreAllFirsts lts.now (map shown_place places.now) all.items) }
 {
-    let mut separated = nothing(alloc, lts)?;
+    let mut separated = Separated::nothing(alloc, lts)?;
     let mut tokens = no_tokens(alloc, lts)?;
     let mut all = Vec::with_capacity(alloc, places.len())?;
     for place in places {
@@ -74,26 +56,13 @@ fn firsts_of(
     place: &Place,
     tokens: &[u128],
 ) -> Result<Firsts, AllocError>
-    requires reachable { IsAllReachable lts.now }
     requires narrow { IsNarrow lts.now (shown_place place.now) }
     requires tokens { AreTokens lts.now (shown_place place.now) tokens.now }
-    requires few { states lts.now < 4294967296 }
     requires some { AreSome lts.now separated.old }
     ensures separated { OnOk result ((front : List PlaceOfTheory) → SeparateSoMuch lts.now front separated.old → SeparateSoMuch lts.now (front ++ shown_place place.now ∷ []) separated.new) }
     ensures firsts { IfOk result (λ firsts. (front : List PlaceOfTheory) → SeparateSoMuch lts.now front separated.old → AreFirsts lts.now front (shown_place place.now) firsts) }
 {
     let events = new_stops(alloc, lts, &separated.stops, place, tokens)?;
-    mark(lts, &mut separated.stops, place, tokens);
-    let blocks = refined(alloc, &separated.blocks, tokens)?;
-    if blocks == separated.blocks {
-        return Ok(Firsts {
-            events,
-            blocks: None,
-        });
-    }
-    let before = std::mem::replace(&mut separated.blocks, blocks);
-    Ok(Firsts {
-        events,
-        blocks: Some(before),
-    })
+    let blocks = separated.add(alloc, lts, place, tokens)?;
+    Ok(Firsts { events, blocks })
 }

@@ -4,7 +4,7 @@
 //! Synthesis*). It need not be the smallest.
 #![tactic(auto)]
 
-mod blocks;
+mod differing;
 mod firsts;
 mod laws;
 mod pruning;

@@ -1,23 +1,24 @@
 //! Dropping places.
-ghost use Rattle.std.specs.Prelude.{◌≡◌, ◌<◌, ◌++◌, List, ◌∷◌, map, All, IsTrue, false, IfOk, OnOk};
-ghost use Rattle.rg_theory.specs.System.{states, IsAllReachable};
+ghost use Rattle.std.specs.Prelude.{◌≡◌, ◌++◌, List, ◌∷◌, map, All, IsTrue, false, IfOk};
+ghost use Rattle.rg_theory.specs.System.{IsAllReachable};
 ghost use Rattle.rg_theory.specs.Net.{Place as PlaceOfTheory};
 ghost use Rattle.rg_theory.specs.Tree.{IsTree};
 ghost use Rattle.rg_theory.specs.Problem.{SeparateAll};
 ghost use Rattle.rg_net.specs.Shown.{shown_place};
+ghost use Rattle.rg_separated.specs.Tokens.{IsNarrow};
+ghost use Rattle.rg_separated.specs.Separated.{SeparateSoMuch};
 ghost use Rattle.rg_prune.specs.Pruned.{IsPruned};
-ghost use Rattle.rg_prune.specs.Tokens.{IsNarrow, AreTokens};
-ghost use Rattle.rg_prune.specs.Firsts.{AreFirsts};
-ghost use Rattle.rg_prune.specs.Separated.{SeparateSoMuch, AreAllFirsts, IsPending, AreSome};
+ghost use Rattle.rg_prune.specs.Firsts.{AreFirsts, AreAllFirsts, IsPending};
 
-use crate::blocks::{all_differ, refined};
-use crate::firsts::{Firsts, Separated, all_firsts, nothing};
-use crate::stops::{are_marked, mark};
+use crate::differing::all_differ;
+use crate::firsts::{Firsts, all_firsts};
+use crate::stops::are_marked;
 use crate::tokens::{fill, no_tokens};
 use rg_lts::Lts;
 use rg_memory::NoMemory;
 use rg_net::Place;
-use rg_spanning::Tree;
+use rg_separated::Separated;
+use rg_spanning::{GrowStop, Tree};
 use rg_theory::Arc;
 use std::alloc::{AllocError, Global};
 
@@ -32,7 +33,8 @@ pub fn prune(alloc: Global, lts: &Lts, places: Vec<Place>) -> Result<Vec<Place>,
 {
     let tree = match Tree::grow(alloc, lts) {
         Ok(tree) => tree,
-        Err(_) => return Err(NoMemory),
+        Err(GrowStop::NoMemory) => return Err(NoMemory),
+        Err(GrowStop::Unreachable(_)) => unreachable!(),
     };
     let firsts = all_firsts(alloc, lts, tree.arcs(), &places)?;
     Ok(dropped(alloc, lts, tree.arcs(), places, firsts)?)
@@ -53,7 +55,7 @@ fn dropped(
     requires firsts { AreAllFirsts lts.now (map shown_place places.items) all_firsts.items }
     ensures { IfOk result (λ left. IsPruned lts.now (map shown_place places.items) (map shown_place left.items)) }
 {
-    let mut separated = nothing(alloc, lts)?;
+    let mut separated = Separated::nothing(alloc, lts)?;
     let mut tokens = no_tokens(alloc, lts)?;
     let mut left = Vec::new(alloc);
     while let Some(place) = places.pop() {
@@ -62,7 +64,7 @@ fn dropped(
         };
         if is_needed(alloc, lts, &separated, &firsts)? {
             fill(lts, tree, &place, &mut tokens);
-            add(alloc, lts, &mut separated, &place, &tokens)?;
+            separated.add(alloc, lts, &place, &tokens)?;
             left.push(place)?;
         }
     }
@@ -88,25 +90,4 @@ fn is_needed(
         Some(blocks) => Ok(!all_differ(alloc, blocks, &separated.blocks)?),
         None => Ok(false),
     }
-}
-
-// What the places separate with one more.
-fn add(
-    alloc: Global,
-    lts: &Lts,
-    separated: &mut Separated,
-    place: &Place,
-    tokens: &[u128],
-) -> Result<(), AllocError>
-    requires reachable { IsAllReachable lts.now }
-    requires narrow { IsNarrow lts.now (shown_place place.now) }
-    requires tokens { AreTokens lts.now (shown_place place.now) tokens.now }
-    requires few { states lts.now < 4294967296 }
-    requires some { AreSome lts.now separated.old }
-    ensures { OnOk result ((behind : List PlaceOfTheory) → SeparateSoMuch lts.now behind separated.old → SeparateSoMuch lts.now (shown_place place.now ∷ behind) separated.new) }
-{
-    mark(lts, &mut separated.stops, place, tokens);
-    let blocks = refined(alloc, &separated.blocks, tokens)?;
-    separated.blocks = blocks;
-    Ok(())
 }

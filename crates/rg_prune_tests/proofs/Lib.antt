@@ -1,1 +1,2 @@
 mod Narrowing
+mod ByTokens

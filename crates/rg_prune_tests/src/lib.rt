@@ -1,7 +1,10 @@
-//! Tests of pruning: rows of places worked by hand, and the laws, which are called as any function is and do nothing.
+//! Tests of pruning, and of what places separate: rows of places worked by hand, and the laws, which are called as any function is and do
+//! nothing.
 #![tactic(auto)]
 
 #[cfg(test)]
 mod laws;
 #[cfg(test)]
 mod rows;
+#[cfg(test)]
+mod separated;

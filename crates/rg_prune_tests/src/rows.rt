@@ -106,8 +106,8 @@ const STEPS_AND_LOOPS: [(&str, &str, &str); 6] = [
     ),
 ];
 
-// The system that the text spells.
-fn system(alloc: Global, text: &str) -> Option<Lts> {
+/// The system that the text spells.
+pub(crate) fn system(alloc: Global, text: &str) -> Option<Lts> {
     if text.len() > MOST_BYTES {
         return None;
     }

@@ -1,5 +1,5 @@
 -- How the search for places ends.
-use Rattle.std.proofs.Common.{◌≡◌, ◌⊎◌, inl, inr, List, [], map, length, refl, sym, ap, subst, ◌∙◌, arith}
+use Rattle.std.proofs.Common.{◌≡◌, ◌⊎◌, inl, inr, List, map, refl, sym, ap, subst, ◌∙◌, arith}
 use Rattle.std.proofs.lemmas.List.{length-map}
 use Rattle.rg_theory.specs.System.{System}
 use Rattle.rg_lts.specs.WellFormed.{IsWellFormed}
@@ -10,10 +10,10 @@ use Rattle.rg_net.specs.Shown.{shown_place}
 use Rattle.rg_net.specs.declared.net.Place.{Place as PlaceOfCode}
 use Rattle.rg_order_of_work.specs.Shown.{Shown, CycleShown}
 use Rattle.rg_theory.specs.declared.Class.{Class}
+use Rattle.rg_separated.specs.declared.separated.Separated.{Separated}
 use Rattle.rg_cycles.specs.declared.stop.CycleWide.{CycleWide}
 use Rattle.rg_cycles.specs.View.{cycle_of}
 use Rattle.rg_reasons.specs.declared.certificate.Reason.{Reason}
-use Rattle.rg_reasons.specs.Certificates.{reason_of}
 use Rattle.rg_places.specs.declared.region_place.RegionPlace.{RegionPlace}
 use Rattle.rg_outcome.specs.Solving as solved
 use Rattle.rg_outcome.specs.Solving.{Solved, Solved.placed, Solved.passed, ProblemComes}
@@ -34,8 +34,7 @@ use Rattle.rg_separate.specs.Answer.{AreSeparating, IsSearched}
 use Rattle.rg_separate.specs.Keeping.{IsSetting, AreKept}
 use Rattle.rg_separate.specs.Deciding.{ProblemComesTo, EndsWith}
 use Rattle.rg_separate.proofs.Few.{few_places}
-use Rattle.rg_separate.proofs.Keeping.{kept_places}
-use Rattle.rg_separate.proofs.Separating.{shown_kept, separating}
+use Rattle.rg_separate.proofs.Separating.{separating}
 
 -- what a problem comes to in a setting
 abbrev pub comes_of : Setting → Problem → Solved → Type 0
@@ -54,18 +53,15 @@ module _ (s : Setting) (is : IsSetting s) where
   all_kept kept (unsolvable problem trees) come shows = absurd shows
   all_kept kept (too_wide w) come shows = absurd shows
 
-  module _ (fine : IsWellFormed s.lts.now) (kept : List RegionPlace) (are : AreKept s.lts.now kept) (end : IsSeparationOutcome s.lts.now (comes_of s) (kept_places kept) ended.Separated) (made : List PlaceOfCode) (made_are : made ≡ map (λ k. k.place) kept) where
-    shown_are : map shown_place made ≡ kept_places kept
-    shown_are = ap (map shown_place) made_are ∙ shown_kept kept
+  module _ (fine : IsWellFormed s.lts.now) (kept : List PlaceOfCode) (separated : Separated) (are : AreKept s.lts.now kept separated) (end : IsSeparationOutcome s.lts.now (comes_of s) (map shown_place kept) ended.Separated) where
+    all_come : Comes s.lts.now (comes_of s) (places (map shown_place kept))
+    all_come = all_kept (map shown_place kept) end.o end.comes_to end.shows
 
-    all_come : Comes s.lts.now (comes_of s) (places (kept_places kept))
-    all_come = all_kept (kept_places kept) end.o end.comes_to end.shows
+    pub separated_searched : Searched s.lts.now s.class (places (map shown_place kept))
+    separated_searched = searched_of (places (map shown_place kept)) all_come
 
-    pub separated_tells : AreSeparating s.lts.now s.class (map shown_place made)
-    separated_tells = subst (AreSeparating s.lts.now s.class) (sym shown_are) (separating s.lts.now s.class kept is.in_range are (let few = few_places s.lts.now (comes_of s) (kept_places kept) fine all_come in let l = length-map kept (λ k. shown_place k.place) in omega arith) (searched_of (places (kept_places kept)) all_come))
-
-    pub separated_searched : Searched s.lts.now s.class (places (map shown_place made))
-    separated_searched = subst (λ ps. Searched s.lts.now s.class (places ps)) (sym shown_are) (searched_of (places (kept_places kept)) all_come)
+    pub separated_tells : AreSeparating s.lts.now s.class (map shown_place kept)
+    separated_tells = separating s.lts.now s.class kept separated is.in_range are (let few = few_places s.lts.now (comes_of s) (map shown_place kept) fine all_come in let l = length-map kept shown_place in omega arith) separated_searched
 
   -- the problem that ends the search
   refuted_last : (kept : List Place) (q : Problem) (o : outcome.Separation) → Comes s.lts.now (comes_of s) o → ShowsSeparation s.lts.now (comes_of s) kept (ended.Unsolvable q) o → EndsWith s q

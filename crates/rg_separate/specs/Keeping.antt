@@ -1,8 +1,14 @@
 -- What is found on the way through the problems.
-use Rattle.std.specs.Prelude.{◌≡◌, List, length, All}
-use Rattle.rg_theory.specs.System.{System, states, labels, IsInRange, IsAllReachable}
+use Rattle.std.specs.Prelude.{◌≡◌, List, map, All}
+use Rattle.rg_theory.specs.System.{System, labels, IsInRange, IsAllReachable}
 use Rattle.rg_theory.specs.declared.Class.{Class}
 use Rattle.rg_theory.specs.ClassWords.{HasBoundInRange}
+use Rattle.rg_net.specs.declared.net.Place.{Place}
+use Rattle.rg_net.specs.Range.{IsPlaceInRange}
+use Rattle.rg_net.specs.Shown.{shown_place}
+use Rattle.rg_separated.specs.Tokens.{IsNarrow}
+use Rattle.rg_separated.specs.Separated.{SeparateSoMuch}
+use Rattle.rg_separated.specs.declared.separated.Separated.{Separated}
 use Rattle.rg_spanning.specs.Spanning.{IsTreeOf}
 use Rattle.rg_order_of_work.specs.Chords.{IsBasis}
 use Rattle.rg_cycles.specs.View.{labels_of, cycle_of}
@@ -20,17 +26,17 @@ pub record IsSetting (s : Setting) : Type 0 where
   pub basis : IsBasis s.lts.now s.tree.now.arcs (cycle_of s.basis.now)
   pub bound : HasBoundInRange s.class
 
--- the place has one number for each state and two for each label
-pub record IsOver (lts : System) (r : RegionPlace) : Type 0 where
-  pub states : length r.tokens.items ≡ states lts
-  pub pre : length r.place.pre.items ≡ labels lts
-  pub post : length r.place.post.items ≡ labels lts
-
 -- the place is a region, of some class, and its numbers fit
 abbrev pub MayKeep : System → RegionPlace → Type 0
 MayKeep lts r = (class : Class) × IsRegionPlace lts class r
 
--- each state can be reached, and such places are kept
-pub record AreKept (lts : System) (kept : List RegionPlace) : Type 0 where
+-- with some numbers the place is a region, and all its numbers are at most 2^127 - 1
+pub record IsKept (lts : System) (p : Place) : Type 0 where
+  pub narrow : IsNarrow lts (shown_place p)
+  pub in_range : IsPlaceInRange (shown_place p)
+
+-- each state can be reached, such places are kept, and they separate so much
+pub record AreKept (lts : System) (places : List Place) (separated : Separated) : Type 0 where
   pub reachable : IsAllReachable lts
-  pub each : All (MayKeep lts) kept
+  pub each : All (IsKept lts) places
+  pub so_much : SeparateSoMuch lts (map shown_place places) separated

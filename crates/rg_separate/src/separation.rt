@@ -10,7 +10,7 @@ ghost use Rattle.rg_separate.specs.Keeping.{IsSetting};
 ghost use Rattle.rg_separate.specs.Deciding.{EndsWith};
 ghost use Rattle.rg_separate.specs.Answer.{AreSeparating, IsGoodCertificate, IfPlaces, IfUnsolvable, IfTooWide, SeparationTells, IsSearched};
 
-use crate::kept::{Kept, places_of};
+use crate::kept::Kept;
 use crate::problem::{ProblemAnswer, solve_problem};
 use crate::setting::Setting;
 use crate::solving::Problems;
@@ -23,6 +23,7 @@ use rg_memory::NoMemory;
 use rg_net::Place;
 use rg_ports::Gate;
 use rg_reasons::Certificate;
+use rg_separated::Separated;
 use rg_spanning::{GrowStop, Tree};
 use rg_theory::{Class, Problem};
 use std::alloc::Global;
@@ -106,10 +107,12 @@ fn separated<R: Threads + Sync, G: Gate + Sync>(
     lts.is_well_formed();
     let problems = Problems { alloc, setting };
     let mut kept = Kept {
-        regions: Vec::new(alloc),
+        alloc,
+        places: Vec::new(alloc),
+        separated: Separated::nothing(alloc, lts)?,
     };
     match separate_all(rt, alloc, lts, &mut kept, &problems, jobs, gate)? {
-        SeparationOutcome::Separated => Ok(Separation::Places(places_of(alloc, kept.regions)?)),
+        SeparationOutcome::Separated => Ok(Separation::Places(kept.places)),
         SeparationOutcome::Unsolvable(refuted) => shown(alloc, setting, refuted),
         SeparationOutcome::TooWide(left) => shown(alloc, setting, left),
     }

@@ -10,7 +10,7 @@ use Rattle.rg_net.specs.Shown.{shown_place}
 use Rattle.rg_net.specs.declared.net.Place.{Place as PlaceOfCode}
 use Rattle.rg_separate.specs.Answer.{IsNarrowRegion, AreSeparating}
 use Rattle.rg_prune.specs.Pruned.{IsPruned}
-use Rattle.rg_prune.specs.Tokens.{IsNarrow}
+use Rattle.rg_separated.specs.Tokens.{IsNarrow}
 use Rattle.rg_prune.proofs.Leaving.{left_among, left_no_more}
 
 -- what is true of all places is true of those left

@@ -6,7 +6,7 @@ ghost use Rattle.rg_theory.specs.Problem.{SeparateAll};
 ghost use Rattle.rg_net.specs.Range.{IsNetInRange};
 ghost use Rattle.rg_net.specs.Shown.{shown_place};
 ghost use Rattle.rg_prune.specs.Pruned.{IsPruned};
-ghost use Rattle.rg_prune.specs.Tokens.{IsNarrow};
+ghost use Rattle.rg_separated.specs.Tokens.{IsNarrow};
 ghost use Rattle.rg_order_of_work.specs.Shown.{ShownWide};
 ghost use Rattle.rg_outcome.specs.Outcome.{Out};
 ghost use Rattle.rg_separate.specs.View.{shown_of};

@@ -2,7 +2,6 @@ use Rattle.std.proofs.Common.{map, refl, subst}
 use Rattle.rg_net.specs.Shown.{shown_place}
 use Rattle.rg_outcome.specs.Coming.{Separation.places}
 use Rattle.rg_blocks.specs.Separating.{IsSeparationOutcome}
-use Rattle.rg_separate.proofs.Keeping.{kept_places}
 use Rattle.rg_separate.proofs.Ending.{comes_of, places_separate, separated_tells, separated_searched, ends_refuted, ends_wide}
 use Rattle.rg_separate.proofs.separation.separated.Goals as goal
 
@@ -11,24 +10,24 @@ separate_all-requires-clause-separating o c = λ lives within. places_separate c
 
 pub shown-requires-clause-shows : goal.shown-requires-clause-shows
 shown-requires-clause-shows o c =
-    let kept = kept_places c.separate_all.new.kept.regions.items in
+    let kept = map shown_place c.separate_all.new.kept.places.items in
     ends_refuted c.args.setting c.requires.setting kept c.in-Unsolvable.refuted (subst (IsSeparationOutcome c.args.setting.lts.now (comes_of c.args.setting) kept) c.in-Unsolvable.is c.in_ok-separate_all.ensures.comes)
 
 pub shown-requires-in-TooWide-clause-shows : goal.shown-requires-in-TooWide-clause-shows
 shown-requires-in-TooWide-clause-shows o c =
-    let kept = kept_places c.separate_all.new.kept.regions.items in
+    let kept = map shown_place c.separate_all.new.kept.places.items in
     ends_wide c.args.setting c.requires.setting kept c.in-TooWide.left (subst (IsSeparationOutcome c.args.setting.lts.now (comes_of c.args.setting) kept) c.in-TooWide.is c.in_ok-separate_all.ensures.comes)
 
-pub returns-in_ok-places_of-in-Separated-clause-tells : goal.returns-in_ok-places_of-in-Separated-clause-tells
-returns-in_ok-places_of-in-Separated-clause-tells o c =
-    let kept = c.separate_all.new.kept.regions.items in
-    separated_tells c.args.setting c.requires.setting c.is_well_formed.ensures kept c.in_ok-separate_all.ensures.kept (subst (IsSeparationOutcome c.args.setting.lts.now (comes_of c.args.setting) (kept_places kept)) c.in-Separated.is c.in_ok-separate_all.ensures.comes) c.in_ok-places_of-in-Separated.field-0.items c.in_ok-places_of-in-Separated.ensures
+pub returns-in-Separated-clause-tells : goal.returns-in-Separated-clause-tells
+returns-in-Separated-clause-tells o c =
+    let kept = c.separate_all.new.kept in
+    separated_tells c.args.setting c.requires.setting c.is_well_formed.ensures kept.places.items kept.separated c.in_ok-separate_all.ensures.kept (subst (IsSeparationOutcome c.args.setting.lts.now (comes_of c.args.setting) (map shown_place kept.places.items)) c.in-Separated.is c.in_ok-separate_all.ensures.comes)
 
-pub returns-in_ok-places_of-in-Separated-clause-searched : goal.returns-in_ok-places_of-in-Separated-clause-searched
-returns-in_ok-places_of-in-Separated-clause-searched o c =
-    let kept = c.separate_all.new.kept.regions.items in
+pub returns-in-Separated-clause-searched : goal.returns-in-Separated-clause-searched
+returns-in-Separated-clause-searched o c =
+    let kept = c.separate_all.new.kept in
     record {
-      o = places (map shown_place c.in_ok-places_of-in-Separated.field-0.items);
-      searched = separated_searched c.args.setting c.requires.setting c.is_well_formed.ensures kept c.in_ok-separate_all.ensures.kept (subst (IsSeparationOutcome c.args.setting.lts.now (comes_of c.args.setting) (kept_places kept)) c.in-Separated.is c.in_ok-separate_all.ensures.comes) c.in_ok-places_of-in-Separated.field-0.items c.in_ok-places_of-in-Separated.ensures;
+      o = places (map shown_place kept.places.items);
+      searched = separated_searched c.args.setting c.requires.setting c.is_well_formed.ensures kept.places.items kept.separated c.in_ok-separate_all.ensures.kept (subst (IsSeparationOutcome c.args.setting.lts.now (comes_of c.args.setting) (map shown_place kept.places.items)) c.in-Separated.is c.in_ok-separate_all.ensures.comes);
       shows = refl;
     }

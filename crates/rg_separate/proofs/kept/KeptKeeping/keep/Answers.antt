@@ -1,5 +1,14 @@
-use Rattle.rg_separate.proofs.Keeping.{one_more}
+use Rattle.rg_separate.proofs.Keeping.{narrow_place, tokens_of_place, some_kept, one_more}
 use Rattle.rg_separate.proofs.kept.KeptKeeping.keep.Goals as goal
 
+pub add-requires-clause-narrow : goal.add-requires-clause-narrow
+add-requires-clause-narrow c = narrow_place c.args.lts.now c.args.place c.requires.place
+
+pub add-requires-clause-tokens : goal.add-requires-clause-tokens
+add-requires-clause-tokens c = rw c.deref.ensures.value (tokens_of_place c.args.lts.now c.args.place c.requires.place c.requires.system.reachable)
+
+pub add-requires-clause-some : goal.add-requires-clause-some
+add-requires-clause-some c = some_kept c.args.lts.now c.args.self.now.places.items c.args.self.now.separated c.requires.system
+
 pub returns-clause-system : goal.returns-clause-system
-returns-clause-system c = one_more c.args._lts.now c.args.self.now.regions.items c.push.new.self.items c.args.place c.requires.system c.in_ok-push.ensures.items c.requires.place
+returns-clause-system c = one_more c.args.lts.now c.args.place c.requires.place c.args.self.now.places.items c.push.new.self.items c.args.self.now.separated c.add.new.self c.requires.system c.in_ok-push.ensures.items c.in_ok-add.ensures.separated

@@ -1,0 +1,223 @@
+//! What places of the word a b a separate, worked by hand.
+ghost use Rattle.std.specs.Prelude.{◌≡◌, ◌≤◌, length, All, IsTrue, IfOk, OnOk};
+ghost use Rattle.rg_integers.specs.Range.{greatest};
+ghost use Rattle.rg_theory.specs.System.{states, labels, IsAllReachable, IsArcInRange};
+ghost use Rattle.rg_theory.specs.Problem.{IsProblem};
+ghost use Rattle.rg_net.specs.Shown.{shown_place};
+ghost use Rattle.rg_separated.specs.Separated.{AreSome};
+ghost use Rattle.rg_prune_tests.specs.Regions.{Moves, IsRegionBy};
+
+use crate::rows::system;
+use rg_lts::{Arc, Lts};
+use rg_net::Place;
+use rg_separated::Separated;
+use rg_spanning::Tree;
+use rg_theory::Problem::{self, Event, States};
+use std::alloc::{AllocError, Global};
+use std::test::Fail;
+
+/// The greatest number of tokens.
+const GREATEST: u128 = 170141183460469231731687303715884105727;
+
+/// The word a b a.
+const ABA: &str =
+    ".type LTS .states s0[initial] s1 s2 s3 .labels a b .arcs s0 a s1 s1 b s2 s2 a s3";
+
+// A place of a and b, with its tokens at the states of the word.
+#[derive(Clone, Copy)]
+struct Given {
+    start: u128,
+    pre: [u128; 2],
+    post: [u128; 2],
+    tokens: [u128; 4],
+}
+
+/// It counts the letters a, and b asks for one.
+const COUNTS: Given = Given {
+    start: 0,
+    pre: [0, 1],
+    post: [1, 1],
+    tokens: [0, 1, 1, 2],
+};
+
+/// Letters a and b come in turn.
+const TURNS: Given = Given {
+    start: 1,
+    pre: [1, 0],
+    post: [0, 1],
+    tokens: [1, 0, 1, 0],
+};
+
+/// There is one b.
+const ONCE: Given = Given {
+    start: 1,
+    pre: [0, 1],
+    post: [0, 0],
+    tokens: [1, 1, 0, 0],
+};
+
+/// No token ever.
+const EMPTY: Given = Given {
+    start: 0,
+    pre: [0, 0],
+    post: [0, 0],
+    tokens: [0, 0, 0, 0],
+};
+
+/// All problems of the word.
+const PROBLEMS: [Problem; 11] = [
+    Event(0, 1),
+    Event(1, 0),
+    Event(2, 1),
+    Event(3, 0),
+    Event(3, 1),
+    States(0, 1),
+    States(0, 2),
+    States(0, 3),
+    States(1, 2),
+    States(1, 3),
+    States(2, 3),
+];
+
+const Y: bool = true;
+
+const N: bool = false;
+
+// Places, and whether one of them separates each problem.
+const ROWS: [(&[Given], [bool; 11]); 9] = [
+    (&[], [N, N, N, N, N, N, N, N, N, N, N]),
+    (&[EMPTY], [N, N, N, N, N, N, N, N, N, N, N]),
+    (&[COUNTS], [Y, N, N, N, N, Y, Y, Y, N, Y, Y]),
+    (&[TURNS], [N, Y, N, Y, N, Y, N, Y, Y, N, Y]),
+    (&[ONCE], [N, N, Y, N, Y, N, Y, Y, Y, Y, N]),
+    (&[COUNTS, TURNS], [Y, Y, N, Y, N, Y, Y, Y, Y, Y, Y]),
+    (&[TURNS, ONCE], [N, Y, Y, Y, Y, Y, Y, Y, Y, Y, Y]),
+    (&[ONCE, EMPTY, TURNS], [N, Y, Y, Y, Y, Y, Y, Y, Y, Y, Y]),
+    (&[COUNTS, TURNS, ONCE], [Y, Y, Y, Y, Y, Y, Y, Y, Y, Y, Y]),
+];
+
+// Whether the arc moves the tokens as a firing does.
+fn moves(lts: &Lts, place: &Place, tokens: &[u128], a: Arc) -> bool
+    requires arc { IsArcInRange lts.now a }
+    requires pre { length place.now.pre.items ≡ labels lts.now }
+    requires post { length place.now.post.items ≡ labels lts.now }
+    requires one_each { length tokens.now ≡ states lts.now }
+    ensures { IsTrue result → Moves (shown_place place.now) tokens.now a }
+{
+    let from = tokens[a.from as usize];
+    let to = tokens[a.to as usize];
+    let takes = place.pre[a.label as usize];
+    let puts = place.post[a.label as usize];
+    takes <= from && puts <= to && from - takes == to - puts
+}
+
+// Whether all these arcs do.
+fn all_move(lts: &Lts, arcs: &[Arc], place: &Place, tokens: &[u128]) -> bool
+    requires arcs { All (IsArcInRange lts.now) arcs.now }
+    requires pre { length place.now.pre.items ≡ labels lts.now }
+    requires post { length place.now.post.items ≡ labels lts.now }
+    requires one_each { length tokens.now ≡ states lts.now }
+    ensures { IsTrue result → All (Moves (shown_place place.now) tokens.now) arcs.now }
+{
+    for &a in arcs {
+        if !moves(lts, place, tokens, a) {
+            return false;
+        }
+    }
+    true
+}
+
+// Whether no number is over 2^127 - 1.
+fn are_few(tokens: &[u128]) -> bool
+    ensures { IsTrue result → All (λ n. n ≤ greatest) tokens.now }
+{
+    for &n in tokens {
+        if n > GREATEST {
+            return false;
+        }
+    }
+    true
+}
+
+// Whether the place is a region with these tokens.
+fn is_region(lts: &Lts, place: &Place, tokens: &[u128]) -> bool
+    ensures { IsTrue result → IsRegionBy lts.now (shown_place place.now) tokens.now }
+{
+    let labels = lts.labels() as usize;
+    if place.pre.len() != labels || place.post.len() != labels {
+        return false;
+    }
+    if tokens.len() != lts.states() as usize {
+        return false;
+    }
+    tokens[lts.initial() as usize] == place.start
+        && are_few(tokens)
+        && all_move(lts, lts.arcs(), place, tokens)
+}
+
+// Adds the place, which has to be a region with its tokens.
+fn add(alloc: Global, lts: &Lts, separated: &mut Separated, given: Given) -> Result<(), Fail>
+    requires reachable { IsAllReachable lts.now }
+    requires some { AreSome lts.now separated.old }
+    ensures { OnOk result (AreSome lts.now separated.new) }
+{
+    let place = Place {
+        start: given.start,
+        pre: Vec::from_slice(alloc, &given.pre)?,
+        post: Vec::from_slice(alloc, &given.post)?,
+    };
+    if !is_region(lts, &place, &given.tokens) {
+        return Err(Fail::from(AllocError));
+    }
+    separated.add(alloc, lts, &place, &given.tokens)?;
+    Ok(())
+}
+
+// What the places separate, added one after the other.
+fn all_added(alloc: Global, lts: &Lts, given: &[Given]) -> Result<Separated, Fail>
+    requires { IsAllReachable lts.now }
+    ensures { IfOk result (AreSome lts.now) }
+{
+    let mut separated = Separated::nothing(alloc, lts)?;
+    for &one in given {
+        add(alloc, lts, &mut separated, one)?;
+    }
+    Ok(separated)
+}
+
+// Whether the problem is one of the system.
+fn is_asked(lts: &Lts, problem: Problem) -> bool
+    ensures { IsTrue result → IsProblem lts.now problem }
+{
+    match problem {
+        Event(s, t) => s < lts.states() && t < lts.labels() && lts.arc_at(s, t).is_none(),
+        States(s, other) => s < other && other < lts.states(),
+    }
+}
+
+// Whether each problem is separated or not, as is wanted.
+fn tells(lts: &Lts, separated: &Separated, wanted: [bool; 11]) -> bool
+    requires { AreSome lts.now separated.now }
+{
+    for (i, &problem) in PROBLEMS.iter().enumerate() {
+        if !is_asked(lts, problem) || separated.separates(lts, problem) != wanted[i] {
+            return false;
+        }
+    }
+    true
+}
+
+#[test]
+fn places_of_a_word(rt: HostRuntime) -> Result<(), Fail> {
+    let Some(lts) = system(rt.alloc(), ABA) else {
+        return Err(Fail::from(AllocError));
+    };
+    let Ok(_) = Tree::grow(rt.alloc(), &lts) else {
+        return Err(Fail::from(AllocError));
+    };
+    for (i, (given, wanted)) in ROWS.into_iter().enumerate() {
+        let separated = all_added(rt.alloc(), &lts, given)?;
+        assert!(rt; tells(&lts, &separated, wanted), "row {i}");
+    }
+    Ok(())
+}

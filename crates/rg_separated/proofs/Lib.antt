@@ -1,0 +1,4 @@
+pub mod Members
+pub mod Marking
+pub mod Blocking
+pub mod Separating

@@ -1,0 +1,4 @@
+pub mod Tokens
+pub mod Stops
+pub mod Blocks
+pub mod Separated
