@@ -74,10 +74,8 @@ module _ (lts : System) (tree : List Arc) (basis : CycleBasis) (class : Class) (
 -- ---- the rows of the code
 
 -- the row of the name at place i
-pub fold_told : (lts : System) (tree : List Arc) (basis : CycleBasis) (class : Class) (problem : Problem) (number : ℕ) (names : List CodeName) (i : ℕ) (d : CodeName) (e : Expression) → i < length names → e ≡ row_expression lts class problem number [] (row_name_of (slice_index_or names i d)) → (r : Result KeptRow Wide) → row_fold lts tree basis class (row_name_of (slice_index_or names i d)) e r → fold_of lts tree basis class problem number (slice_index_or (map row_name_of names) i (row_name_of d)) r
-fold_told lts tree basis class problem number names i d e lt is r h =
-    subst (λ name. fold_of lts tree basis class problem number name r) (sym (get_or-map row_name_of names i d (row_name_of d) lt))
-    (subst (λ x. row_fold lts tree basis class (row_name_of (slice_index_or names i d)) x r) is h)
+pub fold_told : (lts : System) (tree : List Arc) (basis : CycleBasis) (class : Class) (problem : Problem) (number : ℕ) (names : List CodeName) (i : ℕ) (d : CodeName) → i < length names → (r : Result KeptRow Wide) → fold_of lts tree basis class problem number (row_name_of (slice_index_or names i d)) r → fold_of lts tree basis class problem number (slice_index_or (map row_name_of names) i (row_name_of d)) r
+fold_told lts tree basis class problem number names i d lt r h = subst (λ name. fold_of lts tree basis class problem number name r) (sym (get_or-map row_name_of names i d (row_name_of d) lt)) h
 
 -- ---- from the rows to the case
 

@@ -19,7 +19,7 @@ use Rattle.rg_reasons.specs.Trees.{row_name_of}
 use Rattle.rg_expressions.specs.View.{TermNamesStateBelow}
 use Rattle.rg_rows.specs.View.{AreNamesWithin}
 
-one : (n : ℕ) (t : SumTerm) → TermNamesStateBelow n t → All (TermNamesStateBelow n) (t ∷ [])
+pub one : (n : ℕ) (t : SumTerm) → TermNamesStateBelow n t → All (TermNamesStateBelow n) (t ∷ [])
 one n t h = All-cons (TermNamesStateBelow n) t [] h (All-nil (TermNamesStateBelow n))
 
 two : (n : ℕ) (t u : SumTerm) → TermNamesStateBelow n t → TermNamesStateBelow n u → All (TermNamesStateBelow n) (t ∷ u ∷ [])
