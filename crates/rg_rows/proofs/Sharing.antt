@@ -1,5 +1,5 @@
 -- The rows and forms that all problems share, in a case of each of them.
-use Rattle.std.proofs.Common.{◌≡◌, ℕ, zero, suc, ◌+◌, ◌<◌, ◌&&◌, not, is_some, Bool, true, false, if◌then◌else◌, Bor, Option, Some, None, List, [], ◌∷◌, ◌++◌, map, length, All, Result, Ok, Err, ap, refl, subst, sym, ◌∙◌, arith}
+use Rattle.std.proofs.Common.{◌≡◌, ℕ, zero, suc, ◌<◌, is_some, Bool, true, false, if◌then◌else◌, Bor, Option, Some, None, List, [], ◌∷◌, ◌++◌, map, length, All, Result, Ok, Err, ap, refl, subst, sym, ◌∙◌, arith}
 use Rattle.std.specs.Prelude.{slice_get, slice_index_or, IfOk, IfSome, IsErrOf}
 use Rattle.std.specs.Slice.{IsGetResult}
 use Rattle.std.proofs.lemmas.List.{get_or-map}
@@ -25,7 +25,7 @@ use Rattle.rg_rows.specs.declared.case_row.CaseRow.{CaseRow}
 use Rattle.rg_rows.specs.declared.held_row.HeldRow.{HeldRow}
 use Rattle.rg_rows.specs.declared.kind.Kind.{Kind}
 use Rattle.rg_rows.specs.declared.kind.Kind.TheVariants as kind
-use Rattle.rg_rows.specs.View.{kept_row, row_in, fold_of}
+use Rattle.rg_rows.specs.View.{kept_row, row_in}
 use Rattle.rg_rows.specs.Sharing.{or_wide, row_of_kind, rows_of_kind, forms_of_kind, IsSharedRow, AreSharedTerms, AreRowsOfKind, AreTermsOfKind, IsCommonOf, IsRowInCase, AreTermsInCase}
 use Rattle.rg_reasons.proofs.Places.{get_is}
 use Rattle.rg_rows.specs.declared.common.Common.{Common}

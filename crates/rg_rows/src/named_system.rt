@@ -115,9 +115,7 @@ pub fn system_with(
     let names = names(alloc, lts, case, &common.columns)?;
     let all = rows(alloc, lts, tree, basis, common, case, &names)?;
     let (kept, places) = firsts(alloc, &all)?;
-    let forms = forms(
-        alloc, lts, tree, basis, common, case, &names, &all, &places,
-    )?;
+    let forms = forms(alloc, lts, tree, basis, common, case, &names, &all, &places)?;
     Ok(NamedSystem {
         system: System::new(common.columns.count(basis), kept.rows),
         names: kept.names,

@@ -8,7 +8,7 @@ use Rattle.rg_reasons.specs.Trees.{row_name_of}
 use Rattle.rg_cycles.specs.View.{labels_of, cycle_of}
 use Rattle.rg_rows.specs.declared.case_row.CaseRow.{CaseRow}
 use Rattle.rg_rows.specs.Sharing.{row_of_kind, IsSharedRow}
-use Rattle.rg_rows.proofs.Sharing.{row_within, row_shared, each_pushed}
+use Rattle.rg_rows.proofs.Sharing.{row_shared, each_pushed}
 use Rattle.rg_rows.proofs.common.rows.Goals as goal
 
 pub loop-number-preserved : goal.loop-number-preserved

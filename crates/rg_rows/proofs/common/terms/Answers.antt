@@ -2,13 +2,11 @@ use Rattle.std.proofs.Common.{◌≡◌, ◌+◌, ℕ, Result, Some, List, [], �
 use Rattle.std.specs.Prelude.{slice_get}
 use Rattle.std.proofs.lemmas.List.{length-append}
 use Rattle.rg_fraction.specs.declared.term.Wide.{Wide}
-use Rattle.rg_refuting.specs.Row.{shared_expression}
 use Rattle.rg_reasons.specs.Sums.{expression_of}
-use Rattle.rg_reasons.specs.Trees.{row_name_of}
 use Rattle.rg_cycles.specs.View.{labels_of, cycle_of}
 use Rattle.rg_denominators.specs.declared.scaled.Scaled.{Scaled}
 use Rattle.rg_rows.specs.Sharing.{row_of_kind, AreSharedTerms}
-use Rattle.rg_rows.proofs.Sharing.{terms_within, terms_shared, each_pushed}
+use Rattle.rg_rows.proofs.Sharing.{terms_shared, each_pushed}
 use Rattle.rg_rows.proofs.common.terms.Goals as goal
 
 pub loop-number-preserved : goal.loop-number-preserved

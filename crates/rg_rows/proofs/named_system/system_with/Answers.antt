@@ -2,20 +2,18 @@ use Rattle.std.proofs.Common.{rules, ◌≡◌, ◌+◌, ◌*◌, ◌^◌, ◌<�
 use Rattle.std.proofs.lemmas.List.{length-map}
 use Rattle.rg_theory.specs.System.{states, labels}
 use Rattle.rg_fraction.specs.declared.fold_stop.FoldStop.TheVariants as stop
-use Rattle.rg_linear.specs.Branching.{Form}
 use Rattle.rg_linear.specs.Firsts.{KeepsFirsts}
 use Rattle.rg_refuting.specs.Row.{RowName, Form as SplitForm}
 use Rattle.rg_order_of_work.specs.Fold.{each}
-use Rattle.rg_order_of_work.specs.Rewriting.{CaseSystem, IsIdle, KeptRow, column_count, names_of, split_forms, form_fold, rows_of}
+use Rattle.rg_order_of_work.specs.Rewriting.{CaseSystem, IsIdle, KeptRow, column_count, names_of, form_fold, rows_of}
 use Rattle.rg_order_of_work.specs.Meaning.{IsCaseOver}
 use Rattle.rg_linear.specs.System.{LinearSystem}
 use Rattle.rg_reasons.specs.Trees.{row_name_of}
 use Rattle.rg_cycles.specs.View.{cycle_of}
 use Rattle.rg_rows.specs.declared.held_row.HeldRow.{HeldRow}
 use Rattle.rg_rows.specs.View.{kept_row, row_in, AreNamesWithin, ArePlaces, fold_of}
-use Rattle.rg_rows.specs.Forms.{linear_form, split_of, forms_in, StandsInRow, AreFormsOf}
+use Rattle.rg_rows.specs.Forms.{linear_form, forms_in, StandsInRow, AreFormsOf}
 use Rattle.rg_rows.specs.Making.{IsMade}
-use Rattle.rg_rows.specs.declared.named_form.NamedForm.{NamedForm}
 use Rattle.rg_columns.proofs.Picking.{columns_few}
 use Rattle.rg_linear.proofs.Firsts.{kept_count}
 use Rattle.rg_rows.proofs.Terms.{names_within}
