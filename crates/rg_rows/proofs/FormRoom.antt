@@ -1,5 +1,5 @@
 -- How far the bounds of the forms lie apart together.
-use Rattle.std.proofs.Common.{◌≡◌, ℕ, suc, ◌+◌, ◌*◌, ◌<◌, ◌≤◌, is_some, unwrap_or, Option, Some, None, Bool, true, false, if◌then◌else◌, List, [], ◌∷◌, map, length, All, refl, ap, sym, subst, ◌∙◌, arith}
+use Rattle.std.proofs.Common.{◌≡◌, ℕ, suc, ◌+◌, ◌*◌, ◌<◌, ◌≤◌, is_some, unwrap_or, Option, Some, None, Bool, true, false, if◌then◌else◌, List, [], ◌∷◌, map, length, All, arith}
 use Rattle.std.specs.Prelude.{ℤ, pos, negsuc, ◌+ℤ◌, ◌-ℤ◌, ◌≤ℤ◌, IfSome}
 use Rattle.std.proofs.lemmas.Int.{ints}
 use Rattle.std.proofs.lemmas.List.{length-map}
@@ -8,7 +8,7 @@ use Rattle.rg_theory.specs.declared.Class.{Class}
 use Rattle.rg_theory.specs.ClassWords.{HasBoundInRange}
 use Rattle.rg_theory.specs.System.{System, states, labels}
 use Rattle.rg_integers.specs.Sum.{sum_over}
-use Rattle.rg_refuting.specs.Row.{Form as SplitForm, Form.on_tokens, Form.on_effect}
+use Rattle.rg_refuting.specs.Row.{Form.on_tokens, Form.on_effect}
 use Rattle.rg_order_of_work.specs.Rewriting.{has_label, used_labels, all_numbers, split_forms, form_low, form_high}
 use Rattle.rg_columns.proofs.Picking.{where_few}
 use Rattle.rg_rows.specs.declared.named_form.NamedForm.{NamedForm}

@@ -1,5 +1,5 @@
 -- How many times a row a form is.
-use Rattle.std.proofs.Common.{◌≡◌, ◌⊎◌, ⊎_elim, ℕ, zero, suc, max, ◌*◌, ◌<◌, ◌≤◌, List, [], ◌∷◌, map, length, Option, Some, Ok, Contains, All, inl, inr, refl, ap, ap₂, sym, subst, ◌∙◌, arith, to_z, of_z}
+use Rattle.std.proofs.Common.{◌≡◌, ◌⊎◌, ⊎_elim, ℕ, zero, suc, max, ◌*◌, ◌<◌, ◌≤◌, List, [], ◌∷◌, map, length, Some, Ok, Contains, All, inl, inr, refl, ap, ap₂, sym, subst, ◌∙◌, arith, to_z, of_z}
 use Rattle.std.specs.Prelude.{ℤ, pos, negsuc, ◌*ℤ◌, ◌<ℤ◌, ◌≤ℤ◌, ◌≢◌, unsigned_abs, int_div, slice_get, slice_index_or}
 use Rattle.std.specs.Int.{w128, ◌∣◌}
 use Rattle.std.proofs.Math.Nat.{mul-suc, dvd-mul_right}
@@ -18,19 +18,18 @@ use Rattle.rg_integers.proofs.Ring.{ring}
 use Rattle.rg_integers.proofs.Order.{mul-cancel}
 use Rattle.rg_integers.proofs.Divisors.{exact}
 use Rattle.rg_integers.proofs.Casts.{back}
-use Rattle.rg_fraction.specs.declared.term.Wide.{Wide}
 use Rattle.rg_linear.specs.System.{row_at}
 use Rattle.rg_linear.specs.Cycle.{CycleBasis, IsZeroVector}
 use Rattle.rg_refuting.specs.Row.{RowName, row_expression}
 use Rattle.rg_order_of_work.specs.Fold.{each}
-use Rattle.rg_order_of_work.specs.Rewriting.{KeptRow, IsIdle, CaseSystem, rows_of, row_fold}
+use Rattle.rg_order_of_work.specs.Rewriting.{KeptRow, CaseSystem, rows_of}
 use Rattle.rg_order_of_work.specs.FormRows.{form_row, IsMultipleOfRow}
 use Rattle.rg_order_of_work.proofs.FormRows.{multiple_of_kept, number_times, number_zero}
 use Rattle.rg_order_of_work.proofs.SystemRows.{made_from}
 use Rattle.rg_order_of_work.proofs.OneResult.{row_one}
 use Rattle.rg_rows.specs.declared.named_form.NamedForm.{NamedForm}
 use Rattle.rg_rows.specs.View.{ArePlaces, fold_of}
-use Rattle.rg_rows.specs.Forms.{linear_form, split_of, IsPartOf, StandsInRow}
+use Rattle.rg_rows.specs.Forms.{linear_form, split_of, StandsInRow}
 use Rattle.rg_rows.specs.Making.{IsMade}
 
 times_zero : (d : ℤ) (xs : List ℤ) → IsZeroVector xs → IsZeroVector (map (λ z. d *ℤ z) xs)

@@ -1,5 +1,5 @@
 -- The kept rows make a system.
-use Rattle.std.proofs.Common.{◌≡◌, ℕ, zero, suc, ◌+◌, ◌*◌, ◌^◌, ◌<◌, ◌≤◌, ◌==◌, ◌&&◌, not, is_some, Bool, true, false, if◌then◌else◌, Option, None, List, [], ◌∷◌, ◌++◌, map, length, All, Contains, ap, refl, subst, sym, ◌∙◌, arith}
+use Rattle.std.proofs.Common.{◌≡◌, ℕ, zero, suc, ◌+◌, ◌*◌, ◌^◌, ◌<◌, ◌≤◌, ◌==◌, ◌&&◌, not, is_some, Bool, true, false, if◌then◌else◌, List, [], ◌∷◌, ◌++◌, map, length, All, Contains, ap, refl, subst, sym, ◌∙◌, arith}
 use Rattle.std.specs.Prelude.{pos}
 use Rattle.std.proofs.lemmas.List.{length-map, length-append}
 use Rattle.std.proofs.lemmas.List.Elements.{Contains-get_or}
@@ -12,7 +12,7 @@ use Rattle.rg_refuting.specs.Row.{RowName, RowName.tokens_row, RowName.makes_row
 use Rattle.rg_linear.specs.System.{LinearRow, row_at}
 use Rattle.rg_linear.specs.Firsts.{KeepsFirsts}
 use Rattle.rg_linear.proofs.Firsts.{kept_is, kept_count}
-use Rattle.rg_order_of_work.specs.Rewriting.{numbers_where, used_labels, has_label, has_label_at, states_with, has_start, all_numbers, problem_rows, names_of, KeptRow, IsIdle}
+use Rattle.rg_order_of_work.specs.Rewriting.{numbers_where, used_labels, has_label, has_label_at, states_with, has_start, problem_rows, names_of, KeptRow, IsIdle}
 use Rattle.rg_linear.specs.declared.system.Row.{Row}
 use Rattle.rg_linear.specs.View.{linear_row, linear_system, IsWellFormed}
 use Rattle.rg_rows.specs.declared.case_row.CaseRow.{CaseRow}

@@ -1,10 +1,9 @@
 -- Which rows are kept, row by row.
 use Rattle.std.proofs.lemmas.Bool.{false≢true}
 use Rattle.std.proofs.lemmas.List.{append-nil, drop_all, length-append, length-map, get_or-map}
-use Rattle.std.proofs.Common.{◌≡◌, ◌⊎◌, ⊎_elim, ℕ, suc, ◌+◌, ◌<◌, ◌≤◌, Bool, true, false, cond, not, map, Vec, Bor, List, [], ◌∷◌, ◌++◌, drop, length, Contains, ap, refl, subst, sym, ◌∙◌, inl, inr, arith, append_assoc, add-one}
+use Rattle.std.proofs.Common.{◌≡◌, ◌⊎◌, ⊎_elim, ℕ, suc, ◌+◌, ◌<◌, ◌≤◌, Bool, true, false, cond, not, map, Bor, List, [], ◌∷◌, ◌++◌, drop, length, Contains, ap, refl, subst, sym, ◌∙◌, inl, inr, arith, append_assoc, add-one}
 use Rattle.std.specs.Prelude.{ℤ, slice_index_or}
 use Rattle.std.specs.Bool.{Decides}
-use Rattle.std.specs.declared.alloc.Global.{Global}
 use Rattle.std.specs.Ordering.{int_eq}
 use Rattle.std.specs.Cmp.Lexicographic.{pointwise}
 use Rattle.std.proofs.lemmas.Bool.Decides.{Decides-int_eq}
@@ -83,10 +82,6 @@ module _ (all : List KeptRow) (has has' : List ℤ → Bool) (i : ℕ) (kept : L
 module _ (all : List CaseRow) (i : ℕ) (row : CaseRow) (lt : i < length all) (is : row ≡ slice_index_or all i row) where
   pub row_next : drop i (map kept_row all) ≡ kept_row row ∷ drop (i + 1) (map kept_row all)
   row_next = drop-cons (map kept_row all) i (kept_row row) (simp length-map lt) ∙ ap (λ n. slice_index_or (map kept_row all) i (kept_row row) ∷ drop n (map kept_row all)) (sym (add-one i)) ∙ ap (λ x. x ∷ drop (i + 1) (map kept_row all)) (get_or-map kept_row all i row (kept_row row) lt ∙ ap kept_row (sym is))
-
-  -- a key has the numbers of the row at its place
-  pub key_is : (keys : List (Vec ℤ Global)) (key : Vec ℤ Global) → map (λ k. k.items) keys ≡ map (λ r. numbers_of (kept_row r).row) all → i < length keys → key ≡ slice_index_or keys i key → key.items ≡ numbers_of (kept_row row).row
-  key_is keys key e lt' here = ap (λ k. k.items) here ∙ sym (get_or-map (λ k. k.items) keys i key key.items lt') ∙ ap (λ l. slice_index_or l i key.items) e ∙ get_or-map (λ r. numbers_of (kept_row r).row) all i row key.items lt ∙ ap (λ r. numbers_of (kept_row r).row) (sym is)
 
 -- the set is asked for the numbers of row i, and then has them
 module _ (all : List KeptRow) (i : ℕ) (kept : List KeptRow) (keys keys' : List (Bor (List ℤ))) (v : Bor (List ℤ)) (k : KeptSoFar all (has_numbers keys) i kept) (x : KeptRow) (next : drop i all ≡ x ∷ drop (i + 1) all) (is : v.now ≡ numbers_of x.row) (added : Bool) (says : added ≡ not (has_numbers keys v.now)) where

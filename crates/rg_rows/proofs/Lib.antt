@@ -8,6 +8,7 @@ mod FormNames
 mod FormSteps
 mod Assembling
 mod Terms
+mod Sharing
 mod Dividing
 mod Forming
 mod Counted

@@ -1,23 +1,23 @@
 -- The steps of a row's fold.
-use Rattle.std.proofs.Common.{◌≡◌, ℕ, ◌<◌, false, is_some, if◌then◌else◌, Option, None, List, [], map, length, Result, Ok, Err, ap, refl, subst, sym, ◌∙◌, inl, inr}
+use Rattle.std.proofs.Common.{◌≡◌, ℕ, ◌<◌, List, [], map, length, Result, Ok, Err, ap, subst, sym, ◌∙◌, inl, inr}
 use Rattle.std.specs.Prelude.{ℤ, pos, slice_index_or, IfOk}
 use Rattle.std.proofs.lemmas.List.{get_or-map}
 use Rattle.rg_theory.specs.declared.Arc.{Arc}
 use Rattle.rg_theory.specs.declared.Class.{Class}
 use Rattle.rg_theory.specs.declared.Problem.{Problem}
-use Rattle.rg_theory.specs.System.{System, states, labels}
+use Rattle.rg_theory.specs.System.{System, labels}
 use Rattle.rg_fraction.specs.declared.term.Wide.{Wide}
 use Rattle.rg_linear.specs.Branching.{Form}
 use Rattle.rg_linear.specs.Cycle.{CycleBasis}
 use Rattle.rg_refuting.specs.Expression.{Term, Expression}
-use Rattle.rg_refuting.specs.Row.{RowName, row_expression}
+use Rattle.rg_refuting.specs.Row.{RowName}
 use Rattle.rg_reasons.specs.declared.certificate.RowName.{RowName as CodeName}
 use Rattle.rg_reasons.specs.Trees.{row_name_of}
 use Rattle.rg_fraction.specs.declared.fraction.Fraction.{Fraction}
 use Rattle.rg_fraction.specs.Fractions.{numerator_of, denominator_of, IsValue, IsProduct}
 use Rattle.rg_order_of_work.proofs.FoldLemmas.{mul_step}
 use Rattle.rg_order_of_work.specs.Fold.{shown_result, ratio_of, each, Ratio, whole, mul}
-use Rattle.rg_order_of_work.specs.Rewriting.{start_of, count_of, substitute_fold, columns_of, Scaled, scaled_fold, terms_fold, KeptRow, IsDivided, row_fold, used_labels, all_numbers, names_of, split_forms, form_fold, column_count, CaseSystem, IsIdle, system_fold}
+use Rattle.rg_order_of_work.specs.Rewriting.{start_of, count_of, substitute_fold, columns_of, Scaled, scaled_fold, terms_fold, KeptRow, IsDivided, row_fold, names_of, split_forms, form_fold, column_count, CaseSystem, IsIdle, system_fold}
 use Rattle.rg_linear.specs.Firsts.{KeepsFirsts}
 use Rattle.rg_rows.specs.View.{fold_of}
 use Rattle.rg_rows.proofs.Counted.{substitute_same}
@@ -74,10 +74,8 @@ module _ (lts : System) (tree : List Arc) (basis : CycleBasis) (class : Class) (
 -- ---- the rows of the code
 
 -- the row of the name at place i
-pub fold_told : (lts : System) (tree : List Arc) (basis : CycleBasis) (class : Class) (problem : Problem) (number : ℕ) (names : List CodeName) (i : ℕ) (d : CodeName) (e : Expression) → i < length names → e ≡ row_expression lts class problem number [] (row_name_of (slice_index_or names i d)) → (r : Result KeptRow Wide) → row_fold lts tree basis class (row_name_of (slice_index_or names i d)) e r → fold_of lts tree basis class problem number (slice_index_or (map row_name_of names) i (row_name_of d)) r
-fold_told lts tree basis class problem number names i d e lt is r h =
-    subst (λ name. fold_of lts tree basis class problem number name r) (sym (get_or-map row_name_of names i d (row_name_of d) lt))
-    (subst (λ x. row_fold lts tree basis class (row_name_of (slice_index_or names i d)) x r) is h)
+pub fold_told : (lts : System) (tree : List Arc) (basis : CycleBasis) (class : Class) (problem : Problem) (number : ℕ) (names : List CodeName) (i : ℕ) (d : CodeName) → i < length names → (r : Result KeptRow Wide) → fold_of lts tree basis class problem number (row_name_of (slice_index_or names i d)) r → fold_of lts tree basis class problem number (slice_index_or (map row_name_of names) i (row_name_of d)) r
+fold_told lts tree basis class problem number names i d lt r h = subst (λ name. fold_of lts tree basis class problem number name r) (sym (get_or-map row_name_of names i d (row_name_of d) lt)) h
 
 -- ---- from the rows to the case
 

@@ -1,16 +1,16 @@
 -- The rows of a case name states of the system.
-use Rattle.std.proofs.Common.{◌≡◌, ⊎_elim, Contains, ℕ, zero, suc, ◌<◌, ◌==◌, ◌&&◌, not, is_some, Bool, true, false, if◌then◌else◌, List, [], ◌∷◌, ◌++◌, map, length, All, Option, None, sym, subst, arith}
+use Rattle.std.proofs.Common.{◌≡◌, ⊎_elim, Contains, ℕ, zero, suc, ◌<◌, List, [], ◌∷◌, map, length, All, sym, subst, arith}
 use Rattle.std.specs.Prelude.{slice_index_or}
 use Rattle.std.proofs.lemmas.List.{length-map, get_or-map}
-use Rattle.std.proofs.lemmas.List.Elements.{Contains-get_or, All-nil, All-cons, All-append, All-map}
+use Rattle.std.proofs.lemmas.List.Elements.{Contains-get_or, All-nil, All-cons}
 use Rattle.rg_theory.specs.declared.Class.{Class}
 use Rattle.rg_theory.specs.declared.Problem.{Problem}
 use Rattle.rg_theory.specs.declared.Problem.TheVariants.{Event, States}
-use Rattle.rg_theory.specs.System.{System, states, labels}
+use Rattle.rg_theory.specs.System.{System, states}
 use Rattle.rg_refuting.specs.Expression.{Term as SumTerm, Variable.tokens_at, Variable.effect_of, plus, minus}
-use Rattle.rg_refuting.specs.Row.{RowName, RowName.tokens_row, RowName.makes_row, RowName.stop_row, RowName.block_row, RowName.apart_row, RowName.empty_row, RowName.full_row, RowName.keep_row, RowName.cap_row, RowName.up_row, RowName.down_row, row_expression, apart_expression, order_of, case_consumer}
+use Rattle.rg_refuting.specs.Row.{RowName, RowName.tokens_row, RowName.makes_row, RowName.apart_row, RowName.cap_row, RowName.up_row, RowName.down_row, row_expression, apart_expression, order_of}
 use Rattle.rg_refuting.specs.Refutes.{IsSeparationProblem}
-use Rattle.rg_order_of_work.specs.Rewriting.{numbers_where, used_labels, has_label, has_label_at, states_with, has_start, all_numbers, problem_rows, names_of}
+use Rattle.rg_order_of_work.specs.Rewriting.{has_label_at, states_with, problem_rows, names_of}
 use Rattle.rg_theory.proofs.Lists.{Contains-cons_cases}
 use Rattle.rg_order_of_work.proofs.Lists.{nothing, where_is}
 use Rattle.rg_order_of_work.proofs.Names.{each_problem_name, each_name}
@@ -19,7 +19,7 @@ use Rattle.rg_reasons.specs.Trees.{row_name_of}
 use Rattle.rg_expressions.specs.View.{TermNamesStateBelow}
 use Rattle.rg_rows.specs.View.{AreNamesWithin}
 
-one : (n : ℕ) (t : SumTerm) → TermNamesStateBelow n t → All (TermNamesStateBelow n) (t ∷ [])
+pub one : (n : ℕ) (t : SumTerm) → TermNamesStateBelow n t → All (TermNamesStateBelow n) (t ∷ [])
 one n t h = All-cons (TermNamesStateBelow n) t [] h (All-nil (TermNamesStateBelow n))
 
 two : (n : ℕ) (t u : SumTerm) → TermNamesStateBelow n t → TermNamesStateBelow n u → All (TermNamesStateBelow n) (t ∷ u ∷ [])

@@ -1,4 +1,5 @@
 pub mod View
+pub mod Sharing
 pub mod Shown
 pub mod Forms
 pub mod Making

@@ -1,5 +1,5 @@
 -- How what the code keeps is seen.
-use Rattle.std.specs.Prelude.{◌≡◌, ℕ, ◌==◌, ◌&&◌, not, Bool, false, List, [], ◌∷◌, ◌++◌, ℤ, length, map, All, Option, Some, Result, slice_get, slice_index_or}
+use Rattle.std.specs.Prelude.{◌≡◌, ℕ, ◌==◌, ◌&&◌, not, Bool, false, List, [], ◌∷◌, ◌++◌, ℤ, length, map, All, Some, Result, slice_get, slice_index_or}
 use Rattle.rg_theory.specs.declared.Arc.{Arc}
 use Rattle.rg_theory.specs.declared.Class.{Class}
 use Rattle.rg_theory.specs.System.{System, states}
@@ -14,6 +14,8 @@ use Rattle.rg_reasons.specs.Trees.{row_name_of}
 use Rattle.rg_expressions.specs.View.{TermNamesStateBelow}
 use Rattle.rg_linear.specs.View.{linear_row}
 use Rattle.rg_rows.specs.declared.case_row.CaseRow.{CaseRow}
+use Rattle.rg_rows.specs.declared.held_row.HeldRow.{HeldRow}
+use Rattle.rg_rows.specs.declared.held_row.HeldRow.TheVariants as held
 use Rattle.rg_rows.specs.declared.kept.CaseRows.{CaseRows}
 
 -- the labels with an arc
@@ -31,6 +33,11 @@ numbers_of row = row.coeffs ++ row.constant ∷ []
 -- a row with its name and its factor
 abbrev pub kept_row : CaseRow → KeptRow
 kept_row r = record { name = row_name_of r.name; row = record { coeffs = r.coeffs.items; constant = r.constant }; factor = ratio_of r.factor }
+
+-- the row that a case holds
+abbrev pub row_in : HeldRow → CaseRow
+row_in (held.Own r) = r
+row_in (held.Common r) = r.now
 
 -- the rows with their names and factors
 pub record ShowsRows (r : CaseRows) (kept : List KeptRow) : Type 0 where

@@ -1,25 +1,28 @@
 //! The forms of a case.
-ghost use Rattle.std.specs.Prelude.{◌≡◌, ◌⊎◌, ℕ, ◌<◌, length, map, All, ℤ, pos, ◌*ℤ◌, Ok, Err, option_map, IfOk, IsErrOf};
+ghost use Rattle.std.specs.Prelude.{◌≡◌, ◌⊎◌, ℕ, ◌<◌, [], length, map, All, ℤ, pos, ◌*ℤ◌, Ok, Err, option_map, IfOk, IsErrOf};
 ghost use Rattle.rg_integers.specs.Range.{InRange};
-ghost use Rattle.rg_theory.specs.System.{labels};
+ghost use Rattle.rg_theory.specs.System.{states, labels};
 ghost use Rattle.rg_fraction.specs.declared.term.Wide.{Wide};
 ghost use Rattle.rg_fraction.specs.declared.fold_stop.FoldStop.TheVariants as stop;
 ghost use Rattle.rg_linear.specs.Cycle.{IsZeroVector};
 ghost use Rattle.rg_spanning.specs.Spanning.{IsTreeOf};
 ghost use Rattle.rg_cycles.specs.View.{labels_of, cycle_of};
 ghost use Rattle.rg_order_of_work.specs.Fold.{each};
-ghost use Rattle.rg_order_of_work.specs.Rewriting.{column_count, form_fold, form_low, form_high};
+ghost use Rattle.rg_order_of_work.specs.Rewriting.{column_count, terms_fold, form_fold, form_low, form_high};
 ghost use Rattle.rg_denominators.specs.View.{scaled_of};
 ghost use Rattle.rg_reasons.specs.Trees.{row_name_of, form_of};
-ghost use Rattle.rg_columns.specs.View.{AreColumns};
-ghost use Rattle.rg_rows.specs.View.{kept_row, AreNamesWithin, fold_of};
+ghost use Rattle.rg_refuting.specs.Row.{row_expression};
+ghost use Rattle.rg_expressions.specs.View.{TermNamesStateBelow};
+ghost use Rattle.rg_rows.specs.View.{kept_row, row_in, AreNamesWithin, fold_of};
+ghost use Rattle.rg_rows.specs.Sharing.{IsCommonOf};
 ghost use Rattle.rg_rows.specs.Forms.{linear_form, split_of, form_in, forms_in, IsPartOf};
 ghost use Rattle.rg_rows.specs.Making.{IsMade};
 
 use crate::case_row::CaseRow;
+use crate::common::Common;
+use crate::held_row::HeldRow;
 use crate::named_form::NamedForm;
 use crate::rewriting::over_columns;
-use rg_columns::Columns;
 use rg_cycles::Basis;
 use rg_denominators::Scaled;
 use rg_fraction::FoldStop;
@@ -27,7 +30,7 @@ use rg_lts::Lts;
 use rg_reasons::{Form, ProblemCase, RowName, expression};
 use rg_spanning::Tree;
 use rg_theory::Class;
-use std::alloc::Global;
+use std::alloc::{AllocError, Global};
 
 // The forms in order: in a bounded class the tokens of each state, else in a plain one the effect of each label with an
 // arc. Each is written over the columns as the row named `tokens` or `down` is, and not divided.
@@ -36,33 +39,70 @@ pub(crate) fn forms(
     lts: &Lts,
     tree: &Tree,
     basis: &Basis,
-    columns: &Columns,
+    common: &Common,
     case: ProblemCase,
     names: &[RowName],
-    rows: &[CaseRow],
+    rows: &[HeldRow<'_>],
     places: &[u32],
 ) -> Result<Vec<NamedForm>, FoldStop>
     requires tree { IsTreeOf lts.now tree.now }
     requires labels { labels_of basis.now ≡ labels lts.now }
-    requires columns { AreColumns lts.now case.class columns.now }
+    requires common { IsCommonOf lts.now tree.now.arcs (cycle_of basis.now) case.class common.now }
     requires names { AreNamesWithin lts.now case.class case.problem case.number (map row_name_of names.now) }
-    requires rows { each (fold_of lts.now tree.now.arcs (cycle_of basis.now) case.class case.problem case.number) (map row_name_of names.now) (Ok (map kept_row rows.now)) }
+    requires rows { each (fold_of lts.now tree.now.arcs (cycle_of basis.now) case.class case.problem case.number) (map row_name_of names.now) (Ok (map kept_row (map row_in rows.now))) }
     requires one_each { length rows.now ≡ length names.now }
     requires places { length places.now ≡ length rows.now }
     ensures value { IfOk result (λ v. each (form_fold lts.now tree.now.arcs (cycle_of basis.now) case.class) (forms_in case.class (map row_name_of names.now)) (Ok (map linear_form v.items))) }
     ensures forms { IfOk result (λ v. map split_of v.items ≡ forms_in case.class (map row_name_of names.now)) }
-    ensures made { IfOk result (λ v. All (IsMade case.class (column_count lts.now (cycle_of basis.now) case.class) (map kept_row rows.now) places.now) v.items) }
+    ensures made { IfOk result (λ v. All (IsMade case.class (column_count lts.now (cycle_of basis.now) case.class) (map kept_row (map row_in rows.now)) places.now) v.items) }
     ensures wide { (w : Wide) → IsErrOf result (stop.Wide w) → each (form_fold lts.now tree.now.arcs (cycle_of basis.now) case.class) (forms_in case.class (map row_name_of names.now)) (Err w) }
 {
     let mut forms = Vec::new(alloc);
     for (i, &name) in names.iter().enumerate() {
         if let Some(form) = form_named(case.class, name) {
-            let expression = expression(lts, case, &[], name);
-            let scaled = over_columns(alloc, tree, basis, columns, &expression)?;
-            forms.push(form_over(case.class, form, scaled, &rows[i], places[i]))?;
+            let scaled = terms_in_case(alloc, lts, tree, basis, common, case, name)?;
+            forms.push(form_over(case.class, form, scaled, rows[i].row(), places[i]))?;
         }
     }
     Ok(forms)
+}
+
+// The terms of the named row of the case: those that all problems share, or its own, which are written now.
+fn terms_in_case(
+    alloc: Global,
+    lts: &Lts,
+    tree: &Tree,
+    basis: &Basis,
+    common: &Common,
+    case: ProblemCase,
+    name: RowName,
+) -> Result<Scaled, FoldStop>
+    requires tree { IsTreeOf lts.now tree.now }
+    requires labels { labels_of basis.now ≡ labels lts.now }
+    requires common { IsCommonOf lts.now tree.now.arcs (cycle_of basis.now) case.class common.now }
+    requires within { All (TermNamesStateBelow (states lts.now)) (row_expression lts.now case.class case.problem case.number [] (row_name_of name)).terms }
+    ensures value { IfOk result (λ s. terms_fold lts.now tree.now.arcs (cycle_of basis.now) case.class (row_expression lts.now case.class case.problem case.number [] (row_name_of name)).terms (Ok (scaled_of s))) }
+    ensures one_each { IfOk result (λ s. length s.numbers.items ≡ column_count lts.now (cycle_of basis.now) case.class) }
+    ensures wide { (w : Wide) → IsErrOf result (stop.Wide w) → terms_fold lts.now tree.now.arcs (cycle_of basis.now) case.class (row_expression lts.now case.class case.problem case.number [] (row_name_of name)).terms (Err w) }
+{
+    match common.terms(name) {
+        Some(Ok(scaled)) => Ok(copied(alloc, scaled)?),
+        Some(Err(wide)) => Err(FoldStop::Wide(*wide)),
+        None => {
+            let expression = expression(lts, case, &[], name);
+            over_columns(alloc, tree, basis, &common.columns, &expression)
+        }
+    }
+}
+
+// The same numbers.
+fn copied(alloc: Global, scaled: &Scaled) -> Result<Scaled, AllocError>
+    ensures { IfOk result (λ s. scaled_of s ≡ scaled_of scaled.now) }
+{
+    Ok(Scaled {
+        multiple: scaled.multiple,
+        numbers: scaled.numbers.to_vec(alloc)?,
+    })
 }
 
 // The form that has the terms of this row, where it is one of the class's.

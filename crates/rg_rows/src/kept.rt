@@ -2,9 +2,10 @@
 ghost use Rattle.std.specs.Prelude.{◌↔◌, ◌≡◌, ◌^◌, ◌<◌, ◌++◌, ◌∷◌, [], List, length, IsTrue, map, IfOk, OnOk};
 ghost use Rattle.rg_linear.specs.Firsts.{KeepsFirsts};
 ghost use Rattle.rg_order_of_work.specs.Rewriting.{KeptRow, IsIdle};
-ghost use Rattle.rg_rows.specs.View.{numbers_of, kept_row, ShowsRows, ArePlaces};
+ghost use Rattle.rg_rows.specs.View.{kept_row, row_in, ShowsRows, ArePlaces};
 
 use crate::case_row::CaseRow;
+use crate::held_row::HeldRow;
 use indexmap::IndexSet;
 use rg_fraction::Fraction;
 use rg_linear::Row;
@@ -21,11 +22,10 @@ pub(crate) struct CaseRows {
 
 // Leaves out the rows without coefficients that always hold, and of equal rows all but the first. Beside the rows
 // that are kept stands, for each row, the number of the kept row that it is, 0 where it is left out.
-pub(crate) fn firsts(alloc: Global, all: &[CaseRow]) -> Result<(CaseRows, Vec<u32>), AllocError>
+pub(crate) fn firsts(alloc: Global, all: &[HeldRow<'_>]) -> Result<(CaseRows, Vec<u32>), AllocError>
     requires few { length all.now < 2 ^ 32 }
-    ensures { IfOk result (λ r. (kept : List KeptRow) × ShowsRows r.0 kept × KeepsFirsts (λ k. k.row) IsIdle [] (map kept_row all.now) kept × ArePlaces (map kept_row all.now) kept r.1.items) }
+    ensures { IfOk result (λ r. (kept : List KeptRow) × ShowsRows r.0 kept × KeepsFirsts (λ k. k.row) IsIdle [] (map kept_row (map row_in all.now)) kept × ArePlaces (map kept_row (map row_in all.now)) kept r.1.items) }
 {
-    let keys = keys(alloc, all)?;
     let mut seen = IndexSet::new(alloc);
     let mut places = Vec::new(alloc);
     let mut kept = CaseRows {
@@ -33,12 +33,13 @@ pub(crate) fn firsts(alloc: Global, all: &[CaseRow]) -> Result<(CaseRows, Vec<u3
         names: Vec::new(alloc),
         factors: Vec::new(alloc),
     };
-    for (i, row) in all.iter().enumerate() {
+    for held in all {
+        let row = held.row();
         if is_idle(row) {
             places.push(0)?;
             continue;
         }
-        let (place, is_new) = seen.insert_full(keys[i].as_slice())?;
+        let (place, is_new) = seen.insert_full(row.numbers.as_slice())?;
         if is_new {
             kept.push(alloc, row)?;
         }
@@ -61,19 +62,6 @@ impl CaseRows {
         self.factors.push(row.factor)?;
         Ok(())
     }
-}
-
-// The numbers of each row: its coefficients, then its constant.
-fn keys(alloc: Global, rows: &[CaseRow]) -> Result<Vec<Vec<i128>>, AllocError>
-    ensures { IfOk result (λ v. map (λ key. key.items) v.items ≡ map (λ r. numbers_of (kept_row r).row) rows.now) }
-{
-    let mut keys = Vec::new(alloc);
-    for row in rows {
-        let mut key = row.coeffs.to_vec(alloc)?;
-        key.push(row.constant)?;
-        keys.push(key)?;
-    }
-    Ok(keys)
 }
 
 // Whether the row has no coefficients and always holds.

@@ -7,9 +7,12 @@
 
 mod case;
 mod case_row;
+mod common;
 mod counts;
 mod forms;
+mod held_row;
 mod kept;
+mod kind;
 mod named_form;
 mod named_system;
 mod names;
@@ -17,5 +20,6 @@ mod problem_names;
 mod rewriting;
 
 pub use case::cases;
+pub use common::Common;
 pub use named_form::NamedForm;
-pub use named_system::{NamedSystem, system};
+pub use named_system::{NamedSystem, system, system_with};

@@ -12,23 +12,22 @@ ghost use Rattle.rg_order_of_work.specs.Fold.{each};
 ghost use Rattle.rg_cycles.specs.View.{labels_of, cycle_of};
 ghost use Rattle.rg_fraction.specs.declared.fold_stop.FoldStop.TheVariants as stop;
 ghost use Rattle.rg_reasons.specs.Trees.{row_name_of};
-ghost use Rattle.rg_columns.specs.View.{AreColumns};
-ghost use Rattle.rg_rows.specs.View.{kept_row, AreNamesWithin, fold_of};
+ghost use Rattle.rg_rows.specs.View.{kept_row, row_in, AreNamesWithin, fold_of};
+ghost use Rattle.rg_rows.specs.Sharing.{IsCommonOf};
 ghost use Rattle.rg_rows.specs.Forms.{split_of, StandsInRow, AreFormsOf};
 ghost use Rattle.rg_rows.specs.Shown.{ShowsCase};
 
-use crate::case_row::CaseRow;
+use crate::common::Common;
 use crate::forms::forms;
+use crate::held_row::{HeldRow, row_in_case};
 use crate::kept::firsts;
 use crate::named_form::NamedForm;
 use crate::names::names;
-use crate::rewriting::row;
-use rg_columns::Columns;
 use rg_cycles::Basis;
 use rg_fraction::{FoldStop, Fraction};
 use rg_linear::System;
 use rg_lts::Lts;
-use rg_reasons::{ProblemCase, RowName, expression};
+use rg_reasons::{ProblemCase, RowName};
 use rg_spanning::Tree;
 use rg_theory::{Class, Problem};
 use std::alloc::Global;
@@ -80,20 +79,45 @@ pub fn system(
     ensures forms { IsAllReachable lts.now → IsBasis lts.now tree.now.arcs (cycle_of basis.now) → HasBoundInRange class → IfOk result (λ named. AreFormsOf named.system named.forms.items) }
     ensures wide { (w : Wide) → IsErrOf result (stop.Wide w) → system_fold lts.now tree.now.arcs (cycle_of basis.now) class problem case (Err w) }
 {
+    let common = Common::new(alloc, lts, tree, basis, class)?;
+    system_with(alloc, lts, tree, basis, &common, class, problem, case)
+}
+
+/// The system of a case of a problem, as `system` gives it, with the rows and forms that all problems of the system and
+/// the class share.
+pub fn system_with(
+    alloc: Global,
+    lts: &Lts,
+    tree: &Tree,
+    basis: &Basis,
+    common: &Common,
+    class: Class,
+    problem: Problem,
+    case: u32,
+) -> Result<NamedSystem, FoldStop>
+    requires asked { IsSeparationProblem lts.now problem }
+    requires case { case < cases_of lts.now class problem }
+    requires tree { IsTreeOf lts.now tree.now }
+    requires labels { labels_of basis.now ≡ labels lts.now }
+    requires common { IsCommonOf lts.now tree.now.arcs (cycle_of basis.now) class common.now }
+    ensures system { IfOk result (λ named. (shown : CaseSystem) × system_fold lts.now tree.now.arcs (cycle_of basis.now) class problem case (Ok shown) × ShowsCase named shown) }
+    ensures named { IfOk result (λ named. map split_of named.forms.items ≡ split_forms lts.now class) }
+    ensures rows { IfOk result (λ named. All (StandsInRow lts.now tree.now.arcs (cycle_of basis.now) class problem case named.system) named.forms.items) }
+    ensures forms { IsAllReachable lts.now → IsBasis lts.now tree.now.arcs (cycle_of basis.now) → HasBoundInRange class → IfOk result (λ named. AreFormsOf named.system named.forms.items) }
+    ensures wide { (w : Wide) → IsErrOf result (stop.Wide w) → system_fold lts.now tree.now.arcs (cycle_of basis.now) class problem case (Err w) }
+{
+    lts.is_well_formed();
     let case = ProblemCase {
         class,
         problem,
         number: case,
     };
-    let columns = Columns::new(alloc, lts, class)?;
-    let names = names(alloc, lts, case, &columns)?;
-    let all = rows(alloc, lts, tree, basis, &columns, case, &names)?;
+    let names = names(alloc, lts, case, &common.columns)?;
+    let all = rows(alloc, lts, tree, basis, common, case, &names)?;
     let (kept, places) = firsts(alloc, &all)?;
-    let forms = forms(
-        alloc, lts, tree, basis, &columns, case, &names, &all, &places,
-    )?;
+    let forms = forms(alloc, lts, tree, basis, common, case, &names, &all, &places)?;
     Ok(NamedSystem {
-        system: System::new(columns.count(basis), kept.rows),
+        system: System::new(common.columns.count(basis), kept.rows),
         names: kept.names,
         factors: kept.factors,
         forms,
@@ -101,28 +125,27 @@ pub fn system(
 }
 
 // The named rows over the columns.
-fn rows(
+fn rows<'a>(
     alloc: Global,
     lts: &Lts,
     tree: &Tree,
     basis: &Basis,
-    columns: &Columns,
+    common: &'a Common,
     case: ProblemCase,
     names: &[RowName],
-) -> Result<Vec<CaseRow>, FoldStop>
+) -> Result<Vec<HeldRow<'a>>, FoldStop>
     requires tree { IsTreeOf lts.now tree.now }
     requires labels { labels_of basis.now ≡ labels lts.now }
-    requires columns { AreColumns lts.now case.class columns.now }
+    requires common { IsCommonOf lts.now tree.now.arcs (cycle_of basis.now) case.class common.now }
     requires names { AreNamesWithin lts.now case.class case.problem case.number (map row_name_of names.now) }
-    ensures value { IfOk result (λ v. each (fold_of lts.now tree.now.arcs (cycle_of basis.now) case.class case.problem case.number) (map row_name_of names.now) (Ok (map kept_row v.items))) }
-    ensures one_each { IfOk result (λ v. All (λ r. length r.coeffs.items ≡ column_count lts.now (cycle_of basis.now) case.class) v.items) }
+    ensures value { IfOk result (λ v. each (fold_of lts.now tree.now.arcs (cycle_of basis.now) case.class case.problem case.number) (map row_name_of names.now) (Ok (map kept_row (map row_in v.items)))) }
+    ensures one_each { IfOk result (λ v. All (λ r. length r.coeffs.items ≡ column_count lts.now (cycle_of basis.now) case.class) (map row_in v.items)) }
     ensures few { IfOk result (λ v. length v.items ≡ length names.now) }
     ensures wide { (w : Wide) → IsErrOf result (stop.Wide w) → each (fold_of lts.now tree.now.arcs (cycle_of basis.now) case.class case.problem case.number) (map row_name_of names.now) (Err w) }
 {
     let mut rows = Vec::new(alloc);
     for &name in names {
-        let expression = expression(lts, case, &[], name);
-        rows.push(row(alloc, tree, basis, columns, name, &expression)?)?;
+        rows.push(row_in_case(alloc, lts, tree, basis, common, case, name)?)?;
     }
     Ok(rows)
 }

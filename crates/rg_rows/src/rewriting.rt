@@ -25,7 +25,7 @@ use rg_expressions::start;
 use rg_fraction::{FoldStop, Fraction, reduce, row_gcd};
 use rg_reasons::{Expression, RowName};
 use rg_spanning::Tree;
-use std::alloc::Global;
+use std::alloc::{AllocError, Global};
 
 // The named row, whose expression this is.
 pub(crate) fn row(
@@ -46,7 +46,7 @@ pub(crate) fn row(
     let scaled = over_columns(alloc, tree, basis, columns, expression)?;
     let multiple = Fraction::new(scaled.multiple, 1);
     let constant = Fraction::new(expression.constant, 1).mul(multiple)?;
-    divided(name, scaled, constant.numerator())
+    divided(alloc, name, scaled, constant.numerator())
 }
 
 // The terms over the columns, without denominators.
@@ -72,7 +72,12 @@ pub(crate) fn over_columns(
 }
 
 // The numbers and the constant, divided by their greatest common divisor; zeros are not divided.
-fn divided(name: RowName, scaled: Scaled, constant: i128) -> Result<CaseRow, FoldStop>
+fn divided(
+    alloc: Global,
+    name: RowName,
+    scaled: Scaled,
+    constant: i128,
+) -> Result<CaseRow, FoldStop>
     requires { InRange constant }
     ensures value { IfOk result (λ r. (r.name ≡ name) × IsDivided (scaled_of scaled) constant (kept_row r)) }
     ensures one_each { IfOk result (λ r. length r.coeffs.items ≡ length scaled.numbers.items) }
@@ -83,21 +88,23 @@ fn divided(name: RowName, scaled: Scaled, constant: i128) -> Result<CaseRow, Fol
     numbers.push(constant)?;
     let divisor = row_gcd(&numbers);
     reduce(&mut numbers);
-    let (coeffs, constant) = parted(numbers);
+    let (coeffs, constant) = parted(alloc, &numbers)?;
     Ok(CaseRow {
         name,
         coeffs,
         constant,
         factor: Fraction::new(multiple, divisor.max(1)),
+        numbers,
     })
 }
 
 // All numbers but the last, and the last.
-fn parted(numbers: Vec<i128>) -> (Vec<i128>, i128)
-    requires { 0 < length numbers.items }
-    ensures { result.0.items ++ result.1 ∷ [] ≡ numbers.items }
+fn parted(alloc: Global, numbers: &[i128]) -> Result<(Vec<i128>, i128), AllocError>
+    requires { 0 < length numbers.now }
+    ensures { IfOk result (λ r. r.0.items ++ r.1 ∷ [] ≡ numbers.now) }
 {
-    let mut numbers = numbers;
-    let last = numbers.pop().unwrap_or(0);
-    (numbers, last)
+    match numbers.split_last() {
+        Some((last, coeffs)) => Ok((coeffs.to_vec(alloc)?, *last)),
+        None => Ok((Vec::new(alloc), 0)),
+    }
 }

@@ -12,12 +12,13 @@ use Rattle.rg_separated.specs.declared.separated.Separated.{Separated}
 use Rattle.rg_spanning.specs.Spanning.{IsTreeOf}
 use Rattle.rg_order_of_work.specs.Chords.{IsBasis}
 use Rattle.rg_cycles.specs.View.{labels_of, cycle_of}
+use Rattle.rg_rows.specs.Sharing.{IsCommonOf}
 use Rattle.rg_places.specs.declared.region_place.RegionPlace.{RegionPlace}
 use Rattle.rg_places.specs.RegionPlaces.{IsRegionPlace}
 use Rattle.rg_separate.specs.declared.setting.Setting.{Setting}
 
--- the tree is that of the system, all of whose states are reachable, the basis is that of its chords, and the class's
--- bound is in range
+-- the tree is that of the system, all of whose states are reachable, the basis is that of its chords, the class's bound
+-- is in range, and the rows and forms are those that all problems share
 pub record IsSetting (s : Setting) : Type 0 where
   pub in_range : IsInRange s.lts.now
   pub reachable : IsAllReachable s.lts.now
@@ -25,6 +26,7 @@ pub record IsSetting (s : Setting) : Type 0 where
   pub labels : labels_of s.basis.now ≡ labels s.lts.now
   pub basis : IsBasis s.lts.now s.tree.now.arcs (cycle_of s.basis.now)
   pub bound : HasBoundInRange s.class
+  pub common : IsCommonOf s.lts.now s.tree.now.arcs (cycle_of s.basis.now) s.class s.common.now
 
 -- the place is a region, of some class, and its numbers fit
 abbrev pub MayKeep : System → RegionPlace → Type 0

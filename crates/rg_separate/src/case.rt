@@ -20,7 +20,7 @@ use rg_feasible::PivotWide;
 use rg_fraction::{FoldStop, Wide};
 use rg_places::RegionPlace;
 use rg_reasons::{Case, Side};
-use rg_rows::{NamedForm, NamedSystem, system};
+use rg_rows::{NamedForm, NamedSystem, system_with};
 use std::alloc::{AllocError, Global};
 
 // What a case comes to.
@@ -42,8 +42,9 @@ pub(crate) fn solve_case(alloc: Global, c: CaseSetting<'_>) -> Result<CaseAnswer
         tree,
         basis,
         class,
+        common,
     } = c.setting;
-    match system(alloc, lts, tree, basis, class, c.problem, c.number) {
+    match system_with(alloc, lts, tree, basis, common, class, c.problem, c.number) {
         Ok(named) => branched(alloc, c, &named),
         Err(FoldStop::Wide(wide)) => {
             let above = Vec::new(alloc);

@@ -34,6 +34,7 @@ pub(crate) fn placed(
         tree,
         basis,
         class,
+        ..
     } = c.setting;
     match make_place(alloc, lts, tree, basis, class, c.problem, point) {
         Ok(region) => Ok(CaseAnswer::Place(region)),

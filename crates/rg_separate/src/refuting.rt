@@ -102,6 +102,7 @@ fn leaf(
         tree,
         basis,
         class,
+        ..
     } = c.setting;
     let shares = shares(alloc, named, above, weights)?;
     let above = named_sides(alloc, &named.forms, above)?;

@@ -23,6 +23,7 @@ use rg_memory::NoMemory;
 use rg_net::Place;
 use rg_ports::Gate;
 use rg_reasons::Certificate;
+use rg_rows::Common;
 use rg_separated::Separated;
 use rg_spanning::{GrowStop, Tree};
 use rg_theory::{Class, Problem};
@@ -43,13 +44,13 @@ pub enum Separation {
 /// Places of the class that together separate all separation problems of the system, each of whose states is
 /// reachable (Badouel, Bernardinello and Darondeau, *Petri Net Synthesis*).
 ///
-/// The cycle equations are solved first. Event problems are taken before state problems, each kind in order; one that
-/// a kept place separates is passed over, and that of a label without an arc has a place of its own. Of any other
-/// the cases are taken in order: the rows and forms of the case, the branching on them, and the place of its point or
-/// the leaves of its tree. The first place is kept. A problem whose cases are all refuted ends the work:
-/// `Unsolvable`. One without a place in which a number passes is passed over; at the end the first problem that no
-/// kept place separates makes the answer `TooWide`, and without one the answer is `Places`. `NoMemory` where there is
-/// none.
+/// The cycle equations are solved first, and the rows that all problems share are written. Event problems are taken
+/// before state problems, each kind in order; one that a kept place separates is passed over, and that of a label
+/// without an arc has a place of its own. Of any other the cases are taken in order: the rows and forms of the case,
+/// the branching on them, and the place of its point or the leaves of its tree. The first place is kept. A problem
+/// whose cases are all refuted ends the work: `Unsolvable`. One without a place in which a number passes is passed
+/// over; at the end the first problem that no kept place separates makes the answer `TooWide`, and without one the
+/// answer is `Places`. `NoMemory` where there is none.
 ///
 /// The answer is the one of the system and the class, for any number of jobs and any gate: `searched`, with
 /// `outcome_is_one`, is "exactly". The problems are solved in blocks, on so many threads as `jobs` says at most.
@@ -77,11 +78,13 @@ pub fn separate<R: Threads + Sync, G: Gate + Sync>(
     let vectors = chord_vectors(alloc, lts, &tree)?;
     match reduce(alloc, lts.labels(), &vectors) {
         Ok(basis) => {
+            let common = Common::new(alloc, lts, &tree, &basis, class)?;
             let setting = Setting {
                 lts,
                 tree: &tree,
                 basis: &basis,
                 class,
+                common: &common,
             };
             separated(rt, alloc, setting, jobs, gate)
         }

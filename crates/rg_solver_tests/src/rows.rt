@@ -1,10 +1,10 @@
 //! The systems of problems, with rows, names, factors and forms worked by hand.
 use crate::bases::basis;
 use crate::systems::{
-    ABA, CHOICE, NONBRANCHING, NONE, PLAIN, PURE, PURE_NONBRANCHING, PURE_PLAIN, PURE_PLAIN_SAFE,
+    ABA, CHOICE, NONBRANCHING, NONE, PLAIN, PLAIN_NONBRANCHING, PURE, PURE_NONBRANCHING, PURE_PLAIN, PURE_PLAIN_SAFE,
     RING, SAFE, SIDE, STEP, is_asked, system,
 };
-use rg_rows::{NamedSystem, cases};
+use rg_rows::{Common, NamedSystem, cases, system_with};
 use rg_spanning::Tree;
 use rg_theory::Class;
 use rg_theory::Problem::{self, Event, States};
@@ -173,6 +173,87 @@ fn systems_of_cases(rt: HostRuntime) -> Result<(), Fail> {
         ),
     ] {
         let told = told(rt.alloc(), text, class, problem, number)?;
+        assert_eq!(rt; told.as_str(), rows);
+    }
+    Ok(())
+}
+
+// What the systems of several problems of one system say, each made with the same rows that they share.
+fn all_told(
+    alloc: Global,
+    text: &str,
+    class: Class,
+    problems: &[(Problem, u32)],
+) -> Result<String, Fail> {
+    let lts = system(alloc, text)?;
+    let tree = Tree::grow(alloc, &lts)?;
+    let basis = basis(alloc, &lts, &tree)?;
+    let common = Common::new(alloc, &lts, &tree, &basis, class)?;
+    let mut told = String::new(alloc);
+    for &(problem, number) in problems {
+        if !is_asked(&lts, problem) || number >= cases(&lts, class, problem) {
+            return Err(Fail::from(AllocError));
+        }
+        let named = system_with(alloc, &lts, &tree, &basis, &common, class, problem, number)?;
+        let rows = text_of(alloc, cases(&lts, class, problem), &named)?;
+        writeln!(told, "{rows}")?;
+    }
+    Ok(told)
+}
+
+#[test]
+fn problems_share_their_rows(rt: HostRuntime) -> Result<(), Fail> {
+    for (text, class, problems, rows) in [
+        (
+            RING,
+            PLAIN,
+            [(Event(0, 1), 0), (Event(1, 1), 0), (States(0, 1), 0)],
+            "1 2; Empty [-1, 0] 0 1/1; Full(2) [1, -1] -1 1/1; Keep [0, -1] 0 1/1; Tokens(0) [1, 0] 0 1/1; Tokens(1) [2, -1] 0 2/1; Tokens(2) [1, -1] 0 1/1; Up(0) [0, 1] 2 2/1; Up(1) [0, -1] 1 1/1; Down(0) [0, -1] 2 2/1; Down(1) [0, 1] 1 1/1; Effect(0) 2 [0, -1] -1 1 8 1; Effect(1) 1 [0, 1] -1 1 9 1
+1 2; Empty [-2, 1] 0 2/1; Full(2) [1, -1] -1 1/1; Keep [0, -1] 0 1/1; Tokens(0) [1, 0] 0 1/1; Tokens(1) [2, -1] 0 2/1; Tokens(2) [1, -1] 0 1/1; Up(0) [0, 1] 2 2/1; Up(1) [0, -1] 1 1/1; Down(0) [0, -1] 2 2/1; Down(1) [0, 1] 1 1/1; Effect(0) 2 [0, -1] -1 1 8 1; Effect(1) 1 [0, 1] -1 1 9 1
+2 2; Apart [0, -1] -2 2/1; Tokens(0) [1, 0] 0 1/1; Tokens(1) [2, -1] 0 2/1; Tokens(2) [1, -1] 0 1/1; Up(0) [0, 1] 2 2/1; Up(1) [0, -1] 1 1/1; Down(0) [0, -1] 2 2/1; Down(1) [0, 1] 1 1/1; Effect(0) 2 [0, -1] -1 1 6 1; Effect(1) 1 [0, 1] -1 1 7 1
+",
+        ),
+        (
+            RING,
+            SAFE,
+            [(Event(0, 1), 0), (States(0, 1), 1), (Event(0, 1), 0)],
+            "1 2; Stop(2) [0, -1] -1 1/1; Tokens(0) [1, 0] 0 1/1; Tokens(1) [2, -1] 0 2/1; Tokens(2) [1, -1] 0 1/1; Cap(0) [-1, 0] 1 1/1; Cap(1) [-2, 1] 2 2/1; Cap(2) [-1, 1] 1 1/1; Tokens(0) 1 [1, 0] 0 1 1 1; Tokens(1) 2 [2, -1] 0 1 2 1; Tokens(2) 1 [1, -1] 0 1 3 1
+2 2; Apart [0, 1] -2 2/1; Tokens(0) [1, 0] 0 1/1; Tokens(1) [2, -1] 0 2/1; Tokens(2) [1, -1] 0 1/1; Cap(0) [-1, 0] 1 1/1; Cap(1) [-2, 1] 2 2/1; Cap(2) [-1, 1] 1 1/1; Tokens(0) 1 [1, 0] 0 1 1 1; Tokens(1) 2 [2, -1] 0 1 2 1; Tokens(2) 1 [1, -1] 0 1 3 1
+1 2; Stop(2) [0, -1] -1 1/1; Tokens(0) [1, 0] 0 1/1; Tokens(1) [2, -1] 0 2/1; Tokens(2) [1, -1] 0 1/1; Cap(0) [-1, 0] 1 1/1; Cap(1) [-2, 1] 2 2/1; Cap(2) [-1, 1] 1 1/1; Tokens(0) 1 [1, 0] 0 1 1 1; Tokens(1) 2 [2, -1] 0 1 2 1; Tokens(2) 1 [1, -1] 0 1 3 1
+",
+        ),
+        // Down(1) differs from Apart by its constant alone
+        (
+            SIDE,
+            PLAIN,
+            [(Event(1, 0), 0), (Event(1, 1), 0), (States(0, 1), 0)],
+            "1 2; Empty [-1, -1] 0 1/1; Full(0) [1, 0] -1 1/1; Tokens(0) [1, 0] 0 1/1; Tokens(1) [1, 1] 0 1/1; Up(1) [0, -1] 1 1/1; Down(1) [0, 1] 1 1/1; Effect(0) 1 [0, 0] -1 1 0 0; Effect(1) 1 [0, 1] -1 1 5 1
+1 2; Empty [-1, -1] 0 1/1; Full(0) [1, 0] -1 1/1; Keep [0, -1] 0 1/1; Tokens(0) [1, 0] 0 1/1; Tokens(1) [1, 1] 0 1/1; Up(1) [0, -1] 1 1/1; Down(1) [0, 1] 1 1/1; Effect(0) 1 [0, 0] -1 1 0 0; Effect(1) 1 [0, 1] -1 1 6 1
+2 2; Apart [0, 1] -1 1/1; Tokens(0) [1, 0] 0 1/1; Tokens(1) [1, 1] 0 1/1; Up(1) [0, -1] 1 1/1; Down(1) [0, 1] 1 1/1; Effect(0) 1 [0, 0] -1 1 0 0; Effect(1) 1 [0, 1] -1 1 4 1
+",
+        ),
+        // the consumer of each case has no row `makes`
+        (
+            CHOICE,
+            NONBRANCHING,
+            [(States(1, 2), 0), (States(1, 2), 3), (Event(1, 0), 0)],
+            "4 2; Apart [-1, 1] -1 1/1; Makes(1) [0, 1] 0 1/1
+4 2; Apart [1, -1] -1 1/1; Makes(0) [1, 0] 0 1/1
+1 2; Stop(0) [-1, 0] -1 1/1; Makes(1) [0, 1] 0 1/1
+",
+        ),
+        // `makes` is equal to Keep in the events, and no row of the states
+        (
+            PAIR,
+            PLAIN_NONBRANCHING,
+            [(Event(0, 1), 0), (Event(1, 0), 0), (States(0, 1), 1)],
+            "1 2; Empty [-1, 0] 0 1/1; Full(1) [1, -1] -1 1/1; Keep [0, -1] 0 1/1; Tokens(0) [1, 0] 0 1/1; Tokens(1) [1, -1] 0 1/1; Up(0) [0, 1] 1 1/1; Up(1) [0, -1] 1 1/1; Effect(0) 1 [0, -1] -1 1 6 1; Effect(1) 1 [0, 1] -1 1 5 1
+1 2; Empty [-1, 1] 0 1/1; Full(0) [1, 0] -1 1/1; Keep [0, 1] 0 1/1; Tokens(0) [1, 0] 0 1/1; Tokens(1) [1, -1] 0 1/1; Up(0) [0, 1] 1 1/1; Up(1) [0, -1] 1 1/1; Effect(0) 1 [0, -1] -1 1 6 1; Effect(1) 1 [0, 1] -1 1 5 1
+4 2; Apart [0, -1] -1 1/1; Tokens(0) [1, 0] 0 1/1; Tokens(1) [1, -1] 0 1/1; Up(0) [0, 1] 1 1/1; Up(1) [0, -1] 1 1/1; Makes(0) [0, -1] 0 1/1; Effect(0) 1 [0, -1] -1 1 4 1; Effect(1) 1 [0, 1] -1 1 3 1
+",
+        ),
+    ] {
+        let told = all_told(rt.alloc(), text, class, &problems)?;
         assert_eq!(rt; told.as_str(), rows);
     }
     Ok(())

@@ -37,6 +37,11 @@ pub(crate) const PURE_PLAIN: Class = Class {
     ..PLAIN
 };
 
+pub(crate) const PLAIN_NONBRANCHING: Class = Class {
+    plain: true,
+    ..NONBRANCHING
+};
+
 pub(crate) const SAFE: Class = Class {
     bound: Some(1),
     ..NONE

@@ -1,4 +1,4 @@
-use Rattle.std.proofs.Common.{rules, ◌≡◌, ℕ, ◌+◌, ◌<◌, ◌++◌, ◌∷◌, [], List, All, Result, Vec, Ok, Err, map, drop, length, ap, subst, sym, ◌∙◌}
+use Rattle.std.proofs.Common.{rules, ◌≡◌, ◌+◌, ◌<◌, ◌++◌, ◌∷◌, [], List, All, Result, Vec, Err, map, drop, length, ap, refl, subst, sym, ◌∙◌}
 use Rattle.std.specs.declared.alloc.Global.{Global}
 use Rattle.std.proofs.lemmas.List.{length-map, map-append}
 use Rattle.std.proofs.lemmas.List.Elements.{All-nil, All-cons, All-append}
@@ -8,7 +8,7 @@ use Rattle.std.specs.Prelude.{pos, ◌<ℤ◌}
 use Rattle.rg_fraction.specs.declared.fold_stop.FoldStop.TheVariants as stop
 use Rattle.rg_denominators.specs.View.{scaled_of}
 use Rattle.rg_reasons.specs.Trees.{row_name_of}
-use Rattle.rg_reasons.specs.Sums.{expression_of}
+use Rattle.rg_theory.specs.System.{states}
 use Rattle.rg_cycles.specs.View.{cycle_of}
 use Rattle.rg_cycles.proofs.Folding.{behind}
 use Rattle.rg_fraction.specs.declared.term.Wide.{Wide}
@@ -16,28 +16,30 @@ use Rattle.rg_linear.specs.Branching.{Form}
 use Rattle.rg_refuting.specs.Row.{Form as SplitForm}
 use Rattle.rg_order_of_work.specs.Fold.{each}
 use Rattle.rg_rows.specs.declared.named_form.NamedForm.{NamedForm}
-use Rattle.rg_rows.specs.View.{kept_row}
+use Rattle.rg_rows.specs.View.{kept_row, row_in}
 use Rattle.rg_rows.specs.Forms.{linear_form, split_of, forms_in}
 use Rattle.rg_rows.specs.Making.{IsMade}
 use Rattle.rg_rows.proofs.Terms.{name_within}
+use Rattle.rg_rows.proofs.Sharing.{held_is}
 use Rattle.rg_rows.proofs.FormSteps.{Keeps, next_name, step_fails, step_next, step_named, step_times, step_made, form_skips, named_skips, forms_end, named_end}
 use Rattle.rg_rows.proofs.forms.forms.Goals as goal
 use Rattle.rg_rows.proofs.forms.forms.Goals.{in-Some+in_ok-scaled+in_ok-push, in_default}
 
-pub over_columns-requires-clause-within : goal.over_columns-requires-clause-within
-over_columns-requires-clause-within c = name_within c.args.lts.now c.args.case.class c.args.case.problem c.args.case.number c.args.names.now c.loop-i.i _ _ c.args.tree.now.states c.requires.names c.loop-i-test.true (ap (λ e. e.terms) c.expression-expression.ensures) c.requires.tree.states
+pub terms_in_case-requires-clause-within : goal.terms_in_case-requires-clause-within
+terms_in_case-requires-clause-within c = name_within c.args.lts.now c.args.case.class c.args.case.problem c.args.case.number c.args.names.now c.loop-i.i _ _ (states c.args.lts.now) c.requires.names c.loop-i-test.true refl refl
 
 pub returns-in_err-scaled-clause-wide : goal.returns-in_err-scaled-clause-wide
 returns-in_err-scaled-clause-wide c = λ w e.
     let result : c.from_residual.result ≡ Err c.in_err-scaled.field-0.0 = search rules in
     let is : c.in_err-scaled.field-0.0 ≡ stop.Wide w = cc in
-    step_fails c.args.lts.now c.args.tree.now.arcs (cycle_of c.args.basis.now) c.args.case.class c.args.case.problem c.args.case.number c.args.names.now c.loop-i.i _ c.loop-i-test.true c.in-Some.form c.in-Some.ensures (expression_of c.expression-expression.result) c.expression-expression.ensures (map linear_form c.loop-i.forms.items) c.loop-i.invariant.so_far w
-    (c.in_err-scaled.ensures.wide w (ap (λ x. Err x) is) c.args.lts.now c.args.case.class (sym c.requires.labels) c.requires.columns)
+    step_fails c.args.lts.now c.args.tree.now.arcs (cycle_of c.args.basis.now) c.args.case.class c.args.case.problem c.args.case.number c.args.names.now c.loop-i.i _ c.loop-i-test.true c.in-Some.form c.in-Some.ensures _ refl (map linear_form c.loop-i.forms.items) c.loop-i.invariant.so_far w
+    (c.in_err-scaled.ensures.wide w (ap (λ x. Err x) is))
 
 pub form_over-requires : goal.form_over-requires
 form_over-requires c =
-    step_times c.args.lts.now c.args.tree.now.arcs (cycle_of c.args.basis.now) c.args.case.class c.args.case.problem c.args.case.number c.args.names.now c.loop-i.i _ c.loop-i-test.true c.in-Some.form c.in-Some.ensures (expression_of c.expression-expression.result) c.expression-expression.ensures c.args.rows.now (subst (λ n. c.loop-i.i < n) (sym c.requires.one_each) c.loop-i-test.true) c.requires.rows c.index-rows-i.result c.index-rows-i.is (scaled_of c.in_ok-scaled.scaled)
-    (c.in_ok-scaled.ensures.value c.args.lts.now c.args.case.class (sym c.requires.labels) c.requires.columns)
+    let row = c.row.result.now in
+    let below = subst (λ n. c.loop-i.i < n) (sym c.requires.one_each) c.loop-i-test.true in
+    step_times c.args.lts.now c.args.tree.now.arcs (cycle_of c.args.basis.now) c.args.case.class c.args.case.problem c.args.case.number c.args.names.now c.loop-i.i _ c.loop-i-test.true c.in-Some.form c.in-Some.ensures _ refl (map row_in c.args.rows.now) (simp length-map below) c.requires.rows row (held_is c.args.rows.now c.loop-i.i c.index-rows-i.result row below c.index-rows-i.is c.row.ensures) (scaled_of c.in_ok-scaled.scaled) c.in_ok-scaled.ensures.value
 
 pub loop-i-preserved : goal.loop-i-preserved
 loop-i-preserved c =
@@ -47,33 +49,35 @@ loop-i-preserved c =
     let class = c.args.case.class in
     let problem = c.args.case.problem in
     let number = c.args.case.number in
-    let same = sym c.requires.labels in
     let columns = column_count lts basis class in
-    let Made = IsMade class columns (map kept_row c.args.rows.now) c.args.places.now in
+    let rows = map row_in c.args.rows.now in
+    let Made = IsMade class columns (map kept_row rows) c.args.places.now in
+    let below = subst (λ n. c.loop-i.i < n) (sym c.requires.one_each) c.loop-i-test.true in
     elim c.match-form_named.branch [
       | in-Some+in_ok-scaled+in_ok-push w ↦
           (let f = w.form_over.result in
           let scaled = w.in_ok-scaled.scaled in
           let pushed = w.in_ok-push.ensures.items in
-          let one = step_made lts tree basis class problem number c.args.names.now c.loop-i.i _ c.loop-i-test.true w.in-Some.form w.in-Some.ensures (expression_of w.expression-expression.result) w.expression-expression.ensures c.args.rows.now (subst (λ n. c.loop-i.i < n) (sym c.requires.one_each) c.loop-i-test.true) c.requires.rows w.index-rows-i.result w.index-rows-i.is columns c.args.places.now f w.form_over.ensures.form w.form_over.ensures.row w.form_over.ensures.bounds
-          (ap length w.form_over.ensures.numbers.1 ∙ w.in_ok-scaled.ensures.one_each lts class same c.requires.columns)
+          let row = w.row.result.now in
+          let one = step_made lts tree basis class problem number c.args.names.now c.loop-i.i _ c.loop-i-test.true w.in-Some.form w.in-Some.ensures _ refl rows (simp length-map below) c.requires.rows row (held_is c.args.rows.now c.loop-i.i w.index-rows-i.result row below w.index-rows-i.is w.row.ensures) columns c.args.places.now f w.form_over.ensures.form w.form_over.ensures.row w.form_over.ensures.bounds
+          (ap length w.form_over.ensures.numbers.1 ∙ w.in_ok-scaled.ensures.one_each)
           (subst (λ z. pos 0 <ℤ z) (sym w.form_over.ensures.numbers.0) scaled.positive)
           (subst InRange (sym w.form_over.ensures.numbers.0) scaled.multiple_in_range)
           (subst (All InRange) (sym w.form_over.ensures.numbers.1) scaled.numbers_in_range)
           w.form_over.ensures.in_range in
-          subst (λ (v : Vec NamedForm Global). Keeps lts tree basis class c.args.names.now c.args.rows.now c.args.places.now (c.loop-i.i + 1) v.items) (sym w.forms-is)
-          (subst (Keeps lts tree basis class c.args.names.now c.args.rows.now c.args.places.now (c.loop-i.i + 1)) (sym pushed)
+          subst (λ (v : Vec NamedForm Global). Keeps lts tree basis class c.args.names.now rows c.args.places.now (c.loop-i.i + 1) v.items) (sym w.forms-is)
+          (subst (Keeps lts tree basis class c.args.names.now rows c.args.places.now (c.loop-i.i + 1)) (sym pushed)
           (record {
             so_far = subst (λ (xs : List Form). (r : Result (List Form) Wide) → each (form_fold lts tree basis class) (forms_in class (drop (c.loop-i.i + 1) (map row_name_of c.args.names.now))) r → each (form_fold lts tree basis class) (forms_in class (map row_name_of c.args.names.now)) (behind xs r)) (sym (map-append linear_form c.loop-i.forms.items (f ∷ [])))
-                (step_next lts tree basis class problem number c.args.names.now c.loop-i.i _ c.loop-i-test.true w.in-Some.form w.in-Some.ensures (expression_of w.expression-expression.result) w.expression-expression.ensures (map linear_form c.loop-i.forms.items) c.loop-i.invariant.so_far f (scaled_of scaled) (w.in_ok-scaled.ensures.value lts class same c.requires.columns) w.form_over.ensures.numbers.0 w.form_over.ensures.numbers.1 w.form_over.ensures.bounds.0 w.form_over.ensures.bounds.1);
+                (step_next lts tree basis class problem number c.args.names.now c.loop-i.i _ c.loop-i-test.true w.in-Some.form w.in-Some.ensures _ refl (map linear_form c.loop-i.forms.items) c.loop-i.invariant.so_far f (scaled_of scaled) w.in_ok-scaled.ensures.value w.form_over.ensures.numbers.0 w.form_over.ensures.numbers.1 w.form_over.ensures.bounds.0 w.form_over.ensures.bounds.1);
             splits = subst (λ (xs : List SplitForm). xs ++ forms_in class (drop (c.loop-i.i + 1) (map row_name_of c.args.names.now)) ≡ forms_in class (map row_name_of c.args.names.now)) (sym (map-append split_of c.loop-i.forms.items (f ∷ [])))
-                (step_named lts tree basis class problem number c.args.names.now c.loop-i.i _ c.loop-i-test.true w.in-Some.form w.in-Some.ensures (expression_of w.expression-expression.result) w.expression-expression.ensures (map split_of c.loop-i.forms.items) c.loop-i.invariant.splits f w.form_over.ensures.form);
+                (step_named lts tree basis class problem number c.args.names.now c.loop-i.i _ c.loop-i-test.true w.in-Some.form w.in-Some.ensures _ refl (map split_of c.loop-i.forms.items) c.loop-i.invariant.splits f w.form_over.ensures.form);
             made = All-append Made c.loop-i.forms.items (f ∷ []) c.loop-i.invariant.made (All-cons Made f [] one (All-nil Made));
           })))
       | in_default w ↦
           (let none = sym w.in_default.ensures in
           let next = next_name lts tree basis class problem number c.args.names.now c.loop-i.i _ c.loop-i-test.true in
-          subst (λ (v : Vec NamedForm Global). Keeps lts tree basis class c.args.names.now c.args.rows.now c.args.places.now (c.loop-i.i + 1) v.items) (sym w.forms-is)
+          subst (λ (v : Vec NamedForm Global). Keeps lts tree basis class c.args.names.now rows c.args.places.now (c.loop-i.i + 1) v.items) (sym w.forms-is)
           (record {
             so_far = form_skips class (form_fold lts tree basis class) (map row_name_of c.args.names.now) c.loop-i.i _ next (map linear_form c.loop-i.forms.items) c.loop-i.invariant.so_far none;
             splits = named_skips class (map row_name_of c.args.names.now) c.loop-i.i _ next (map split_of c.loop-i.forms.items) c.loop-i.invariant.splits none;

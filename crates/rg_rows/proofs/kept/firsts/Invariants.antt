@@ -1,10 +1,10 @@
 use Rattle.std.proofs.Common.{map, List}
 use Rattle.rg_order_of_work.specs.Rewriting.{KeptRow}
 use Rattle.rg_cycles.proofs.Firsts.{has_numbers}
-use Rattle.rg_rows.specs.View.{kept_row, ShowsRows}
+use Rattle.rg_rows.specs.View.{kept_row, row_in, ShowsRows}
 use Rattle.rg_rows.proofs.Keeping.{KeptSoFar}
 use Rattle.rg_rows.proofs.Placing.{PlacesSoFar}
 use Rattle.rg_rows.proofs.kept.firsts.Given as goal
 
-abbrev pub invariant-loop-i : goal.invariant-loop-i
-invariant-loop-i l = (kept : List KeptRow) × ShowsRows l.kept kept × KeptSoFar (map kept_row l.all) (has_numbers l.seen.keys) l.i kept × PlacesSoFar (map kept_row l.all) l.i kept l.seen.keys l.places.items
+abbrev pub invariant-loop-held : goal.invariant-loop-held
+invariant-loop-held l = (kept : List KeptRow) × ShowsRows l.kept kept × KeptSoFar (map kept_row (map row_in l.all)) (has_numbers l.seen.keys) l.held-index kept × PlacesSoFar (map kept_row (map row_in l.all)) l.held-index kept l.seen.keys l.places.items

@@ -1,42 +1,43 @@
-use Rattle.std.proofs.Common.{rules, ◌≡◌, ◌+◌, [], ◌∷◌, All, Ok, Err, map, length, ap, subst, sym, ◌∙◌}
+use Rattle.std.proofs.Common.{rules, ◌≡◌, ◌+◌, [], ◌∷◌, All, Ok, Err, map, length, ap, refl, subst, sym, ◌∙◌}
 use Rattle.std.proofs.lemmas.List.{length-map, length-append}
 use Rattle.std.proofs.lemmas.List.Elements.{All-nil, All-cons, All-append}
+use Rattle.rg_theory.specs.System.{states}
 use Rattle.rg_order_of_work.specs.Rewriting.{column_count}
 use Rattle.rg_refuting.specs.Row.{RowName.block_row}
 use Rattle.rg_reasons.specs.Trees.{row_name_of}
 use Rattle.rg_fraction.specs.declared.fold_stop.FoldStop.TheVariants as stop
 use Rattle.rg_cycles.specs.View.{cycle_of}
 use Rattle.rg_rows.specs.declared.case_row.CaseRow.{CaseRow}
-use Rattle.rg_reasons.specs.Sums.{expression_of}
-use Rattle.rg_rows.specs.View.{kept_row, fold_of}
+use Rattle.rg_rows.specs.View.{kept_row, row_in, fold_of}
 use Rattle.rg_cycles.proofs.Items.{map_push}
 use Rattle.rg_rows.proofs.Terms.{name_within}
 use Rattle.rg_cycles.proofs.Items.{item_next, item_fails, items_end}
 use Rattle.rg_rows.proofs.Making.{fold_told}
 use Rattle.rg_rows.proofs.named_system.rows.Goals as goal
 
-pub row-requires-clause-within : goal.row-requires-clause-within
-row-requires-clause-within c = name_within c.args.lts.now c.args.case.class c.args.case.problem c.args.case.number c.args.names.now c.loop-name.name-index _ _ c.args.tree.now.states c.requires.names c.loop-name-test.true (ap (λ e. e.terms) c.expression-expression.ensures) c.requires.tree.states
+pub row_in_case-requires-clause-within : goal.row_in_case-requires-clause-within
+row_in_case-requires-clause-within c = name_within c.args.lts.now c.args.case.class c.args.case.problem c.args.case.number c.args.names.now c.loop-name.name-index _ _ (states c.args.lts.now) c.requires.names c.loop-name-test.true refl refl
 
-pub returns-in_err-row-clause-wide : goal.returns-in_err-row-clause-wide
-returns-in_err-row-clause-wide c = λ w e.
-    let result : c.from_residual.result ≡ Err c.in_err-row.field-0.0 = search rules in
-    let is : c.in_err-row.field-0.0 ≡ stop.Wide w = cc in
-    let made = fold_told c.args.lts.now c.args.tree.now.arcs (cycle_of c.args.basis.now) c.args.case.class c.args.case.problem c.args.case.number c.args.names.now c.loop-name.name-index _ (expression_of c.expression-expression.result) c.loop-name-test.true c.expression-expression.ensures (Err w) (c.in_err-row.ensures.wide w (ap (λ x. Err x) is) c.args.lts.now c.args.case.class (sym c.requires.labels) c.requires.columns) in
-    item_fails (fold_of c.args.lts.now c.args.tree.now.arcs (cycle_of c.args.basis.now) c.args.case.class c.args.case.problem c.args.case.number) (map row_name_of c.args.names.now) c.loop-name.name-index _ (map kept_row c.loop-name.rows.items) c.loop-name.invariant.so_far (simp length-map c.loop-name-test.true) w made
+pub returns-in_err-row_in_case-clause-wide : goal.returns-in_err-row_in_case-clause-wide
+returns-in_err-row_in_case-clause-wide c = λ w e.
+    let result : c.from_residual.result ≡ Err c.in_err-row_in_case.field-0.0 = search rules in
+    let is : c.in_err-row_in_case.field-0.0 ≡ stop.Wide w = cc in
+    let made = fold_told c.args.lts.now c.args.tree.now.arcs (cycle_of c.args.basis.now) c.args.case.class c.args.case.problem c.args.case.number c.args.names.now c.loop-name.name-index _ c.loop-name-test.true (Err w) (c.in_err-row_in_case.ensures.wide w (ap (λ x. Err x) is)) in
+    item_fails (fold_of c.args.lts.now c.args.tree.now.arcs (cycle_of c.args.basis.now) c.args.case.class c.args.case.problem c.args.case.number) (map row_name_of c.args.names.now) c.loop-name.name-index _ (map kept_row (map row_in c.loop-name.rows.items)) c.loop-name.invariant.so_far (simp length-map c.loop-name-test.true) w made
 
 pub loop-name-preserved : goal.loop-name-preserved
 loop-name-preserved c =
     let rows = c.loop-name.rows.items in
-    let row = c.in_ok-row.field-0 in
+    let held = c.in_ok-row_in_case.field-0 in
+    let row = row_in held in
     let lengths = λ (r : CaseRow). length r.coeffs.items ≡ column_count c.args.lts.now (cycle_of c.args.basis.now) c.args.case.class in
-    let same = sym c.requires.labels in
-    let made = fold_told c.args.lts.now c.args.tree.now.arcs (cycle_of c.args.basis.now) c.args.case.class c.args.case.problem c.args.case.number c.args.names.now c.loop-name.name-index _ (expression_of c.expression-expression.result) c.loop-name-test.true c.expression-expression.ensures (Ok (kept_row row)) (c.in_ok-row.ensures.value c.args.lts.now c.args.case.class same c.requires.columns) in
+    let same = map_push row_in rows c.push.new.self.items held c.in_ok-push.ensures.items in
+    let made = fold_told c.args.lts.now c.args.tree.now.arcs (cycle_of c.args.basis.now) c.args.case.class c.args.case.problem c.args.case.number c.args.names.now c.loop-name.name-index _ c.loop-name-test.true (Ok (kept_row row)) c.in_ok-row_in_case.ensures.value in
     record {
-      so_far = rw (map_push kept_row rows c.push.new.self.items row c.in_ok-push.ensures.items) (item_next (fold_of c.args.lts.now c.args.tree.now.arcs (cycle_of c.args.basis.now) c.args.case.class c.args.case.problem c.args.case.number) (map row_name_of c.args.names.now) c.loop-name.name-index _ (map kept_row rows) c.loop-name.invariant.so_far (simp length-map c.loop-name-test.true) (kept_row row) made);
-      one_each = subst (All lengths) (sym c.in_ok-push.ensures.items) (All-append lengths rows (row ∷ []) c.loop-name.invariant.one_each (All-cons lengths row [] (c.in_ok-row.ensures.one_each c.args.lts.now c.args.case.class same c.requires.columns) (All-nil lengths)));
-      few = ap length c.in_ok-push.ensures.items ∙ length-append rows (row ∷ []) ∙ ap (λ n. n + 1) c.loop-name.invariant.few;
+      so_far = rw (map_push kept_row (map row_in rows) (map row_in c.push.new.self.items) row same) (item_next (fold_of c.args.lts.now c.args.tree.now.arcs (cycle_of c.args.basis.now) c.args.case.class c.args.case.problem c.args.case.number) (map row_name_of c.args.names.now) c.loop-name.name-index _ (map kept_row (map row_in rows)) c.loop-name.invariant.so_far (simp length-map c.loop-name-test.true) (kept_row row) made);
+      one_each = subst (All lengths) (sym same) (All-append lengths (map row_in rows) (row ∷ []) c.loop-name.invariant.one_each (All-cons lengths row [] c.in_ok-row_in_case.ensures.one_each (All-nil lengths)));
+      few = ap length c.in_ok-push.ensures.items ∙ length-append rows (held ∷ []) ∙ ap (λ n. n + 1) c.loop-name.invariant.few;
     }
 
 pub returns-clause-value : goal.returns-clause-value
-returns-clause-value c = items_end (fold_of c.args.lts.now c.args.tree.now.arcs (cycle_of c.args.basis.now) c.args.case.class c.args.case.problem c.args.case.number) (map row_name_of c.args.names.now) c.loop-name.name-index block_row (map kept_row c.loop-name.rows.items) c.loop-name.invariant.so_far (simp length-map c.loop-name-test.false)
+returns-clause-value c = items_end (fold_of c.args.lts.now c.args.tree.now.arcs (cycle_of c.args.basis.now) c.args.case.class c.args.case.problem c.args.case.number) (map row_name_of c.args.names.now) c.loop-name.name-index block_row (map kept_row (map row_in c.loop-name.rows.items)) c.loop-name.invariant.so_far (simp length-map c.loop-name-test.false)

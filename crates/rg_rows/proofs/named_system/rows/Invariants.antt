@@ -5,14 +5,14 @@ use Rattle.rg_order_of_work.specs.Rewriting.{KeptRow, column_count}
 use Rattle.rg_reasons.specs.Trees.{row_name_of}
 use Rattle.rg_cycles.specs.View.{cycle_of}
 use Rattle.rg_cycles.proofs.Folding.{behind}
-use Rattle.rg_rows.specs.View.{kept_row, fold_of}
+use Rattle.rg_rows.specs.View.{kept_row, row_in, fold_of}
 use Rattle.rg_rows.proofs.named_system.rows.Given as goal
 
 abbrev pub invariant-loop-name : goal.invariant-loop-name
 invariant-loop-name l = record {
   so_far : (r : Result (List KeptRow) Wide)
       → each (fold_of l.lts l.tree.arcs (cycle_of l.basis) l.case.class l.case.problem l.case.number) (drop l.name-index (map row_name_of l.names)) r
-      → each (fold_of l.lts l.tree.arcs (cycle_of l.basis) l.case.class l.case.problem l.case.number) (map row_name_of l.names) (behind (map kept_row l.rows.items) r);
-  one_each : All (λ r. length r.coeffs.items ≡ column_count l.lts (cycle_of l.basis) l.case.class) l.rows.items;
+      → each (fold_of l.lts l.tree.arcs (cycle_of l.basis) l.case.class l.case.problem l.case.number) (map row_name_of l.names) (behind (map kept_row (map row_in l.rows.items)) r);
+  one_each : All (λ r. length r.coeffs.items ≡ column_count l.lts (cycle_of l.basis) l.case.class) (map row_in l.rows.items);
   few : length l.rows.items ≡ l.name-index;
 }

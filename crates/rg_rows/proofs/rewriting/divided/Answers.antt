@@ -19,9 +19,11 @@ invariant_of-result c =
     let (g, part) = c.reduce.ensures.part in
     let whole : c.push.new.self.len ≡ length old = omega arith in
     let given = c.deref_mut.ensures.value in
-    let parted = c.parted-coeffs.ensures ∙ written_back new old c.push.new.self.len (part.same_length ∙ ap length given) whole in
-    let (coeffs, constant) = parts_in_range c.parted-coeffs.result.0.items c.parted-coeffs.result.1 new (length c.deref_mut.result.now) parted part.same_length c.reduce.ensures.in_range in
-    record { coeffs_in_range = coeffs; constant_in_range = subst InRange (sym (back c.parted-coeffs.result.1 constant)) constant }
+    let coeffs_are = c.in_ok-coeffs.coeffs.items in
+    let constant_is = c.in_ok-coeffs.constant in
+    let parted = c.in_ok-coeffs.ensures ∙ c.deref-2.ensures.value ∙ written_back new old c.push.new.self.len (part.same_length ∙ ap length given) whole in
+    let (coeffs, constant) = parts_in_range coeffs_are constant_is new (length c.deref_mut.result.now) parted part.same_length c.reduce.ensures.in_range in
+    record { coeffs_in_range = coeffs; constant_in_range = subst InRange (sym (back constant_is constant)) constant; numbers_are = sym (ap (λ z. coeffs_are ++ z ∷ []) (back constant_is constant) ∙ c.in_ok-coeffs.ensures ∙ c.deref-2.ensures.value) }
 
 pub returns-clause-value : goal.returns-clause-value
 returns-clause-value c =
@@ -32,8 +34,10 @@ returns-clause-value c =
     let whole : c.push.new.self.len ≡ length old = omega arith in
     let given = c.deref_mut.ensures.value in
     let items : old ≡ numbers ++ c.args.constant ∷ [] = c.in_ok-push.ensures.items ∙ ap (λ z. numbers ++ z ∷ []) (back c.args.constant c.requires) in
-    let parted = c.parted-coeffs.ensures ∙ written_back new old c.push.new.self.len (part.same_length ∙ ap length given) whole in
-    let (coeffs, constant) = parts_in_range c.parted-coeffs.result.0.items c.parted-coeffs.result.1 new (length c.deref_mut.result.now) parted part.same_length c.reduce.ensures.in_range in
+    let coeffs_are = c.in_ok-coeffs.coeffs.items in
+    let constant_is = c.in_ok-coeffs.constant in
+    let parted = c.in_ok-coeffs.ensures ∙ c.deref-2.ensures.value ∙ written_back new old c.push.new.self.len (part.same_length ∙ ap length given) whole in
+    let (coeffs, constant) = parts_in_range coeffs_are constant_is new (length c.deref_mut.result.now) parted part.same_length c.reduce.ensures.in_range in
     let divisor = c.row_gcd-divisor.result in
     let small = c.row_gcd-divisor.ensures.in_range in
     let g = unsigned_abs divisor in
@@ -46,6 +50,6 @@ returns-clause-value c =
       row_divided (scaled_of c.args.scaled) c.args.constant new g h _
           (subst (λ l. IsRowGcd l g) (c.deref.ensures.value ∙ items) c.row_gcd-divisor.ensures.value)
           (subst (λ l. IsPrimitivePart l new h) (given ∙ items) part)
-          (ap (λ z. c.parted-coeffs.result.0.items ++ z ∷ []) (back c.parted-coeffs.result.1 constant) ∙ parted)
+          (ap (λ z. coeffs_are ++ z ∷ []) (back constant_is constant) ∙ parted)
           (new_step c.new.result c.args.scaled.multiple (pos (max g 1)) (positive_differs (pos (max g 1)) positive) value),
     )

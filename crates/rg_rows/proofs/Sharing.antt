@@ -1,0 +1,128 @@
+-- The rows and forms that all problems share, in a case of each of them.
+use Rattle.std.proofs.Common.{◌≡◌, ℕ, zero, suc, ◌<◌, is_some, Bool, true, false, if◌then◌else◌, Bor, Option, Some, None, List, [], ◌∷◌, ◌++◌, map, length, All, Result, Ok, Err, ap, refl, subst, sym, ◌∙◌, arith}
+use Rattle.std.specs.Prelude.{slice_get, slice_index_or, IfOk, IfSome, IsErrOf}
+use Rattle.std.specs.Slice.{IsGetResult}
+use Rattle.std.proofs.lemmas.List.{get_or-map}
+use Rattle.rg_theory.specs.declared.Arc.{Arc}
+use Rattle.rg_theory.specs.declared.Class.{Class}
+use Rattle.rg_theory.specs.declared.Problem.{Problem}
+use Rattle.rg_theory.specs.declared.Problem.TheVariants.{Event, States}
+use Rattle.rg_theory.specs.System.{System, states, labels}
+use Rattle.rg_fraction.specs.declared.term.Wide.{Wide}
+use Rattle.rg_fraction.specs.declared.fold_stop.FoldStop.{FoldStop}
+use Rattle.rg_fraction.specs.declared.fold_stop.FoldStop.TheVariants as stop
+use Rattle.rg_linear.specs.Cycle.{CycleBasis}
+use Rattle.rg_refuting.specs.Expression.{Expression, Variable.tokens_at, plus, minus}
+use Rattle.rg_refuting.specs.Row.{RowName, row_expression, shared_expression}
+use Rattle.rg_order_of_work.specs.Fold.{shown_result}
+use Rattle.rg_order_of_work.specs.Rewriting.{has_start, column_count, terms_fold, row_fold}
+use Rattle.rg_denominators.specs.declared.scaled.Scaled.{Scaled}
+use Rattle.rg_denominators.specs.View.{scaled_of}
+use Rattle.rg_expressions.specs.View.{TermNamesStateBelow}
+use Rattle.rg_columns.specs.declared.columns.Columns.{Columns}
+use Rattle.rg_columns.specs.View.{AreColumns}
+use Rattle.rg_rows.specs.declared.case_row.CaseRow.{CaseRow}
+use Rattle.rg_rows.specs.declared.held_row.HeldRow.{HeldRow}
+use Rattle.rg_rows.specs.declared.kind.Kind.{Kind}
+use Rattle.rg_rows.specs.declared.kind.Kind.TheVariants as kind
+use Rattle.rg_rows.specs.View.{kept_row, row_in}
+use Rattle.rg_rows.specs.Sharing.{or_wide, row_of_kind, rows_of_kind, forms_of_kind, IsSharedRow, AreSharedTerms, AreRowsOfKind, AreTermsOfKind, IsCommonOf, IsRowInCase, AreTermsInCase}
+use Rattle.rg_reasons.proofs.Places.{get_is}
+use Rattle.rg_rows.specs.declared.common.Common.{Common}
+use Rattle.rg_rows.proofs.Terms.{one}
+
+-- ---- what the rows of a kind say
+
+-- it is the same in each case of each problem
+pub shared_in_case : (lts : System) (class : Class) (problem : Problem) (number : ℕ) (k : Kind) (i : ℕ) → row_expression lts class problem number [] (row_of_kind k i) ≡ shared_expression lts class [] (row_of_kind k i)
+shared_in_case lts class (Event s t) number kind.Tokens i = refl
+shared_in_case lts class (Event s t) number kind.Cap i = refl
+shared_in_case lts class (Event s t) number kind.Up i = refl
+shared_in_case lts class (Event s t) number kind.Down i = refl
+shared_in_case lts class (Event s t) number kind.Makes i = refl
+shared_in_case lts class (States s s') number kind.Tokens i = refl
+shared_in_case lts class (States s s') number kind.Cap i = refl
+shared_in_case lts class (States s s') number kind.Up i = refl
+shared_in_case lts class (States s s') number kind.Down i = refl
+shared_in_case lts class (States s s') number kind.Makes i = refl
+
+-- its terms name states of the system
+below_if : (b : Bool) (n m : ℕ) → m < (if b then n else 0) → m < n
+below_if true n m lt = lt
+below_if false n m lt = absurd (omega arith)
+
+abbrev Within : System → Class → Kind → ℕ → Type 0
+Within lts class k i = All (TermNamesStateBelow (states lts)) (shared_expression lts class [] (row_of_kind k i)).terms
+
+pub row_within : (lts : System) (class : Class) (k : Kind) (i : ℕ) → i < rows_of_kind lts class k → Within lts class k i
+row_within lts class kind.Tokens i lt = one (states lts) (plus (tokens_at i)) (below_if (has_start class) (states lts) i lt)
+row_within lts class kind.Cap i lt = one (states lts) (minus (tokens_at i)) (below_if (is_some class.bound) (states lts) i lt)
+row_within lts class kind.Up i lt = one (states lts) _ tt
+row_within lts class kind.Down i lt = one (states lts) _ tt
+row_within lts class kind.Makes i lt = one (states lts) _ tt
+
+pub terms_within : (lts : System) (class : Class) (k : Kind) (i : ℕ) → i < forms_of_kind lts class k → Within lts class k i
+terms_within lts class kind.Tokens i lt = one (states lts) (plus (tokens_at i)) (below_if (is_some class.bound) (states lts) i lt)
+terms_within lts class kind.Cap i lt = absurd (omega arith)
+terms_within lts class kind.Up i lt = absurd (omega arith)
+terms_within lts class kind.Down i lt = one (states lts) _ tt
+terms_within lts class kind.Makes i lt = absurd (omega arith)
+
+-- ---- written once
+
+module _ (lts : System) (tree : List Arc) (basis : CycleBasis) (class : Class) (name : RowName) (e : Expression) (is : e ≡ shared_expression lts class [] name) (n : ℕ) (same : labels lts ≡ n) (columns : Columns) (are : AreColumns lts class columns) where
+  pub row_shared : (result : Result CaseRow FoldStop) (w : Result CaseRow Wide) → result ≡ or_wide w
+      → IfOk result (λ r. (lts : System) (class : Class) → labels lts ≡ n → AreColumns lts class columns → row_fold lts tree basis class name e (Ok (kept_row r)))
+      → IfOk result (λ r. (lts : System) (class : Class) → labels lts ≡ n → AreColumns lts class columns → length r.coeffs.items ≡ column_count lts basis class)
+      → ((x : Wide) → IsErrOf result (stop.Wide x) → (lts : System) (class : Class) → labels lts ≡ n → AreColumns lts class columns → row_fold lts tree basis class name e (Err x))
+      → IsSharedRow lts tree basis class name w
+  row_shared result (Ok r) so value one_each wide = (
+    subst (λ x. row_fold lts tree basis class name x (Ok (kept_row r))) is (subst (λ y. IfOk y (λ r. (lts : System) (class : Class) → labels lts ≡ n → AreColumns lts class columns → row_fold lts tree basis class name e (Ok (kept_row r)))) so value lts class same are),
+    subst (λ y. IfOk y (λ r. (lts : System) (class : Class) → labels lts ≡ n → AreColumns lts class columns → length r.coeffs.items ≡ column_count lts basis class)) so one_each lts class same are,
+  )
+  row_shared result (Err x) so value one_each wide = (subst (λ y. row_fold lts tree basis class name y (Err x)) is (wide x so lts class same are), tt)
+
+  pub terms_shared : (result : Result Scaled FoldStop) (w : Result Scaled Wide) → result ≡ or_wide w
+      → IfOk result (λ s. (lts : System) (class : Class) → labels lts ≡ n → AreColumns lts class columns → terms_fold lts tree basis class e.terms (Ok (scaled_of s)))
+      → IfOk result (λ s. (lts : System) (class : Class) → labels lts ≡ n → AreColumns lts class columns → length s.numbers.items ≡ column_count lts basis class)
+      → ((x : Wide) → IsErrOf result (stop.Wide x) → (lts : System) (class : Class) → labels lts ≡ n → AreColumns lts class columns → terms_fold lts tree basis class e.terms (Err x))
+      → AreSharedTerms lts tree basis class name w
+  terms_shared result (Ok s) so value one_each wide = (
+    subst (λ (x : Expression). terms_fold lts tree basis class x.terms (Ok (scaled_of s))) is (subst (λ y. IfOk y (λ s. (lts : System) (class : Class) → labels lts ≡ n → AreColumns lts class columns → terms_fold lts tree basis class e.terms (Ok (scaled_of s)))) so value lts class same are),
+    subst (λ y. IfOk y (λ s. (lts : System) (class : Class) → labels lts ≡ n → AreColumns lts class columns → length s.numbers.items ≡ column_count lts basis class)) so one_each lts class same are,
+  )
+  terms_shared result (Err x) so value one_each wide = (subst (λ (y : Expression). terms_fold lts tree basis class y.terms (Err x)) is (wide x so lts class same are), tt)
+
+-- what holds of each item and its place holds with one item more
+pub each_pushed : {T : Type 0} (P : ℕ → T → Type 0) (xs : List T) (x : T) → ((i : ℕ) (y : T) → slice_get xs i ≡ Some y → P i y) → P (length xs) x → (i : ℕ) (y : T) → slice_get (xs ++ x ∷ []) i ≡ Some y → P i y
+each_pushed {T} P [] x each here zero y e = subst (P 0) (only e) here
+  where
+    only : Some x ≡ Some y → x ≡ y
+    only e = cc
+each_pushed P [] x each here (suc i) y e = cc
+each_pushed P (z ∷ xs) x each here zero y e = each zero y e
+each_pushed P (z ∷ xs) x each here (suc i) y e = each_pushed (λ j. P (suc j)) xs x (λ j v at. each (suc j) v at) here i y e
+
+-- ---- in a case
+
+module _ (lts : System) (tree : List Arc) (basis : CycleBasis) (class : Class) (problem : Problem) (number : ℕ) (k : Kind) (i : ℕ) where
+  pub row_in_case_is : (rows : List (Result CaseRow Wide)) (written : Result CaseRow Wide) → AreRowsOfKind lts tree basis class k rows → slice_get rows i ≡ Some written → IsRowInCase lts tree basis class problem number (row_of_kind k i) written
+  row_in_case_is rows written are at = (subst (λ e. row_fold lts tree basis class (row_of_kind k i) e (shown_result kept_row written)) (sym (shared_in_case lts class problem number k i)) (are.each i written at).0, (are.each i written at).1)
+
+  pub terms_in_case_are : (terms : List (Result Scaled Wide)) (written : Result Scaled Wide) → AreTermsOfKind lts tree basis class k terms → slice_get terms i ≡ Some written → AreTermsInCase lts tree basis class problem number (row_of_kind k i) written
+  terms_in_case_are terms written are at = (subst (λ (e : Expression). terms_fold lts tree basis class e.terms (shown_result scaled_of written)) (sym (shared_in_case lts class problem number k i)) (are.each i written at).0, (are.each i written at).1)
+
+-- what is found in a table
+module _ (common : Common) (k : Kind) (i : ℕ) where
+  pub row_found : (rows : List (Result CaseRow Wide)) → ((lts : System) (tree : List Arc) (basis : CycleBasis) (class : Class) → IsCommonOf lts tree basis class common → AreRowsOfKind lts tree basis class k rows) → (found : Option (Bor (Result CaseRow Wide))) → IsGetResult rows i i found → IfSome found (λ r. (lts : System) (tree : List Arc) (basis : CycleBasis) (class : Class) (problem : Problem) (number : ℕ) → IsCommonOf lts tree basis class common → IsRowInCase lts tree basis class problem number (row_of_kind k i) r.now)
+  row_found rows are None told = tt
+  row_found rows are (Some r) told = λ lts tree basis class problem number is. row_in_case_is lts tree basis class problem number k i rows r.now (are lts tree basis class is) (sym (get_is rows i (Some r) told))
+
+  pub terms_found : (terms : List (Result Scaled Wide)) → ((lts : System) (tree : List Arc) (basis : CycleBasis) (class : Class) → IsCommonOf lts tree basis class common → AreTermsOfKind lts tree basis class k terms) → (found : Option (Bor (Result Scaled Wide))) → IsGetResult terms i i found → IfSome found (λ r. (lts : System) (tree : List Arc) (basis : CycleBasis) (class : Class) (problem : Problem) (number : ℕ) → IsCommonOf lts tree basis class common → AreTermsInCase lts tree basis class problem number (row_of_kind k i) r.now)
+  terms_found terms are None told = tt
+  terms_found terms are (Some r) told = λ lts tree basis class problem number is. terms_in_case_are lts tree basis class problem number k i terms r.now (are lts tree basis class is) (sym (get_is terms i (Some r) told))
+
+-- ---- the rows that a case holds
+
+pub held_is : (all : List HeldRow) (i : ℕ) (held : HeldRow) (row : CaseRow) → i < length all → held ≡ slice_index_or all i held → row ≡ row_in held → row ≡ slice_index_or (map row_in all) i row
+held_is all i held row lt at is = is ∙ ap row_in at ∙ sym (get_or-map row_in all i held row lt)

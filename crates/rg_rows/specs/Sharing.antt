@@ -1,0 +1,100 @@
+-- The rows and forms that all problems of a system and a class share.
+use Rattle.std.specs.Prelude.{◌≡◌, ℕ, ◌&&◌, not, is_some, if◌then◌else◌, List, [], length, Some, slice_get, Result, Ok, Err, IfOk}
+use Rattle.rg_theory.specs.declared.Arc.{Arc}
+use Rattle.rg_theory.specs.declared.Class.{Class}
+use Rattle.rg_theory.specs.declared.Problem.{Problem}
+use Rattle.rg_theory.specs.System.{System, states, labels}
+use Rattle.rg_fraction.specs.declared.term.Wide.{Wide}
+use Rattle.rg_fraction.specs.declared.fold_stop.FoldStop.{FoldStop}
+use Rattle.rg_fraction.specs.declared.fold_stop.FoldStop.TheVariants as stop
+use Rattle.rg_linear.specs.Cycle.{CycleBasis}
+use Rattle.rg_refuting.specs.Row.{RowName, RowName.tokens_row, RowName.cap_row, RowName.up_row, RowName.down_row, RowName.makes_row, shared_expression, row_expression}
+use Rattle.rg_order_of_work.specs.Fold.{shown_result}
+use Rattle.rg_order_of_work.specs.Rewriting.{has_start, column_count, terms_fold, row_fold}
+use Rattle.rg_denominators.specs.declared.scaled.Scaled.{Scaled}
+use Rattle.rg_denominators.specs.View.{scaled_of}
+use Rattle.rg_columns.specs.View.{AreColumns}
+use Rattle.rg_rows.specs.declared.case_row.CaseRow.{CaseRow}
+use Rattle.rg_rows.specs.declared.kind.Kind.{Kind}
+use Rattle.rg_rows.specs.declared.kind.Kind.TheVariants as kind
+use Rattle.rg_rows.specs.declared.common.Common.{Common}
+use Rattle.rg_rows.specs.View.{kept_row, fold_of}
+
+-- a value, or a step out of range as the reason for none
+abbrev pub or_wide : {T : Type 0} → Result T Wide → Result T FoldStop
+or_wide (Ok value) = Ok value
+or_wide (Err w) = Err (stop.Wide w)
+
+-- ---- the kinds of rows that speak of no problem
+
+-- the row of a state or a label
+abbrev pub row_of_kind : Kind → ℕ → RowName
+row_of_kind kind.Tokens q = tokens_row q
+row_of_kind kind.Cap q = cap_row q
+row_of_kind kind.Up t = up_row t
+row_of_kind kind.Down t = down_row t
+row_of_kind kind.Makes t = makes_row t
+
+-- how many a class has, where each label has an arc
+abbrev pub rows_of_kind : System → Class → Kind → ℕ
+rows_of_kind lts class kind.Tokens = if has_start class then states lts else 0
+rows_of_kind lts class kind.Cap = if is_some class.bound then states lts else 0
+rows_of_kind lts class kind.Up = if class.plain then labels lts else 0
+rows_of_kind lts class kind.Down = if class.plain then labels lts else 0
+rows_of_kind lts class kind.Makes = if class.nonbranching then labels lts else 0
+
+-- how many of them have the terms of a form
+abbrev pub forms_of_kind : System → Class → Kind → ℕ
+forms_of_kind lts class kind.Tokens = if is_some class.bound then states lts else 0
+forms_of_kind lts class kind.Cap = 0
+forms_of_kind lts class kind.Up = 0
+forms_of_kind lts class kind.Down = if class.plain && not (is_some class.bound) then labels lts else 0
+forms_of_kind lts class kind.Makes = 0
+
+-- ---- written over the columns
+
+-- the row, or the first step of its fold out of range
+abbrev pub IsSharedRow : System → List Arc → CycleBasis → Class → RowName → Result CaseRow Wide → Type 0
+IsSharedRow lts tree basis class name written =
+    row_fold lts tree basis class name (shared_expression lts class [] name) (shown_result kept_row written)
+    × IfOk written (λ r. length r.coeffs.items ≡ column_count lts basis class)
+
+-- the terms of the row without denominators, or the first step of theirs
+abbrev pub AreSharedTerms : System → List Arc → CycleBasis → Class → RowName → Result Scaled Wide → Type 0
+AreSharedTerms lts tree basis class name written =
+    terms_fold lts tree basis class (shared_expression lts class [] name).terms (shown_result scaled_of written)
+    × IfOk written (λ s. length s.numbers.items ≡ column_count lts basis class)
+
+-- one for each state or label, in order
+pub record AreRowsOfKind (lts : System) (tree : List Arc) (basis : CycleBasis) (class : Class) (kind : Kind) (rows : List (Result CaseRow Wide)) : Type 0 where
+  pub many : length rows ≡ rows_of_kind lts class kind
+  pub each : (i : ℕ) (written : Result CaseRow Wide) → slice_get rows i ≡ Some written → IsSharedRow lts tree basis class (row_of_kind kind i) written
+
+pub record AreTermsOfKind (lts : System) (tree : List Arc) (basis : CycleBasis) (class : Class) (kind : Kind) (terms : List (Result Scaled Wide)) : Type 0 where
+  pub many : length terms ≡ forms_of_kind lts class kind
+  pub each : (i : ℕ) (written : Result Scaled Wide) → slice_get terms i ≡ Some written → AreSharedTerms lts tree basis class (row_of_kind kind i) written
+
+-- the rows and forms that all problems of the system and the class share, over the tree and the basis
+pub record IsCommonOf (lts : System) (tree : List Arc) (basis : CycleBasis) (class : Class) (common : Common) : Type 0 where
+  pub columns : AreColumns lts class common.columns
+  pub tokens : AreRowsOfKind lts tree basis class kind.Tokens common.tokens.items
+  pub caps : AreRowsOfKind lts tree basis class kind.Cap common.caps.items
+  pub ups : AreRowsOfKind lts tree basis class kind.Up common.ups.items
+  pub downs : AreRowsOfKind lts tree basis class kind.Down common.downs.items
+  pub makes : AreRowsOfKind lts tree basis class kind.Makes common.makes.items
+  pub token_terms : AreTermsOfKind lts tree basis class kind.Tokens common.token_terms.items
+  pub effect_terms : AreTermsOfKind lts tree basis class kind.Down common.effect_terms.items
+
+-- ---- in a case
+
+-- the named row of the case, or the first step of its fold out of range
+abbrev pub IsRowInCase : System → List Arc → CycleBasis → Class → Problem → ℕ → RowName → Result CaseRow Wide → Type 0
+IsRowInCase lts tree basis class problem number name written =
+    fold_of lts tree basis class problem number name (shown_result kept_row written)
+    × IfOk written (λ r. length r.coeffs.items ≡ column_count lts basis class)
+
+-- its terms without denominators, or the first step of theirs
+abbrev pub AreTermsInCase : System → List Arc → CycleBasis → Class → Problem → ℕ → RowName → Result Scaled Wide → Type 0
+AreTermsInCase lts tree basis class problem number name written =
+    terms_fold lts tree basis class (row_expression lts class problem number [] name).terms (shown_result scaled_of written)
+    × IfOk written (λ s. length s.numbers.items ≡ column_count lts basis class)
