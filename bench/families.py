@@ -1,65 +1,28 @@
 #!/usr/bin/env python3
 """Families of systems: writes one, or measures the program on all of them.
 
-    bench/families.py write doubling 100 > doubling100.apt
+    bench/families.py write philosophers 6 > philosophers6.apt
     bench/families.py run crates/regions/out/regions [none pure ..]
     bench/families.py beside EARLIER crates/regions/out/regions [none pure ..]
     bench/families.py jobs crates/regions/out/regions [none pure ..]
+    bench/families.py solved crates/solving_bench/out/solving_bench [none pure ..]
 
 `run` prints for each system and class (`none`, `pure`, `safe` and `pure,plain,safe`, unless classes are named) the status, the
 seconds, the peak memory as GNU time tells it, the numbers of states and of separation problems, how many places the net has or how
 many nodes (splits and leaves) the certificate's trees, and what err says. `beside` runs an earlier program first, and prints its
 seconds, memory and places in columns of their own: a program that prunes no places shows how many are found. `jobs` prints the
-seconds and the memory with 1, 2, 4 and 16 jobs, and says so where the bytes differ, which they never may. It is run by hand and is no
-test.
+seconds and the memory with 1, 2, 4 and 16 jobs, and says so where the bytes differ, which they never may. `solved` prints how many
+problems are solved with two jobs, as a gate counts them, beside the places of the net. It is run by hand and is no test.
+
+The systems `grid`, `doubling` and `lock` come from `generate` of the program (the last one named); the others are written here.
 """
 import itertools
 import os
+import re
 import subprocess
 import sys
 import tempfile
 import time
-
-
-def grid(n):
-    name = lambda i, j: f'g{i}_{j}'
-    states = [name(i, j) for i in range(n + 1) for j in range(n + 1)]
-    arcs = []
-    for i in range(n + 1):
-        for j in range(n + 1):
-            if i < n:
-                arcs.append((name(i, j), 'right', name(i + 1, j)))
-            if j < n:
-                arcs.append((name(i, j), 'up', name(i, j + 1)))
-    return states, ['right', 'up'], arcs
-
-
-def doubling(n):
-    states, arcs = ['q0'], []
-    for i in range(1, n + 1):
-        states += [f'm{i}', f'q{i}']
-        arcs += [
-            (f'q{i-1}', f'a{i-1}', f'm{i}'),
-            (f'm{i}', f'a{i-1}', f'q{i}'),
-            (f'q{i-1}', f'a{i}', f'q{i}'),
-        ]
-    return states, [f'a{i}' for i in range(n + 1)], arcs
-
-
-def lock(n):
-    words = [w for w in map(''.join, itertools.product('iwc', repeat=n)) if w.count('c') <= 1]
-    labels = [f'{verb}{k}' for k in range(1, n + 1) for verb in ('ask', 'get', 'put')]
-    arcs = []
-    for w in words:
-        for k in range(n):
-            put = lambda letter: w[:k] + letter + w[k + 1:]
-            if w[k] == 'i':
-                arcs.append((w, f'ask{k+1}', put('w')))
-            elif w[k] == 'w' and 'c' not in w:
-                arcs.append((w, f'get{k+1}', put('c')))
-            elif w[k] == 'c':
-                arcs.append((w, f'put{k+1}', put('i')))
-    return words, labels, arcs
 
 
 def philosophers(n):
@@ -109,16 +72,67 @@ def prefixes(n):
     return states, ['c', 'd'] + [f't{i}' for i in range(n + 1)], arcs
 
 
+def chain(n):
+    """So many labels, one after the other."""
+    return [f's{i}' for i in range(n + 1)], [f't{i}' for i in range(n)], [(f's{i}', f't{i}', f's{i+1}') for i in range(n)]
+
+
+def ring(n):
+    """So many labels, one after the other, and again."""
+    return [f's{i}' for i in range(n)], [f't{i}' for i in range(n)], [(f's{i}', f't{i}', f's{(i+1) % n}') for i in range(n)]
+
+
+def rings(n):
+    """So many rings of five labels each, side by side."""
+    states = list(itertools.product(range(5), repeat=n))
+    name = lambda places: 's' + '_'.join(map(str, places))
+    arcs = []
+    for places in states:
+        for k in range(n):
+            to = places[:k] + ((places[k] + 1) % 5,) + places[k + 1:]
+            arcs.append((name(places), f't{k}_{places[k]}', name(to)))
+    return [name(places) for places in states], [f't{k}_{i}' for k in range(n) for i in range(5)], arcs
+
+
+def halves(n):
+    """So many levels of two arcs beside one, a fresh label, and a third more levels of three arcs beside one: with 42, many problems
+    show a number out of range, and a place that is kept separates each of them in the end."""
+    states, labels, arcs, at = ['s0'], [], [], 's0'
+    for k, (factor, levels) in enumerate(((2, n), (3, n + n // 3))):
+        if k:
+            states.append('s1')
+            arcs.append((at, 'c1', 's1'))
+            at = 's1'
+        for i in range(1, levels + 1):
+            way = [at, *(f'u{k}_{i}_{j}' for j in range(1, factor)), f'r{k}_{i}']
+            states += way[1:]
+            arcs += [(a, f'a{k}_{i}', b) for a, b in zip(way, way[1:])]
+            arcs.append((at, f'a{k}_{i-1}', way[-1]))
+            at = way[-1]
+        labels += [f'a{k}_{i}' for i in range(levels, -1, -1)]
+    return states, ['c1'] + labels, arcs
+
+
+GENERATED = ('grid', 'doubling', 'lock')
 CLASSES = ('none', 'pure', 'safe', 'pure,plain,safe')
-FAMILIES = {'grid': grid, 'doubling': doubling, 'lock': lock, 'philosophers': philosophers,
-            'star': star, 'word': word, 'prefixes': prefixes}
-SIZES = {'grid': (10, 20, 40, 63), 'lock': (2, 3, 4, 5, 6), 'doubling': (20, 40), 'philosophers': (3, 4, 5, 6),
-         'star': (40, 120), 'word': (60, 200), 'prefixes': (10, 30)}
+FAMILIES = {'philosophers': philosophers, 'star': star, 'word': word, 'prefixes': prefixes, 'chain': chain, 'ring': ring,
+            'rings': rings, 'halves': halves}
+SIZES = {'grid': (10, 20, 40, 63), 'lock': (2, 3, 4, 5, 6), 'doubling': (20, 40, 100, 127), 'philosophers': (3, 4, 5, 6),
+         'star': (40, 120), 'word': (60, 200), 'prefixes': (10, 30), 'chain': (60, 120), 'ring': (60, 120), 'rings': (3, 4),
+         'halves': (42,)}
 
 
 def text(states, labels, arcs):
     lines = ['.type LTS', '.states', states[0] + '[initial]', *states[1:], '.labels', *labels, '.arcs']
     return '\n'.join(lines + [' '.join(a) for a in arcs]) + '\n'
+
+
+def parsed(system):
+    """The states, labels and arcs of an APT text."""
+    lines = system.split('\n')
+    states, labels, arcs = (lines.index(section) for section in ('.states', '.labels', '.arcs'))
+    names = [line.removesuffix('[initial]') for line in lines[states + 1:labels]]
+    return names, lines[labels + 1:arcs], [tuple(line.split()) for line in lines[arcs + 1:] if line]
 
 
 def problems(states, labels, arcs):
@@ -149,22 +163,29 @@ def nodes(out):
     return sum(line == 'leaf' or line.startswith('split ') for line in out.decode().split('\n'))
 
 
-def systems(folder):
+def written(program, family, n):
+    """The text of a system."""
+    if family in GENERATED:
+        return subprocess.run([program, 'generate', family, str(n)], capture_output=True, check=True).stdout.decode()
+    return text(*FAMILIES[family](n))
+
+
+def systems(folder, program):
     """Each system with its file."""
     for family, sizes in SIZES.items():
         for n in sizes:
-            system = FAMILIES[family](n)
+            system = written(program, family, n)
             path = os.path.join(folder, f'{family}{n}.apt')
             with open(path, 'w') as file:
-                file.write(text(*system))
-            yield f'{family} {n}', system, path
+                file.write(system)
+            yield f'{family} {n}', parsed(system), path
 
 
 def run(programs, classes):
     columns = ['status', 'seconds', 'MiB', 'places', 'nodes'] * len(programs)
     print(' | '.join(['family', 'class', 'states', 'problems', *columns, 'err']))
     with tempfile.TemporaryDirectory() as folder:
-        for name, system, path in systems(folder):
+        for name, system, path in systems(folder, programs[-1]):
             for class_word in classes:
                 line = [name, class_word, f'{len(system[0]):,}', f'{problems(*system):,}']
                 for program in programs:
@@ -178,7 +199,7 @@ def with_jobs(program, classes):
     columns = [f'{what} with {count}' for count in counts for what in ('seconds', 'MiB')]
     print(' | '.join(['family', 'class', 'status', *columns]))
     with tempfile.TemporaryDirectory() as folder:
-        for name, _, path in systems(folder):
+        for name, _, path in systems(folder, program):
             for class_word in classes:
                 ran = [measure(program, class_word, path, '--jobs', count) for count in counts]
                 line = [name, class_word, str(ran[0][0])]
@@ -186,6 +207,17 @@ def with_jobs(program, classes):
                 if any((one[0], one[3]) != (ran[0][0], ran[0][3]) for one in ran):
                     line.append('THE BYTES DIFFER')
                 print(' | '.join(line), flush=True)
+
+
+def solved(program, classes):
+    print(' | '.join(['family', 'class', 'status', 'problems', 'solved with 2 jobs', 'places']))
+    with tempfile.TemporaryDirectory() as folder:
+        for name, system, path in systems(folder, program):
+            for class_word in classes:
+                ran = subprocess.run([program, 'synthesize', class_word, path, '--jobs', '2'], capture_output=True)
+                last = ran.stderr.decode().strip().split('\n')[-1]
+                status, entered = re.fullmatch(r'status (\d+), (\d+) problems entered', last).groups()
+                print(f'{name} | {class_word} | {status} | {problems(*system):,} | {int(entered):,} | {places(ran.stdout):,}', flush=True)
 
 
 def main():
@@ -196,6 +228,8 @@ def main():
         run(words[1:2], words[2:] or CLASSES)
     elif len(words) >= 2 and words[0] == 'jobs':
         with_jobs(words[1], words[2:] or CLASSES)
+    elif len(words) >= 2 and words[0] == 'solved':
+        solved(words[1], words[2:] or CLASSES)
     elif len(words) >= 3 and words[0] == 'beside':
         run(words[1:3], words[3:] or CLASSES)
     else:

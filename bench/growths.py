@@ -74,6 +74,8 @@ CASES = [
     ['verify', 'side.apt', 'side.cert'],
     ['check', 'none', 'side.apt', 'side.net'],
     ['convert', 'graph', 'aba.words', '--from', 'words'],
+    ['generate', 'grid', '1'],
+    ['selftest', '1'],
     [],
     ['synthesize', 'none', 'doubling.apt'],
 ]
