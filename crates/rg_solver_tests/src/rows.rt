@@ -1,8 +1,8 @@
 //! The systems of problems, with rows, names, factors and forms worked by hand.
 use crate::bases::basis;
 use crate::systems::{
-    ABA, CHOICE, NONBRANCHING, NONE, PLAIN, PLAIN_NONBRANCHING, PURE, PURE_NONBRANCHING, PURE_PLAIN, PURE_PLAIN_SAFE,
-    RING, SAFE, SIDE, STEP, is_asked, system,
+    ABA, CHOICE, NONBRANCHING, NONE, PLAIN, PLAIN_NONBRANCHING, PURE, PURE_NONBRANCHING,
+    PURE_PLAIN, PURE_PLAIN_SAFE, RING, SAFE, SIDE, STEP, is_asked, system,
 };
 use rg_rows::{Common, NamedSystem, cases, system_with};
 use rg_spanning::Tree;
