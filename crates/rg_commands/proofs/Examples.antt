@@ -2,7 +2,7 @@
 use Rattle.std.proofs.Common.{◌≡◌, ◌≢◌, ℕ, List, [], ◌∷◌, Option, None, Some, true, codes, refl}
 use Rattle.clap.specs.Words.{App, fault_of, first_of, is_simple_and_free, matches_of}
 use Rattle.clap.proofs.OnLiterals.{clap_on_literals}
-use Rattle.rg_commands.specs.Table.{synthesize_app, verify_app, check_app, convert_app}
+use Rattle.rg_commands.specs.Table.{synthesize_app, verify_app, check_app, convert_app, generate_app, selftest_app}
 
 -- each command is simple, and no argument has a rule on another
 simple_synthesize : is_simple_and_free synthesize_app ≡ true
@@ -16,6 +16,12 @@ simple_check = refl
 
 simple_convert : is_simple_and_free convert_app ≡ true
 simple_convert = refl
+
+simple_generate : is_simple_and_free generate_app ≡ true
+simple_generate = refl
+
+simple_selftest : is_simple_and_free selftest_app ≡ true
+simple_selftest = refl
 
 -- no fault, and this value
 abbrev Gives : App → List (List ℕ) → List ℕ → Option (List ℕ) → Type 0

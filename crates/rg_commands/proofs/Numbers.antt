@@ -69,3 +69,7 @@ number_range most word n is = by (is_number_word word) (nat_le 1 v) (nat_le v mo
 
 pub jobs_range : (word : Option (List ℕ)) (n : ℕ) → jobs_in word ≡ Some n → (1 ≤ n) × (n ≤ most_jobs)
 jobs_range word n is = number_range most_jobs (unwrap_or word (codes "1")) n is
+
+-- what is read of a word is the number of the same word
+pub number_read : {word same : List ℕ} {most greatest : ℕ} {read : Option ℕ} → word ≡ same → greatest ≡ most → number_up_to most word ≡ read → number_up_to greatest same ≡ read
+number_read {word} {same} {most} {greatest} {read} is bound number = ap (λ m. number_up_to m same) bound ∙ ap (number_up_to most) (sym is) ∙ number

@@ -1,52 +1,65 @@
 -- What may be asked for.
-use Rattle.std.specs.Prelude.{ℕ, List, [], ◌∷◌}
+use Rattle.std.specs.Prelude.{ℕ, ◌≤◌, List, [], ◌∷◌}
 use Rattle.rg_theory.specs.declared.Class.{Class}
 use Rattle.rg_theory.specs.ClassWords.{HasBoundInRange}
+use Rattle.rg_families.specs.declared.Kind.{Kind}
+use Rattle.rg_families.specs.Families.{IsFamilyNumber}
+use Rattle.rg_commands.specs.Values.{most_self_test}
 use Rattle.rg_commands.specs.declared.forms.Form.{Form}
 use Rattle.rg_commands.specs.declared.forms.Target.{Target}
 use Rattle.rg_commands.specs.declared.request.Request.{Request}
-use Rattle.rg_commands.specs.declared.request.Request.TheVariants.{Synthesize, Verify, Check, Convert}
+use Rattle.rg_commands.specs.declared.request.Request.TheVariants.{Synthesize, Verify, Check, Convert, Generate, SelfTest}
 
--- what words may ask for, but for the number of jobs: a net of a class for the system of a file; whether the certificate of a
--- second file holds for it; whether the net of a second file solves it and is of a class; the system in another form. The
--- form is that of the system's file.
+-- what is asked of a system that a file spells: a net of a class for it; whether the certificate of a second file holds for it;
+-- whether the net of a second file solves it and is of a class; the system in another form
+pub data Work : Type 0 where
+  net : Class → Work
+  judgement : List ℕ → Work
+  verdict : Class → List ℕ → Work
+  conversion : Target → Work
+
+-- what words may ask for, but for the number of jobs: some work on the system of a file in a form, the system of a family for a
+-- number, or a test of the tool itself
 pub data Asked : Type 0 where
-  net : Class → List ℕ → Form → Asked
-  judgement : List ℕ → List ℕ → Form → Asked
-  verdict : Class → List ℕ → List ℕ → Form → Asked
-  conversion : Target → List ℕ → Form → Asked
+  of_system : Work → List ℕ → Form → Asked
+  generation : Kind → ℕ → Asked
+  self_test : ℕ → Asked
 
 -- what a request asks for
 abbrev pub asked_by : Request → Asked
-asked_by (Synthesize words) = net words.class words.file.now words.form
-asked_by (Verify words) = judgement words.file.now words.cert.now words.form
-asked_by (Check words) = verdict words.class words.file.now words.net.now words.form
-asked_by (Convert words) = conversion words.target words.file.now words.form
+asked_by (Synthesize words) = of_system (net words.class) words.file.now words.form
+asked_by (Verify words) = of_system (judgement words.cert.now) words.file.now words.form
+asked_by (Check words) = of_system (verdict words.class words.net.now) words.file.now words.form
+asked_by (Convert words) = of_system (conversion words.target) words.file.now words.form
+asked_by (Generate words) = generation words.kind words.number
+asked_by (SelfTest words) = self_test words.number
 
--- the names of its files, in order
+-- the names of the files behind the system's
+abbrev pub second_files : Work → List (List ℕ)
+second_files (net class) = []
+second_files (judgement cert) = cert ∷ []
+second_files (verdict class named) = named ∷ []
+second_files (conversion target) = []
+
+-- the names of all files, in order
 abbrev pub file_words : Asked → List (List ℕ)
-file_words (net class file form) = file ∷ []
-file_words (judgement file cert form) = file ∷ cert ∷ []
-file_words (verdict class file other form) = file ∷ other ∷ []
-file_words (conversion target file form) = file ∷ []
+file_words (of_system work file form) = file ∷ second_files work
+file_words (generation kind n) = []
+file_words (self_test n) = []
 
--- the name of the file of the system, the first
-abbrev pub system_file : Asked → List ℕ
-system_file (net class file form) = file
-system_file (judgement file cert form) = file
-system_file (verdict class file other form) = file
-system_file (conversion target file form) = file
+-- the bound of a class is in range
+abbrev pub HasClassBound : Work → Type 0
+HasClassBound (net class) = HasBoundInRange class
+HasClassBound (judgement cert) = Unit {0}
+HasClassBound (verdict class named) = HasBoundInRange class
+HasClassBound (conversion target) = Unit {0}
 
--- the form in which the system is read
-abbrev pub system_form : Asked → Form
-system_form (net class file form) = form
-system_form (judgement file cert form) = form
-system_form (verdict class file other form) = form
-system_form (conversion target file form) = form
+-- the number is one of a self test
+abbrev pub IsTestNumber : ℕ → Type 0
+IsTestNumber n = (1 ≤ n) × (n ≤ most_self_test)
 
--- the bound of a class that is asked is in range
+-- the numbers that are asked are in range: the bound of a class, the number of a family's system, that of a self test
 abbrev pub HasBounds : Asked → Type 0
-HasBounds (net class file form) = HasBoundInRange class
-HasBounds (judgement file cert form) = Unit {0}
-HasBounds (verdict class file other form) = HasBoundInRange class
-HasBounds (conversion target file form) = Unit {0}
+HasBounds (of_system work file form) = HasClassBound work
+HasBounds (generation kind n) = IsFamilyNumber kind n
+HasBounds (self_test n) = IsTestNumber n

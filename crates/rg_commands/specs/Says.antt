@@ -4,8 +4,10 @@ use Rattle.clap.specs.Words.{App, first_of, matches_of}
 use Rattle.rg_theory.specs.declared.Class.{Class}
 use Rattle.rg_theory.specs.declared.class_words.ClassFault.{ClassFault}
 use Rattle.rg_theory.specs.ClassWords.{NamesClass, FirstRefusedWord}
+use Rattle.rg_families.specs.declared.Kind.{Kind}
+use Rattle.rg_families.specs.Families.{greatest}
 use Rattle.rg_commands.specs.declared.usage.Usage.{Usage}
-use Rattle.rg_commands.specs.declared.usage.Usage.TheVariants.{NoCommand, UnknownCommand, Words, ClassWord, FormWord, FromWord, JobsWord}
+use Rattle.rg_commands.specs.declared.usage.Usage.TheVariants.{NoCommand, UnknownCommand, Words, ClassWord, FormWord, KindWord, FromWord, JobsWord, NumberWord}
 use Rattle.rg_commands.specs.declared.usage.WordsStop.{WordsStop}
 use Rattle.rg_commands.specs.declared.usage.WordsStop.TheVariants as stop
 use Rattle.rg_commands.specs.declared.command.WordsFault.{WordsFault}
@@ -13,11 +15,11 @@ use Rattle.rg_commands.specs.declared.command.WordsFault.TheVariants as fault
 use Rattle.rg_commands.specs.declared.forms.Form.{Form}
 use Rattle.rg_commands.specs.declared.forms.Target.{Target}
 use Rattle.rg_commands.specs.declared.request.Request.{Request}
-use Rattle.rg_commands.specs.declared.request.Request.TheVariants.{Synthesize, Verify, Check, Convert}
+use Rattle.rg_commands.specs.declared.request.Request.TheVariants.{Synthesize, Verify, Check, Convert, Generate, SelfTest}
 use Rattle.rg_commands.specs.Command.{IsTaken, IsRefused}
-use Rattle.rg_commands.specs.Table.{synthesize_app, verify_app, check_app, convert_app, IsNoCommand}
-use Rattle.rg_commands.specs.Values.{text_in, form_in, target_in, jobs_in, most_jobs}
-use Rattle.rg_commands.specs.Requests.{Asked, net, judgement, verdict, conversion}
+use Rattle.rg_commands.specs.Table.{synthesize_app, verify_app, check_app, convert_app, generate_app, selftest_app, IsNoCommand}
+use Rattle.rg_commands.specs.Values.{text_in, form_in, target_in, kind_in, number_up_to, jobs_in, most_jobs, most_self_test}
+use Rattle.rg_commands.specs.Requests.{Asked, of_system, generation, self_test, net, judgement, verdict, conversion}
 
 abbrev pub stop_of : WordsFault → WordsStop
 stop_of fault.Refused = stop.Refused Words
@@ -50,6 +52,17 @@ form_asked app words = form_in (option_in app (codes "from") words)
 abbrev pub target_asked : List (List ℕ) → Option Target
 target_asked words = target_in (word_in convert_app (codes "FORM") words)
 
+-- the family
+abbrev pub kind_asked : List (List ℕ) → Option Kind
+kind_asked words = kind_in (word_in generate_app (codes "KIND") words)
+
+-- the number of its system, and that of a self test
+abbrev pub family_number_asked : Kind → List (List ℕ) → Option ℕ
+family_number_asked kind words = number_up_to (greatest kind) (word_in generate_app (codes "N") words)
+
+abbrev pub test_number_asked : List (List ℕ) → Option ℕ
+test_number_asked words = number_up_to most_self_test (word_in selftest_app (codes "N") words)
+
 -- how many jobs
 abbrev pub jobs_asked : List (List ℕ) → Option ℕ
 jobs_asked words = jobs_in (option_in synthesize_app (codes "jobs") words)
@@ -64,14 +77,14 @@ pub data SynthesizeSays (words : List (List ℕ)) : Result Asked Usage → Type 
       → jobs_asked words ≡ None → SynthesizeSays words (Err JobsWord)
   right : (class : Class) (form : Form) (jobs : ℕ) → IsTaken synthesize_app words → HaveClass synthesize_app words class
       → form_asked synthesize_app words ≡ Some form → jobs_asked words ≡ Some jobs
-      → SynthesizeSays words (Ok (net class (word_in synthesize_app (codes "FILE") words) form))
+      → SynthesizeSays words (Ok (of_system (net class) (word_in synthesize_app (codes "FILE") words) form))
 
 -- what the words of `verify` ask for
 pub data VerifySays (words : List (List ℕ)) : Result Asked Usage → Type 0 where
   refused : IsRefused verify_app words → VerifySays words (Err Words)
   bad_form : IsTaken verify_app words → form_asked verify_app words ≡ None → VerifySays words (Err FromWord)
   right : (form : Form) → IsTaken verify_app words → form_asked verify_app words ≡ Some form
-      → VerifySays words (Ok (judgement (word_in verify_app (codes "FILE") words) (word_in verify_app (codes "CERT") words) form))
+      → VerifySays words (Ok (of_system (judgement (word_in verify_app (codes "CERT") words)) (word_in verify_app (codes "FILE") words) form))
 
 -- what the words of `check` ask for
 pub data CheckSays (words : List (List ℕ)) : Result Asked Usage → Type 0 where
@@ -79,7 +92,7 @@ pub data CheckSays (words : List (List ℕ)) : Result Asked Usage → Type 0 whe
   bad_class : (f : ClassFault) → IsTaken check_app words → HaveBadClass check_app words f → CheckSays words (Err (ClassWord f))
   bad_form : (class : Class) → IsTaken check_app words → HaveClass check_app words class → form_asked check_app words ≡ None → CheckSays words (Err FromWord)
   right : (class : Class) (form : Form) → IsTaken check_app words → HaveClass check_app words class → form_asked check_app words ≡ Some form
-      → CheckSays words (Ok (verdict class (word_in check_app (codes "FILE") words) (word_in check_app (codes "NET") words) form))
+      → CheckSays words (Ok (of_system (verdict class (word_in check_app (codes "NET") words)) (word_in check_app (codes "FILE") words) form))
 
 -- what the words of `convert` ask for
 pub data ConvertSays (words : List (List ℕ)) : Result Asked Usage → Type 0 where
@@ -88,7 +101,22 @@ pub data ConvertSays (words : List (List ℕ)) : Result Asked Usage → Type 0 w
   bad_form : (target : Target) → IsTaken convert_app words → target_asked words ≡ Some target → form_asked convert_app words ≡ None
       → ConvertSays words (Err FromWord)
   right : (target : Target) (form : Form) → IsTaken convert_app words → target_asked words ≡ Some target → form_asked convert_app words ≡ Some form
-      → ConvertSays words (Ok (conversion target (word_in convert_app (codes "FILE") words) form))
+      → ConvertSays words (Ok (of_system (conversion target) (word_in convert_app (codes "FILE") words) form))
+
+-- what the words of `generate` ask for
+pub data GenerateSays (words : List (List ℕ)) : Result Asked Usage → Type 0 where
+  refused : IsRefused generate_app words → GenerateSays words (Err Words)
+  bad_kind : IsTaken generate_app words → kind_asked words ≡ None → GenerateSays words (Err KindWord)
+  bad_number : (kind : Kind) → IsTaken generate_app words → kind_asked words ≡ Some kind → family_number_asked kind words ≡ None
+      → GenerateSays words (Err NumberWord)
+  right : (kind : Kind) (n : ℕ) → IsTaken generate_app words → kind_asked words ≡ Some kind → family_number_asked kind words ≡ Some n
+      → GenerateSays words (Ok (generation kind n))
+
+-- what the words of `selftest` ask for
+pub data SelfTestSays (words : List (List ℕ)) : Result Asked Usage → Type 0 where
+  refused : IsRefused selftest_app words → SelfTestSays words (Err Words)
+  bad_number : IsTaken selftest_app words → test_number_asked words ≡ None → SelfTestSays words (Err NumberWord)
+  right : (n : ℕ) → IsTaken selftest_app words → test_number_asked words ≡ Some n → SelfTestSays words (Ok (self_test n))
 
 -- the first word
 abbrev pub first_word : List (List ℕ) → Option (List ℕ)
@@ -102,6 +130,8 @@ pub data WordsSay (words : List (List ℕ)) : Result Asked Usage → Type 0 wher
   verify : (said : Result Asked Usage) → first_word words ≡ Some (codes "verify") → VerifySays words said → WordsSay words said
   check : (said : Result Asked Usage) → first_word words ≡ Some (codes "check") → CheckSays words said → WordsSay words said
   convert : (said : Result Asked Usage) → first_word words ≡ Some (codes "convert") → ConvertSays words said → WordsSay words said
+  generate : (said : Result Asked Usage) → first_word words ≡ Some (codes "generate") → GenerateSays words said → WordsSay words said
+  selftest : (said : Result Asked Usage) → first_word words ≡ Some (codes "selftest") → SelfTestSays words said → WordsSay words said
 
 -- the words ask for it
 abbrev pub Ask : List (List ℕ) → Asked → Type 0
@@ -121,3 +151,5 @@ AreJobsOf words (Synthesize asked) = AreJobs words asked.jobs
 AreJobsOf words (Verify asked) = Unit {0}
 AreJobsOf words (Check asked) = Unit {0}
 AreJobsOf words (Convert asked) = Unit {0}
+AreJobsOf words (Generate asked) = Unit {0}
+AreJobsOf words (SelfTest asked) = Unit {0}

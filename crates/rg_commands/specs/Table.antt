@@ -19,6 +19,16 @@ check_app = command_app (codes "check") (codes "CLASS" ∷ codes "FILE" ∷ code
 abbrev pub convert_app : App
 convert_app = command_app (codes "convert") (codes "FORM" ∷ codes "FILE" ∷ []) (codes "from" ∷ [])
 
+-- `generate KIND N`
+abbrev pub generate_app : App
+generate_app = command_app (codes "generate") (codes "KIND" ∷ codes "N" ∷ []) []
+
+-- `selftest N`
+abbrev pub selftest_app : App
+selftest_app = command_app (codes "selftest") (codes "N" ∷ []) []
+
 -- no command has this name
 abbrev pub IsNoCommand : List ℕ → Type 0
-IsNoCommand name = (name ≢ codes "synthesize") × (name ≢ codes "verify") × (name ≢ codes "check") × (name ≢ codes "convert")
+IsNoCommand name =
+    (name ≢ codes "synthesize") × (name ≢ codes "verify") × (name ≢ codes "check") × (name ≢ codes "convert") × (name ≢ codes "generate")
+    × (name ≢ codes "selftest")

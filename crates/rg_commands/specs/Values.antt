@@ -5,6 +5,8 @@ use Rattle.std.specs.Char.{is_ascii_digit}
 use Rattle.std.specs.Str.{bytes_eq}
 use Rattle.std.specs.Str.Parse.{digits_value}
 use Rattle.clap.specs.Words.{Row, first_of}
+use Rattle.rg_families.specs.declared.Kind.{Kind}
+use Rattle.rg_families.specs.declared.Kind.TheVariants.{Grid, Doubling, Lock}
 use Rattle.rg_commands.specs.declared.forms.Form.{Form}
 use Rattle.rg_commands.specs.declared.forms.Form.TheVariants.{Apt, Graph, Words}
 use Rattle.rg_commands.specs.declared.forms.Target.{Target}
@@ -28,9 +30,20 @@ target_in word =
     if bytes_eq word (codes "apt") then Some target.Apt
     else (if bytes_eq word (codes "graph") then Some target.Graph else None)
 
+-- the family that a word names
+abbrev pub kind_in : List ℕ → Option Kind
+kind_in word =
+    if bytes_eq word (codes "grid") then Some Grid
+    else (if bytes_eq word (codes "doubling") then Some Doubling
+    else (if bytes_eq word (codes "lock") then Some Lock else None))
+
 -- the most jobs
 abbrev pub most_jobs : ℕ
 most_jobs = 16
+
+-- the greatest number of a self test
+abbrev pub most_self_test : ℕ
+most_self_test = 40
 
 -- the most digits of a number
 abbrev pub most_digits : ℕ

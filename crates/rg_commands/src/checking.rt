@@ -1,7 +1,7 @@
 //! The words of `check`.
 ghost use Rattle.std.specs.Prelude.{map, string_bytes, IfOk, IfErr, Ok, Err};
 ghost use Rattle.rg_theory.specs.ClassWords.{HasBoundInRange};
-ghost use Rattle.rg_commands.specs.Requests.{verdict};
+ghost use Rattle.rg_commands.specs.Requests.{of_system, verdict};
 ghost use Rattle.rg_commands.specs.Says.{CheckSays, IsStopOf};
 
 use crate::command::matches_of;
@@ -29,7 +29,7 @@ pub(crate) fn check_words<'a>(
     alloc: Global,
     words: &'a [String],
 ) -> Result<CheckWords<'a>, WordsStop>
-    ensures asks { IfOk result (λ w. CheckSays (map string_bytes words.entry.now) (Ok (verdict w.class w.file.now w.net.now w.form))) }
+    ensures asks { IfOk result (λ w. CheckSays (map string_bytes words.entry.now) (Ok (of_system (verdict w.class w.net.now) w.file.now w.form))) }
     ensures bounds { IfOk result (λ w. HasBoundInRange w.class) }
     ensures refused { IfErr result (IsStopOf (λ usage. CheckSays (map string_bytes words.entry.now) (Err usage))) }
 {

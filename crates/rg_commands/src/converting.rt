@@ -1,6 +1,6 @@
 //! The words of `convert`.
 ghost use Rattle.std.specs.Prelude.{map, string_bytes, IfOk, IfErr, Ok, Err};
-ghost use Rattle.rg_commands.specs.Requests.{conversion};
+ghost use Rattle.rg_commands.specs.Requests.{of_system, conversion};
 ghost use Rattle.rg_commands.specs.Says.{ConvertSays, IsStopOf};
 
 use crate::command::matches_of;
@@ -25,7 +25,7 @@ pub(crate) fn convert_words<'a>(
     alloc: Global,
     words: &'a [String],
 ) -> Result<ConvertWords<'a>, WordsStop>
-    ensures asks { IfOk result (λ w. ConvertSays (map string_bytes words.entry.now) (Ok (conversion w.target w.file.now w.form))) }
+    ensures asks { IfOk result (λ w. ConvertSays (map string_bytes words.entry.now) (Ok (of_system (conversion w.target) w.file.now w.form))) }
     ensures refused { IfErr result (IsStopOf (λ usage. ConvertSays (map string_bytes words.entry.now) (Err usage))) }
 {
     let matches = matches_of(alloc, "convert", &["FORM", "FILE"], &["from"], words)?;

@@ -5,7 +5,9 @@ ghost use Rattle.rg_commands.specs.Says.{Ask, AreRefused, AreJobsOf, IsStopOf};
 
 use crate::checking::{CheckWords, check_words};
 use crate::converting::{ConvertWords, convert_words};
+use crate::generating::{GenerateWords, generate_words};
 use crate::synthesizing::{SynthesizeWords, synthesize_words};
+use crate::testing::{SelfTestWords, self_test_words};
 use crate::usage::{Usage, WordsStop};
 use crate::verifying::{VerifyWords, verify_words};
 use std::alloc::Global;
@@ -21,6 +23,10 @@ pub enum Request<'a> {
     Check(CheckWords<'a>),
     /// A system in another form.
     Convert(ConvertWords<'a>),
+    /// The system of a family for a number.
+    Generate(GenerateWords),
+    /// A test of the tool itself.
+    SelfTest(SelfTestWords),
 }
 
 /// The request of the words, or why they are refused.
@@ -44,6 +50,10 @@ pub fn read_words<'a>(alloc: Global, words: &'a [String]) -> Result<Request<'a>,
         Ok(Request::Check(check_words(alloc, words)?))
     } else if command == "convert" {
         Ok(Request::Convert(convert_words(alloc, words)?))
+    } else if command == "generate" {
+        Ok(Request::Generate(generate_words(alloc, words)?))
+    } else if command == "selftest" {
+        Ok(Request::SelfTest(self_test_words(alloc, words)?))
     } else {
         Err(WordsStop::Refused(Usage::UnknownCommand))
     }

@@ -19,10 +19,14 @@ pub enum Usage {
     ClassWord(ClassFault),
     /// The form to write is neither `apt` nor `graph`.
     FormWord,
+    /// The family is neither `grid`, `doubling` nor `lock`.
+    KindWord,
     /// The form to read is neither `apt`, `graph` nor `words`.
     FromWord,
     /// The jobs are no number from 1 to 16 of at most nine digits.
     JobsWord,
+    /// The number is none of the family's or of a self test, or it isn't written in one to nine digits.
+    NumberWord,
 }
 
 /// Why the words give no request.

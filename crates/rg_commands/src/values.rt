@@ -38,7 +38,7 @@ pub(crate) fn jobs_of(word: Option<&str>) -> Option<u8>
 }
 
 // The number that 1 to 9 digits spell, where it is from 1 to `most`.
-fn number_up_to(word: &str, most: u32) -> Option<u32>
+pub(crate) fn number_up_to(word: &str, most: u32) -> Option<u32>
     ensures { result ≡ number_up_to most word.now }
 {
     let digits = word.as_bytes();

@@ -1,6 +1,6 @@
 //! The words of `verify`.
 ghost use Rattle.std.specs.Prelude.{map, string_bytes, IfOk, IfErr, Ok, Err};
-ghost use Rattle.rg_commands.specs.Requests.{judgement};
+ghost use Rattle.rg_commands.specs.Requests.{of_system, judgement};
 ghost use Rattle.rg_commands.specs.Says.{VerifySays, IsStopOf};
 
 use crate::command::matches_of;
@@ -25,7 +25,7 @@ pub(crate) fn verify_words<'a>(
     alloc: Global,
     words: &'a [String],
 ) -> Result<VerifyWords<'a>, WordsStop>
-    ensures asks { IfOk result (λ w. VerifySays (map string_bytes words.entry.now) (Ok (judgement w.file.now w.cert.now w.form))) }
+    ensures asks { IfOk result (λ w. VerifySays (map string_bytes words.entry.now) (Ok (of_system (judgement w.cert.now) w.file.now w.form))) }
     ensures refused { IfErr result (IsStopOf (λ usage. VerifySays (map string_bytes words.entry.now) (Err usage))) }
 {
     let matches = matches_of(alloc, "verify", &["FILE", "CERT"], &["from"], words)?;

@@ -5,7 +5,7 @@ use rg_theory::ClassFault;
 use std::alloc::AllocError;
 
 // Words, and why they are refused.
-const REFUSED: [(&[&str], Usage); 48] = [
+const REFUSED: [(&[&str], Usage); 71] = [
     (&[], Usage::NoCommand),
     (&[""], Usage::UnknownCommand),
     (&["--help"], Usage::UnknownCommand),
@@ -99,6 +99,29 @@ const REFUSED: [(&[&str], Usage); 48] = [
         &["synthesize", "none", "f", "--jobs", "4294967297"],
         Usage::JobsWord,
     ),
+    (&["generate"], Usage::Words),
+    (&["generate", "grid"], Usage::Words),
+    (&["generate", "grid", "3", "--from", "apt"], Usage::Words),
+    (&["generate", "grid", "3", "4"], Usage::Words),
+    (&["generate", "--help"], Usage::Words),
+    (&["selftest"], Usage::Words),
+    (&["selftest", "--help"], Usage::Words),
+    (&["selftest", "1", "--jobs=1"], Usage::Words),
+    (&["selftest", "1", "2"], Usage::Words),
+    (&["generate", "ring", "0"], Usage::KindWord),
+    (&["generate", "Grid", "1"], Usage::KindWord),
+    (&["generate", "", "1"], Usage::KindWord),
+    (&["generate", "grid", "64"], Usage::NumberWord),
+    (&["generate", "grid", "0"], Usage::NumberWord),
+    (&["generate", "grid", "3x"], Usage::NumberWord),
+    (&["generate", "grid", "+1"], Usage::NumberWord),
+    (&["generate", "grid", ""], Usage::NumberWord),
+    (&["generate", "doubling", "256"], Usage::NumberWord),
+    (&["generate", "lock", "10"], Usage::NumberWord),
+    (&["generate", "lock", "0000000001"], Usage::NumberWord),
+    (&["selftest", "41"], Usage::NumberWord),
+    (&["selftest", "0"], Usage::NumberWord),
+    (&["selftest", "1x"], Usage::NumberWord),
 ];
 
 #[test]

@@ -1,8 +1,10 @@
 //! Words that are taken, each with its request.
 use crate::words::owned;
 use rg_commands::{
-    CheckWords, ConvertWords, Form, Request, SynthesizeWords, Target, VerifyWords, read_words,
+    CheckWords, ConvertWords, Form, GenerateWords, Request, SelfTestWords, SynthesizeWords, Target,
+    VerifyWords, read_words,
 };
+use rg_families::Kind;
 use rg_theory::Class;
 use std::alloc::AllocError;
 
@@ -31,6 +33,16 @@ const NET_OF_WORDS: SynthesizeWords<'static> = SynthesizeWords {
     form: Form::Words,
     ..NET
 };
+
+const GRID_1: Request<'static> = Request::Generate(GenerateWords {
+    kind: Kind::Grid,
+    number: 1,
+});
+
+const GRID_63: Request<'static> = Request::Generate(GenerateWords {
+    kind: Kind::Grid,
+    number: 63,
+});
 
 // The words of `synthesize`, and what they ask for.
 const NETS: [(&[&str], SynthesizeWords<'static>); 17] = [
@@ -177,6 +189,47 @@ const OTHERS: [(&[&str], Request<'static>); 9] = [
     ),
 ];
 
+// The words of the commands that name no file, and what they ask for.
+const WITHOUT_FILES: [(&[&str], Request<'static>); 10] = [
+    (&["generate", "grid", "1"], GRID_1),
+    (&["generate", "--", "grid", "1"], GRID_1),
+    (&["generate", "grid", "063"], GRID_63),
+    (&["generate", "grid", "63"], GRID_63),
+    (
+        &["generate", "doubling", "255"],
+        Request::Generate(GenerateWords {
+            kind: Kind::Doubling,
+            number: 255,
+        }),
+    ),
+    (
+        &["generate", "lock", "9"],
+        Request::Generate(GenerateWords {
+            kind: Kind::Lock,
+            number: 9,
+        }),
+    ),
+    (
+        &["generate", "lock", "000000001"],
+        Request::Generate(GenerateWords {
+            kind: Kind::Lock,
+            number: 1,
+        }),
+    ),
+    (
+        &["selftest", "1"],
+        Request::SelfTest(SelfTestWords { number: 1 }),
+    ),
+    (
+        &["selftest", "04"],
+        Request::SelfTest(SelfTestWords { number: 4 }),
+    ),
+    (
+        &["selftest", "40"],
+        Request::SelfTest(SelfTestWords { number: 40 }),
+    ),
+];
+
 #[test]
 fn nets(rt: HostRuntime) -> Result<(), AllocError> {
     let alloc = rt.alloc();
@@ -191,6 +244,16 @@ fn nets(rt: HostRuntime) -> Result<(), AllocError> {
 fn others(rt: HostRuntime) -> Result<(), AllocError> {
     let alloc = rt.alloc();
     for (words, wanted) in OTHERS {
+        let words = owned(alloc, words)?;
+        assert!(rt; read_words(alloc, &words) == Ok(wanted));
+    }
+    Ok(())
+}
+
+#[test]
+fn without_files(rt: HostRuntime) -> Result<(), AllocError> {
+    let alloc = rt.alloc();
+    for (words, wanted) in WITHOUT_FILES {
         let words = owned(alloc, words)?;
         assert!(rt; read_words(alloc, &words) == Ok(wanted));
     }

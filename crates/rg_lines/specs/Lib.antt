@@ -4,3 +4,4 @@ pub mod Wides
 pub mod JudgedTexts
 pub mod CheckedTexts
 pub mod LostTexts
+pub mod TrialTexts

@@ -3,7 +3,7 @@ use Rattle.std.specs.Prelude.{ℕ, List, ◌++◌, codes, decimal}
 use Rattle.rg_theory.specs.declared.class_words.ClassFault.{ClassFault}
 use Rattle.rg_theory.specs.declared.class_words.ClassFault.TheVariants.{UnknownWord, BadNumber, Repeated}
 use Rattle.rg_commands.specs.declared.usage.Usage.{Usage}
-use Rattle.rg_commands.specs.declared.usage.Usage.TheVariants.{NoCommand, UnknownCommand, Words, ClassWord, FormWord, FromWord, JobsWord}
+use Rattle.rg_commands.specs.declared.usage.Usage.TheVariants.{NoCommand, UnknownCommand, Words, ClassWord, FormWord, KindWord, FromWord, JobsWord, NumberWord}
 
 -- the number of a refused class word
 abbrev pub refused_number : ClassFault → ℕ
@@ -24,8 +24,10 @@ usage_text UnknownCommand = codes "unknown command"
 usage_text Words = codes "words refused"
 usage_text (ClassWord fault) = codes "class word " ++ decimal (refused_number fault) ++ codes ": " ++ class_fault_words fault
 usage_text FormWord = codes "form is apt or graph"
+usage_text KindWord = codes "kind is grid, doubling or lock"
 usage_text FromWord = codes "--from is apt, graph or words"
 usage_text JobsWord = codes "--jobs is 1 to 16"
+usage_text NumberWord = codes "number out of range"
 
 abbrev pub usage_line : Usage → List ℕ
 usage_line usage = codes "usage: " ++ usage_text usage ++ codes "\n"

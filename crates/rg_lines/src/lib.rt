@@ -8,6 +8,7 @@ mod judged;
 mod laws;
 mod lost;
 mod pieces;
+mod trials;
 mod usages;
 mod wide;
 
@@ -16,5 +17,6 @@ pub use fault::{Fault, FileFault, file_text};
 pub use judged::{accepted_text, defect_text, fault_text};
 pub use laws::{loss_has_name, verdict_has_names};
 pub use lost::{label_loss_text, state_loss_text};
+pub use trials::{solved_text, unsolvable_text};
 pub use usages::usage_text;
 pub use wide::{WideCause, wide_text};

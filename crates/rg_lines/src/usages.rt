@@ -17,8 +17,10 @@ pub fn usage_text(alloc: Global, usage: Usage) -> Result<Vec<u8>, AllocError>
         Usage::Words => Vec::from_slice(alloc, b"usage: words refused\n"),
         Usage::ClassWord(fault) => class_fault_text(alloc, fault),
         Usage::FormWord => Vec::from_slice(alloc, b"usage: form is apt or graph\n"),
+        Usage::KindWord => { Vec::from_slice(alloc, b"usage: kind is grid, doubling or lock\n") }
         Usage::FromWord => Vec::from_slice(alloc, b"usage: --from is apt, graph or words\n"),
         Usage::JobsWord => Vec::from_slice(alloc, b"usage: --jobs is 1 to 16\n"),
+        Usage::NumberWord => Vec::from_slice(alloc, b"usage: number out of range\n"),
     }
 }
 

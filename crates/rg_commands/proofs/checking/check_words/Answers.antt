@@ -5,7 +5,7 @@ use Rattle.rg_theory.specs.ClassWords.{NamesClass, FirstRefusedWord}
 use Rattle.rg_theory.proofs.ClassBytes.{named_bound}
 use Rattle.rg_commands.specs.Table.{check_app}
 use Rattle.rg_commands.specs.Values.{form_in}
-use Rattle.rg_commands.specs.Requests.{verdict}
+use Rattle.rg_commands.specs.Requests.{of_system, verdict}
 use Rattle.rg_commands.specs.Says.{word_in, CheckSays, CheckSays.refused, CheckSays.bad_class, CheckSays.bad_form, CheckSays.right}
 use Rattle.rg_commands.proofs.WordLemmas.{stop_says}
 use Rattle.rg_commands.proofs.Taken.{text_read, option_read}
@@ -43,8 +43,8 @@ returns-clause-asks c =
     let given = option_read check_app words rows are (codes "from") (option_map (λ s. s.now) c.option_of.result) c.option_of.ensures in
     let file = text_read check_app words rows are (codes "FILE") c.text_of-2.result.now c.text_of-2.ensures in
     let net = text_read check_app words rows are (codes "NET") c.text_of-3.result.now c.text_of-3.ensures in
-    subst (λ f. CheckSays words (Ok (verdict c.in-Ok.class f c.text_of-3.result.now c.in-Some.form))) (sym file)
-    (subst (λ f. CheckSays words (Ok (verdict c.in-Ok.class (word_in check_app (codes "FILE") words) f c.in-Some.form))) (sym net)
+    subst (λ f. CheckSays words (Ok (of_system (verdict c.in-Ok.class c.text_of-3.result.now) f c.in-Some.form))) (sym file)
+    (subst (λ f. CheckSays words (Ok (of_system (verdict c.in-Ok.class f) (word_in check_app (codes "FILE") words) c.in-Some.form))) (sym net)
     (right c.in-Ok.class c.in-Some.form are.taken (subst (λ t. NamesClass t c.in-Ok.class) word c.in-Ok.ensures.ok) (ap form_in (sym given) ∙ sym c.in-Some.ensures)))
 
 pub returns-clause-bounds : goal.returns-clause-bounds

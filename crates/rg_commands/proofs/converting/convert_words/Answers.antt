@@ -3,7 +3,7 @@ use Rattle.std.proofs.lemmas.Result.{err_from_is_err_and}
 use Rattle.clap.specs.Words.{found_of, rows_of}
 use Rattle.rg_commands.specs.Table.{convert_app}
 use Rattle.rg_commands.specs.Values.{form_in, target_in}
-use Rattle.rg_commands.specs.Requests.{conversion}
+use Rattle.rg_commands.specs.Requests.{of_system, conversion}
 use Rattle.rg_commands.specs.Says.{ConvertSays, ConvertSays.refused, ConvertSays.bad_target, ConvertSays.bad_form, ConvertSays.right}
 use Rattle.rg_commands.proofs.WordLemmas.{stop_says}
 use Rattle.rg_commands.proofs.Taken.{text_read, option_read}
@@ -40,5 +40,5 @@ returns-clause-asks c =
     let word = text_read convert_app words rows are (codes "FORM") c.text_of.result.now c.text_of.ensures in
     let file = text_read convert_app words rows are (codes "FILE") c.text_of-2.result.now c.text_of-2.ensures in
     let given = option_read convert_app words rows are (codes "from") (option_map (λ s. s.now) c.option_of.result) c.option_of.ensures in
-    subst (λ f. ConvertSays words (Ok (conversion c.in-Some.target f c.in-Some-form_of.form))) (sym file)
+    subst (λ f. ConvertSays words (Ok (of_system (conversion c.in-Some.target) f c.in-Some-form_of.form))) (sym file)
     (right c.in-Some.target c.in-Some-form_of.form are.taken (ap target_in (sym word) ∙ sym c.in-Some.ensures) (ap form_in (sym given) ∙ sym c.in-Some-form_of.ensures))

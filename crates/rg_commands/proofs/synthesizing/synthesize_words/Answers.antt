@@ -5,7 +5,7 @@ use Rattle.rg_theory.specs.ClassWords.{NamesClass, FirstRefusedWord}
 use Rattle.rg_theory.proofs.ClassBytes.{named_bound}
 use Rattle.rg_commands.specs.Table.{synthesize_app}
 use Rattle.rg_commands.specs.Values.{form_in, jobs_in}
-use Rattle.rg_commands.specs.Requests.{net}
+use Rattle.rg_commands.specs.Requests.{of_system, net}
 use Rattle.rg_commands.specs.Says.{option_in, SynthesizeSays, SynthesizeSays.refused, SynthesizeSays.bad_class, SynthesizeSays.bad_form, SynthesizeSays.bad_jobs, SynthesizeSays.right}
 use Rattle.rg_commands.proofs.WordLemmas.{stop_says}
 use Rattle.rg_commands.proofs.Taken.{text_read, option_read}
@@ -55,7 +55,7 @@ returns-clause-asks c =
     let file = text_read synthesize_app words rows are (codes "FILE") c.text_of-2.result.now c.text_of-2.ensures in
     let given = option_read synthesize_app words rows are (codes "from") (option_map (λ s. s.now) c.option_of.result) c.option_of.ensures in
     let jobs = option_read synthesize_app words rows are (codes "jobs") (option_map (λ s. s.now) c.option_of-2.result) c.option_of-2.ensures in
-    subst (λ f. SynthesizeSays words (Ok (net c.in-Ok.class f c.in-Some.form))) (sym file)
+    subst (λ f. SynthesizeSays words (Ok (of_system (net c.in-Ok.class) f c.in-Some.form))) (sym file)
     (right c.in-Ok.class c.in-Some.form c.in-Some-jobs_of.jobs are.taken (subst (λ t. NamesClass t c.in-Ok.class) word c.in-Ok.ensures.ok) (ap form_in (sym given) ∙ sym c.in-Some.ensures)
     (ap jobs_in (sym jobs) ∙ sym c.in-Some-jobs_of.ensures))
 

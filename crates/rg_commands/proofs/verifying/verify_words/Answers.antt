@@ -3,7 +3,7 @@ use Rattle.std.proofs.lemmas.Result.{err_from_is_err_and}
 use Rattle.clap.specs.Words.{found_of, rows_of}
 use Rattle.rg_commands.specs.Table.{verify_app}
 use Rattle.rg_commands.specs.Values.{form_in}
-use Rattle.rg_commands.specs.Requests.{judgement}
+use Rattle.rg_commands.specs.Requests.{of_system, judgement}
 use Rattle.rg_commands.specs.Says.{word_in, VerifySays, VerifySays.refused, VerifySays.bad_form, VerifySays.right}
 use Rattle.rg_commands.proofs.WordLemmas.{stop_says}
 use Rattle.rg_commands.proofs.Taken.{text_read, option_read}
@@ -31,6 +31,6 @@ returns-clause-asks c =
     let given = option_read verify_app words rows are (codes "from") (option_map (λ s. s.now) c.option_of.result) c.option_of.ensures in
     let file = text_read verify_app words rows are (codes "FILE") c.text_of.result.now c.text_of.ensures in
     let cert = text_read verify_app words rows are (codes "CERT") c.text_of-2.result.now c.text_of-2.ensures in
-    subst (λ f. VerifySays words (Ok (judgement f c.text_of-2.result.now c.in-Some.form))) (sym file)
-    (subst (λ f. VerifySays words (Ok (judgement (word_in verify_app (codes "FILE") words) f c.in-Some.form))) (sym cert)
+    subst (λ f. VerifySays words (Ok (of_system (judgement c.text_of-2.result.now) f c.in-Some.form))) (sym file)
+    (subst (λ f. VerifySays words (Ok (of_system (judgement f) (word_in verify_app (codes "FILE") words) c.in-Some.form))) (sym cert)
     (right c.in-Some.form are.taken (ap form_in (sym given) ∙ sym c.in-Some.ensures)))
