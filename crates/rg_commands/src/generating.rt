@@ -1,6 +1,6 @@
 //! The words of `generate`.
 ghost use Rattle.std.specs.Prelude.{◌≡◌, map, string_bytes, IfOk, IfErr, Ok, Err};
-ghost use Rattle.rg_families.specs.Families.{IsFamilyNumber, greatest};
+ghost use Rattle.rg_families.specs.Families.{IsFamilyNumber};
 ghost use Rattle.rg_commands.specs.Values.{kind_in};
 ghost use Rattle.rg_commands.specs.Requests.{generation};
 ghost use Rattle.rg_commands.specs.Says.{GenerateSays, IsStopOf};
@@ -8,7 +8,7 @@ ghost use Rattle.rg_commands.specs.Says.{GenerateSays, IsStopOf};
 use crate::command::matches_of;
 use crate::usage::{Usage, WordsStop};
 use crate::values::{number_up_to, text_of};
-use rg_families::{Kind, MOST_DOUBLING, MOST_GRID, MOST_LOCK};
+use rg_families::{Kind, greatest};
 use std::alloc::Global;
 
 /// What the words of `generate` ask for.
@@ -48,16 +48,5 @@ fn kind_of(word: &str) -> Option<Kind>
         Some(Kind::Lock)
     } else {
         None
-    }
-}
-
-// The greatest number of a family's systems.
-fn greatest(kind: Kind) -> u32
-    ensures { result ≡ greatest kind }
-{
-    match kind {
-        Kind::Grid => MOST_GRID,
-        Kind::Doubling => MOST_DOUBLING,
-        Kind::Lock => MOST_LOCK,
     }
 }

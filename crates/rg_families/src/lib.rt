@@ -1,8 +1,8 @@
 //! Families of systems, each of them given by a number.
 #![tactic(auto)]
 
-ghost use Rattle.std.specs.Prelude.{◌↔◌, ◌≤◌, IsTrue, IfOk};
-ghost use Rattle.rg_families.specs.Families.{IsFamilyNumber, IsOfFamily};
+ghost use Rattle.std.specs.Prelude.{◌≡◌, ◌↔◌, ◌≤◌, IsTrue, IfOk};
+ghost use Rattle.rg_families.specs.Families.{IsFamilyNumber, IsOfFamily, greatest};
 
 mod doubling;
 mod grid;
@@ -29,16 +29,22 @@ pub enum Kind {
     Lock,
 }
 
-/// Whether the family has a system of this number: 1 to 63 for grids, 1 to 255 for doublings, 1 to 9 for locks.
-pub fn is_family_number(kind: Kind, n: u32) -> bool
-    ensures { IsTrue result ↔ IsFamilyNumber kind n }
+/// The greatest number of the family's systems: 63 for grids, 255 for doublings, 9 for locks.
+pub fn greatest(kind: Kind) -> u32
+    ensures { result ≡ greatest kind }
 {
-    let greatest = match kind {
+    match kind {
         Kind::Grid => MOST_GRID,
         Kind::Doubling => MOST_DOUBLING,
         Kind::Lock => MOST_LOCK,
-    };
-    1 <= n && n <= greatest
+    }
+}
+
+/// Whether the family has a system of this number: from 1 to its greatest number.
+pub fn is_family_number(kind: Kind, n: u32) -> bool
+    ensures { IsTrue result ↔ IsFamilyNumber kind n }
+{
+    1 <= n && n <= greatest(kind)
 }
 
 /// The system of the family that this number gives, as `is_family_number` says that there is one. `NoMemory` where there is no
