@@ -1,7 +1,8 @@
 //! Every call of the outside fails once: each call of the shelf, each call of the sink that is written to, and each room that is too
 //! small; and the same run again ends as it should. The shelf gives at most 7 bytes a read, a sink takes at most 10 bytes a write.
-use crate::harness::{NoRoom, owned};
-use crate::worked::ABA;
+//! Of runs that take long the first, a middle and the last of these are tried.
+use crate::harness::{NoRoom, doubling, owned};
+use crate::worked::{ABA, GRID_1, TEST_1};
 use rg_ports::{MemoryShelf, MemorySink, NoGate};
 use rg_top::run;
 use std::alloc::Global;
@@ -12,6 +13,13 @@ const READ: usize = 7;
 const WRITE: usize = 10;
 
 const ROOM: usize = 4096;
+
+// Which of the calls and rooms of a run are tried.
+#[derive(Clone, Copy, PartialEq, Eq)]
+enum Tried {
+    Each,
+    FirstMiddleLast,
+}
 
 // What is run, and what is due to out and to err. A run makes `calls` calls of the shelf: for each file of n bytes one
 // that picks it, `ceil(n / 7)` that give bytes, and one that finds its end.
@@ -24,6 +32,12 @@ struct Case<'a> {
     number: u8,
     out: &'a str,
     err: &'a str,
+    tried: Tried,
+}
+
+// Whether the k-th of so many calls or rooms is tried.
+fn is_tried(case: &Case<'_>, k: u64, last: u64) -> bool {
+    case.tried == Tried::Each || k == 1 || k == last / 2 || k == last
 }
 
 // A loop and a step, as a user has them: 153 bytes.
@@ -95,14 +109,14 @@ fn shelf_fails<R: Threads + Sync>(
     Ok(fails && ends(rt, alloc, case, &mut shelf, &mut out, &mut err, due)?)
 }
 
-// Each call of the shelf fails once, and one more than a run makes is none of its calls.
+// Each call of the shelf that is tried fails once, and one more than a run makes is none of its calls.
 fn each_call_of_the_shelf<R: Threads + Sync>(
     rt: &R,
     alloc: Global,
     case: Case<'_>,
 ) -> Result<bool, NoRoom> {
     for k in 1..=case.calls {
-        if !shelf_fails(rt, alloc, case, k)? {
+        if is_tried(&case, k, case.calls) && !shelf_fails(rt, alloc, case, k)? {
             return Ok(false);
         }
     }
@@ -166,7 +180,7 @@ fn due<'a>(case: &Case<'a>) -> &'a [u8] {
     }
 }
 
-// Each call of the sink fails once: it took ten bytes a call before.
+// Each call of the sink that is tried fails once: it took ten bytes a call before.
 fn each_call_of_the_sink<R: Threads + Sync>(
     rt: &R,
     alloc: Global,
@@ -174,8 +188,9 @@ fn each_call_of_the_sink<R: Threads + Sync>(
 ) -> Result<bool, NoRoom> {
     let mut taken = Vec::new(alloc);
     let mut call = 1u64;
+    let last = due(&case).len().div_ceil(WRITE) as u64;
     for piece in due(&case).chunks(WRITE) {
-        if !write_fails(rt, alloc, case, ROOM, &[call], &taken)? {
+        if is_tried(&case, call, last) && !write_fails(rt, alloc, case, ROOM, &[call], &taken)? {
             return Ok(false);
         }
         taken.extend_from_slice(piece)?;
@@ -184,12 +199,14 @@ fn each_call_of_the_sink<R: Threads + Sync>(
     Ok(true)
 }
 
-// Each room less than the text is full.
+// Each room less than the text that is tried is full.
 fn each_room<R: Threads + Sync>(rt: &R, alloc: Global, case: Case<'_>) -> Result<bool, NoRoom> {
     let mut taken = Vec::new(alloc);
+    let last = due(&case).len() as u64;
     for byte in due(&case) {
         let room = taken.len();
-        if !write_fails(rt, alloc, case, room, &[], &taken)? {
+        let k = (room as u64).saturating_add(1);
+        if is_tried(&case, k, last) && !write_fails(rt, alloc, case, room, &[], &taken)? {
             return Ok(false);
         }
         taken.push(*byte)?;
@@ -198,7 +215,7 @@ fn each_room<R: Threads + Sync>(rt: &R, alloc: Global, case: Case<'_>) -> Result
 }
 
 // What is run, over files of 153, 14, 84, 96 and 5 bytes.
-const CASES: [Case<'static>; 7] = [
+const CASES: [Case<'static>; 9] = [
     Case {
         words: &["synthesize", "none", "f"],
         f: SIDE,
@@ -207,6 +224,7 @@ const CASES: [Case<'static>; 7] = [
         number: 0,
         out: SIDE_NET,
         err: "",
+        tried: Tried::Each,
     },
     Case {
         words: &["synthesize", "pure", "f"],
@@ -216,6 +234,7 @@ const CASES: [Case<'static>; 7] = [
         number: 1,
         out: OF_SIDE,
         err: "",
+        tried: Tried::Each,
     },
     Case {
         words: &["synthesize", "none", "f"],
@@ -225,6 +244,7 @@ const CASES: [Case<'static>; 7] = [
         number: 3,
         out: "",
         err: "file 1: open comment at 10\n",
+        tried: Tried::Each,
     },
     Case {
         words: &["verify", "f", "c"],
@@ -234,6 +254,7 @@ const CASES: [Case<'static>; 7] = [
         number: 0,
         out: "accepted: no net of class pure\n",
         err: "",
+        tried: Tried::Each,
     },
     Case {
         words: &["check", "none", "f", "c"],
@@ -243,6 +264,7 @@ const CASES: [Case<'static>; 7] = [
         number: 0,
         out: "yes\n",
         err: "",
+        tried: Tried::Each,
     },
     Case {
         words: &["convert", "graph", "f", "--from", "words"],
@@ -252,6 +274,7 @@ const CASES: [Case<'static>; 7] = [
         number: 0,
         out: ABA_GRAPH,
         err: "",
+        tried: Tried::Each,
     },
     Case {
         words: &[],
@@ -261,8 +284,43 @@ const CASES: [Case<'static>; 7] = [
         number: 2,
         out: "",
         err: "usage: no command\n",
+        tried: Tried::Each,
+    },
+    Case {
+        words: &["generate", "grid", "1"],
+        f: "",
+        c: "",
+        calls: 0,
+        number: 0,
+        out: GRID_1,
+        err: "",
+        tried: Tried::Each,
+    },
+    Case {
+        words: &["selftest", "1"],
+        f: "",
+        c: "",
+        calls: 0,
+        number: 0,
+        out: TEST_1,
+        err: "",
+        tried: Tried::FirstMiddleLast,
     },
 ];
+
+// A chain of 127 doublings, whose text is given, has a number out of range.
+fn too_wide<'a>(f: &'a str) -> Case<'a> {
+    Case {
+        words: &["synthesize", "none", "f"],
+        f,
+        c: "",
+        calls: (f.len().div_ceil(READ) as u64).saturating_add(2),
+        number: 4,
+        out: "",
+        err: "too wide: cycle: 85070591730234615865843651857942052864 * 2 - 0 * 0\n",
+        tried: Tried::FirstMiddleLast,
+    }
+}
 
 #[test]
 fn each_call_of_the_shelf_fails(rt: HostRuntime) -> Result<(), NoRoom> {
@@ -278,6 +336,16 @@ fn each_call_of_a_sink_fails(rt: HostRuntime) -> Result<(), NoRoom> {
         assert!(rt; each_call_of_the_sink(&rt, rt.alloc(), case)?);
         assert!(rt; each_room(&rt, rt.alloc(), case)?);
     }
+    Ok(())
+}
+
+#[test]
+fn each_call_fails_where_a_number_is_out_of_range(rt: HostRuntime) -> Result<(), NoRoom> {
+    let text = doubling(rt.alloc(), 127)?;
+    let case = too_wide(&text);
+    assert!(rt; each_call_of_the_shelf(&rt, rt.alloc(), case)?);
+    assert!(rt; each_call_of_the_sink(&rt, rt.alloc(), case)?);
+    assert!(rt; each_room(&rt, rt.alloc(), case)?);
     Ok(())
 }
 
@@ -300,6 +368,7 @@ fn a_file_is_missing(rt: HostRuntime) -> Result<(), NoRoom> {
             number: 3,
             out: "",
             err: line,
+            tried: Tried::Each,
         };
         let mut shelf = shelf(rt.alloc(), case, &[])?;
         let mut out = sink(rt.alloc(), ROOM, &[])?;

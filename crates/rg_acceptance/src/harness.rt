@@ -1,6 +1,7 @@
 //! A run over one file in memory.
+use rg_apt::print_lts;
 use rg_ports::{Gate, MemoryShelf, MemorySink, NoGate};
-use rg_top::{Status, run};
+use rg_top::{Kind, Status, generate, is_family_number, run};
 use std::alloc::{AllocError, AllocFailed, Global};
 use std::thread::Threads;
 
@@ -119,4 +120,17 @@ pub fn synthesize<R: Threads + Sync>(
     let shelf = shelf(alloc, text, &[])?;
     let out = sink(alloc, 4096, &[])?;
     run_over(rt, alloc, &["synthesize", class, "f"], shelf, out)
+}
+
+/// The text of a chain of so many doublings, from 1 to 255.
+pub fn doubling(alloc: Global, n: u32) -> Result<String, NoRoom> {
+    if !is_family_number(Kind::Doubling, n) {
+        return Err(NoRoom);
+    }
+    let lts = generate(alloc, Kind::Doubling, n)?;
+    let text = print_lts(alloc, &lts)?;
+    match String::from_utf8(text) {
+        Ok(text) => Ok(text),
+        Err(_) => Err(NoRoom),
+    }
 }

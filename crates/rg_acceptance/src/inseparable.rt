@@ -1,11 +1,10 @@
 //! Systems with a problem that no region of the class separates: their certificates, which are worked by hand, and what
 //! `verify` says of those.
-use crate::harness::{NoRoom, judge, synthesize};
+use crate::harness::{NoRoom, doubling, judge, synthesize};
 use crate::worked::{
     ABBAA, CHOICE, CYCLE, OF_ABBAA, OF_CHOICE, OF_CYCLE, OF_PURE_CHOICE, OF_SIDE, SIDE,
 };
 use rg_top::Status;
-use std::alloc::Global;
 
 #[test]
 fn certificates_are_written(rt: HostRuntime) -> Result<(), NoRoom> {
@@ -25,23 +24,6 @@ fn certificates_are_written(rt: HostRuntime) -> Result<(), NoRoom> {
         assert_eq!(rt; judged.status, Status::Done);
     }
     Ok(())
-}
-
-// A system of states q0 to qn in a row, where label a(i+1) leads as far as a(i) twice.
-fn doubling(alloc: Global, n: u32) -> Result<String, NoRoom> {
-    let mut text = String::from_str(alloc, ".type LTS\n.states\nq0[initial]\n")?;
-    let mut labels = String::from_str(alloc, ".labels\na0\n")?;
-    let mut arcs = String::from_str(alloc, ".arcs\n")?;
-    for i in 0..n {
-        let next = i + 1;
-        text.push_str(&format!(in alloc; "m{next}\nq{next}\n")?)?;
-        labels.push_str(&format!(in alloc; "a{next}\n")?)?;
-        arcs.push_str(&format!(in alloc; "q{i} a{i} m{next}\nm{next} a{i} q{next}\n")?)?;
-        arcs.push_str(&format!(in alloc; "q{i} a{next} q{next}\n")?)?;
-    }
-    text.push_str(&labels)?;
-    text.push_str(&arcs)?;
-    Ok(text)
 }
 
 #[test]

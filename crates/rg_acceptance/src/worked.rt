@@ -55,3 +55,11 @@ pub const OF_RING_SAFE: &str =
 /// Two users and one lock.
 pub const LOCK: &str =
     ".type LTS\n.states\nii[initial]\niw\nic\nwi\nww\nwc\nci\ncw\n.labels\nask1\nget1\nput1\nask2\nget2\nput2\n.arcs\nii ask1 wi\nii ask2 iw\niw ask1 ww\niw get2 ic\nic ask1 wc\nic put2 ii\nwi get1 ci\nwi ask2 ww\nww get1 cw\nww get2 wc\nwc put2 wi\nci put1 ii\nci ask2 cw\ncw put1 iw\n";
+
+/// A grid of four points.
+pub const GRID_1: &str =
+    ".type LTS\n.states\ng0_0[initial]\ng0_1\ng1_0\ng1_1\n.labels\nright\nup\n.arcs\ng0_0 right g1_0\ng0_0 up g0_1\ng0_1 right g1_1\ng1_0 up g1_1\n";
+
+/// What a self test of number 1 writes.
+pub const TEST_1: &str =
+    "grid 1: states 4 arcs 4 places 2 check yes\ndoubling 1: states 3 arcs 3 places 1 check yes\nlock 1: states 3 arcs 3 places 3 check yes\n";

@@ -5,8 +5,11 @@ pub mod SynthesizeOnce
 pub mod VerifyOnce
 pub mod CheckOnce
 pub mod ConvertOnce
+pub mod GenerateOnce
+pub mod SelfTestOnce
 pub mod OneEnd
 pub mod Writing
 pub mod Asking
 pub mod Judged
 pub mod Found
+pub mod Trials

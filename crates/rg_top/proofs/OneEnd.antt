@@ -5,16 +5,19 @@ use Rattle.rg_theory.specs.System.{System}
 use Rattle.rg_lts.specs.WellFormed.{IsWellFormed}
 use Rattle.rg_order_of_work.specs.Shown.{Shown}
 use Rattle.rg_outcome.specs.Outcome.{Out, Answer.too_wide as of_term}
-use Rattle.rg_commands.specs.Requests.{Asked, net, judgement, verdict, conversion, system_file, system_form}
+use Rattle.rg_commands.specs.Requests.{Work, net, judgement, verdict, conversion, Asked, of_system, generation, self_test}
 use Rattle.rg_commands.specs.Says.{WordsSay, Ask, AreRefused}
 use Rattle.rg_commands.specs.declared.usage.Usage.{Usage}
+use Rattle.rg_commands.specs.declared.forms.Form.{Form}
 use Rattle.rg_commands.specs.declared.forms.Target.TheVariants as target
 use Rattle.rg_lines.specs.Files.{file_line}
 use Rattle.rg_lines.specs.Usages.{usage_line}
 use Rattle.rg_top.specs.Second.{first_fault}
-use Rattle.rg_top.specs.Ends.{EndsOn, EndsOf, no_system as ends_no_system, on_system as ends_on_system, Answers, refused as ends_refused, asked as ends_asked}
-use Rattle.rg_top.specs.Due.{DueOn, DueOf, no_system as due_no_system, on_system as due_on_system, IsDue, refused as due_refused, asked as due_asked, IsPassed}
+use Rattle.rg_top.specs.Ends.{EndsOn, FileEnds, EndsOf, no_system as ends_no_system, on_system as ends_on_system, Answers, refused as ends_refused, asked as ends_asked}
+use Rattle.rg_top.specs.Due.{DueOn, FileDue, DueOf, no_system as due_no_system, on_system as due_on_system, IsDue, refused as due_refused, asked as due_asked, IsPassed}
 use Rattle.rg_top.specs.Run.{IsDecided, ShowsTerm, IsTheOne, AreOne}
+use Rattle.rg_top.specs.Generate.{GenerateIsDue}
+use Rattle.rg_top.specs.SelfTest.{SelfTestIsDue}
 use Rattle.rg_top.specs.One.{OneAnswer}
 use Rattle.rg_top.specs.declared.status.Status.{Status}
 use Rattle.rg_top.specs.declared.status.Status.TheVariants.{Done, No, Usage as Refuses, File, TooWide, ReadFault, WriteFault, NoMemory}
@@ -23,46 +26,62 @@ use Rattle.rg_top.proofs.SynthesizeOnce.{OneOut, synthesize_due, synthesize_once
 use Rattle.rg_top.proofs.VerifyOnce.{OneJudgement, verify_due, verify_once}
 use Rattle.rg_top.proofs.CheckOnce.{OneVerdict, check_due, check_once}
 use Rattle.rg_top.proofs.ConvertOnce.{convert_due, convert_once}
+use Rattle.rg_top.proofs.GenerateOnce.{OneOfFamily, generate_due, generate_once}
+use Rattle.rg_top.proofs.SelfTestOnce.{OneOfTrials, self_test_due, self_test_once}
 
--- what is one: what words say, what is read, what comes out, what is judged
+-- what is one: what words say, what is read, the system of a family, what comes out, what is judged
 pub record OneOfAll : Type 0 where
   pub words : (words : List (List ℕ)) (a b : Result Asked Usage) → WordsSay words a → WordsSay words b → a ≡ b
   pub reading : OneReading
+  pub system : OneOfFamily
   pub out : OneOut
   pub judgement : OneJudgement
   pub verdict : OneVerdict
 
 -- ---- a request
 
-on_due : OneOfAll → (files : Files) (asked : Asked) (lts : System) (s d : Status) (out err : List ℕ) → IsWellFormed lts → EndsOn (Some files) asked lts s out err → DueOn (Some files) asked lts d → IsTheOne d s
-on_due one files (net class file form) lts s d out err formed x y = synthesize_due one.out class lts s d out err x y
-on_due one files (judgement file cert form) lts s d out err formed x y = verify_due files cert lts s d out err x y
-on_due one files (verdict class file name form) lts s d out err formed x y = check_due one.verdict files class name lts s d out err formed.in_range x y
-on_due one files (conversion target file form) lts s d out err formed x y = convert_due lts target s d out err x y
+on_due : OneOfAll → (files : Files) (work : Work) (lts : System) (s d : Status) (out err : List ℕ) → IsWellFormed lts → EndsOn (Some files) work lts s out err → DueOn (Some files) work lts d → IsTheOne d s
+on_due one files (net class) lts s d out err formed x y = synthesize_due one.out class lts s d out err x y
+on_due one files (judgement cert) lts s d out err formed x y = verify_due files cert lts s d out err x y
+on_due one files (verdict class name) lts s d out err formed x y = check_due one.verdict files class name lts s d out err formed.in_range x y
+on_due one files (conversion target) lts s d out err formed x y = convert_due lts target s d out err x y
 
-on_once : OneOfAll → (files : Files) (asked : Asked) (lts : System) (s s' : Status) (out err out' err' : List ℕ) → IsWellFormed lts → EndsOn (Some files) asked lts s out err → EndsOn (Some files) asked lts s' out' err' → AreOne s s' out out' err err'
-on_once one files (net class file form) lts s s' out err out' err' formed x y = synthesize_once one.out class lts s s' out err out' err' x y
-on_once one files (judgement file cert form) lts s s' out err out' err' formed x y = verify_once one.judgement files cert lts s s' out err out' err' formed x y
-on_once one files (verdict class file name form) lts s s' out err out' err' formed x y = check_once one.verdict files class name lts s s' out err out' err' formed.in_range x y
-on_once one files (conversion target file form) lts s s' out err out' err' formed x y = convert_once lts target s s' out err out' err' x y
+on_once : OneOfAll → (files : Files) (work : Work) (lts : System) (s s' : Status) (out err out' err' : List ℕ) → IsWellFormed lts → EndsOn (Some files) work lts s out err → EndsOn (Some files) work lts s' out' err' → AreOne s s' out out' err err'
+on_once one files (net class) lts s s' out err out' err' formed x y = synthesize_once one.out class lts s s' out err out' err' x y
+on_once one files (judgement cert) lts s s' out err out' err' formed x y = verify_once one.judgement files cert lts s s' out err out' err' formed x y
+on_once one files (verdict class name) lts s s' out err out' err' formed x y = check_once one.verdict files class name lts s s' out err out' err' formed.in_range x y
+on_once one files (conversion target) lts s s' out err out' err' formed x y = convert_once lts target s s' out err out' err' x y
+
+file_due : OneOfAll → (files : Files) (work : Work) (file : List ℕ) (form : Form) (s d : Status) (out err : List ℕ) → FileEnds (Some files) work file form s out err → FileDue (Some files) work file form d → IsTheOne d s
+file_due one files work file form s d out err (ends_no_system f h) (due_no_system g k) = ap (λ x. File (first_fault x)) (one_no_system one.reading files form file f g h k)
+file_due one files work file form s d out err (ends_no_system f h) (due_on_system lts _ k is) = absurd (system_or_none one.reading files form file f lts h k)
+file_due one files work file form s d out err (ends_on_system lts _ _ _ h formed x) (due_no_system g k) = absurd (system_or_none one.reading files form file g lts k h)
+file_due one files work file form s d out err (ends_on_system lts _ _ _ h formed x) (due_on_system other _ k y) =
+    let same = one_system one.reading files form file other lts k h in
+    on_due one files work lts s d out err formed x (subst (λ l. DueOn (Some files) work l d) same y)
+
+file_once : OneOfAll → (files : Files) (work : Work) (file : List ℕ) (form : Form) (s s' : Status) (out err out' err' : List ℕ) → FileEnds (Some files) work file form s out err → FileEnds (Some files) work file form s' out' err' → AreOne s s' out out' err err'
+file_once one files work file form s s' out err out' err' (ends_no_system f h) (ends_no_system g k) =
+    let same = one_no_system one.reading files form file f g h k in
+    (ap (λ x. File (first_fault x)) same, refl, ap (λ x. file_line (first_fault x)) same)
+file_once one files work file form s s' out err out' err' (ends_no_system f h) (ends_on_system lts _ _ _ k formed y) = absurd (system_or_none one.reading files form file f lts h k)
+file_once one files work file form s s' out err out' err' (ends_on_system lts _ _ _ h formed x) (ends_no_system g k) = absurd (system_or_none one.reading files form file g lts k h)
+file_once one files work file form s s' out err out' err' (ends_on_system lts _ _ _ h formed x) (ends_on_system other _ _ _ k formed' y) =
+    let same = one_system one.reading files form file other lts k h in
+    on_once one files work lts s s' out err out' err' formed x (subst (λ l. EndsOn (Some files) work l s' out' err') same y)
+
+trials_of : OneOfAll → OneOfTrials
+trials_of one = record { system = one.system; out = one.out }
 
 of_due : OneOfAll → (files : Files) (asked : Asked) (s d : Status) (out err : List ℕ) → EndsOf (Some files) asked s out err → DueOf (Some files) asked d → IsTheOne d s
-of_due one files asked s d out err (ends_no_system f h) (due_no_system g k) = ap (λ x. File (first_fault x)) (one_no_system one.reading files (system_form asked) (system_file asked) f g h k)
-of_due one files asked s d out err (ends_no_system f h) (due_on_system lts _ k is) = absurd (system_or_none one.reading files (system_form asked) (system_file asked) f lts h k)
-of_due one files asked s d out err (ends_on_system lts _ _ _ h formed x) (due_no_system g k) = absurd (system_or_none one.reading files (system_form asked) (system_file asked) g lts k h)
-of_due one files asked s d out err (ends_on_system lts _ _ _ h formed x) (due_on_system other _ k y) =
-    let same = one_system one.reading files (system_form asked) (system_file asked) other lts k h in
-    on_due one files asked lts s d out err formed x (subst (λ l. DueOn (Some files) asked l d) same y)
+of_due one files (of_system work file form) s d out err x y = file_due one files work file form s d out err x y
+of_due one files (generation kind n) s d out err x y = generate_due kind n s d out err x y
+of_due one files (self_test n) s d out err x y = self_test_due (trials_of one) n s d out err x y
 
 of_once : OneOfAll → (files : Files) (asked : Asked) (s s' : Status) (out err out' err' : List ℕ) → EndsOf (Some files) asked s out err → EndsOf (Some files) asked s' out' err' → AreOne s s' out out' err err'
-of_once one files asked s s' out err out' err' (ends_no_system f h) (ends_no_system g k) =
-    let same = one_no_system one.reading files (system_form asked) (system_file asked) f g h k in
-    (ap (λ x. File (first_fault x)) same, refl, ap (λ x. file_line (first_fault x)) same)
-of_once one files asked s s' out err out' err' (ends_no_system f h) (ends_on_system lts _ _ _ k formed y) = absurd (system_or_none one.reading files (system_form asked) (system_file asked) f lts h k)
-of_once one files asked s s' out err out' err' (ends_on_system lts _ _ _ h formed x) (ends_no_system g k) = absurd (system_or_none one.reading files (system_form asked) (system_file asked) g lts k h)
-of_once one files asked s s' out err out' err' (ends_on_system lts _ _ _ h formed x) (ends_on_system other _ _ _ k formed' y) =
-    let same = one_system one.reading files (system_form asked) (system_file asked) other lts k h in
-    on_once one files asked lts s s' out err out' err' formed x (subst (λ l. EndsOn (Some files) asked l s' out' err') same y)
+of_once one files (of_system work file form) s s' out err out' err' x y = file_once one files work file form s s' out err out' err' x y
+of_once one files (generation kind n) s s' out err out' err' x y = generate_once one.system kind n s s' out err out' err' x y
+of_once one files (self_test n) s s' out err out' err' x y = self_test_once (trials_of one) n s s' out err out' err' x y
 
 -- ---- words
 
@@ -79,28 +98,33 @@ told_due : OneOfAll → (files : Option Files) (asked : Asked) (s d : Status) (o
 told_due one None asked s d out err there x y = let none : ⊥ = cc in absurd none
 told_due one (Some files) asked s d out err there x y = of_due one files asked s d out err x y
 
--- no command is refused once its words are taken
-never_refused : (files : Option Files) (asked : Asked) (lts : System) (usage : Usage) → DueOn files asked lts (Refuses usage) → ⊥
-never_refused files (net class file form) lts usage is = is
-never_refused files (judgement file cert form) lts usage is = is
-never_refused files (verdict class file name form) lts usage is = is
-never_refused files (conversion target.Apt file form) lts usage is = is
-never_refused files (conversion target.Graph file form) lts usage is = is
+-- what is due to a request is no refusal of words, so it is decided where the files are told
+no_refusal_told : (files : Option Files) (d : Status) → IsDecided files d → ((usage : Usage) → d ≡ Refuses usage → ⊥) → IsSome files
+no_refusal_told files (Refuses usage) decided none = absurd (none usage refl)
+no_refusal_told files Done decided none = decided
+no_refusal_told files No decided none = decided
+no_refusal_told files (File fault) decided none = decided
+no_refusal_told files (TooWide cause) decided none = decided
+no_refusal_told files ReadFault decided none = decided
+no_refusal_told files WriteFault decided none = decided
+no_refusal_told files NoMemory decided none = decided
 
--- a status that is due to a request is decided where the files are told
-on_told : (files : Option Files) (asked : Asked) (lts : System) (d : Status) → IsDecided files d → DueOn files asked lts d → IsSome files
-on_told files asked lts (Refuses usage) decided is = absurd (never_refused files asked lts usage is)
-on_told files asked lts Done decided is = decided
-on_told files asked lts No decided is = decided
-on_told files asked lts (File fault) decided is = decided
-on_told files asked lts (TooWide cause) decided is = decided
-on_told files asked lts ReadFault decided is = decided
-on_told files asked lts WriteFault decided is = decided
-on_told files asked lts NoMemory decided is = decided
+never_refused : (files : Option Files) (work : Work) (lts : System) (usage : Usage) → DueOn files work lts (Refuses usage) → ⊥
+never_refused files (net class) lts usage is = is
+never_refused files (judgement cert) lts usage is = is
+never_refused files (verdict class name) lts usage is = is
+never_refused files (conversion target.Apt) lts usage is = is
+never_refused files (conversion target.Graph) lts usage is = is
+
+file_told : (files : Option Files) (work : Work) (file : List ℕ) (form : Form) (d : Status) → IsDecided files d → FileDue files work file form d → IsSome files
+file_told files work file form d decided (due_no_system f h) = decided
+file_told files work file form d decided (due_on_system lts status h is) =
+    no_refusal_told files status decided (λ usage e. never_refused files work lts usage (subst (DueOn files work lts) e is))
 
 told : (files : Option Files) (asked : Asked) (d : Status) → IsDecided files d → DueOf files asked d → IsSome files
-told files asked d decided (due_no_system f h) = decided
-told files asked d decided (due_on_system lts status h is) = on_told files asked lts status decided is
+told files (of_system work file form) d decided y = file_told files work file form d decided y
+told files (generation kind n) d decided is = no_refusal_told files d decided (λ usage e. subst (GenerateIsDue kind n) e is)
+told files (self_test n) d decided is = no_refusal_told files d decided (λ usage e. subst (SelfTestIsDue n) e is)
 
 pub answers_due : OneOfAll → (words : List (List ℕ)) (files : Option Files) (s d : Status) (out err : List ℕ) → IsDecided files d → Answers words files s out err → IsDue words files d → IsTheOne d s
 answers_due one words files s d out err decided (ends_refused u is) (due_refused v also) = ap Refuses (same_usage one words u v is also)
@@ -122,7 +146,7 @@ answers_once one words files s s' out err out' err' (ends_asked asked status o e
 -- ---- a term that is out of range
 
 of_term_shown : OneOfAll → (files : Files) (words : List (List ℕ)) (w : Shown) (s : Status) (out err : List ℕ) (passed : IsPassed words (Some files) w)
-    → EndsOf (Some files) (net passed.class passed.file passed.form) s out err → ShowsTerm w s
+    → FileEnds (Some files) (net passed.class) passed.file passed.form s out err → ShowsTerm w s
 of_term_shown one files words w s out err passed (ends_no_system f h) = absurd (system_or_none one.reading files passed.form passed.file f passed.lts h passed.spelled)
 of_term_shown one files words w s out err passed (ends_on_system lts status o e h formed x) =
     let same = one_system one.reading files passed.form passed.file passed.lts lts passed.spelled h in
@@ -130,9 +154,9 @@ of_term_shown one files words w s out err passed (ends_on_system lts status o e 
 
 pub answers_term : OneOfAll → (words : List (List ℕ)) (files : Option Files) (w : Shown) (s : Status) (out err : List ℕ) → IsSome files → Answers words files s out err → IsPassed words files w → ShowsTerm w s
 answers_term one words None w s out err there x passed = let none : ⊥ = cc in absurd none
-answers_term one words (Some files) w s out err there (ends_refused u is) passed = absurd (not_both one words (net passed.class passed.file passed.form) u passed.ask is)
+answers_term one words (Some files) w s out err there (ends_refused u is) passed = absurd (not_both one words (of_system (net passed.class) passed.file passed.form) u passed.ask is)
 answers_term one words (Some files) w s out err there (ends_asked asked status o e ask x) passed =
-    of_term_shown one files words w status o e passed (subst (λ a. EndsOf (Some files) a status o e) (same_asked one words asked (net passed.class passed.file passed.form) ask passed.ask) x)
+    of_term_shown one files words w status o e passed (subst (λ a. EndsOf (Some files) a status o e) (same_asked one words asked (of_system (net passed.class) passed.file passed.form) ask passed.ask) x)
 
 pub all_one : OneOfAll → OneAnswer
 all_one one = record { once = answers_once one; due = answers_due one; term = answers_term one }

@@ -44,6 +44,10 @@ line_of words w = codes "too wide: " ++ words ++ codes ": " ++ term_text w.wide 
 same_line : (at : WideAt) (w : Shown) → shown_of at ≡ w → wide_line (Synthesis at) ≡ line_of (words_of w.stage) w
 same_line at w is = ap (λ words. line_of words (shown_of at)) (same_words at.stage) ∙ ap (λ v. line_of (words_of v.stage) v) is
 
+-- two places at which the same term passes have one line
+pub same_term_line : (at other : WideAt) → shown_of at ≡ shown_of other → wide_line (Synthesis at) ≡ wide_line (Synthesis other)
+same_term_line at other is = same_line at (shown_of other) is ∙ sym (same_line other (shown_of other) refl)
+
 -- ---- what is written for an answer
 
 abbrev IsStatus : Answer → Status → Type 0

@@ -3,12 +3,15 @@ use Rattle.std.proofs.Common.{◌≡◌, ◌⊎◌, inl, inr, ℕ, true, List, [
 use Rattle.rg_ports.specs.Shelf.{Files}
 use Rattle.rg_ports.specs.Sink.{taken_with, TakesPart}
 use Rattle.rg_theory.specs.System.{System}
-use Rattle.rg_commands.specs.Requests.{Asked, net, judgement, verdict, conversion}
+use Rattle.rg_commands.specs.Requests.{Work, net, judgement, verdict, conversion, Asked, of_system, generation, self_test}
+use Rattle.rg_commands.specs.declared.forms.Form.{Form}
 use Rattle.rg_top.specs.Synthesize.{a_net, a_certificate, a_term}
 use Rattle.rg_top.specs.Verify as verify
 use Rattle.rg_top.specs.Check as check
 use Rattle.rg_top.specs.Convert.{as_apt, as_graph, label_lost, state_lost}
-use Rattle.rg_top.specs.Ends.{EndsOn, EndsOf, no_system, on_system, Answers, refused, asked}
+use Rattle.rg_top.specs.Generate.{a_system}
+use Rattle.rg_top.specs.SelfTest.{three_lines, first_passes, second_passes, third_passes}
+use Rattle.rg_top.specs.Ends.{EndsOn, FileEnds, EndsOf, no_system, on_system, Answers, refused, asked}
 use Rattle.rg_top.specs.Run.{Run, Takes, IsLeft, Breaks, Says, Ends, FailsToWrite}
 use Rattle.rg_top.specs.declared.status.Status.{Status}
 use Rattle.rg_top.specs.declared.status.Status.TheVariants.{Done, No, Usage, File, TooWide}
@@ -21,25 +24,33 @@ data Due (out err : List ℕ) : Status → Type 0 where
   file : (f : _) → out ≡ [] → Due out err (File f)
   wide : (w : _) → out ≡ [] → Due out err (TooWide w)
 
-on_one_sink : (files : Option Files) (asked : Asked) (lts : System) (s : Status) (out err : List ℕ) → EndsOn files asked lts s out err → Due out err s
-on_one_sink files (net class name form) lts s out err (a_net text is) = done refl
-on_one_sink files (net class name form) lts s out err (a_certificate text is) = no refl
-on_one_sink files (net class name form) lts s out err (a_term at is) = wide _ refl
-on_one_sink files (judgement name cert form) lts s out err (verify.unread fault is) = file _ refl
-on_one_sink files (judgement name cert form) lts s out err (verify.accepted class is none) = done refl
-on_one_sink files (judgement name cert form) lts s out err (verify.refused text is why) = no refl
-on_one_sink files (verdict class name other form) lts s out err (check.unread fault is) = file _ refl
-on_one_sink files (verdict class name other form) lts s out err (check.yes is right) = done refl
-on_one_sink files (verdict class name other form) lts s out err (check.no n is wrong) = no refl
-on_one_sink files (verdict class name other form) lts s out err (check.passes w is) = wide _ refl
-on_one_sink files (conversion target name form) lts s out err (as_apt spelled) = done refl
-on_one_sink files (conversion target name form) lts s out err (as_graph l r again) = done refl
-on_one_sink files (conversion target name form) lts s out err (label_lost t is) = no refl
-on_one_sink files (conversion target name form) lts s out err (state_lost q is) = no refl
+on_one_sink : (files : Option Files) (work : Work) (lts : System) (s : Status) (out err : List ℕ) → EndsOn files work lts s out err → Due out err s
+on_one_sink files (net class) lts s out err (a_net text is) = done refl
+on_one_sink files (net class) lts s out err (a_certificate text is) = no refl
+on_one_sink files (net class) lts s out err (a_term at is) = wide _ refl
+on_one_sink files (judgement cert) lts s out err (verify.unread fault is) = file _ refl
+on_one_sink files (judgement cert) lts s out err (verify.accepted class is none) = done refl
+on_one_sink files (judgement cert) lts s out err (verify.refused text is why) = no refl
+on_one_sink files (verdict class other) lts s out err (check.unread fault is) = file _ refl
+on_one_sink files (verdict class other) lts s out err (check.yes is right) = done refl
+on_one_sink files (verdict class other) lts s out err (check.no n is wrong) = no refl
+on_one_sink files (verdict class other) lts s out err (check.passes w is) = wide _ refl
+on_one_sink files (conversion target) lts s out err (as_apt spelled) = done refl
+on_one_sink files (conversion target) lts s out err (as_graph l r again) = done refl
+on_one_sink files (conversion target) lts s out err (label_lost t is) = no refl
+on_one_sink files (conversion target) lts s out err (state_lost q is) = no refl
+
+of_file_one_sink : (files : Option Files) (work : Work) (name : List ℕ) (form : Form) (s : Status) (out err : List ℕ) → FileEnds files work name form s out err → Due out err s
+of_file_one_sink files work name form s out err (no_system fault is) = file _ refl
+of_file_one_sink files work name form s out err (on_system lts _ _ _ is formed x) = on_one_sink files work lts s out err x
 
 of_one_sink : (files : Option Files) (asked : Asked) (s : Status) (out err : List ℕ) → EndsOf files asked s out err → Due out err s
-of_one_sink files request s out err (no_system fault is) = file _ refl
-of_one_sink files request s out err (on_system lts _ _ _ is formed x) = on_one_sink files request lts s out err x
+of_one_sink files (of_system work name form) s out err x = of_file_one_sink files work name form s out err x
+of_one_sink files (generation kind n) s out err (a_system lts family formed spelled) = done refl
+of_one_sink files (self_test n) s out err (three_lines f g h a b c) = done refl
+of_one_sink files (self_test n) s out err (first_passes at p) = wide _ refl
+of_one_sink files (self_test n) s out err (second_passes f at a p) = wide _ refl
+of_one_sink files (self_test n) s out err (third_passes f g at a b p) = wide _ refl
 
 one_sink : (words : List (List ℕ)) (files : Option Files) (s : Status) (out err : List ℕ) → Answers words files s out err → Due out err s
 one_sink words files s out err (refused u is) = usage u refl

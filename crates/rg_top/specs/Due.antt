@@ -5,7 +5,7 @@ use Rattle.rg_theory.specs.System.{System}
 use Rattle.rg_theory.specs.declared.Class.{Class}
 use Rattle.rg_order_of_work.specs.Shown.{Shown}
 use Rattle.rg_outcome.specs.Outcome.{Out, Answer.too_wide as of_term}
-use Rattle.rg_commands.specs.Requests.{Asked, net, judgement, verdict, conversion, system_file, system_form}
+use Rattle.rg_commands.specs.Requests.{Work, net, judgement, verdict, conversion, Asked, of_system, generation, self_test}
 use Rattle.rg_commands.specs.Says.{Ask, AreRefused}
 use Rattle.rg_commands.specs.declared.usage.Usage.{Usage}
 use Rattle.rg_commands.specs.declared.forms.Form.{Form}
@@ -16,20 +16,28 @@ use Rattle.rg_top.specs.Synthesize.{SynthesizeIsDue}
 use Rattle.rg_top.specs.Verify.{VerifyIsDue}
 use Rattle.rg_top.specs.Check.{CheckIsDue}
 use Rattle.rg_top.specs.Convert.{ConvertIsDue}
+use Rattle.rg_top.specs.Generate.{GenerateIsDue}
+use Rattle.rg_top.specs.SelfTest.{SelfTestIsDue}
 use Rattle.rg_top.specs.declared.status.Status.{Status}
 use Rattle.rg_top.specs.declared.status.Status.TheVariants.{Usage as Refuses, File}
 
--- the status is due to a request whose first file spells the system
-abbrev pub DueOn : Option Files → Asked → System → Status → Type 0
-DueOn files (net class file form) lts = SynthesizeIsDue class lts
-DueOn files (judgement file cert form) lts = VerifyIsDue files cert lts
-DueOn files (verdict class file named form) lts = CheckIsDue files class named lts
-DueOn files (conversion target file form) lts = ConvertIsDue lts target
+-- the status is due to work on a system where the file spells the system
+abbrev pub DueOn : Option Files → Work → System → Status → Type 0
+DueOn files (net class) lts = SynthesizeIsDue class lts
+DueOn files (judgement cert) lts = VerifyIsDue files cert lts
+DueOn files (verdict class named) lts = CheckIsDue files class named lts
+DueOn files (conversion target) lts = ConvertIsDue lts target
+
+-- the status is due to work on the system of a file
+pub data FileDue (files : Option Files) (work : Work) (file : List ℕ) (form : Form) : Status → Type 0 where
+  no_system : (fault : Fault) → IsNoSystem files form file fault → FileDue files work file form (File (first_fault fault))
+  on_system : (lts : System) (status : Status) → IsSystemFile files form file lts → DueOn files work lts status → FileDue files work file form status
 
 -- the status is due to a request
-pub data DueOf (files : Option Files) (asked : Asked) : Status → Type 0 where
-  no_system : (fault : Fault) → IsNoSystem files (system_form asked) (system_file asked) fault → DueOf files asked (File (first_fault fault))
-  on_system : (lts : System) (status : Status) → IsSystemFile files (system_form asked) (system_file asked) lts → DueOn files asked lts status → DueOf files asked status
+abbrev pub DueOf : Option Files → Asked → Status → Type 0
+DueOf files (of_system work file form) = FileDue files work file form
+DueOf files (generation kind n) = GenerateIsDue kind n
+DueOf files (self_test n) = SelfTestIsDue n
 
 -- the status is due to the words
 pub data IsDue (words : List (List ℕ)) (files : Option Files) : Status → Type 0 where
@@ -41,7 +49,7 @@ pub record IsPassed (words : List (List ℕ)) (files : Option Files) (w : Shown)
   pub class : Class
   pub file : List ℕ
   pub form : Form
-  pub ask : Ask words (net class file form)
+  pub ask : Ask words (of_system (net class) file form)
   pub lts : System
   pub spelled : IsSystemFile files form file lts
   pub answer : Out lts class (of_term w)

@@ -5,6 +5,8 @@ pub mod Synthesize
 pub mod Verify
 pub mod Check
 pub mod Convert
+pub mod Generate
+pub mod SelfTest
 pub mod Ends
 pub mod Due
 pub mod Run

@@ -1,6 +1,7 @@
 -- What the parts of the answer say. Contracts of the crate's private functions cite it.
 use Rattle.std.specs.Prelude.{◌≡◌, ◌≤◌, ◌++◌, ℕ, Bool, List, [], ◌∷◌, Option, option_map, Ok, Err}
 use Rattle.rg_ports.specs.Calls.{LastCall, ReadsFile}
+use Rattle.rg_ports.specs.Shelf.{Files}
 use Rattle.rg_integers.specs.Range.{greatest}
 use Rattle.rg_theory.specs.System.{System}
 use Rattle.rg_theory.specs.Net.{Net}
@@ -15,9 +16,10 @@ use Rattle.rg_net_verdict.specs.declared.verdict.CheckWide.{CheckWide}
 use Rattle.rg_net_verdict.specs.declared.verdict.NetNo.{NetNo}
 use Rattle.rg_net_verdict.specs.declared.verdict.NetVerdict.TheVariants as verdict_of
 use Rattle.rg_net_verdict.specs.Verdict.{IsVerdict}
-use Rattle.rg_commands.specs.Requests.{Asked, net, judgement, verdict, conversion}
+use Rattle.rg_commands.specs.Requests as asked
+use Rattle.rg_commands.specs.Requests.{Asked, of_system, generation, self_test, net, judgement, verdict, conversion}
 use Rattle.rg_commands.specs.declared.request.Request.{Request}
-use Rattle.rg_commands.specs.declared.request.Request.TheVariants.{Synthesize, Verify, Check, Convert}
+use Rattle.rg_commands.specs.declared.request.Request.TheVariants.{Synthesize, Verify, Check, Convert, Generate, SelfTest}
 use Rattle.rg_lines.specs.CheckedTexts.{yes_line, no_line}
 use Rattle.rg_lines.specs.Files.{file_line}
 use Rattle.rg_lines.specs.JudgedTexts.{accepted_line, refused_line}
@@ -27,8 +29,13 @@ use Rattle.rg_lines.specs.declared.wide.WideCause.TheVariants as wide
 use Rattle.rg_top.specs.Check.{IsNetFault}
 use Rattle.rg_top.specs.Second.{second_fault}
 use Rattle.rg_top.specs.Verify.{IsRefusedFor}
+use Rattle.rg_top.specs.Run.{AsksFiles, ReadsFiles}
 use Rattle.rg_top.specs.declared.status.Status.{Status}
 use Rattle.rg_top.specs.declared.status.Status.TheVariants.{Done, No, File, TooWide}
+use Rattle.rg_top.specs.declared.task.Work.{Work}
+use Rattle.rg_top.specs.declared.task.Work.TheVariants as task
+use Rattle.rg_top.specs.declared.task.Task.{Task}
+use Rattle.rg_top.specs.declared.task.Task.TheVariants.{OfSystem, Generation, SelfTest as SelfTested}
 
 -- some job does the work that is asked
 abbrev pub HasJobs : Request → Type 0
@@ -36,13 +43,48 @@ HasJobs (Synthesize words) = 1 ≤ words.jobs
 HasJobs (Verify words) = Unit {0}
 HasJobs (Check words) = Unit {0}
 HasJobs (Convert words) = Unit {0}
+HasJobs (Generate words) = Unit {0}
+HasJobs (SelfTest words) = Unit {0}
 
--- the names of the files behind the first, in order
-abbrev pub more_files : Asked → List (List ℕ)
-more_files (net class file form) = []
-more_files (judgement file cert form) = cert ∷ []
-more_files (verdict class file named form) = named ∷ []
-more_files (conversion target file form) = []
+abbrev pub HasWorkJobs : Work → Type 0
+HasWorkJobs (task.Net class jobs) = 1 ≤ jobs
+HasWorkJobs (task.Judgement cert) = Unit {0}
+HasWorkJobs (task.Verdict class named) = Unit {0}
+HasWorkJobs (task.Conversion target) = Unit {0}
+
+abbrev pub HasTaskJobs : Task → Type 0
+HasTaskJobs (OfSystem work file form) = HasWorkJobs work
+HasTaskJobs (Generation kind n) = Unit {0}
+HasTaskJobs (SelfTested n) = Unit {0}
+
+-- the work that is asked of a system, and what a task asks
+abbrev pub work_of : Work → asked.Work
+work_of (task.Net class jobs) = net class
+work_of (task.Judgement cert) = judgement cert.now
+work_of (task.Verdict class named) = verdict class named.now
+work_of (task.Conversion target) = conversion target
+
+abbrev pub asked_of : Task → Asked
+asked_of (OfSystem work file form) = of_system (work_of work) file.now form
+asked_of (Generation kind n) = generation kind n
+asked_of (SelfTested n) = self_test n
+
+-- the calls of a request: those for its files, or none
+abbrev pub AsksOf : Option Files → Asked → Option (List (List ℕ)) → Option (List (List ℕ)) → Type 0
+AsksOf files (of_system work file form) before after = AsksFiles files work file form before after
+AsksOf files (generation kind n) before after = after ≡ before
+AsksOf files (self_test n) before after = after ≡ before
+
+abbrev pub ReadsOf : {S : Type 0} (finds : S → List ℕ → Option Bool → S → Type 0) (hands : S → ℕ → Option ℕ → S → Type 0) → Option Files → Asked → S → S → Type 0
+ReadsOf finds hands files (of_system work file form) s t = ReadsFiles finds hands files work file form s t
+ReadsOf finds hands files (generation kind n) s t = t ≡ s
+ReadsOf finds hands files (self_test n) s t = t ≡ s
+
+-- the request is for work on the system of a file
+abbrev pub IsOfFile : Asked → Type 0
+IsOfFile (of_system work file form) = Unit {0}
+IsOfFile (generation kind n) = ⊥
+IsOfFile (self_test n) = ⊥
 
 -- the names asked for, with these
 abbrev pub asked_more : Option (List (List ℕ)) → List (List ℕ) → Option (List (List ℕ))

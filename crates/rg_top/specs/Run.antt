@@ -7,8 +7,9 @@ use Rattle.rg_ports.specs.Sink.{taken_with, TakesPart}
 use Rattle.rg_theory.specs.System.{System}
 use Rattle.rg_order_of_work.specs.Shown.{Shown}
 use Rattle.rg_separate.specs.View.{shown_of}
-use Rattle.rg_commands.specs.Requests.{Asked, file_words, system_file, system_form}
+use Rattle.rg_commands.specs.Requests.{Work, Asked, of_system, file_words}
 use Rattle.rg_commands.specs.Says.{Ask}
+use Rattle.rg_commands.specs.declared.forms.Form.{Form}
 use Rattle.rg_lines.specs.declared.wide.WideCause.TheVariants.{Synthesis}
 use Rattle.rg_top.specs.Given.{IsSystemFile}
 use Rattle.rg_top.specs.Ends.{Answers}
@@ -62,8 +63,10 @@ pub record Says (run : Run) (status : Status) : Type 0 where
 
 -- a fault of the shelf: the words name files, and its count of faults has risen
 pub record IsReadFault (words : List (List ℕ)) (faults : Change ℕ) : Type 0 where
-  pub asked : Asked
-  pub ask : Ask words asked
+  pub work : Work
+  pub file : List ℕ
+  pub form : Form
+  pub ask : Ask words (of_system work file form)
   pub risen : HasRisen faults.before faults.after
 
 -- a file that the words name couldn't be read; nothing was written
@@ -92,28 +95,30 @@ Ends run WriteFault = FailsToWrite run
 Ends run NoMemory = LacksMemory run
 Ends run status = Says run status
 
--- the shelf was asked for some first ones of the files of what is asked, each once and in order, and for the second one only
--- where the first spells a system
-abbrev pub AsksFiles : Option Files → Asked → Option (List (List ℕ)) → Option (List (List ℕ)) → Type 0
-AsksFiles files asked before after =
-    (names left : List (List ℕ)) × (file_words asked ≡ names ++ left) × (after ≡ option_map (λ all. all ++ names) before)
-    × (1 < length names → (lts : System) × IsSystemFile files (system_form asked) (system_file asked) lts)
+-- the shelf was asked for some first ones of the files of the work, each once and in order, and for the second one only where the
+-- first spells a system
+abbrev pub AsksFiles : Option Files → Work → List ℕ → Form → Option (List (List ℕ)) → Option (List (List ℕ)) → Type 0
+AsksFiles files work file form before after =
+    (names left : List (List ℕ)) × (file_words (of_system work file form) ≡ names ++ left) × (after ≡ option_map (λ all. all ++ names) before)
+    × (1 < length names → (lts : System) × IsSystemFile files form file lts)
 
 -- the shelf was asked for some first ones of the files that the words name, or for nothing
 abbrev pub AsksAtMost : List (List ℕ) → Option Files → Option (List (List ℕ)) → Option (List (List ℕ)) → Type 0
-AsksAtMost words files before after = (after ≡ before) ⊎ ((asked : Asked) × Ask words asked × AsksFiles files asked before after)
+AsksAtMost words files before after =
+    (after ≡ before) ⊎ ((work : Work) × (file : List ℕ) × (form : Form) × Ask words (of_system work file form) × AsksFiles files work file form before after)
 
--- the calls that read the first file of what is asked, and behind them, where its end was found and it spells a system, those
--- that read the second one
-pub data ReadsFiles {S : Type 0} (finds : S → List ℕ → Option Bool → S → Type 0) (hands : S → ℕ → Option ℕ → S → Type 0) (files : Option Files) (asked : Asked) : S → S → Type 0 where
-  first_alone : (s t : S) (last : LastCall) → ReadsFile finds hands (system_file asked) s last t → ReadsFiles finds hands files asked s t
-  both : (second : List ℕ) (s m t : S) (lts : System) (last : LastCall) → file_words asked ≡ system_file asked ∷ second ∷ []
-      → ReadsFile finds hands (system_file asked) s finds_end m → IsSystemFile files (system_form asked) (system_file asked) lts
-      → ReadsFile finds hands second m last t → ReadsFiles finds hands files asked s t
+-- the calls that read the system's file, and behind them, where its end was found and it spells a system, those that read the second
+-- one
+pub data ReadsFiles {S : Type 0} (finds : S → List ℕ → Option Bool → S → Type 0) (hands : S → ℕ → Option ℕ → S → Type 0) (files : Option Files) (work : Work) (file : List ℕ) (form : Form) : S → S → Type 0 where
+  first_alone : (s t : S) (last : LastCall) → ReadsFile finds hands file s last t → ReadsFiles finds hands files work file form s t
+  both : (second : List ℕ) (s m t : S) (lts : System) (last : LastCall) → file_words (of_system work file form) ≡ file ∷ second ∷ []
+      → ReadsFile finds hands file s finds_end m → IsSystemFile files form file lts
+      → ReadsFile finds hands second m last t → ReadsFiles finds hands files work file form s t
 
 -- no call of the shelf, or those that read the files that the words name; none after the end of a file was found
 abbrev pub ReadsAtMost : {S : Type 0} (finds : S → List ℕ → Option Bool → S → Type 0) (hands : S → ℕ → Option ℕ → S → Type 0) → List (List ℕ) → Option Files → S → S → Type 0
-ReadsAtMost finds hands words files s t = (t ≡ s) ⊎ ((asked : Asked) × Ask words asked × ReadsFiles finds hands files asked s t)
+ReadsAtMost finds hands words files s t =
+    (t ≡ s) ⊎ ((work : Work) × (file : List ℕ) × (form : Form) × Ask words (of_system work file form) × ReadsFiles finds hands files work file form s t)
 
 -- a fault, or want of memory
 abbrev pub IsMishap : Status → Type 0

@@ -2,20 +2,23 @@
 ghost use Rattle.std.specs.Prelude.{◌≡◌, ℕ, ◌≤◌, [], map, string_bytes, IfOk, IsErrOf};
 ghost use Rattle.rg_ports.specs.Count.{HasRisen};
 ghost use Rattle.rg_lts.specs.WellFormed.{IsWellFormed};
-ghost use Rattle.rg_commands.specs.Requests.{asked_by, system_file, system_form, HasBounds};
+ghost use Rattle.rg_commands.specs.Requests.{asked_by, second_files, HasBounds, HasClassBound};
 ghost use Rattle.rg_lines.specs.Usages.{usage_line};
 ghost use Rattle.rg_lines.specs.Files.{file_line};
 ghost use Rattle.rg_lines.specs.Wides.{wide_line};
-ghost use Rattle.rg_top.specs.Ends.{EndsOn, EndsOf, Answers};
-ghost use Rattle.rg_top.specs.Requests.{HasJobs, more_files, asked_more, ReadsMore};
+ghost use Rattle.rg_top.specs.Ends.{EndsOn, FileEnds, EndsOf, Answers};
+ghost use Rattle.rg_top.specs.Requests.{HasJobs, HasWorkJobs, work_of, asked_more, ReadsMore, AsksOf, ReadsOf, IsOfFile};
 ghost use Rattle.rg_top.specs.Run.{AsksAtMost, AsksFiles, ReadsAtMost, ReadsFiles, IsReadFault};
 ghost use Rattle.rg_top.specs.declared.answer.Stop.TheVariants as stop;
 
 use crate::checking::verdict_answer;
 use crate::converting::conversion_answer;
 use crate::files::{FileStop, read_system};
+use crate::generating::generated_answer;
 use crate::status::Status;
 use crate::synthesizing::net_answer;
+use crate::task::{Task, Work, task_of};
+use crate::testing::self_test_answer;
 use crate::verifying::judgement_answer;
 use rg_commands::{Form, Request, Usage, WordsStop, read_words};
 use rg_lines::{Fault, FileFault, WideCause, file_text, usage_text, wide_text};
@@ -85,40 +88,40 @@ fn request_answer<R: Threads + Sync, H: Shelf, G: Gate + Sync>(
 ) -> Result<Answer, Stop>
     requires bounds { HasBounds (asked_by request) }
     requires jobs { HasJobs request }
-    ensures asked { AsksFiles (H.files shelf.old) (asked_by request.entry) (H.asked shelf.old) (H.asked shelf.new) }
-    ensures reads { ReadsFiles H.finds H.hands (H.files shelf.old) (asked_by request.entry) shelf.old shelf.new }
+    ensures asked { AsksOf (H.files shelf.old) (asked_by request.entry) (H.asked shelf.old) (H.asked shelf.new) }
+    ensures reads { ReadsOf H.finds H.hands (H.files shelf.old) (asked_by request.entry) shelf.old shelf.new }
     ensures ok { IfOk result (λ a. EndsOf (H.files shelf.old) (asked_by request.entry) a.status a.out.items a.err.items) }
+    ensures fault { IsErrOf result stop.ReadFault → IsOfFile (asked_by request.entry) × HasRisen (H.faults shelf.old) (H.faults shelf.new) }
+{
+    match task_of(request) {
+        Task::OfSystem(work, file, form) => file_answer(rt, alloc, work, file, form, shelf, gate),
+        Task::Generation(kind, n) => Ok(generated_answer(alloc, kind, n)?),
+        Task::SelfTest(n) => Ok(self_test_answer(rt, alloc, n, gate)?),
+    }
+}
+
+// The answer to work on the system of a file.
+fn file_answer<R: Threads + Sync, H: Shelf, G: Gate + Sync>(
+    rt: &R,
+    alloc: Global,
+    work: Work<'_>,
+    file: &str,
+    form: Form,
+    shelf: &mut H,
+    gate: &G,
+) -> Result<Answer, Stop>
+    requires bounds { HasClassBound (work_of work) }
+    requires jobs { HasWorkJobs work }
+    ensures asked { AsksFiles (H.files shelf.old) (work_of work.entry) file.now form (H.asked shelf.old) (H.asked shelf.new) }
+    ensures reads { ReadsFiles H.finds H.hands (H.files shelf.old) (work_of work.entry) file.now form shelf.old shelf.new }
+    ensures ok { IfOk result (λ a. FileEnds (H.files shelf.old) (work_of work.entry) file.now form a.status a.out.items a.err.items) }
     ensures fault { IsErrOf result stop.ReadFault → HasRisen (H.faults shelf.old) (H.faults shelf.new) }
 {
-    match read_system(alloc, shelf, file_of(&request), form_of(&request)) {
-        Ok(lts) => system_answer(rt, alloc, request, &lts, shelf, gate),
+    match read_system(alloc, shelf, file, form) {
+        Ok(lts) => system_answer(rt, alloc, work, &lts, shelf, gate),
         Err(FileStop::Refused(fault)) => Ok(file_refusal(alloc, 1, fault)?),
         Err(FileStop::Failed) => Err(Stop::ReadFault),
         Err(FileStop::NoMemory) => Err(Stop::NoMemory),
-    }
-}
-
-// The name of the file of the system.
-fn file_of<'a>(request: &Request<'a>) -> &'a str
-    ensures { result.now ≡ system_file (asked_by request.now) }
-{
-    match request {
-        Request::Synthesize(words) => words.file,
-        Request::Verify(words) => words.file,
-        Request::Check(words) => words.file,
-        Request::Convert(words) => words.file,
-    }
-}
-
-// The form of the file of the system.
-fn form_of(request: &Request<'_>) -> Form
-    ensures { result ≡ system_form (asked_by request.now) }
-{
-    match request {
-        Request::Synthesize(words) => words.form,
-        Request::Verify(words) => words.form,
-        Request::Check(words) => words.form,
-        Request::Convert(words) => words.form,
     }
 }
 
@@ -126,28 +129,26 @@ fn form_of(request: &Request<'_>) -> Form
 fn system_answer<R: Threads + Sync, H: Shelf, G: Gate + Sync>(
     rt: &R,
     alloc: Global,
-    request: Request<'_>,
+    work: Work<'_>,
     lts: &Lts,
     shelf: &mut H,
     gate: &G,
 ) -> Result<Answer, Stop>
-    requires bounds { HasBounds (asked_by request) }
-    requires jobs { HasJobs request }
+    requires bounds { HasClassBound (work_of work) }
+    requires jobs { HasWorkJobs work }
     ensures formed { IsWellFormed lts.now }
-    ensures asked { H.asked shelf.new ≡ asked_more (H.asked shelf.old) (more_files (asked_by request.entry)) }
-    ensures reads { ReadsMore H.finds H.hands (more_files (asked_by request.entry)) shelf.old shelf.new }
-    ensures ok { IfOk result (λ a. EndsOn (H.files shelf.old) (asked_by request.entry) lts.now a.status a.out.items a.err.items) }
+    ensures asked { H.asked shelf.new ≡ asked_more (H.asked shelf.old) (second_files (work_of work.entry)) }
+    ensures reads { ReadsMore H.finds H.hands (second_files (work_of work.entry)) shelf.old shelf.new }
+    ensures ok { IfOk result (λ a. EndsOn (H.files shelf.old) (work_of work.entry) lts.now a.status a.out.items a.err.items) }
     ensures never_falls { H.faults shelf.old ≤ H.faults shelf.new }
     ensures fault { IsErrOf result stop.ReadFault → HasRisen (H.faults shelf.old) (H.faults shelf.new) }
 {
     lts.is_well_formed();
-    match request {
-        Request::Synthesize(words) => {
-            Ok(net_answer(rt, alloc, words.class, lts, words.jobs, gate)?)
-        }
-        Request::Verify(words) => judgement_answer(alloc, lts, words.cert, shelf),
-        Request::Check(words) => verdict_answer(alloc, lts, words.class, words.net, shelf),
-        Request::Convert(words) => Ok(conversion_answer(alloc, lts, words.target)?),
+    match work {
+        Work::Net(class, jobs) => Ok(net_answer(rt, alloc, class, lts, jobs, gate)?),
+        Work::Judgement(cert) => judgement_answer(alloc, lts, cert, shelf),
+        Work::Verdict(class, net) => verdict_answer(alloc, lts, class, net, shelf),
+        Work::Conversion(target) => Ok(conversion_answer(alloc, lts, target)?),
     }
 }
 

@@ -4,17 +4,21 @@ ghost use Rattle.rg_ports.specs.Shelf.{Files};
 ghost use Rattle.rg_theory.specs.System.{System, IsInRange};
 ghost use Rattle.rg_theory.specs.declared.Class.{Class};
 ghost use Rattle.rg_lts.specs.WellFormed.{IsWellFormed};
+ghost use Rattle.rg_families.specs.declared.Kind.{Kind};
 ghost use Rattle.rg_commands.specs.declared.forms.Target.{Target};
 ghost use Rattle.rg_top.specs.Given.{IsFile};
 ghost use Rattle.rg_top.specs.Synthesize.{IsCertificateText, SynthesizeEnds, SynthesizeIsDue};
 ghost use Rattle.rg_top.specs.Verify.{IsAccepted, VerifyEnds, VerifyIsDue};
 ghost use Rattle.rg_top.specs.Check.{CheckEnds, CheckIsDue};
 ghost use Rattle.rg_top.specs.Convert.{ConvertEnds, ConvertIsDue};
+ghost use Rattle.rg_top.specs.Generate.{GenerateEnds, GenerateIsDue};
+ghost use Rattle.rg_top.specs.SelfTest.{SelfTestEnds, SelfTestIsDue};
 ghost use Rattle.rg_top.specs.Run.{IsTheOne, AreOne};
 ghost use Rattle.rg_top.specs.One.{OneAnswer};
 ghost use Rattle.rg_top.specs.declared.status.Status.{Status};
 
 use rg_commands::words_say_one_thing;
+use rg_families::one_of_each;
 use rg_net_verdict::verdict_is_one;
 use rg_outcome::outcome_is_one;
 use rg_verify::one_verdict;
@@ -57,6 +61,23 @@ pub fn convert_ends_once()
     ensures due { (lts : System) (target : Target) (s due : Status) (out err : List ℕ) → ConvertEnds lts target s out err → ConvertIsDue lts target due → IsTheOne due s }
 {}
 
+/// `generate` ends in one way for a family and a number, with the status that is due.
+pub fn generate_ends_once()
+    ensures once { (kind : Kind) (n : ℕ) (s s' : Status) (out err out' err' : List ℕ) → GenerateEnds kind n s out err → GenerateEnds kind n s' out' err' → AreOne s s' out out' err err' }
+    ensures due { (kind : Kind) (n : ℕ) (s due : Status) (out err : List ℕ) → GenerateEnds kind n s out err → GenerateIsDue kind n due → IsTheOne due s }
+{
+    one_of_each();
+}
+
+/// `selftest` ends in one way for a number, with the status that is due.
+pub fn self_test_ends_once()
+    ensures once { (n : ℕ) (s s' : Status) (out err out' err' : List ℕ) → SelfTestEnds n s out err → SelfTestEnds n s' out' err' → AreOne s s' out out' err err' }
+    ensures due { (n : ℕ) (s due : Status) (out err : List ℕ) → SelfTestEnds n s out err → SelfTestIsDue n due → IsTheOne due s }
+{
+    one_of_each();
+    outcome_is_one();
+}
+
 /// Words and files have one answer: where the files are told, two answers have the same status, or show the same term, and the same bytes
 /// for out and for err. So two runs over them in which there is memory and no call fails end alike and write the same, with any
 /// numbers of jobs and any gates. The status is the one that is due, and where the answer for the system and the class is a term that is out
@@ -65,6 +86,7 @@ pub fn answers_are_one()
     ensures { OneAnswer }
 {
     words_say_one_thing();
+    one_of_each();
     outcome_is_one();
     verdict_is_one();
     one_verdict();

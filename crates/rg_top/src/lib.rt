@@ -1,23 +1,27 @@
-//! The top call: from words and a shelf of files to the bytes of a net, a certificate, a verdict or a system in another form.
+//! The top call: from words and a shelf of files to the bytes of a net, a certificate, a verdict or a system.
 #![tactic(auto)]
 
 mod answer;
 mod checking;
 mod converting;
 mod files;
+mod generating;
 mod laws;
 mod net_laws;
 mod run_whole;
 mod status;
 mod synthesizing;
+mod task;
+mod testing;
 mod verifying;
 
 pub use laws::{
-    answers_are_one, check_ends_once, convert_ends_once, synthesize_ends_once, verify_ends_once,
-    written_is_accepted,
+    answers_are_one, check_ends_once, convert_ends_once, generate_ends_once, self_test_ends_once,
+    synthesize_ends_once, verify_ends_once, written_is_accepted,
 };
 pub use net_laws::written_net_gets_yes;
 pub use rg_commands::Usage;
+pub use rg_families::{Kind, generate, is_family_number};
 pub use rg_lines::{Fault, FileFault, WideCause};
 pub use rg_separate::{Stage, WideAt};
 pub use run_whole::run;

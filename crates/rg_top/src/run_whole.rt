@@ -14,11 +14,12 @@ use std::thread::Threads;
 
 /// Runs the command that the words name. `synthesize CLASS FILE` writes to `out` the text of a net of the class that solves the system of
 /// the file, or of a certificate that there is none; `verify FILE CERT` whether the certificate is accepted for the system; `check CLASS
-/// FILE NET` whether the net solves the system and is of the class; `convert FORM FILE` the system in another form. A refusal of
-/// words or files, and a number out of range, is a line to `err`. What is due is whole before the first write, and each write offers
-/// all that isn't taken yet. A file isn't read on once its end was found, and the second one is asked for only where the first spells
-/// a system. The problems of a system are solved by as many jobs as the words say, and the gate is entered and left for each
-/// number of a block of them.
+/// FILE NET` whether the net solves the system and is of the class; `convert FORM FILE` the system in another form; `generate KIND N` the
+/// system of a family for a number; `selftest N` what comes of three such systems: a net with what `check` says of it, or a certificate
+/// with what `verify` says. A refusal of words or files, and a number out of range, is a line to `err`. What is due is whole before the
+/// first write, and each write offers all that isn't taken yet. A file isn't read on once its end was found, and the second one is asked
+/// for only where the first spells a system. The problems of a system are solved by as many jobs as the words say, those of a self test
+/// by one, and the gate is entered and left for each number of a block of them.
 ///
 /// The status says how it ended: each has its cause in `Ends`, and a status that is due comes by `ComesIfDue`. Of `synthesize` the one
 /// answer for the system and the class is due (`Out`, in `rg_outcome`): a net, a reason, or by `ComesIfPassed` a number out of range.

@@ -8,7 +8,8 @@ use rg_lines::{FileFault, WideCause};
 /// How a run ends.
 #[derive(Debug, PartialEq, Eq, Drop)]
 pub enum Status {
-    /// The command's yes: its text stands in out, a net, a system, that a certificate is accepted, or that a net is right.
+    /// The command's yes: its text stands in out, a net, a system, that a certificate is accepted, that a net is right, or the
+    /// lines of a self test.
     Done,
     /// The command's no: its text stands in out, a certificate, why a certificate is refused or a net isn't right, or what a form
     /// can't hold.

@@ -5,6 +5,7 @@ use Rattle.rg_lines.specs.Usages.{usage_line}
 use Rattle.rg_top.specs.Ends.{EndsOf, Answers, refused, asked}
 use Rattle.rg_top.specs.declared.answer.Answer.{Answer}
 use Rattle.rg_top.specs.declared.status.Status.TheVariants.{Usage as Refuses}
+use Rattle.rg_top.proofs.Asking.{asks_at_most, reads_at_most, read_fault}
 use Rattle.rg_top.proofs.Written.{written, if_ok}
 use Rattle.rg_top.proofs.answer.make_answer.Goals as goal
 
@@ -15,6 +16,22 @@ returns-in-Ok-clause-says g c =
     let request = asked_by c.in-Ok.request in
     if_ok (λ (a : Answer). EndsOf files request a.status a.out.items a.err.items) (λ (a : Answer). Answers words files a.status a.out.items a.err.items)
     (λ a x. asked request a.status a.out.items a.err.items c.in-Ok.ensures.asks x) c.request_answer.result c.request_answer.ensures.ok
+
+pub returns-in-Ok-clause-asked : goal.returns-in-Ok-clause-asked
+returns-in-Ok-clause-asked g c =
+    asks_at_most (map string_bytes c.args.words.now) (g.H.Shelf.files c.args.shelf.now) (asked_by c.in-Ok.request) (g.H.Shelf.asked c.args.shelf.now) (g.H.Shelf.asked c.request_answer.new.shelf)
+    c.in-Ok.ensures.asks c.request_answer.ensures.asked
+
+pub returns-in-Ok-clause-reads : goal.returns-in-Ok-clause-reads
+returns-in-Ok-clause-reads g c =
+    reads_at_most g.H.Shelf.finds g.H.Shelf.hands (map string_bytes c.args.words.now) (g.H.Shelf.files c.args.shelf.now) (asked_by c.in-Ok.request) c.args.shelf.now c.request_answer.new.shelf
+    c.in-Ok.ensures.asks c.request_answer.ensures.reads
+
+pub returns-in-Ok-clause-fault : goal.returns-in-Ok-clause-fault
+returns-in-Ok-clause-fault g c = λ failed.
+    (let fault = c.request_answer.ensures.fault failed in
+    read_fault (map string_bytes c.args.words.now) (record { before = g.H.Shelf.faults c.args.shelf.now; after = g.H.Shelf.faults c.request_answer.new.shelf }) (asked_by c.in-Ok.request)
+    c.in-Ok.ensures.asks fault.0 fault.1)
 
 pub returns-in_ok-usage_refusal-in-Err-Refused-clause-says :
     goal.returns-in_ok-usage_refusal-in-Err-Refused-clause-says

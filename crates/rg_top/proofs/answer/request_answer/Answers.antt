@@ -1,108 +1,75 @@
-use Rattle.std.proofs.Common.{◌≡◌, List, ℕ, [], Err, IfOk, ap, subst}
-use Rattle.rg_ports.specs.Calls.{finds_end, ReadsFile}
-use Rattle.rg_ports.specs.Shelf.{asked_with}
-use Rattle.rg_commands.specs.Requests.{asked_by, system_file}
-use Rattle.rg_commands.specs.declared.forms.Form.{Form}
-use Rattle.rg_lines.specs.Files.{file_line}
-use Rattle.rg_top.specs.Given.{IsNoSystem, IsSystemFile}
-use Rattle.rg_top.specs.Second.{first_fault}
-use Rattle.rg_top.specs.Ends.{EndsOn, EndsOf, no_system, on_system}
-use Rattle.rg_top.specs.Run.{first_alone}
+use Rattle.std.proofs.Common.{◌≡◌, IfOk, refl, sym, ap, subst, ◌∙◌}
+use Rattle.rg_commands.specs.Requests.{Asked, HasBounds}
+use Rattle.rg_top.specs.Ends.{EndsOf}
+use Rattle.rg_top.specs.Requests.{asked_of, HasTaskJobs, AsksOf, ReadsOf, IsOfFile}
 use Rattle.rg_top.specs.declared.answer.Answer.{Answer}
-use Rattle.rg_top.specs.declared.status.Status.TheVariants.{File}
-use Rattle.rg_top.proofs.Asking.{asks_first, asks_all, reads_all}
-use Rattle.rg_top.proofs.Written.{written, if_ok}
 use Rattle.rg_top.proofs.answer.request_answer.Goals as goal
 
-pub returns-in_err-file_refusal-in-Err-Refused-clause-asked :
-    goal.returns-in_err-file_refusal-in-Err-Refused-clause-asked
-returns-in_err-file_refusal-in-Err-Refused-clause-asked g c =
-    let before = g.H.Shelf.asked c.args.shelf.now in
-    let after = g.H.Shelf.asked c.read_system.new.shelf in
-    asks_first (g.H.Shelf.files c.args.shelf.now) (asked_by c.args.request) before after (subst (λ (f : List ℕ). after ≡ asked_with before f) c.file_of.ensures c.read_system.ensures.asked)
+pub file_answer-requires-clause-bounds : goal.file_answer-requires-clause-bounds
+file_answer-requires-clause-bounds g c = λ lives within. subst HasBounds (sym (ap asked_of (sym c.in-OfSystem.is) ∙ c.task_of.ensures.asked)) c.requires.bounds
 
-pub returns-in_err-file_refusal-in-Err-Refused-clause-reads :
-    goal.returns-in_err-file_refusal-in-Err-Refused-clause-reads
-returns-in_err-file_refusal-in-Err-Refused-clause-reads g c =
-    let reads = c.read_system.ensures.reads in
-    first_alone c.args.shelf.now c.read_system.new.shelf reads.0 (subst (λ (f : List ℕ). ReadsFile g.H.Shelf.finds g.H.Shelf.hands f c.args.shelf.now reads.0 c.read_system.new.shelf) c.file_of.ensures reads.1)
+pub file_answer-requires-clause-jobs : goal.file_answer-requires-clause-jobs
+file_answer-requires-clause-jobs g c = λ lives within. subst HasTaskJobs c.in-OfSystem.is c.task_of.ensures.jobs
 
-pub returns-in-Ok-clause-asked : goal.returns-in-Ok-clause-asked
-returns-in-Ok-clause-asked g c =
-    let files = g.H.Shelf.files c.args.shelf.now in
-    let asked = asked_by c.args.request in
-    let before = g.H.Shelf.asked c.args.shelf.now in
-    let between = g.H.Shelf.asked c.read_system.new.shelf in
-    let system = subst (λ (m : Form). IsSystemFile files m (system_file asked) c.in-Ok.lts) c.form_of.ensures (subst (λ (f : List ℕ). IsSystemFile files c.form_of.result f c.in-Ok.lts) c.file_of.ensures c.in-Ok.ensures.ok) in
-    asks_all files asked c.in-Ok.lts before between (g.H.Shelf.asked c.system_answer.new.shelf) system
-    (subst (λ (f : List ℕ). between ≡ asked_with before f) c.file_of.ensures c.read_system.ensures.asked) c.system_answer.ensures.asked
+pub generated_answer-requires : goal.generated_answer-requires
+generated_answer-requires g c = subst HasBounds (sym (ap asked_of (sym c.in-Generation.is) ∙ c.task_of.ensures.asked)) c.requires.bounds
 
-pub returns-in-Ok-clause-reads : goal.returns-in-Ok-clause-reads
-returns-in-Ok-clause-reads g c =
-    let files = g.H.Shelf.files c.args.shelf.now in
-    let asked = asked_by c.args.request in
-    let system = subst (λ (m : Form). IsSystemFile files m (system_file asked) c.in-Ok.lts) c.form_of.ensures (subst (λ (f : List ℕ). IsSystemFile files c.form_of.result f c.in-Ok.lts) c.file_of.ensures c.in-Ok.ensures.ok) in
-    reads_all g.H.Shelf.finds g.H.Shelf.hands files asked c.args.shelf.now c.read_system.new.shelf c.system_answer.new.shelf c.in-Ok.lts
-    (subst (λ (f : List ℕ). ReadsFile g.H.Shelf.finds g.H.Shelf.hands f c.args.shelf.now finds_end c.read_system.new.shelf) c.file_of.ensures c.in-Ok.ensures.whole) system c.system_answer.ensures.reads
+pub self_test_answer-requires-clause-number : goal.self_test_answer-requires-clause-number
+self_test_answer-requires-clause-number g c = λ lives within. subst HasBounds (sym (ap asked_of (sym c.in-SelfTest.is) ∙ c.task_of.ensures.asked)) c.requires.bounds
 
-pub returns-in-Ok-clause-ok : goal.returns-in-Ok-clause-ok
-returns-in-Ok-clause-ok g c =
-    let files = g.H.Shelf.files c.args.shelf.now in
-    let asked = asked_by c.args.request in
-    let lts = c.in-Ok.lts in
-    let system = subst (λ (m : Form). IsSystemFile files m (system_file asked) lts) c.form_of.ensures (subst (λ (f : List ℕ). IsSystemFile files c.form_of.result f lts) c.file_of.ensures c.in-Ok.ensures.ok) in
-    if_ok (λ (a : Answer). EndsOn files asked lts a.status a.out.items a.err.items) (λ (a : Answer). EndsOf files asked a.status a.out.items a.err.items)
-    (λ a x. on_system lts a.status a.out.items a.err.items system c.system_answer.ensures.formed x) c.system_answer.result
-    (subst (λ fs. IfOk c.system_answer.result (λ (a : Answer). EndsOn fs asked lts a.status a.out.items a.err.items)) c.read_system.ensures.files c.system_answer.ensures.ok)
+pub returns-in-OfSystem-clause-asked : goal.returns-in-OfSystem-clause-asked
+returns-in-OfSystem-clause-asked g c =
+    subst (λ (a : Asked). AsksOf (g.H.Shelf.files c.args.shelf.now) a (g.H.Shelf.asked c.args.shelf.now) (g.H.Shelf.asked c.file_answer.new.shelf)) (ap asked_of (sym c.in-OfSystem.is) ∙ c.task_of.ensures.asked) c.file_answer.ensures.asked
 
-pub returns-in_ok-file_refusal-in-Err-Refused-clause-asked :
-    goal.returns-in_ok-file_refusal-in-Err-Refused-clause-asked
-returns-in_ok-file_refusal-in-Err-Refused-clause-asked g c =
-    let before = g.H.Shelf.asked c.args.shelf.now in
-    let after = g.H.Shelf.asked c.read_system.new.shelf in
-    asks_first (g.H.Shelf.files c.args.shelf.now) (asked_by c.args.request) before after (subst (λ (f : List ℕ). after ≡ asked_with before f) c.file_of.ensures c.read_system.ensures.asked)
+pub returns-in-OfSystem-clause-reads : goal.returns-in-OfSystem-clause-reads
+returns-in-OfSystem-clause-reads g c =
+    subst (λ (a : Asked). ReadsOf g.H.Shelf.finds g.H.Shelf.hands (g.H.Shelf.files c.args.shelf.now) a c.args.shelf.now c.file_answer.new.shelf) (ap asked_of (sym c.in-OfSystem.is) ∙ c.task_of.ensures.asked) c.file_answer.ensures.reads
 
-pub returns-in_ok-file_refusal-in-Err-Refused-clause-reads :
-    goal.returns-in_ok-file_refusal-in-Err-Refused-clause-reads
-returns-in_ok-file_refusal-in-Err-Refused-clause-reads g c =
-    let reads = c.read_system.ensures.reads in
-    first_alone c.args.shelf.now c.read_system.new.shelf reads.0 (subst (λ (f : List ℕ). ReadsFile g.H.Shelf.finds g.H.Shelf.hands f c.args.shelf.now reads.0 c.read_system.new.shelf) c.file_of.ensures reads.1)
+pub returns-in-OfSystem-clause-ok : goal.returns-in-OfSystem-clause-ok
+returns-in-OfSystem-clause-ok g c =
+    subst (λ (q : Asked). IfOk c.file_answer.result (λ (a : Answer). EndsOf (g.H.Shelf.files c.args.shelf.now) q a.status a.out.items a.err.items)) (ap asked_of (sym c.in-OfSystem.is) ∙ c.task_of.ensures.asked) c.file_answer.ensures.ok
 
-pub returns-in_ok-file_refusal-in-Err-Refused-clause-ok :
-    goal.returns-in_ok-file_refusal-in-Err-Refused-clause-ok
-returns-in_ok-file_refusal-in-Err-Refused-clause-ok g c =
-    let files = g.H.Shelf.files c.args.shelf.now in
-    let asked = asked_by c.args.request in
-    let fault = c.in-Err-Refused.fault in
-    let made = c.in_ok-file_refusal-in-Err-Refused in
-    let says = made.ensures.status in
-    let line = made.ensures.err in
-    let told = c.in-Err-Refused.fault-is in
-    let status : made.field-0.status ≡ File (first_fault fault) = cc in
-    let err : made.field-0.err.items ≡ file_line (first_fault fault) = cc in
-    let none = c.in-Err-Refused.ensures.refused fault (ap Err c.in-Err-Refused.field-0-is) in
-    let no = subst (λ (m : Form). IsNoSystem files m (system_file asked) fault) c.form_of.ensures (subst (λ (f : List ℕ). IsNoSystem files c.form_of.result f fault) c.file_of.ensures none) in
-    written (EndsOf files asked) made.field-0.status (File (first_fault fault)) made.field-0.out.items [] made.field-0.err.items (file_line (first_fault fault))
-    status made.ensures.out err (no_system fault no)
+pub returns-in-OfSystem-clause-fault : goal.returns-in-OfSystem-clause-fault
+returns-in-OfSystem-clause-fault g c = λ failed. (subst IsOfFile (ap asked_of (sym c.in-OfSystem.is) ∙ c.task_of.ensures.asked) tt, c.file_answer.ensures.fault failed)
 
-pub returns-in-Err-Failed-clause-asked : goal.returns-in-Err-Failed-clause-asked
-returns-in-Err-Failed-clause-asked g c =
-    let before = g.H.Shelf.asked c.args.shelf.now in
-    let after = g.H.Shelf.asked c.read_system.new.shelf in
-    asks_first (g.H.Shelf.files c.args.shelf.now) (asked_by c.args.request) before after (subst (λ (f : List ℕ). after ≡ asked_with before f) c.file_of.ensures c.read_system.ensures.asked)
+pub returns-in_ok-generated_answer-in-Generation-clause-asked : goal.returns-in_ok-generated_answer-in-Generation-clause-asked
+returns-in_ok-generated_answer-in-Generation-clause-asked g c =
+    subst (λ (a : Asked). AsksOf (g.H.Shelf.files c.args.shelf.now) a (g.H.Shelf.asked c.args.shelf.now) (g.H.Shelf.asked c.args.shelf.now)) (ap asked_of (sym c.in-Generation.is) ∙ c.task_of.ensures.asked) refl
 
-pub returns-in-Err-Failed-clause-reads : goal.returns-in-Err-Failed-clause-reads
-returns-in-Err-Failed-clause-reads g c =
-    let reads = c.read_system.ensures.reads in
-    first_alone c.args.shelf.now c.read_system.new.shelf reads.0 (subst (λ (f : List ℕ). ReadsFile g.H.Shelf.finds g.H.Shelf.hands f c.args.shelf.now reads.0 c.read_system.new.shelf) c.file_of.ensures reads.1)
+pub returns-in_ok-generated_answer-in-Generation-clause-reads : goal.returns-in_ok-generated_answer-in-Generation-clause-reads
+returns-in_ok-generated_answer-in-Generation-clause-reads g c =
+    subst (λ (a : Asked). ReadsOf g.H.Shelf.finds g.H.Shelf.hands (g.H.Shelf.files c.args.shelf.now) a c.args.shelf.now c.args.shelf.now) (ap asked_of (sym c.in-Generation.is) ∙ c.task_of.ensures.asked) refl
 
-pub returns-in-Err-NoMemory-clause-asked : goal.returns-in-Err-NoMemory-clause-asked
-returns-in-Err-NoMemory-clause-asked g c =
-    let before = g.H.Shelf.asked c.args.shelf.now in
-    let after = g.H.Shelf.asked c.read_system.new.shelf in
-    asks_first (g.H.Shelf.files c.args.shelf.now) (asked_by c.args.request) before after (subst (λ (f : List ℕ). after ≡ asked_with before f) c.file_of.ensures c.read_system.ensures.asked)
+pub returns-in_err-generated_answer-in-Generation-clause-asked : goal.returns-in_err-generated_answer-in-Generation-clause-asked
+returns-in_err-generated_answer-in-Generation-clause-asked g c =
+    subst (λ (a : Asked). AsksOf (g.H.Shelf.files c.args.shelf.now) a (g.H.Shelf.asked c.args.shelf.now) (g.H.Shelf.asked c.args.shelf.now)) (ap asked_of (sym c.in-Generation.is) ∙ c.task_of.ensures.asked) refl
 
-pub returns-in-Err-NoMemory-clause-reads : goal.returns-in-Err-NoMemory-clause-reads
-returns-in-Err-NoMemory-clause-reads g c =
-    let reads = c.read_system.ensures.reads in
-    first_alone c.args.shelf.now c.read_system.new.shelf reads.0 (subst (λ (f : List ℕ). ReadsFile g.H.Shelf.finds g.H.Shelf.hands f c.args.shelf.now reads.0 c.read_system.new.shelf) c.file_of.ensures reads.1)
+pub returns-in_err-generated_answer-in-Generation-clause-reads : goal.returns-in_err-generated_answer-in-Generation-clause-reads
+returns-in_err-generated_answer-in-Generation-clause-reads g c =
+    subst (λ (a : Asked). ReadsOf g.H.Shelf.finds g.H.Shelf.hands (g.H.Shelf.files c.args.shelf.now) a c.args.shelf.now c.args.shelf.now) (ap asked_of (sym c.in-Generation.is) ∙ c.task_of.ensures.asked) refl
+
+pub returns-in_ok-generated_answer-in-Generation-clause-ok : goal.returns-in_ok-generated_answer-in-Generation-clause-ok
+returns-in_ok-generated_answer-in-Generation-clause-ok g c =
+    let made = c.in_ok-generated_answer-in-Generation in
+    subst (λ (q : Asked). EndsOf (g.H.Shelf.files c.args.shelf.now) q made.field-0.status made.field-0.out.items made.field-0.err.items) (ap asked_of (sym c.in-Generation.is) ∙ c.task_of.ensures.asked) made.ensures
+
+pub returns-in_ok-self_test_answer-in-SelfTest-clause-asked : goal.returns-in_ok-self_test_answer-in-SelfTest-clause-asked
+returns-in_ok-self_test_answer-in-SelfTest-clause-asked g c =
+    subst (λ (a : Asked). AsksOf (g.H.Shelf.files c.args.shelf.now) a (g.H.Shelf.asked c.args.shelf.now) (g.H.Shelf.asked c.args.shelf.now)) (ap asked_of (sym c.in-SelfTest.is) ∙ c.task_of.ensures.asked) refl
+
+pub returns-in_ok-self_test_answer-in-SelfTest-clause-reads : goal.returns-in_ok-self_test_answer-in-SelfTest-clause-reads
+returns-in_ok-self_test_answer-in-SelfTest-clause-reads g c =
+    subst (λ (a : Asked). ReadsOf g.H.Shelf.finds g.H.Shelf.hands (g.H.Shelf.files c.args.shelf.now) a c.args.shelf.now c.args.shelf.now) (ap asked_of (sym c.in-SelfTest.is) ∙ c.task_of.ensures.asked) refl
+
+pub returns-in_err-self_test_answer-in-SelfTest-clause-asked : goal.returns-in_err-self_test_answer-in-SelfTest-clause-asked
+returns-in_err-self_test_answer-in-SelfTest-clause-asked g c =
+    subst (λ (a : Asked). AsksOf (g.H.Shelf.files c.args.shelf.now) a (g.H.Shelf.asked c.args.shelf.now) (g.H.Shelf.asked c.args.shelf.now)) (ap asked_of (sym c.in-SelfTest.is) ∙ c.task_of.ensures.asked) refl
+
+pub returns-in_err-self_test_answer-in-SelfTest-clause-reads : goal.returns-in_err-self_test_answer-in-SelfTest-clause-reads
+returns-in_err-self_test_answer-in-SelfTest-clause-reads g c =
+    subst (λ (a : Asked). ReadsOf g.H.Shelf.finds g.H.Shelf.hands (g.H.Shelf.files c.args.shelf.now) a c.args.shelf.now c.args.shelf.now) (ap asked_of (sym c.in-SelfTest.is) ∙ c.task_of.ensures.asked) refl
+
+pub returns-in_ok-self_test_answer-in-SelfTest-clause-ok : goal.returns-in_ok-self_test_answer-in-SelfTest-clause-ok
+returns-in_ok-self_test_answer-in-SelfTest-clause-ok g c =
+    let made = c.in_ok-self_test_answer-in-SelfTest in
+    subst (λ (q : Asked). EndsOf (g.H.Shelf.files c.args.shelf.now) q made.field-0.status made.field-0.out.items made.field-0.err.items) (ap asked_of (sym c.in-SelfTest.is) ∙ c.task_of.ensures.asked) made.ensures

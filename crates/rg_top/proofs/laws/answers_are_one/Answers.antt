@@ -15,6 +15,7 @@ returns c = all_one (record {
     words_fault = c.one_answer-3.ensures.one_fault;
     words_not_both = c.one_answer-3.ensures.not_both;
   };
+  system = c.one_of_each.ensures.one;
   out = c.outcome_is_one.ensures.answer;
   judgement = record {
     one_claim = c.one_answer-4.ensures.one_claim;
