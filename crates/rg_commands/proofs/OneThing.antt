@@ -5,7 +5,7 @@ use Rattle.std.proofs.lemmas.Slice.Eq.{bytes_eq-Decides}
 use Rattle.rg_theory.proofs.ClassTold.{one_class, one_fault, not_both}
 use Rattle.rg_commands.specs.declared.usage.Usage.{Usage}
 use Rattle.rg_commands.specs.declared.usage.Usage.TheVariants.{ClassWord}
-use Rattle.rg_commands.specs.Table.{synthesize_app, verify_app, check_app, convert_app, generate_app, selftest_app}
+use Rattle.rg_commands.specs.Table.{synthesize_app, verify_app, check_app, convert_app}
 use Rattle.rg_commands.specs.Requests.{Asked, of_system, generation, self_test, net, judgement, verdict, conversion}
 use Rattle.rg_families.specs.declared.Kind.{Kind}
 use Rattle.rg_commands.specs.Says.{word_in, family_number_asked}

@@ -5,7 +5,7 @@ use Rattle.rg_separate.specs.declared.wide_at.WideAt.{WideAt}
 use Rattle.rg_families.specs.declared.Kind.TheVariants.{Lock}
 use Rattle.rg_lines.specs.Wides.{wide_line}
 use Rattle.rg_lines.specs.declared.wide.WideCause.TheVariants.{Synthesis}
-use Rattle.rg_top.specs.SelfTest.{trial, most_users, lock_class, grid_trial, doubling_trial, lock_trial, HasLine, Passes, SelfTestEnds, three_lines, third_passes}
+use Rattle.rg_top.specs.SelfTest.{trial, most_users, lock_class, grid_trial, doubling_trial, HasLine, Passes, SelfTestEnds, three_lines, third_passes}
 use Rattle.rg_top.specs.declared.status.Status.TheVariants.{Done, TooWide}
 
 -- a text to which two others were added

@@ -7,7 +7,7 @@ use Rattle.rg_ports.specs.Sink.{taken_with, TakesPart}
 use Rattle.rg_theory.specs.System.{System}
 use Rattle.rg_order_of_work.specs.Shown.{Shown}
 use Rattle.rg_separate.specs.View.{shown_of}
-use Rattle.rg_commands.specs.Requests.{Work, Asked, of_system, file_words}
+use Rattle.rg_commands.specs.Requests.{Work, of_system, file_words}
 use Rattle.rg_commands.specs.Says.{Ask}
 use Rattle.rg_commands.specs.declared.forms.Form.{Form}
 use Rattle.rg_lines.specs.declared.wide.WideCause.TheVariants.{Synthesis}

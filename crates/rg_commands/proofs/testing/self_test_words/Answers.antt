@@ -1,4 +1,4 @@
-use Rattle.std.proofs.Common.{◌∙◌, ap, sym, codes, map, string_bytes, refl, Err}
+use Rattle.std.proofs.Common.{sym, codes, map, string_bytes, refl, Err}
 use Rattle.std.proofs.lemmas.Result.{err_from_is_err_and}
 use Rattle.clap.specs.Words.{found_of, rows_of}
 use Rattle.rg_commands.specs.Table.{selftest_app}

@@ -1,4 +1,4 @@
-use Rattle.std.proofs.Common.{◌≡◌, IfOk, refl, sym, ap, subst, ◌∙◌}
+use Rattle.std.proofs.Common.{IfOk, refl, sym, ap, subst, ◌∙◌}
 use Rattle.rg_commands.specs.Requests.{Asked, HasBounds}
 use Rattle.rg_top.specs.Ends.{EndsOf}
 use Rattle.rg_top.specs.Requests.{asked_of, HasTaskJobs, AsksOf, ReadsOf, IsOfFile}

@@ -1,4 +1,3 @@
-use Rattle.std.proofs.Common.{sym, ◌∙◌}
 use Rattle.rg_reasons.specs.Certificates.{claim_of}
 use Rattle.rg_verify.specs.declared.verdict.Verdict.TheVariants.{Accepted}
 use Rattle.rg_top.proofs.testing.certificate_line.Goals as goal

@@ -1,4 +1,4 @@
-use Rattle.std.proofs.Common.{[], Err, refl, ap}
+use Rattle.std.proofs.Common.{[], Err, ap}
 use Rattle.rg_lines.specs.Wides.{wide_line}
 use Rattle.rg_lines.specs.declared.wide.WideCause.TheVariants.{Synthesis}
 use Rattle.rg_top.specs.SelfTest.{SelfTestEnds}
