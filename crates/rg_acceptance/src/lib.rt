@@ -6,6 +6,8 @@ mod certificates;
 #[cfg(test)]
 mod commands;
 #[cfg(test)]
+mod cut_files;
+#[cfg(test)]
 mod families;
 #[cfg(test)]
 mod faults;

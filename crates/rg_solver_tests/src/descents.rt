@@ -5,14 +5,14 @@ ghost use Rattle.rg_feasible.specs.Settling.{IsWhole, IsRefutation};
 
 use crate::bases::is_in_range;
 use crate::plain;
-use rg_feasible::{Dictionary, PivotWide, Settled};
-use rg_fraction::Wide;
+use rg_feasible::{Dictionary, Settled};
 use rg_linear::{Row, System};
 use std::alloc::{AllocError, Global};
 use std::process::Abort;
 use std::test::Fail;
 
-fn is_well_formed(columns: u32, rows: &[Row]) -> bool
+/// Whether the system of so many columns and these rows is well formed.
+pub(crate) fn is_well_formed(columns: u32, rows: &[Row]) -> bool
     ensures { IsTrue result → IsWellFormed (linear_system columns rows.now) }
 {
     if rows.len() > (u32::MAX - columns) as usize {
@@ -42,13 +42,13 @@ fn rows<const N: usize>(alloc: Global, rows: &[([i128; N], i128)]) -> Result<Vec
     Ok(list)
 }
 
-// What a dictionary shows once it is settled.
+/// What a dictionary shows once it is settled.
 #[derive(PartialEq, Debug, Drop)]
-struct Shown {
-    settled: Settled,
-    members: Vec<u32>,
-    values: Vec<(i128, i128)>,
-    multipliers: Vec<i128>,
+pub(crate) struct Shown {
+    pub settled: Settled,
+    pub members: Vec<u32>,
+    pub values: Vec<(i128, i128)>,
+    pub multipliers: Vec<i128>,
 }
 
 fn members(alloc: Global, dictionary: &Dictionary, columns: u32) -> Result<Vec<u32>, AllocError>
@@ -89,7 +89,8 @@ fn multipliers(alloc: Global, dictionary: &Dictionary, rows: u32) -> Result<Vec<
     Ok(multipliers)
 }
 
-fn show(alloc: Global, system: &System) -> Result<Shown, Fail> {
+/// What the dictionary of the system shows once it is settled.
+pub(crate) fn show(alloc: Global, system: &System) -> Result<Shown, Fail> {
     let columns = system.columns();
     let rows = system.rows().len() as u32;
     let mut dictionary = Dictionary::new(alloc, system)?;
@@ -145,26 +146,6 @@ fn one_column(rt: HostRuntime) -> Result<(), Fail> {
 fn no_column(rt: HostRuntime) -> Result<(), Fail> {
     settles(&rt, &[([], 0)], Settled::Point, &[], &[(0, 1)], &[])?;
     settles(&rt, &[([], -1)], Settled::Refuted(0), &[], &[], &[1])
-}
-
-#[test]
-fn term_out_of_range(rt: HostRuntime) -> Result<(), Fail> {
-    // most * x - 1 and -(most - 1) * x
-    let most = i128::MAX;
-    let wide = PivotWide {
-        pivot: 2,
-        leaves: 1,
-        target: 0,
-        entry: 0,
-        wide: Wide {
-            a: most,
-            b: most - 1,
-            c: 0,
-            d: 0,
-        },
-    };
-    let rows = [([most], -1), ([1 - most], 0)];
-    settles(&rt, &rows, Settled::Wide(wide), &[1], &[], &[])
 }
 
 #[test]

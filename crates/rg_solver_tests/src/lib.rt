@@ -16,6 +16,8 @@ mod fractions;
 #[cfg(test)]
 mod laws;
 #[cfg(test)]
+mod narrow;
+#[cfg(test)]
 mod places;
 #[cfg(test)]
 mod plain;

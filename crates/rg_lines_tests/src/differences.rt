@@ -1,0 +1,80 @@
+//! The lines of `check`.
+ghost use Rattle.std.specs.Prelude.{IsTrue};
+ghost use Rattle.rg_lines.specs.CheckedTexts.{HasNames};
+
+use crate::samples::{TOGGLE, system};
+use rg_lines::{check_text, yes_text};
+use rg_lts::Lts;
+use rg_net::ClassBreak;
+use rg_net_verdict::NetNo;
+use std::test::Fail;
+
+const DIFFERENCES: [(NetNo, &str); 13] = [
+    (NetNo::Unreachable(2), "no: unreachable broken\n"),
+    (NetNo::Fork(0, 1, 1, 2), "no: fork off hit on broken\n"),
+    (NetNo::Fork(1, 0, 0, 2), "no: fork on press off broken\n"),
+    (NetNo::NotEnabled(0, 0), "no: not enabled off press\n"),
+    (NetNo::NotEnabled(1, 1), "no: not enabled on hit\n"),
+    (NetNo::SameMarking(0, 2), "no: same marking off broken\n"),
+    (NetNo::Enabled(2, 1), "no: enabled broken hit\n"),
+    (NetNo::WrongStep(1, 0), "no: wrong step on press\n"),
+    (
+        NetNo::Class(ClassBreak::NotPure(0, 1)),
+        "no: not pure place 0 hit\n",
+    ),
+    (
+        NetNo::Class(ClassBreak::NotPlain(16383, 0)),
+        "no: not plain place 16383 press\n",
+    ),
+    (
+        NetNo::Class(ClassBreak::Over(10, 2)),
+        "no: over place 10 broken\n",
+    ),
+    (
+        NetNo::Class(ClassBreak::Over(4294967295, 0)),
+        "no: over place 4294967295 off\n",
+    ),
+    (
+        NetNo::Class(ClassBreak::Branching(3, 0, 1)),
+        "no: branching place 3 press hit\n",
+    ),
+];
+
+// Whether the states and labels of the difference are the system's.
+fn has_names(lts: &Lts, found: NetNo) -> bool
+    ensures { IsTrue result → HasNames lts.now found }
+{
+    let (states, labels) = (lts.states(), lts.labels());
+    match found {
+        NetNo::Unreachable(s) => s < states,
+        NetNo::Fork(s, t, first, second) => {
+            s < states && t < labels && first < states && second < states
+        }
+        NetNo::SameMarking(s, r) => s < states && r < states,
+        NetNo::NotEnabled(s, t) | NetNo::Enabled(s, t) | NetNo::WrongStep(s, t) => {
+            s < states && t < labels
+        }
+        NetNo::Class(ClassBreak::NotPure(_, t) | ClassBreak::NotPlain(_, t)) => t < labels,
+        NetNo::Class(ClassBreak::Over(_, s)) => s < states,
+        NetNo::Class(ClassBreak::Branching(_, t, u)) => t < labels && u < labels,
+    }
+}
+
+#[test]
+fn differences(rt: HostRuntime) -> Result<(), Fail> {
+    let alloc = rt.alloc();
+    let lts = system(alloc, TOGGLE).ok_or("a system")?;
+    for (found, wanted) in DIFFERENCES {
+        assert!(rt; has_names(&lts, found), "{found:?}");
+        let text = check_text(alloc, &lts, found)?;
+        assert!(rt; text.as_slice() == wanted.as_bytes(), "{found:?}");
+    }
+    Ok(())
+}
+
+#[test]
+fn yes(rt: HostRuntime) -> Result<(), Fail> {
+    let text = yes_text(rt.alloc())?;
+    assert!(rt; text.as_slice() == b"yes\n".as_slice());
+    Ok(())
+}

@@ -1,0 +1,43 @@
+//! The lines that refuse words.
+use rg_commands::Usage;
+use rg_lines::usage_text;
+use rg_theory::ClassFault;
+use std::test::Fail;
+
+const USAGES: [(Usage, &str); 11] = [
+    (Usage::NoCommand, "usage: no command\n"),
+    (Usage::UnknownCommand, "usage: unknown command\n"),
+    (Usage::Words, "usage: words refused\n"),
+    (
+        Usage::ClassWord(ClassFault::UnknownWord(0)),
+        "usage: class word 0: unknown\n",
+    ),
+    (
+        Usage::ClassWord(ClassFault::UnknownWord(4294967295)),
+        "usage: class word 4294967295: unknown\n",
+    ),
+    (
+        Usage::ClassWord(ClassFault::BadNumber(1)),
+        "usage: class word 1: bad number\n",
+    ),
+    (
+        Usage::ClassWord(ClassFault::Repeated(2)),
+        "usage: class word 2: repeated\n",
+    ),
+    (
+        Usage::ClassWord(ClassFault::Repeated(10)),
+        "usage: class word 10: repeated\n",
+    ),
+    (Usage::FormWord, "usage: form is apt or graph\n"),
+    (Usage::FromWord, "usage: --from is apt, graph or words\n"),
+    (Usage::JobsWord, "usage: --jobs is 1 to 16\n"),
+];
+
+#[test]
+fn usages(rt: HostRuntime) -> Result<(), Fail> {
+    for (usage, wanted) in USAGES {
+        let text = usage_text(rt.alloc(), usage)?;
+        assert!(rt; text.as_slice() == wanted.as_bytes(), "{usage:?}");
+    }
+    Ok(())
+}
