@@ -19,6 +19,12 @@ const STEP: &str = ".type LTS .states s0[initial] s1 .labels a .arcs s0 a s1";
 // One state, and a label without an arc.
 const DEAD: &str = ".type LTS .states s0[initial] .labels a .arcs";
 
+// A state that can't be reached.
+const APART: &str = ".type LTS .states s0[initial] s1 .labels a .arcs s0 a s0";
+
+// A label that leads to two states.
+const FORK: &str = ".type LTS .states s0[initial] s1 .labels a .arcs s0 a s0 s0 a s1";
+
 // One state and a loop.
 const LOOP: &str = ".type LTS .states s0[initial] .labels a .arcs s0 a s0";
 
@@ -130,6 +136,20 @@ fn check_says_yes_or_no(rt: HostRuntime) -> Result<(), NoRoom> {
             GROWING,
             1,
             "no: wrong step s0 a\n",
+        ),
+        (
+            ["check", "none", "f", "c"].as_slice(),
+            APART,
+            NO_PLACE,
+            1,
+            "no: unreachable s1\n",
+        ),
+        (
+            ["check", "none", "f", "c"].as_slice(),
+            FORK,
+            NO_PLACE,
+            1,
+            "no: fork s0 a s0 s1\n",
         ),
     ] {
         assert!(rt; row(&rt, rt.alloc(), words, f, n, number, out, "")?);

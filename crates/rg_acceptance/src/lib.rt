@@ -12,6 +12,8 @@ mod families;
 #[cfg(test)]
 mod faults;
 #[cfg(test)]
+mod file_faults;
+#[cfg(test)]
 mod forms;
 #[cfg(test)]
 mod gates;

@@ -39,6 +39,21 @@ fn words_are_refused(rt: HostRuntime) -> Result<(), NoRoom> {
             Usage::ClassWord(ClassFault::BadNumber(0)),
             "usage: class word 0: bad number\n",
         ),
+        (
+            ["convert", "words", "f"].as_slice(),
+            Usage::FormWord,
+            "usage: form is apt or graph\n",
+        ),
+        (
+            ["verify", "f", "c", "--from", "net"].as_slice(),
+            Usage::FromWord,
+            "usage: --from is apt, graph or words\n",
+        ),
+        (
+            ["synthesize", "none", "f", "--jobs", "17"].as_slice(),
+            Usage::JobsWord,
+            "usage: --jobs is 1 to 16\n",
+        ),
     ];
     for (words, usage, line) in cases {
         let made = run_over(
