@@ -3,11 +3,13 @@
 
     bench/second.py compare crates/regions/out/regions [SYSTEMS [SEED]]
     bench/second.py answer pure examples/side.apt
+    bench/second.py table [SYSTEMS [SEED]] > crates/rg_acceptance/src/second.rt
 
 It is written from docs/algorithm.md and docs/formats.md alone: fractions of any size, a problem at a time, each kept place asked, each
 dictionary made anew. `compare` makes random systems (2,000 unless a number is named) of up to 6 states and 4 labels, runs the program with 1 and
 with 3 jobs for a random class, and compares status and bytes; it prints each difference, and at last `N systems, M differences`. Where
-the second body forms a number out of 127 bits it can't tell the answer, and stops. It is run by hand and is no test.
+the second body forms a number out of 127 bits it can't tell the answer, and stops. It is run by hand and is no test. `table`
+writes the test of the gate that has its answers to so many such systems (32 unless a number is named).
 """
 import itertools
 import os
@@ -495,6 +497,46 @@ def compare(program, count, seed):
     return differences == 0
 
 
+TABLE = '''//! Random systems of up to 6 states and 4 labels, and what a second body of `synthesize` answers, which takes a problem at a time and asks
+//! each kept place: `bench/second.py table` has written this file.
+use crate::harness::{NoRoom, synthesize};
+
+// The class, the text of the system, the number of the status, and what is written to out.
+const ROWS: [(&str, &str, u8, &str); %d] = [
+%s];
+
+#[test]
+fn the_second_body_agrees(rt: HostRuntime) -> Result<(), NoRoom> {
+    for (class, system, number, out) in ROWS {
+        let outcome = synthesize(&rt, rt.alloc(), class, system.as_bytes())?;
+        assert_eq!(rt; outcome.status.number(), number);
+        assert!(rt; outcome.out.bytes() == out.as_bytes());
+        assert!(rt; outcome.err.bytes().is_empty());
+    }
+    Ok(())
+}
+'''
+
+
+def table(count, seed):
+    """Rows of the test, as many nets as certificates, no two of one class and system, few of them refused before any problem is solved."""
+    rng, rows, seen, ended = random.Random(seed), [], set(), [0, 0]
+    quoted = lambda text: '"' + text.replace('\n', '\\n') + '"'
+    while len(rows) < count:
+        system = random_system(rng) if rng.random() < 0.5 else net_system(rng)
+        if system is None:
+            continue
+        word, text = random_class(rng), system.text()
+        status, out = answer(system, word)
+        early = status == 1 and out.split('\n')[2].split()[0] in ('unreachable', 'fork')
+        if (word, text) in seen or len(system.states) < 3 or early and rng.random() < 0.9 or 2 * ended[status] >= count:
+            continue
+        seen.add((word, text))
+        ended[status] += 1
+        rows.append(f'    (\n        {quoted(word)},\n        {quoted(text)},\n        {status},\n        {quoted(out)},\n    ),\n')
+    return TABLE % (count, ''.join(rows))
+
+
 def read(path):
     with open(path) as file:
         lines = [line.strip() for line in file]
@@ -511,6 +553,9 @@ def main():
         return status
     if 2 <= len(words) <= 4 and words[0] == 'compare':
         return not compare(os.path.abspath(words[1]), int(words[2]) if len(words) > 2 else 2000, int(words[3]) if len(words) > 3 else 1)
+    if 1 <= len(words) <= 3 and words[0] == 'table':
+        sys.stdout.write(table(int(words[1]) if len(words) > 1 else 32, int(words[2]) if len(words) > 2 else 1))
+        return 0
     sys.exit(__doc__)
 
 

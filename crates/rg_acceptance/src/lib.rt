@@ -26,6 +26,8 @@ mod laws;
 #[cfg(test)]
 mod refutations;
 #[cfg(test)]
+mod second;
+#[cfg(test)]
 mod systems;
 #[cfg(test)]
 mod texts;
