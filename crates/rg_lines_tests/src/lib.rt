@@ -16,6 +16,8 @@ mod samples;
 #[cfg(test)]
 mod systems;
 #[cfg(test)]
+mod trials;
+#[cfg(test)]
 mod verdicts;
 #[cfg(test)]
 mod words;

@@ -4,7 +4,7 @@ use rg_lines::usage_text;
 use rg_theory::ClassFault;
 use std::test::Fail;
 
-const USAGES: [(Usage, &str); 11] = [
+const USAGES: [(Usage, &str); 13] = [
     (Usage::NoCommand, "usage: no command\n"),
     (Usage::UnknownCommand, "usage: unknown command\n"),
     (Usage::Words, "usage: words refused\n"),
@@ -29,8 +29,10 @@ const USAGES: [(Usage, &str); 11] = [
         "usage: class word 10: repeated\n",
     ),
     (Usage::FormWord, "usage: form is apt or graph\n"),
+    (Usage::KindWord, "usage: kind is grid, doubling or lock\n"),
     (Usage::FromWord, "usage: --from is apt, graph or words\n"),
     (Usage::JobsWord, "usage: --jobs is 1 to 16\n"),
+    (Usage::NumberWord, "usage: number out of range\n"),
 ];
 
 #[test]
