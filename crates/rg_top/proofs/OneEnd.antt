@@ -1,5 +1,5 @@
 -- Words and files have one end.
-use Rattle.std.proofs.Common.{◌≡◌, ℕ, List, Option, Some, None, IsSome, Result, Ok, Err, refl, ap, subst}
+use Rattle.std.proofs.Common.{◌≡◌, inl, inr, ℕ, List, Option, Some, None, IsSome, Result, Ok, Err, refl, ap, subst}
 use Rattle.rg_ports.specs.Shelf.{Files}
 use Rattle.rg_theory.specs.System.{System}
 use Rattle.rg_lts.specs.WellFormed.{IsWellFormed}
@@ -9,18 +9,15 @@ use Rattle.rg_commands.specs.Requests.{Work, net, judgement, verdict, conversion
 use Rattle.rg_commands.specs.Says.{WordsSay, Ask, AreRefused}
 use Rattle.rg_commands.specs.declared.usage.Usage.{Usage}
 use Rattle.rg_commands.specs.declared.forms.Form.{Form}
-use Rattle.rg_commands.specs.declared.forms.Target.TheVariants as target
 use Rattle.rg_lines.specs.Files.{file_line}
 use Rattle.rg_lines.specs.Usages.{usage_line}
 use Rattle.rg_top.specs.Second.{first_fault}
 use Rattle.rg_top.specs.Ends.{EndsOn, FileEnds, EndsOf, no_system as ends_no_system, on_system as ends_on_system, Answers, refused as ends_refused, asked as ends_asked}
 use Rattle.rg_top.specs.Due.{DueOn, FileDue, DueOf, no_system as due_no_system, on_system as due_on_system, IsDue, refused as due_refused, asked as due_asked, IsPassed}
 use Rattle.rg_top.specs.Run.{IsDecided, ShowsTerm, IsTheOne, AreOne}
-use Rattle.rg_top.specs.Generate.{GenerateIsDue}
-use Rattle.rg_top.specs.SelfTest.{SelfTestIsDue}
 use Rattle.rg_top.specs.One.{OneAnswer}
 use Rattle.rg_top.specs.declared.status.Status.{Status}
-use Rattle.rg_top.specs.declared.status.Status.TheVariants.{Done, No, Usage as Refuses, File, TooWide, ReadFault, WriteFault, NoMemory}
+use Rattle.rg_top.specs.declared.status.Status.TheVariants.{Usage as Refuses, File}
 use Rattle.rg_top.proofs.OneFile.{OneReading, one_no_system, system_or_none, one_system}
 use Rattle.rg_top.proofs.SynthesizeOnce.{OneOut, synthesize_due, synthesize_once, synthesize_term}
 use Rattle.rg_top.proofs.VerifyOnce.{OneJudgement, verify_due, verify_once}
@@ -94,54 +91,36 @@ same_usage one words a b x y = let e = one.words words (Err a) (Err b) x y in cc
 not_both : OneOfAll → (words : List (List ℕ)) (a : Asked) (b : Usage) → Ask words a → AreRefused words b → ⊥
 not_both one words a b x y = let e = one.words words (Ok a) (Err b) x y in cc
 
-told_due : OneOfAll → (files : Option Files) (asked : Asked) (s d : Status) (out err : List ℕ) → IsSome files → EndsOf files asked s out err → DueOf files asked d → IsTheOne d s
-told_due one None asked s d out err there x y = let none : ⊥ = cc in absurd none
-told_due one (Some files) asked s d out err there x y = of_due one files asked s d out err x y
+-- what is due to a request, where the shelf tells its files or the words name none
+decided_due : OneOfAll → (words : List (List ℕ)) (files : Option Files) (asked : Asked) (s d : Status) (out err : List ℕ) → IsDecided words files → Ask words asked → EndsOf files asked s out err → DueOf files asked d → IsTheOne d s
+decided_due one words (Some files) asked s d out err decided ask x y = of_due one files asked s d out err x y
+decided_due one words None asked s d out err (inl told) ask x y = let none : ⊥ = cc in absurd none
+decided_due one words None (of_system work file form) s d out err (inr no_file) ask x y = absurd (no_file.none work file form ask)
+decided_due one words None (generation kind n) s d out err (inr no_file) ask x y = generate_due kind n s d out err x y
+decided_due one words None (self_test n) s d out err (inr no_file) ask x y = self_test_due (trials_of one) n s d out err x y
 
--- what is due to a request is no refusal of words, so it is decided where the files are told
-no_refusal_told : (files : Option Files) (d : Status) → IsDecided files d → ((usage : Usage) → d ≡ Refuses usage → ⊥) → IsSome files
-no_refusal_told files (Refuses usage) decided none = absurd (none usage refl)
-no_refusal_told files Done decided none = decided
-no_refusal_told files No decided none = decided
-no_refusal_told files (File fault) decided none = decided
-no_refusal_told files (TooWide cause) decided none = decided
-no_refusal_told files ReadFault decided none = decided
-no_refusal_told files WriteFault decided none = decided
-no_refusal_told files NoMemory decided none = decided
+decided_once : OneOfAll → (words : List (List ℕ)) (files : Option Files) (asked : Asked) (s s' : Status) (out err out' err' : List ℕ) → IsDecided words files → Ask words asked → EndsOf files asked s out err → EndsOf files asked s' out' err' → AreOne s s' out out' err err'
+decided_once one words (Some files) asked s s' out err out' err' decided ask x y = of_once one files asked s s' out err out' err' x y
+decided_once one words None asked s s' out err out' err' (inl told) ask x y = let none : ⊥ = cc in absurd none
+decided_once one words None (of_system work file form) s s' out err out' err' (inr no_file) ask x y = absurd (no_file.none work file form ask)
+decided_once one words None (generation kind n) s s' out err out' err' (inr no_file) ask x y = generate_once one.system kind n s s' out err out' err' x y
+decided_once one words None (self_test n) s s' out err out' err' (inr no_file) ask x y = self_test_once (trials_of one) n s s' out err out' err' x y
 
-never_refused : (files : Option Files) (work : Work) (lts : System) (usage : Usage) → DueOn files work lts (Refuses usage) → ⊥
-never_refused files (net class) lts usage is = is
-never_refused files (judgement cert) lts usage is = is
-never_refused files (verdict class name) lts usage is = is
-never_refused files (conversion target.Apt) lts usage is = is
-never_refused files (conversion target.Graph) lts usage is = is
-
-file_told : (files : Option Files) (work : Work) (file : List ℕ) (form : Form) (d : Status) → IsDecided files d → FileDue files work file form d → IsSome files
-file_told files work file form d decided (due_no_system f h) = decided
-file_told files work file form d decided (due_on_system lts status h is) =
-    no_refusal_told files status decided (λ usage e. never_refused files work lts usage (subst (DueOn files work lts) e is))
-
-told : (files : Option Files) (asked : Asked) (d : Status) → IsDecided files d → DueOf files asked d → IsSome files
-told files (of_system work file form) d decided y = file_told files work file form d decided y
-told files (generation kind n) d decided is = no_refusal_told files d decided (λ usage e. subst (GenerateIsDue kind n) e is)
-told files (self_test n) d decided is = no_refusal_told files d decided (λ usage e. subst (SelfTestIsDue n) e is)
-
-pub answers_due : OneOfAll → (words : List (List ℕ)) (files : Option Files) (s d : Status) (out err : List ℕ) → IsDecided files d → Answers words files s out err → IsDue words files d → IsTheOne d s
+pub answers_due : OneOfAll → (words : List (List ℕ)) (files : Option Files) (s d : Status) (out err : List ℕ) → IsDecided words files → Answers words files s out err → IsDue words files d → IsTheOne d s
 answers_due one words files s d out err decided (ends_refused u is) (due_refused v also) = ap Refuses (same_usage one words u v is also)
 answers_due one words files s d out err decided (ends_refused u is) (due_asked asked _ ask y) = absurd (not_both one words asked u ask is)
 answers_due one words files s d out err decided (ends_asked asked _ _ _ ask x) (due_refused v also) = absurd (not_both one words asked v ask also)
 answers_due one words files s d out err decided (ends_asked asked status o e ask x) (due_asked other due ask' y) =
-    let y' = subst (λ a. DueOf files a due) (same_asked one words other asked ask' ask) y in
-    told_due one files asked status due o e (told files asked due decided y') x y'
+    decided_due one words files asked status due o e decided ask x (subst (λ a. DueOf files a due) (same_asked one words other asked ask' ask) y)
 
-pub answers_once : OneOfAll → (words : List (List ℕ)) (files : Files) (s s' : Status) (out err out' err' : List ℕ) → Answers words (Some files) s out err → Answers words (Some files) s' out' err' → AreOne s s' out out' err err'
-answers_once one words files s s' out err out' err' (ends_refused u is) (ends_refused v also) =
+pub answers_once : OneOfAll → (words : List (List ℕ)) (files : Option Files) (s s' : Status) (out err out' err' : List ℕ) → IsDecided words files → Answers words files s out err → Answers words files s' out' err' → AreOne s s' out out' err err'
+answers_once one words files s s' out err out' err' decided (ends_refused u is) (ends_refused v also) =
     let same = same_usage one words u v is also in
     (ap Refuses same, refl, ap usage_line same)
-answers_once one words files s s' out err out' err' (ends_refused u is) (ends_asked asked _ _ _ ask y) = absurd (not_both one words asked u ask is)
-answers_once one words files s s' out err out' err' (ends_asked asked _ _ _ ask x) (ends_refused v also) = absurd (not_both one words asked v ask also)
-answers_once one words files s s' out err out' err' (ends_asked asked status o e ask x) (ends_asked other status' o' e' ask' y) =
-    of_once one files asked status status' o e o' e' x (subst (λ a. EndsOf (Some files) a status' o' e') (same_asked one words other asked ask' ask) y)
+answers_once one words files s s' out err out' err' decided (ends_refused u is) (ends_asked asked _ _ _ ask y) = absurd (not_both one words asked u ask is)
+answers_once one words files s s' out err out' err' decided (ends_asked asked _ _ _ ask x) (ends_refused v also) = absurd (not_both one words asked v ask also)
+answers_once one words files s s' out err out' err' decided (ends_asked asked status o e ask x) (ends_asked other status' o' e' ask' y) =
+    decided_once one words files asked status status' o e o' e' decided ask x (subst (λ a. EndsOf files a status' o' e') (same_asked one words other asked ask' ask) y)
 
 -- ---- a term that is out of range
 

@@ -1,5 +1,5 @@
 -- That words and files have one answer.
-use Rattle.std.specs.Prelude.{ℕ, List, Option, Some, IsSome}
+use Rattle.std.specs.Prelude.{ℕ, List, Option, IsSome}
 use Rattle.rg_ports.specs.Shelf.{Files}
 use Rattle.rg_order_of_work.specs.Shown.{Shown}
 use Rattle.rg_top.specs.Ends.{Answers}
@@ -7,9 +7,9 @@ use Rattle.rg_top.specs.Due.{IsDue, IsPassed}
 use Rattle.rg_top.specs.Run.{IsDecided, ShowsTerm, IsTheOne, AreOne}
 use Rattle.rg_top.specs.declared.status.Status.{Status}
 
--- where the files are told two answers are one; the status is the one that is due; and where the answer for the system and the
--- class is a term that is out of range, the status shows that term
+-- where it is decided what is due two answers are one, and the status is the one that is due; and where the answer for the system and
+-- the class is a term that is out of range, the status shows that term
 pub record OneAnswer : Type 0 where
-  pub once : (words : List (List ℕ)) (files : Files) (s s' : Status) (out err out' err' : List ℕ) → Answers words (Some files) s out err → Answers words (Some files) s' out' err' → AreOne s s' out out' err err'
-  pub due : (words : List (List ℕ)) (files : Option Files) (s due : Status) (out err : List ℕ) → IsDecided files due → Answers words files s out err → IsDue words files due → IsTheOne due s
+  pub once : (words : List (List ℕ)) (files : Option Files) (s s' : Status) (out err out' err' : List ℕ) → IsDecided words files → Answers words files s out err → Answers words files s' out' err' → AreOne s s' out out' err err'
+  pub due : (words : List (List ℕ)) (files : Option Files) (s due : Status) (out err : List ℕ) → IsDecided words files → Answers words files s out err → IsDue words files due → IsTheOne due s
   pub term : (words : List (List ℕ)) (files : Option Files) (w : Shown) (s : Status) (out err : List ℕ) → IsSome files → Answers words files s out err → IsPassed words files w → ShowsTerm w s

@@ -15,7 +15,7 @@ use Rattle.rg_top.specs.Given.{IsSystemFile}
 use Rattle.rg_top.specs.Ends.{Answers}
 use Rattle.rg_top.specs.Due.{IsDue, IsPassed}
 use Rattle.rg_top.specs.declared.status.Status.{Status}
-use Rattle.rg_top.specs.declared.status.Status.TheVariants.{Usage, TooWide, ReadFault, WriteFault, NoMemory}
+use Rattle.rg_top.specs.declared.status.Status.TheVariants.{TooWide, ReadFault, WriteFault, NoMemory}
 
 -- a value before the run and after it
 pub record Change (A : Type 0) : Type 0 where
@@ -127,10 +127,13 @@ IsMishap WriteFault = Unit {0}
 IsMishap NoMemory = Unit {0}
 IsMishap _ = ⊥
 
--- what the words don't decide alone is decided where the shelf tells its files
-abbrev pub IsDecided : Option Files → Status → Type 0
-IsDecided files (Usage usage) = Unit {0}
-IsDecided files status = IsSome files
+-- the words ask for no work on a file
+pub record NameNoFile (words : List (List ℕ)) : Type 0 where
+  pub none : (work : Work) (file : List ℕ) (form : Form) → Ask words (of_system work file form) → ⊥
+
+-- what is due is decided: the shelf tells its files, or the words name none
+abbrev pub IsDecided : List (List ℕ) → Option Files → Type 0
+IsDecided words files = IsSome files ⊎ NameNoFile words
 
 -- the status shows this term
 abbrev pub ShowsTerm : Shown → Status → Type 0
@@ -146,10 +149,10 @@ IsTheOne due result = result ≡ due
 abbrev pub AreOne : Status → Status → List ℕ → List ℕ → List ℕ → List ℕ → Type 0
 AreOne s s' out out' err err' = IsTheOne s' s × (out ≡ out') × (err ≡ err')
 
--- where the status is due to the words and the files that are told it comes, unless a fault or want of memory comes in
+-- where it is decided what is due, a status that is due to the words and the files comes, unless a fault or want of memory comes in
 -- its place
 abbrev pub ComesIfDue : List (List ℕ) → Option Files → Status → Status → Type 0
-ComesIfDue words files due result = IsDecided files due → IsDue words files due → IsTheOne due result ⊎ IsMishap result
+ComesIfDue words files due result = IsDecided words files → IsDue words files due → IsTheOne due result ⊎ IsMishap result
 
 -- where a net is asked for, the shelf tells its files, and the answer is a term that is out of range, the status shows that term,
 -- unless a fault or want of memory comes in its place
