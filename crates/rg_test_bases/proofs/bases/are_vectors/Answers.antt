@@ -5,7 +5,7 @@ use Rattle.rg_integers.specs.Range.{InRange}
 use Rattle.std.specs.declared.alloc.Global.{Global}
 use Rattle.rg_cycles.specs.Vectors.{numbers_in}
 use Rattle.rg_cycles.proofs.Firsts.{vector_is}
-use Rattle.rg_solver_tests.proofs.bases.are_vectors.Goals as goal
+use Rattle.rg_test_bases.proofs.bases.are_vectors.Goals as goal
 
 past_all : (chords : List (Vec ℤ Global)) (p n : ℕ) → p < length (numbers_in chords) → length chords ≤ n → p < n
 past_all chords p n lt past = let e = length-map chords (λ v. v.items) in omega arith
@@ -15,7 +15,7 @@ loop-chord-preserved c =
     let is = vector_is c.args.chords.now c.loop-chord.chord-index c.chord-item.result c.loop-chord-test.true c.chord-item.is in
     let size : length c.chord-item.result.items ≡ c.args.labels = search rules in
     below_more _ _ c.loop-chord.invariant
-    (ap length is ∙ size, subst (All InRange) (c.deref.ensures.value ∙ sym is) (c.if-not-is_in_range.ensures refl))
+    (ap length is ∙ size, subst (All InRange) (c.deref.ensures.value ∙ sym is) (c.if-not-is_in_range.ensures.0 refl))
 
 pub returns : goal.returns
 returns c = λ e.

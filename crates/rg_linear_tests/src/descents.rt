@@ -3,10 +3,10 @@ ghost use Rattle.std.specs.Prelude.{◌≡◌, ℕ, ◌+◌, ◌<◌, ◌≤◌,
 ghost use Rattle.rg_linear.specs.View.{linear_system, IsWellFormed};
 ghost use Rattle.rg_feasible.specs.Settling.{IsWhole, IsRefutation};
 
-use crate::bases::is_in_range;
 use crate::plain;
 use rg_feasible::{Dictionary, Settled};
 use rg_linear::{Row, System};
+use rg_test_bases::is_in_range;
 use std::alloc::{AllocError, Global};
 use std::process::Abort;
 use std::test::Fail;

@@ -1,7 +1,7 @@
 //! Small bases worked by hand, and the walk at the limit of the range.
-use crate::bases::solved;
 use rg_cycles::{CycleWide, Relation, Stop, dependent, substitute};
 use rg_fraction::{FoldStop, Fraction, Wide};
+use rg_test_bases::solved;
 use std::alloc::{AllocError, Global};
 use std::test::Fail;
 

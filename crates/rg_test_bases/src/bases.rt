@@ -1,0 +1,43 @@
+//! Bases of the cycle equations.
+ghost use Rattle.std.specs.Prelude.{◌≡◌, ◌↔◌, All, IsTrue, IfOk};
+ghost use Rattle.rg_integers.specs.Range.{InRange};
+ghost use Rattle.rg_linear.specs.Cycle.{IsCycleBasis};
+ghost use Rattle.rg_cycles.specs.Vectors.{numbers_in, AreVectors};
+ghost use Rattle.rg_cycles.specs.View.{labels_of, cycle_of};
+
+use rg_cycles::{Basis, Stop, reduce};
+use std::alloc::Global;
+
+/// Whether the numbers lie in range.
+pub fn is_in_range(numbers: &[i128]) -> bool
+    ensures { IsTrue result ↔ All InRange numbers.now }
+{
+    numbers
+        .iter()
+        .all(|z| z.unsigned_abs() <= i128::MAX.unsigned_abs())
+}
+
+// Whether each chord has one entry in range for each label.
+fn are_vectors(labels: u32, chords: &[Vec<i128>]) -> bool
+    ensures { IsTrue result → AreVectors labels (numbers_in chords.now) }
+{
+    for chord in chords {
+        if chord.len() != labels as usize || !is_in_range(chord) {
+            return false;
+        }
+    }
+    true
+}
+
+/// The basis of these chords, as `reduce` gives it. `NoMemory` also where there are more labels or chords than a system has, or where a
+/// chord hasn't one entry in range for each label.
+pub fn solved(alloc: Global, labels: u32, chords: &[Vec<i128>]) -> Result<Basis, Stop>
+    ensures labels { IfOk result (λ b. labels_of b ≡ labels) }
+    ensures basis { IfOk result (λ b. IsCycleBasis labels (numbers_in chords.now) (cycle_of b)) }
+{
+    if labels <= 256 && chords.len() <= 262144 && are_vectors(labels, chords) {
+        reduce(alloc, labels, chords)
+    } else {
+        Err(Stop::NoMemory)
+    }
+}
