@@ -3,7 +3,7 @@
 
     bench/second.py compare crates/regions/out/regions [SYSTEMS [SEED]]
     bench/second.py answer pure examples/side.apt
-    bench/second.py table [SYSTEMS [SEED]] > crates/rg_acceptance/src/second.rt
+    bench/second.py table [SYSTEMS [SEED]] > crates/rg_answer_tests/src/second.rt
 
 It is written from docs/algorithm.md and docs/formats.md alone: fractions of any size, a problem at a time, each kept place asked, each
 dictionary made anew. `compare` makes random systems (2,000 unless a number is named) of up to 6 states and 4 labels, runs the program with 1 and
@@ -499,7 +499,8 @@ def compare(program, count, seed):
 
 TABLE = '''//! Random systems of up to 6 states and 4 labels, and what a second body of `synthesize` answers, which takes a problem at a time and asks
 //! each kept place: `bench/second.py table` has written this file.
-use crate::harness::{NoRoom, synthesize};
+use rg_test_files::NoRoom;
+use rg_test_runs::synthesize;
 
 // The class, the text of the system, the number of the status, and what is written to out.
 const ROWS: [(&str, &str, u8, &str); %d] = [

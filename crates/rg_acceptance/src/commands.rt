@@ -1,20 +1,13 @@
 //! Whole runs of every command, each a row: words, files, the status's number, and what is written to out and to err.
-use crate::harness::{NoRoom, run_over, shelf_of_two, sink};
-use crate::worked::{ABA, SIDE};
+use rg_test_files::worked::{ABA, ABA_GRAPH, EMPTY_NET, OF_SIDE, SIDE, SIDE_NET, STEP};
+use rg_test_files::{NoRoom, ROOM, shelf_of_two, sink};
+use rg_test_runs::run_over;
+use std::alloc::Global;
 use std::thread::Threads;
 
-const SIDE_NET: &str =
-    ".type PN\n.places\np0\n.transitions\na\nb\n.flows\na: {p0} -> {p0}\nb: {p0} -> {}\n.initial_marking {p0}\n";
-
+// As the net of the word a b a, but with a token less at the beginning.
 const ABA_NET: &str =
     ".type PN\n.places\np0\np1\np2\n.transitions\na\nb\n.flows\na: {p1} -> {p0}\nb: {p0, p2} -> {p0, p1}\n.initial_marking {p2}\n";
-
-// The word a b a as a state graph.
-const ABA_GRAPH: &str =
-    ".model lts\n.outputs a b\n.state graph\ns0 a s1\ns1 b s2\ns2 a s3\n.marking {s0}\n.end\n";
-
-// One step.
-const STEP: &str = ".type LTS .states s0[initial] s1 .labels a .arcs s0 a s1";
 
 // One state, and a label without an arc.
 const DEAD: &str = ".type LTS .states s0[initial] .labels a .arcs";
@@ -43,13 +36,10 @@ const TOO_GREAT: &str =
 
 const OTHER_TRANSITIONS: &str = ".type PN .places .transitions a c .flows .initial_marking {}";
 
-const OF_SIDE: &str =
-    "certificate 1\nclass pure\nevent s1 a\ncase\nleaf\n1 block\n1 tokens s1\n1 arc s0 a s0\nend\n";
-
 // The run of these words over the files f and c.
 fn row<R: Threads + Sync>(
     rt: &R,
-    alloc: std::alloc::Global,
+    alloc: Global,
     words: &[&str],
     f: &str,
     n: &str,
@@ -62,7 +52,7 @@ fn row<R: Threads + Sync>(
         alloc,
         words,
         shelf_of_two(alloc, f.as_bytes(), n.as_bytes())?,
-        sink(alloc, 4096, &[])?,
+        sink(alloc, ROOM)?,
     )?;
     Ok(
         made.status.number() == number
@@ -238,7 +228,7 @@ fn forms_are_read(rt: HostRuntime) -> Result<(), NoRoom> {
             "",
             "",
             0,
-            ".type PN\n.places\n.transitions\n.flows\n.initial_marking {}\n",
+            EMPTY_NET,
             "",
         ),
         (

@@ -1,6 +1,7 @@
 //! Whole runs of `generate` and `selftest`, which name no file: words, the status's number, and what is written to out and to err.
-use crate::harness::{NoRoom, run_over, shelf, sink};
-use crate::worked::{GRID_1, LOCK, TEST_1};
+use rg_test_files::worked::{GRID_1, LOCK, TEST_1};
+use rg_test_files::{NoRoom, shelf, sink};
+use rg_test_runs::run_over;
 
 // One doubling.
 const DOUBLING_1: &str =
@@ -24,13 +25,7 @@ fn systems_and_trials(rt: HostRuntime) -> Result<(), NoRoom> {
         (["selftest", "1"].as_slice(), TEST_1),
         (["selftest", "4"].as_slice(), TEST_4),
     ] {
-        let made = run_over(
-            &rt,
-            alloc,
-            words,
-            shelf(alloc, b"", &[])?,
-            sink(alloc, 64, &[])?,
-        )?;
+        let made = run_over(&rt, alloc, words, shelf(alloc, b"")?, sink(alloc, 64)?)?;
         assert!(rt; made.status.number() == 0);
         assert!(rt; made.out.bytes() == out.as_bytes());
         assert!(rt; made.err.bytes().is_empty());
@@ -74,13 +69,7 @@ fn words_are_refused(rt: HostRuntime) -> Result<(), NoRoom> {
         ),
         (["selftest", "--help"].as_slice(), "usage: words refused\n"),
     ] {
-        let made = run_over(
-            &rt,
-            alloc,
-            words,
-            shelf(alloc, b"", &[])?,
-            sink(alloc, 64, &[])?,
-        )?;
+        let made = run_over(&rt, alloc, words, shelf(alloc, b"")?, sink(alloc, 64)?)?;
         assert!(rt; made.status.number() == 2);
         assert!(rt; made.out.bytes().is_empty());
         assert!(rt; made.err.bytes() == err.as_bytes());

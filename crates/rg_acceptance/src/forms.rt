@@ -1,6 +1,7 @@
 //! Systems in each form, and what `check` says of nets that are written.
-use crate::harness::{NoRoom, Outcome, run_over, shelf_of_two, sink};
-use crate::worked::{ABA, CHOICE, LOCK, RING, SIDE};
+use rg_test_files::worked::{ABA, CHOICE, LOCK, LOOP, RING, SIDE, STILL};
+use rg_test_files::{NoRoom, ROOM, shelf_of_two, sink};
+use rg_test_runs::{Outcome, run_over};
 use std::alloc::Global;
 use std::thread::Threads;
 
@@ -10,12 +11,6 @@ const ABA_GRAPH: &str =
 
 const ABA_NET: &str =
     ".type PN\n.places\np0\np1\np2\n.transitions\na\nb\n.flows\na: {p1} -> {p0}\nb: {p0, p2} -> {p0, p1}\n.initial_marking {p1, p2}\n";
-
-// One state and a loop.
-const LOOP: &str = ".type LTS\n.states\ns0[initial]\n.labels\na\n.arcs\ns0 a s0\n";
-
-// One state, and a label without an arc.
-const STILL: &str = ".type LTS\n.states\ns0[initial]\n.labels\na\n.arcs\n";
 
 // The run of these words over the files f and c.
 fn run_on<R: Threads + Sync>(
@@ -30,7 +25,7 @@ fn run_on<R: Threads + Sync>(
         alloc,
         words,
         shelf_of_two(alloc, f, c)?,
-        sink(alloc, 4096, &[])?,
+        sink(alloc, ROOM)?,
     )
 }
 

@@ -1,26 +1,15 @@
 //! Texts in the format of APT: as users write them, and with their first faults.
-use crate::harness::{NoRoom, synthesize};
-use crate::worked::CHOICE;
 use itoa::Buffer;
 use rg_apt::TextFault;
 use rg_lexer::Want;
+use rg_test_files::NoRoom;
+use rg_test_files::worked::{CHOICE, EMPTY_NET, LOOP, SIDE_NET, SIDE_OF_A_USER};
+use rg_test_runs::synthesize;
 use rg_top::{Fault, FileFault, Status};
 use std::alloc::Global;
 
-// A loop and a step, as a user has them.
-const SIDE: &str =
-    ".name \"side\"\n.description \"a loop, then b\"\n.type LTS\n\n.states\ns0[initial=\"true\"] s1[final]\n.labels\na[uncontrollable] b\n.arcs\ns0 a s0 // the loop\ns0 b s1\n";
-
-const SIDE_NET: &str =
-    ".type PN\n.places\np0\n.transitions\na\nb\n.flows\na: {p0} -> {p0}\nb: {p0} -> {}\n.initial_marking {p0}\n";
-
 // One state and nothing else.
-const STILL: &str = ".type LTS .states s0[initial] .labels .arcs";
-
-const STILL_NET: &str = ".type PN\n.places\n.transitions\n.flows\n.initial_marking {}\n";
-
-// One state and a loop.
-const LOOP: &str = ".type LTS\n.states\ns0[initial]\n.labels\na\n.arcs\ns0 a s0\n";
+const EMPTY: &str = ".type LTS .states s0[initial] .labels .arcs";
 
 // The same arc twice.
 const TWICE: &str = ".type LTS .states s0[initial] .labels a .arcs s0 a s0 s0 a s0";
@@ -35,10 +24,10 @@ const CHOICE_NET: &str =
 #[test]
 fn nets_byte_for_byte(rt: HostRuntime) -> Result<(), NoRoom> {
     for (text, net) in [
-        (STILL, STILL_NET),
+        (EMPTY, EMPTY_NET),
         (LOOP, LOOP_NET),
         (TWICE, LOOP_NET),
-        (SIDE, SIDE_NET),
+        (SIDE_OF_A_USER, SIDE_NET),
         (CHOICE, CHOICE_NET),
     ] {
         let outcome = synthesize(&rt, rt.alloc(), "none", text.as_bytes())?;

@@ -1,5 +1,6 @@
 //! Words that are refused, and a file that isn't there.
-use crate::harness::{NoRoom, run_over, shelf, sink};
+use rg_test_files::{NoRoom, shelf, sink};
+use rg_test_runs::run_over;
 use rg_theory::ClassFault;
 use rg_top::{Fault, FileFault, Status, Usage};
 
@@ -56,13 +57,7 @@ fn words_are_refused(rt: HostRuntime) -> Result<(), NoRoom> {
         ),
     ];
     for (words, usage, line) in cases {
-        let made = run_over(
-            &rt,
-            alloc,
-            words,
-            shelf(alloc, b"", &[])?,
-            sink(alloc, 64, &[])?,
-        )?;
+        let made = run_over(&rt, alloc, words, shelf(alloc, b"")?, sink(alloc, 64)?)?;
         assert_eq!(rt; made.status, Status::Usage(usage));
         assert_eq!(rt; made.status.number(), 2);
         assert!(rt; made.out.bytes().is_empty());
@@ -75,13 +70,7 @@ fn words_are_refused(rt: HostRuntime) -> Result<(), NoRoom> {
 fn a_file_is_missing(rt: HostRuntime) -> Result<(), NoRoom> {
     let alloc = rt.alloc();
     let words = ["synthesize", "none", "g"];
-    let made = run_over(
-        &rt,
-        alloc,
-        &words,
-        shelf(alloc, b"", &[])?,
-        sink(alloc, 64, &[])?,
-    )?;
+    let made = run_over(&rt, alloc, &words, shelf(alloc, b"")?, sink(alloc, 64)?)?;
     let fault = FileFault {
         file: 1,
         fault: Fault::Missing,

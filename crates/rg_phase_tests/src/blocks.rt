@@ -3,10 +3,9 @@ ghost use Rattle.std.specs.Prelude.{◌≡◌, ◌+◌};
 
 use rg_phase::{NoMemory, Task, block};
 use rg_ports::{Gate, NoGate};
+use rg_test_files::{Meeting, NoRoom};
 use std::sync::atomic::{AtomicU64, Ordering};
 use std::test::Fail;
-
-const TURNS: u64 = 1_000_000_000;
 
 #[derive(Drop)]
 struct Doubles;
@@ -23,72 +22,15 @@ impl Task for Doubles {
     }
 }
 
-// Holds the first number until the last one is entered, and the last one until the first is.
-#[derive(Drop)]
-struct Meeting {
-    first: AtomicU64,
-    last: AtomicU64,
-    missed: AtomicU64,
-    entered: [AtomicU64; 3],
-    left: [AtomicU64; 3],
-}
-
-impl Meeting {
-    fn new() -> Meeting {
-        Meeting {
-            first: AtomicU64::new(0),
-            last: AtomicU64::new(0),
-            missed: AtomicU64::new(0),
-            entered: [AtomicU64::new(0), AtomicU64::new(0), AtomicU64::new(0)],
-            left: [AtomicU64::new(0), AtomicU64::new(0), AtomicU64::new(0)],
-        }
-    }
-
-    fn meet(&self, mine: &AtomicU64, other: &AtomicU64) {
-        mine.store(1, Ordering::SeqCst);
-        for _ in 0..TURNS {
-            if other.load(Ordering::SeqCst) == 1 {
-                return;
-            }
-        }
-        self.missed.store(1, Ordering::SeqCst);
-    }
-}
-
-impl Gate for Meeting {
-    fn enter(&self, i: u32) {
-        if let Some(count) = self.entered.get(i as usize) {
-            count.fetch_add(1, Ordering::SeqCst);
-        }
-        if i == 0 {
-            self.meet(&self.first, &self.last);
-        }
-        if i == 2 {
-            self.meet(&self.last, &self.first);
-        }
-    }
-
-    fn leave(&self, i: u32) {
-        if let Some(count) = self.left.get(i as usize) {
-            count.fetch_add(1, Ordering::SeqCst);
-        }
-    }
-}
-
 #[test]
-fn two_parts_meet(rt: HostRuntime) -> Result<(), Fail> {
-    let gate = Meeting::new();
+fn two_parts_meet(rt: HostRuntime) -> Result<(), NoRoom> {
+    let gate = Meeting::new(rt.alloc(), 2)?;
     match block(&rt, rt.alloc(), &Doubles, 0, 3, 2, &gate) {
         Ok(all) => assert_eq!(rt; all.as_slice(), [0, 2, 4].as_slice()),
         Err(_) => assert!(rt; false),
     }
-    assert_eq!(rt; gate.missed.load(Ordering::SeqCst), 0);
-    for count in gate.entered.iter() {
-        assert_eq!(rt; count.load(Ordering::SeqCst), 1);
-    }
-    for count in gate.left.iter() {
-        assert_eq!(rt; count.load(Ordering::SeqCst), 1);
-    }
+    assert!(rt; gate.have_met());
+    assert!(rt; gate.passed_once());
     Ok(())
 }
 

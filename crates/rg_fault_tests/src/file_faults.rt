@@ -1,7 +1,7 @@
 //! Faults of files: words, files, and the line that is written to err with status 3. The system is one step.
-use crate::harness::{NoRoom, run_over, shelf_of_two, sink};
-
-const STEP: &str = ".type LTS .states s0[initial] s1 .labels a .arcs s0 a s1";
+use rg_test_files::worked::STEP;
+use rg_test_files::{NoRoom, shelf_of_two, sink};
+use rg_test_runs::run_over;
 
 // Net files of `check`.
 const NETS: [(&str, &str); 10] = [
@@ -56,7 +56,7 @@ fn of_nets(rt: HostRuntime) -> Result<(), NoRoom> {
     let words = ["check", "none", "f", "c"];
     for (net, line) in NETS {
         let shelf = shelf_of_two(rt.alloc(), STEP.as_bytes(), net.as_bytes())?;
-        let made = run_over(&rt, rt.alloc(), &words, shelf, sink(rt.alloc(), 64, &[])?)?;
+        let made = run_over(&rt, rt.alloc(), &words, shelf, sink(rt.alloc(), 64)?)?;
         assert_eq!(rt; made.status.number(), 3);
         assert!(rt; made.out.bytes().is_empty());
         assert!(rt; made.err.bytes() == line.as_bytes());
@@ -69,7 +69,7 @@ fn of_systems(rt: HostRuntime) -> Result<(), NoRoom> {
     for (form, text, line) in SYSTEMS {
         let words = ["convert", "apt", "f", "--from", form];
         let shelf = shelf_of_two(rt.alloc(), text.as_bytes(), b"")?;
-        let made = run_over(&rt, rt.alloc(), &words, shelf, sink(rt.alloc(), 64, &[])?)?;
+        let made = run_over(&rt, rt.alloc(), &words, shelf, sink(rt.alloc(), 64)?)?;
         assert_eq!(rt; made.status.number(), 3);
         assert!(rt; made.out.bytes().is_empty());
         assert!(rt; made.err.bytes() == line.as_bytes());

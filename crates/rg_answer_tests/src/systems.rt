@@ -1,14 +1,14 @@
 //! Systems and the nets that they get.
-use crate::harness::{NoRoom, synthesize};
-use crate::worked::{ABA, CHOICE, LOCK, OF_RING_PLAIN, OF_RING_SAFE, RING, SIDE};
+use rg_test_files::NoRoom;
+use rg_test_files::worked::{
+    ABA, CHOICE, LOCK, OF_RING_PLAIN, OF_RING_SAFE, RING, SIDE, SIDE_NET, STILL,
+};
+use rg_test_runs::synthesize;
 use rg_top::Status;
 
 // One state and seven loops.
 const LOOPS: &str =
     ".type LTS\n.states\ns0[initial]\n.labels\na\nb\nc\nd\ne\nf\ng\n.arcs\ns0 a s0\ns0 b s0\ns0 c s0\ns0 d s0\ns0 e s0\ns0 f s0\ns0 g s0\n";
-
-// One state and a label without an arc.
-const STILL: &str = ".type LTS\n.states\ns0[initial]\n.labels\na\n.arcs\n";
 
 #[test]
 fn nets_are_written(rt: HostRuntime) -> Result<(), NoRoom> {
@@ -39,9 +39,7 @@ fn nets_are_written(rt: HostRuntime) -> Result<(), NoRoom> {
 #[test]
 fn the_first_net(rt: HostRuntime) -> Result<(), NoRoom> {
     let outcome = synthesize(&rt, rt.alloc(), "none", SIDE.as_bytes())?;
-    let want =
-        ".type PN\n.places\np0\n.transitions\na\nb\n.flows\na: {p0} -> {p0}\nb: {p0} -> {}\n.initial_marking {p0}\n";
-    assert!(rt; outcome.out.bytes() == want.as_bytes());
+    assert!(rt; outcome.out.bytes() == SIDE_NET.as_bytes());
     Ok(())
 }
 
@@ -57,12 +55,7 @@ fn a_net_without_places(rt: HostRuntime) -> Result<(), NoRoom> {
 #[test]
 fn whole_tokens_and_weights(rt: HostRuntime) -> Result<(), NoRoom> {
     for (class, text, status, want) in [
-        (
-            "plain",
-            SIDE,
-            Status::Done,
-            ".type PN\n.places\np0\n.transitions\na\nb\n.flows\na: {p0} -> {p0}\nb: {p0} -> {}\n.initial_marking {p0}\n",
-        ),
+        ("plain", SIDE, Status::Done, SIDE_NET),
         (
             "2-bounded",
             RING,

@@ -1,14 +1,8 @@
 //! Files that are cut: the file of a loop and a step after each of its bytes, and a certificate after its second line.
-use crate::harness::{NoRoom, judge, synthesize};
-use crate::worked::SIDE;
+use rg_test_files::NoRoom;
+use rg_test_files::worked::{EMPTY_NET, SIDE, SIDE_NET};
+use rg_test_runs::{judge, synthesize};
 use rg_top::Status;
-
-// The net of one state and no label.
-const STILL_NET: &str = ".type PN\n.places\n.transitions\n.flows\n.initial_marking {}\n";
-
-// The net of the loop and the step.
-const SIDE_NET: &str =
-    ".type PN\n.places\np0\n.transitions\na\nb\n.flows\na: {p0} -> {p0}\nb: {p0} -> {}\n.initial_marking {p0}\n";
 
 // State `s` is not reachable.
 const NO_S: &str = "certificate 1\nclass none\nunreachable s\nend\n";
@@ -47,8 +41,8 @@ const CUTS: [(usize, u8, &str); 68] = [
     (26, 3, "file 1: expected CloseList at 26\n"),
     (27, 3, "file 1: expected CloseList at 27\n"),
     (28, 3, "file 1: expected CloseList at 28\n"),
-    (29, 0, STILL_NET),
-    (30, 0, STILL_NET),
+    (29, 0, EMPTY_NET),
+    (30, 0, EMPTY_NET),
     (31, 1, NO_S),
     (32, 1, NO_S1),
     (33, 1, NO_S1),

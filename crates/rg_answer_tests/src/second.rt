@@ -1,6 +1,7 @@
 //! Random systems of up to 6 states and 4 labels, and what a second body of `synthesize` answers, which takes a problem at a time and asks
 //! each kept place: `bench/second.py table` has written this file.
-use crate::harness::{NoRoom, synthesize};
+use rg_test_files::NoRoom;
+use rg_test_runs::synthesize;
 
 // The class, the text of the system, the number of the status, and what is written to out.
 const ROWS: [(&str, &str, u8, &str); 32] = [

@@ -1,9 +1,10 @@
 //! Systems with a problem that no region of the class separates: their certificates, which are worked by hand, and what
 //! `verify` says of those.
-use crate::harness::{NoRoom, doubling, judge, synthesize};
-use crate::worked::{
+use rg_test_files::NoRoom;
+use rg_test_files::worked::{
     ABBAA, CHOICE, CYCLE, OF_ABBAA, OF_CHOICE, OF_CYCLE, OF_PURE_CHOICE, OF_SIDE, SIDE,
 };
+use rg_test_runs::{doubling, judge, synthesize};
 use rg_top::Status;
 
 #[test]

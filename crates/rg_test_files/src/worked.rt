@@ -1,8 +1,28 @@
-//! Worked systems, and certificates that they have no net.
+//! Worked systems as texts, with nets of theirs, and certificates that they have none.
+
+/// One step, on one line.
+pub const STEP: &str = ".type LTS .states s0[initial] s1 .labels a .arcs s0 a s1";
+
+/// One state and a loop.
+pub const LOOP: &str = ".type LTS\n.states\ns0[initial]\n.labels\na\n.arcs\ns0 a s0\n";
+
+/// One state, and a label without an arc.
+pub const STILL: &str = ".type LTS\n.states\ns0[initial]\n.labels\na\n.arcs\n";
+
+/// The net of one state and no label.
+pub const EMPTY_NET: &str = ".type PN\n.places\n.transitions\n.flows\n.initial_marking {}\n";
 
 /// A loop and a step.
 pub const SIDE: &str =
     ".type LTS\n.states\ns0[initial]\ns1\n.labels\na\nb\n.arcs\ns0 a s0\ns0 b s1\n";
+
+/// The same as a user has it: 153 bytes.
+pub const SIDE_OF_A_USER: &str =
+    ".name \"side\"\n.description \"a loop, then b\"\n.type LTS\n\n.states\ns0[initial=\"true\"] s1[final]\n.labels\na[uncontrollable] b\n.arcs\ns0 a s0 // the loop\ns0 b s1\n";
+
+/// The net of the loop and the step.
+pub const SIDE_NET: &str =
+    ".type PN\n.places\np0\n.transitions\na\nb\n.flows\na: {p0} -> {p0}\nb: {p0} -> {}\n.initial_marking {p0}\n";
 
 /// No region of a pure net stops a after the step.
 pub const OF_SIDE: &str =
@@ -39,6 +59,10 @@ pub const OF_PURE_CHOICE: &str =
 /// The word a b a.
 pub const ABA: &str =
     ".type LTS\n.states\ns0[initial]\ns1\ns2\ns3\n.labels\na\nb\n.arcs\ns0 a s1\ns1 b s2\ns2 a s3\n";
+
+/// The word a b a as a state graph.
+pub const ABA_GRAPH: &str =
+    ".model lts\n.outputs a b\n.state graph\ns0 a s1\ns1 b s2\ns2 a s3\n.marking {s0}\n.end\n";
 
 /// The cycle of a, a and b.
 pub const RING: &str =

@@ -1,10 +1,11 @@
 //! What `verify` says of certificates with leaves: those of worked systems, and the same with a change.
-use crate::harness::{NoRoom, judge};
-use crate::worked::{
+use itoa::Buffer;
+use rg_test_files::NoRoom;
+use rg_test_files::worked::{
     ABBAA, CHOICE, CYCLE, OF_ABBAA, OF_CHOICE, OF_CYCLE, OF_RING_PLAIN, OF_RING_SAFE, OF_SIDE,
     RING, SIDE,
 };
-use itoa::Buffer;
+use rg_test_runs::judge;
 use rg_top::Status;
 use std::alloc::Global;
 

@@ -1,5 +1,6 @@
 //! Systems without a net, their certificates, and what `verify` says of those.
-use crate::harness::{NoRoom, judge, run_over, shelf, sink, synthesize};
+use rg_test_files::{NoRoom, shelf, sink};
+use rg_test_runs::{judge, run_over, synthesize};
 use rg_top::{Fault, FileFault, Status};
 
 // A fork, and a state that can't be reached.
@@ -80,8 +81,8 @@ fn the_second_file_is_missing(rt: HostRuntime) -> Result<(), NoRoom> {
         &rt,
         alloc,
         &["verify", "f", "d"],
-        shelf(alloc, FORK.as_bytes(), &[])?,
-        sink(alloc, 64, &[])?,
+        shelf(alloc, FORK.as_bytes())?,
+        sink(alloc, 64)?,
     )?;
     let fault = FileFault {
         file: 2,

@@ -1,8 +1,9 @@
-//! A run over one file in memory.
+//! A run over files in memory.
 use rg_apt::print_lts;
 use rg_ports::{Gate, MemoryShelf, MemorySink, NoGate};
+use rg_test_files::{NoRoom, ROOM, shelf, shelf_of_two, sink};
 use rg_top::{Kind, Status, generate, is_family_number, run};
-use std::alloc::{AllocError, AllocFailed, Global};
+use std::alloc::Global;
 use std::thread::Threads;
 
 /// How a run ended, and what it wrote.
@@ -13,28 +14,6 @@ pub struct Outcome {
     pub err: MemorySink,
 }
 
-/// There was no memory for the test itself.
-#[derive(Clone, Copy, Debug, PartialEq, Eq)]
-pub struct NoRoom;
-
-impl From<AllocError> for NoRoom {
-    fn from(_: AllocError) -> NoRoom {
-        NoRoom
-    }
-}
-
-impl<T: Drop> From<AllocFailed<T>> for NoRoom {
-    fn from(_: AllocFailed<T>) -> NoRoom {
-        NoRoom
-    }
-}
-
-impl From<rg_ports::NoMemory> for NoRoom {
-    fn from(_: rg_ports::NoMemory) -> NoRoom {
-        NoRoom
-    }
-}
-
 /// The words as owned strings.
 pub fn owned(alloc: Global, words: &[&str]) -> Result<Vec<String>, NoRoom> {
     let mut all = Vec::new(alloc);
@@ -42,34 +21,6 @@ pub fn owned(alloc: Global, words: &[&str]) -> Result<Vec<String>, NoRoom> {
         all.push(String::from_str(alloc, word)?)?;
     }
     Ok(all)
-}
-
-/// A shelf with one file `f`, whose calls of these numbers fail.
-pub fn shelf(alloc: Global, text: &[u8], fail: &[u64]) -> Result<MemoryShelf, NoRoom> {
-    let name = String::from_str(alloc, "f")?;
-    let bytes = Vec::from_slice(alloc, text)?;
-    let mut files = Vec::new(alloc);
-    files.push((name, bytes))?;
-    Ok(MemoryShelf::new(files, 4096, Vec::from_slice(alloc, fail)?))
-}
-
-/// A shelf with the files `f` and `c`.
-pub fn shelf_of_two(alloc: Global, text: &[u8], certificate: &[u8]) -> Result<MemoryShelf, NoRoom> {
-    let mut files = Vec::new(alloc);
-    files.push((String::from_str(alloc, "f")?, Vec::from_slice(alloc, text)?))?;
-    files.push((
-        String::from_str(alloc, "c")?,
-        Vec::from_slice(alloc, certificate)?,
-    ))?;
-    Ok(MemoryShelf::new(files, 4096, Vec::new(alloc)))
-}
-
-/// A sink with room for 4,096 bytes, which takes at most so many a call and fails at these calls.
-pub fn sink(alloc: Global, most: usize, fail: &[u64]) -> Result<MemorySink, NoRoom> {
-    if most == 0 {
-        return Err(NoRoom);
-    }
-    Ok(MemorySink::new(alloc, 4096, most, Vec::from_slice(alloc, fail)?)?)
 }
 
 /// The run of these words over the shelf, into sinks of which `out` is given.
@@ -93,7 +44,7 @@ pub fn run_through<R: Threads + Sync, G: Gate + Sync>(
     gate: &G,
 ) -> Result<Outcome, NoRoom> {
     let words = owned(alloc, words)?;
-    let mut err = sink(alloc, 4096, &[])?;
+    let mut err = sink(alloc, ROOM)?;
     let status = run(rt, alloc, &words, &mut shelf, &mut out, &mut err, gate);
     Ok(Outcome { status, out, err })
 }
@@ -106,7 +57,7 @@ pub fn judge<R: Threads + Sync>(
     certificate: &[u8],
 ) -> Result<Outcome, NoRoom> {
     let shelf = shelf_of_two(alloc, text, certificate)?;
-    let out = sink(alloc, 4096, &[])?;
+    let out = sink(alloc, ROOM)?;
     run_over(rt, alloc, &["verify", "f", "c"], shelf, out)
 }
 
@@ -117,12 +68,12 @@ pub fn synthesize<R: Threads + Sync>(
     class: &str,
     text: &[u8],
 ) -> Result<Outcome, NoRoom> {
-    let shelf = shelf(alloc, text, &[])?;
-    let out = sink(alloc, 4096, &[])?;
+    let shelf = shelf(alloc, text)?;
+    let out = sink(alloc, ROOM)?;
     run_over(rt, alloc, &["synthesize", class, "f"], shelf, out)
 }
 
-/// The text of a chain of so many doublings, from 1 to 255.
+/// The text of a chain of so many doublings, from 1 to 255; of any other number `NoRoom`.
 pub fn doubling(alloc: Global, n: u32) -> Result<String, NoRoom> {
     if !is_family_number(Kind::Doubling, n) {
         return Err(NoRoom);

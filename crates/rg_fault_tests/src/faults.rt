@@ -1,9 +1,10 @@
 //! Every call of the outside fails once: each call of the shelf, each call of the sink that is written to, and each room that is too
 //! small; and the same run again ends as it should. The shelf gives at most 7 bytes a read, a sink takes at most 10 bytes a write.
 //! Of runs that take long the first, a middle and the last of these are tried.
-use crate::harness::{NoRoom, doubling, owned};
-use crate::worked::{ABA, GRID_1, TEST_1};
 use rg_ports::{MemoryShelf, MemorySink, NoGate};
+use rg_test_files::worked::{ABA, ABA_GRAPH, GRID_1, OF_SIDE, SIDE_NET, SIDE_OF_A_USER, TEST_1};
+use rg_test_files::{NoRoom, ROOM, failing_shelf, failing_sink};
+use rg_test_runs::{doubling, owned};
 use rg_top::run;
 use std::alloc::Global;
 use std::thread::Threads;
@@ -11,8 +12,6 @@ use std::thread::Threads;
 const READ: usize = 7;
 
 const WRITE: usize = 10;
-
-const ROOM: usize = 4096;
 
 // Which of the calls and rooms of a run are tried.
 #[derive(Clone, Copy, PartialEq, Eq)]
@@ -40,34 +39,12 @@ fn is_tried(case: &Case<'_>, k: u64, last: u64) -> bool {
     case.tried == Tried::Each || k == 1 || k == last / 2 || k == last
 }
 
-// A loop and a step, as a user has them: 153 bytes.
-const SIDE: &str =
-    ".name \"side\"\n.description \"a loop, then b\"\n.type LTS\n\n.states\ns0[initial=\"true\"] s1[final]\n.labels\na[uncontrollable] b\n.arcs\ns0 a s0 // the loop\ns0 b s1\n";
-
-const SIDE_NET: &str =
-    ".type PN\n.places\np0\n.transitions\na\nb\n.flows\na: {p0} -> {p0}\nb: {p0} -> {}\n.initial_marking {p0}\n";
-
-const OF_SIDE: &str =
-    "certificate 1\nclass pure\nevent s1 a\ncase\nleaf\n1 block\n1 tokens s1\n1 arc s0 a s0\nend\n";
-
-const ABA_GRAPH: &str =
-    ".model lts\n.outputs a b\n.state graph\ns0 a s1\ns1 b s2\ns2 a s3\n.marking {s0}\n.end\n";
-
 fn shelf(alloc: Global, case: Case<'_>, fail: &[u64]) -> Result<MemoryShelf, NoRoom> {
-    let mut files = Vec::new(alloc);
-    files.push((
-        String::from_str(alloc, "f")?,
-        Vec::from_slice(alloc, case.f.as_bytes())?,
-    ))?;
-    files.push((
-        String::from_str(alloc, "c")?,
-        Vec::from_slice(alloc, case.c.as_bytes())?,
-    ))?;
-    Ok(MemoryShelf::new(files, READ, Vec::from_slice(alloc, fail)?))
+    failing_shelf(alloc, case.f.as_bytes(), case.c.as_bytes(), READ, fail)
 }
 
 fn sink(alloc: Global, room: usize, fail: &[u64]) -> Result<MemorySink, NoRoom> {
-    Ok(MemorySink::new(alloc, room, WRITE, Vec::from_slice(alloc, fail)?)?)
+    failing_sink(alloc, room, WRITE, fail)
 }
 
 // Whether the run ends with this number and leaves these bytes in out and in err.
@@ -218,7 +195,7 @@ fn each_room<R: Threads + Sync>(rt: &R, alloc: Global, case: Case<'_>) -> Result
 const CASES: [Case<'static>; 9] = [
     Case {
         words: &["synthesize", "none", "f"],
-        f: SIDE,
+        f: SIDE_OF_A_USER,
         c: "",
         calls: 24,
         number: 0,
@@ -228,7 +205,7 @@ const CASES: [Case<'static>; 9] = [
     },
     Case {
         words: &["synthesize", "pure", "f"],
-        f: SIDE,
+        f: SIDE_OF_A_USER,
         c: "",
         calls: 24,
         number: 1,
@@ -248,7 +225,7 @@ const CASES: [Case<'static>; 9] = [
     },
     Case {
         words: &["verify", "f", "c"],
-        f: SIDE,
+        f: SIDE_OF_A_USER,
         c: OF_SIDE,
         calls: 38,
         number: 0,
@@ -258,7 +235,7 @@ const CASES: [Case<'static>; 9] = [
     },
     Case {
         words: &["check", "none", "f", "c"],
-        f: SIDE,
+        f: SIDE_OF_A_USER,
         c: SIDE_NET,
         calls: 40,
         number: 0,
