@@ -5,14 +5,15 @@
     bench/families.py run crates/regions/out/regions [none pure ..]
     bench/families.py beside EARLIER crates/regions/out/regions [none pure ..]
     bench/families.py jobs crates/regions/out/regions [none pure ..]
-    bench/families.py solved crates/solving_bench/out/solving_bench [none pure ..]
+    bench/families.py blocks crates/solving_bench/out/solving_bench [none pure ..]
 
 `run` prints for each system and class (`none`, `pure`, `safe` and `pure,plain,safe`, unless classes are named) the status, the
 seconds, the peak memory as GNU time tells it, the numbers of states and of separation problems, how many places the net has or how
 many nodes (splits and leaves) the certificate's trees, and what err says. `beside` runs an earlier program first, and prints its
 seconds, memory and places in columns of their own: a program that prunes no places shows how many are found. `jobs` prints the
-seconds and the memory with 1, 2, 4 and 16 jobs, and says so where the bytes differ, which they never may. `solved` prints how many
-problems are solved with two jobs, as a gate counts them, beside the places of the net. It is run by hand and is no test.
+seconds and the memory with 1, 2, 4 and 16 jobs, and says so where the bytes differ, which they never may. `blocks` prints how many
+problems all blocks have, as a gate counts them, beside the places of the net: no kept place separated them when their block was
+formed, so no more are solved, and none of these twice but the one that is told. It is run by hand and is no test.
 
 The systems `grid`, `doubling` and `lock` come from `generate` of the program (the last one named); the others are written here.
 """
@@ -209,8 +210,8 @@ def with_jobs(program, classes):
                 print(' | '.join(line), flush=True)
 
 
-def solved(program, classes):
-    print(' | '.join(['family', 'class', 'status', 'problems', 'solved with 2 jobs', 'places']))
+def blocks(program, classes):
+    print(' | '.join(['family', 'class', 'status', 'problems', 'in blocks', 'places']))
     with tempfile.TemporaryDirectory() as folder:
         for name, system, path in systems(folder, program):
             for class_word in classes:
@@ -228,8 +229,8 @@ def main():
         run(words[1:2], words[2:] or CLASSES)
     elif len(words) >= 2 and words[0] == 'jobs':
         with_jobs(words[1], words[2:] or CLASSES)
-    elif len(words) >= 2 and words[0] == 'solved':
-        solved(words[1], words[2:] or CLASSES)
+    elif len(words) >= 2 and words[0] == 'blocks':
+        blocks(words[1], words[2:] or CLASSES)
     elif len(words) >= 3 and words[0] == 'beside':
         run(words[1:3], words[3:] or CLASSES)
     else:

@@ -1,5 +1,6 @@
 pub mod LeftLemmas
 pub mod RankLemmas
+pub mod NotingLemmas
 pub mod SolvedLemmas
 pub mod TakingLemmas
 pub mod SeparationLemmas

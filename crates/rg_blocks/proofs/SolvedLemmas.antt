@@ -1,7 +1,7 @@
 -- What is said of all problems of a block, and its last one.
 use Rattle.std.proofs.Common.{◌≡◌, ℕ, suc, ◌+◌, ◌-◌, ◌<◌, List, [], ◌∷◌, length, get_or, All, Option, Some, Result, Ok, Err, IfOk, refl, sym, ap, ap₂, subst, ◌∙◌, arith}
 use Rattle.std.specs.Prelude.{slice_get}
-use Rattle.std.proofs.lemmas.Option.{same_Some}
+use Rattle.std.proofs.lemmas.Option.{same_Some, slice_get-get_or}
 use Rattle.std.proofs.lemmas.List.Elements.{All-cons}
 use Rattle.rg_theory.specs.System.{System}
 use Rattle.rg_theory.specs.Net.{Place}
@@ -27,6 +27,11 @@ pub same_problems : {E V : Type 0} (items : V → List SolvedProblem) (problems 
     → IfOk r (λ v. AreAnswers (λ i s. (slice_get problems i ≡ Some s.problem) × IsSolvedBy comes makes s) 0 (length problems - 0) (items v)) → IfOk r (λ v. problems_of (items v) ≡ problems)
 same_problems items problems comes makes (Ok v) are = same_list problems (items v) (let e = are.one_each in omega arith) (λ i x at. (let e : 0 + i ≡ i = omega arith in subst (λ k. slice_get problems k ≡ Some x.problem) e (are.each i x at).0))
 same_problems items problems comes makes (Err e) are = are
+
+pub all_solved : {E V : Type 0} (items : V → List SolvedProblem) (problems : List Problem) (comes : Problem → Solved → Type 0) (makes : RegionPlace → Type 0) (r : Result V E)
+    → IfOk r (λ v. AreAnswers (λ i s. (slice_get problems i ≡ Some s.problem) × IsSolvedBy comes makes s) 0 (length problems - 0) (items v)) → IfOk r (λ v. All (IsSolvedBy comes makes) (items v))
+all_solved items problems comes makes (Ok v) are = λ i d lt. (are.each i (get_or (items v) i d) (slice_get-get_or (items v) i d lt)).1
+all_solved items problems comes makes (Err e) are = are
 
 -- what is asked of all problems is asked of those of a block
 pub block_asks : (lts : System) (kept : List Place) (asks : Problem → Type 0) (last : Option Problem) (block : List Problem) → AsksAll lts asks → IsBlock lts kept last block → All asks block

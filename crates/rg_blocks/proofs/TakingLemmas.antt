@@ -1,5 +1,5 @@
 -- Taking over, problem by problem.
-use Rattle.std.proofs.Common.{◌≡◌, ◌⊎◌, inl, inr, ℕ, suc, ◌+◌, ◌<◌, List, [], ◌∷◌, ◌++◌, length, get_or, take, drop, Option, None, Some, IfSome, IfNone, refl, sym, ap, subst, ◌∙◌}
+use Rattle.std.proofs.Common.{◌≡◌, ◌⊎◌, inl, inr, ℕ, suc, ◌+◌, ◌<◌, List, [], ◌∷◌, ◌++◌, length, get_or, take, drop, Option, None, Some, All, IfNone, refl, sym, ap, subst, ◌∙◌, arith}
 use Rattle.std.proofs.Math.Seq.{split_at}
 use Rattle.std.proofs.lemmas.List.{append_assoc, map-append, take_more}
 use Rattle.rg_theory.specs.System.{System}
@@ -69,8 +69,20 @@ module _ (lts : System) (comes : Problem → Solved → Type 0) where
 pub one_more_problem : (yielded : List SolvedProblem) (s : SolvedProblem) → problems_of (yielded ++ s ∷ []) ≡ problems_of yielded ++ s.problem ∷ []
 one_more_problem yielded s = map-append (λ x. x.problem) yielded (s ∷ [])
 
+-- the next one stands behind those that were taken
+pub stands_next : {X : Type 0} (items yielded rest rest' : List X) (s : X) → items ≡ yielded ++ rest → rest ≡ s ∷ rest' → items ≡ yielded ++ s ∷ rest'
+stands_next items yielded rest rest' s e f = e ∙ ap (λ xs. yielded ++ xs) f
+
 pub left_over : {X : Type 0} (items yielded rest rest' : List X) (s : X) → items ≡ yielded ++ rest → rest ≡ s ∷ rest' → items ≡ (yielded ++ s ∷ []) ++ rest'
-left_over items yielded rest rest' s e f = e ∙ ap (λ xs. yielded ++ xs) f ∙ sym (append_assoc yielded (s ∷ []) rest')
+left_over items yielded rest rest' s e f = stands_next items yielded rest rest' s e f ∙ sym (append_assoc yielded (s ∷ []) rest')
+
+-- what is asked of all problems is asked of the next one
+pub asked_next : (asks : Problem → Type 0) (items yielded rest : List SolvedProblem) (s : SolvedProblem) → items ≡ yielded ++ s ∷ rest → All asks (problems_of items) → asks s.problem
+asked_next asks items yielded rest s are all = behind yielded (subst (λ xs. All asks (problems_of xs)) are all)
+  where
+    behind : (yielded : List SolvedProblem) → All asks (problems_of (yielded ++ s ∷ rest)) → asks s.problem
+    behind [] all = all 0 s.problem (omega arith)
+    behind (x ∷ yielded) all = behind yielded (λ i d lt. all (suc i) d (omega arith))
 
 module _ (lts : System) (comes : Problem → Solved → Type 0) (before now after : List Place) (end : Option Problem) where
   pub solved_more : (yielded : List SolvedProblem) (s : SolvedProblem) → end ≡ None → TakenOver lts comes before (problems_of yielded) (kept_places now) → IsTakenOver lts comes now (s.problem ∷ []) after end
@@ -95,9 +107,6 @@ module _ (lts : System) (comes : Problem → Solved → Type 0) (before now afte
       let split : problems ≡ take i problems ++ p ∷ drop (suc i) problems = split_at problems i d lt ∙ ap (λ x. take i problems ++ x ∷ drop (suc i) problems) (sym is) in
       subst (λ xs. IsTakenOver lts comes before xs after (Some q)) (sym split) (one_ends lts comes before now after (take i problems) (drop (suc i) problems) p q end some taken one)
 
--- what is said of a value that is there, or isn't
-pub some_is : {X : Type 0} (o : Option X) (x : X) (P : X → Type 0) → o ≡ Some x → IfSome o P → P x
-some_is o x P e fact = subst (λ r. IfSome r P) e fact
-
+-- what is said where there is no value
 pub none_is : {X : Type 0} (o : Option X) (P : Type 0) → o ≡ None → IfNone o P → P
 none_is o P e fact = subst (λ r. IfNone r P) e fact

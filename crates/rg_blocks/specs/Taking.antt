@@ -1,9 +1,10 @@
 -- What the problems of a block come to, and what comes of it.
-use Rattle.std.specs.Prelude.{List, map, Option, None, Some}
+use Rattle.std.specs.Prelude.{List, map, Option, None, Some, IfSome}
 use Rattle.rg_theory.specs.System.{System}
 use Rattle.rg_theory.specs.Net.{Place}
 use Rattle.rg_theory.specs.declared.Problem.{Problem}
 use Rattle.rg_net.specs.Shown.{shown_place}
+use Rattle.rg_separated.specs.Tokens.{IsNarrow, AreTokens}
 use Rattle.rg_places.specs.declared.region_place.RegionPlace.{RegionPlace}
 use Rattle.rg_refuting.specs.Refutes.{Tree}
 use Rattle.rg_order_of_work.specs.Shown.{Shown}
@@ -19,8 +20,9 @@ IsOutcome comes makes problem (outcome.Place r) = comes problem (placed (shown_p
 IsOutcome comes makes problem outcome.Refuted = (trees : List Tree) × comes problem (refuted trees)
 IsOutcome comes makes problem outcome.TooWide = (w : Shown) × comes problem (passed w)
 
+-- where it is solved, it comes to what is said
 abbrev pub IsSolvedBy : (Problem → Solved → Type 0) → (RegionPlace → Type 0) → SolvedProblem → Type 0
-IsSolvedBy comes makes s = IsOutcome comes makes s.problem s.outcome
+IsSolvedBy comes makes s = IfSome s.outcome (IsOutcome comes makes s.problem)
 
 abbrev pub problems_of : List SolvedProblem → List Problem
 problems_of solved = map (λ s. s.problem) solved
@@ -28,6 +30,10 @@ problems_of solved = map (λ s. s.problem) solved
 -- each place that is made may be kept
 pub record AreKeepable (makes may_keep : RegionPlace → Type 0) : Type 0 where
   pub each : (r : RegionPlace) → makes r → may_keep r
+
+-- each place that is made is a region whose tokens come with it, so that what it separates may be noted
+pub record AreNotable (lts : System) (makes : RegionPlace → Type 0) : Type 0 where
+  pub each : (r : RegionPlace) → makes r → IsNarrow lts (shown_place r.place) × AreTokens lts (shown_place r.place) r.tokens.items
 
 -- after the problems these places are kept, or this problem was refuted
 abbrev pub IsTakenOver : System → (Problem → Solved → Type 0) → List Place → List Problem → List Place → Option Problem → Type 0

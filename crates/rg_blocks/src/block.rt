@@ -3,15 +3,17 @@ ghost use Rattle.std.specs.Prelude.{◌≡◌, ◌<◌, ◌≤◌, All, Some, If
 ghost use Rattle.rg_theory.specs.Problem.{IsProblem};
 ghost use Rattle.rg_outcome.specs.Blocks.{IsBlock, last_of};
 ghost use Rattle.rg_outcome.specs.Coming.{IsDone};
-ghost use Rattle.rg_blocks.specs.Taking.{IsSolvedBy, problems_of};
+ghost use Rattle.rg_separated.specs.Separated.{AreSome};
+ghost use Rattle.rg_blocks.specs.Taking.{IsSolvedBy, AreNotable, problems_of};
 
 use crate::keeping::Keeping;
 use crate::left::next_problem;
-use crate::solving::{SolvedProblem, Solving};
+use crate::solving::{ProblemOutcome, SolvedProblem, Solving};
 use rg_lts::Lts;
 use rg_memory::NoMemory;
 use rg_phase::{Task, block};
 use rg_ports::Gate;
+use rg_separated::Separated;
 use rg_theory::Problem;
 use std::alloc::Global;
 use std::thread::Threads;
@@ -47,32 +49,56 @@ pub fn next_block<K: Keeping>(
     Ok(block)
 }
 
-// The solving of the problems of a block, by their numbers in it.
+// The solving of the problems of a block, by their numbers in it. A part keeps what the places separate that it made.
 #[derive(Drop)]
 struct Problems<'a, S> {
+    alloc: Global,
+    lts: &'a Lts,
     solving: &'a S,
     problems: &'a [Problem],
 }
 
 impl<S: Solving> Task for Problems<'_, S> {
+    type Part = Separated;
+
     type Out = SolvedProblem;
 
-    ghost asks = { λ s i. (i < length s.problems.now) × All (S.asks s.solving.now) s.problems.now };
+    ghost holds = { λ s part. AreSome s.lts.now part };
+
+    ghost asks = { λ s i. (i < length s.problems.now) × All (IsProblem s.lts.now) s.problems.now × All (S.asks s.solving.now) s.problems.now × AreNotable s.lts.now (S.makes s.solving.now) };
 
     ghost answers = { λ s i v. (slice_get s.problems.now i ≡ Some v.problem) × IsSolvedBy (S.comes s.solving.now) (S.makes s.solving.now) v };
 
-    fn run(&self, i: u32) -> Result<SolvedProblem, NoMemory> {
+    fn begin(&self) -> Result<Separated, NoMemory> {
+        Ok(Separated::nothing(self.alloc, self.lts)?)
+    }
+
+    fn run(&self, part: &mut Separated, i: u32) -> Result<SolvedProblem, NoMemory> {
         let problem = self.problems[i as usize];
+        if part.separates(self.lts, problem) {
+            return Ok(SolvedProblem {
+                problem,
+                outcome: None,
+            });
+        }
         let outcome = self.solving.solve(problem)?;
-        Ok(SolvedProblem { problem, outcome })
+        if let ProblemOutcome::Place(region) = &outcome {
+            part.add(self.alloc, self.lts, &region.place, &region.tokens)?;
+        }
+        Ok(SolvedProblem {
+            problem,
+            outcome: Some(outcome),
+        })
     }
 }
 
-/// What the problems of a block come to, in their order, solved by at most `jobs` parts that run beside each other. The gate is
-/// entered before each number of the block and left after it. `NoMemory` where there is none.
+/// What the problems of a block come to, in their order, solved by at most `jobs` parts that run beside each other. A problem that a
+/// place separates which its own part made before is left unsolved: its outcome is None. The gate is entered before each number of the
+/// block and left after it, also for a problem that is left. `NoMemory` where there is none.
 pub fn solve_block<R: Threads + Sync, S: Solving + Sync, G: Gate + Sync>(
     rt: &R,
     alloc: Global,
+    lts: &Lts,
     solving: &S,
     problems: &[Problem],
     jobs: u8,
@@ -80,10 +106,17 @@ pub fn solve_block<R: Threads + Sync, S: Solving + Sync, G: Gate + Sync>(
 ) -> Result<Vec<SolvedProblem>, NoMemory>
     requires few { length problems.now ≤ 64 }
     requires some { 1 ≤ jobs }
+    requires problems { All (IsProblem lts.now) problems.now }
     requires asked { All (S.asks solving.now) problems.now }
+    requires notable { AreNotable lts.now (S.makes solving.now) }
     ensures solved { IfOk result (λ v. All (IsSolvedBy (S.comes solving.now) (S.makes solving.now)) v.items) }
     ensures same { IfOk result (λ v. problems_of v.items ≡ problems.now) }
 {
-    let task = Problems { solving, problems };
+    let task = Problems {
+        alloc,
+        lts,
+        solving,
+        problems,
+    };
     block(rt, alloc, &task, 0, problems.len() as u32, jobs, gate)
 }

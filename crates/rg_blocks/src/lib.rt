@@ -1,8 +1,9 @@
 //! All separation problems of a system, block by block.
 //!
 //! Places that separate all problems, kept one after the other, are the usual way to a net (Badouel, Bernardinello and Darondeau,
-//! *Petri Net Synthesis*). The problems are solved in blocks, each beside the others, and what they come to is taken over in their
-//! order, so that it is the same as if they were solved one after the other.
+//! *Petri Net Synthesis*). The problems are solved in blocks, by parts that run beside each other, and what they come to is taken over in
+//! their order, so that it is the same as if they were solved one after the other. A part leaves a problem unsolved that a place
+//! separates which it made itself; such a problem is solved when its turn comes, unless a kept place separates it then.
 #![tactic(auto)]
 
 mod block;

@@ -3,7 +3,7 @@ ghost use Rattle.std.specs.Prelude.{◌≡◌, ◌≤◌, [], All, IfOk, OnOk, N
 ghost use Rattle.rg_theory.specs.System.{IsAllReachable};
 ghost use Rattle.rg_theory.specs.Problem.{IsProblem};
 ghost use Rattle.rg_outcome.specs.Coming.{IsSound};
-ghost use Rattle.rg_blocks.specs.Taking.{IsTakenOver, AreKeepable};
+ghost use Rattle.rg_blocks.specs.Taking.{IsTakenOver, AreKeepable, AreNotable};
 ghost use Rattle.rg_blocks.specs.Separating.{AsksAll, EndsAll, EachPlaceSeparates, IsSeparationOutcome};
 
 use crate::block::{next_block, solve_block};
@@ -29,7 +29,7 @@ pub enum SeparationOutcome {
     TooWide(Problem),
 }
 
-// Solves the problems of a block and takes over what they come to: with one job problem by problem, else when all of them are solved.
+// Solves the problems of a block and takes over what they come to: with one job problem by problem, else when all parts are done.
 fn take_block<R: Threads + Sync, K: Keeping, S: Solving + Sync, G: Gate + Sync>(
     rt: &R,
     alloc: Global,
@@ -44,6 +44,7 @@ fn take_block<R: Threads + Sync, K: Keeping, S: Solving + Sync, G: Gate + Sync>(
     requires some { 1 ≤ jobs }
     requires kept { K.keeps_for kept.old lts.now }
     requires keepable { AreKeepable (S.makes solving.now) (K.may_keep lts.now) }
+    requires notable { AreNotable lts.now (S.makes solving.now) }
     requires problems { All (IsProblem lts.now) problems.now }
     requires asked { All (S.asks solving.now) problems.now }
     ensures kept { OnOk result (K.keeps_for kept.new lts.now) }
@@ -52,7 +53,7 @@ fn take_block<R: Threads + Sync, K: Keeping, S: Solving + Sync, G: Gate + Sync>(
     if jobs == 1 {
         return solve_in_turn(lts, kept, solving, problems, gate);
     }
-    let solved = solve_block(rt, alloc, solving, problems, jobs, gate)?;
+    let solved = solve_block(rt, alloc, lts, solving, problems, jobs, gate)?;
     take_over(lts, kept, solving, solved)
 }
 
@@ -73,6 +74,7 @@ fn solve_all<R: Threads + Sync, K: Keeping, S: Solving + Sync, G: Gate + Sync>(
     requires separating { EachPlaceSeparates lts.now (S.comes solving.now) }
     requires kept { K.keeps_for kept.old lts.now }
     requires keepable { AreKeepable (S.makes solving.now) (K.may_keep lts.now) }
+    requires notable { AreNotable lts.now (S.makes solving.now) }
     requires sound { IsSound lts.now (S.comes solving.now) None (K.places kept.old) }
     ensures kept { OnOk result (K.keeps_for kept.new lts.now) }
     ensures ends { IfOk result (λ end. EndsAll lts.now (S.comes solving.now) (K.places kept.old) (K.places kept.new) end) }
@@ -108,6 +110,7 @@ pub fn separate_all<R: Threads + Sync, K: Keeping, S: Solving + Sync, G: Gate + 
     requires separating { EachPlaceSeparates lts.now (S.comes solving.now) }
     requires kept { K.keeps_for kept.old lts.now }
     requires keepable { AreKeepable (S.makes solving.now) (K.may_keep lts.now) }
+    requires notable { AreNotable lts.now (S.makes solving.now) }
     requires empty { K.places kept.old ≡ [] }
     ensures kept { OnOk result (K.keeps_for kept.new lts.now) }
     ensures comes { IfOk result (IsSeparationOutcome lts.now (S.comes solving.now) (K.places kept.new)) }

@@ -21,13 +21,13 @@ pub enum ProblemOutcome {
     TooWide,
 }
 
-/// A problem, and what it comes to.
+/// A problem of a block, and what it comes to.
 #[derive(Drop)]
 pub struct SolvedProblem {
     /// The problem.
     pub problem: Problem,
-    /// What it comes to.
-    pub outcome: ProblemOutcome,
+    /// What it comes to. None where it isn't solved yet, since a place that was made beside it separates it.
+    pub outcome: Option<ProblemOutcome>,
 }
 
 /// How the problems of a system are solved, each by itself: what one comes to doesn't depend on the places that are kept.

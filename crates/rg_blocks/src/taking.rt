@@ -2,7 +2,7 @@
 ghost use Rattle.std.specs.Prelude.{◌≡◌, ◌≤◌, [], ◌∷◌, All, IfOk, IfSome, IfNone, OnOk, length};
 ghost use Rattle.rg_theory.specs.Problem.{IsProblem};
 ghost use Rattle.rg_outcome.specs.Coming.{IsSeparated};
-ghost use Rattle.rg_blocks.specs.Taking.{IsSolvedBy, problems_of, IsTakenOver, AreKeepable};
+ghost use Rattle.rg_blocks.specs.Taking.{IsOutcome, IsSolvedBy, problems_of, IsTakenOver, AreKeepable};
 
 use crate::keeping::Keeping;
 use crate::solving::{ProblemOutcome, SolvedProblem, Solving};
@@ -16,16 +16,16 @@ fn take<K: Keeping, S: Solving>(
     lts: &Lts,
     kept: &mut K,
     _solving: &S,
-    solved: SolvedProblem,
+    problem: Problem,
+    outcome: ProblemOutcome,
 ) -> Result<Option<Problem>, NoMemory>
     requires kept { K.keeps_for kept.old lts.now }
     requires keepable { AreKeepable (S.makes _solving.now) (K.may_keep lts.now) }
-    requires left { ¬ IsSeparated lts.now (K.places kept.old) solved.problem }
-    requires solved { IsSolvedBy (S.comes _solving.now) (S.makes _solving.now) solved }
+    requires left { ¬ IsSeparated lts.now (K.places kept.old) problem }
+    requires outcome { IsOutcome (S.comes _solving.now) (S.makes _solving.now) problem outcome }
     ensures kept { OnOk result (K.keeps_for kept.new lts.now) }
-    ensures taken { IfOk result (λ end. IsTakenOver lts.now (S.comes _solving.now) (K.places kept.old) (solved.problem ∷ []) (K.places kept.new) end) }
+    ensures taken { IfOk result (λ end. IsTakenOver lts.now (S.comes _solving.now) (K.places kept.old) (problem ∷ []) (K.places kept.new) end) }
 {
-    let SolvedProblem { problem, outcome } = solved;
     match outcome {
         ProblemOutcome::Place(place) => {
             kept.keep(lts, place)?;
@@ -37,8 +37,9 @@ fn take<K: Keeping, S: Solving>(
 }
 
 /// Takes over what the problems of a block come to, in their order: a place is kept, and a problem in which a number passes is passed over.
-/// What a problem comes to that a place kept meanwhile separates is dropped, whatever it is. The first other one that is refuted ends it,
-/// and is given; None where there is no such problem. `NoMemory` where there is none.
+/// What a problem comes to that a place kept meanwhile separates is dropped, whatever it is. Any other problem that isn't solved yet is
+/// solved now, on the calling thread. The first other one that is refuted ends it, and is given; None where there is no such problem.
+/// `NoMemory` where there is none.
 pub fn take_over<K: Keeping, S: Solving>(
     lts: &Lts,
     kept: &mut K,
@@ -48,40 +49,45 @@ pub fn take_over<K: Keeping, S: Solving>(
     requires kept { K.keeps_for kept.old lts.now }
     requires keepable { AreKeepable (S.makes solving.now) (K.may_keep lts.now) }
     requires problems { All (λ s. IsProblem lts.now s.problem) solved.items }
+    requires asked { All (S.asks solving.now) (problems_of solved.items) }
     requires solved { All (IsSolvedBy (S.comes solving.now) (S.makes solving.now)) solved.items }
     ensures kept { OnOk result (K.keeps_for kept.new lts.now) }
     ensures taken { IfOk result (λ end. IsTakenOver lts.now (S.comes solving.now) (K.places kept.old) (problems_of solved.items) (K.places kept.new) end) }
 {
     for s in solved {
-        if kept.separates(lts, s.problem) {
+        let SolvedProblem { problem, outcome } = s;
+        if kept.separates(lts, problem) {
             continue;
         }
-        if let Some(refuted) = take(lts, kept, solving, s)? {
+        let outcome = match outcome {
+            Some(outcome) => outcome,
+            None => solving.solve(problem)?,
+        };
+        if let Some(refuted) = take(lts, kept, solving, problem, outcome)? {
             return Ok(Some(refuted));
         }
     }
     Ok(None)
 }
 
-// Solves the problem, unless a kept place separates it.
+// What the problem comes to, unless a kept place separates it.
 fn solve_left<K: Keeping, S: Solving>(
     lts: &Lts,
     kept: &K,
     solving: &S,
     problem: Problem,
-) -> Result<Option<SolvedProblem>, NoMemory>
+) -> Result<Option<ProblemOutcome>, NoMemory>
     requires kept { K.keeps_for kept.now lts.now }
     requires problem { IsProblem lts.now problem }
     requires asked { S.asks solving.now problem }
     ensures separated { IfOk result (λ o. IfNone o (IsSeparated lts.now (K.places kept.now) problem)) }
-    ensures left { IfOk result (λ o. IfSome o (λ s. (s.problem ≡ problem) × ¬ IsSeparated lts.now (K.places kept.now) problem)) }
-    ensures solved { IfOk result (λ o. IfSome o (IsSolvedBy (S.comes solving.now) (S.makes solving.now))) }
+    ensures left { IfOk result (λ o. IfSome o (λ _. ¬ IsSeparated lts.now (K.places kept.now) problem)) }
+    ensures solved { IfOk result (λ o. IfSome o (IsOutcome (S.comes solving.now) (S.makes solving.now) problem)) }
 {
     if kept.separates(lts, problem) {
         return Ok(None);
     }
-    let outcome = solving.solve(problem)?;
-    Ok(Some(SolvedProblem { problem, outcome }))
+    Ok(Some(solving.solve(problem)?))
 }
 
 // Enters and leaves the gate for the numbers from `from` on below `to`.
@@ -114,10 +120,10 @@ pub fn solve_in_turn<K: Keeping, S: Solving, G: Gate>(
         gate.enter(i as u32);
         let solved = solve_left(lts, kept, solving, problem);
         gate.leave(i as u32);
-        let Some(solved) = solved? else {
+        let Some(outcome) = solved? else {
             continue;
         };
-        if let Some(refuted) = take(lts, kept, solving, solved)? {
+        if let Some(refuted) = take(lts, kept, solving, problem, outcome)? {
             pass_by(gate, i as u32 + 1, problems.len() as u32);
             return Ok(Some(refuted));
         }

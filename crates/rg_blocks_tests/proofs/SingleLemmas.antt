@@ -1,7 +1,9 @@
 -- What a system with one state and no arc gives.
-use Rattle.std.proofs.Common.{◌≡◌, ℕ, zero, suc, ◌<◌, List, [], ◌∷◌, map, Any, refl, sym, ap, subst, ◌∙◌, arith}
+use Rattle.std.specs.Prelude.{slice_index}
+use Rattle.std.proofs.Common.{◌≡◌, ℕ, zero, suc, ◌<◌, List, [], ◌∷◌, map, Any, length, refl, sym, ap, subst, ◌∙◌, arith}
 use Rattle.rg_theory.specs.System.{System, states, labels, IsAllReachable}
 use Rattle.rg_theory.specs.Net.{Place, pre_weight}
+use Rattle.rg_theory.specs.Region.{Region}
 use Rattle.rg_theory.specs.declared.Problem.{Problem}
 use Rattle.rg_theory.specs.declared.Problem.TheVariants.{Event, States}
 use Rattle.rg_theory.specs.Problem.{IsProblem, IsSeparatedBy}
@@ -9,8 +11,10 @@ use Rattle.rg_net.specs.Shown.{shown_place}
 use Rattle.rg_places.specs.declared.region_place.RegionPlace.{RegionPlace}
 use Rattle.rg_outcome.specs.Solving.{Solved.placed}
 use Rattle.rg_outcome.specs.Coming.{IsSeparated}
+use Rattle.rg_separated.specs.Tokens.{IsNarrow, AreTokens}
+use Rattle.rg_blocks.specs.Taking.{AreNotable}
 use Rattle.rg_blocks.specs.Separating.{AsksAll, EachPlaceSeparates}
-use Rattle.rg_blocks_tests.specs.Single.{IsSingle, Stops, RegionStops, MayCome, AsksFor}
+use Rattle.rg_blocks_tests.specs.Single.{IsSingle, Stops, RegionStops, HasNoToken, MayCome, AsksFor}
 
 module _ (lts : System) (single : IsSingle lts) where
   pub is_stopped : (s t : ℕ) (p : Place) → s < states lts → IsSeparatedBy lts (Event s t) p → Stops t p
@@ -50,3 +54,25 @@ module _ (lts : System) (single : IsSingle lts) where
       separate : (problem : Problem) (p : Place) → IsProblem lts problem → MayCome problem (placed p) → IsSeparatedBy lts problem p
       separate (Event s t) p is stops = separates s t p is.0 stops
       separate (States s r) p is never = absurd never
+
+  -- a place without a token at the one state is a region, and what it has there is told
+  pub notable : (n : ℕ) → labels lts ≡ n → AreNotable lts (HasNoToken n)
+  notable n e = record { each = λ r is. (narrow r is, tokens r is) }
+    where
+      narrow : (r : RegionPlace) → HasNoToken n r → IsNarrow lts (shown_place r.place)
+      narrow r is = record {
+        m = λ q. r.place.start;
+        region = record { start = refl; enabled = λ q u q' has. absurd (single.no_arc q u q' has); moved = λ q u q' has. absurd (single.no_arc q u q' has) };
+        narrow = λ s lt. (let z = is.start in omega arith);
+        pre = is.pre ∙ sym e;
+        post = is.post ∙ sym e;
+      }
+
+      tokens : (r : RegionPlace) → HasNoToken n r → AreTokens lts (shown_place r.place) r.tokens.items
+      tokens r is = record { one_each = ap length is.tokens ∙ sym single.one_state; each = each }
+        where
+          each : (m : ℕ → ℕ) → Region lts (shown_place r.place) m → (s : ℕ) → s < states lts → slice_index r.tokens.items s ≡ m s
+          each m region s lt =
+              let first : 0 ≡ s = (let b = single.one_state in omega arith) in
+              let same : lts.initial ≡ s = (let a = single.initial in let b = single.one_state in omega arith) in
+              subst (λ k. slice_index r.tokens.items k ≡ m s) first (ap (λ xs. slice_index xs 0) is.tokens ∙ sym is.start ∙ sym region.start ∙ ap m same)

@@ -1,5 +1,5 @@
 -- Systems with one state and no arc. Each label asks for a place that stops it there.
-use Rattle.std.specs.Prelude.{◌≡◌, ℕ, ◌<◌, [], pos}
+use Rattle.std.specs.Prelude.{◌≡◌, ℕ, ◌<◌, [], ◌∷◌, length, pos}
 use Rattle.rg_theory.specs.System.{System, states, HasArc}
 use Rattle.rg_theory.specs.Net.{Place, pre_weight}
 use Rattle.rg_theory.specs.declared.Problem.{Problem}
@@ -21,6 +21,13 @@ Stops t p = p.start < pre_weight p t
 
 abbrev pub RegionStops : ℕ → RegionPlace → Type 0
 RegionStops t r = Stops t (shown_place r.place)
+
+-- the place has no token at the one state, and weights for so many labels
+pub record HasNoToken (n : ℕ) (r : RegionPlace) : Type 0 where
+  pub start : r.place.start ≡ 0
+  pub pre : length r.place.pre.items ≡ n
+  pub post : length r.place.post.items ≡ n
+  pub tokens : r.tokens.items ≡ 0 ∷ []
 
 -- a problem may come to anything but a place that doesn't stop its label
 abbrev pub MayCome : Problem → Solved → Type 0

@@ -1,7 +1,7 @@
 //! A solving that answers from a list.
 ghost use Rattle.std.specs.Prelude.{◌<◌};
 ghost use Rattle.rg_theory.specs.declared.Problem.TheVariants as problem;
-ghost use Rattle.rg_blocks_tests.specs.Single.{MayCome, AsksFor};
+ghost use Rattle.rg_blocks_tests.specs.Single.{MayCome, AsksFor, HasNoToken};
 
 use crate::places::stopping;
 use rg_blocks::{NoMemory, ProblemOutcome, Solving};
@@ -33,7 +33,7 @@ impl Solving for Answers<'_> {
 
     ghost comes = { λ _ p r. MayCome p r };
 
-    ghost makes = { λ _ _. Unit {0} };
+    ghost makes = { λ s. HasNoToken s.labels };
 
     fn solve(&self, problem: Problem) -> Result<ProblemOutcome, NoMemory> {
         self.solved.fetch_add(1, Ordering::SeqCst);

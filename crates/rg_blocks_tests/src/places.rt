@@ -2,7 +2,7 @@
 ghost use Rattle.std.specs.Prelude.{◌≡◌, ◌↔◌, ◌<◌, All, Any, map, length, IfOk, IsTrue};
 ghost use Rattle.rg_theory.specs.System.{states, labels};
 ghost use Rattle.rg_net.specs.Shown.{shown_place};
-ghost use Rattle.rg_blocks_tests.specs.Single.{IsSingle, RegionStops};
+ghost use Rattle.rg_blocks_tests.specs.Single.{IsSingle, RegionStops, HasNoToken};
 
 use rg_blocks::{Keeping, NoMemory};
 use rg_lts::Lts;
@@ -28,6 +28,7 @@ pub(crate) fn stopping(
 ) -> Result<RegionPlace, NoMemory>
     requires { t < labels }
     ensures stops { IfOk result (RegionStops t) }
+    ensures empty { IfOk result (HasNoToken labels) }
 {
     let mut pre = vec![in alloc; 0u128; labels as usize]?;
     if other < labels {

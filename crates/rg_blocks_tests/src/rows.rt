@@ -16,30 +16,34 @@ use std::test::Fail;
 use std::thread::Threads;
 
 // The answers to the problems of labels, what all of them come to, the labels whose places are kept, and how many problems one job
-// solves.
-const ROWS: [(&[Given], Option<SeparationOutcome>, &[usize], u64); 8] = [
+// solves, and two: each of two solves its half of the labels with the places of that half alone.
+const ROWS: [(&[Given], Option<SeparationOutcome>, &[usize], u64, u64); 13] = [
     (
         &[Given::Stops(1), Given::Stops(0), Given::Stops(2)],
         Some(SeparationOutcome::Separated),
         &[0, 2],
         2,
+        3,
     ),
     (
         &[Given::Stops(1), Given::TooWide, Given::Stops(0)],
         Some(SeparationOutcome::Separated),
         &[0, 2],
         2,
+        3,
     ),
     (
         &[Given::Stops(1), Given::Refuted, Given::Stops(0)],
         Some(SeparationOutcome::Separated),
         &[0, 2],
         2,
+        3,
     ),
     (
         &[Given::TooWide, Given::Stops(0)],
         Some(SeparationOutcome::Separated),
         &[1],
+        2,
         2,
     ),
     (
@@ -52,6 +56,7 @@ const ROWS: [(&[Given], Option<SeparationOutcome>, &[usize], u64); 8] = [
         Some(SeparationOutcome::TooWide(Problem::Event(0, 1))),
         &[2],
         4,
+        4,
     ),
     (
         &[
@@ -63,13 +68,77 @@ const ROWS: [(&[Given], Option<SeparationOutcome>, &[usize], u64); 8] = [
         Some(SeparationOutcome::Unsolvable(Problem::Event(0, 2))),
         &[1],
         3,
+        4,
     ),
-    (&[Given::Stops(0), Given::NoMemory], None, &[], 2),
+    (&[Given::Stops(0), Given::NoMemory], None, &[], 2, 2),
     (
         &[Given::Stops(0)],
         Some(SeparationOutcome::Separated),
         &[0],
         1,
+        1,
+    ),
+    // the first of each half stops the second
+    (
+        &[
+            Given::Stops(1),
+            Given::Refuted,
+            Given::Stops(3),
+            Given::TooWide,
+        ],
+        Some(SeparationOutcome::Separated),
+        &[0, 2],
+        2,
+        2,
+    ),
+    // label 3 is left for the place of label 2, which is dropped for that of label 0: then label 3 is solved
+    (
+        &[
+            Given::Stops(2),
+            Given::Stops(1),
+            Given::Stops(3),
+            Given::Stops(3),
+        ],
+        Some(SeparationOutcome::Separated),
+        &[0, 1, 3],
+        3,
+        4,
+    ),
+    (
+        &[
+            Given::Stops(2),
+            Given::Stops(1),
+            Given::Stops(3),
+            Given::TooWide,
+        ],
+        Some(SeparationOutcome::TooWide(Problem::Event(0, 3))),
+        &[0, 1],
+        3,
+        4,
+    ),
+    (
+        &[
+            Given::Stops(2),
+            Given::Stops(1),
+            Given::Stops(3),
+            Given::Refuted,
+        ],
+        Some(SeparationOutcome::Unsolvable(Problem::Event(0, 3))),
+        &[0, 1],
+        3,
+        4,
+    ),
+    (
+        &[
+            Given::Stops(2),
+            Given::Stops(1),
+            Given::Stops(3),
+            Given::NoMemory,
+        ],
+        None,
+        &[],
+        3,
+        4,
     ),
 ];
 
@@ -180,8 +249,8 @@ fn see<R: Threads + Sync>(rt: &R, alloc: Global, given: &[Given], jobs: u8) -> O
 
 #[test]
 fn rows(rt: HostRuntime) -> Result<(), Fail> {
-    for (given, wanted, labels, by_one) in ROWS {
-        for jobs in [1u8, 2, 7] {
+    for (given, wanted, labels, by_one, by_two) in ROWS {
+        for jobs in [1u8, 2, 3, 7, 16] {
             let Some(
                 Seen {
                     found,
@@ -197,6 +266,9 @@ fn rows(rt: HostRuntime) -> Result<(), Fail> {
             assert_eq!(rt; left, entered);
             if jobs == 1 {
                 assert_eq!(rt; solved, by_one);
+            }
+            if jobs == 2 {
+                assert_eq!(rt; solved, by_two);
             }
             match found {
                 Some((outcome, places)) => {
@@ -220,7 +292,7 @@ fn two_blocks(rt: HostRuntime) -> Result<(), Fail> {
         given[t] = Given::Stops(t as u32);
         labels[t] = t;
     }
-    for jobs in [1u8, 2, 7, 16] {
+    for jobs in [1u8, 2, 3, 7, 16] {
         let Some(
             Seen {
                 found,

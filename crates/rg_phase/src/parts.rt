@@ -9,7 +9,7 @@ use rg_ports::Gate;
 use std::alloc::Global;
 use std::thread::{Threads, join};
 
-// One part, in order.
+// One part, in order: what it keeps goes from number to number.
 fn part<T: Task, G: Gate>(
     alloc: Global,
     task: &T,
@@ -18,15 +18,17 @@ fn part<T: Task, G: Gate>(
     gate: &G,
 ) -> Result<Vec<T::Out>, NoMemory>
 where
+    T::Part: Drop,
     T::Out: Drop,
     requires ordered { from ≤ to }
     requires asked { HoldsFrom (T.asks task.now) from (to - from) }
     ensures { IfOk result (λ v. AreAnswers (T.answers task.now) from (to - from) v.items) }
 {
+    let mut keeps = task.begin()?;
     let mut all = Vec::new(alloc);
     for i in from..to {
         gate.enter(i);
-        let out = task.run(i);
+        let out = task.run(&mut keeps, i);
         gate.leave(i);
         match out {
             Ok(v) => {
@@ -39,8 +41,9 @@ where
 }
 
 /// The answers of the task for the numbers from `from` on below `to`, in order, by at most `jobs` parts that run beside each other:
-/// the range is halved until there are so many. The gate is entered before the work for a number and left after it, whatever comes of
-/// it, and can't change an answer. `NoMemory` where there is none.
+/// the range is halved until there are so many. Each part begins anew, and keeps what it likes from one of its numbers to the next. The
+/// gate is entered before the work for a number and left after it, whatever comes of it, and can't change an answer. `NoMemory` where
+/// there is none.
 pub fn block<R: Threads + Sync, T: Task + Sync, G: Gate + Sync>(
     rt: &R,
     alloc: Global,
@@ -51,6 +54,7 @@ pub fn block<R: Threads + Sync, T: Task + Sync, G: Gate + Sync>(
     gate: &G,
 ) -> Result<Vec<T::Out>, NoMemory>
 where
+    T::Part: Send + Drop,
     T::Out: Send + Drop,
     requires ordered { from ≤ to }
     requires some { 1 ≤ jobs }

@@ -1,5 +1,5 @@
 //! Each number is done once, in two parts that run beside each other.
-ghost use Rattle.std.specs.Prelude.{◌≡◌, ◌+◌};
+ghost use Rattle.std.specs.Prelude.{◌≡◌, ◌+◌, ◌<◌, ◌≤◌};
 
 use rg_phase::{NoMemory, Task, block};
 use rg_ports::{Gate, NoGate};
@@ -11,13 +11,21 @@ use std::test::Fail;
 struct Doubles;
 
 impl Task for Doubles {
+    type Part = ();
+
     type Out = u64;
+
+    ghost holds = { λ _ _. Unit {0} };
 
     ghost asks = { λ _ _. Unit {0} };
 
     ghost answers = { λ _ i v. v ≡ i + i };
 
-    fn run(&self, i: u32) -> Result<u64, NoMemory> {
+    fn begin(&self) -> Result<(), NoMemory> {
+        Ok(())
+    }
+
+    fn run(&self, _part: &mut (), i: u32) -> Result<u64, NoMemory> {
         Ok(u64::from(i) + u64::from(i))
     }
 }
@@ -54,13 +62,21 @@ fn the_answer_is_that_of_one_job(rt: HostRuntime) -> Result<(), Fail> {
 struct Stops;
 
 impl Task for Stops {
+    type Part = ();
+
     type Out = u64;
+
+    ghost holds = { λ _ _. Unit {0} };
 
     ghost asks = { λ _ _. Unit {0} };
 
     ghost answers = { λ _ i v. v ≡ i };
 
-    fn run(&self, i: u32) -> Result<u64, NoMemory> {
+    fn begin(&self) -> Result<(), NoMemory> {
+        Ok(())
+    }
+
+    fn run(&self, _part: &mut (), i: u32) -> Result<u64, NoMemory> {
         if i == 4 {
             return Err(NoMemory);
         }
@@ -99,6 +115,75 @@ fn want_of_memory_leaves_the_gate(rt: HostRuntime) -> Result<(), Fail> {
         let entered = gate.entered.load(Ordering::SeqCst);
         assert!(rt; entered >= 5);
         assert_eq!(rt; gate.left.load(Ordering::SeqCst), entered);
+    }
+    Ok(())
+}
+
+// Answers how many numbers its part did before this one. There is no memory for a part that has done as many as this.
+#[derive(Drop)]
+struct Counted {
+    most: u32,
+}
+
+impl Task for Counted {
+    type Part = u32;
+
+    type Out = u32;
+
+    ghost holds = { λ s done. done ≤ s.most };
+
+    ghost asks = { λ _ _. Unit {0} };
+
+    ghost answers = { λ s _ v. v < s.most };
+
+    fn begin(&self) -> Result<u32, NoMemory> {
+        Ok(0)
+    }
+
+    fn run(&self, part: &mut u32, _i: u32) -> Result<u32, NoMemory> {
+        let done = *part;
+        if done == self.most {
+            return Err(NoMemory);
+        }
+        *part = done + 1;
+        Ok(done)
+    }
+}
+
+// What is answered for the numbers from 2 on below 9, with one job, two and so on, worked by hand: the range is halved, and so are the
+// jobs.
+const PARTS: [[u32; 7]; 7] = [
+    [0, 1, 2, 3, 4, 5, 6],
+    [0, 1, 2, 0, 1, 2, 3],
+    [0, 1, 2, 0, 1, 0, 1],
+    [0, 0, 1, 0, 1, 0, 1],
+    [0, 0, 1, 0, 1, 0, 0],
+    [0, 0, 0, 0, 1, 0, 0],
+    [0, 0, 0, 0, 0, 0, 0],
+];
+
+#[test]
+fn each_part_begins_anew(rt: HostRuntime) -> Result<(), Fail> {
+    for jobs in 1..8 {
+        let wanted = PARTS[jobs as usize - 1];
+        match block(&rt, rt.alloc(), &Counted { most: 7 }, 2, 9, jobs, &NoGate) {
+            Ok(all) => assert_eq!(rt; all.as_slice(), wanted.as_slice()),
+            Err(_) => assert!(rt; false),
+        }
+    }
+    Ok(())
+}
+
+// A part of at most three numbers has memory where there are two, and not where one does all four.
+#[test]
+fn want_of_memory_of_a_part(rt: HostRuntime) -> Result<(), Fail> {
+    match block(&rt, rt.alloc(), &Counted { most: 3 }, 0, 4, 2, &NoGate) {
+        Ok(all) => assert_eq!(rt; all.as_slice(), [0, 1, 0, 1].as_slice()),
+        Err(_) => assert!(rt; false),
+    }
+    match block(&rt, rt.alloc(), &Counted { most: 3 }, 0, 4, 1, &NoGate) {
+        Ok(_) => assert!(rt; false),
+        Err(stop) => assert_eq!(rt; stop, NoMemory),
     }
     Ok(())
 }

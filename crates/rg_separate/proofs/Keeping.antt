@@ -4,15 +4,17 @@ use Rattle.std.proofs.lemmas.List.{map-append}
 use Rattle.std.proofs.lemmas.List.Elements.{All-nil, All-push}
 use Rattle.rg_theory.specs.System.{System, IsAllReachable}
 use Rattle.rg_theory.specs.Net.{Place as PlaceOfTheory}
+use Rattle.rg_theory.specs.declared.Class.{Class}
 use Rattle.rg_theory.proofs.Yes.{region_unique}
 use Rattle.rg_net.specs.declared.net.Place.{Place}
 use Rattle.rg_net.specs.Shown.{shown_place}
 use Rattle.rg_places.specs.declared.region_place.RegionPlace.{RegionPlace}
-use Rattle.rg_places.specs.RegionPlaces.{region_tokens}
+use Rattle.rg_places.specs.RegionPlaces.{region_tokens, IsRegionPlace}
 use Rattle.rg_separated.specs.Tokens.{IsNarrow, AreTokens}
 use Rattle.rg_separated.specs.Separated.{AddsOne, SeparateSoMuch, AreSome}
 use Rattle.rg_separated.specs.declared.separated.Separated.{Separated}
 use Rattle.rg_separated.proofs.Members.{adds_last}
+use Rattle.rg_blocks.specs.Taking.{AreNotable}
 use Rattle.rg_separate.specs.Keeping.{MayKeep, IsKept, AreKept}
 
 -- such a place is narrow, and these are its tokens
@@ -47,6 +49,10 @@ module _ (lts : System) (r : RegionPlace) (may : MayKeep lts r) where
     where
       shown_more : (places after : List Place) → after ≡ places ++ r.place ∷ [] → map shown_place after ≡ map shown_place places ++ shown_place r.place ∷ []
       shown_more places after is = ap (λ (l : List Place). map shown_place l) is ∙ map-append shown_place places (r.place ∷ [])
+
+-- what such places separate may be noted
+pub notable : (lts : System) (class : Class) → IsAllReachable lts → AreNotable lts (IsRegionPlace lts class)
+notable lts class reachable = record { each = λ r is. (narrow_place lts r (class, is), tokens_of_place lts r (class, is) reachable) }
 
 pub some_kept : (lts : System) (places : List Place) (separated : Separated) → AreKept lts places separated → AreSome lts separated
 some_kept lts places separated are = record { places = map shown_place places; so_much = are.so_much }

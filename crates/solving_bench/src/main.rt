@@ -1,8 +1,8 @@
-//! Counts the problems that a run solves.
+//! Counts the problems that stand in the blocks of a run.
 //!
 //! The words are those of the program `regions`, which runs as it does by itself. How many numbers of blocks its gate saw goes to the
-//! standard error: with more than one job each of them is a problem that was solved; with one job those are among them that a kept place
-//! separated meanwhile.
+//! standard error: no kept place separated such a problem when its block was formed. Those are among them that aren't solved, since a
+//! place separates them that was kept or made meanwhile.
 #![tactic(auto)]
 
 use rg_ports::{FolderShelf, Gate, StdSink};

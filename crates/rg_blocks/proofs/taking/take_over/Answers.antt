@@ -1,5 +1,5 @@
-use Rattle.std.proofs.Common.{◌++◌, refl, ap, ◌∙◌}
-use Rattle.rg_blocks.proofs.TakingLemmas.{one_dropped, solved_more, solved_ends, left_over}
+use Rattle.std.proofs.Common.{refl}
+use Rattle.rg_blocks.proofs.TakingLemmas.{one_dropped, solved_more, solved_ends, stands_next, left_over, asked_next}
 use Rattle.rg_blocks.proofs.taking.take_over.Goals as goal
 
 pub loop-s-preserved-then-separates : goal.loop-s-preserved-then-separates
@@ -20,7 +20,7 @@ returns-in-Some-2-clause-taken g c =
     let before = g.K.Keeping.places c.args.kept.now in
     let now = g.K.Keeping.places c.loop-s.kept in
     let after = g.K.Keeping.places c.take.new.kept in
-    solved_ends lts comes before now after c.in_ok-refuted.field-0 _ c.loop-s.yielded _ c.in-Some.s c.in-Some-2.refuted (c.loop-s.invariant.2 ∙ ap (λ xs. c.loop-s.yielded ++ xs) c.in-Some.ensures.steps.0) c.in-Some-2.is c.loop-s.invariant.1 c.in_ok-refuted.ensures.taken
+    solved_ends lts comes before now after c.in_ok-refuted.field-0 _ c.loop-s.yielded _ c.in-Some.s c.in-Some-2.refuted (stands_next _ c.loop-s.yielded _ _ c.in-Some.s c.loop-s.invariant.2 c.in-Some.ensures.steps.0) c.in-Some-2.is c.loop-s.invariant.1 c.in_ok-refuted.ensures.taken
 
 pub loop-s-preserved : goal.loop-s-preserved
 loop-s-preserved g c =
@@ -33,3 +33,7 @@ loop-s-preserved g c =
       solved_more lts comes before now after c.in_ok-refuted.field-0 c.loop-s.yielded c.in-Some.s c.in_default.is c.loop-s.invariant.1 c.in_ok-refuted.ensures.taken,
       left_over _ c.loop-s.yielded _ _ c.in-Some.s c.loop-s.invariant.2 c.in-Some.ensures.steps.0,
     )
+
+pub solve-requires : goal.solve-requires
+solve-requires g c =
+    asked_next (g.S.Solving.asks c.args.solving.now) c.args.solved.items c.loop-s.yielded _ c.in-Some.s (stands_next _ c.loop-s.yielded _ _ c.in-Some.s c.loop-s.invariant.2 c.in-Some.ensures.steps.0) c.requires.asked

@@ -2,11 +2,15 @@ use Rattle.std.proofs.Common.{map, refl, subst}
 use Rattle.rg_net.specs.Shown.{shown_place}
 use Rattle.rg_outcome.specs.Coming.{Separation.places}
 use Rattle.rg_blocks.specs.Separating.{IsSeparationOutcome}
+use Rattle.rg_separate.proofs.Keeping.{notable}
 use Rattle.rg_separate.proofs.Ending.{comes_of, places_separate, separated_tells, separated_searched, ends_refuted, ends_wide}
 use Rattle.rg_separate.proofs.separation.separated.Goals as goal
 
 pub separate_all-requires-clause-separating : goal.separate_all-requires-clause-separating
 separate_all-requires-clause-separating o c = λ lives within. places_separate c.args.setting c.requires.setting
+
+pub separate_all-requires-clause-notable : goal.separate_all-requires-clause-notable
+separate_all-requires-clause-notable o c = λ lives within. notable c.args.setting.lts.now c.args.setting.class c.requires.setting.reachable
 
 pub shown-requires-clause-shows : goal.shown-requires-clause-shows
 shown-requires-clause-shows o c =
