@@ -3,5 +3,4 @@ mod Taken
 mod Numbers
 mod Firsts
 mod OneThing
-mod ClassSome
 mod SomeThing

@@ -18,7 +18,8 @@ use Rattle.rg_commands.specs.Says.{ConvertSays, ConvertSays.refused, ConvertSays
 use Rattle.rg_commands.specs.Says.{GenerateSays, GenerateSays.refused, GenerateSays.bad_kind, GenerateSays.bad_number, GenerateSays.right}
 use Rattle.rg_commands.specs.Says.{SelfTestSays, SelfTestSays.refused, SelfTestSays.bad_number, SelfTestSays.right}
 use Rattle.rg_commands.specs.Says.{WordsSay, WordsSay.no_command, WordsSay.unknown, WordsSay.synthesize, WordsSay.verify, WordsSay.check, WordsSay.convert, WordsSay.generate, WordsSay.selftest}
-use Rattle.rg_commands.proofs.ClassSome.{IsClassTold, class_told}
+use Rattle.rg_theory.specs.ClassWords.{IsClassTold}
+use Rattle.rg_theory.proofs.ClassSome.{class_told}
 
 -- what words say
 abbrev pub Something : (Result Asked Usage → Type 0) → Type 0

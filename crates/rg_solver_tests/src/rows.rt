@@ -1,9 +1,17 @@
 //! The systems of problems, with rows, names, factors and forms worked by hand.
+ghost use Rattle.std.specs.Prelude.{◌≡◌};
+ghost use Rattle.rg_theory.specs.System.{labels};
+ghost use Rattle.rg_spanning.specs.Spanning.{IsTreeOf};
+ghost use Rattle.rg_cycles.specs.View.{labels_of, cycle_of};
+ghost use Rattle.rg_rows.specs.Sharing.{IsCommonOf};
+
 use crate::bases::basis;
 use crate::systems::{
     ABA, CHOICE, NONBRANCHING, NONE, PLAIN, PLAIN_NONBRANCHING, PURE, PURE_NONBRANCHING,
     PURE_PLAIN, PURE_PLAIN_SAFE, RING, SAFE, SIDE, STEP, is_asked, system,
 };
+use rg_cycles::Basis;
+use rg_lts::Lts;
 use rg_rows::{Common, NamedSystem, cases, system_with};
 use rg_spanning::Tree;
 use rg_theory::Class;
@@ -34,12 +42,50 @@ fn told(
 ) -> Result<String, Fail> {
     let lts = system(alloc, text)?;
     let tree = Tree::grow(alloc, &lts)?;
-    if !is_asked(&lts, problem) || number >= cases(&lts, class, problem) {
+    let basis = basis(alloc, &lts, &tree)?;
+    case_text(alloc, &lts, &tree, &basis, class, problem, number)
+}
+
+// The system of a case over a basis, as a text.
+fn case_text(
+    alloc: Global,
+    lts: &Lts,
+    tree: &Tree,
+    basis: &Basis,
+    class: Class,
+    problem: Problem,
+    number: u32,
+) -> Result<String, Fail>
+    requires tree { IsTreeOf lts.now tree.now }
+    requires labels { labels_of basis.now ≡ labels lts.now }
+{
+    if !is_asked(lts, problem) || number >= cases(lts, class, problem) {
         return Err(Fail::from(AllocError));
     }
-    let basis = basis(alloc, &lts, &tree)?;
-    let named = rg_rows::system(alloc, &lts, &tree, &basis, class, problem, number)?;
-    Ok(text_of(alloc, cases(&lts, class, problem), &named)?)
+    let named = rg_rows::system(alloc, lts, tree, basis, class, problem, number)?;
+    Ok(text_of(alloc, cases(lts, class, problem), &named)?)
+}
+
+// The same over rows that are made already.
+fn shared_text(
+    alloc: Global,
+    lts: &Lts,
+    tree: &Tree,
+    basis: &Basis,
+    common: &Common,
+    class: Class,
+    problem: Problem,
+    number: u32,
+) -> Result<String, Fail>
+    requires tree { IsTreeOf lts.now tree.now }
+    requires labels { labels_of basis.now ≡ labels lts.now }
+    requires common { IsCommonOf lts.now tree.now.arcs (cycle_of basis.now) class common.now }
+{
+    if !is_asked(lts, problem) || number >= cases(lts, class, problem) {
+        return Err(Fail::from(AllocError));
+    }
+    let named = system_with(alloc, lts, tree, basis, common, class, problem, number)?;
+    Ok(text_of(alloc, cases(lts, class, problem), &named)?)
 }
 
 // How many cases and columns there are; then each row as its name, its coefficients, its constant and its factor;
@@ -191,11 +237,7 @@ fn all_told(
     let common = Common::new(alloc, &lts, &tree, &basis, class)?;
     let mut told = String::new(alloc);
     for &(problem, number) in problems {
-        if !is_asked(&lts, problem) || number >= cases(&lts, class, problem) {
-            return Err(Fail::from(AllocError));
-        }
-        let named = system_with(alloc, &lts, &tree, &basis, &common, class, problem, number)?;
-        let rows = text_of(alloc, cases(&lts, class, problem), &named)?;
+        let rows = shared_text(alloc, &lts, &tree, &basis, &common, class, problem, number)?;
         writeln!(told, "{rows}")?;
     }
     Ok(told)

@@ -110,6 +110,10 @@ pub record FirstRefusedWord (text : List ℕ) (fault : ClassFault) : Type 0 wher
   pub unlike : AreUnlike conditions
   pub refused : IsRefusedWord conditions word (length before) fault
 
+-- a class that the text names, or its first refused word
+abbrev pub IsClassTold : List ℕ → Type 0
+IsClassTold text = ((class : Class) × NamesClass text class) ⊎ ((fault : ClassFault) × FirstRefusedWord text fault)
+
 -- the conditions of a class, in the order in which its text names them
 abbrev pub if_asked : Bool → Condition → List Condition
 if_asked true condition = condition ∷ []

@@ -7,7 +7,7 @@ ghost use Rattle.rg_theory.specs.declared.class_words.ClassFault.{ClassFault};
 ghost use Rattle.rg_theory.specs.declared.class_words.Condition.{Condition};
 ghost use Rattle.rg_theory.specs.declared.class_words.Condition.TheVariants as condition;
 ghost use Rattle.rg_theory.specs.declared.class_words.ClassFault.TheVariants as fault;
-ghost use Rattle.rg_theory.specs.ClassWords.{bounded_word, IsWordOf, no_condition, with_condition, with_conditions, asks_for, NamesClass, IsBadBound, IsNoBound, IsRefusedWord, FirstRefusedWord, class_text, HasBoundInRange};
+ghost use Rattle.rg_theory.specs.ClassWords.{bounded_word, IsWordOf, no_condition, with_condition, with_conditions, asks_for, NamesClass, IsBadBound, IsNoBound, IsRefusedWord, FirstRefusedWord, IsClassTold, class_text, HasBoundInRange};
 
 use crate::Class;
 
@@ -179,9 +179,10 @@ fn small_number(digits: &str) -> Option<u8>
     }
 }
 
-/// A text names one class or has one first refused word, never both, the text with which a class is written
+/// Each text names one class or has one first refused word, never both, the text with which a class is written
 /// names that class, and a class that a text names has a bound from 1 to 255 or none.
 pub fn class_is_told()
+    ensures told { (text : List ℕ) → IsClassTold text }
     ensures one_class { (text : List ℕ) (a b : Class) → NamesClass text a → NamesClass text b → a ≡ b }
     ensures one_fault { (text : List ℕ) (f g : ClassFault) → FirstRefusedWord text f → FirstRefusedWord text g → f ≡ g }
     ensures not_both { (text : List ℕ) (class : Class) (fault : ClassFault) → NamesClass text class → ¬ FirstRefusedWord text fault }

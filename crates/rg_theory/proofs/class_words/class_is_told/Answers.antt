@@ -1,7 +1,11 @@
+use Rattle.rg_theory.proofs.ClassSome.{class_told}
 use Rattle.rg_theory.proofs.ClassTold.{one_class, one_fault, not_both}
 use Rattle.rg_theory.proofs.ClassWritten.{written}
 use Rattle.rg_theory.proofs.ClassBytes.{named_bound}
 use Rattle.rg_theory.proofs.class_words.class_is_told.Goals as goal
+
+pub returns-clause-told : goal.returns-clause-told
+returns-clause-told c = class_told
 
 pub returns-clause-one_class : goal.returns-clause-one_class
 returns-clause-one_class c = one_class

@@ -10,7 +10,7 @@ use Rattle.rg_theory.specs.declared.class_words.Condition.{Condition}
 use Rattle.rg_theory.specs.declared.class_words.Condition.TheVariants.{Pure, Plain, Bounded, Nonbranching}
 use Rattle.rg_theory.specs.declared.class_words.ClassFault.{ClassFault}
 use Rattle.rg_theory.specs.declared.class_words.ClassFault.TheVariants.{UnknownWord, BadNumber, Repeated}
-use Rattle.rg_theory.specs.ClassWords.{bounded_word, IsWordOf, AreWordsOf, is_like, AreUnlike, no_condition, with_conditions, class_words, NamesClass, IsBadBound, IsRefusedWord, FirstRefusedWord}
+use Rattle.rg_theory.specs.ClassWords.{bounded_word, IsWordOf, AreWordsOf, is_like, AreUnlike, no_condition, with_conditions, class_words, NamesClass, IsBadBound, IsRefusedWord, FirstRefusedWord, IsClassTold}
 use Rattle.rg_theory.proofs.ClassDecided.{Decided, same_bytes}
 
 -- the word is that of a bound below n
@@ -120,10 +120,6 @@ words_push : (cs : List Condition) (words : List (List ℕ)) (c : Condition) (wo
 words_push [] words c word are gives = subst (λ l. AreWordsOf (c ∷ []) (l ++ word ∷ [])) (sym are) (word, [], gives, refl, refl)
 words_push (b ∷ cs) words c word are gives =
     (are.0, are.1 ++ word ∷ [], are.2, words_push cs are.1 c word are.3 gives, ap (λ l. l ++ word ∷ []) are.4)
-
--- a class that the text names, or its first refused word
-abbrev pub IsClassTold : List ℕ → Type 0
-IsClassTold text = ((class : Class) × NamesClass text class) ⊎ ((fault : ClassFault) × FirstRefusedWord text fault)
 
 -- the words that are left after those that gave conditions, none twice
 read_on : (text : List ℕ) → text ≢ codes "none" → (left done : List (List ℕ)) (cs : List Condition) → class_words text ≡ done ++ left → AreWordsOf cs done → AreUnlike cs
