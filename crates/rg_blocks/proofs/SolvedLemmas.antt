@@ -1,8 +1,9 @@
 -- What is said of all problems of a block, and its last one.
-use Rattle.std.proofs.Common.{◌≡◌, ℕ, suc, ◌+◌, ◌-◌, ◌<◌, List, [], ◌∷◌, length, get_or, All, Option, Some, Result, Ok, Err, IfOk, refl, sym, ap, ap₂, subst, ◌∙◌, arith}
+use Rattle.std.proofs.Common.{◌≡◌, ℕ, suc, ◌+◌, ◌-◌, ◌<◌, List, [], ◌∷◌, length, get_or, drop, All, Option, Some, Result, Ok, Err, IfOk, refl, sym, ap, ap₂, subst, ◌∙◌, arith}
 use Rattle.std.specs.Prelude.{slice_get}
 use Rattle.std.proofs.lemmas.Option.{same_Some, slice_get-get_or}
-use Rattle.std.proofs.lemmas.List.Elements.{All-cons}
+use Rattle.std.proofs.lemmas.List.{drop-map}
+use Rattle.std.proofs.lemmas.List.Elements.{All-cons, All-drop}
 use Rattle.rg_theory.specs.System.{System}
 use Rattle.rg_theory.specs.Net.{Place}
 use Rattle.rg_theory.specs.declared.Problem.{Problem}
@@ -45,6 +46,13 @@ all_have lts = record { each = λ problem is. is }
 pub of_solved : (P : Problem → Type 0) (solved : List SolvedProblem) → All P (problems_of solved) → All (λ s. P s.problem) solved
 of_solved P [] all = λ i d lt. absurd (omega arith)
 of_solved P (s ∷ solved) all = All-cons (λ x. P x.problem) s solved (all 0 s.problem (omega arith)) (of_solved P solved (λ i d lt. all (suc i) d (omega arith)))
+
+-- those behind the first ones
+pub others_are : (solved others : List SolvedProblem) (problems : List Problem) (k : ℕ) → problems_of solved ≡ problems → others ≡ drop k solved → problems_of others ≡ drop k problems
+others_are solved others problems k same is = ap problems_of is ∙ sym (drop-map (λ s. s.problem) k solved) ∙ ap (drop k) same
+
+pub others_have : {X : Type 0} (P : X → Type 0) (all others : List X) (k : ℕ) → others ≡ drop k all → All P all → All P others
+others_have P all others k is each = subst (All P) (sym is) (All-drop P k all each)
 
 -- the last problem of a block
 pub end_of : (lts : System) (kept : List Place) (last : Option Problem) (block : List Problem) (d : Problem) → IsBlock lts kept last block → 0 < length block

@@ -1,7 +1,7 @@
 -- Taking over, problem by problem.
-use Rattle.std.proofs.Common.{◌≡◌, ◌⊎◌, inl, inr, ℕ, suc, ◌+◌, ◌<◌, List, [], ◌∷◌, ◌++◌, length, get_or, take, drop, Option, None, Some, All, IfNone, refl, sym, ap, subst, ◌∙◌, arith}
+use Rattle.std.proofs.Common.{◌≡◌, ◌⊎◌, inl, inr, ℕ, suc, ◌+◌, ◌<◌, List, [], ◌∷◌, ◌++◌, length, get_or, take, drop, Option, None, Some, Result, Ok, Err, IfOk, All, IfNone, refl, sym, ap, subst, ◌∙◌, arith}
 use Rattle.std.proofs.Math.Seq.{split_at}
-use Rattle.std.proofs.lemmas.List.{append_assoc, map-append, take_more}
+use Rattle.std.proofs.lemmas.List.{append_assoc, map-append, take_more, take-append-drop}
 use Rattle.rg_theory.specs.System.{System}
 use Rattle.rg_theory.specs.Net.{Place}
 use Rattle.rg_theory.specs.declared.Problem.{Problem}
@@ -63,6 +63,22 @@ module _ (lts : System) (comes : Problem → Solved → Type 0) where
   one_ends before now after done rest p q end some taken one =
       let (trees, t) = subst (IsTakenOver lts comes now (p ∷ []) after) some one in
       (trees, subst (λ xs. TakenOver lts comes before xs (refuted_one q trees)) (append_assoc done (p ∷ []) rest) (ended_taken before (done ++ p ∷ []) rest q trees (more_taken before now done (p ∷ []) (refuted_one q trees) taken t)))
+
+  -- ---- the first ones, and then the others
+
+  pub first_and_others : (before now after : List Place) (problems : List Problem) (k : ℕ) (end : Option Problem) → IsTakenOver lts comes before (take k problems) now None → IsTakenOver lts comes now (drop k problems) after end
+      → IsTakenOver lts comes before problems after end
+  first_and_others before now after problems k end first others = subst (λ xs. IsTakenOver lts comes before xs after end) (take-append-drop k problems) (by end others)
+    where
+      by : (end : Option Problem) → IsTakenOver lts comes now (drop k problems) after end → IsTakenOver lts comes before (take k problems ++ drop k problems) after end
+      by None t = more_taken before now (take k problems) (drop k problems) (kept_places after) first t
+      by (Some q) (trees, t) = (trees, more_taken before now (take k problems) (drop k problems) (refuted_one q trees) first t)
+
+  -- the others, as a call answers
+  pub then_others : {E : Type 0} (before now after : List Place) (problems others : List Problem) (k : ℕ) (r : Result (Option Problem) E) → others ≡ drop k problems → IsTakenOver lts comes before (take k problems) now None
+      → IfOk r (IsTakenOver lts comes now others after) → IfOk r (IsTakenOver lts comes before problems after)
+  then_others before now after problems others k (Ok end) are first taken = first_and_others before now after problems k end first (subst (λ xs. IsTakenOver lts comes now xs after end) are taken)
+  then_others before now after problems others k (Err e) are first taken = taken
 
 -- ---- as loops have them
 

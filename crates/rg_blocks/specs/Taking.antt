@@ -1,5 +1,5 @@
 -- What the problems of a block come to, and what comes of it.
-use Rattle.std.specs.Prelude.{List, map, Option, None, Some, IfSome}
+use Rattle.std.specs.Prelude.{ℕ, ◌≤◌, List, length, take, map, Option, None, Some, IfSome}
 use Rattle.rg_theory.specs.System.{System}
 use Rattle.rg_theory.specs.Net.{Place}
 use Rattle.rg_theory.specs.declared.Problem.{Problem}
@@ -13,6 +13,8 @@ use Rattle.rg_outcome.specs.Blocks.{AfterBlock.kept_places, AfterBlock.refuted_o
 use Rattle.rg_blocks.specs.declared.solving.ProblemOutcome.{ProblemOutcome}
 use Rattle.rg_blocks.specs.declared.solving.ProblemOutcome.TheVariants as outcome
 use Rattle.rg_blocks.specs.declared.solving.SolvedProblem.{SolvedProblem}
+use Rattle.rg_blocks.specs.declared.taking.Begun.{Begun}
+use Rattle.rg_blocks.specs.declared.taking.Begun.TheVariants.{Ended, First}
 
 -- the problem comes to this; of a place the fact holds that is said of all
 abbrev pub IsOutcome : (Problem → Solved → Type 0) → (RegionPlace → Type 0) → Problem → ProblemOutcome → Type 0
@@ -39,3 +41,8 @@ pub record AreNotable (lts : System) (makes : RegionPlace → Type 0) : Type 0 w
 abbrev pub IsTakenOver : System → (Problem → Solved → Type 0) → List Place → List Problem → List Place → Option Problem → Type 0
 IsTakenOver lts comes before problems after None = TakenOver lts comes before problems (kept_places after)
 IsTakenOver lts comes before problems after (Some q) = (trees : List Tree) × TakenOver lts comes before problems (refuted_one q trees)
+
+-- all problems are taken over, or the first ones without an end
+abbrev pub IsBegun : System → (Problem → Solved → Type 0) → List Place → List Problem → List Place → Begun → Type 0
+IsBegun lts comes before problems after (Ended end) = IsTakenOver lts comes before problems after end
+IsBegun lts comes before problems after (First k) = (k ≤ length problems) × IsTakenOver lts comes before (take k problems) after None

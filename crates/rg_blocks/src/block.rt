@@ -49,23 +49,26 @@ pub fn next_block<K: Keeping>(
     Ok(block)
 }
 
-// The solving of the problems of a block, by their numbers in it. A part keeps what the places separate that it made.
+// The solving of the problems of a block that aren't taken over yet, by their numbers in it. A part keeps what the places separate that
+// it made.
 #[derive(Drop)]
-struct Problems<'a, S> {
+struct Problems<'a, K, S> {
     alloc: Global,
     lts: &'a Lts,
+    kept: &'a K,
     solving: &'a S,
     problems: &'a [Problem],
+    taken: usize,
 }
 
-impl<S: Solving> Task for Problems<'_, S> {
+impl<K: Keeping, S: Solving> Task for Problems<'_, K, S> {
     type Part = Separated;
 
     type Out = SolvedProblem;
 
     ghost holds = { λ s part. AreSome s.lts.now part };
 
-    ghost asks = { λ s i. (i < length s.problems.now) × All (IsProblem s.lts.now) s.problems.now × All (S.asks s.solving.now) s.problems.now × AreNotable s.lts.now (S.makes s.solving.now) };
+    ghost asks = { λ s i. (i < length s.problems.now) × K.keeps_for s.kept.now s.lts.now × All (IsProblem s.lts.now) s.problems.now × All (S.asks s.solving.now) s.problems.now × AreNotable s.lts.now (S.makes s.solving.now) };
 
     ghost answers = { λ s i v. (slice_get s.problems.now i ≡ Some v.problem) × IsSolvedBy (S.comes s.solving.now) (S.makes s.solving.now) v };
 
@@ -75,7 +78,10 @@ impl<S: Solving> Task for Problems<'_, S> {
 
     fn run(&self, part: &mut Separated, i: u32) -> Result<SolvedProblem, NoMemory> {
         let problem = self.problems[i as usize];
-        if part.separates(self.lts, problem) {
+        if (i as usize) < self.taken
+            || self.kept.separates(self.lts, problem)
+            || part.separates(self.lts, problem)
+        {
             return Ok(SolvedProblem {
                 problem,
                 outcome: None,
@@ -92,20 +98,24 @@ impl<S: Solving> Task for Problems<'_, S> {
     }
 }
 
-/// What the problems of a block come to, in their order, solved by at most `jobs` parts that run beside each other. A problem that a
-/// place separates which its own part made before is left unsolved: its outcome is None. The gate is entered before each number of the
-/// block and left after it, also for a problem that is left. `NoMemory` where there is none.
-pub fn solve_block<R: Threads + Sync, S: Solving + Sync, G: Gate + Sync>(
+/// What the problems of a block come to, in their order, solved by at most `jobs` parts that run beside each other. The first `taken`
+/// problems are left unsolved, and so is a problem that a kept place separates, or a place which its own part made before: its outcome is
+/// None. The gate is entered before each number of the block and left after it, also for a problem that is left. `NoMemory` where there is
+/// none.
+pub fn solve_block<R: Threads + Sync, K: Keeping + Sync, S: Solving + Sync, G: Gate + Sync>(
     rt: &R,
     alloc: Global,
     lts: &Lts,
+    kept: &K,
     solving: &S,
     problems: &[Problem],
+    taken: usize,
     jobs: u8,
     gate: &G,
 ) -> Result<Vec<SolvedProblem>, NoMemory>
     requires few { length problems.now ≤ 64 }
     requires some { 1 ≤ jobs }
+    requires kept { K.keeps_for kept.now lts.now }
     requires problems { All (IsProblem lts.now) problems.now }
     requires asked { All (S.asks solving.now) problems.now }
     requires notable { AreNotable lts.now (S.makes solving.now) }
@@ -115,8 +125,10 @@ pub fn solve_block<R: Threads + Sync, S: Solving + Sync, G: Gate + Sync>(
     let task = Problems {
         alloc,
         lts,
+        kept,
         solving,
         problems,
+        taken,
     };
     block(rt, alloc, &task, 0, problems.len() as u32, jobs, gate)
 }

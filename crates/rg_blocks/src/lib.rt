@@ -2,8 +2,9 @@
 //!
 //! Places that separate all problems, kept one after the other, are the usual way to a net (Badouel, Bernardinello and Darondeau,
 //! *Petri Net Synthesis*). The problems are solved in blocks, by parts that run beside each other, and what they come to is taken over in
-//! their order, so that it is the same as if they were solved one after the other. A part leaves a problem unsolved that a place
-//! separates which it made itself; such a problem is solved when its turn comes, unless a kept place separates it then.
+//! their order, so that it is the same as if they were solved one after the other. The first problems of a block are solved in turn, as long
+//! as their places separate what follows. A part leaves a problem unsolved that a kept place separates, or one which it made itself; such a
+//! problem is solved when its turn comes, unless a kept place separates it then.
 #![tactic(auto)]
 
 mod block;
@@ -19,4 +20,4 @@ pub use left::next_problem;
 pub use rg_memory::NoMemory;
 pub use separation::{SeparationOutcome, separate_all};
 pub use solving::{ProblemOutcome, SolvedProblem, Solving};
-pub use taking::{solve_in_turn, take_over};
+pub use taking::{Begun, begin_in_turn, solve_in_turn, take_over};

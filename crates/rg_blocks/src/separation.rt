@@ -10,7 +10,7 @@ use crate::block::{next_block, solve_block};
 use crate::keeping::Keeping;
 use crate::left::next_problem;
 use crate::solving::Solving;
-use crate::taking::{solve_in_turn, take_over};
+use crate::taking::{Begun, begin_in_turn, pass_by, solve_in_turn, take_over};
 use rg_lts::Lts;
 use rg_memory::NoMemory;
 use rg_ports::Gate;
@@ -29,8 +29,9 @@ pub enum SeparationOutcome {
     TooWide(Problem),
 }
 
-// Solves the problems of a block and takes over what they come to: with one job problem by problem, else when all parts are done.
-fn take_block<R: Threads + Sync, K: Keeping, S: Solving + Sync, G: Gate + Sync>(
+// Solves the problems of a block and takes over what they come to: with one job problem by problem, else the first ones in turn, as long as
+// their places separate what follows, and the others when all parts are done.
+fn take_block<R: Threads + Sync, K: Keeping + Sync, S: Solving + Sync, G: Gate + Sync>(
     rt: &R,
     alloc: Global,
     lts: &Lts,
@@ -53,13 +54,24 @@ fn take_block<R: Threads + Sync, K: Keeping, S: Solving + Sync, G: Gate + Sync>(
     if jobs == 1 {
         return solve_in_turn(lts, kept, solving, problems, gate);
     }
-    let solved = solve_block(rt, alloc, lts, solving, problems, jobs, gate)?;
-    take_over(lts, kept, solving, solved)
+    match begin_in_turn(lts, kept, solving, problems)? {
+        Begun::Ended(end) => {
+            pass_by(gate, 0, problems.len() as u32);
+            Ok(end)
+        }
+        Begun::First(taken) => {
+            let mut solved = solve_block(
+                rt, alloc, lts, kept, solving, problems, taken, jobs, gate,
+            )?;
+            let others = solved.split_off(taken)?;
+            take_over(lts, kept, solving, others)
+        }
+    }
 }
 
 // Takes all problems, block by block, as long as one is left behind the last one. The first problem that is refuted ends it, and is given;
 // None where none is.
-fn solve_all<R: Threads + Sync, K: Keeping, S: Solving + Sync, G: Gate + Sync>(
+fn solve_all<R: Threads + Sync, K: Keeping + Sync, S: Solving + Sync, G: Gate + Sync>(
     rt: &R,
     alloc: Global,
     lts: &Lts,
@@ -95,7 +107,7 @@ fn solve_all<R: Threads + Sync, K: Keeping, S: Solving + Sync, G: Gate + Sync>(
 
 /// Separates all problems of the system, each of whose states is reachable, from no place on. What the problems come to, and the places
 /// that are kept, are the same for any number of jobs and any gate. `NoMemory` where there is none.
-pub fn separate_all<R: Threads + Sync, K: Keeping, S: Solving + Sync, G: Gate + Sync>(
+pub fn separate_all<R: Threads + Sync, K: Keeping + Sync, S: Solving + Sync, G: Gate + Sync>(
     rt: &R,
     alloc: Global,
     lts: &Lts,

@@ -2,7 +2,7 @@
 ghost use Rattle.std.specs.Prelude.{◌≡◌, ◌≤◌, [], ◌∷◌, All, IfOk, IfSome, IfNone, OnOk, length};
 ghost use Rattle.rg_theory.specs.Problem.{IsProblem};
 ghost use Rattle.rg_outcome.specs.Coming.{IsSeparated};
-ghost use Rattle.rg_blocks.specs.Taking.{IsOutcome, IsSolvedBy, problems_of, IsTakenOver, AreKeepable};
+ghost use Rattle.rg_blocks.specs.Taking.{IsOutcome, IsSolvedBy, problems_of, IsTakenOver, IsBegun, AreKeepable};
 
 use crate::keeping::Keeping;
 use crate::solving::{ProblemOutcome, SolvedProblem, Solving};
@@ -90,11 +90,61 @@ fn solve_left<K: Keeping, S: Solving>(
     Ok(Some(solving.solve(problem)?))
 }
 
-// Enters and leaves the gate for the numbers from `from` on below `to`.
-fn pass_by<G: Gate>(gate: &G, from: u32, to: u32) {
+/// Enters and leaves the gate for the numbers from `from` on below `to`.
+pub(crate) fn pass_by<G: Gate>(gate: &G, from: u32, to: u32) {
     for i in from..to {
         gate.enter(i);
         gate.leave(i);
+    }
+}
+
+/// How far a block is taken over in turn.
+#[derive(Clone, Copy, Debug, PartialEq, Eq)]
+pub enum Begun {
+    /// To its end, or to the problem that is refuted.
+    Ended(Option<Problem>),
+    /// So many of its problems, the first ones.
+    First(usize),
+}
+
+/// Solves the first problems of a block one after the other, and takes over what each comes to at once, as long as the places that are kept
+/// separate the problem that follows. One that a kept place separates isn't solved. The first one that is refuted ends it. `NoMemory`
+/// where there is none.
+pub fn begin_in_turn<K: Keeping, S: Solving>(
+    lts: &Lts,
+    kept: &mut K,
+    solving: &S,
+    problems: &[Problem],
+) -> Result<Begun, NoMemory>
+    requires kept { K.keeps_for kept.old lts.now }
+    requires keepable { AreKeepable (S.makes solving.now) (K.may_keep lts.now) }
+    requires problems { All (IsProblem lts.now) problems.now }
+    requires asked { All (S.asks solving.now) problems.now }
+    ensures kept { OnOk result (K.keeps_for kept.new lts.now) }
+    ensures begun { IfOk result (IsBegun lts.now (S.comes solving.now) (K.places kept.old) problems.now (K.places kept.new)) }
+{
+    for (i, &problem) in problems.iter().enumerate() {
+        let Some(outcome) = solve_left(lts, kept, solving, problem)? else {
+            continue;
+        };
+        if let Some(refuted) = take(lts, kept, solving, problem, outcome)? {
+            return Ok(Begun::Ended(Some(refuted)));
+        }
+        if !follows_separated(lts, kept, problems, i + 1) {
+            return Ok(Begun::First(i + 1));
+        }
+    }
+    Ok(Begun::Ended(None))
+}
+
+// Whether a kept place separates the problem of this number, if there is one.
+fn follows_separated<K: Keeping>(lts: &Lts, kept: &K, problems: &[Problem], number: usize) -> bool
+    requires kept { K.keeps_for kept.now lts.now }
+    requires problems { All (IsProblem lts.now) problems.now }
+{
+    match problems.get(number) {
+        Some(&problem) => kept.separates(lts, problem),
+        None => true,
     }
 }
 

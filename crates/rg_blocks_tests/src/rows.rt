@@ -16,28 +16,29 @@ use std::test::Fail;
 use std::thread::Threads;
 
 // The answers to the problems of labels, what all of them come to, the labels whose places are kept, and how many problems one job
-// solves, and two: each of two solves its half of the labels with the places of that half alone.
-const ROWS: [(&[Given], Option<SeparationOutcome>, &[usize], u64, u64); 13] = [
+// solves, and two: the first labels are solved in turn, as long as the next one is stopped; then each of two jobs solves what is left in its
+// half of all labels, with the places kept so far and those of its half.
+const ROWS: [(&[Given], Option<SeparationOutcome>, &[usize], u64, u64); 16] = [
     (
         &[Given::Stops(1), Given::Stops(0), Given::Stops(2)],
         Some(SeparationOutcome::Separated),
         &[0, 2],
         2,
-        3,
+        2,
     ),
     (
         &[Given::Stops(1), Given::TooWide, Given::Stops(0)],
         Some(SeparationOutcome::Separated),
         &[0, 2],
         2,
-        3,
+        2,
     ),
     (
         &[Given::Stops(1), Given::Refuted, Given::Stops(0)],
         Some(SeparationOutcome::Separated),
         &[0, 2],
         2,
-        3,
+        2,
     ),
     (
         &[Given::TooWide, Given::Stops(0)],
@@ -70,6 +71,14 @@ const ROWS: [(&[Given], Option<SeparationOutcome>, &[usize], u64, u64); 13] = [
         3,
         4,
     ),
+    (
+        &[Given::Refuted, Given::Stops(1)],
+        Some(SeparationOutcome::Unsolvable(Problem::Event(0, 0))),
+        &[],
+        1,
+        1,
+    ),
+    (&[Given::NoMemory], None, &[], 1, 1),
     (&[Given::Stops(0), Given::NoMemory], None, &[], 2, 2),
     (
         &[Given::Stops(0)],
@@ -78,7 +87,7 @@ const ROWS: [(&[Given], Option<SeparationOutcome>, &[usize], u64, u64); 13] = [
         1,
         1,
     ),
-    // the first of each half stops the second
+    // the first two places stop the labels behind them, so that all are solved in turn
     (
         &[
             Given::Stops(1),
@@ -91,7 +100,7 @@ const ROWS: [(&[Given], Option<SeparationOutcome>, &[usize], u64, u64); 13] = [
         2,
         2,
     ),
-    // label 3 is left for the place of label 2, which is dropped for that of label 0: then label 3 is solved
+    // the place of label 0 is kept before the halves begin, so that label 2 is left
     (
         &[
             Given::Stops(2),
@@ -102,12 +111,25 @@ const ROWS: [(&[Given], Option<SeparationOutcome>, &[usize], u64, u64); 13] = [
         Some(SeparationOutcome::Separated),
         &[0, 1, 3],
         3,
+        3,
+    ),
+    // label 3 is left for the place of label 2, which is dropped for that of label 1: then label 3 is solved
+    (
+        &[
+            Given::Stops(0),
+            Given::Stops(2),
+            Given::Stops(3),
+            Given::Stops(3),
+        ],
+        Some(SeparationOutcome::Separated),
+        &[0, 1, 3],
+        3,
         4,
     ),
     (
         &[
+            Given::Stops(0),
             Given::Stops(2),
-            Given::Stops(1),
             Given::Stops(3),
             Given::TooWide,
         ],
@@ -118,8 +140,8 @@ const ROWS: [(&[Given], Option<SeparationOutcome>, &[usize], u64, u64); 13] = [
     ),
     (
         &[
+            Given::Stops(0),
             Given::Stops(2),
-            Given::Stops(1),
             Given::Stops(3),
             Given::Refuted,
         ],
@@ -130,8 +152,8 @@ const ROWS: [(&[Given], Option<SeparationOutcome>, &[usize], u64, u64); 13] = [
     ),
     (
         &[
+            Given::Stops(0),
             Given::Stops(2),
-            Given::Stops(1),
             Given::Stops(3),
             Given::NoMemory,
         ],
