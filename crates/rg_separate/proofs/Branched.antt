@@ -1,13 +1,13 @@
 -- What a branching asks of the forms of a case.
-use Rattle.std.proofs.Common.{◌≡◌, ℕ, zero, suc, ◌+◌, ◌^◌, ◌<◌, List, [], ◌∷◌, ◌++◌, map, take, length, get_or, All, Vec, Global, refl, ap, sym, subst, ◌∙◌, arith}
+use Rattle.std.proofs.Common.{◌≡◌, ℕ, zero, suc, ◌+◌, ◌<◌, List, [], ◌∷◌, ◌++◌, map, take, length, get_or, All, Vec, Global, refl, ap, sym, subst, ◌∙◌, arith}
 use Rattle.std.specs.Prelude.{ℤ, pos, negsuc, ◌+ℤ◌, ◌-ℤ◌, ◌*ℤ◌, ◌≤ℤ◌, ◌<ℤ◌}
 use Rattle.std.proofs.lemmas.Int.{ints}
 use Rattle.std.proofs.lemmas.List.{length-map, map-append, take_more}
-use Rattle.std.proofs.lemmas.List.Elements.{All-push, All-head, All-tail, All-weaker}
+use Rattle.std.proofs.lemmas.List.Elements.{All-head, All-tail, All-weaker}
 use Rattle.rg_integers.specs.Range.{InRange}
 use Rattle.rg_integers.specs.Sum.{sum_over}
 use Rattle.rg_linear.specs.System.{LinearSystem, entry}
-use Rattle.rg_linear.specs.Branching.{Form, form_at, AreBounded}
+use Rattle.rg_linear.specs.Branching.{AreBounded}
 use Rattle.rg_linear.specs.Room.{gap_of, gap, total, room}
 use Rattle.rg_rows.specs.declared.named_form.NamedForm.{NamedForm}
 use Rattle.rg_rows.specs.Forms.{linear_form, IsFormOf as IsNamedFormOf, AreFormsOf}

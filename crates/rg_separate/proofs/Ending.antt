@@ -18,7 +18,7 @@ use Rattle.rg_places.specs.declared.region_place.RegionPlace.{RegionPlace}
 use Rattle.rg_outcome.specs.Solving as solved
 use Rattle.rg_outcome.specs.Solving.{Solved, Solved.placed, Solved.passed, ProblemComes}
 use Rattle.rg_outcome.specs.Coming as outcome
-use Rattle.rg_outcome.specs.Coming.{PlacesSeparate, Comes, Separation.places, Separation.unsolvable, Separation.too_wide}
+use Rattle.rg_outcome.specs.Coming.{Comes, Separation.places, Separation.unsolvable, Separation.too_wide}
 use Rattle.rg_outcome.specs.Outcome.{Searched, Searched.a_cycle, Searched.all_problems}
 use Rattle.rg_outcome.proofs.Solvings.{same_solved}
 use Rattle.rg_outcome.proofs.Placed.{placed_separates}

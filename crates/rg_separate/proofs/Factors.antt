@@ -1,5 +1,5 @@
 -- The named rows of a leaf, one after the other.
-use Rattle.std.proofs.Common.{◌≡◌, inl, ℕ, zero, suc, ◌+◌, ◌-◌, ◌<◌, ◌≤◌, Bool, true, false, if◌then◌else◌, ◌||◌, List, [], ◌∷◌, map, length, get_or, All, Result, Ok, Err, sym, ap, subst, ◌∙◌, arith}
+use Rattle.std.proofs.Common.{◌≡◌, inl, ℕ, zero, suc, ◌+◌, ◌-◌, ◌<◌, ◌≤◌, Bool, true, false, if◌then◌else◌, ◌||◌, List, [], ◌∷◌, length, get_or, All, Result, Ok, Err, sym, ap, subst, ◌∙◌, arith}
 use Rattle.std.specs.Prelude.{ℤ, pos, negsuc, ◌≤ℤ◌, int_lt, nat_lt}
 use Rattle.std.proofs.lemmas.List.{get_or-map, length-map}
 use Rattle.std.proofs.lemmas.List.Elements.{All-nil, All-cons}
@@ -14,7 +14,7 @@ use Rattle.rg_refuting.specs.Row.{RowName.above_row}
 use Rattle.rg_linear.specs.System.{LinearSystem}
 use Rattle.rg_linear.specs.Branching.{Weight, weights_from, Form, form_at, SplitSide}
 use Rattle.rg_order_of_work.specs.Fold.{Ratio, whole, ratio_of, shown_result, mul}
-use Rattle.rg_order_of_work.specs.Rewriting.{CaseSystem, rows_of}
+use Rattle.rg_order_of_work.specs.Rewriting.{CaseSystem}
 use Rattle.rg_order_of_work.specs.Spreading.{share_fold, kept_at, name_of, side_at, factor_of}
 use Rattle.rg_order_of_work.proofs.FoldLemmas.{ratio_one, new_step, mul_step}
 use Rattle.rg_order_of_work.proofs.Scaling.{whole_ratio}

@@ -1,5 +1,5 @@
 -- A search keeps no more places than there are problems.
-use Rattle.std.proofs.Common.{◌≡◌, ℕ, ◌+◌, ◌*◌, ◌-◌, ◌<◌, ◌≤◌, List, [], ◌∷◌, ◌++◌, length, length-append, Option, Some, None, IfSome, arith}
+use Rattle.std.proofs.Common.{ℕ, ◌+◌, ◌*◌, ◌-◌, ◌<◌, ◌≤◌, List, [], ◌∷◌, ◌++◌, length, length-append, Option, Some, None, IfSome, arith}
 use Rattle.std.proofs.lemmas.Nat.{mul-le}
 use Rattle.rg_theory.specs.System.{System, states, labels}
 use Rattle.rg_lts.specs.WellFormed.{IsWellFormed}

@@ -1,22 +1,21 @@
 -- The way through a tree of splits, node by node in preorder.
-use Rattle.std.proofs.Common.{◌≡◌, ◌≢◌, ◌⊎◌, inl, inr, ℕ, zero, suc, ◌+◌, ◌^◌, ◌<◌, ◌≤◌, Bool, true, false, ◌==◌, if◌then◌else◌, List, [], ◌∷◌, ◌++◌, map, reverse, length, length-append, get_or, append_assoc, All, refl, ap, ap₂, sym, subst, ◌∙◌, eqb-true, arith}
+use Rattle.std.proofs.Common.{◌≡◌, ◌≢◌, ◌⊎◌, inl, inr, ℕ, ◌+◌, ◌^◌, ◌<◌, ◌≤◌, Bool, true, false, ◌==◌, if◌then◌else◌, List, [], ◌∷◌, ◌++◌, map, reverse, length, length-append, All, refl, ap, ap₂, sym, subst, ◌∙◌, eqb-true, arith}
 use Rattle.std.specs.Prelude.{ℤ, pos, ◌+ℤ◌, ◌≤ℤ◌, ◌<ℤ◌}
 use Rattle.std.proofs.lemmas.Bool.{cases_eq}
 use Rattle.std.proofs.lemmas.Int.{ints}
 use Rattle.std.proofs.lemmas.List.{map-append, length-map, reverse-append}
 use Rattle.std.proofs.lemmas.List.Elements.{All-nil, All-cons, All-append, All-push, All-head, All-tail, All-weaker}
 use Rattle.rg_linear.specs.System.{LinearSystem}
-use Rattle.rg_linear.specs.Dictionary.{Relation}
 use Rattle.rg_linear.specs.Descent.{DescentFromStart, Outcome.point, multiplier_of}
 use Rattle.rg_linear.specs.Branching.{Form, form_at, SplitSide, Weight, SplitTree, SplitTree.leaf, SplitTree.split, low_side, high_side, side_row, node_system, FirstFraction, BranchOutcome, BranchOutcome.found, BranchOutcome.tree, BranchOutcome.stopped, IsEnd, BranchFrom, BranchFrom.passes, BranchFrom.refutes, BranchFrom.whole, BranchFrom.low_ends, BranchFrom.high_ends, BranchFrom.both_refuted, Branching, AreBounded, low_end, high_end, low_at, high_at}
 use Rattle.rg_linear.specs.Room.{room}
 use Rattle.rg_linear.proofs.Refuting.{refuted_is_sound}
 use Rattle.rg_linear.proofs.Endings.{Within, within_start, within_low, within_high, split_within, gap-low, gap-high}
 use Rattle.rg_order_of_work.specs.Shown.{HasLeaf}
-use Rattle.rg_branch.specs.View.{TreeNode, TreeNode.leaf_node, TreeNode.split_node, preorder}
+use Rattle.rg_branch.specs.View.{TreeNode.leaf_node, TreeNode.split_node, preorder}
 use Rattle.rg_branch.specs.Asked.{IsSideOf, AreSidesOf}
 use Rattle.rg_branch.specs.Turning.{turned_back, turned}
-use Rattle.rg_separate.specs.Casing.{Visit, visits, next_sides, AreRefuting, VisitStands}
+use Rattle.rg_separate.specs.Casing.{Visit, visits, next_sides, VisitStands}
 
 -- ---- turning
 

@@ -1,5 +1,5 @@
 -- The nodes that are made on the way through a tree, and the tree that they are.
-use Rattle.std.proofs.Common.{◌≡◌, ◌⊎◌, inl, inr, ⊎_elim, ℕ, zero, suc, ◌+◌, ◌<◌, ◌≤◌, Bool, true, false, List, [], ◌∷◌, ◌++◌, map, length, length-append, get_or, append_assoc, append-nil, All, Ok, Err, refl, ap, ap₂, sym, subst, ◌∙◌, arith}
+use Rattle.std.proofs.Common.{◌≡◌, ◌⊎◌, inl, inr, ⊎_elim, ℕ, suc, ◌+◌, ◌<◌, ◌≤◌, Bool, true, false, List, [], ◌∷◌, ◌++◌, map, length, length-append, get_or, append_assoc, append-nil, All, Ok, Err, refl, ap, ap₂, sym, subst, ◌∙◌, arith}
 use Rattle.std.specs.Prelude.{ℤ, slice_index_or}
 use Rattle.std.proofs.lemmas.List.{map-append, length-map}
 use Rattle.std.proofs.Math.Seq.{get_or-append_seam}
@@ -7,18 +7,17 @@ use Rattle.std.proofs.lemmas.List.Elements.{All-nil, All-push}
 use Rattle.rg_refuting.specs.Row.{Form as SplitForm, Form.on_tokens, Side}
 use Rattle.rg_refuting.specs.Refutes.{Tree, Tree.leaf as leaf_of, Tree.split as split_of, TreeRefutes}
 use Rattle.rg_fraction.specs.declared.term.Wide.{Wide}
-use Rattle.rg_linear.specs.Branching.{Form, SplitSide, Weight, SplitTree, SplitTree.leaf, SplitTree.split, low_side, high_side, BranchOutcome.tree, Branching, AreBounded}
+use Rattle.rg_linear.specs.Branching.{SplitSide, Weight, SplitTree, SplitTree.leaf, SplitTree.split, low_side, high_side, BranchOutcome.tree, Branching, AreBounded}
 use Rattle.rg_linear.specs.Room.{room}
 use Rattle.rg_order_of_work.specs.Rewriting.{split_forms, CaseSystem, rows_of}
 use Rattle.rg_order_of_work.specs.Shown.{HasLeaf, named_side, named_sides}
 use Rattle.rg_reasons.specs.declared.certificate.Case.{Case}
 use Rattle.rg_reasons.specs.Trees as reasons
-use Rattle.rg_reasons.specs.Trees.{TreeNode.leaf_node as made_leaf, TreeNode.split_node as made_split, tree_of, nodes_of}
+use Rattle.rg_reasons.specs.Trees.{TreeNode.leaf_node as made_leaf, TreeNode.split_node as made_split, nodes_of}
 use Rattle.rg_reasons.specs.Certificates.{IsNodeOf, case_tree}
 use Rattle.rg_reasons.proofs.Trees.{tree_is}
 use Rattle.rg_branch.specs.View.{TreeNode, TreeNode.leaf_node, TreeNode.split_node, preorder}
 use Rattle.rg_branch.specs.Answer.{IsSplitTree}
-use Rattle.rg_branch.specs.Turning.{turned}
 use Rattle.rg_cycles.specs.View.{cycle_of}
 use Rattle.rg_outcome.specs.Casing.{spread_tree, CaseResult.passes, CaseComes, CaseComes.is_refuted, CaseComes.leaf_passes}
 use Rattle.rg_rows.specs.declared.named_system.NamedSystem.{NamedSystem}

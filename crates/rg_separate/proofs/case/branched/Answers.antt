@@ -1,4 +1,4 @@
-use Rattle.std.proofs.Common.{◌≡◌, ◌<◌, List, [], All, length, map, ap, sym, subst, ◌∙◌}
+use Rattle.std.proofs.Common.{◌<◌, List, [], All, length, map, ap, sym, subst, ◌∙◌}
 use Rattle.rg_refuting.specs.Row.{Side}
 use Rattle.rg_linear.specs.Branching.{SplitSide, Branching, BranchOutcome.stopped}
 use Rattle.rg_linear.proofs.Endings.{splits_within}

@@ -1,8 +1,8 @@
-use Rattle.std.proofs.Common.{◌≡◌, ◌<◌, List, [], All, length, map, Err, ap, sym, subst, ◌∙◌}
+use Rattle.std.proofs.Common.{◌<◌, List, [], All, length, map, Err, ap, sym, subst, ◌∙◌}
 use Rattle.rg_refuting.specs.Row.{Side}
 use Rattle.rg_linear.specs.Branching.{SplitSide, BranchOutcome.found}
 use Rattle.rg_linear.proofs.Endings.{splits_within}
-use Rattle.rg_order_of_work.specs.Shown.{Shown, ShownWide, named_sides}
+use Rattle.rg_order_of_work.specs.Shown.{Shown, ShownWide}
 use Rattle.rg_net.specs.Shown.{shown_place}
 use Rattle.rg_cycles.specs.View.{cycle_of}
 use Rattle.rg_outcome.specs.Casing.{CaseResult.passes, CaseComes}

@@ -5,10 +5,9 @@ use Rattle.rg_outcome.specs.Solving.{Solved.placed}
 use Rattle.rg_cycles.specs.View.{cycle_of}
 use Rattle.rg_outcome.specs.Casing.{CaseResult, CaseComes}
 use Rattle.rg_outcome.proofs.Cases.{same_result}
-use Rattle.rg_separate.specs.declared.case.CaseAnswer.{CaseAnswer}
 use Rattle.rg_separate.specs.declared.problem.Tried.{Tried}
 use Rattle.rg_separate.specs.Deciding.{CaseTells, CaseComesTo, AreTried, CasesCameTo}
-use Rattle.rg_separate.proofs.Coming.{none_come, refuted_more, passed_more, place_first, live_comes}
+use Rattle.rg_separate.proofs.Coming.{refuted_more, passed_more, place_first, live_comes}
 use Rattle.rg_separate.proofs.Trying.{tried_refuted, tried_passed}
 use Rattle.rg_separate.proofs.problem.solve_live.Goals as goal
 use Rattle.rg_separate.proofs.problem.solve_live.Goals.{in-Refuted+in_ok-push-in-Refuted, in-Wide}

@@ -1,8 +1,5 @@
 use Rattle.std.proofs.Common.{inl, ap, sym, subst}
-use Rattle.rg_theory.specs.System.{labels}
-use Rattle.rg_theory.specs.Region.{blocking}
 use Rattle.rg_theory.specs.declared.Problem.{Problem}
-use Rattle.rg_theory.specs.declared.Problem.TheVariants.{Event}
 use Rattle.rg_net.specs.Shown.{shown_place}
 use Rattle.rg_cycles.specs.View.{cycle_of}
 use Rattle.rg_places.specs.RegionPlaces.{PlaceSeparates}

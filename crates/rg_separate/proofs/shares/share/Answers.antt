@@ -1,4 +1,4 @@
-use Rattle.std.proofs.Common.{rules, ◌<◌, Ok, Err, sym, subst}
+use Rattle.std.proofs.Common.{rules, ◌<◌, sym, subst}
 use Rattle.std.specs.Prelude.{ℤ, pos}
 use Rattle.std.specs.Int.Signed.{mag}
 use Rattle.rg_integers.specs.Range.{InRange}
