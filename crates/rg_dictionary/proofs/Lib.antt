@@ -8,3 +8,4 @@ pub mod RowNumbers
 pub mod Exchanges
 pub mod Storing
 pub mod Short
+pub mod Sparse

@@ -1,5 +1,5 @@
 -- The terms of a row, by their numbers and by their places.
-use Rattle.std.proofs.Common.{◌≡◌, ◌≢◌, ◌⊎◌, ⊎_elim, ℕ, zero, suc, ◌+◌, ◌-◌, ◌<◌, ◌≤◌, List, length, ap, refl, subst, sym, ◌∙◌, inl, inr, arith, get_or-set_other, get_or-set_same, eq-eqb}
+use Rattle.std.proofs.Common.{◌≡◌, ◌≢◌, ◌⊎◌, ⊎_elim, ℕ, zero, suc, ◌+◌, ◌-◌, ◌<◌, ◌≤◌, List, length, ap, refl, subst, sym, ◌∙◌, inl, inr, arith, le_refl, get_or-set_other, get_or-set_same, eq-eqb}
 use Rattle.std.proofs.Math.ListN.{set, length-set}
 use Rattle.std.proofs.lemmas.Bool.{cases_lt}
 use Rattle.std.specs.Prelude.{ℤ, pos, neg_ℤ}
@@ -127,6 +127,7 @@ pub record Most (pivot old : List ℤ) (p : ℕ) (row : List ℤ) : Type 0 where
   pub same_length : length row ≡ length old
   pub fits : FitBelow pivot old p (length old - 1)
   pub values : (e : ℕ) → suc e < length old → number_at row (place_of p e) ≡ term_value (renewal_term pivot old p e)
+  pub leaves : number_at row p ≡ number_at old p
 
 pub most : (pivot old row next : List ℤ) (p : ℕ) → 1 < p → p < length old → Half pivot old p row
     → RenewsBetween pivot row next (number_at pivot p) (number_at old p) (p + 1) (length row) → Most pivot old p next
@@ -134,6 +135,7 @@ most pivot old row next p after inside h r = record {
   same_length = r.same_length ∙ h.same_length;
   fits = high_fit pivot old row p (length old - 1) h after (omega arith) (λ m ge lt. r.fits m ge (omega (arith, h.same_length)));
   values = λ e lt. at e lt (cases_lt e p);
+  leaves = r.before p (omega arith) ∙ h.others p (le_refl p);
 }
   where
     at : (e : ℕ) → suc e < length old → (e < p) ⊎ (p ≤ e) → number_at next (place_of p e) ≡ term_value (renewal_term pivot old p e)
@@ -143,16 +145,22 @@ most pivot old row next p after inside h r = record {
 
 -- ---- the term of the new member
 
-last_number : (pivot old : List ℤ) (p : ℕ) → 1 < p → p < length old → renewal_term pivot old p (length old - 1) ≡ last_term pivot old p
+pub last_number : (pivot old : List ℤ) (p : ℕ) → 1 < p → p < length old → renewal_term pivot old p (length old - 1) ≡ last_term pivot old p
 last_number pivot old p after inside = term_last pivot old p (length old - 1) (omega arith) (omega arith)
 
-pub renewed : (pivot old row : List ℤ) (p : ℕ) (z : ℤ) → 1 < p → p < length old → Most pivot old p row
-    → FitsTerm (last_term pivot old p) → z ≡ term_value (last_term pivot old p) → IsRenewed pivot old (set row p z) p
-renewed pivot old row p z after inside m fits is = record {
-  same_length = length-set row p z ∙ m.same_length;
-  fits = λ e lt. ⊎_elim (λ less. m.fits e less) (λ past. subst (λ n. FitsTerm (renewal_term pivot old p n)) (end e lt past) (subst FitsTerm (sym (last_number pivot old p after inside)) fits)) (cases_lt e (length old - 1));
-  values = λ e lt. get_or-set_other row p (place_of p e) z (pos 0) (elsewhere e (cases_lt e p)) ∙ m.values e lt;
-  last = get_or-set_same row p z (pos 0) (omega (arith, m.same_length)) ∙ is ∙ ap term_value (sym (last_number pivot old p after inside));
+-- it is the same when the other places are renewed
+last_same : (pivot old row : List ℤ) (p : ℕ) → 1 < p → p < length old → Most pivot old p row → renewal_term pivot row p (length row - 1) ≡ renewal_term pivot old p (length old - 1)
+last_same pivot old row p after inside m = last_number pivot row p after (omega (arith, m.same_length))
+    ∙ ap (λ (z : ℤ). record { a = pos 0; b = number_at pivot p; c = neg_ℤ (number_at pivot 0); d = z }) m.leaves
+    ∙ sym (last_number pivot old p after inside)
+
+pub renewed : (pivot old row next : List ℤ) (p : ℕ) → 1 < p → p < length old → Most pivot old p row → length next ≡ length row
+    → FitsTerm (renewal_term pivot row p (length row - 1)) → number_at next p ≡ term_value (renewal_term pivot row p (length row - 1)) → ((n : ℕ) → n ≢ p → number_at next n ≡ number_at row n) → IsRenewed pivot old next p
+renewed pivot old row next p after inside m same fits is others = record {
+  same_length = same ∙ m.same_length;
+  fits = λ e lt. ⊎_elim (λ less. m.fits e less) (λ past. subst (λ n. FitsTerm (renewal_term pivot old p n)) (end e lt past) (subst FitsTerm (last_same pivot old row p after inside m) fits)) (cases_lt e (length old - 1));
+  values = λ e lt. others (place_of p e) (elsewhere e (cases_lt e p)) ∙ m.values e lt;
+  last = is ∙ ap term_value (last_same pivot old row p after inside m);
 }
   where
     end : (e : ℕ) → e < length old → length old - 1 ≤ e → length old - 1 ≡ e
@@ -162,14 +170,17 @@ renewed pivot old row p z after inside m fits is = record {
     elsewhere e (inl less) h = let q = place_low p e less in omega arith
     elsewhere e (inr past) h = let q = place_high p e past in omega arith
 
-pub wide_last : (pivot old row : List ℤ) (p : ℕ) (w : Wide) → 1 < p → p < length old → Most pivot old p row
-    → (FitsTerm (last_term pivot old p) → ⊥) → w ≡ last_term pivot old p → FirstOfRow pivot old p (length row - 1) w
-wide_last pivot old row p w after inside m passes is = subst (λ n. FirstOfRow pivot old p (n - 1) w) (sym m.same_length) (record {
+pub wide_last : (pivot old row : List ℤ) (p e : ℕ) (w : Wide) → 1 < p → p < length old → Most pivot old p row
+    → e ≡ length row - 1 → (FitsTerm w → ⊥) → w ≡ renewal_term pivot row p (length row - 1) → FirstOfRow pivot old p e w
+wide_last pivot old row p e w after inside m at passes is = subst (λ n. FirstOfRow pivot old p n w) (end m.same_length) (record {
   inside = omega arith;
-  is = is ∙ sym (last_number pivot old p after inside);
-  passes = λ f. passes (subst FitsTerm is f);
+  is = is ∙ last_same pivot old row p after inside m;
+  passes = passes;
   first = m.fits;
 })
+  where
+    end : length row ≡ length old → length old - 1 ≡ e
+    end same = omega arith
 
 pub wide_first : (pivot old : List ℤ) (p : ℕ) (w : Wide) → 0 < length old → (FitsTerm (first_term pivot old p) → ⊥) → w ≡ first_term pivot old p → FirstOfRow pivot old p 0 w
 wide_first pivot old p w some passes is = record {

@@ -1,7 +1,8 @@
 -- The rows of a table in an exchange, number by number.
-use Rattle.std.specs.Prelude.{◌≡◌, ◌≢◌, ℕ, suc, ◌+◌, ◌*◌, ◌<◌, ◌≤◌, ◌-◌, nat_lt, ◌==◌, if◌then◌else◌, List, length, slice_range, Contains, ℤ, pos, neg_ℤ, ◌*ℤ◌, FitsSigned}
+use Rattle.std.specs.Prelude.{◌≡◌, ◌≢◌, ◌↔◌, ℕ, suc, ◌+◌, ◌*◌, ◌<◌, ◌≤◌, ◌-◌, nat_lt, ◌==◌, if◌then◌else◌, List, length, slice_range, Contains, ℤ, pos, neg_ℤ, ◌*ℤ◌, FitsSigned}
 use Rattle.std.specs.Int.{w64}
 use Rattle.std.specs.List.{insert, remove}
+use Rattle.std.specs.List.Sorted.{IsStrictlyIncreasing}
 use Rattle.rg_integers.specs.Range.{InRange}
 use Rattle.rg_integers.specs.Sign.{sign}
 use Rattle.rg_integers.specs.Sum.{number_at}
@@ -25,6 +26,11 @@ ShortBetween row from to = (n : ℕ) → from ≤ n → n < to → FitsSigned w6
 pub record IsSigned (row signed : List ℤ) (p : ℕ) : Type 0 where
   pub same_length : length signed ≡ length row
   pub numbers : (n : ℕ) → n < length row → number_at signed n ≡ sign (number_at row p) *ℤ number_at row n
+
+-- the places of a row at which the number isn't 0, in order, but the first place and place p
+pub record AreNamedPlaces (row : List ℤ) (p : ℕ) (places : List ℕ) : Type 0 where
+  pub ordered : IsStrictlyIncreasing places
+  pub each : (n : ℕ) → Contains places n ↔ ((0 < n) × (n < length row) × (n ≢ p) × (number_at row n ≢ pos 0))
 
 -- the term of place n, where the pivot's number for the member that leaves is size, and the row's is leaving
 abbrev pub place_term : List ℤ → List ℤ → ℤ → ℤ → ℕ → Wide

@@ -28,6 +28,7 @@ pub struct Dictionary {
     members: Vec<u32>,
     table: Vec<i128>,
     pivot_row: Vec<i128>,
+    named_places: Vec<usize>,
 }
 
 impl Model for Dictionary {
@@ -38,7 +39,7 @@ impl Model for Dictionary {
 
     ghost view = { λ a. record { columns = a.columns; rows = a.rows; room = a.room; members = a.members.items; table = a.table.items } };
 
-    ghost invariant = { λ a. IsStored (record { columns = a.columns; rows = a.rows; room = a.room; members = a.members.items; table = a.table.items }) (vec_capacity a.table) a.pivot_row.items };
+    ghost invariant = { λ a. IsStored (record { columns = a.columns; rows = a.rows; room = a.room; members = a.members.items; table = a.table.items }) (vec_capacity a.table) a.pivot_row.items (vec_capacity a.named_places) };
 }
 
 impl Dictionary {
@@ -56,6 +57,7 @@ impl Dictionary {
         table.resize(columns as usize * width, 0i128)?;
         let members = column_numbers(alloc, columns)?;
         let pivot_row = vec![in alloc; 0i128; width]?;
+        let named_places = Vec::with_capacity(alloc, width)?;
         Ok(Dictionary {
             columns,
             rows: 0,
@@ -63,6 +65,7 @@ impl Dictionary {
             members,
             table,
             pivot_row,
+            named_places,
         })
     }
 
@@ -183,6 +186,7 @@ impl Dictionary {
             &mut self.table,
             &self.members,
             &mut self.pivot_row,
+            &mut self.named_places,
             pivot,
             place,
             to,

@@ -1,11 +1,12 @@
 //! One row of the table in an exchange.
 
-ghost use Rattle.std.specs.Prelude.{◌≡◌, ◌≢◌, ◌↔◌, ◌<◌, ◌≤◌, List, ℤ, length, pos, neg_ℤ, ◌-ℤ◌, ◌*ℤ◌, IsTrue, FitsSigned, MatchResult};
+ghost use Rattle.std.specs.Prelude.{◌≡◌, ◌≢◌, ◌↔◌, ℕ, ◌-◌, ◌<◌, ◌≤◌, List, [], ◌∷◌, ◌++◌, ℤ, length, vec_len, vec_capacity, pos, neg_ℤ, ◌-ℤ◌, ◌*ℤ◌, IsTrue, FitsSigned, MatchResult};
 ghost use Rattle.std.specs.Int.{w64};
 ghost use Rattle.rg_integers.specs.Range.{InRange, Fits};
 ghost use Rattle.rg_integers.specs.Sign.{sign};
 ghost use Rattle.rg_integers.specs.Sum.{number_at};
-ghost use Rattle.rg_dictionary.specs.Renewal.{RowInRange, RowIsShort, ShortBetween, IsSigned, RenewsBetween, FirstBetween, IsRenewed, FirstOfRow, moved, IsExchangedRow, IsTurned};
+ghost use Rattle.rg_fraction.specs.Terms.{term_value, FitsTerm};
+ghost use Rattle.rg_dictionary.specs.Renewal.{RowInRange, RowIsShort, ShortBetween, IsSigned, AreNamedPlaces, RenewsBetween, FirstBetween, renewal_term, IsRenewed, FirstOfRow, moved, IsExchangedRow, IsTurned};
 
 use rg_fraction::{Wide, reduce};
 
@@ -58,6 +59,34 @@ pub(crate) fn is_short(row: &[i128]) -> bool
         }
     }
     true
+}
+
+/// Lists the places of the row at which the number isn't 0, but the first place and place `p`.
+pub(crate) fn list_places(row: &[i128], p: usize, places: &mut Vec<usize>)
+    requires place { p < length row.now }
+    requires in_range { RowInRange row.now }
+    requires room { length row.now ≤ vec_capacity places.old }
+    ensures named { AreNamedPlaces row.now p places.new.items }
+    ensures capacity { vec_capacity places.old ≤ vec_capacity places.new }
+{
+    places.clear();
+    for n in 1..row.len() {
+        if n != p && row[n] != 0 {
+            push_place(places, n);
+        }
+    }
+}
+
+// Adds a place, for which there is room.
+fn push_place(places: &mut Vec<usize>, n: usize)
+    requires { vec_len places.old < vec_capacity places.old }
+    ensures items { places.new.items ≡ places.old.items ++ n ∷ [] }
+    ensures capacity { vec_capacity places.old ≤ vec_capacity places.new }
+{
+    match places.push(n) {
+        Ok(()) => {}
+        Err(_) => unreachable!(),
+    }
 }
 
 // The term a*b - c*d of numbers of 64 bits, which is never out of range.
@@ -179,12 +208,28 @@ fn renew(row: &mut [i128], pivot: &[i128], p: usize, short: bool) -> Result<(), 
             });
         }
     }
+    renew_last(row, pivot, p)
+}
+
+// Place `p` gets the number of the new member, the value of the last term; else that term passes.
+fn renew_last(row: &mut [i128], pivot: &[i128], p: usize) -> Result<(), RowWide>
+    requires same_length { length pivot.now ≡ length row.old }
+    requires place { p < length row.old }
+    requires after_constant { 1 < p }
+    requires pivot_in_range { RowInRange pivot.now }
+    requires in_range { RowInRange row.old }
+    ensures last { MatchResult result
+        (λ _. FitsTerm (renewal_term pivot.now row.old p (length row.old - 1)) × (number_at row.new p ≡ term_value (renewal_term pivot.now row.old p (length row.old - 1))))
+        (λ e. (e.at ≡ length row.old - 1) × (FitsTerm e.wide → ⊥) × (e.wide ≡ renewal_term pivot.now row.old p (length row.old - 1))) }
+    ensures others { (n : ℕ) → n ≢ p → number_at row.new n ≡ number_at row.old n }
+    ensures in_range { RowInRange row.new }
+{
     let c = negated(pivot[0]);
     let last = Wide {
         a: 0,
-        b: size,
+        b: pivot[p],
         c,
-        d: leaving,
+        d: row[p],
     };
     match last.evaluate() {
         Ok(z) => {
@@ -196,6 +241,61 @@ fn renew(row: &mut [i128], pivot: &[i128], p: usize, short: bool) -> Result<(), 
             wide,
         }),
     }
+}
+
+// The same, where the pivot's number at place `p` is 1: then a number stays where the pivot's is 0.
+fn renew_at(row: &mut [i128], pivot: &[i128], places: &[usize], p: usize) -> Result<(), RowWide>
+    requires same_length { length pivot.now ≡ length row.old }
+    requires place { p < length row.old }
+    requires after_constant { 1 < p }
+    requires pivot_in_range { RowInRange pivot.now }
+    requires in_range { RowInRange row.old }
+    requires unit { number_at pivot.now p ≡ pos 1 }
+    requires named { AreNamedPlaces pivot.now p places.now }
+    ensures renewed { MatchResult result (λ _. IsRenewed pivot.now row.old row.new p) (λ e. FirstOfRow pivot.now row.old p e.at e.wide) }
+    ensures in_range { RowInRange row.new }
+{
+    let leaving = row[p];
+    for &n in places {
+        let term = Wide {
+            a: row[n],
+            b: 1,
+            c: pivot[n],
+            d: leaving,
+        };
+        match term.evaluate() {
+            Ok(z) => row[n] = z,
+            Err(wide) => {
+                let at = if n < p { n } else { n - 1 };
+                return Err(RowWide { at, wide });
+            }
+        }
+    }
+    renew_last(row, pivot, p)
+}
+
+// The row gets the values of its terms, by the listed places alone where that is enough.
+fn renew_row(
+    row: &mut [i128],
+    pivot: &[i128],
+    places: &[usize],
+    p: usize,
+    short: bool,
+) -> Result<(), RowWide>
+    requires same_length { length pivot.now ≡ length row.old }
+    requires place { p < length row.old }
+    requires after_constant { 1 < p }
+    requires pivot_in_range { RowInRange pivot.now }
+    requires in_range { RowInRange row.old }
+    requires short { IsTrue short → RowIsShort pivot.now }
+    requires named { AreNamedPlaces pivot.now p places.now }
+    ensures renewed { MatchResult result (λ _. IsRenewed pivot.now row.old row.new p) (λ e. FirstOfRow pivot.now row.old p e.at e.wide) }
+    ensures in_range { RowInRange row.new }
+{
+    if pivot[p] == 1 {
+        return renew_at(row, pivot, places, p);
+    }
+    renew(row, pivot, p, short)
 }
 
 // The number at place `p` goes to place `q`.
@@ -214,11 +314,12 @@ fn move_number(row: &mut [i128], p: usize, q: usize)
 }
 
 /// The row of a variable outside the set, over the new set: the member at place `p` leaves, and the pivot's
-/// number comes to place `q`. Else the number of the first term that passes. `short` says that the numbers of the
-/// pivot fit 64 bits.
+/// number comes to place `q`. Else the number of the first term that passes. `places` are those that the pivot's row
+/// names, and `short` says that its numbers fit 64 bits.
 pub(crate) fn exchange_row(
     row: &mut [i128],
     pivot: &[i128],
+    places: &[usize],
     p: usize,
     q: usize,
     short: bool,
@@ -230,11 +331,12 @@ pub(crate) fn exchange_row(
     requires pivot_in_range { RowInRange pivot.now }
     requires in_range { RowInRange row.old }
     requires short { IsTrue short → RowIsShort pivot.now }
+    requires named { AreNamedPlaces pivot.now p places.now }
     ensures row { MatchResult result (λ _. IsExchangedRow pivot.now row.old row.new p q) (λ e. (number_at row.old p ≢ pos 0) × FirstOfRow pivot.now row.old p e.at e.wide) }
     ensures in_range { RowInRange row.new }
 {
     if row[p] != 0 {
-        match renew(row, pivot, p, short) {
+        match renew_row(row, pivot, places, p, short) {
             Ok(()) => {}
             Err(e) => return Err(e),
         }

@@ -1,15 +1,15 @@
 //! The rows of the table in an exchange.
 
-ghost use Rattle.std.specs.Prelude.{◌≡◌, ◌≢◌, ◌↔◌, ℕ, ◌+◌, ◌*◌, ◌^◌, ◌<◌, ◌≤◌, IsTrue, length, Contains, slice_index, pos, MatchResult};
+ghost use Rattle.std.specs.Prelude.{◌≡◌, ◌≢◌, ◌↔◌, ℕ, ◌+◌, ◌*◌, ◌^◌, ◌<◌, ◌≤◌, IsTrue, vec_capacity, length, Contains, slice_index, pos, MatchResult};
 ghost use Rattle.std.specs.List.Sorted.{IsStrictlyIncreasing};
 ghost use Rattle.rg_integers.specs.Sum.{number_at};
 ghost use Rattle.rg_linear.specs.System.{LinearSystem, variables as variables_of};
 ghost use Rattle.rg_linear.specs.Dictionary.{IsFree};
 ghost use Rattle.rg_linear.specs.Exchange.{without, exchanged, AllFit, FirstWide};
 ghost use Rattle.rg_linear.specs.Table.{IsTable, place_for};
-ghost use Rattle.rg_dictionary.specs.Renewal.{RowInRange, row_at, RowsExchanged, FirstOfRows};
+ghost use Rattle.rg_dictionary.specs.Renewal.{RowInRange, AreNamedPlaces, row_at, RowsExchanged, FirstOfRows};
 
-use crate::row::{copy_signed, exchange_row, is_short, write_leaving};
+use crate::row::{copy_signed, exchange_row, is_short, list_places, write_leaving};
 use rg_fraction::Wide;
 
 /// The first term of an exchange that is out of range: in the new relation of the variable `target`
@@ -53,12 +53,14 @@ pub(crate) fn new_place(members: &[u32], place: usize, pivot: u32) -> usize
 }
 
 /// The rows of all variables but the members and the pivot, over the new set: the member at place `p` of a
-/// row leaves, and the pivot's number comes to place `q`. Else the first term that passes.
+/// row leaves, and the pivot's number comes to place `q`. Else the first term that passes. `places` are those that the
+/// pivot's row names.
 pub(crate) fn exchange_rows(
     table: &mut [i128],
     members: &[u32],
     pivot: u32,
     pivot_row: &[i128],
+    places: &[usize],
     p: usize,
     q: usize,
     variables: u32,
@@ -70,6 +72,7 @@ pub(crate) fn exchange_rows(
     requires new_place { q < length pivot_row.now }
     requires short { length pivot_row.now ≤ 2 ^ 32 }
     requires pivot_in_range { RowInRange pivot_row.now }
+    requires named { AreNamedPlaces pivot_row.now p places.now }
     requires in_range { RowInRange table.old }
     ensures rows { MatchResult result (λ _. RowsExchanged members.now pivot (length pivot_row.now) pivot_row.now table.old table.new p q variables) (λ e. (e.target < variables) × FirstOfRows members.now pivot (length pivot_row.now) pivot_row.now table.old p e.target e.entry e.wide) }
     ensures in_range { RowInRange table.new }
@@ -79,7 +82,14 @@ pub(crate) fn exchange_rows(
     for w in 0..variables {
         if w != pivot && !is_member(members, w) {
             let start = w as usize * width;
-            match exchange_row(&mut table[start..start + width], pivot_row, p, q, short) {
+            match exchange_row(
+                &mut table[start..start + width],
+                pivot_row,
+                places,
+                p,
+                q,
+                short,
+            ) {
                 Ok(()) => {}
                 Err(e) => {
                     return Err(ExchangeWide {
@@ -95,11 +105,12 @@ pub(crate) fn exchange_rows(
 }
 
 /// The table over the set in which the pivot stands in place of the member at `place`, at place `to` of
-/// the new members; else the first term that passes. `pivot_row` is a place to work in.
+/// the new members; else the first term that passes. `pivot_row` and `places`, which has room for as many, are to work in.
 pub(crate) fn exchange_table(
     table: &mut [i128],
     members: &[u32],
     pivot_row: &mut [i128],
+    places: &mut Vec<usize>,
     pivot: u32,
     place: usize,
     to: usize,
@@ -107,6 +118,7 @@ pub(crate) fn exchange_table(
 ) -> Result<(), ExchangeWide>
     requires size { length table.old ≡ variables * (length members.now + 2) }
     requires width { length pivot_row.old ≡ length members.now + 2 }
+    requires room { length pivot_row.old ≤ vec_capacity places.old }
     requires ordered { IsStrictlyIncreasing members.now }
     requires within { (k : ℕ) → k < length members.now → slice_index members.now k < variables }
     requires pivot { pivot < variables }
@@ -120,15 +132,18 @@ pub(crate) fn exchange_table(
         (λ _. AllFit system members.now pivot (slice_index members.now place) × IsTable system (exchanged members.now pivot (slice_index members.now place)) table.new)
         (λ e. FirstWide system members.now pivot (slice_index members.now place) e.target e.entry e.wide) }
     ensures in_range { RowInRange table.new }
+    ensures room { vec_capacity places.old ≤ vec_capacity places.new }
 {
     let width = pivot_row.len();
     let start = pivot as usize * width;
     copy_signed(&table[start..start + width], pivot_row, place + 2);
+    list_places(pivot_row, place + 2, places);
     match exchange_rows(
         table,
         members,
         pivot,
         pivot_row,
+        places,
         place + 2,
         to + 2,
         variables,

@@ -1,6 +1,7 @@
 use Rattle.std.proofs.Common.{◌≡◌, length, arith, subst, sym, ◌∙◌}
 use Rattle.std.proofs.Math.ListN.{length-set}
 use Rattle.std.proofs.lemmas.Bool.{false≢true}
+use Rattle.std.proofs.lemmas.Result.{MatchResult-weaker}
 use Rattle.std.specs.Prelude.{FitsSigned}
 use Rattle.std.specs.Int.{w64}
 use Rattle.rg_integers.specs.Range.{InRange}
@@ -76,14 +77,11 @@ returns-in-Err-renew_between-2-clause-renewed c =
     let f = rw (s, l) at (c.in-Err-renew_between-2.ensures {u = tt}).renewed in
     wide_high c.args.pivot.now c.args.row.now _ c.args.p _ _ m c.requires.after_constant f
 
-pub returns-in-Ok-evaluate-clause-renewed : goal.returns-in-Ok-evaluate-clause-renewed
-returns-in-Ok-evaluate-clause-renewed c =
+pub returns-clause-renewed : goal.returns-clause-renewed
+returns-clause-renewed c =
     let s = back (number_at c.args.pivot.now c.args.p) (c.requires.pivot_in_range c.args.p (omega arith)) in
     let l = back (number_at c.args.row.now c.args.p) (c.requires.in_range c.args.p c.requires.place) in
     let o = back (number_at c.args.row.now 0) (c.requires.in_range 0 (omega arith)) in
-    let k = back (number_at c.args.pivot.now 0) (c.requires.pivot_in_range 0 (omega arith)) in
-    let n = back c.negated-c.result c.negated-c.ensures.in_range in
-    let v = rw k at c.negated-c.ensures.value in
     let h = rw (o, s) at (c.in-Ok.ensures {u = tt}) in
     let fits : InRange c.in-Ok.z = subst InRange (sym h.1) h.0.difference in
     let z = back c.in-Ok.z fits in
@@ -92,36 +90,6 @@ returns-in-Ok-evaluate-clause-renewed c =
     let m = half c.args.pivot.now c.args.row.now _ _ c.args.p c.requires.after_constant c.requires.place b r in
     let r2 = rw (s, l) at (c.in-Ok-renew_between-2.ensures {u = tt}).renewed in
     let m2 = most c.args.pivot.now c.args.row.now _ _ c.args.p c.requires.after_constant c.requires.place m r2 in
-    let h2 = rw (s, n, l, v) at (c.in-Ok-evaluate.ensures {u = tt}) in
-    let fits2 : InRange c.in-Ok-evaluate.z = subst InRange (sym h2.1) h2.0.difference in
-    let z2 = back c.in-Ok-evaluate.z fits2 in
-    rw z2 (renewed c.args.pivot.now c.args.row.now _ c.args.p c.in-Ok-evaluate.z c.requires.after_constant c.requires.place m2 h2.0 h2.1)
-
-pub returns-in-Ok-evaluate-clause-in_range : goal.returns-in-Ok-evaluate-clause-in_range
-returns-in-Ok-evaluate-clause-in_range c =
-    let s = back (number_at c.args.pivot.now c.args.p) (c.requires.pivot_in_range c.args.p (omega arith)) in
-    let l = back (number_at c.args.row.now c.args.p) (c.requires.in_range c.args.p c.requires.place) in
-    let n = back c.negated-c.result c.negated-c.ensures.in_range in
-    let h2 = rw (s, n, l) at (c.in-Ok-evaluate.ensures {u = tt}) in
-    let fits2 : InRange c.in-Ok-evaluate.z = subst InRange (sym h2.1) h2.0.difference in
-    let z2 = back c.in-Ok-evaluate.z fits2 in
-    rw z2 (in_range-set c.renew_between-2.new.row c.args.p c.in-Ok-evaluate.z (c.in-Ok-renew_between-2.ensures {u = tt}).in_range fits2)
-
-pub returns-in-Err-evaluate-clause-renewed : goal.returns-in-Err-evaluate-clause-renewed
-returns-in-Err-evaluate-clause-renewed c =
-    let s = back (number_at c.args.pivot.now c.args.p) (c.requires.pivot_in_range c.args.p (omega arith)) in
-    let l = back (number_at c.args.row.now c.args.p) (c.requires.in_range c.args.p c.requires.place) in
-    let o = back (number_at c.args.row.now 0) (c.requires.in_range 0 (omega arith)) in
-    let k = back (number_at c.args.pivot.now 0) (c.requires.pivot_in_range 0 (omega arith)) in
-    let n = back c.negated-c.result c.negated-c.ensures.in_range in
-    let v = rw k at c.negated-c.ensures.value in
-    let h = rw (o, s) at (c.in-Ok.ensures {u = tt}) in
-    let fits : InRange c.in-Ok.z = subst InRange (sym h.1) h.0.difference in
-    let z = back c.in-Ok.z fits in
-    let b = begun c.args.pivot.now c.args.row.now c.args.p c.in-Ok.z (omega arith) h.0 h.1 in
-    let r = rw (z, s, l) at (c.in-Ok-renew_between.ensures {u = tt}).renewed in
-    let m = half c.args.pivot.now c.args.row.now _ _ c.args.p c.requires.after_constant c.requires.place b r in
-    let r2 = rw (s, l) at (c.in-Ok-renew_between-2.ensures {u = tt}).renewed in
-    let m2 = most c.args.pivot.now c.args.row.now _ _ c.args.p c.requires.after_constant c.requires.place m r2 in
-    let h2 = rw (s, n, l, v) at (c.in-Err-evaluate.ensures {u = tt}) in
-    wide_last c.args.pivot.now c.args.row.now _ c.args.p c.in-Err-evaluate.wide c.requires.after_constant c.requires.place m2 h2.0 h2.1
+    MatchResult-weaker c.renew_last.result c.renew_last.ensures.last
+    (λ _ t. renewed c.args.pivot.now c.args.row.now c.renew_between-2.new.row c.renew_last.new.row c.args.p c.requires.after_constant c.requires.place m2 c.renew_last.auto.row t.0 t.1 c.renew_last.ensures.others)
+    (λ e t. wide_last c.args.pivot.now c.args.row.now c.renew_between-2.new.row c.args.p e.at e.wide c.requires.after_constant c.requires.place m2 t.0 t.1 t.2)

@@ -31,7 +31,7 @@ invariant_of-self-2 c =
     let fits = table_fits c in
     let few : c.self.inside.columns + c.max-room.result < 2 ^ 32 = (let e = c.max-room.ensures in let f = c.self.invariant.few in let r = of_view c in omega arith) in
     let space : (c.self.inside.columns + c.max-room.result) * (c.self.inside.columns + 2) ≤ vec_capacity c.truncate.new.self = subst (λ n. (c.self.inside.columns + c.max-room.result) * n ≤ vec_capacity c.truncate.new.self) (width_is c) (let r = (c.in_ok-make_room.ensures {u = tt}).room in let e = c.truncate.ensures.capacity in omega arith) in
-    stored_fresh c.self.inside.columns c.max-room.result (vec_capacity c.truncate.new.self) _ c.truncate.new.self.items c.self.inside.pivot_row.items few (members_are c) fits.0 fits.1 space c.self.invariant.width
+    stored_fresh c.self.inside.columns c.max-room.result (vec_capacity c.truncate.new.self) (vec_capacity c.self.inside.named_places) _ c.truncate.new.self.items c.self.inside.pivot_row.items few (members_are c) fits.0 fits.1 space c.self.invariant.width c.self.invariant.places
 
 pub returns-clause-system : goal.returns-clause-system
 returns-clause-system c =
