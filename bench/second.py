@@ -3,7 +3,7 @@
 
     bench/second.py compare crates/regions/out/regions [SYSTEMS [SEED]]
     bench/second.py answer pure examples/side.apt
-    bench/second.py table [SYSTEMS [SEED]] > crates/rg_answer_tests/src/second.rt
+    bench/second.py table [SYSTEMS [SEED]] > crates/rg_acceptance/src/second.rt
 
 It is written from docs/algorithm.md and docs/formats.md alone: fractions of any size, a problem at a time, each kept place asked, each
 dictionary made anew. `compare` makes random systems (2,000 unless a number is named) of up to 6 states and 4 labels, runs the program with 1 and

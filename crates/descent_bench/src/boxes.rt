@@ -2,6 +2,7 @@
 
 ghost use Rattle.std.specs.Prelude.{◌≡◌, ◌+◌, ◌<◌, ◌^◌, All, length, IfOk};
 ghost use Rattle.rg_integers.specs.Range.{InRange};
+ghost use Rattle.rg_linear.specs.View.{linear_row};
 
 use crate::random::Generator;
 use rg_bounded_forms::Top;
@@ -51,8 +52,8 @@ fn strip(
     halves: &[i64],
     generator: &mut Generator,
 ) -> Result<Row, AllocError>
-    ensures one_each { IfOk result (λ row. length row.coeffs.items ≡ columns) }
-    ensures coeffs { IfOk result (λ row. All InRange row.coeffs.items) }
+    ensures one_each { IfOk result (λ row. length (linear_row row).coeffs ≡ columns) }
+    ensures coeffs { IfOk result (λ row. All InRange (linear_row row).coeffs) }
     ensures constant { IfOk result (λ row. InRange row.constant) }
 {
     let mut coeffs = Vec::new(alloc);
@@ -65,7 +66,7 @@ fn strip(
     }
     let least = twice.wrapping_neg().wrapping_add(1) >> 1;
     let constant = i128::from(least.wrapping_add(generator.up_to(2)));
-    Ok(Row { coeffs, constant })
+    Row::new(coeffs, constant)
 }
 
 // Row number `i`: first each column is at least 0, then each is at most the bound, and then come sums.
@@ -76,23 +77,17 @@ fn row(
     halves: &[i64],
     generator: &mut Generator,
 ) -> Result<Row, AllocError>
-    ensures one_each { IfOk result (λ row. length row.coeffs.items ≡ asked.columns) }
-    ensures coeffs { IfOk result (λ row. All InRange row.coeffs.items) }
+    ensures one_each { IfOk result (λ row. length (linear_row row).coeffs ≡ asked.columns) }
+    ensures coeffs { IfOk result (λ row. All InRange (linear_row row).coeffs) }
     ensures constant { IfOk result (λ row. InRange row.constant) }
 {
     if i < asked.columns {
         let coeffs = column(alloc, asked.columns, i, 1)?;
-        return Ok(Row {
-            coeffs,
-            constant: 0,
-        });
+        return Row::new(coeffs, 0);
     }
     if i - asked.columns < asked.columns {
         let coeffs = column(alloc, asked.columns, i - asked.columns, -1)?;
-        return Ok(Row {
-            coeffs,
-            constant: i128::from(asked.bound),
-        });
+        return Row::new(coeffs, i128::from(asked.bound));
     }
     strip(alloc, asked.columns, halves, generator)
 }

@@ -2,6 +2,7 @@
 
 ghost use Rattle.std.specs.Prelude.{◌≡◌, ◌+◌, ◌<◌, ◌^◌, All, length, IfOk};
 ghost use Rattle.rg_integers.specs.Range.{InRange};
+ghost use Rattle.rg_linear.specs.View.{linear_row};
 
 use rg_linear::{Row, System};
 use std::alloc::{AllocError, Global};
@@ -45,8 +46,8 @@ impl Generator {
 
 // A row of so many columns.
 fn row(alloc: Global, columns: u32, generator: &mut Generator) -> Result<Row, AllocError>
-    ensures one_each { IfOk result (λ row. length row.coeffs.items ≡ columns) }
-    ensures coeffs { IfOk result (λ row. All InRange row.coeffs.items) }
+    ensures one_each { IfOk result (λ row. length (linear_row row).coeffs ≡ columns) }
+    ensures coeffs { IfOk result (λ row. All InRange (linear_row row).coeffs) }
     ensures constant { IfOk result (λ row. InRange row.constant) }
 {
     let mut coeffs = Vec::new(alloc);
@@ -54,7 +55,7 @@ fn row(alloc: Global, columns: u32, generator: &mut Generator) -> Result<Row, Al
         coeffs.push(generator.coefficient())?;
     }
     let constant = generator.constant();
-    Ok(Row { coeffs, constant })
+    Row::new(coeffs, constant)
 }
 
 /// So many rows of so many columns: coefficients from -3 to 3, and constants from -5 to 5.

@@ -119,7 +119,7 @@ all_known system forms sum known few_forms few = record {
 -- ---- what the code has tested
 
 module _ (system : LinearSystem) (b : Bounded) (rows : List Row) (item : Row) (are : map linear_row rows ≡ system.rows) where
-  pub form_asked : b.row < length rows → item ≡ slice_index_or rows b.row item → length b.coeffs.items ≡ system.columns → pos 0 <ℤ b.scale → b.low ≤ℤ b.high → pos 0 ≤ℤ b.times → FitsSigned w128 b.scale → FitsSigned w128 b.times → InRange (b.scale *ℤ b.low) → InRange (b.scale *ℤ b.high) → All InRange b.coeffs.items → AreTimes b.coeffs.items b.times item.coeffs.items → IsFormOf system b
+  pub form_asked : b.row < length rows → item ≡ slice_index_or rows b.row item → length b.coeffs.items ≡ system.columns → pos 0 <ℤ b.scale → b.low ≤ℤ b.high → pos 0 ≤ℤ b.times → FitsSigned w128 b.scale → FitsSigned w128 b.times → InRange (b.scale *ℤ b.low) → InRange (b.scale *ℤ b.high) → All InRange b.coeffs.items → AreTimes b.coeffs.items b.times (linear_row item).coeffs → IsFormOf system b
   form_asked lt at size positive ordered not_negative scale times low high coeffs same = record {
     one_each = size;
     positive = positive;
@@ -147,7 +147,7 @@ module _ (system : LinearSystem) (b : Bounded) (rows : List Row) (item : Row) (a
         (subst (λ z. z ≤ℤ neg_ℤ (b.scale *ℤ b.low)) is_product (subst (λ z. product ≤ℤ neg_ℤ z) is_low least));
   }
 
-  pub top_asked : (row : ℕ) (times : ℤ) → row < length rows → item ≡ slice_index_or rows row item → IsWellFormed system → pos 0 <ℤ times → (high most : ℤ) → high ≡ b.scale *ℤ b.high → most ≡ times *ℤ high → item.constant ≤ℤ most → AreTimes item.coeffs.items (neg_ℤ times) b.coeffs.items → IsTop system b row times
+  pub top_asked : (row : ℕ) (times : ℤ) → row < length rows → item ≡ slice_index_or rows row item → IsWellFormed system → pos 0 <ℤ times → (high most : ℤ) → high ≡ b.scale *ℤ b.high → most ≡ times *ℤ high → item.constant ≤ℤ most → AreTimes (linear_row item).coeffs (neg_ℤ times) b.coeffs.items → IsTop system b row times
   top_asked row times lt at well positive high most is_high is_most constant same = record {
     within = below_rows system rows row are lt;
     positive = positive;
@@ -158,5 +158,5 @@ module _ (system : LinearSystem) (b : Bounded) (rows : List Row) (item : Row) (a
       is : linear_row item ≡ row_at system row
       is = item_is system rows row item are lt at
 
-      size : length item.coeffs.items ≡ system.columns
+      size : length (linear_row item).coeffs ≡ system.columns
       size = row_length system well rows row item are lt at

@@ -24,7 +24,7 @@ pub(crate) fn side_row(
 {
     let coeffs = side_coeffs(alloc, &form.coeffs, high)?;
     let constant = side_constant(form.scale, at, high);
-    Ok(Row { coeffs, constant })
+    Row::new(coeffs, constant)
 }
 
 // The coefficients on the high side, and their negatives on the low side.

@@ -21,11 +21,7 @@ fn side(
 ) -> Result<Vec<Row>, AllocError> {
     let mut copies = Vec::new(alloc);
     for row in rows {
-        let coeffs = row.coeffs.to_vec(alloc)?;
-        copies.push(Row {
-            coeffs,
-            constant: row.constant,
-        })?;
+        copies.push(row.clone()?)?;
     }
     let sign = if high { 1i128 } else { -1 };
     let mut coeffs = Vec::new(alloc);
@@ -40,7 +36,7 @@ fn side(
     let constant = sign
         .wrapping_mul(form.scale.wrapping_mul(end))
         .wrapping_neg();
-    copies.push(Row { coeffs, constant })?;
+    copies.push(Row::new(coeffs, constant)?)?;
     Ok(copies)
 }
 

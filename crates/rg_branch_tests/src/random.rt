@@ -48,14 +48,8 @@ impl Generator {
     ) -> Result<(), AllocError> {
         let sum = self.numbers(alloc, columns, 2)?;
         let least = i128::from(self.up_to(6)) - 3;
-        rows.push(Row {
-            coeffs: multiplied(alloc, &sum, 3)?,
-            constant: -least,
-        })?;
-        rows.push(Row {
-            coeffs: multiplied(alloc, &sum, -3)?,
-            constant: least + 1,
-        })?;
+        rows.push(Row::new(multiplied(alloc, &sum, 3)?, -least)?)?;
+        rows.push(Row::new(multiplied(alloc, &sum, -3)?, least + 1)?)?;
         Ok(())
     }
 
@@ -114,14 +108,10 @@ impl Generator {
             times: 1,
         })?;
         let above = multiplied(alloc, &coeffs, times.wrapping_neg())?;
-        asked.rows.push(Row {
-            coeffs,
-            constant: constant.checked_div_euclid(times).unwrap_or(constant),
-        })?;
-        asked.rows.push(Row {
-            coeffs: above,
-            constant: scale.wrapping_mul(i128::from(high)),
-        })?;
+        let least = constant.checked_div_euclid(times).unwrap_or(constant);
+        asked.rows.push(Row::new(coeffs, least)?)?;
+        let most = scale.wrapping_mul(i128::from(high));
+        asked.rows.push(Row::new(above, most)?)?;
         Ok(())
     }
 }

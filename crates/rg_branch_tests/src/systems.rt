@@ -1,6 +1,7 @@
 //! Systems and forms from tables of numbers.
 ghost use Rattle.std.specs.Prelude.{◌≡◌, ◌+◌, ◌<◌, ◌^◌, All, length, IfOk};
 ghost use Rattle.rg_integers.specs.Range.{InRange};
+ghost use Rattle.rg_linear.specs.View.{linear_row};
 
 use rg_branch::Bounded;
 use rg_linear::{Row, System};
@@ -40,18 +41,15 @@ fn coefficient(told: Told, j: u32) -> i128
 
 // A row of so many coefficients in range.
 fn row(alloc: Global, columns: u32, told: Told) -> Result<Row, AllocError>
-    ensures one_each { IfOk result (λ row. length row.coeffs.items ≡ columns) }
-    ensures coeffs { IfOk result (λ row. All InRange row.coeffs.items) }
+    ensures one_each { IfOk result (λ row. length (linear_row row).coeffs ≡ columns) }
+    ensures coeffs { IfOk result (λ row. All InRange (linear_row row).coeffs) }
     ensures constant { IfOk result (λ row. InRange row.constant) }
 {
     let mut coeffs = Vec::new(alloc);
     for j in 0..columns {
         coeffs.push(coefficient(told, j))?;
     }
-    Ok(Row {
-        coeffs,
-        constant: kept_in_range(told.constant),
-    })
+    Row::new(coeffs, kept_in_range(told.constant))
 }
 
 /// The system of these rows.

@@ -15,8 +15,8 @@ use Rattle.rg_feasible.specs.Settling.{with_rows}
 
 module _ (system : LinearSystem) (columns : ℕ) (rows : List Row) (i : ℕ) (item : Row) (well : IsWellFormed (linear_system columns rows)) (lt : i < length rows) (at : item ≡ slice_index_or rows i item) where
   -- one row more, as the code hands it on
-  pub row_pushed : with_row (with_rows system (take i (map linear_row rows))) item.coeffs.items (cast_signed w128 (cast_unsigned w128 item.constant)) ≡ with_rows system (take (i + 1) (map linear_row rows))
-  row_pushed = ap (with_row (with_rows system (take i (map linear_row rows))) item.coeffs.items) (back item.constant (constant_in_range (linear_system columns rows) well rows i item refl lt at))
+  pub row_pushed : with_row (with_rows system (take i (map linear_row rows))) (linear_row item).coeffs (cast_signed w128 (cast_unsigned w128 item.constant)) ≡ with_rows system (take (i + 1) (map linear_row rows))
+  row_pushed = ap (with_row (with_rows system (take i (map linear_row rows))) (linear_row item).coeffs) (back item.constant (constant_in_range (linear_system columns rows) well rows i item refl lt at))
       ∙ ap (λ (r : LinearRow). with_row (with_rows system (take i (map linear_row rows))) r.coeffs r.constant) (item_is (linear_system columns rows) rows i item refl lt at)
       ∙ (λ j. record { columns = system.columns; rows = (append_assoc system.rows (take i (map linear_row rows)) (row_at (linear_system columns rows) i ∷ []) ∙ ap (λ xs. system.rows ++ xs) (sym (take_more (map linear_row rows) i (record { coeffs = []; constant = pos 0 }) (below_rows (linear_system columns rows) rows i refl lt)))) j })
 

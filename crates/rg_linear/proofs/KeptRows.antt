@@ -25,10 +25,10 @@ module _ (system : LinearSystem) (well : IsWellFormed system) (rows : List Row) 
   below : i < length system.rows
   below = below_rows system rows i are lt
 
-  pub row_length : length item.coeffs.items ≡ system.columns
+  pub row_length : length (linear_row item).coeffs ≡ system.columns
   row_length = ap (λ (r : LinearRow). length r.coeffs) row_is ∙ well.one_each i below
 
-  pub row_in_range : (j : ℕ) → j < length item.coeffs.items → InRange (number_at item.coeffs.items j)
+  pub row_in_range : (j : ℕ) → j < length (linear_row item).coeffs → InRange (number_at (linear_row item).coeffs j)
   row_in_range j less = subst (λ (r : LinearRow). InRange (number_at r.coeffs j)) (sym row_is) (well.coeffs i j below (let e = row_length in omega arith))
 
   pub constant_in_range : InRange item.constant
@@ -40,7 +40,7 @@ pub record IsFine (columns : ℕ) (row : LinearRow) : Type 0 where
   pub coeffs : All InRange row.coeffs
   pub constant : InRange row.constant
 
-pub item_fine : (columns : ℕ) (rows : List Row) (i : ℕ) (item : Row) → i < length rows → item ≡ slice_index_or rows i item → length item.coeffs.items ≡ columns → All InRange item.coeffs.items → InRange item.constant → IsFine columns (row_at (linear_system columns rows) i)
+pub item_fine : (columns : ℕ) (rows : List Row) (i : ℕ) (item : Row) → i < length rows → item ≡ slice_index_or rows i item → length (linear_row item).coeffs ≡ columns → All InRange (linear_row item).coeffs → InRange item.constant → IsFine columns (row_at (linear_system columns rows) i)
 item_fine columns rows i item lt at size coeffs constant = subst (IsFine columns) (item_is (linear_system columns rows) rows i item refl lt at) (record { size = size; coeffs = coeffs; constant = constant })
 
 pub all_fine : (columns : ℕ) (rows : List Row) (n : ℕ) → columns + length rows < 2 ^ 32 → length rows ≤ n → ((i : ℕ) → i < n → IsFine columns (row_at (linear_system columns rows) i)) → IsWellFormed (linear_system columns rows)

@@ -1,16 +1,28 @@
 //! Systems of linear rows.
 
-ghost use Rattle.std.specs.Prelude.{◌≡◌, map};
+ghost use Rattle.std.specs.Prelude.{◌≡◌, map, IfOk};
 ghost use Rattle.rg_linear.specs.View.{linear_row, linear_system, IsWellFormed};
 
+use std::alloc::AllocError;
 use std::marker::Model;
+use std::sync::ArcSlice;
 
 /// A row: the sum of the columns, each times its coefficient, and the constant is at least 0. There is one
-/// coefficient for each column.
-#[derive(PartialEq, Eq, Debug, Drop)]
+/// coefficient for each column. Clones of a row share its coefficients.
+#[derive(Clone, PartialEq, Eq, Debug, Drop)]
 pub struct Row {
-    pub coeffs: Vec<i128>,
+    pub coeffs: ArcSlice<i128>,
     pub constant: i128,
+}
+
+impl Row {
+    /// The row of these coefficients and this constant. `AllocError` where there is no memory.
+    pub fn new(coeffs: Vec<i128>, constant: i128) -> Result<Row, AllocError>
+        ensures { IfOk result (λ row. linear_row row ≡ record { coeffs = coeffs.items; constant = constant }) }
+    {
+        let coeffs = ArcSlice::from_vec(coeffs)?;
+        Ok(Row { coeffs, constant })
+    }
 }
 
 /// A number of columns and rows over them. Columns and rows together are fewer than 2^32, and every number

@@ -34,10 +34,7 @@ fn rows<const N: usize>(alloc: Global, rows: &[([i128; N], i128)]) -> Result<Vec
     let mut list = Vec::new(alloc);
     for (coeffs, constant) in rows {
         let coeffs = coeffs.to_vec(alloc)?;
-        list.push(Row {
-            coeffs,
-            constant: *constant,
-        })?;
+        list.push(Row::new(coeffs, *constant)?)?;
     }
     Ok(list)
 }

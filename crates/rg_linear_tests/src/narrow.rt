@@ -123,10 +123,7 @@ fn listed(alloc: Global, told: &[Told]) -> Result<Vec<Row>, AllocError> {
     let mut rows = Vec::new(alloc);
     for (coeffs, constant) in told {
         let coeffs = Vec::from_slice(alloc, coeffs)?;
-        rows.push(Row {
-            coeffs,
-            constant: *constant,
-        })?;
+        rows.push(Row::new(coeffs, *constant)?)?;
     }
     Ok(rows)
 }

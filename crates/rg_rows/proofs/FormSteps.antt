@@ -2,6 +2,7 @@
 use Rattle.std.proofs.Common.{◌≡◌, ℕ, max, ◌+◌, ◌<◌, ◌≤◌, ◌&&◌, not, is_some, Bool, true, false, if◌then◌else◌, Some, None, List, [], ◌∷◌, ◌++◌, map, drop, length, Result, Ok, Err, All, ap, refl, subst, sym, ◌∙◌, arith, inl, append_assoc}
 use Rattle.std.specs.Prelude.{pos, ◌*ℤ◌, ◌<ℤ◌, slice_index_or}
 use Rattle.std.proofs.lemmas.List.{append-nil, drop_all, get_or-map, length-map}
+use Rattle.std.specs.Arc.{arc_slice_items}
 use Rattle.rg_theory.specs.declared.Arc.{Arc}
 use Rattle.rg_theory.specs.declared.Class.{Class}
 use Rattle.rg_theory.specs.declared.Problem.{Problem}
@@ -153,10 +154,10 @@ module _ (lts : System) (tree : List Arc) (basis : CycleBasis) (class : Class) (
       row_is : fold_of lts tree basis class problem number name (Ok (kept_row row)) × ((kept_row row).name ≡ name)
       row_is = row_at_place lts tree basis class problem number (map row_name_of names) (map kept_row rows) i name (kept_row row) made (subst (λ n. i < n) (sym (length-map names row_name_of)) lt) (get_or-map row_name_of names i d name lt) (get_or-map kept_row rows i row (kept_row row) lt' ∙ ap kept_row (sym is_row))
 
-      pub step_times : (s : Scaled) → terms_fold lts tree basis class e.terms (Ok s) → (t : ℕ) × (0 < t) × (s.numbers ≡ map (λ z. pos t *ℤ z) row.coeffs.items)
+      pub step_times : (s : Scaled) → terms_fold lts tree basis class e.terms (Ok s) → (t : ℕ) × (0 < t) × (s.numbers ≡ map (λ z. pos t *ℤ z) (arc_slice_items row.coeffs))
       step_times s h = times_row lts tree basis class problem number (form_of form) e is_split s (kept_row row) h (subst (λ n. fold_of lts tree basis class problem number n (Ok (kept_row row))) named row_is.0)
 
-      pub step_made : (columns : ℕ) (places : List ℕ) (f : NamedForm) → f.form ≡ form → IsPartOf f row.coeffs.items (slice_index_or places i 0) → (f.low ≡ form_low class) × (f.high ≡ form_high class) → length f.coeffs.items ≡ columns → pos 0 <ℤ f.scale → InRange f.scale → All InRange f.coeffs.items → InRange f.times → IsMade class columns (map kept_row rows) places f
+      pub step_made : (columns : ℕ) (places : List ℕ) (f : NamedForm) → f.form ≡ form → IsPartOf f (arc_slice_items row.coeffs) (slice_index_or places i 0) → (f.low ≡ form_low class) × (f.high ≡ form_high class) → length f.coeffs.items ≡ columns → pos 0 <ℤ f.scale → InRange f.scale → All InRange f.coeffs.items → InRange f.times → IsMade class columns (map kept_row rows) places f
       step_made columns places f same part bounds one_each positive scale coeffs times = record {
         number = i;
         row = kept_row row;

@@ -3,6 +3,7 @@ use Rattle.std.proofs.Common.{◌≡◌, ℕ, zero, suc, ◌<◌, is_some, Bool,
 use Rattle.std.specs.Prelude.{slice_get, slice_index_or, IfOk, IfSome, IsErrOf}
 use Rattle.std.specs.Slice.{IsGetResult}
 use Rattle.std.proofs.lemmas.List.{get_or-map}
+use Rattle.std.specs.Arc.{arc_slice_items}
 use Rattle.rg_theory.specs.declared.Arc.{Arc}
 use Rattle.rg_theory.specs.declared.Class.{Class}
 use Rattle.rg_theory.specs.declared.Problem.{Problem}
@@ -73,12 +74,12 @@ terms_within lts class kind.Makes i lt = absurd (omega arith)
 module _ (lts : System) (tree : List Arc) (basis : CycleBasis) (class : Class) (name : RowName) (e : Expression) (is : e ≡ shared_expression lts class [] name) (n : ℕ) (same : labels lts ≡ n) (columns : Columns) (are : AreColumns lts class columns) where
   pub row_shared : (result : Result CaseRow FoldStop) (w : Result CaseRow Wide) → result ≡ or_wide w
       → IfOk result (λ r. (lts : System) (class : Class) → labels lts ≡ n → AreColumns lts class columns → row_fold lts tree basis class name e (Ok (kept_row r)))
-      → IfOk result (λ r. (lts : System) (class : Class) → labels lts ≡ n → AreColumns lts class columns → length r.coeffs.items ≡ column_count lts basis class)
+      → IfOk result (λ r. (lts : System) (class : Class) → labels lts ≡ n → AreColumns lts class columns → length (arc_slice_items r.coeffs) ≡ column_count lts basis class)
       → ((x : Wide) → IsErrOf result (stop.Wide x) → (lts : System) (class : Class) → labels lts ≡ n → AreColumns lts class columns → row_fold lts tree basis class name e (Err x))
       → IsSharedRow lts tree basis class name w
   row_shared result (Ok r) so value one_each wide = (
     subst (λ x. row_fold lts tree basis class name x (Ok (kept_row r))) is (subst (λ y. IfOk y (λ r. (lts : System) (class : Class) → labels lts ≡ n → AreColumns lts class columns → row_fold lts tree basis class name e (Ok (kept_row r)))) so value lts class same are),
-    subst (λ y. IfOk y (λ r. (lts : System) (class : Class) → labels lts ≡ n → AreColumns lts class columns → length r.coeffs.items ≡ column_count lts basis class)) so one_each lts class same are,
+    subst (λ y. IfOk y (λ r. (lts : System) (class : Class) → labels lts ≡ n → AreColumns lts class columns → length (arc_slice_items r.coeffs) ≡ column_count lts basis class)) so one_each lts class same are,
   )
   row_shared result (Err x) so value one_each wide = (subst (λ y. row_fold lts tree basis class name y (Err x)) is (wide x so lts class same are), tt)
 

@@ -1,5 +1,6 @@
 -- The rows and forms that all problems of a system and a class share.
 use Rattle.std.specs.Prelude.{◌≡◌, ℕ, ◌&&◌, not, is_some, if◌then◌else◌, List, [], length, Some, slice_get, Result, Ok, Err, IfOk}
+use Rattle.std.specs.Arc.{arc_slice_items}
 use Rattle.rg_theory.specs.declared.Arc.{Arc}
 use Rattle.rg_theory.specs.declared.Class.{Class}
 use Rattle.rg_theory.specs.declared.Problem.{Problem}
@@ -57,7 +58,7 @@ forms_of_kind lts class kind.Makes = 0
 abbrev pub IsSharedRow : System → List Arc → CycleBasis → Class → RowName → Result CaseRow Wide → Type 0
 IsSharedRow lts tree basis class name written =
     row_fold lts tree basis class name (shared_expression lts class [] name) (shown_result kept_row written)
-    × IfOk written (λ r. length r.coeffs.items ≡ column_count lts basis class)
+    × IfOk written (λ r. length (arc_slice_items r.coeffs) ≡ column_count lts basis class)
 
 -- the terms of the row without denominators, or the first step of theirs
 abbrev pub AreSharedTerms : System → List Arc → CycleBasis → Class → RowName → Result Scaled Wide → Type 0
@@ -91,7 +92,7 @@ pub record IsCommonOf (lts : System) (tree : List Arc) (basis : CycleBasis) (cla
 abbrev pub IsRowInCase : System → List Arc → CycleBasis → Class → Problem → ℕ → RowName → Result CaseRow Wide → Type 0
 IsRowInCase lts tree basis class problem number name written =
     fold_of lts tree basis class problem number name (shown_result kept_row written)
-    × IfOk written (λ r. length r.coeffs.items ≡ column_count lts basis class)
+    × IfOk written (λ r. length (arc_slice_items r.coeffs) ≡ column_count lts basis class)
 
 -- its terms without denominators, or the first step of theirs
 abbrev pub AreTermsInCase : System → List Arc → CycleBasis → Class → Problem → ℕ → RowName → Result Scaled Wide → Type 0

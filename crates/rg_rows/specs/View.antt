@@ -1,5 +1,6 @@
 -- How what the code keeps is seen.
 use Rattle.std.specs.Prelude.{◌≡◌, ℕ, ◌==◌, ◌&&◌, not, Bool, false, List, [], ◌∷◌, ◌++◌, ℤ, length, map, All, Some, Result, slice_get, slice_index_or}
+use Rattle.std.specs.Arc.{arc_slice_items}
 use Rattle.rg_theory.specs.declared.Arc.{Arc}
 use Rattle.rg_theory.specs.declared.Class.{Class}
 use Rattle.rg_theory.specs.System.{System, states}
@@ -32,7 +33,7 @@ numbers_of row = row.coeffs ++ row.constant ∷ []
 
 -- a row with its name and its factor
 abbrev pub kept_row : CaseRow → KeptRow
-kept_row r = record { name = row_name_of r.name; row = record { coeffs = r.coeffs.items; constant = r.constant }; factor = ratio_of r.factor }
+kept_row r = record { name = row_name_of r.name; row = record { coeffs = arc_slice_items r.coeffs; constant = r.constant }; factor = ratio_of r.factor }
 
 -- the row that a case holds
 abbrev pub row_in : HeldRow → CaseRow

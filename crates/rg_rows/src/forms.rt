@@ -1,5 +1,6 @@
 //! The forms of a case.
 ghost use Rattle.std.specs.Prelude.{◌≡◌, ◌⊎◌, ℕ, ◌<◌, [], length, map, All, ℤ, pos, ◌*ℤ◌, Ok, Err, option_map, IfOk, IsErrOf};
+ghost use Rattle.std.specs.Arc.{arc_slice_items};
 ghost use Rattle.rg_integers.specs.Range.{InRange};
 ghost use Rattle.rg_theory.specs.System.{states, labels};
 ghost use Rattle.rg_fraction.specs.declared.term.Wide.{Wide};
@@ -118,11 +119,11 @@ fn form_named(class: Class, name: RowName) -> Option<Form>
 
 // The form with these numbers, of which those of the row are a part.
 fn form_over(class: Class, form: Form, scaled: Scaled, row: &CaseRow, place: u32) -> NamedForm
-    requires { (d : ℕ) × (0 < d) × (scaled.numbers.items ≡ map (λ z. pos d *ℤ z) row.now.coeffs.items) }
+    requires { (d : ℕ) × (0 < d) × (scaled.numbers.items ≡ map (λ z. pos d *ℤ z) (arc_slice_items row.now.coeffs)) }
     ensures form { result.form ≡ form }
     ensures numbers { (result.scale ≡ scaled.multiple) × (result.coeffs.items ≡ scaled.numbers.items) }
     ensures bounds { (result.low ≡ form_low class) × (result.high ≡ form_high class) }
-    ensures row { IsPartOf result row.now.coeffs.items place }
+    ensures row { IsPartOf result (arc_slice_items row.now.coeffs) place }
     ensures in_range { InRange result.times }
 {
     let times = times(&scaled.numbers, &row.coeffs);

@@ -1,5 +1,6 @@
 //! A row of a case, its own or one that all problems share.
 ghost use Rattle.std.specs.Prelude.{◌≡◌, [], length, map, All, Ok, Err, IfOk, IsErrOf};
+ghost use Rattle.std.specs.Arc.{arc_slice_items};
 ghost use Rattle.rg_theory.specs.System.{states, labels};
 ghost use Rattle.rg_fraction.specs.declared.term.Wide.{Wide};
 ghost use Rattle.rg_fraction.specs.declared.fold_stop.FoldStop.TheVariants as stop;
@@ -56,7 +57,7 @@ pub(crate) fn row_in_case<'a>(
     requires common { IsCommonOf lts.now tree.now.arcs (cycle_of basis.now) case.class common.now }
     requires within { All (TermNamesStateBelow (states lts.now)) (row_expression lts.now case.class case.problem case.number [] (row_name_of name)).terms }
     ensures value { IfOk result (λ r. fold_of lts.now tree.now.arcs (cycle_of basis.now) case.class case.problem case.number (row_name_of name) (Ok (kept_row (row_in r)))) }
-    ensures one_each { IfOk result (λ r. length (row_in r).coeffs.items ≡ column_count lts.now (cycle_of basis.now) case.class) }
+    ensures one_each { IfOk result (λ r. length (arc_slice_items (row_in r).coeffs) ≡ column_count lts.now (cycle_of basis.now) case.class) }
     ensures wide { (w : Wide) → IsErrOf result (stop.Wide w) → fold_of lts.now tree.now.arcs (cycle_of basis.now) case.class case.problem case.number (row_name_of name) (Err w) }
 {
     match common.row(name) {

@@ -41,7 +41,7 @@ pub(crate) fn firsts(alloc: Global, all: &[HeldRow<'_>]) -> Result<(CaseRows, Ve
         }
         let (place, is_new) = seen.insert_full(row.numbers.as_slice())?;
         if is_new {
-            kept.push(alloc, row)?;
+            kept.push(row)?;
         }
         places.push(place as u32)?;
     }
@@ -50,10 +50,10 @@ pub(crate) fn firsts(alloc: Global, all: &[HeldRow<'_>]) -> Result<(CaseRows, Ve
 
 impl CaseRows {
     // Adds a row.
-    fn push(&mut self, alloc: Global, row: &CaseRow) -> Result<(), AllocError>
+    fn push(&mut self, row: &CaseRow) -> Result<(), AllocError>
         ensures { OnOk result ((kept : List KeptRow) → ShowsRows self.old kept → ShowsRows self.new (kept ++ kept_row row.now ∷ [])) }
     {
-        let coeffs = row.coeffs.to_vec(alloc)?;
+        let coeffs = row.coeffs.clone()?;
         self.rows.push(Row {
             coeffs,
             constant: row.constant,

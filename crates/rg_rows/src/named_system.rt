@@ -1,5 +1,6 @@
 //! The system of a case.
 ghost use Rattle.std.specs.Prelude.{◌≡◌, ◌<◌, length, All, map, Ok, Err, IfOk, IsErrOf};
+ghost use Rattle.std.specs.Arc.{arc_slice_items};
 ghost use Rattle.rg_theory.specs.ClassWords.{HasBoundInRange};
 ghost use Rattle.rg_theory.specs.System.{labels, IsAllReachable};
 ghost use Rattle.rg_fraction.specs.declared.term.Wide.{Wide};
@@ -139,7 +140,7 @@ fn rows<'a>(
     requires common { IsCommonOf lts.now tree.now.arcs (cycle_of basis.now) case.class common.now }
     requires names { AreNamesWithin lts.now case.class case.problem case.number (map row_name_of names.now) }
     ensures value { IfOk result (λ v. each (fold_of lts.now tree.now.arcs (cycle_of basis.now) case.class case.problem case.number) (map row_name_of names.now) (Ok (map kept_row (map row_in v.items)))) }
-    ensures one_each { IfOk result (λ v. All (λ r. length r.coeffs.items ≡ column_count lts.now (cycle_of basis.now) case.class) (map row_in v.items)) }
+    ensures one_each { IfOk result (λ v. All (λ r. length (arc_slice_items r.coeffs) ≡ column_count lts.now (cycle_of basis.now) case.class) (map row_in v.items)) }
     ensures few { IfOk result (λ v. length v.items ≡ length names.now) }
     ensures wide { (w : Wide) → IsErrOf result (stop.Wide w) → each (fold_of lts.now tree.now.arcs (cycle_of basis.now) case.class case.problem case.number) (map row_name_of names.now) (Err w) }
 {

@@ -1,5 +1,6 @@
 //! A named row, written over the columns.
 ghost use Rattle.std.specs.Prelude.{◌≡◌, ◌≤◌, ℕ, ◌<◌, ◌<ℤ◌, pos, ◌≤ℤ◌, map, length, All, ◌++◌, ◌∷◌, [], Ok, Err, IfOk, IsErrOf, unsigned_abs};
+ghost use Rattle.std.specs.Arc.{arc_slice_items};
 ghost use Rattle.rg_integers.specs.Range.{InRange};
 ghost use Rattle.rg_theory.specs.declared.Class.{Class};
 ghost use Rattle.rg_theory.specs.System.{System, labels};
@@ -26,6 +27,7 @@ use rg_fraction::{FoldStop, Fraction, reduce, row_gcd};
 use rg_reasons::{Expression, RowName};
 use rg_spanning::Tree;
 use std::alloc::{AllocError, Global};
+use std::sync::ArcSlice;
 
 // The named row, whose expression this is.
 pub(crate) fn row(
@@ -40,7 +42,7 @@ pub(crate) fn row(
     requires columns { length columns.now.used.items ≡ labels_of basis.now }
     requires within { All (TermNamesStateBelow tree.now.states) (expression_of expression.now).terms }
     ensures value { IfOk result (λ r. (lts : System) (class : Class) → labels lts ≡ labels_of basis.now → AreColumns lts class columns.now → row_fold lts tree.now.arcs (cycle_of basis.now) class (row_name_of name) (expression_of expression.now) (Ok (kept_row r))) }
-    ensures one_each { IfOk result (λ r. (lts : System) (class : Class) → labels lts ≡ labels_of basis.now → AreColumns lts class columns.now → length r.coeffs.items ≡ column_count lts (cycle_of basis.now) class) }
+    ensures one_each { IfOk result (λ r. (lts : System) (class : Class) → labels lts ≡ labels_of basis.now → AreColumns lts class columns.now → length (arc_slice_items r.coeffs) ≡ column_count lts (cycle_of basis.now) class) }
     ensures wide { (w : Wide) → IsErrOf result (stop.Wide w) → (lts : System) (class : Class) → labels lts ≡ labels_of basis.now → AreColumns lts class columns.now → row_fold lts tree.now.arcs (cycle_of basis.now) class (row_name_of name) (expression_of expression.now) (Err w) }
 {
     let scaled = over_columns(alloc, tree, basis, columns, expression)?;
@@ -80,7 +82,7 @@ fn divided(
 ) -> Result<CaseRow, FoldStop>
     requires { InRange constant }
     ensures value { IfOk result (λ r. (r.name ≡ name) × IsDivided (scaled_of scaled) constant (kept_row r)) }
-    ensures one_each { IfOk result (λ r. length r.coeffs.items ≡ length scaled.numbers.items) }
+    ensures one_each { IfOk result (λ r. length (arc_slice_items r.coeffs) ≡ length scaled.numbers.items) }
     ensures wide { (w : Wide) → IsErrOf result (stop.Wide w) → ⊥ }
 {
     let multiple = scaled.multiple;
@@ -99,12 +101,12 @@ fn divided(
 }
 
 // All numbers but the last, and the last.
-fn parted(alloc: Global, numbers: &[i128]) -> Result<(Vec<i128>, i128), AllocError>
+fn parted(alloc: Global, numbers: &[i128]) -> Result<(ArcSlice<i128>, i128), AllocError>
     requires { 0 < length numbers.now }
-    ensures { IfOk result (λ r. r.0.items ++ r.1 ∷ [] ≡ numbers.now) }
+    ensures { IfOk result (λ r. arc_slice_items r.0 ++ r.1 ∷ [] ≡ numbers.now) }
 {
     match numbers.split_last() {
-        Some((last, coeffs)) => Ok((coeffs.to_vec(alloc)?, *last)),
-        None => Ok((Vec::new(alloc), 0)),
+        Some((last, coeffs)) => Ok((ArcSlice::from_slice(alloc, coeffs)?, *last)),
+        None => unreachable!(),
     }
 }

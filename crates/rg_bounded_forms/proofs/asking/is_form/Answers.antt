@@ -3,6 +3,7 @@ use Rattle.std.specs.Prelude.{pos, ◌*ℤ◌, ◌≤ℤ◌, ◌<ℤ◌, All, Fi
 use Rattle.std.specs.Int.{w128}
 use Rattle.rg_integers.specs.Range.{InRange}
 use Rattle.rg_integers.proofs.Casts.{casts}
+use Rattle.rg_linear.specs.View.{linear_row}
 use Rattle.rg_bounded_forms.specs.Bounds.{AreTimes}
 use Rattle.rg_bounded_forms.proofs.Bounding.{form_asked}
 use Rattle.rg_bounded_forms.proofs.asking.is_form.Goals as goal
@@ -19,5 +20,5 @@ returns-then-is_in_range c = λ e.
     let low : InRange (c.args.form.now.scale *ℤ c.args.form.now.low) = search (rules, casts) in
     let high : InRange (c.args.form.now.scale *ℤ c.args.form.now.high) = search (rules, casts) in
     let coeffs : All InRange c.args.form.now.coeffs.items = search rules in
-    let are : AreTimes c.args.form.now.coeffs.items c.args.form.now.times c.index-rows-form.result.coeffs.items = search (rules, casts) in
+    let are : AreTimes c.args.form.now.coeffs.items c.args.form.now.times (linear_row c.index-rows-form.result).coeffs = search (rules, casts) in
     form_asked c.args.system.now c.args.form.now c.rows-rows.result.now c.index-rows-form.result c.rows-rows.ensures.value lt c.index-rows-form.is size positive ordered not_negative scale times low high coeffs are

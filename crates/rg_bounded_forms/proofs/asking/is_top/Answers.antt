@@ -1,6 +1,7 @@
 use Rattle.std.proofs.Common.{rules, ◌≡◌, ◌<◌, length}
 use Rattle.std.specs.Prelude.{pos, ◌*ℤ◌, ◌≤ℤ◌, ◌<ℤ◌, neg_ℤ}
 use Rattle.rg_integers.proofs.Casts.{casts}
+use Rattle.rg_linear.specs.View.{linear_row}
 use Rattle.rg_bounded_forms.specs.Bounds.{AreTimes}
 use Rattle.rg_bounded_forms.proofs.Bounding.{top_asked}
 use Rattle.rg_bounded_forms.proofs.asking.is_top.Goals as goal
@@ -12,5 +13,5 @@ returns-then-row-most c = λ e.
     let high : c.in-Some.high ≡ c.args.form.now.scale *ℤ c.args.form.now.high = search (rules, casts) in
     let most : c.in-Ok.most ≡ c.args.top.times *ℤ c.in-Some.high = search (rules, casts) in
     let constant : c.index-rows-top.result.constant ≤ℤ c.in-Ok.most = search (rules, casts) in
-    let are : AreTimes c.index-rows-top.result.coeffs.items (neg_ℤ c.args.top.times) c.args.form.now.coeffs.items = search (rules, casts) in
+    let are : AreTimes (linear_row c.index-rows-top.result).coeffs (neg_ℤ c.args.top.times) c.args.form.now.coeffs.items = search (rules, casts) in
     top_asked c.args.system.now c.args.form.now c.rows-rows.result.now c.index-rows-top.result c.rows-rows.ensures.value c.args.top.row c.args.top.times lt c.index-rows-top.is c.rows-rows.ensures.well_formed positive c.in-Some.high c.in-Ok.most high most constant are

@@ -1,5 +1,6 @@
 use Rattle.std.proofs.Common.{rules, ◌≡◌, Ok, Err, length, ap, subst, sym}
 use Rattle.std.specs.Prelude.{IfOk}
+use Rattle.std.specs.Arc.{arc_slice_items}
 use Rattle.rg_fraction.specs.declared.fold_stop.FoldStop.TheVariants as stop
 use Rattle.rg_order_of_work.specs.Fold.{shown_result}
 use Rattle.rg_order_of_work.specs.Rewriting.{column_count, row_fold}
@@ -25,8 +26,8 @@ returns-in-Some-Ok-clause-one_each c =
     let basis = cycle_of c.args.basis.now in
     let case = c.args.case in
     let (told, one_each) = c.in-Some-Ok.ensures lts c.args.tree.now.arcs basis case.class case.problem case.number c.requires.common in
-    subst (λ (r : CaseRow). length r.coeffs.items ≡ column_count lts basis case.class) (sym c.in-Some-Ok.row-is)
-    (subst (λ w. IfOk w (λ (r : CaseRow). length r.coeffs.items ≡ column_count lts basis case.class)) c.in-Some-Ok.field-0-is one_each)
+    subst (λ (r : CaseRow). length (arc_slice_items r.coeffs) ≡ column_count lts basis case.class) (sym c.in-Some-Ok.row-is)
+    (subst (λ w. IfOk w (λ (r : CaseRow). length (arc_slice_items r.coeffs) ≡ column_count lts basis case.class)) c.in-Some-Ok.field-0-is one_each)
 
 pub returns-in-Some-Err-clause-wide : goal.returns-in-Some-Err-clause-wide
 returns-in-Some-Err-clause-wide c = λ w e.

@@ -1,6 +1,7 @@
 use Rattle.std.proofs.Common.{rules, ◌≡◌, ◌+◌, [], ◌∷◌, All, Ok, Err, map, length, ap, refl, subst, sym, ◌∙◌}
 use Rattle.std.proofs.lemmas.List.{length-map, length-append}
 use Rattle.std.proofs.lemmas.List.Elements.{All-nil, All-cons, All-append}
+use Rattle.std.specs.Arc.{arc_slice_items}
 use Rattle.rg_theory.specs.System.{states}
 use Rattle.rg_order_of_work.specs.Rewriting.{column_count}
 use Rattle.rg_refuting.specs.Row.{RowName.block_row}
@@ -30,7 +31,7 @@ loop-name-preserved c =
     let rows = c.loop-name.rows.items in
     let held = c.in_ok-row_in_case.field-0 in
     let row = row_in held in
-    let lengths = λ (r : CaseRow). length r.coeffs.items ≡ column_count c.args.lts.now (cycle_of c.args.basis.now) c.args.case.class in
+    let lengths = λ (r : CaseRow). length (arc_slice_items r.coeffs) ≡ column_count c.args.lts.now (cycle_of c.args.basis.now) c.args.case.class in
     let same = map_push row_in rows c.push.new.self.items held c.in_ok-push.ensures.items in
     let made = fold_told c.args.lts.now c.args.tree.now.arcs (cycle_of c.args.basis.now) c.args.case.class c.args.case.problem c.args.case.number c.args.names.now c.loop-name.name-index _ c.loop-name-test.true (Ok (kept_row row)) c.in_ok-row_in_case.ensures.value in
     record {

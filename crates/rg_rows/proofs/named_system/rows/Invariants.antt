@@ -1,4 +1,5 @@
 use Rattle.std.proofs.Common.{◌≡◌, map, drop, length, List, Result, All}
+use Rattle.std.specs.Arc.{arc_slice_items}
 use Rattle.rg_fraction.specs.declared.term.Wide.{Wide}
 use Rattle.rg_order_of_work.specs.Fold.{each}
 use Rattle.rg_order_of_work.specs.Rewriting.{KeptRow, column_count}
@@ -13,6 +14,6 @@ invariant-loop-name l = record {
   so_far : (r : Result (List KeptRow) Wide)
       → each (fold_of l.lts l.tree.arcs (cycle_of l.basis) l.case.class l.case.problem l.case.number) (drop l.name-index (map row_name_of l.names)) r
       → each (fold_of l.lts l.tree.arcs (cycle_of l.basis) l.case.class l.case.problem l.case.number) (map row_name_of l.names) (behind (map kept_row (map row_in l.rows.items)) r);
-  one_each : All (λ r. length r.coeffs.items ≡ column_count l.lts (cycle_of l.basis) l.case.class) (map row_in l.rows.items);
+  one_each : All (λ r. length (arc_slice_items r.coeffs) ≡ column_count l.lts (cycle_of l.basis) l.case.class) (map row_in l.rows.items);
   few : length l.rows.items ≡ l.name-index;
 }

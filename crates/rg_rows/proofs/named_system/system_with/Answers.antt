@@ -1,4 +1,5 @@
 use Rattle.std.proofs.Common.{rules, ◌≡◌, ◌+◌, ◌*◌, ◌^◌, ◌<◌, ◌≤◌, [], All, List, map, length, Ok, Err, ap, refl, subst, sym, ◌∙◌, arith}
+use Rattle.std.specs.Arc.{arc_slice_items}
 use Rattle.std.proofs.lemmas.List.{length-map}
 use Rattle.rg_theory.specs.System.{states, labels}
 use Rattle.rg_fraction.specs.declared.fold_stop.FoldStop.TheVariants as stop
@@ -87,7 +88,7 @@ new-requires c =
     let few : c.count.result + length all < 2 ^ 32 = omega arith in
     well_formed c.count.result all c.in_ok-kept.kept.rows.items kept shows.rows
     (subst (λ l. KeepsFirsts (λ k. k.row) IsIdle [] (map kept_row (map row_in l)) kept) c.deref-2.ensures.value firsts)
-    (subst (λ n. All (λ r. length r.coeffs.items ≡ n) all) (sym columns) c.in_ok-all.ensures.one_each)
+    (subst (λ n. All (λ r. length (arc_slice_items r.coeffs) ≡ n) all) (sym columns) c.in_ok-all.ensures.one_each)
     few
 
 pub returns-clause-system : goal.returns-clause-system

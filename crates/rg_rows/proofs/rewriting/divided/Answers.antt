@@ -1,5 +1,6 @@
 use Rattle.std.proofs.Common.{◌≡◌, ◌<◌, ◌^◌, ◌++◌, ◌∷◌, [], length, max, ap, refl, subst, sym, ◌∙◌, arith}
 use Rattle.std.specs.Prelude.{pos, ◌<ℤ◌, unsigned_abs}
+use Rattle.std.specs.Arc.{arc_slice_items}
 use Rattle.std.specs.Int.{w128, cast_signed, cast_unsigned, int_max}
 use Rattle.std.proofs.lemmas.Int.{ints}
 use Rattle.rg_integers.specs.Range.{InRange}
@@ -19,7 +20,7 @@ invariant_of-result c =
     let (g, part) = c.reduce.ensures.part in
     let whole : c.push.new.self.len ≡ length old = omega arith in
     let given = c.deref_mut.ensures.value in
-    let coeffs_are = c.in_ok-coeffs.coeffs.items in
+    let coeffs_are = arc_slice_items c.in_ok-coeffs.coeffs in
     let constant_is = c.in_ok-coeffs.constant in
     let parted = c.in_ok-coeffs.ensures ∙ c.deref-2.ensures.value ∙ written_back new old c.push.new.self.len (part.same_length ∙ ap length given) whole in
     let (coeffs, constant) = parts_in_range coeffs_are constant_is new (length c.deref_mut.result.now) parted part.same_length c.reduce.ensures.in_range in
@@ -34,7 +35,7 @@ returns-clause-value c =
     let whole : c.push.new.self.len ≡ length old = omega arith in
     let given = c.deref_mut.ensures.value in
     let items : old ≡ numbers ++ c.args.constant ∷ [] = c.in_ok-push.ensures.items ∙ ap (λ z. numbers ++ z ∷ []) (back c.args.constant c.requires) in
-    let coeffs_are = c.in_ok-coeffs.coeffs.items in
+    let coeffs_are = arc_slice_items c.in_ok-coeffs.coeffs in
     let constant_is = c.in_ok-coeffs.constant in
     let parted = c.in_ok-coeffs.ensures ∙ c.deref-2.ensures.value ∙ written_back new old c.push.new.self.len (part.same_length ∙ ap length given) whole in
     let (coeffs, constant) = parts_in_range coeffs_are constant_is new (length c.deref_mut.result.now) parted part.same_length c.reduce.ensures.in_range in

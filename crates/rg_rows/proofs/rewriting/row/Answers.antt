@@ -1,6 +1,7 @@
 use Rattle.std.proofs.Common.{rules, ◌≡◌, Err, length, ap, subst, ◌∙◌}
 use Rattle.std.specs.Prelude.{pos}
 use Rattle.std.specs.Int.{w128, cast_signed, cast_unsigned}
+use Rattle.std.specs.Arc.{arc_slice_items}
 use Rattle.rg_integers.proofs.Casts.{back}
 use Rattle.rg_fraction.specs.Fractions.{IsValue}
 use Rattle.rg_order_of_work.specs.Fold.{ratio_of, whole, mul}
@@ -57,7 +58,7 @@ returns-clause-value c =
     c.divided.ensures.value
 
 pub returns-clause-one_each : goal.returns-clause-one_each
-returns-clause-one_each c = if_ok_more c.divided.result (λ r. length r.coeffs.items ≡ length c.in_ok-scaled.scaled.numbers.items) _ (λ r h lts class same are. h ∙ c.in_ok-scaled.ensures.one_each lts class same are) c.divided.ensures.one_each
+returns-clause-one_each c = if_ok_more c.divided.result (λ r. length (arc_slice_items r.coeffs) ≡ length c.in_ok-scaled.scaled.numbers.items) _ (λ r h lts class same are. h ∙ c.in_ok-scaled.ensures.one_each lts class same are) c.divided.ensures.one_each
 
 pub returns-clause-wide : goal.returns-clause-wide
 returns-clause-wide c = λ w e lts class same are. absurd (c.divided.ensures.wide w e)
