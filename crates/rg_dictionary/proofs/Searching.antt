@@ -1,6 +1,5 @@
 -- Places of variables among members in order.
-use Rattle.std.proofs.Common.{◌≡◌, ◌≢◌, ◌⊎◌, ⊎_elim, ℕ, zero, suc, ◌+◌, ◌-◌, ◌<◌, ◌≤◌, List, [], ◌∷◌, length, get_or, Contains, ap, refl, subst, sym, ◌∙◌, inl, inr, arith, true, false, nat_lt, ◌==◌, eq-eqb}
-use Rattle.std.specs.Prelude.{IsTrue}
+use Rattle.std.proofs.Common.{◌≡◌, ◌≢◌, ◌⊎◌, ⊎_elim, ℕ, zero, suc, ◌+◌, ◌-◌, ◌<◌, ◌≤◌, List, [], ◌∷◌, length, get_or, Contains, ap, refl, subst, sym, ◌∙◌, inl, inr, arith, true, false, nat_lt}
 use Rattle.std.specs.List.{remove}
 use Rattle.std.specs.List.Sorted.{IsStrictlyIncreasing}
 use Rattle.std.proofs.lemmas.Bool.{cases_lt}
@@ -43,15 +42,6 @@ is_below m i e = grind (arith, nat_tests)
 pub is_not_below : (m i : ℕ) → nat_lt m i ≡ false → i ≤ m
 is_not_below m i e = grind (arith, nat_tests)
 
-pub is_equal : (m i : ℕ) → IsTrue (m == i) → m ≡ i
-is_equal m i h = grind (arith, nat_tests)
-
-pub equal_is : (m i : ℕ) → m ≡ i → IsTrue (m == i)
-equal_is m i e = eq-eqb m i e
-
-pub below_false : (m i : ℕ) → i ≤ m → IsTrue (nat_lt m i) → ⊥
-below_false m i le h = grind (arith, nat_tests)
-
 pub member_at : (xs : List ℕ) (k : ℕ) → k < length xs → Contains xs (get_or xs k 0)
 member_at xs k lt = (k, lt, get_or_default xs k (get_or xs k 0) 0 lt)
 
@@ -71,6 +61,33 @@ found_or_not xs b i below others h (k, lt, e) = (omega (arith, past), omega (ari
 
     first : get_or xs b 0 ≤ i
     first = let f = not_falling xs b k h past lt in omega (arith, is)
+
+-- so many of the members are below a number, and the others are not
+pub record AreBelow (xs : List ℕ) (b i : ℕ) : Type 0 where
+  pub below : (k : ℕ) → k < b → get_or xs k 0 < i
+  pub others : (k : ℕ) → b ≤ k → k < length xs → i ≤ get_or xs k 0
+
+-- the next number has one more below it where this one is a member, and else as many
+pub past_member : (xs : List ℕ) (b i : ℕ) → IsStrictlyIncreasing xs → AreBelow xs b i → get_or xs b 0 ≡ i → AreBelow xs (b + 1) (i + 1)
+past_member xs b i h a e = record {
+  below = λ k lt. ⊎_elim (λ less. (let f = a.below k less in omega arith)) (λ most. same k (omega arith)) (cases_lt k b);
+  others = λ k le inside. (let r = rising xs b k h (omega arith) inside in omega (arith, e));
+}
+  where
+    same : (k : ℕ) → b ≡ k → get_or xs k 0 < i + 1
+    same k is = subst (λ n. get_or xs n 0 < i + 1) is (omega (arith, e))
+
+pub past_other : (xs : List ℕ) (b i : ℕ) → IsStrictlyIncreasing xs → AreBelow xs b i → ¬ ((b < length xs) × (get_or xs b 0 ≡ i)) → AreBelow xs b (i + 1)
+past_other xs b i h a differs = record {
+  below = λ k lt. (let f = a.below k lt in omega arith);
+  others = λ k le inside. ⊎_elim (λ less. omega arith) (λ most. absurd (stands k le inside most)) (cases_lt i (get_or xs k 0));
+}
+  where
+    equal : (m : ℕ) → i ≤ m → m ≤ i → m ≡ i
+    equal m le most = omega arith
+
+    stands : (k : ℕ) → b ≤ k → k < length xs → get_or xs k 0 ≤ i → ⊥
+    stands k le inside most = differs (found_or_not xs b i a.below a.others h (subst (Contains xs) (equal (get_or xs k 0) (a.others k le inside) most) (member_at xs k inside)))
 
 -- the place of a number is how many are not above it
 pub place_for-is : (i : ℕ) (ns : List ℕ) (b : ℕ) → b ≤ length ns → ((k : ℕ) → k < b → get_or ns k 0 ≤ i) → ((k : ℕ) → b ≤ k → k < length ns → i < get_or ns k 0) → place_for i ns ≡ b

@@ -243,7 +243,7 @@ fn renew_last(row: &mut [i128], pivot: &[i128], p: usize) -> Result<(), RowWide>
     }
 }
 
-// The same, where the pivot's number at place `p` is 1: then a number stays where the pivot's is 0.
+// As `renew`, where the pivot's number at place `p` is 1: then a number stays where the pivot's is 0.
 fn renew_at(row: &mut [i128], pivot: &[i128], places: &[usize], p: usize) -> Result<(), RowWide>
     requires same_length { length pivot.now ≡ length row.old }
     requires place { p < length row.old }
@@ -274,7 +274,8 @@ fn renew_at(row: &mut [i128], pivot: &[i128], places: &[usize], p: usize) -> Res
     renew_last(row, pivot, p)
 }
 
-// The row gets the values of its terms, by the listed places alone where that is enough.
+// The row gets the values of its terms, by the listed places alone where these are enough and less than half of all:
+// on a row that names more, the walk over all places is the quicker one, since its numbers mostly fit 64 bits.
 fn renew_row(
     row: &mut [i128],
     pivot: &[i128],
@@ -292,7 +293,7 @@ fn renew_row(
     ensures renewed { MatchResult result (λ _. IsRenewed pivot.now row.old row.new p) (λ e. FirstOfRow pivot.now row.old p e.at e.wide) }
     ensures in_range { RowInRange row.new }
 {
-    if pivot[p] == 1 {
+    if pivot[p] == 1 && places.len() < row.len() / 2 {
         return renew_at(row, pivot, places, p);
     }
     renew(row, pivot, p, short)

@@ -31,13 +31,20 @@ fn members_below(members: &[u32], variable: u32) -> usize
     members.partition_point(|member| *member < variable)
 }
 
+// Whether the variable is the member at this place.
+fn stands_at(members: &[u32], place: usize, variable: u32) -> bool
+    ensures { IsTrue result ↔ (place < length members.now) × (slice_index members.now place ≡ variable) }
+{
+    place < members.len() && members[place] == variable
+}
+
 /// Whether the variable is a member.
 pub(crate) fn is_member(members: &[u32], variable: u32) -> bool
     requires { IsStrictlyIncreasing members.now }
     ensures { IsTrue result ↔ Contains members.now variable }
 {
     let below = members_below(members, variable);
-    below < members.len() && members[below] == variable
+    stands_at(members, below, variable)
 }
 
 /// The place of the pivot among the members, where the one at this place has left.
@@ -79,8 +86,12 @@ pub(crate) fn exchange_rows(
 {
     let width = pivot_row.len();
     let short = is_short(pivot_row);
+    // how many members are below `w`
+    let mut next = 0;
     for w in 0..variables {
-        if w != pivot && !is_member(members, w) {
+        if stands_at(members, next, w) {
+            next += 1;
+        } else if w != pivot {
             let start = w as usize * width;
             match exchange_row(
                 &mut table[start..start + width],
