@@ -1,6 +1,7 @@
 //! Texts that are no state graphs, each with its first fault.
 use rg_genet::{GraphFault, read_graph};
 use rg_text::MOST_BYTES;
+use std::alloc::Global;
 
 // Texts, and their first faults.
 const FAULTS: [(&str, GraphFault); 26] = [
@@ -71,12 +72,18 @@ const FAULTS: [(&str, GraphFault); 26] = [
     ("x\n.state graph\ns0 a+ s1\n.end", GraphFault::Expected(1)),
 ];
 
+// The first fault of a text.
+fn fault(alloc: Global, text: &[u8]) -> Option<GraphFault> {
+    if text.len() > MOST_BYTES {
+        return Some(GraphFault::NoMemory);
+    }
+    read_graph(alloc, text).err()
+}
+
 #[test]
 fn first_faults(rt: HostRuntime) {
     let alloc = rt.alloc();
     for (text, wanted) in FAULTS {
-        let bytes = text.as_bytes();
-        assert!(rt; bytes.len() <= MOST_BYTES);
-        assert!(rt; read_graph(alloc, bytes).err() == Some(wanted), "{text}");
+        assert!(rt; fault(alloc, text.as_bytes()) == Some(wanted), "{text}");
     }
 }

@@ -1,7 +1,9 @@
 //! The texts of systems as state graphs, and what one can't hold.
 use rg_apt::read_lts;
 use rg_genet::{GraphLoss, print_graph, printed_is_read_again};
+use rg_lts::Lts;
 use rg_text::MOST_BYTES;
+use std::alloc::Global;
 use std::test::Fail;
 
 // System files, and their texts as state graphs.
@@ -45,27 +47,41 @@ const LOST: [(&str, GraphLoss); 6] = [
     ),
 ];
 
+// The system that a text spells.
+fn system(alloc: Global, text: &[u8]) -> Option<Lts> {
+    if text.len() > MOST_BYTES {
+        return None;
+    }
+    read_lts(alloc, text).ok()
+}
+
+// The state graph of the system that a text spells.
+fn printed(alloc: Global, text: &[u8]) -> Option<Vec<u8>> {
+    let lts = system(alloc, text)?;
+    print_graph(alloc, &lts).ok()
+}
+
+// What a state graph can't hold of the system that a text spells.
+fn lost(alloc: Global, text: &[u8]) -> Option<GraphLoss> {
+    let lts = system(alloc, text)?;
+    print_graph(alloc, &lts).err()
+}
+
 #[test]
 fn prints_systems(rt: HostRuntime) -> Result<(), Fail> {
     let alloc = rt.alloc();
     for (text, wanted) in PRINTED {
-        let bytes = text.as_bytes();
-        assert!(rt; bytes.len() <= MOST_BYTES);
-        let printed = print_graph(alloc, &read_lts(alloc, bytes)?)?;
-        assert!(rt; printed.as_slice() == wanted.as_bytes(), "{text}");
+        let shown = printed(alloc, text.as_bytes()).ok_or("a text")?;
+        assert!(rt; shown.as_slice() == wanted.as_bytes(), "{text}");
     }
     printed_is_read_again();
     Ok(())
 }
 
 #[test]
-fn tells_what_is_lost(rt: HostRuntime) -> Result<(), Fail> {
+fn tells_what_is_lost(rt: HostRuntime) {
     let alloc = rt.alloc();
     for (text, wanted) in LOST {
-        let bytes = text.as_bytes();
-        assert!(rt; bytes.len() <= MOST_BYTES);
-        let lts = read_lts(alloc, bytes)?;
-        assert!(rt; print_graph(alloc, &lts).err() == Some(wanted), "{text}");
+        assert!(rt; lost(alloc, text.as_bytes()) == Some(wanted), "{text}");
     }
-    Ok(())
 }

@@ -1,6 +1,7 @@
 //! Limits of the texts of systems, each just met and just passed.
-use crate::samples::{push_name, with_bytes, with_names};
+use crate::samples::{push_name, system, with_bytes, with_names};
 use rg_apt::{TextFault, print_lts, read_lts};
+use rg_lts::Lts;
 use rg_text::MOST_BYTES;
 use std::alloc::{AllocError, Global};
 use std::test::Fail;
@@ -96,6 +97,29 @@ fn arcs(rt: HostRuntime) -> Result<(), Fail> {
     Ok(())
 }
 
+// Whether two systems have the states, the initial state and the arcs of the great system.
+fn are_great(lts: &Lts, again: &Lts) -> bool {
+    lts.states() == 4_096
+        && again.states() == 4_096
+        && again.initial() == 4_095
+        && again.arcs() == lts.arcs()
+        && again.arcs().len() == 2
+}
+
+// Whether the text of the great system is printed, and read again as it was.
+fn is_printed(alloc: Global, text: &[u8]) -> bool {
+    let Some(lts) = system(alloc, text) else {
+        return false;
+    };
+    let Ok(printed) = print_lts(alloc, &lts) else {
+        return false;
+    };
+    match system(alloc, &printed) {
+        Some(again) => are_great(&lts, &again),
+        None => false,
+    }
+}
+
 #[test]
 fn a_great_system_is_printed(rt: HostRuntime) -> Result<(), Fail> {
     let alloc = rt.alloc();
@@ -105,13 +129,6 @@ fn a_great_system_is_printed(rt: HostRuntime) -> Result<(), Fail> {
         4_095,
         "s[initial] .arcs s a aab aab a s",
     )?;
-    assert!(rt; text.len() <= MOST_BYTES);
-    let lts = read_lts(alloc, &text)?;
-    assert!(rt; lts.states() == 4_096);
-    let printed = print_lts(alloc, &lts)?;
-    assert!(rt; printed.len() <= MOST_BYTES);
-    let again = read_lts(alloc, &printed)?;
-    assert!(rt; again.states() == 4_096 && again.initial() == 4_095);
-    assert!(rt; again.arcs() == lts.arcs() && again.arcs().len() == 2);
+    assert!(rt; is_printed(alloc, &text));
     Ok(())
 }
