@@ -1,21 +1,24 @@
 //! The judge beside the second judge, over small nets and nets that are changed in one number.
+ghost use Rattle.std.specs.Prelude.{◌<◌};
 
 use crate::samples::{CYCLE, LOOP_AND_STEP, NONE, net, system};
 use crate::second::{Told, second_verdict};
 use rg_lts::Lts;
-use rg_net::Class;
+use rg_net::{Class, Net};
 use rg_net_verdict::{CheckStop, NetVerdict, check_net};
 use std::alloc::{AllocError, Global};
-use std::test::Fail;
 
 /// A place for two labels: its start, what each label takes from it, and what each puts on it.
 type Numbers = [usize; 5];
 
-const START: usize = 0;
-
-const PRE: [usize; 2] = [1, 2];
-
-const POST: [usize; 2] = [3, 4];
+/// What stands before each set of a net's text, and the set's column.
+const SETS: [(&str, usize); 5] = [
+    (".type PN .places p q .transitions a b .flows a: ", 1),
+    (" -> ", 3),
+    (" b: ", 2),
+    (" -> ", 4),
+    (" .initial_marking ", 0),
+];
 
 /// The members of sets, by the number of the place and its weight.
 const MEMBERS: [[&str; 4]; 2] = [["", "p", "2*p", "3*p"], ["", "q", "2*q", "3*q"]];
@@ -50,17 +53,23 @@ const TWO_BOUNDED: Class = Class {
 
 // The text of the net with these places.
 fn text_of(alloc: Global, places: &[Numbers]) -> Result<String, AllocError> {
-    let mut text = String::from_str(alloc, ".type PN .places p q .transitions a b .flows a: ")?;
-    push_set(&mut text, places, PRE[0])?;
-    text.push_str(" -> ")?;
-    push_set(&mut text, places, POST[0])?;
-    text.push_str(" b: ")?;
-    push_set(&mut text, places, PRE[1])?;
-    text.push_str(" -> ")?;
-    push_set(&mut text, places, POST[1])?;
-    text.push_str(" .initial_marking ")?;
-    push_set(&mut text, places, START)?;
+    let mut text = String::new(alloc);
+    for (before, column) in SETS {
+        text.push_str(before)?;
+        push_set(&mut text, places, column)?;
+    }
     Ok(text)
+}
+
+// The member for the number in this column of a place; the empty text where the place is no member.
+fn member(place: &Numbers, members: &[&'static str; 4], column: usize) -> &'static str {
+    let weight = place.get(column).copied().unwrap_or(0);
+    members.get(weight).copied().unwrap_or("")
+}
+
+// What stands before a member of a set.
+fn separator(later: bool) -> &'static str {
+    if later { ", " } else { "" }
 }
 
 // Pushes the set of the numbers in this column.
@@ -68,106 +77,144 @@ fn push_set(text: &mut String, places: &[Numbers], column: usize) -> Result<(), 
     text.push_str("{")?;
     let mut later = false;
     for (place, members) in places.iter().zip(MEMBERS.iter()) {
-        let weight = place.get(column).copied().unwrap_or(0);
-        let member = members.get(weight).copied().unwrap_or("");
-        if member.is_empty() {
-            continue;
+        let member = member(place, members, column);
+        if !member.is_empty() {
+            text.push_str(separator(later))?;
+            text.push_str(member)?;
+            later = true;
         }
-        if later {
-            text.push_str(", ")?;
-        }
-        text.push_str(member)?;
-        later = true;
     }
     text.push_str("}")
 }
 
-// What both judges tell of the net with these places, if it is the same; None where it isn't, or there is no memory left.
-fn agreed(alloc: Global, lts: &Lts, places: &[Numbers], class: Class) -> Option<Told> {
-    let text = text_of(alloc, places).ok()?;
-    let net = net(alloc, lts, text.as_str())?;
+// The net with these places.
+fn net_of(alloc: Global, lts: &Lts, places: &[Numbers]) -> Option<Net> {
+    match text_of(alloc, places) {
+        Ok(text) => net(alloc, lts, text.as_str()),
+        Err(_) => None,
+    }
+}
+
+// What the judge tells of a net; None where the net has other labels, or there is no memory left.
+fn told(alloc: Global, lts: &Lts, net: &Net, class: Class) -> Option<Told> {
     if net.labels() != lts.labels() {
         return None;
     }
-    let told = match check_net(alloc, lts, &net, class) {
-        Ok(verdict) => Told::Verdict(verdict),
-        Err(CheckStop::Wide(wide)) => Told::Passes(wide.state, wide.place),
-        Err(CheckStop::NoMemory) => return None,
-    };
+    match check_net(alloc, lts, net, class) {
+        Ok(verdict) => Some(Told::Verdict(verdict)),
+        Err(CheckStop::Wide(wide)) => Some(Told::Passes(wide.state, wide.place)),
+        Err(CheckStop::NoMemory) => None,
+    }
+}
+
+// What both judges tell of the net with these places, if it is the same; None where it isn't, or there is no memory left.
+fn agreed(alloc: Global, lts: &Lts, places: &[Numbers], class: Class) -> Option<Told> {
+    let net = net_of(alloc, lts, places)?;
+    let first = told(alloc, lts, &net, class)?;
     let second = second_verdict(alloc, lts, &net, class)?;
-    if told == second { Some(told) } else { None }
+    if first == second { Some(first) } else { None }
+}
+
+// Whether both judges tell that the net with these places solves the system that a text spells.
+fn solves(alloc: Global, text: &str, places: &[Numbers]) -> bool {
+    match system(alloc, text) {
+        Some(lts) => {
+            agreed(alloc, &lts, places, TWO_BOUNDED) == Some(Told::Verdict(NetVerdict::Yes))
+        }
+        None => false,
+    }
 }
 
 #[test]
-fn nets_that_solve(rt: HostRuntime) -> Result<(), Fail> {
+fn nets_that_solve(rt: HostRuntime) {
     let alloc = rt.alloc();
-    for (lts, places) in SOLVED {
-        let lts = system(alloc, lts).ok_or("a system")?;
-        let told = agreed(alloc, &lts, places.as_slice(), TWO_BOUNDED);
-        assert!(rt; told == Some(Told::Verdict(NetVerdict::Yes)));
+    for (text, places) in SOLVED {
+        assert!(rt; solves(alloc, text, &places), "{text}");
     }
-    Ok(())
+}
+
+// Whether both judges tell the same of each net that is made of this one by another number in this column of a place.
+fn agree_on_column(
+    alloc: Global,
+    lts: &Lts,
+    places: [Numbers; 2],
+    class: Class,
+    place: usize,
+    column: usize,
+) -> bool
+    requires place { place < 2 }
+    requires column { column < 5 }
+{
+    for number in 0..4 {
+        let mut changed = places;
+        changed[place][column] = number;
+        if agreed(alloc, lts, &changed, class).is_none() {
+            return false;
+        }
+    }
+    true
 }
 
 // Whether both judges tell the same of each net that is made of this one by another number in one place.
 fn agree_on_changed(alloc: Global, lts: &Lts, places: [Numbers; 2], class: Class) -> bool {
-    for i in 0..2 {
-        for column in 0..5 {
-            for number in 0..4 {
-                let mut changed = places;
-                changed[i][column] = number;
-                if agreed(alloc, lts, changed.as_slice(), class).is_none() {
-                    return false;
-                }
-            }
+    for column in 0..5 {
+        if !agree_on_column(alloc, lts, places, class, 0, column)
+            || !agree_on_column(alloc, lts, places, class, 1, column)
+        {
+            return false;
         }
     }
     true
 }
 
+// Whether they do so in each class, for the system that a text spells.
+fn agree_in_classes(alloc: Global, text: &str, places: [Numbers; 2]) -> bool {
+    match system(alloc, text) {
+        Some(lts) => {
+            agree_on_changed(alloc, &lts, places, NONE)
+                && agree_on_changed(alloc, &lts, places, STRICT)
+                && agree_on_changed(alloc, &lts, places, TWO_BOUNDED)
+        }
+        None => false,
+    }
+}
+
 #[test]
-fn nets_changed_in_one_number(rt: HostRuntime) -> Result<(), Fail> {
+fn nets_changed_in_one_number(rt: HostRuntime) {
     let alloc = rt.alloc();
     for (text, places) in SOLVED {
-        let lts = system(alloc, text).ok_or("a system")?;
-        assert!(rt; agree_on_changed(alloc, &lts, places, NONE), "{text}");
-        assert!(rt; agree_on_changed(alloc, &lts, places, STRICT), "{text}");
-        assert!(rt;
-            agree_on_changed(alloc, &lts, places, TWO_BOUNDED),
-            "{text}"
-        );
+        assert!(rt; agree_in_classes(alloc, text, places), "{text}");
     }
-    Ok(())
 }
 
-// Whether both judges tell the same of each net of one place with these first numbers and others below 4.
-fn agree_on_place(alloc: Global, lts: &Lts, start: usize, pre: [usize; 2]) -> bool {
-    for first in 0..4 {
-        for second in 0..4 {
-            let place = [start, pre[0], pre[1], first, second];
-            if agreed(alloc, lts, &[place], NONE).is_none() {
-                return false;
-            }
+// The five digits to base 4 of a number below 1024, as the numbers of a place.
+fn digits(number: usize) -> Numbers {
+    [
+        number / 256 % 4,
+        number / 64 % 4,
+        number / 16 % 4,
+        number / 4 % 4,
+        number % 4,
+    ]
+}
+
+// Whether both judges tell the same of each net of one place with numbers below 4, for the system that a text spells.
+fn agree_on_places(alloc: Global, text: &str) -> bool {
+    let Some(lts) = system(alloc, text) else {
+        return false;
+    };
+    for number in 0..1024 {
+        if agreed(alloc, &lts, &[digits(number)], NONE).is_none() {
+            return false;
         }
     }
     true
 }
 
 #[test]
-fn nets_of_one_place(rt: HostRuntime) -> Result<(), Fail> {
+fn nets_of_one_place(rt: HostRuntime) {
     let alloc = rt.alloc();
     for (text, _) in SOLVED {
-        let lts = system(alloc, text).ok_or("a system")?;
-        for start in 0..4 {
-            for first in 0..4 {
-                for second in 0..4 {
-                    assert!(rt;
-                        agree_on_place(alloc, &lts, start, [first, second]),
-                        "{text}"
-                    );
-                }
-            }
-        }
+        assert!(rt; agree_on_places(alloc, text), "{text}");
     }
-    Ok(())
 }

@@ -2,8 +2,9 @@
 ghost use Rattle.std.specs.Prelude.{◌≡◌, length, All, IsTrue};
 ghost use Rattle.rg_net.specs.ClassBreaks.{shown_markings};
 
-use crate::samples::{CYCLE, CYCLE_NET, NONE, net, system};
+use crate::samples::{CYCLE, CYCLE_NET, NONE, net_for};
 use rg_net::{Class, ClassBreak, Net, in_class};
+use std::alloc::{AllocError, Global};
 use std::test::Fail;
 
 // Whether each of the markings has one number for each place.
@@ -19,29 +20,70 @@ pub(crate) fn fit(net: &Net, markings: &[Vec<u128>]) -> bool
     true
 }
 
+// Markings of the cycle's three states, in the order of the cycle and turned round.
+const IN_ORDER: [[u128; 2]; 3] = [[0, 2], [1, 1], [2, 0]];
+
+const TURNED: [[u128; 2]; 3] = [[2, 0], [1, 1], [0, 2]];
+
+const SAFE: Class = Class {
+    bound: Some(1),
+    ..NONE
+};
+
+const TWO_BOUNDED: Class = Class {
+    bound: Some(2),
+    ..NONE
+};
+
+// What is asked of the cycle's net, the markings and class of which it is asked, and the first break.
+const ASKED: [(&str, [[u128; 2]; 3], Class, Result<(), ClassBreak>); 3] = [
+    ("safe in order", IN_ORDER, SAFE, Err(ClassBreak::Over(0, 2))),
+    (
+        "safe turned round",
+        TURNED,
+        SAFE,
+        Err(ClassBreak::Over(0, 0)),
+    ),
+    ("2-bounded", TURNED, TWO_BOUNDED, Ok(())),
+];
+
+// The markings as vectors.
+fn vectors(alloc: Global, markings: [[u128; 2]; 3]) -> Result<Vec<Vec<u128>>, AllocError> {
+    let mut vectors = Vec::new(alloc);
+    for marking in markings {
+        vectors.push(Vec::from_slice(alloc, &marking)?)?;
+    }
+    Ok(vectors)
+}
+
+// The first break of the class over three markings of a net; None where there are others, or they don't fit.
+fn first_break(net: &Net, markings: &[Vec<u128>], class: Class) -> Option<Result<(), ClassBreak>> {
+    if markings.len() != 3 || !fit(net, markings) {
+        return None;
+    }
+    Some(in_class(net, markings, class))
+}
+
+// Whether this is the first break of the class over the markings.
+fn is_first(
+    alloc: Global,
+    net: &Net,
+    markings: [[u128; 2]; 3],
+    class: Class,
+    first: Result<(), ClassBreak>,
+) -> bool {
+    match vectors(alloc, markings) {
+        Ok(markings) => first_break(net, &markings, class) == Some(first),
+        Err(_) => false,
+    }
+}
+
 #[test]
 fn markings_in_order(rt: HostRuntime) -> Result<(), Fail> {
     let alloc = rt.alloc();
-    let lts = system(alloc, CYCLE).ok_or("a system")?;
-    let net = net(alloc, &lts, CYCLE_NET).ok_or("a net")?;
-    let mut markings = Vec::new(alloc);
-    for marking in [[0, 2], [1, 1], [2, 0]] {
-        markings.push(Vec::from_slice(alloc, &marking)?)?;
+    let net = net_for(alloc, CYCLE, CYCLE_NET).ok_or("a net")?;
+    for (asked, markings, class, first) in ASKED {
+        assert!(rt; is_first(alloc, &net, markings, class, first), "{asked}");
     }
-    let safe = Class {
-        bound: Some(1),
-        ..NONE
-    };
-    assert!(rt; net.places().len() == 2 && markings.len() == 3);
-    assert!(rt; fit(&net, &markings));
-    assert!(rt; in_class(&net, &markings, safe) == Err(ClassBreak::Over(0, 2)));
-    markings.reverse();
-    assert!(rt; markings.len() == 3 && fit(&net, &markings));
-    assert!(rt; in_class(&net, &markings, safe) == Err(ClassBreak::Over(0, 0)));
-    let two = Class {
-        bound: Some(2),
-        ..NONE
-    };
-    assert!(rt; in_class(&net, &markings, two) == Ok(()));
     Ok(())
 }

@@ -44,3 +44,9 @@ pub(crate) fn net(alloc: Global, lts: &Lts, text: &str) -> Option<Net> {
     }
     read_net(alloc, text.as_bytes(), lts).ok()
 }
+
+/// The net that a text spells for the system of another.
+pub(crate) fn net_for(alloc: Global, lts: &str, text: &str) -> Option<Net> {
+    let lts = system(alloc, lts)?;
+    net(alloc, &lts, text)
+}

@@ -1,10 +1,10 @@
 //! A second judge of nets, slow and plain: it fires every way by single firings.
-ghost use Rattle.std.specs.Prelude.{◌≤◌, IsTrue, All};
+ghost use Rattle.std.specs.Prelude.{◌<◌, ◌≤◌, IsTrue, All};
 ghost use Rattle.rg_integers.specs.Range.{greatest};
 
 use crate::classes::fit;
 use rg_integers::GREATEST;
-use rg_lts::Lts;
+use rg_lts::{Arc, Lts};
 use rg_net::{Class, FireStop, Net, enabled, fire, in_class};
 use rg_net_verdict::{NetNo, NetVerdict};
 use std::alloc::{AllocError, AllocFailed, Global};
@@ -69,19 +69,9 @@ fn no(no: NetNo) -> Ended {
 fn judge(alloc: Global, lts: &Lts, net: &Net, class: Class) -> Result<(), Ended> {
     all_reached(alloc, lts)?;
     fork(lts)?;
-    let mut met = Vec::new(alloc);
-    let marking = start_of(alloc, net)?;
-    met.push(Met {
-        state: lts.initial(),
-        marking,
-    })?;
-    for next in 0..lts.states() {
-        grow(alloc, lts, net, &mut met, next as usize)?;
-    }
+    let met = all_met(alloc, lts, net)?;
     same(lts, &met)?;
-    for s in 0..lts.states() {
-        wrong(alloc, lts, net, &met, s)?;
-    }
+    wrong(alloc, lts, net, &met)?;
     of_class(alloc, lts, net, &met, class)
 }
 
@@ -101,13 +91,19 @@ fn reached(alloc: Global, lts: &Lts) -> Result<Vec<u32>, AllocError> {
     let mut seen = Vec::new(alloc);
     seen.push(lts.initial())?;
     for _ in 0..lts.states() {
-        for a in lts.arcs() {
-            if seen.contains(&a.from) && !seen.contains(&a.to) {
-                seen.push(a.to)?;
-            }
-        }
+        spread(lts, &mut seen)?;
     }
     Ok(seen)
+}
+
+// Adds the targets of the arcs from states that were seen.
+fn spread(lts: &Lts, seen: &mut Vec<u32>) -> Result<(), AllocError> {
+    for a in lts.arcs() {
+        if seen.contains(&a.from) && !seen.contains(&a.to) {
+            seen.push(a.to)?;
+        }
+    }
+    Ok(())
 }
 
 // Ends at the first two arcs that lead by one label from one state to two.
@@ -168,6 +164,26 @@ fn marking_at(met: &[Met], s: u32) -> Option<&[u128]> {
     None
 }
 
+// The initial state, and its marking.
+fn first_met(alloc: Global, lts: &Lts, net: &Net) -> Result<Vec<Met>, AllocError> {
+    let marking = start_of(alloc, net)?;
+    let mut met = Vec::new(alloc);
+    met.push(Met {
+        state: lts.initial(),
+        marking,
+    })?;
+    Ok(met)
+}
+
+// The states in the order in which they are met, and their markings.
+fn all_met(alloc: Global, lts: &Lts, net: &Net) -> Result<Vec<Met>, Ended> {
+    let mut met = first_met(alloc, lts, net)?;
+    for next in 0..lts.states() {
+        grow(alloc, lts, net, &mut met, next as usize)?;
+    }
+    Ok(met)
+}
+
 // Fires along the arcs of the state with this number among those met, to states that weren't met.
 fn grow(alloc: Global, lts: &Lts, net: &Net, met: &mut Vec<Met>, next: usize) -> Result<(), Ended> {
     let source = match met.get(next) {
@@ -175,48 +191,75 @@ fn grow(alloc: Global, lts: &Lts, net: &Net, met: &mut Vec<Met>, next: usize) ->
         None => return Err(Ended::Stuck),
     };
     for a in lts.arcs() {
-        if a.from != source || marking_at(met, a.to).is_some() {
-            continue;
-        }
-        let marking = marking_at(met, source).ok_or(Ended::Stuck)?;
-        match step(alloc, net, marking, a.label)? {
-            Outcome::Stopped => return Err(no(NetNo::NotEnabled(source, a.label))),
-            Outcome::Passes(place) => return Err(Ended::Told(Told::Passes(a.to, place))),
-            Outcome::To(marking) => met.push(Met {
+        if a.from == source && marking_at(met, a.to).is_none() {
+            let marking = marking_after(alloc, net, met, *a)?;
+            met.push(Met {
                 state: a.to,
                 marking,
-            })?,
+            })?;
         }
     }
     Ok(())
+}
+
+// The marking to which an arc leads from that of its source.
+fn marking_after(alloc: Global, net: &Net, met: &[Met], a: Arc) -> Result<Vec<u128>, Ended> {
+    let marking = marking_at(met, a.from).ok_or(Ended::Stuck)?;
+    match step(alloc, net, marking, a.label)? {
+        Outcome::Stopped => Err(no(NetNo::NotEnabled(a.from, a.label))),
+        Outcome::Passes(place) => Err(Ended::Told(Told::Passes(a.to, place))),
+        Outcome::To(marking) => Ok(marking),
+    }
 }
 
 // Ends at the first two states with one marking.
 fn same(lts: &Lts, met: &[Met]) -> Result<(), Ended> {
     for s in 0..lts.states() {
-        for r in s + 1..lts.states() {
-            if marking_at(met, s) == marking_at(met, r) {
-                return Err(no(NetNo::SameMarking(s, r)));
-            }
+        same_as(lts, met, s)?;
+    }
+    Ok(())
+}
+
+// Ends at the first state behind this one with its marking.
+fn same_as(lts: &Lts, met: &[Met], s: u32) -> Result<(), Ended>
+    requires { s < 4294967295 }
+{
+    let marking = marking_at(met, s);
+    for r in s + 1..lts.states() {
+        if marking == marking_at(met, r) {
+            return Err(no(NetNo::SameMarking(s, r)));
         }
     }
     Ok(())
 }
 
+// Ends at the first state and label that aren't as the arcs say.
+fn wrong(alloc: Global, lts: &Lts, net: &Net, met: &[Met]) -> Result<(), Ended> {
+    for s in 0..lts.states() {
+        wrong_at(alloc, lts, net, met, s)?;
+    }
+    Ok(())
+}
+
 // Ends at the first label at the state that isn't as the arcs say.
-fn wrong(alloc: Global, lts: &Lts, net: &Net, met: &[Met], s: u32) -> Result<(), Ended> {
+fn wrong_at(alloc: Global, lts: &Lts, net: &Net, met: &[Met], s: u32) -> Result<(), Ended> {
     let marking = marking_at(met, s).ok_or(Ended::Stuck)?;
     for t in 0..lts.labels() {
         let after = step(alloc, net, marking, t)?;
-        match target_of(lts, s, t) {
-            None => stops(&after, s, t)?,
-            Some(to) => {
-                let target = marking_at(met, to).ok_or(Ended::Stuck)?;
-                leads(&after, target, s, t)?;
-            }
-        }
+        as_arcs_say(lts, met, &after, s, t)?;
     }
     Ok(())
+}
+
+// Ends where what comes of the label at the state isn't as the arcs say.
+fn as_arcs_say(lts: &Lts, met: &[Met], after: &Outcome, s: u32, t: u32) -> Result<(), Ended> {
+    match target_of(lts, s, t) {
+        None => stops(after, s, t),
+        Some(to) => {
+            let target = marking_at(met, to).ok_or(Ended::Stuck)?;
+            leads(after, target, s, t)
+        }
+    }
 }
 
 // Ends where the label is enabled.
@@ -246,14 +289,20 @@ fn target_of(lts: &Lts, s: u32, t: u32) -> Option<u32> {
     None
 }
 
-// Ends at the first break of the class.
-fn of_class(alloc: Global, lts: &Lts, net: &Net, met: &[Met], class: Class) -> Result<(), Ended> {
+// The markings of all states, in the order of the states.
+fn markings_of(alloc: Global, lts: &Lts, met: &[Met]) -> Result<Vec<Vec<u128>>, Ended> {
     let mut markings = Vec::new(alloc);
     for s in 0..lts.states() {
         let marking = marking_at(met, s).ok_or(Ended::Stuck)?;
         let marking = Vec::from_slice(alloc, marking)?;
         markings.push(marking)?;
     }
+    Ok(markings)
+}
+
+// Ends at the first break of the class.
+fn of_class(alloc: Global, lts: &Lts, net: &Net, met: &[Met], class: Class) -> Result<(), Ended> {
+    let markings = markings_of(alloc, lts, met)?;
     if markings.len() > MOST_MARKINGS || !fit(net, &markings) {
         return Err(Ended::Stuck);
     }

@@ -4,6 +4,7 @@ use rg_fraction::Wide;
 use rg_net::{Class, ClassBreak};
 use rg_net_verdict::{CheckStop, CheckWide, NetNo, NetVerdict, check_net};
 use std::alloc::Global;
+use std::process::Abort;
 
 const PURE: Class = Class { pure: true, ..NONE };
 
@@ -219,6 +220,14 @@ const PASSING: [(&str, u32); 2] = [
     ),
 ];
 
+// The sum that passes on it.
+const ONE_MORE: Wide = Wide {
+    a: i128::MAX,
+    b: 1,
+    c: -1,
+    d: 1,
+};
+
 // What is told of a system and a net; None where one of the texts spells none.
 fn told(
     alloc: Global,
@@ -234,81 +243,62 @@ fn told(
     Some(check_net(alloc, &lts, &net, class))
 }
 
+// Whether this verdict is told.
+fn gets(alloc: Global, lts: &str, class: Class, places: &str, wanted: NetVerdict) -> bool {
+    told(alloc, lts, class, places) == Some(Ok(wanted))
+}
+
+// Each row's verdict is told.
+fn all_get(rt: &impl Abort, alloc: Global, rows: &[(&str, Class, &str, NetVerdict)]) {
+    for &(lts, class, places, wanted) in rows {
+        assert!(rt; gets(alloc, lts, class, places, wanted), "{lts} {places}");
+    }
+}
+
 #[test]
 fn loops_and_steps(rt: HostRuntime) {
-    for (lts, class, places, wanted) in LOOPS_AND_STEPS {
-        assert!(rt;
-            told(rt.alloc(), lts, class, places) == Some(Ok(wanted)),
-            "{lts} {places}"
-        );
-    }
+    all_get(&rt, rt.alloc(), &LOOPS_AND_STEPS);
 }
 
 #[test]
 fn words(rt: HostRuntime) {
-    for (lts, class, places, wanted) in WORDS {
-        assert!(rt;
-            told(rt.alloc(), lts, class, places) == Some(Ok(wanted)),
-            "{lts} {places}"
-        );
-    }
+    all_get(&rt, rt.alloc(), &WORDS);
 }
 
 #[test]
 fn large_numbers(rt: HostRuntime) {
-    for (lts, class, places, wanted) in LARGE_NUMBERS {
-        assert!(rt;
-            told(rt.alloc(), lts, class, places) == Some(Ok(wanted)),
-            "{lts} {places}"
-        );
-    }
+    all_get(&rt, rt.alloc(), &LARGE_NUMBERS);
 }
 
 #[test]
 fn chords(rt: HostRuntime) {
-    for (lts, class, places, wanted) in CHORDS {
-        assert!(rt;
-            told(rt.alloc(), lts, class, places) == Some(Ok(wanted)),
-            "{lts} {places}"
-        );
-    }
+    all_get(&rt, rt.alloc(), &CHORDS);
 }
 
 #[test]
 fn choices(rt: HostRuntime) {
-    for (lts, class, places, wanted) in CHOICES {
-        assert!(rt;
-            told(rt.alloc(), lts, class, places) == Some(Ok(wanted)),
-            "{lts} {places}"
-        );
-    }
+    all_get(&rt, rt.alloc(), &CHOICES);
 }
 
 #[test]
 fn few_arcs(rt: HostRuntime) {
-    for (lts, class, places, wanted) in FEW_ARCS {
-        assert!(rt;
-            told(rt.alloc(), lts, class, places) == Some(Ok(wanted)),
-            "{lts} {places}"
-        );
-    }
+    all_get(&rt, rt.alloc(), &FEW_ARCS);
+}
+
+// Whether the firing for one step passes on this place.
+fn passes(alloc: Global, places: &str, place: u32) -> bool {
+    let wide = CheckWide {
+        state: 1,
+        place,
+        wide: ONE_MORE,
+    };
+    told(alloc, STEP, NONE, places) == Some(Err(CheckStop::Wide(wide)))
 }
 
 #[test]
 fn firings_that_pass(rt: HostRuntime) {
+    let alloc = rt.alloc();
     for (places, place) in PASSING {
-        let wide = Wide {
-            a: i128::MAX,
-            b: 1,
-            c: -1,
-            d: 1,
-        };
-        let wide = CheckWide {
-            state: 1,
-            place,
-            wide,
-        };
-        let wanted = Some(Err(CheckStop::Wide(wide)));
-        assert!(rt; told(rt.alloc(), STEP, NONE, places) == wanted, "{places}");
+        assert!(rt; passes(alloc, places, place), "{places}");
     }
 }
