@@ -9,6 +9,7 @@ use rg_bounded_forms::Top;
 use rg_branch::Bounded;
 use rg_linear::{Row, System};
 use std::alloc::{AllocError, Global};
+use std::sync::ArcSlice;
 
 /// How many columns and rows, the bound of each column, what the random numbers begin with, and how many rows each descent
 /// takes at most.
@@ -125,7 +126,7 @@ pub(crate) fn forms(alloc: Global, asked: BoxAsked) -> Result<Vec<Bounded>, Allo
     for j in 0..asked.columns {
         forms.push(Bounded {
             scale: 1,
-            coeffs: column(alloc, asked.columns, j, 1)?,
+            coeffs: ArcSlice::from_vec(column(alloc, asked.columns, j, 1)?)?,
             low: 0,
             high: i64::from(asked.bound),
             row: j,

@@ -4,6 +4,7 @@ use Rattle.std.specs.Prelude.{ℤ, pos, neg_ℤ, ◌+ℤ◌, ◌-ℤ◌, ◌*ℤ
 use Rattle.std.specs.Int.{w128}
 use Rattle.std.proofs.lemmas.Int.{ints}
 use Rattle.std.proofs.lemmas.List.{length-map, get_or_default}
+use Rattle.std.specs.Arc.{arc_slice_items}
 use Rattle.rg_integers.specs.Range.{InRange}
 use Rattle.rg_integers.proofs.Ring.{ring}
 use Rattle.rg_integers.proofs.Order.{mul_not_negative, mul-le}
@@ -64,8 +65,8 @@ bounded_form system b row times is low top = record {
 
     turned : (x : ℕ → ℤ) → sum_below system.columns (λ j. entry system row j *ℤ x j) ≡ neg_ℤ times *ℤ scaled_value system (form_of b) x
     turned x =
-        sum_below-same system.columns _ (λ j. neg_ℤ times *ℤ (slice_index_or b.coeffs.items j (pos 0) *ℤ x j)) (λ j h. ap (λ z. z *ℤ x j) (top.entries j h) ∙ turn (neg_ℤ times) (slice_index_or b.coeffs.items j (pos 0)) (x j))
-        ∙ sum_below-times system.columns (neg_ℤ times) (λ j. slice_index_or b.coeffs.items j (pos 0) *ℤ x j)
+        sum_below-same system.columns _ (λ j. neg_ℤ times *ℤ (slice_index_or (arc_slice_items b.coeffs) j (pos 0) *ℤ x j)) (λ j h. ap (λ z. z *ℤ x j) (top.entries j h) ∙ turn (neg_ℤ times) (slice_index_or (arc_slice_items b.coeffs) j (pos 0)) (x j))
+        ∙ sum_below-times system.columns (neg_ℤ times) (λ j. slice_index_or (arc_slice_items b.coeffs) j (pos 0) *ℤ x j)
 
 -- ---- all forms
 
@@ -119,7 +120,7 @@ all_known system forms sum known few_forms few = record {
 -- ---- what the code has tested
 
 module _ (system : LinearSystem) (b : Bounded) (rows : List Row) (item : Row) (are : map linear_row rows ≡ system.rows) where
-  pub form_asked : b.row < length rows → item ≡ slice_index_or rows b.row item → length b.coeffs.items ≡ system.columns → pos 0 <ℤ b.scale → b.low ≤ℤ b.high → pos 0 ≤ℤ b.times → FitsSigned w128 b.scale → FitsSigned w128 b.times → InRange (b.scale *ℤ b.low) → InRange (b.scale *ℤ b.high) → All InRange b.coeffs.items → AreTimes b.coeffs.items b.times (linear_row item).coeffs → IsFormOf system b
+  pub form_asked : b.row < length rows → item ≡ slice_index_or rows b.row item → length (arc_slice_items b.coeffs) ≡ system.columns → pos 0 <ℤ b.scale → b.low ≤ℤ b.high → pos 0 ≤ℤ b.times → FitsSigned w128 b.scale → FitsSigned w128 b.times → InRange (b.scale *ℤ b.low) → InRange (b.scale *ℤ b.high) → All InRange (arc_slice_items b.coeffs) → AreTimes (arc_slice_items b.coeffs) b.times (linear_row item).coeffs → IsFormOf system b
   form_asked lt at size positive ordered not_negative scale times low high coeffs same = record {
     one_each = size;
     positive = positive;
@@ -147,7 +148,7 @@ module _ (system : LinearSystem) (b : Bounded) (rows : List Row) (item : Row) (a
         (subst (λ z. z ≤ℤ neg_ℤ (b.scale *ℤ b.low)) is_product (subst (λ z. product ≤ℤ neg_ℤ z) is_low least));
   }
 
-  pub top_asked : (row : ℕ) (times : ℤ) → row < length rows → item ≡ slice_index_or rows row item → IsWellFormed system → pos 0 <ℤ times → (high most : ℤ) → high ≡ b.scale *ℤ b.high → most ≡ times *ℤ high → item.constant ≤ℤ most → AreTimes (linear_row item).coeffs (neg_ℤ times) b.coeffs.items → IsTop system b row times
+  pub top_asked : (row : ℕ) (times : ℤ) → row < length rows → item ≡ slice_index_or rows row item → IsWellFormed system → pos 0 <ℤ times → (high most : ℤ) → high ≡ b.scale *ℤ b.high → most ≡ times *ℤ high → item.constant ≤ℤ most → AreTimes (linear_row item).coeffs (neg_ℤ times) (arc_slice_items b.coeffs) → IsTop system b row times
   top_asked row times lt at well positive high most is_high is_most constant same = record {
     within = below_rows system rows row are lt;
     positive = positive;

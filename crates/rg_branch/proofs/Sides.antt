@@ -4,6 +4,7 @@ use Rattle.std.specs.Prelude.{ℤ, pos, neg_ℤ, ◌+ℤ◌, ◌*ℤ◌, ◌≤�
 use Rattle.std.proofs.lemmas.Int.{ints}
 use Rattle.std.proofs.lemmas.Bool.{cases_lt}
 use Rattle.std.proofs.lemmas.List.{get_or_default, length-map, map-append, take-map, take_at, get_or-map, get_or_at, get_or-append_right, reverse-append, reverse-reverse}
+use Rattle.std.specs.Arc.{arc_slice_items}
 use Rattle.rg_integers.specs.Range.{InRange}
 use Rattle.rg_integers.proofs.Ranges.{in_range-neg}
 use Rattle.rg_linear.specs.System.{LinearSystem, LinearRow, row_at}
@@ -20,8 +21,8 @@ use Rattle.rg_branch.proofs.Points.{form_is}
 
 -- ---- one side
 
-pub coeffs_fit : (system : LinearSystem) (b : Bounded) → IsFormOf system b → All InRange b.coeffs.items
-coeffs_fit system b is k d lt = subst InRange (sym (get_or_default b.coeffs.items k d (pos 0) lt)) (is.coeffs_in_range k (subst (λ n. k < n) is.one_each lt))
+pub coeffs_fit : (system : LinearSystem) (b : Bounded) → IsFormOf system b → All InRange (arc_slice_items b.coeffs)
+coeffs_fit system b is k d lt = subst InRange (sym (get_or_default (arc_slice_items b.coeffs) k d (pos 0) lt)) (is.coeffs_in_range k (subst (λ n. k < n) is.one_each lt))
 
 -- a row fits: one number a column, and all in range
 record RowFits (columns : ℕ) (row : LinearRow) : Type 0 where
@@ -32,8 +33,8 @@ record RowFits (columns : ℕ) (row : LinearRow) : Type 0 where
 side_fits : (system : LinearSystem) (b : Bounded) (at : ℤ) (high : Bool) → IsFormOf system b → InRange (b.scale *ℤ at) → InRange (b.scale *ℤ (at +ℤ pos 1)) → RowFits system.columns (row_of_side (form_of b) at high)
 side_fits system b at true is low high = record { one_each = is.one_each; coeffs = is.coeffs_in_range; constant = subst InRange (high_constant b.scale at) (in_range-neg _ high) }
 side_fits system b at false is low high = record {
-  one_each = length-map b.coeffs.items neg_ℤ ∙ is.one_each;
-  coeffs = λ j lt. subst InRange (sym (index-neg b.coeffs.items j)) (in_range-neg _ (is.coeffs_in_range j lt));
+  one_each = length-map (arc_slice_items b.coeffs) neg_ℤ ∙ is.one_each;
+  coeffs = λ j lt. subst InRange (sym (index-neg (arc_slice_items b.coeffs) j)) (in_range-neg _ (is.coeffs_in_range j lt));
   constant = low;
 }
 

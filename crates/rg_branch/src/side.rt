@@ -1,5 +1,6 @@
 //! Splits as rows, and the way through a tree.
 ghost use Rattle.std.specs.Prelude.{◌≡◌, map, ℤ, pos, neg_ℤ, ◌+ℤ◌, ◌-ℤ◌, ◌*ℤ◌, All, if◌then◌else◌, IfOk};
+ghost use Rattle.std.specs.Arc.{arc_slice_items};
 ghost use Rattle.rg_integers.specs.Range.{InRange};
 ghost use Rattle.rg_linear.specs.View.{linear_row};
 ghost use Rattle.rg_branch.specs.View.{form_of, sides_of};
@@ -17,7 +18,7 @@ pub(crate) fn side_row(
     high: bool,
 ) -> Result<Row, AllocError>
     requires scale { InRange form.now.scale }
-    requires coeffs { All InRange form.now.coeffs.items }
+    requires coeffs { All InRange (arc_slice_items form.now.coeffs) }
     requires low { InRange (form.now.scale *ℤ at) }
     requires high { InRange (form.now.scale *ℤ (at +ℤ pos 1)) }
     ensures { IfOk result (λ r. linear_row r ≡ row_of_side (form_of form.now) at high) }

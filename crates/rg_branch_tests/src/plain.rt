@@ -25,7 +25,7 @@ fn side(
     }
     let sign = if high { 1i128 } else { -1 };
     let mut coeffs = Vec::new(alloc);
-    for coefficient in &form.coeffs {
+    for coefficient in form.coeffs.iter() {
         coeffs.push(sign.wrapping_mul(*coefficient))?;
     }
     let end = if high {

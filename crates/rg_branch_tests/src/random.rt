@@ -4,6 +4,7 @@ use rg_bounded_forms::Top;
 use rg_branch::Bounded;
 use rg_linear::Row;
 use std::alloc::{AllocError, Global};
+use std::sync::ArcSlice;
 
 /// Rows, forms, and a top row for each form.
 #[derive(Drop)]
@@ -97,7 +98,7 @@ impl Generator {
         let constant = scale.wrapping_mul(i128::from(low)).wrapping_neg();
         asked.forms.push(Bounded {
             scale,
-            coeffs: multiplied(alloc, &coeffs, times)?,
+            coeffs: ArcSlice::from_vec(multiplied(alloc, &coeffs, times)?)?,
             low,
             high,
             row,

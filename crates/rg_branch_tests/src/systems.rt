@@ -6,6 +6,7 @@ ghost use Rattle.rg_linear.specs.View.{linear_row};
 use rg_branch::Bounded;
 use rg_linear::{Row, System};
 use std::alloc::{AllocError, Global};
+use std::sync::ArcSlice;
 
 /// The coefficients of a row, and its constant.
 #[derive(Clone, Copy)]
@@ -69,7 +70,7 @@ pub(crate) fn system(alloc: Global, columns: u32, rows: &[Told]) -> Result<Syste
 pub(crate) fn forms(alloc: Global, told: &[ToldForm]) -> Result<Vec<Bounded>, AllocError> {
     let mut list = Vec::new(alloc);
     for form in told {
-        let coeffs = form.coeffs.to_vec(alloc)?;
+        let coeffs = ArcSlice::from_slice(alloc, form.coeffs)?;
         list.push(Bounded {
             scale: form.scale,
             coeffs,

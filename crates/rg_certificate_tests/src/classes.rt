@@ -15,33 +15,40 @@ const ALL: Class = Class {
     nonbranching: true,
 };
 
+const SAFE: Class = Class {
+    bound: Some(1),
+    ..NONE
+};
+
+// Words, and the classes that they name.
+const NAMED: [(&str, Class); 4] = [
+    ("none", NONE),
+    ("255-bounded,pure,output-nonbranching,plain", ALL),
+    ("safe", SAFE),
+    ("1-bounded", SAFE),
+];
+
+// Words, and the first of them that is refused.
+const REFUSED: [(&str, ClassFault); 7] = [
+    ("safe,1-bounded", ClassFault::Repeated(1)),
+    ("pure,none", ClassFault::UnknownWord(1)),
+    ("none,none", ClassFault::UnknownWord(0)),
+    ("", ClassFault::UnknownWord(0)),
+    ("-bounded", ClassFault::UnknownWord(0)),
+    ("plain,256-bounded", ClassFault::BadNumber(1)),
+    ("01-bounded", ClassFault::BadNumber(0)),
+];
+
 #[test]
 fn classes_of_words(rt: HostRuntime) {
-    let safe = Class {
-        bound: Some(1),
-        ..NONE
-    };
-    for (text, class) in [
-        ("none", NONE),
-        ("255-bounded,pure,output-nonbranching,plain", ALL),
-        ("safe", safe),
-        ("1-bounded", safe),
-    ] {
-        assert!(rt; Class::read(text) == Ok(class));
+    for (text, class) in NAMED {
+        assert!(rt; Class::read(text) == Ok(class), "{text}");
     }
 }
 
 #[test]
 fn the_first_word_that_is_refused(rt: HostRuntime) {
-    for (text, fault) in [
-        ("safe,1-bounded", ClassFault::Repeated(1)),
-        ("pure,none", ClassFault::UnknownWord(1)),
-        ("none,none", ClassFault::UnknownWord(0)),
-        ("", ClassFault::UnknownWord(0)),
-        ("-bounded", ClassFault::UnknownWord(0)),
-        ("plain,256-bounded", ClassFault::BadNumber(1)),
-        ("01-bounded", ClassFault::BadNumber(0)),
-    ] {
-        assert!(rt; Class::read(text) == Err(fault));
+    for (text, fault) in REFUSED {
+        assert!(rt; Class::read(text) == Err(fault), "{text}");
     }
 }

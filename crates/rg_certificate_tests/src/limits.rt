@@ -1,15 +1,14 @@
 //! Systems as large as any may be.
 ghost use Rattle.std.specs.Prelude.{◌<◌};
 
+use crate::samples::system;
+use crate::verdicts::verdict_of;
 use itoa::Buffer;
-use rg_apt::{TextFault, read_lts};
-use rg_cert::read;
 use rg_checks::first_unreachable;
 use rg_lts::Lts;
 use rg_spanning::{GrowStop, Tree};
-use rg_verify::{Defect, Verdict, verify};
+use rg_verify::{Defect, Verdict};
 use std::alloc::{AllocError, Global};
-use std::process::Abort;
 use std::test::Fail;
 
 // A space, and the name of the state with this number.
@@ -39,45 +38,64 @@ fn line(alloc: Global, last: u32) -> Result<Vec<u8>, AllocError>
 }
 
 // The system that the line spells.
-fn long(rt: &impl Abort, alloc: Global, last: u32) -> Result<Lts, TextFault>
+fn long(alloc: Global, last: u32) -> Option<Lts>
     requires { last < 5096 }
 {
-    let text = line(alloc, last)?;
-    assert!(rt; text.len() <= 16_777_216);
-    read_lts(alloc, &text)
+    match line(alloc, last) {
+        Ok(text) => system(alloc, &text),
+        Err(_) => None,
+    }
+}
+
+// A certificate that the last state can't be reached.
+const LAST_IS_APART: &str = "certificate 1\nclass none\nunreachable s5095\nend\n";
+
+// The verdict on it where the last state can be reached.
+const NOT_SO: Verdict = Verdict::Refused {
+    case: 0,
+    node: 0,
+    defect: Defect::NotSo,
+};
+
+// The least state that can't be reached.
+fn apart(alloc: Global, lts: &Lts) -> Option<Option<u32>> {
+    first_unreachable(alloc, lts).ok()
+}
+
+// Whether no tree is grown, as the last state can't be reached.
+fn is_not_grown(alloc: Global, lts: &Lts) -> bool {
+    match Tree::grow(alloc, lts) {
+        Ok(_) => false,
+        Err(stop) => stop == GrowStop::Unreachable(4095),
+    }
+}
+
+// Whether a tree of all states is grown.
+fn is_grown(alloc: Global, lts: &Lts) -> bool {
+    match Tree::grow(alloc, lts) {
+        Ok(tree) => tree.order().len() == 4096,
+        Err(_) => false,
+    }
 }
 
 #[test]
 fn the_last_state_is_apart(rt: HostRuntime) -> Result<(), Fail> {
-    let lts = long(&rt, rt.alloc(), 5094)?;
-    let first = first_unreachable(rt.alloc(), &lts)?;
-    assert!(rt; first == Some(4095));
-    let stop = Tree::grow(rt.alloc(), &lts).err();
-    assert!(rt; stop == Some(GrowStop::Unreachable(4095)));
-    let text = b"certificate 1\nclass none\nunreachable s5095\nend\n";
-    let certificate = read(rt.alloc(), text, &lts)?;
-    let verdict = verify(rt.alloc(), &lts, &certificate)?;
-    assert!(rt; verdict == Verdict::Accepted);
+    let alloc = rt.alloc();
+    let lts = long(alloc, 5094).ok_or("a system")?;
+    assert!(rt; apart(alloc, &lts) == Some(Some(4095)));
+    assert!(rt; is_not_grown(alloc, &lts));
+    let verdict = verdict_of(alloc, &lts, LAST_IS_APART.as_bytes());
+    assert!(rt; verdict == Some(Verdict::Accepted));
     Ok(())
 }
 
 #[test]
 fn all_states_are_reached(rt: HostRuntime) -> Result<(), Fail> {
-    let lts = long(&rt, rt.alloc(), 5095)?;
-    let first = first_unreachable(rt.alloc(), &lts)?;
-    assert!(rt; first == None);
-    match Tree::grow(rt.alloc(), &lts) {
-        Ok(tree) => assert!(rt; tree.order().len() == 4096),
-        Err(_) => panic!(rt; "the tree wasn't grown"),
-    }
-    let text = b"certificate 1\nclass none\nunreachable s5095\nend\n";
-    let certificate = read(rt.alloc(), text, &lts)?;
-    let verdict = verify(rt.alloc(), &lts, &certificate)?;
-    let not_so = Verdict::Refused {
-        case: 0,
-        node: 0,
-        defect: Defect::NotSo,
-    };
-    assert!(rt; verdict == not_so);
+    let alloc = rt.alloc();
+    let lts = long(alloc, 5095).ok_or("a system")?;
+    assert!(rt; apart(alloc, &lts) == Some(None));
+    assert!(rt; is_grown(alloc, &lts));
+    let verdict = verdict_of(alloc, &lts, LAST_IS_APART.as_bytes());
+    assert!(rt; verdict == Some(NOT_SO));
     Ok(())
 }

@@ -1,8 +1,10 @@
 //! Systems from texts.
-use rg_apt::{TextFault, read_lts};
+use rg_apt::read_lts;
 use rg_lts::Lts;
 use std::alloc::Global;
-use std::process::Abort;
+
+/// The most bytes of a text that is read.
+pub(crate) const MOST_BYTES: usize = 16_777_216;
 
 /// The label a leads from s0 to s1 and to s2, and the label b has no arc.
 pub(crate) const FORKED: &str =
@@ -23,8 +25,10 @@ pub(crate) const RING: &str =
 pub(crate) const LOCK: &str =
     ".type LTS .states ii[initial] iw ic wi ww wc ci cw .labels ask1 get1 put1 ask2 get2 put2 .arcs ii ask1 wi iw ask1 ww ic ask1 wc wi get1 ci ww get1 cw ci put1 ii cw put1 iw ii ask2 iw wi ask2 ww ci ask2 cw iw get2 ic ww get2 wc ic put2 ii wc put2 wi";
 
-// The system that the text spells.
-pub(crate) fn system(rt: &impl Abort, alloc: Global, text: &str) -> Result<Lts, TextFault> {
-    assert!(rt; text.len() <= 16_777_216);
-    read_lts(alloc, text.as_bytes())
+/// The system that the text spells; None where it spells none.
+pub(crate) fn system(alloc: Global, text: &[u8]) -> Option<Lts> {
+    if text.len() > MOST_BYTES {
+        return None;
+    }
+    read_lts(alloc, text).ok()
 }

@@ -5,31 +5,41 @@ use crate::samples::{APART, LOCK, system};
 use rg_lts::Lts;
 use rg_spanning::{GrowStop, Tree};
 use rg_theory::Arc;
-use std::test::Fail;
+use std::alloc::Global;
 
 // The arc (from, label, to).
 fn arc(from: u32, label: u32, to: u32) -> Arc {
     Arc { from, label, to }
 }
 
-#[test]
-fn tells_the_least_unreachable_state(rt: HostRuntime) -> Result<(), Fail> {
-    let lts = system(&rt, rt.alloc(), APART)?;
-    match Tree::grow(rt.alloc(), &lts) {
-        Ok(_) => panic!(rt; "s1 was reached"),
-        Err(stop) => assert!(rt; stop == GrowStop::Unreachable(1)),
+// Why no tree is grown of the system that a text spells.
+fn stop_of(alloc: Global, text: &str) -> Option<GrowStop> {
+    let lts = system(alloc, text.as_bytes())?;
+    match Tree::grow(alloc, &lts) {
+        Ok(_) => None,
+        Err(stop) => Some(stop),
     }
-    Ok(())
 }
 
 #[test]
-fn grows_breadth_first(rt: HostRuntime) -> Result<(), Fail> {
-    let lts = system(&rt, rt.alloc(), LOCK)?;
-    match Tree::grow(rt.alloc(), &lts) {
-        Ok(tree) => assert!(rt; is_right(&lts, &tree)),
-        Err(_) => panic!(rt; "the tree wasn't grown"),
+fn tells_the_least_unreachable_state(rt: HostRuntime) {
+    assert!(rt; stop_of(rt.alloc(), APART) == Some(GrowStop::Unreachable(1)));
+}
+
+// Whether the right tree is grown of the system of the lock.
+fn is_grown(alloc: Global) -> bool {
+    let Some(lts) = system(alloc, LOCK.as_bytes()) else {
+        return false;
+    };
+    match Tree::grow(alloc, &lts) {
+        Ok(tree) => is_right(&lts, &tree),
+        Err(_) => false,
     }
-    Ok(())
+}
+
+#[test]
+fn grows_breadth_first(rt: HostRuntime) {
+    assert!(rt; is_grown(rt.alloc()));
 }
 
 fn is_right(lts: &Lts, tree: &Tree) -> bool

@@ -144,7 +144,7 @@ module _ (lts : System) (tree : List Arc) (basis : CycleBasis) (class : Class) (
       pub step_fails : (w : Wide) → terms_fold lts tree basis class e.terms (Err w) → each (form_fold lts tree basis class) (forms_in class (map row_name_of names)) (Err w)
       step_fails w h = form_fails class (form_fold lts tree basis class) (map row_name_of names) i name next_name xs so_far (form_of form) (sym is_form) w (form_of_none lts tree basis class problem number (form_of form) e is_split w h)
 
-      pub step_next : (f : NamedForm) (s : Scaled) → terms_fold lts tree basis class e.terms (Ok s) → f.scale ≡ s.multiple → f.coeffs.items ≡ s.numbers → f.low ≡ form_low class → f.high ≡ form_high class → (r : Result (List Form) Wide) → each (form_fold lts tree basis class) (forms_in class (drop (i + 1) (map row_name_of names))) r → each (form_fold lts tree basis class) (forms_in class (map row_name_of names)) (behind (xs ++ linear_form f ∷ []) r)
+      pub step_next : (f : NamedForm) (s : Scaled) → terms_fold lts tree basis class e.terms (Ok s) → f.scale ≡ s.multiple → (arc_slice_items f.coeffs) ≡ s.numbers → f.low ≡ form_low class → f.high ≡ form_high class → (r : Result (List Form) Wide) → each (form_fold lts tree basis class) (forms_in class (drop (i + 1) (map row_name_of names))) r → each (form_fold lts tree basis class) (forms_in class (map row_name_of names)) (behind (xs ++ linear_form f ∷ []) r)
       step_next f s h scale coeffs low high = form_next class (form_fold lts tree basis class) (map row_name_of names) i name next_name xs so_far (form_of form) (sym is_form) (linear_form f) (form_of_terms lts tree basis class problem number (form_of form) e is_split s (linear_form f) h (λ j. record { scale = scale j; coeffs = coeffs j; low = low j; high = high j }))
 
     pub step_named : (done : List SplitForm) → done ++ forms_in class (drop i (map row_name_of names)) ≡ forms_in class (map row_name_of names) → (f : NamedForm) → f.form ≡ form → (done ++ split_of f ∷ []) ++ forms_in class (drop (i + 1) (map row_name_of names)) ≡ forms_in class (map row_name_of names)
@@ -157,7 +157,7 @@ module _ (lts : System) (tree : List Arc) (basis : CycleBasis) (class : Class) (
       pub step_times : (s : Scaled) → terms_fold lts tree basis class e.terms (Ok s) → (t : ℕ) × (0 < t) × (s.numbers ≡ map (λ z. pos t *ℤ z) (arc_slice_items row.coeffs))
       step_times s h = times_row lts tree basis class problem number (form_of form) e is_split s (kept_row row) h (subst (λ n. fold_of lts tree basis class problem number n (Ok (kept_row row))) named row_is.0)
 
-      pub step_made : (columns : ℕ) (places : List ℕ) (f : NamedForm) → f.form ≡ form → IsPartOf f (arc_slice_items row.coeffs) (slice_index_or places i 0) → (f.low ≡ form_low class) × (f.high ≡ form_high class) → length f.coeffs.items ≡ columns → pos 0 <ℤ f.scale → InRange f.scale → All InRange f.coeffs.items → InRange f.times → IsMade class columns (map kept_row rows) places f
+      pub step_made : (columns : ℕ) (places : List ℕ) (f : NamedForm) → f.form ≡ form → IsPartOf f (arc_slice_items row.coeffs) (slice_index_or places i 0) → (f.low ≡ form_low class) × (f.high ≡ form_high class) → length (arc_slice_items f.coeffs) ≡ columns → pos 0 <ℤ f.scale → InRange f.scale → All InRange (arc_slice_items f.coeffs) → InRange f.times → IsMade class columns (map kept_row rows) places f
       step_made columns places f same part bounds one_each positive scale coeffs times = record {
         number = i;
         row = kept_row row;

@@ -8,6 +8,7 @@ use Rattle.std.proofs.lemmas.Int.{ints, unsigned_abs-mul}
 use Rattle.std.proofs.lemmas.List.{length-map, get_or_default}
 use Rattle.std.proofs.lemmas.List.Elements.{All-nil, All-cons, All-head, All-tail}
 use Rattle.std.proofs.lemmas.Option.{slice_get_within, get_or_from_slice_get}
+use Rattle.std.specs.Arc.{arc_slice_items}
 use Rattle.rg_theory.specs.declared.Arc.{Arc}
 use Rattle.rg_theory.specs.declared.Class.{Class}
 use Rattle.rg_theory.specs.declared.Problem.{Problem}
@@ -57,7 +58,7 @@ module _ (lts : System) (tree : List Arc) (basis : CycleBasis) (class : Class) (
       name_is name (scaled, terms, (constant, product, (same, d))) = same
 
   -- a form with coefficients is a multiple of the kept row at its place
-  place_is : f.coeffs.items ≡ map (λ z. f.times *ℤ z) is.row.row.coeffs → f.row ≡ slice_index_or places is.number 0 → ¬ IsZeroVector f.coeffs.items → slice_get (rows_of case).rows f.row ≡ Some is.row.row
+  place_is : (arc_slice_items f.coeffs) ≡ map (λ z. f.times *ℤ z) is.row.row.coeffs → f.row ≡ slice_index_or places is.number 0 → ¬ IsZeroVector (arc_slice_items f.coeffs) → slice_get (rows_of case).rows f.row ≡ Some is.row.row
   place_is e place some = ap (λ p. slice_get (rows_of case).rows p) place ∙ are.each is.number is.row is.at (λ (zeros, weak). some (subst IsZeroVector (sym e) (times_zero f.times is.row.row.coeffs zeros)))
 
   pub stands_in_row : StandsInRow lts tree basis class problem number (rows_of case) f
@@ -79,7 +80,7 @@ module _ (lts : System) (tree : List Arc) (basis : CycleBasis) (class : Class) (
       (λ (none, row, zeros). record {
         within = λ some. absurd (some none);
         not_negative = subst (λ z. pos 0 ≤ℤ z) (sym none) (omega (arith, ints));
-        multiple = λ j lt. number_zero f.coeffs.items j zeros ∙ sym (ap (λ t. t *ℤ number_at (row_at (rows_of case) f.row).coeffs j) none ∙ zero_times (number_at (row_at (rows_of case) f.row).coeffs j));
+        multiple = λ j lt. number_zero (arc_slice_items f.coeffs) j zeros ∙ sym (ap (λ t. t *ℤ number_at (row_at (rows_of case) f.row).coeffs j) none ∙ zero_times (number_at (row_at (rows_of case) f.row).coeffs j));
       })
       is.part
     where

@@ -1,5 +1,6 @@
 -- The forms of a case, and what a branching asks of them.
 use Rattle.std.specs.Prelude.{◌≡◌, ◌≢◌, ◌⊎◌, ℕ, ◌+◌, ◌^◌, ◌<◌, ◌&&◌, not, is_some, if◌then◌else◌, List, [], ◌∷◌, map, length, All, Option, Some, None, Ok, slice_get, ℤ, pos, ◌+ℤ◌, ◌-ℤ◌, ◌*ℤ◌, ◌≤ℤ◌, ◌<ℤ◌}
+use Rattle.std.specs.Arc.{arc_slice_items}
 use Rattle.rg_theory.specs.declared.Arc.{Arc}
 use Rattle.rg_theory.specs.declared.Class.{Class}
 use Rattle.rg_theory.specs.declared.Problem.{Problem}
@@ -18,7 +19,7 @@ use Rattle.rg_rows.specs.View.{fold_of}
 
 -- the form over the columns
 abbrev pub linear_form : NamedForm → Form
-linear_form f = record { scale = f.scale; coeffs = f.coeffs.items; low = f.low; high = f.high }
+linear_form f = record { scale = f.scale; coeffs = arc_slice_items f.coeffs; low = f.low; high = f.high }
 
 -- what it is of
 abbrev pub split_of : NamedForm → SplitForm
@@ -45,24 +46,24 @@ forms_in class (name ∷ names) = put_form (form_in class name) (forms_in class 
 -- the form is the row times a positive number, and is not 0, or it is 0 and names no row
 abbrev pub IsPartOf : NamedForm → List ℤ → ℕ → Type 0
 IsPartOf f coeffs place =
-    ((pos 0 <ℤ f.times) × (f.coeffs.items ≡ map (λ z. f.times *ℤ z) coeffs) × (f.row ≡ place) × ¬ IsZeroVector f.coeffs.items)
-    ⊎ ((f.times ≡ pos 0) × (f.row ≡ 0) × IsZeroVector f.coeffs.items)
+    ((pos 0 <ℤ f.times) × ((arc_slice_items f.coeffs) ≡ map (λ z. f.times *ℤ z) coeffs) × (f.row ≡ place) × ¬ IsZeroVector (arc_slice_items f.coeffs))
+    ⊎ ((f.times ≡ pos 0) × (f.row ≡ 0) × IsZeroVector (arc_slice_items f.coeffs))
 
 -- the row of the form is the one that stayed for `tokens` of its state or `down` of its label; a form without coefficients
 -- has times 0 and row 0
 abbrev pub StandsInRow : System → List Arc → CycleBasis → Class → Problem → ℕ → LinearSystem → NamedForm → Type 0
 StandsInRow lts tree basis class problem number system f =
     (k : KeptRow) → fold_of lts tree basis class problem number (form_row (split_of f)) (Ok k)
-    → ((f.times ≢ pos 0) × (slice_get system.rows f.row ≡ Some k.row)) ⊎ ((f.times ≡ pos 0) × (f.row ≡ 0) × IsZeroVector f.coeffs.items)
+    → ((f.times ≢ pos 0) × (slice_get system.rows f.row ≡ Some k.row)) ⊎ ((f.times ≡ pos 0) × (f.row ≡ 0) × IsZeroVector (arc_slice_items f.coeffs))
 
 -- ---- what a branching asks
 
 -- one coefficient a column, a multiple of those of a row; the scale is positive, and the numbers are in range
 pub record IsFormOf (system : LinearSystem) (f : NamedForm) : Type 0 where
-  pub one_each : length f.coeffs.items ≡ system.columns
+  pub one_each : length (arc_slice_items f.coeffs) ≡ system.columns
   pub positive : pos 0 <ℤ f.scale
   pub scale_in_range : InRange f.scale
-  pub coeffs_in_range : All InRange f.coeffs.items
+  pub coeffs_in_range : All InRange (arc_slice_items f.coeffs)
   pub ordered : f.low ≤ℤ f.high
   pub low_in_range : InRange (f.scale *ℤ f.low)
   pub high_in_range : InRange (f.scale *ℤ f.high)

@@ -1,5 +1,6 @@
 -- A form that is made of a row's terms.
 use Rattle.std.specs.Prelude.{◌≡◌, ℕ, List, length, All, Some, slice_get, slice_index_or, pos, ◌<ℤ◌}
+use Rattle.std.specs.Arc.{arc_slice_items}
 use Rattle.rg_theory.specs.declared.Class.{Class}
 use Rattle.rg_integers.specs.Range.{InRange}
 use Rattle.rg_order_of_work.specs.Rewriting.{KeptRow, form_low, form_high}
@@ -15,8 +16,8 @@ pub record IsMade (class : Class) (columns : ℕ) (all : List KeptRow) (places :
   pub named : row.name ≡ form_row (split_of f)
   pub part : IsPartOf f row.row.coeffs (slice_index_or places number 0)
   pub bounds : (f.low ≡ form_low class) × (f.high ≡ form_high class)
-  pub one_each : length f.coeffs.items ≡ columns
+  pub one_each : length (arc_slice_items f.coeffs) ≡ columns
   pub positive : pos 0 <ℤ f.scale
   pub scale_in_range : InRange f.scale
-  pub coeffs_in_range : All InRange f.coeffs.items
+  pub coeffs_in_range : All InRange (arc_slice_items f.coeffs)
   pub times_in_range : InRange f.times

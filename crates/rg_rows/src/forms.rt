@@ -32,6 +32,7 @@ use rg_reasons::{Form, ProblemCase, RowName, expression};
 use rg_spanning::Tree;
 use rg_theory::Class;
 use std::alloc::{AllocError, Global};
+use std::sync::ArcSlice;
 
 // The forms in order: in a bounded class the tokens of each state, else in a plain one the effect of each label with an
 // arc. Each is written over the columns as the row named `tokens` or `down` is, and not divided.
@@ -62,7 +63,8 @@ pub(crate) fn forms(
     for (i, &name) in names.iter().enumerate() {
         if let Some(form) = form_named(case.class, name) {
             let scaled = terms_in_case(alloc, lts, tree, basis, common, case, name)?;
-            forms.push(form_over(case.class, form, scaled, rows[i].row(), places[i]))?;
+            let named = form_over(case.class, form, scaled, rows[i].row(), places[i])?;
+            forms.push(named)?;
         }
     }
     Ok(forms)
@@ -118,24 +120,31 @@ fn form_named(class: Class, name: RowName) -> Option<Form>
 }
 
 // The form with these numbers, of which those of the row are a part.
-fn form_over(class: Class, form: Form, scaled: Scaled, row: &CaseRow, place: u32) -> NamedForm
+fn form_over(
+    class: Class,
+    form: Form,
+    scaled: Scaled,
+    row: &CaseRow,
+    place: u32,
+) -> Result<NamedForm, AllocError>
     requires { (d : ℕ) × (0 < d) × (scaled.numbers.items ≡ map (λ z. pos d *ℤ z) (arc_slice_items row.now.coeffs)) }
-    ensures form { result.form ≡ form }
-    ensures numbers { (result.scale ≡ scaled.multiple) × (result.coeffs.items ≡ scaled.numbers.items) }
-    ensures bounds { (result.low ≡ form_low class) × (result.high ≡ form_high class) }
-    ensures row { IsPartOf result (arc_slice_items row.now.coeffs) place }
-    ensures in_range { InRange result.times }
+    ensures form { IfOk result (λ f. f.form ≡ form) }
+    ensures numbers { IfOk result (λ f. (f.scale ≡ scaled.multiple) × (arc_slice_items f.coeffs ≡ scaled.numbers.items)) }
+    ensures bounds { IfOk result (λ f. (f.low ≡ form_low class) × (f.high ≡ form_high class)) }
+    ensures row { IfOk result (λ f. IsPartOf f (arc_slice_items row.now.coeffs) place) }
+    ensures in_range { IfOk result (λ f. InRange f.times) }
 {
     let times = times(&scaled.numbers, &row.coeffs);
-    NamedForm {
+    let coeffs = ArcSlice::from_vec(scaled.numbers)?;
+    Ok(NamedForm {
         form,
         scale: scaled.multiple,
-        coeffs: scaled.numbers,
+        coeffs,
         low: low(class),
         high: high(class),
         row: if times == 0 { 0 } else { place },
         times,
-    }
+    })
 }
 
 // The least that a form of the class may be.

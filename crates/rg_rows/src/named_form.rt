@@ -1,5 +1,6 @@
 //! A form with its name.
 use rg_reasons::Form;
+use std::sync::ArcSlice;
 
 /// A form of a case, the tokens at a state or the effect of a label, which is to be a whole number: `scale` times the
 /// form is the sum of the columns, each times its coefficient. Wherever the rows of the case are met the form lies
@@ -11,7 +12,7 @@ use rg_reasons::Form;
 pub struct NamedForm {
     pub form: Form,
     pub scale: i128,
-    pub coeffs: Vec<i128>,
+    pub coeffs: ArcSlice<i128>,
     pub low: i64,
     pub high: i64,
     pub row: u32,

@@ -1,9 +1,11 @@
 -- What a branching asks of the forms of a case.
-use Rattle.std.proofs.Common.{◌≡◌, ℕ, zero, suc, ◌+◌, ◌<◌, List, [], ◌∷◌, ◌++◌, map, take, length, get_or, All, Vec, Global, refl, ap, sym, subst, ◌∙◌, arith}
+use Rattle.std.proofs.Common.{◌≡◌, ℕ, zero, suc, ◌+◌, ◌<◌, List, [], ◌∷◌, ◌++◌, map, take, length, get_or, All, Global, refl, ap, sym, subst, ◌∙◌, arith}
 use Rattle.std.specs.Prelude.{ℤ, pos, negsuc, ◌+ℤ◌, ◌-ℤ◌, ◌*ℤ◌, ◌≤ℤ◌, ◌<ℤ◌}
 use Rattle.std.proofs.lemmas.Int.{ints}
 use Rattle.std.proofs.lemmas.List.{length-map, map-append, take_more}
 use Rattle.std.proofs.lemmas.List.Elements.{All-head, All-tail, All-weaker}
+use Rattle.std.specs.Arc.{arc_slice_items}
+use Rattle.std.specs.declared.sync.ArcSlice.{ArcSlice}
 use Rattle.rg_integers.specs.Range.{InRange}
 use Rattle.rg_integers.specs.Sum.{sum_over}
 use Rattle.rg_linear.specs.System.{LinearSystem, entry}
@@ -17,11 +19,11 @@ use Rattle.rg_branch.specs.Asked.{IsFormOf, CanBranch}
 
 -- ---- one form
 
--- the form with the coefficients copied
-abbrev pub copy_of : NamedForm → Vec ℤ Global → Bounded
+-- the form with a clone of its coefficients
+abbrev pub copy_of : NamedForm → ArcSlice ℤ Global → Bounded
 copy_of f coeffs = record { scale = f.scale; coeffs = coeffs; low = f.low; high = f.high; row = f.row; times = f.times }
 
-pub copy_asked : (system : LinearSystem) (f : NamedForm) (coeffs : Vec ℤ Global) → coeffs.items ≡ f.coeffs.items → IsNamedFormOf system f → IsFormOf system (copy_of f coeffs)
+pub copy_asked : (system : LinearSystem) (f : NamedForm) (coeffs : ArcSlice ℤ Global) → arc_slice_items coeffs ≡ arc_slice_items f.coeffs → IsNamedFormOf system f → IsFormOf system (copy_of f coeffs)
 copy_asked system f coeffs same is = record {
   one_each = ap length same ∙ is.one_each;
   positive = is.positive;
@@ -37,7 +39,7 @@ copy_asked system f coeffs same is = record {
 }
 
 -- one form more
-pub copies_more : (forms : List NamedForm) (i : ℕ) (copies : List Bounded) (f : NamedForm) (coeffs : Vec ℤ Global) → i < length forms → get_or forms i f ≡ f → coeffs.items ≡ f.coeffs.items → forms_of copies ≡ map linear_form (take i forms) → forms_of (copies ++ copy_of f coeffs ∷ []) ≡ map linear_form (take (i + 1) forms)
+pub copies_more : (forms : List NamedForm) (i : ℕ) (copies : List Bounded) (f : NamedForm) (coeffs : ArcSlice ℤ Global) → i < length forms → get_or forms i f ≡ f → arc_slice_items coeffs ≡ arc_slice_items f.coeffs → forms_of copies ≡ map linear_form (take i forms) → forms_of (copies ++ copy_of f coeffs ∷ []) ≡ map linear_form (take (i + 1) forms)
 copies_more forms i copies f coeffs lt here same so_far =
     map-append form_of copies (copy_of f coeffs ∷ [])
     ∙ ap (λ xs. xs ++ form_of (copy_of f coeffs) ∷ []) so_far

@@ -93,7 +93,7 @@ fn bounded(alloc: Global, named: &NamedSystem) -> Result<Vec<Bounded>, AllocErro
     for form in &named.forms {
         forms.push(Bounded {
             scale: form.scale,
-            coeffs: form.coeffs.to_vec(alloc)?,
+            coeffs: form.coeffs.clone()?,
             low: form.low,
             high: form.high,
             row: form.row,

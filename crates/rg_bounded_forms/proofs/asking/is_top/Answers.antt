@@ -1,5 +1,6 @@
 use Rattle.std.proofs.Common.{rules, ◌≡◌, ◌<◌, length}
 use Rattle.std.specs.Prelude.{pos, ◌*ℤ◌, ◌≤ℤ◌, ◌<ℤ◌, neg_ℤ}
+use Rattle.std.specs.Arc.{arc_slice_items}
 use Rattle.rg_integers.proofs.Casts.{casts}
 use Rattle.rg_linear.specs.View.{linear_row}
 use Rattle.rg_bounded_forms.specs.Bounds.{AreTimes}
@@ -13,5 +14,5 @@ returns-then-row-most c = λ e.
     let high : c.in-Some.high ≡ c.args.form.now.scale *ℤ c.args.form.now.high = search (rules, casts) in
     let most : c.in-Ok.most ≡ c.args.top.times *ℤ c.in-Some.high = search (rules, casts) in
     let constant : c.index-rows-top.result.constant ≤ℤ c.in-Ok.most = search (rules, casts) in
-    let are : AreTimes (linear_row c.index-rows-top.result).coeffs (neg_ℤ c.args.top.times) c.args.form.now.coeffs.items = search (rules, casts) in
+    let are : AreTimes (linear_row c.index-rows-top.result).coeffs (neg_ℤ c.args.top.times) (arc_slice_items c.args.form.now.coeffs) = search (rules, casts) in
     top_asked c.args.system.now c.args.form.now c.rows-rows.result.now c.index-rows-top.result c.rows-rows.ensures.value c.args.top.row c.args.top.times lt c.index-rows-top.is c.rows-rows.ensures.well_formed positive c.in-Some.high c.in-Ok.most high most constant are

@@ -23,7 +23,7 @@ use Rattle.rg_rows.proofs.Terms.{name_within}
 use Rattle.rg_rows.proofs.Sharing.{held_is}
 use Rattle.rg_rows.proofs.FormSteps.{Keeps, next_name, step_fails, step_next, step_named, step_times, step_made, form_skips, named_skips, forms_end, named_end}
 use Rattle.rg_rows.proofs.forms.forms.Goals as goal
-use Rattle.rg_rows.proofs.forms.forms.Goals.{in-Some+in_ok-scaled+in_ok-push, in_default}
+use Rattle.rg_rows.proofs.forms.forms.Goals.{in-Some+in_ok-scaled+in_ok-named+in_ok-push, in_default}
 
 pub terms_in_case-requires-clause-within : goal.terms_in_case-requires-clause-within
 terms_in_case-requires-clause-within c = name_within c.args.lts.now c.args.case.class c.args.case.problem c.args.case.number c.args.names.now c.loop-i.i _ _ (states c.args.lts.now) c.requires.names c.loop-i-test.true refl refl
@@ -54,24 +54,24 @@ loop-i-preserved c =
     let Made = IsMade class columns (map kept_row rows) c.args.places.now in
     let below = subst (λ n. c.loop-i.i < n) (sym c.requires.one_each) c.loop-i-test.true in
     elim c.match-form_named.branch [
-      | in-Some+in_ok-scaled+in_ok-push w ↦
-          (let f = w.form_over.result in
+      | in-Some+in_ok-scaled+in_ok-named+in_ok-push w ↦
+          (let f = w.in_ok-named.named in
           let scaled = w.in_ok-scaled.scaled in
           let pushed = w.in_ok-push.ensures.items in
           let row = w.row.result.now in
-          let one = step_made lts tree basis class problem number c.args.names.now c.loop-i.i _ c.loop-i-test.true w.in-Some.form w.in-Some.ensures _ refl rows (simp length-map below) c.requires.rows row (held_is c.args.rows.now c.loop-i.i w.index-rows-i.result row below w.index-rows-i.is w.row.ensures) columns c.args.places.now f w.form_over.ensures.form w.form_over.ensures.row w.form_over.ensures.bounds
-          (ap length w.form_over.ensures.numbers.1 ∙ w.in_ok-scaled.ensures.one_each)
-          (subst (λ z. pos 0 <ℤ z) (sym w.form_over.ensures.numbers.0) scaled.positive)
-          (subst InRange (sym w.form_over.ensures.numbers.0) scaled.multiple_in_range)
-          (subst (All InRange) (sym w.form_over.ensures.numbers.1) scaled.numbers_in_range)
-          w.form_over.ensures.in_range in
+          let one = step_made lts tree basis class problem number c.args.names.now c.loop-i.i _ c.loop-i-test.true w.in-Some.form w.in-Some.ensures _ refl rows (simp length-map below) c.requires.rows row (held_is c.args.rows.now c.loop-i.i w.index-rows-i.result row below w.index-rows-i.is w.row.ensures) columns c.args.places.now f w.in_ok-named.ensures.form w.in_ok-named.ensures.row w.in_ok-named.ensures.bounds
+          (ap length w.in_ok-named.ensures.numbers.1 ∙ w.in_ok-scaled.ensures.one_each)
+          (subst (λ z. pos 0 <ℤ z) (sym w.in_ok-named.ensures.numbers.0) scaled.positive)
+          (subst InRange (sym w.in_ok-named.ensures.numbers.0) scaled.multiple_in_range)
+          (subst (All InRange) (sym w.in_ok-named.ensures.numbers.1) scaled.numbers_in_range)
+          w.in_ok-named.ensures.in_range in
           subst (λ (v : Vec NamedForm Global). Keeps lts tree basis class c.args.names.now rows c.args.places.now (c.loop-i.i + 1) v.items) (sym w.forms-is)
           (subst (Keeps lts tree basis class c.args.names.now rows c.args.places.now (c.loop-i.i + 1)) (sym pushed)
           (record {
             so_far = subst (λ (xs : List Form). (r : Result (List Form) Wide) → each (form_fold lts tree basis class) (forms_in class (drop (c.loop-i.i + 1) (map row_name_of c.args.names.now))) r → each (form_fold lts tree basis class) (forms_in class (map row_name_of c.args.names.now)) (behind xs r)) (sym (map-append linear_form c.loop-i.forms.items (f ∷ [])))
-                (step_next lts tree basis class problem number c.args.names.now c.loop-i.i _ c.loop-i-test.true w.in-Some.form w.in-Some.ensures _ refl (map linear_form c.loop-i.forms.items) c.loop-i.invariant.so_far f (scaled_of scaled) w.in_ok-scaled.ensures.value w.form_over.ensures.numbers.0 w.form_over.ensures.numbers.1 w.form_over.ensures.bounds.0 w.form_over.ensures.bounds.1);
+                (step_next lts tree basis class problem number c.args.names.now c.loop-i.i _ c.loop-i-test.true w.in-Some.form w.in-Some.ensures _ refl (map linear_form c.loop-i.forms.items) c.loop-i.invariant.so_far f (scaled_of scaled) w.in_ok-scaled.ensures.value w.in_ok-named.ensures.numbers.0 w.in_ok-named.ensures.numbers.1 w.in_ok-named.ensures.bounds.0 w.in_ok-named.ensures.bounds.1);
             splits = subst (λ (xs : List SplitForm). xs ++ forms_in class (drop (c.loop-i.i + 1) (map row_name_of c.args.names.now)) ≡ forms_in class (map row_name_of c.args.names.now)) (sym (map-append split_of c.loop-i.forms.items (f ∷ [])))
-                (step_named lts tree basis class problem number c.args.names.now c.loop-i.i _ c.loop-i-test.true w.in-Some.form w.in-Some.ensures _ refl (map split_of c.loop-i.forms.items) c.loop-i.invariant.splits f w.form_over.ensures.form);
+                (step_named lts tree basis class problem number c.args.names.now c.loop-i.i _ c.loop-i-test.true w.in-Some.form w.in-Some.ensures _ refl (map split_of c.loop-i.forms.items) c.loop-i.invariant.splits f w.in_ok-named.ensures.form);
             made = All-append Made c.loop-i.forms.items (f ∷ []) c.loop-i.invariant.made (All-cons Made f [] one (All-nil Made));
           })))
       | in_default w ↦
