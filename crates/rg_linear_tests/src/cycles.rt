@@ -1,5 +1,8 @@
 //! Small bases worked by hand, and the walk at the limit of the range.
-use rg_cycles::{CycleWide, Relation, Stop, dependent, substitute};
+ghost use Rattle.std.specs.Prelude.{◌≡◌, ◌<◌, IfSome};
+ghost use Rattle.rg_cycles.specs.View.{labels_of};
+
+use rg_cycles::{Basis, CycleWide, Stop, dependent, substitute};
 use rg_fraction::{FoldStop, Fraction, Wide};
 use rg_test_bases::solved;
 use std::alloc::{AllocError, Global};
@@ -20,59 +23,86 @@ fn doubling(alloc: Global, labels: u32) -> Result<Vec<Vec<i128>>, AllocError> {
     Ok(chords)
 }
 
-fn is_relation(
-    relation: Option<&Relation>,
-    d: i128,
-    free: &[i128],
-    chords: &[(u32, i128)],
-) -> bool {
-    match relation {
+// The basis of these chords, each as its entries.
+fn basis<const N: usize>(alloc: Global, labels: u32, chords: &[[i128; N]]) -> Option<Basis>
+    ensures { IfSome result (λ b. labels_of b ≡ labels) }
+{
+    let mut list = Vec::new(alloc);
+    for chord in chords {
+        list.push(chord.to_vec(alloc).ok()?).ok()?;
+    }
+    solved(alloc, labels, &list).ok()
+}
+
+// Whether the relation of a label has these numbers.
+fn is_relation(basis: &Basis, t: u32, d: i128, free: &[i128], chords: &[(u32, i128)]) -> bool
+    requires { t < labels_of basis.now }
+{
+    match basis.relation(t) {
         Some(r) => r.d == d && r.free.as_slice() == free && r.chords.as_slice() == chords,
         None => false,
     }
 }
 
-#[test]
-fn one_chord_leaves_no_free_label(rt: HostRuntime) -> Result<(), Fail> {
-    let chords = [[2].to_vec(rt.alloc())?];
-    let basis = solved(rt.alloc(), 1, &chords)?;
-    assert!(rt; basis.free().is_empty());
-    assert!(rt; is_relation(basis.relation(0), 2, &[], &[(0, 1)]));
-    Ok(())
-}
-
-#[test]
-fn without_chords_all_labels_are_free(rt: HostRuntime) -> Result<(), Fail> {
-    let basis = solved(rt.alloc(), 2, &[])?;
-    assert!(rt; basis.free() == [0, 1].as_slice());
-    assert!(rt; basis.relation(1).is_none());
-    Ok(())
-}
-
-#[test]
-fn chords_are_named_by_their_first_places(rt: HostRuntime) -> Result<(), Fail> {
-    let chords = [
-        [0, 0].to_vec(rt.alloc())?,
-        [1, -1].to_vec(rt.alloc())?,
-        [1, -1].to_vec(rt.alloc())?,
-        [2, 0].to_vec(rt.alloc())?,
-    ];
-    let basis = solved(rt.alloc(), 2, &chords)?;
-    assert!(rt; basis.kept() == [1, 3].as_slice());
-    assert!(rt; basis.members() == [2, 3].as_slice());
-    assert!(rt; is_relation(basis.relation(0), 2, &[], &[(3, 1)]));
-    assert!(rt; is_relation(basis.relation(1), 2, &[], &[(1, -2), (3, 1)]));
-    Ok(())
-}
-
-#[test]
-fn the_first_term_that_passes_is_shown(rt: HostRuntime) -> Result<(), Fail> {
-    let chords = doubling(rt.alloc(), 128)?;
-    match solved(rt.alloc(), 128, &chords) {
-        Err(Stop::Wide(w)) => assert!(rt; is_shown(&w)),
-        _ => panic!(rt; "no term passed"),
+// Whether one chord leaves no label free.
+fn is_bound(alloc: Global) -> bool {
+    match basis(alloc, 1, &[[2]]) {
+        Some(basis) => basis.free().is_empty() && is_relation(&basis, 0, 2, &[], &[(0, 1)]),
+        None => false,
     }
-    Ok(())
+}
+
+#[test]
+fn one_chord_leaves_no_free_label(rt: HostRuntime) {
+    assert!(rt; is_bound(rt.alloc()));
+}
+
+// Whether each label is free where there is no chord.
+fn are_free(alloc: Global) -> bool {
+    match basis::<2>(alloc, 2, &[]) {
+        Some(basis) => basis.free() == [0, 1].as_slice() && basis.relation(1).is_none(),
+        None => false,
+    }
+}
+
+#[test]
+fn without_chords_all_labels_are_free(rt: HostRuntime) {
+    assert!(rt; are_free(rt.alloc()));
+}
+
+// Whether chords are named by their first places.
+fn are_named(alloc: Global) -> bool {
+    match basis(alloc, 2, &[[0, 0], [1, -1], [1, -1], [2, 0]]) {
+        Some(basis) => {
+            basis.kept() == [1, 3].as_slice()
+                && basis.members() == [2, 3].as_slice()
+                && is_relation(&basis, 0, 2, &[], &[(3, 1)])
+                && is_relation(&basis, 1, 2, &[], &[(1, -2), (3, 1)])
+        }
+        None => false,
+    }
+}
+
+#[test]
+fn chords_are_named_by_their_first_places(rt: HostRuntime) {
+    assert!(rt; are_named(rt.alloc()));
+}
+
+// The first term that passes, in the walk over the chords of so many labels.
+fn passing(alloc: Global, labels: u32) -> Option<CycleWide> {
+    let chords = doubling(alloc, labels).ok()?;
+    match solved(alloc, labels, &chords) {
+        Err(Stop::Wide(wide)) => Some(wide),
+        _ => None,
+    }
+}
+
+#[test]
+fn the_first_term_that_passes_is_shown(rt: HostRuntime) {
+    match passing(rt.alloc(), 128) {
+        Some(wide) => assert!(rt; is_shown(&wide)),
+        None => panic!(rt; "no term passed"),
+    }
 }
 
 fn is_shown(w: &CycleWide) -> bool {
@@ -89,34 +119,64 @@ fn is_shown(w: &CycleWide) -> bool {
         && w.wide == wide
 }
 
-#[test]
-fn a_shorter_walk_fits(rt: HostRuntime) -> Result<(), Fail> {
-    let chords = doubling(rt.alloc(), 127)?;
-    let basis = solved(rt.alloc(), 127, &chords)?;
-    assert!(rt; basis.free() == [126].as_slice());
+// Whether the walk over the chords of 127 labels ends, with the last label free.
+fn is_walked(alloc: Global) -> bool {
+    let Ok(chords) = doubling(alloc, 127) else {
+        return false;
+    };
+    let Ok(basis) = solved(alloc, 127, &chords) else {
+        return false;
+    };
     match basis.relation(0) {
-        Some(r) => assert_eq!(rt; r.d, HALF),
-        None => panic!(rt; "label 0 is free"),
+        Some(relation) => relation.d == HALF && basis.free() == [126].as_slice(),
+        None => false,
     }
-    Ok(())
 }
 
 #[test]
-fn sums_are_written_over_the_free_labels(rt: HostRuntime) -> Result<(), Fail> {
-    let chords = [[2, -1].to_vec(rt.alloc())?];
-    let basis = solved(rt.alloc(), 2, &chords)?;
-    let others = dependent(rt.alloc(), &basis, 2)?;
-    assert!(rt; others.as_slice() == [0].as_slice());
-    let row = substitute(rt.alloc(), &basis, &[3, 1])?;
-    assert!(rt; row.coeffs.as_slice() == [Fraction::new(5, 2)].as_slice());
+fn a_shorter_walk_fits(rt: HostRuntime) {
+    assert!(rt; is_walked(rt.alloc()));
+}
+
+// Whether the sum of the labels, counted so, is this multiple of the free label.
+fn is_written(alloc: Global, basis: &Basis) -> bool
+    requires { labels_of basis.now ≡ 2 }
+{
+    match substitute(alloc, basis, &[3, 1]) {
+        Ok(row) => row.coeffs.as_slice() == [Fraction::new(5, 2)].as_slice(),
+        Err(_) => false,
+    }
+}
+
+// Whether the sum of the labels, each counted as often as can be, passes.
+fn is_passed(alloc: Global, basis: &Basis) -> bool
+    requires { labels_of basis.now ≡ 2 }
+{
     let passes = Wide {
         a: i128::MAX,
         b: 2,
         c: -i128::MAX,
         d: 1,
     };
-    assert!(rt;
-        substitute(rt.alloc(), &basis, &[i128::MAX, i128::MAX]) == Err(FoldStop::Wide(passes))
-    );
+    substitute(alloc, basis, &[i128::MAX, i128::MAX]) == Err(FoldStop::Wide(passes))
+}
+
+// Whether the first label alone follows from others.
+fn is_dependent(alloc: Global, basis: &Basis) -> bool
+    requires { labels_of basis.now ≡ 2 }
+{
+    match dependent(alloc, basis, 2) {
+        Ok(others) => others.as_slice() == [0].as_slice(),
+        Err(_) => false,
+    }
+}
+
+#[test]
+fn sums_are_written_over_the_free_labels(rt: HostRuntime) -> Result<(), Fail> {
+    let alloc = rt.alloc();
+    let basis = basis(alloc, 2, &[[2, -1]]).ok_or("a basis")?;
+    assert!(rt; is_dependent(alloc, &basis));
+    assert!(rt; is_written(alloc, &basis));
+    assert!(rt; is_passed(alloc, &basis));
     Ok(())
 }

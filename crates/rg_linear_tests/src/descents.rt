@@ -3,16 +3,15 @@ ghost use Rattle.std.specs.Prelude.{◌≡◌, ℕ, ◌+◌, ◌<◌, ◌≤◌,
 ghost use Rattle.rg_linear.specs.View.{linear_system, IsWellFormed};
 ghost use Rattle.rg_feasible.specs.Settling.{IsWhole, IsRefutation};
 
-use crate::plain;
+use crate::plain::{self, Plain};
 use rg_feasible::{Dictionary, Settled};
 use rg_linear::{Row, System};
 use rg_test_bases::is_in_range;
 use std::alloc::{AllocError, Global};
 use std::process::Abort;
-use std::test::Fail;
 
-/// Whether the system of so many columns and these rows is well formed.
-pub(crate) fn is_well_formed(columns: u32, rows: &[Row]) -> bool
+// Whether the system of so many columns and these rows is well formed.
+fn is_well_formed(columns: u32, rows: &[Row]) -> bool
     ensures { IsTrue result → IsWellFormed (linear_system columns rows.now) }
 {
     if rows.len() > (u32::MAX - columns) as usize {
@@ -29,23 +28,38 @@ pub(crate) fn is_well_formed(columns: u32, rows: &[Row]) -> bool
     true
 }
 
-// Rows of equal width.
-fn rows<const N: usize>(alloc: Global, rows: &[([i128; N], i128)]) -> Result<Vec<Row>, AllocError> {
-    let mut list = Vec::new(alloc);
-    for (coeffs, constant) in rows {
-        let coeffs = coeffs.to_vec(alloc)?;
-        list.push(Row::new(coeffs, *constant)?)?;
-    }
-    Ok(list)
+/// The coefficients of a row, and its constant.
+pub(crate) type Told = (&'static [i128], i128);
+
+/// A system, and what its descent comes to: its answer, the set at its end, the value of each column and row as a fraction, and the
+/// multiplier of each row.
+#[derive(Clone, Copy)]
+pub(crate) struct Case {
+    pub columns: u32,
+    pub rows: &'static [Told],
+    pub settled: Settled,
+    pub members: &'static [u32],
+    pub values: &'static [(i128, i128)],
+    pub multipliers: &'static [i128],
 }
 
-/// What a dictionary shows once it is settled.
-#[derive(PartialEq, Debug, Drop)]
-pub(crate) struct Shown {
-    pub settled: Settled,
-    pub members: Vec<u32>,
-    pub values: Vec<(i128, i128)>,
-    pub multipliers: Vec<i128>,
+// The rows that are told.
+fn listed(alloc: Global, told: &[Told]) -> Result<Vec<Row>, AllocError> {
+    let mut rows = Vec::new(alloc);
+    for (coeffs, constant) in told {
+        let coeffs = Vec::from_slice(alloc, coeffs)?;
+        rows.push(Row::new(coeffs, *constant)?)?;
+    }
+    Ok(rows)
+}
+
+// What a dictionary shows once it is settled.
+#[derive(Drop)]
+struct Shown {
+    settled: Settled,
+    members: Vec<u32>,
+    values: Vec<(i128, i128)>,
+    multipliers: Vec<i128>,
 }
 
 fn members(alloc: Global, dictionary: &Dictionary, columns: u32) -> Result<Vec<u32>, AllocError>
@@ -86,22 +100,22 @@ fn multipliers(alloc: Global, dictionary: &Dictionary, rows: u32) -> Result<Vec<
     Ok(multipliers)
 }
 
-/// What the dictionary of the system shows once it is settled.
-pub(crate) fn show(alloc: Global, system: &System) -> Result<Shown, Fail> {
+// What the dictionary of the system shows once it is settled.
+fn show(alloc: Global, system: &System) -> Option<Shown> {
     let columns = system.columns();
     let rows = system.rows().len() as u32;
-    let mut dictionary = Dictionary::new(alloc, system)?;
+    let mut dictionary = Dictionary::new(alloc, system).ok()?;
     let settled = dictionary.settle();
-    let members = members(alloc, &dictionary, columns)?;
+    let members = members(alloc, &dictionary, columns).ok()?;
     let values = match settled {
-        Settled::Point => values(alloc, &dictionary, columns + rows)?,
+        Settled::Point => values(alloc, &dictionary, columns + rows).ok()?,
         _ => Vec::new(alloc),
     };
     let multipliers = match settled {
-        Settled::Refuted(_) => multipliers(alloc, &dictionary, rows)?,
+        Settled::Refuted(_) => multipliers(alloc, &dictionary, rows).ok()?,
         _ => Vec::new(alloc),
     };
-    Ok(Shown {
+    Some(Shown {
         settled,
         members,
         values,
@@ -109,111 +123,170 @@ pub(crate) fn show(alloc: Global, system: &System) -> Result<Shown, Fail> {
     })
 }
 
-fn settles<const N: usize>(
-    rt: &(impl Abort + AllocGlobal),
-    list: &[([i128; N], i128)],
-    settled: Settled,
-    members: &[u32],
-    values: &[(i128, i128)],
-    multipliers: &[i128],
-) -> Result<(), Fail> {
-    let rows = rows(rt.alloc(), list)?;
-    assert!(rt; N < 4);
-    assert!(rt; is_well_formed(N as u32, &rows));
-    let system = System::new(N as u32, rows);
-    let shown = show(rt.alloc(), &system)?;
-    assert_eq!(rt; shown.settled, settled);
-    assert_eq!(rt; shown.members.as_slice(), members);
-    assert_eq!(rt; shown.values.as_slice(), values);
-    assert_eq!(rt; shown.multipliers.as_slice(), multipliers);
-    Ok(())
+// What the dictionary of these rows shows once it is settled.
+fn outcome(alloc: Global, columns: u32, told: &[Told]) -> Option<Shown> {
+    let rows = listed(alloc, told).ok()?;
+    if !is_well_formed(columns, &rows) {
+        return None;
+    }
+    show(alloc, &System::new(columns, rows))
 }
+
+// Whether the descent of a case comes to what is told of it.
+fn is_settled(alloc: Global, case: &Case) -> bool {
+    match outcome(alloc, case.columns, case.rows) {
+        Some(shown) => {
+            shown.settled == case.settled
+                && shown.members.as_slice() == case.members
+                && shown.values.as_slice() == case.values
+                && shown.multipliers.as_slice() == case.multipliers
+        }
+        None => false,
+    }
+}
+
+/// The descent of each case comes to what is told of it.
+pub(crate) fn are_settled(rt: &(impl Abort + AllocGlobal), cases: &[Case]) {
+    for case in cases {
+        assert!(rt;
+            is_settled(rt.alloc(), case),
+            "{} columns: {:?}",
+            case.columns,
+            case.settled
+        );
+    }
+}
+
+// x - 1 and 3 - x; x - 1 and -x
+const ONE_COLUMN: [Case; 2] = [
+    Case {
+        columns: 1,
+        rows: &[(&[1], -1), (&[-1], 3)],
+        settled: Settled::Point,
+        members: &[1],
+        values: &[(1, 1), (0, 1), (2, 1)],
+        multipliers: &[],
+    },
+    Case {
+        columns: 1,
+        rows: &[(&[1], -1), (&[-1], 0)],
+        settled: Settled::Refuted(0),
+        members: &[2],
+        values: &[],
+        multipliers: &[1, 1],
+    },
+];
 
 #[test]
-fn one_column(rt: HostRuntime) -> Result<(), Fail> {
-    // x - 1 and 3 - x; x - 1 and -x
-    let point = [([1], -1), ([-1], 3)];
-    let values = [(1, 1), (0, 1), (2, 1)];
-    settles(&rt, &point, Settled::Point, &[1], &values, &[])?;
-    let refuted = [([1], -1), ([-1], 0)];
-    settles(&rt, &refuted, Settled::Refuted(0), &[2], &[], &[1, 1])
+fn one_column(rt: HostRuntime) {
+    are_settled(&rt, &ONE_COLUMN);
 }
+
+const NO_COLUMN: [Case; 2] = [
+    Case {
+        columns: 0,
+        rows: &[(&[], 0)],
+        settled: Settled::Point,
+        members: &[],
+        values: &[(0, 1)],
+        multipliers: &[],
+    },
+    Case {
+        columns: 0,
+        rows: &[(&[], -1)],
+        settled: Settled::Refuted(0),
+        members: &[],
+        values: &[],
+        multipliers: &[1],
+    },
+];
 
 #[test]
-fn no_column(rt: HostRuntime) -> Result<(), Fail> {
-    settles(&rt, &[([], 0)], Settled::Point, &[], &[(0, 1)], &[])?;
-    settles(&rt, &[([], -1)], Settled::Refuted(0), &[], &[], &[1])
+fn no_column(rt: HostRuntime) {
+    are_settled(&rt, &NO_COLUMN);
 }
+
+// x0 - x2, -x1, 2*x2 - 1: the exchange of the last row makes the first one fail
+const TAKEN_AGAIN: [Case; 1] = [Case {
+    columns: 3,
+    rows: &[(&[1, 0, -1], 0), (&[0, -1, 0], 0), (&[0, 0, 2], -1)],
+    settled: Settled::Point,
+    members: &[1, 3, 5],
+    values: &[(1, 2), (0, 1), (1, 2), (0, 1), (0, 1), (0, 1)],
+    multipliers: &[],
+}];
 
 #[test]
-fn first_row_is_taken_again(rt: HostRuntime) -> Result<(), Fail> {
-    // x0 - x2, -x1, 2*x2 - 1: the exchange of the last row makes the first one fail
-    let rows = [([1, 0, -1], 0), ([0, -1, 0], 0), ([0, 0, 2], -1)];
-    let values = [(1, 2), (0, 1), (1, 2), (0, 1), (0, 1), (0, 1)];
-    settles(&rt, &rows, Settled::Point, &[1, 3, 5], &values, &[])
+fn first_row_is_taken_again(rt: HostRuntime) {
+    are_settled(&rt, &TAKEN_AGAIN);
 }
 
-// The plain descent ends as `settle` does, at the same set.
-fn agrees(
-    rt: &(impl Abort + AllocGlobal),
-    list: &[([i128; 3], i128)],
-    refuted: Option<u32>,
-) -> Result<(), Fail> {
-    let rows = rows(rt.alloc(), list)?;
-    let told = plain::descent(rt.alloc(), 3, &rows)?;
-    assert_eq!(rt; told.refuted, refuted);
-    assert!(rt; is_well_formed(3, &rows));
-    let shown = show(rt.alloc(), &System::new(3, rows))?;
+// The plain descent over the rows that are told.
+fn plainly(alloc: Global, told: &[Told]) -> Option<Plain> {
+    let rows = listed(alloc, told).ok()?;
+    plain::descent(alloc, 3, &rows).ok()
+}
+
+// Whether the plain descent is refuted at this row, and ends as `settle` does, at the same set.
+fn agrees(alloc: Global, told: &[Told], refuted: Option<u32>) -> bool {
+    let Some(plain) = plainly(alloc, told) else {
+        return false;
+    };
+    let Some(shown) = outcome(alloc, 3, told) else {
+        return false;
+    };
     let settled = match refuted {
         Some(row) => Settled::Refuted(row),
         None => Settled::Point,
     };
-    assert_eq!(rt; shown.settled, settled);
-    assert_eq!(rt; shown.members, told.members);
-    Ok(())
+    plain.refuted == refuted
+        && shown.settled == settled
+        && shown.members.as_slice() == plain.members.as_slice()
 }
 
+// Rows of three columns, and the row at which their descent is refuted.
+const AGREED: [([Told; 4], Option<u32>); 4] = [
+    (
+        [
+            (&[-2, 2, 1], -2),
+            (&[2, 2, 2], 0),
+            (&[0, 2, 0], -1),
+            (&[2, -1, 0], -1),
+        ],
+        None,
+    ),
+    (
+        [
+            (&[-2, 1, -1], -2),
+            (&[-2, -1, 1], 1),
+            (&[-1, 0, -2], -2),
+            (&[0, 0, -2], -2),
+        ],
+        None,
+    ),
+    (
+        [
+            (&[0, 2, 0], 0),
+            (&[-2, 2, 0], -2),
+            (&[0, -1, -1], 0),
+            (&[1, -1, 2], -2),
+        ],
+        Some(0),
+    ),
+    (
+        [
+            (&[2, -2, 1], 1),
+            (&[0, 2, -2], 1),
+            (&[-2, -1, -1], 0),
+            (&[0, 0, 1], -2),
+        ],
+        Some(0),
+    ),
+];
+
 #[test]
-fn plain_descent_agrees(rt: HostRuntime) -> Result<(), Fail> {
-    for (list, refuted) in [
-        (
-            [
-                ([-2, 2, 1], -2),
-                ([2, 2, 2], 0),
-                ([0, 2, 0], -1),
-                ([2, -1, 0], -1),
-            ],
-            None,
-        ),
-        (
-            [
-                ([-2, 1, -1], -2),
-                ([-2, -1, 1], 1),
-                ([-1, 0, -2], -2),
-                ([0, 0, -2], -2),
-            ],
-            None,
-        ),
-        (
-            [
-                ([0, 2, 0], 0),
-                ([-2, 2, 0], -2),
-                ([0, -1, -1], 0),
-                ([1, -1, 2], -2),
-            ],
-            Some(0),
-        ),
-        (
-            [
-                ([2, -2, 1], 1),
-                ([0, 2, -2], 1),
-                ([-2, -1, -1], 0),
-                ([0, 0, 1], -2),
-            ],
-            Some(0),
-        ),
-    ] {
-        agrees(&rt, &list, refuted)?;
+fn plain_descent_agrees(rt: HostRuntime) {
+    for (told, refuted) in AGREED {
+        assert!(rt; agrees(rt.alloc(), &told, refuted), "{told:?}");
     }
-    Ok(())
 }

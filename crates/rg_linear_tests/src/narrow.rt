@@ -1,11 +1,8 @@
 //! Systems of no column to five, with numbers as great as such a system may have for `settle` never to be refused; and one with
 //! greater numbers, which is refused.
-use crate::descents::{Shown, is_well_formed, show};
+use crate::descents::{Case, are_settled};
 use rg_feasible::{PivotWide, Settled};
 use rg_fraction::Wide;
-use rg_linear::{Row, System};
-use std::alloc::{AllocError, Global};
-use std::test::Fail;
 
 // The numbers that stand in the rows, by the number of columns.
 const OF_NONE: i128 = 9223372036854775807;
@@ -17,21 +14,6 @@ const OF_TWO: i128 = 32767;
 const OF_THREE: i128 = 127;
 
 const GREATEST: i128 = i128::MAX;
-
-// The coefficients of a row, and its constant.
-type Told = (&'static [i128], i128);
-
-// A system, and what its descent comes to: its answer, the set at its end, the value of each column and row as a fraction, and the
-// multiplier of each row.
-#[derive(Clone, Copy)]
-struct Case {
-    columns: u32,
-    rows: &'static [Told],
-    settled: Settled,
-    members: &'static [u32],
-    values: &'static [(i128, i128)],
-    multipliers: &'static [i128],
-}
 
 const CASES: [Case; 6] = [
     Case {
@@ -118,30 +100,7 @@ const CASES: [Case; 6] = [
     },
 ];
 
-// The rows that are told.
-fn listed(alloc: Global, told: &[Told]) -> Result<Vec<Row>, AllocError> {
-    let mut rows = Vec::new(alloc);
-    for (coeffs, constant) in told {
-        let coeffs = Vec::from_slice(alloc, coeffs)?;
-        rows.push(Row::new(coeffs, *constant)?)?;
-    }
-    Ok(rows)
-}
-
 #[test]
-fn systems_are_settled(rt: HostRuntime) -> Result<(), Fail> {
-    let alloc = rt.alloc();
-    for case in CASES {
-        let rows = listed(alloc, case.rows)?;
-        assert!(rt; case.columns < 6 && is_well_formed(case.columns, &rows));
-        let shown = show(alloc, &System::new(case.columns, rows))?;
-        let wanted = Shown {
-            settled: case.settled,
-            members: Vec::from_slice(alloc, case.members)?,
-            values: Vec::from_slice(alloc, case.values)?,
-            multipliers: Vec::from_slice(alloc, case.multipliers)?,
-        };
-        assert_eq!(rt; shown, wanted);
-    }
-    Ok(())
+fn systems_are_settled(rt: HostRuntime) {
+    are_settled(&rt, &CASES);
 }
