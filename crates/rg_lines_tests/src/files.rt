@@ -1,11 +1,13 @@
 //! The lines that refuse files that can't be read, state graphs and word lists.
+use crate::samples::is_refused;
 use rg_genet::GraphFault;
-use rg_lines::{Fault, FileFault, file_text};
+use rg_lines::{Fault, FileFault};
 use rg_words::WordFault;
-use std::test::Fail;
 
-// The first file of the words.
-const FIRST: u8 = 1;
+// A fault of the first file.
+fn first(fault: Fault) -> FileFault {
+    FileFault { file: 1, fault }
+}
 
 const UNREAD: [(FileFault, &str); 5] = [
     (
@@ -46,12 +48,10 @@ const UNREAD: [(FileFault, &str); 5] = [
 ];
 
 #[test]
-fn unread(rt: HostRuntime) -> Result<(), Fail> {
+fn unread(rt: HostRuntime) {
     for (fault, wanted) in UNREAD {
-        let text = file_text(rt.alloc(), fault)?;
-        assert!(rt; text.as_slice() == wanted.as_bytes(), "{fault:?}");
+        assert!(rt; is_refused(rt.alloc(), fault, wanted), "{wanted}");
     }
-    Ok(())
 }
 
 const GRAPHS: [(GraphFault, &str); 11] = [
@@ -85,16 +85,11 @@ const GRAPHS: [(GraphFault, &str); 11] = [
 ];
 
 #[test]
-fn state_graphs(rt: HostRuntime) -> Result<(), Fail> {
+fn state_graphs(rt: HostRuntime) {
     for (fault, wanted) in GRAPHS {
-        let told = FileFault {
-            file: FIRST,
-            fault: Fault::Graph(fault),
-        };
-        let text = file_text(rt.alloc(), told)?;
-        assert!(rt; text.as_slice() == wanted.as_bytes(), "{fault:?}");
+        let fault = first(Fault::Graph(fault));
+        assert!(rt; is_refused(rt.alloc(), fault, wanted), "{wanted}");
     }
-    Ok(())
 }
 
 const WORD_LISTS: [(WordFault, &str); 6] = [
@@ -117,14 +112,9 @@ const WORD_LISTS: [(WordFault, &str); 6] = [
 ];
 
 #[test]
-fn word_lists(rt: HostRuntime) -> Result<(), Fail> {
+fn word_lists(rt: HostRuntime) {
     for (fault, wanted) in WORD_LISTS {
-        let told = FileFault {
-            file: FIRST,
-            fault: Fault::Words(fault),
-        };
-        let text = file_text(rt.alloc(), told)?;
-        assert!(rt; text.as_slice() == wanted.as_bytes(), "{fault:?}");
+        let fault = first(Fault::Words(fault));
+        assert!(rt; is_refused(rt.alloc(), fault, wanted), "{wanted}");
     }
-    Ok(())
 }

@@ -1,8 +1,8 @@
 //! The lines that refuse net files.
+use crate::samples::is_refused;
 use rg_lexer::Want;
-use rg_lines::{Fault, FileFault, file_text};
+use rg_lines::{Fault, FileFault};
 use rg_netfile::NetFault;
-use std::test::Fail;
 
 const FAULTS: [(NetFault, &str); 15] = [
     (NetFault::BadByte(0), "file 2: bad byte at 0\n"),
@@ -63,14 +63,12 @@ fn second(fault: NetFault) -> FileFault {
 }
 
 #[test]
-fn net_files(rt: HostRuntime) -> Result<(), Fail> {
+fn net_files(rt: HostRuntime) {
     for (fault, wanted) in FAULTS {
-        let text = file_text(rt.alloc(), second(fault))?;
-        assert!(rt; text.as_slice() == wanted.as_bytes(), "{fault:?}");
+        assert!(rt; is_refused(rt.alloc(), second(fault), wanted), "{wanted}");
     }
     for (want, wanted) in WANTS {
-        let text = file_text(rt.alloc(), second(NetFault::Expected(100, want)))?;
-        assert!(rt; text.as_slice() == wanted.as_bytes(), "{want:?}");
+        let fault = second(NetFault::Expected(100, want));
+        assert!(rt; is_refused(rt.alloc(), fault, wanted), "{wanted}");
     }
-    Ok(())
 }

@@ -1,8 +1,8 @@
 //! The lines that refuse system files.
+use crate::samples::is_refused;
 use rg_apt::TextFault;
 use rg_lexer::Want;
-use rg_lines::{Fault, FileFault, file_text};
-use std::test::Fail;
+use rg_lines::{Fault, FileFault};
 
 const FAULTS: [(TextFault, &str); 17] = [
     (TextFault::BadByte(0), "file 1: bad byte at 0\n"),
@@ -65,14 +65,12 @@ fn first(fault: TextFault) -> FileFault {
 }
 
 #[test]
-fn system_files(rt: HostRuntime) -> Result<(), Fail> {
+fn system_files(rt: HostRuntime) {
     for (fault, wanted) in FAULTS {
-        let text = file_text(rt.alloc(), first(fault))?;
-        assert!(rt; text.as_slice() == wanted.as_bytes(), "{fault:?}");
+        assert!(rt; is_refused(rt.alloc(), first(fault), wanted), "{wanted}");
     }
     for (want, wanted) in WANTS {
-        let text = file_text(rt.alloc(), first(TextFault::Expected(5, want)))?;
-        assert!(rt; text.as_slice() == wanted.as_bytes(), "{want:?}");
+        let fault = first(TextFault::Expected(5, want));
+        assert!(rt; is_refused(rt.alloc(), fault, wanted), "{wanted}");
     }
-    Ok(())
 }

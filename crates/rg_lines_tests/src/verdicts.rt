@@ -2,12 +2,13 @@
 ghost use Rattle.std.specs.Prelude.{IsTrue};
 ghost use Rattle.rg_lines.specs.JudgedTexts.{HasName};
 
-use crate::samples::{TOGGLE, system};
+use crate::samples::{TOGGLE, is_line, system};
 use rg_cert::CertFault;
 use rg_lines::{accepted_text, defect_text, fault_text};
 use rg_lts::Lts;
 use rg_theory::Class;
 use rg_verify::{Defect, Variable};
+use std::alloc::Global;
 use std::test::Fail;
 
 const NONE: Class = Class {
@@ -72,13 +73,16 @@ const CLASSES: [(Class, &str); 8] = [
     ),
 ];
 
+// Whether the class of an accepted certificate is told by this line.
+fn is_class_told(alloc: Global, class: Class, wanted: &str) -> bool {
+    is_line(accepted_text(alloc, class), wanted)
+}
+
 #[test]
-fn accepted(rt: HostRuntime) -> Result<(), Fail> {
+fn accepted(rt: HostRuntime) {
     for (class, wanted) in CLASSES {
-        let text = accepted_text(rt.alloc(), class)?;
-        assert!(rt; text.as_slice() == wanted.as_bytes(), "{class:?}");
+        assert!(rt; is_class_told(rt.alloc(), class, wanted), "{wanted}");
     }
-    Ok(())
 }
 
 const FAULTS: [(CertFault, &str); 8] = [
@@ -105,13 +109,16 @@ const FAULTS: [(CertFault, &str); 8] = [
     (CertFault::NoMemory, "refused: no memory\n"),
 ];
 
+// Whether the fault of a certificate is told by this line.
+fn is_fault_told(alloc: Global, fault: CertFault, wanted: &str) -> bool {
+    is_line(fault_text(alloc, fault), wanted)
+}
+
 #[test]
-fn faults(rt: HostRuntime) -> Result<(), Fail> {
+fn faults(rt: HostRuntime) {
     for (fault, wanted) in FAULTS {
-        let text = fault_text(rt.alloc(), fault)?;
-        assert!(rt; text.as_slice() == wanted.as_bytes(), "{fault:?}");
+        assert!(rt; is_fault_told(rt.alloc(), fault, wanted), "{wanted}");
     }
-    Ok(())
 }
 
 // A case, a node, a defect, and the line.
@@ -179,14 +186,26 @@ fn has_name(lts: &Lts, defect: Defect) -> bool
     }
 }
 
+// Whether a defect has the system's name, and is told by this line.
+fn is_defect_told(
+    alloc: Global,
+    lts: &Lts,
+    case: u32,
+    node: u64,
+    defect: Defect,
+    wanted: &str,
+) -> bool {
+    has_name(lts, defect) && is_line(defect_text(alloc, lts, case, node, defect), wanted)
+}
+
 #[test]
 fn defects(rt: HostRuntime) -> Result<(), Fail> {
-    let alloc = rt.alloc();
-    let lts = system(alloc, TOGGLE).ok_or("a system")?;
+    let lts = system(rt.alloc(), TOGGLE).ok_or("a system")?;
     for (case, node, defect, wanted) in DEFECTS {
-        assert!(rt; has_name(&lts, defect), "{defect:?}");
-        let text = defect_text(alloc, &lts, case, node, defect)?;
-        assert!(rt; text.as_slice() == wanted.as_bytes(), "{defect:?}");
+        assert!(rt;
+            is_defect_told(rt.alloc(), &lts, case, node, defect, wanted),
+            "{wanted}"
+        );
     }
     Ok(())
 }

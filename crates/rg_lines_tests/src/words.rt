@@ -1,8 +1,9 @@
 //! The lines that refuse words.
+use crate::samples::is_line;
 use rg_commands::Usage;
 use rg_lines::usage_text;
 use rg_theory::ClassFault;
-use std::test::Fail;
+use std::alloc::Global;
 
 const USAGES: [(Usage, &str); 13] = [
     (Usage::NoCommand, "usage: no command\n"),
@@ -35,11 +36,14 @@ const USAGES: [(Usage, &str); 13] = [
     (Usage::NumberWord, "usage: number out of range\n"),
 ];
 
+// Whether the words are refused by this line.
+fn is_told(alloc: Global, usage: Usage, wanted: &str) -> bool {
+    is_line(usage_text(alloc, usage), wanted)
+}
+
 #[test]
-fn usages(rt: HostRuntime) -> Result<(), Fail> {
+fn usages(rt: HostRuntime) {
     for (usage, wanted) in USAGES {
-        let text = usage_text(rt.alloc(), usage)?;
-        assert!(rt; text.as_slice() == wanted.as_bytes(), "{usage:?}");
+        assert!(rt; is_told(rt.alloc(), usage, wanted), "{wanted}");
     }
-    Ok(())
 }
