@@ -1,65 +1,83 @@
 //! Rows and counts of the word a b a.
 use crate::systems::{ABA, NONBRANCHING, NONE, system};
 use rg_expressions::{count, start};
+use rg_lts::Lts;
 use rg_reasons::Term::{Minus, Plus};
 use rg_reasons::Variable::{Effect, Tokens};
 use rg_reasons::{Expression, Form, ProblemCase, RowName, Side, expression};
 use rg_spanning::Tree;
 use rg_theory::Problem::{Event, States};
-use std::alloc::AllocError;
+use std::alloc::Global;
 use std::test::Fail;
+
+// The states 0 and 2, of a class in which each label's place has one consumer.
+const APART: ProblemCase = ProblemCase {
+    class: NONBRANCHING,
+    problem: States(0, 2),
+    number: 3,
+};
 
 #[test]
 fn the_order_and_the_consumer_are_told(rt: HostRuntime) -> Result<(), Fail> {
-    let lts = system(rt.alloc(), ABA)?;
-    let case = ProblemCase {
-        class: NONBRANCHING,
-        problem: States(0, 2),
-        number: 3,
-    };
-    assert_eq!(rt; case.order(&lts), 1);
-    assert_eq!(rt; case.consumer(&lts), 1);
+    let lts = system(rt.alloc(), ABA).ok_or("a system")?;
+    assert!(rt; APART.order(&lts) == 1);
+    assert!(rt; APART.consumer(&lts) == 1);
     Ok(())
 }
 
-// The row `stop` at state 2 of the problem of label 0 at state 1: its tokens less those of state 1, less 1.
-#[test]
-fn a_stop_is_told_and_counted(rt: HostRuntime) -> Result<(), Fail> {
-    let lts = system(rt.alloc(), ABA)?;
-    let case = ProblemCase {
-        class: NONE,
-        problem: Event(1, 0),
-        number: 0,
-    };
-    let row = expression(&lts, case, &[], RowName::Stop(2));
-    assert_eq!(rt; row.constant, -1);
-    assert_eq!(rt;
-        row.terms,
-        [Some(Plus(Tokens(2))), Some(Minus(Tokens(1))), None]
-    );
-    assert_eq!(rt; start(&row), 0);
+// Label 0 at state 1.
+const STOPPED: ProblemCase = ProblemCase {
+    class: NONE,
+    problem: Event(1, 0),
+    number: 0,
+};
+
+// Whether the row `stop` at state 2 is its tokens less those of state 1, less 1.
+fn is_stop(lts: &Lts) -> bool {
+    let row = expression(lts, STOPPED, &[], RowName::Stop(2));
+    row.constant == -1
+        && row.terms == [Some(Plus(Tokens(2))), Some(Minus(Tokens(1))), None]
+        && start(&row) == 0
+}
+
+// Whether the row of the high side of the effect of label 1 at 4 has the constant -5.
+fn is_above(lts: &Lts) -> bool {
     let side = [Side {
         form: Form::Effect(1),
         at: 4,
         high: true,
     }];
-    let above = expression(&lts, case, &side, RowName::Above(0));
-    assert_eq!(rt; above.constant, -5);
+    expression(lts, STOPPED, &side, RowName::Above(0)).constant == -5
+}
+
+#[test]
+fn a_stop_is_told_and_counted(rt: HostRuntime) -> Result<(), Fail> {
+    let lts = system(rt.alloc(), ABA).ok_or("a system")?;
+    assert!(rt; is_stop(&lts));
+    assert!(rt; is_above(&lts));
     Ok(())
+}
+
+// The tokens of state 2 less the effect of label 1.
+const SUM: Expression = Expression {
+    terms: [Some(Plus(Tokens(2))), Some(Minus(Effect(1))), None],
+    constant: 0,
+};
+
+// Whether label 0 is counted once along the tree, and label 1 not at all.
+fn are_counted(alloc: Global, lts: &Lts) -> bool {
+    if lts.labels() < 2 || lts.states() < 3 {
+        return false;
+    }
+    match Tree::grow(alloc, lts) {
+        Ok(tree) => count(&tree, &SUM, 0) == 1 && count(&tree, &SUM, 1) == 0,
+        Err(_) => false,
+    }
 }
 
 #[test]
 fn labels_count_along_the_tree(rt: HostRuntime) -> Result<(), Fail> {
-    let lts = system(rt.alloc(), ABA)?;
-    let tree = Tree::grow(rt.alloc(), &lts)?;
-    if lts.labels() < 2 || lts.states() < 3 {
-        return Err(Fail::from(AllocError));
-    }
-    let sum = Expression {
-        terms: [Some(Plus(Tokens(2))), Some(Minus(Effect(1))), None],
-        constant: 0,
-    };
-    assert_eq!(rt; count(&tree, &sum, 0), 1);
-    assert_eq!(rt; count(&tree, &sum, 1), 0);
+    let lts = system(rt.alloc(), ABA).ok_or("a system")?;
+    assert!(rt; are_counted(rt.alloc(), &lts));
     Ok(())
 }

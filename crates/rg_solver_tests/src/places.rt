@@ -1,6 +1,7 @@
 //! Places of points, worked by hand.
 ghost use Rattle.std.specs.Prelude.{◌≡◌, length, IsTrue, IfOk};
 ghost use Rattle.rg_theory.specs.System.{labels};
+ghost use Rattle.rg_spanning.specs.Spanning.{IsTreeOf};
 ghost use Rattle.rg_order_of_work.specs.Rewriting.{column_count};
 ghost use Rattle.rg_cycles.specs.View.{labels_of, cycle_of};
 
@@ -18,6 +19,7 @@ use rg_spanning::Tree;
 use rg_theory::Class;
 use rg_theory::Problem::{self, Event, States};
 use std::alloc::{AllocError, Global};
+use std::process::Abort;
 use std::test::Fail;
 
 // Each of two users gets the lock and puts it back.
@@ -42,22 +44,42 @@ fn is_point(
     Ok(columns.count(basis) as usize == point.len())
 }
 
-// The place of a point that has one number for each column.
+// The place of a point that has one number for each column, over a basis.
+fn place_over(
+    alloc: Global,
+    lts: &Lts,
+    tree: &Tree,
+    basis: &Basis,
+    class: Class,
+    problem: Problem,
+    point: &[Fraction],
+) -> Option<Result<RegionPlace, FoldStop>>
+    requires tree { IsTreeOf lts.now tree.now }
+    requires labels { labels_of basis.now ≡ labels lts.now }
+{
+    if !is_asked(lts, problem) || !is_point(alloc, lts, basis, class, point).ok()? {
+        return None;
+    }
+    Some(make_place(alloc, lts, tree, basis, class, problem, point))
+}
+
+// The place of a point of the system that a text spells.
 fn placed(
     alloc: Global,
     text: &str,
     class: Class,
     problem: Problem,
     numbers: &[(i128, i128)],
-) -> Result<Result<RegionPlace, FoldStop>, Fail> {
+) -> Option<Result<RegionPlace, FoldStop>> {
+    let point = point(alloc, numbers).ok()?;
     let lts = system(alloc, text)?;
-    let tree = Tree::grow(alloc, &lts)?;
-    let basis = basis(alloc, &lts, &tree)?;
-    let point = point(alloc, numbers)?;
-    if !is_point(alloc, &lts, &basis, class, &point)? || !is_asked(&lts, problem) {
-        return Err(Fail::from(AllocError));
-    }
-    Ok(make_place(alloc, &lts, &tree, &basis, class, problem, &point))
+    let Ok(tree) = Tree::grow(alloc, &lts) else {
+        return None;
+    };
+    let Ok(basis) = basis(alloc, &lts, &tree) else {
+        return None;
+    };
+    place_over(alloc, &lts, &tree, &basis, class, problem, &point)
 }
 
 // Fractions of numbers in range.
@@ -69,113 +91,214 @@ fn point(alloc: Global, numbers: &[(i128, i128)]) -> Result<Vec<Fraction>, Alloc
     Ok(point)
 }
 
-fn is_place(made: &RegionPlace, start: u128, pre: &[u128], post: &[u128], tokens: &[u128]) -> bool {
-    made.place.start == start
-        && made.place.pre.as_slice() == pre
-        && made.place.post.as_slice() == post
-        && made.tokens.as_slice() == tokens
+// A problem of the system that a text spells, the numbers of a point, and its place: the start, what each label takes and gives, and
+// the tokens of the states, where they are told.
+#[derive(Clone, Copy)]
+struct Worked {
+    text: &'static str,
+    class: Class,
+    problem: Problem,
+    numbers: &'static [(i128, i128)],
+    start: u128,
+    pre: &'static [u128],
+    post: &'static [u128],
+    tokens: Option<&'static [u128]>,
 }
 
-#[test]
-fn places_of_two_labels(rt: HostRuntime) -> Result<(), Fail> {
-    let alloc = rt.alloc();
-    for (text, class, problem, numbers, start, pre, post) in [
-        // b takes the token that a needs and gives back
-        (
-            SIDE,
-            NONE,
-            Event(1, 0),
-            [(-1, 2)].as_slice(),
-            1,
-            [1, 1],
-            [1, 0],
-        ),
-        (
-            SIDE,
-            NONE,
-            States(0, 1),
-            [(-1, 2)].as_slice(),
-            1,
-            [0, 1],
-            [0, 0],
-        ),
-        (
-            ABA,
-            NONE,
-            Event(1, 0),
-            [(-1, 1), (1, 1)].as_slice(),
-            1,
-            [1, 0],
-            [0, 1],
-        ),
-        // a pure class has a column for the start
-        (
-            ABA,
-            PURE,
-            Event(1, 0),
-            [(3, 2), (-1, 1), (1, 1)].as_slice(),
-            3,
-            [2, 0],
-            [0, 2],
-        ),
-        (
-            CHOICE,
-            NONBRANCHING,
-            Event(1, 0),
-            [(-1, 1), (0, 1)].as_slice(),
-            1,
-            [1, 0],
-            [0, 0],
-        ),
-        (
-            CHOICE,
-            NONE,
-            Event(1, 1),
-            [(-1, 1), (-1, 1)].as_slice(),
-            1,
-            [1, 1],
-            [0, 0],
-        ),
-        // the effect of b follows from that of a
-        (
-            TWICE,
-            NONE,
-            Event(2, 0),
-            [(-1, 1)].as_slice(),
-            2,
-            [1, 2],
-            [0, 0],
-        ),
-    ] {
-        let made = placed(alloc, text, class, problem, numbers)??;
-        assert_eq!(rt; made.place.start, start);
-        assert_eq!(rt; made.place.pre.as_slice(), pre.as_slice());
-        assert_eq!(rt; made.place.post.as_slice(), post.as_slice());
+// Whether a place is the one that is told.
+fn is_told(made: &RegionPlace, worked: &Worked) -> bool {
+    made.place.start == worked.start
+        && made.place.pre.as_slice() == worked.pre
+        && made.place.post.as_slice() == worked.post
+        && match worked.tokens {
+            Some(tokens) => made.tokens.as_slice() == tokens,
+            None => true,
+        }
+}
+
+// Whether the point becomes the place that is told.
+fn is_made(alloc: Global, worked: &Worked) -> bool {
+    match placed(
+        alloc,
+        worked.text,
+        worked.class,
+        worked.problem,
+        worked.numbers,
+    ) {
+        Some(Ok(made)) => is_told(&made, worked),
+        _ => false,
     }
-    Ok(())
 }
 
+// Each point becomes the place that is told.
+fn are_made(rt: &(impl Abort + AllocGlobal), points: &[Worked]) {
+    for worked in points {
+        assert!(rt;
+            is_made(rt.alloc(), worked),
+            "{:?} of {}",
+            worked.problem,
+            worked.text
+        );
+    }
+}
+
+const TWO_LABELS: [Worked; 7] = [
+    // b takes the token that a needs and gives back
+    Worked {
+        text: SIDE,
+        class: NONE,
+        problem: Event(1, 0),
+        numbers: &[(-1, 2)],
+        start: 1,
+        pre: &[1, 1],
+        post: &[1, 0],
+        tokens: None,
+    },
+    Worked {
+        text: SIDE,
+        class: NONE,
+        problem: States(0, 1),
+        numbers: &[(-1, 2)],
+        start: 1,
+        pre: &[0, 1],
+        post: &[0, 0],
+        tokens: None,
+    },
+    Worked {
+        text: ABA,
+        class: NONE,
+        problem: Event(1, 0),
+        numbers: &[(-1, 1), (1, 1)],
+        start: 1,
+        pre: &[1, 0],
+        post: &[0, 1],
+        tokens: None,
+    },
+    // a pure class has a column for the start
+    Worked {
+        text: ABA,
+        class: PURE,
+        problem: Event(1, 0),
+        numbers: &[(3, 2), (-1, 1), (1, 1)],
+        start: 3,
+        pre: &[2, 0],
+        post: &[0, 2],
+        tokens: None,
+    },
+    Worked {
+        text: CHOICE,
+        class: NONBRANCHING,
+        problem: Event(1, 0),
+        numbers: &[(-1, 1), (0, 1)],
+        start: 1,
+        pre: &[1, 0],
+        post: &[0, 0],
+        tokens: None,
+    },
+    Worked {
+        text: CHOICE,
+        class: NONE,
+        problem: Event(1, 1),
+        numbers: &[(-1, 1), (-1, 1)],
+        start: 1,
+        pre: &[1, 1],
+        post: &[0, 0],
+        tokens: None,
+    },
+    // the effect of b follows from that of a
+    Worked {
+        text: TWICE,
+        class: NONE,
+        problem: Event(2, 0),
+        numbers: &[(-1, 1)],
+        start: 2,
+        pre: &[1, 2],
+        post: &[0, 0],
+        tokens: None,
+    },
+];
+
 #[test]
-fn tokens_of_states(rt: HostRuntime) -> Result<(), Fail> {
-    let alloc = rt.alloc();
-    let word = placed(alloc, ABA, PURE, Event(1, 0), &[(3, 2), (-1, 1), (1, 1)])??;
-    assert!(rt; is_place(&word, 3, &[2, 0], &[0, 2], &[3, 1, 3, 1]));
-    let lock = placed(alloc, LOCK, NONE, Event(1, 2), &[(1, 1), (1, 1)])??;
-    assert!(rt; is_place(&lock, 1, &[1, 0, 1, 0], &[0, 1, 0, 1], &[1, 0, 0]));
+fn places_of_two_labels(rt: HostRuntime) {
+    are_made(&rt, &TWO_LABELS);
+}
+
+const WITH_TOKENS: [Worked; 6] = [
+    Worked {
+        text: ABA,
+        class: PURE,
+        problem: Event(1, 0),
+        numbers: &[(3, 2), (-1, 1), (1, 1)],
+        start: 3,
+        pre: &[2, 0],
+        post: &[0, 2],
+        tokens: Some(&[3, 1, 3, 1]),
+    },
+    Worked {
+        text: LOCK,
+        class: NONE,
+        problem: Event(1, 2),
+        numbers: &[(1, 1), (1, 1)],
+        start: 1,
+        pre: &[1, 0, 1, 0],
+        post: &[0, 1, 0, 1],
+        tokens: Some(&[1, 0, 0]),
+    },
     // the stopped label of a plain class takes 1, and the tokens of a bounded one stay
-    let side = placed(alloc, SIDE, PLAIN, Event(1, 0), &[(1, 1), (-1, 1)])??;
-    assert!(rt; is_place(&side, 1, &[1, 1], &[1, 0], &[1, 0]));
-    let ring = placed(alloc, RING, TWO_BOUNDED, Event(0, 1), &[(0, 1), (-2, 1)])??;
-    assert!(rt; is_place(&ring, 0, &[0, 2], &[1, 0], &[0, 1, 2]));
-    let step = placed(alloc, STEP, PURE_PLAIN, Event(1, 0), &[(3, 2), (-1, 1)])??;
-    assert!(rt; is_place(&step, 1, &[1], &[0], &[1, 0]));
-    let twice = placed(alloc, TWICE, NONE, Event(2, 0), &[(-1, 1)])??;
-    assert!(rt; is_place(&twice, 2, &[1, 2], &[0, 0], &[2, 1, 0]));
-    Ok(())
+    Worked {
+        text: SIDE,
+        class: PLAIN,
+        problem: Event(1, 0),
+        numbers: &[(1, 1), (-1, 1)],
+        start: 1,
+        pre: &[1, 1],
+        post: &[1, 0],
+        tokens: Some(&[1, 0]),
+    },
+    Worked {
+        text: RING,
+        class: TWO_BOUNDED,
+        problem: Event(0, 1),
+        numbers: &[(0, 1), (-2, 1)],
+        start: 0,
+        pre: &[0, 2],
+        post: &[1, 0],
+        tokens: Some(&[0, 1, 2]),
+    },
+    Worked {
+        text: STEP,
+        class: PURE_PLAIN,
+        problem: Event(1, 0),
+        numbers: &[(3, 2), (-1, 1)],
+        start: 1,
+        pre: &[1],
+        post: &[0],
+        tokens: Some(&[1, 0]),
+    },
+    Worked {
+        text: TWICE,
+        class: NONE,
+        problem: Event(2, 0),
+        numbers: &[(-1, 1)],
+        start: 2,
+        pre: &[1, 2],
+        post: &[0, 0],
+        tokens: Some(&[2, 1, 0]),
+    },
+];
+
+#[test]
+fn tokens_of_states(rt: HostRuntime) {
+    are_made(&rt, &WITH_TOKENS);
+}
+
+// What the point of these numbers passes, in a problem of the lock.
+fn passed(alloc: Global, numbers: &[(i128, i128)]) -> Option<FoldStop> {
+    placed(alloc, LOCK, NONE, Event(1, 2), numbers)?.err()
 }
 
 #[test]
-fn the_first_step_out_of_range_is_shown(rt: HostRuntime) -> Result<(), Fail> {
+fn the_first_step_out_of_range_is_shown(rt: HostRuntime) {
     let passes = Wide {
         a: i128::MAX,
         b: i128::MAX - 1,
@@ -183,21 +306,24 @@ fn the_first_step_out_of_range_is_shown(rt: HostRuntime) -> Result<(), Fail> {
         d: 0,
     };
     let numbers = [(1, i128::MAX), (1, i128::MAX - 1)];
-    match placed(rt.alloc(), LOCK, NONE, Event(1, 2), &numbers)? {
-        Err(stop) => assert_eq!(rt; stop, FoldStop::Wide(passes)),
-        Ok(_) => panic!(rt; "no step passed"),
+    assert!(rt; passed(rt.alloc(), &numbers) == Some(FoldStop::Wide(passes)));
+}
+
+// A label without an arc, and one with an arc.
+const UNUSED: &str = ".type LTS .states s0[initial] .labels a b .arcs s0 b s0";
+
+// Whether the second label of the system alone is used.
+fn is_second_used(alloc: Global, lts: &Lts) -> bool {
+    match used_labels(alloc, lts) {
+        Ok(used) => used.as_slice() == [false, true].as_slice(),
+        Err(_) => false,
     }
-    Ok(())
 }
 
 #[test]
 fn columns_are_told(rt: HostRuntime) -> Result<(), Fail> {
-    let lts = system(
-        rt.alloc(),
-        ".type LTS .states s0[initial] .labels a b .arcs s0 b s0",
-    )?;
-    let used = used_labels(rt.alloc(), &lts)?;
-    assert!(rt; used.as_slice() == [false, true].as_slice());
+    let lts = system(rt.alloc(), UNUSED).ok_or("a system")?;
+    assert!(rt; is_second_used(rt.alloc(), &lts));
     assert!(rt; has_start(PURE) && !has_start(NONBRANCHING));
     Ok(())
 }

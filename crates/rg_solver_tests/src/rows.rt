@@ -11,8 +11,11 @@ use crate::systems::{
     PURE_PLAIN, PURE_PLAIN_SAFE, RING, SAFE, SIDE, STEP, is_asked, system,
 };
 use rg_cycles::Basis;
+use rg_fraction::Fraction;
+use rg_linear::Row;
 use rg_lts::Lts;
-use rg_rows::{Common, NamedSystem, cases, system_with};
+use rg_reasons::RowName;
+use rg_rows::{Common, NamedForm, NamedSystem, cases, system_with};
 use rg_spanning::Tree;
 use rg_theory::Class;
 use rg_theory::Problem::{self, Event, States};
@@ -33,16 +36,14 @@ const TWICE: &str = ".type LTS .states s0[initial] s1 s2 .labels a b .arcs s0 a 
 const IDLE: &str = ".type LTS .states s0[initial] s1 s2 .labels a b .arcs s0 a s0 s0 b s1 s1 a s2";
 
 // What the system of a case says.
-fn told(
-    alloc: Global,
-    text: &str,
-    class: Class,
-    problem: Problem,
-    number: u32,
-) -> Result<String, Fail> {
+fn told(alloc: Global, text: &str, class: Class, problem: Problem, number: u32) -> Option<String> {
     let lts = system(alloc, text)?;
-    let tree = Tree::grow(alloc, &lts)?;
-    let basis = basis(alloc, &lts, &tree)?;
+    let Ok(tree) = Tree::grow(alloc, &lts) else {
+        return None;
+    };
+    let Ok(basis) = basis(alloc, &lts, &tree) else {
+        return None;
+    };
     case_text(alloc, &lts, &tree, &basis, class, problem, number)
 }
 
@@ -55,15 +56,16 @@ fn case_text(
     class: Class,
     problem: Problem,
     number: u32,
-) -> Result<String, Fail>
+) -> Option<String>
     requires tree { IsTreeOf lts.now tree.now }
     requires labels { labels_of basis.now ≡ labels lts.now }
 {
-    if !is_asked(lts, problem) || number >= cases(lts, class, problem) {
-        return Err(Fail::from(AllocError));
+    let count = cases(lts, class, problem);
+    if number >= count || !is_asked(lts, problem) {
+        return None;
     }
-    let named = rg_rows::system(alloc, lts, tree, basis, class, problem, number)?;
-    Ok(text_of(alloc, cases(lts, class, problem), &named)?)
+    let named = rg_rows::system(alloc, lts, tree, basis, class, problem, number).ok()?;
+    text_of(alloc, count, &named).ok()
 }
 
 // The same over rows that are made already.
@@ -76,227 +78,261 @@ fn shared_text(
     class: Class,
     problem: Problem,
     number: u32,
-) -> Result<String, Fail>
+) -> Option<String>
     requires tree { IsTreeOf lts.now tree.now }
     requires labels { labels_of basis.now ≡ labels lts.now }
     requires common { IsCommonOf lts.now tree.now.arcs (cycle_of basis.now) class common.now }
 {
-    if !is_asked(lts, problem) || number >= cases(lts, class, problem) {
-        return Err(Fail::from(AllocError));
+    let count = cases(lts, class, problem);
+    if number >= count || !is_asked(lts, problem) {
+        return None;
     }
-    let named = system_with(alloc, lts, tree, basis, common, class, problem, number)?;
-    Ok(text_of(alloc, cases(lts, class, problem), &named)?)
+    let named = system_with(alloc, lts, tree, basis, common, class, problem, number).ok()?;
+    text_of(alloc, count, &named).ok()
 }
 
-// How many cases and columns there are; then each row as its name, its coefficients, its constant and its factor;
-// and then each form as its name, its scale, its coefficients, its bounds, its row and how many times that it is.
+// Writes a row as its name, its coefficients, its constant and its factor.
+fn write_row(
+    text: &mut String,
+    name: &RowName,
+    factor: &Fraction,
+    row: &Row,
+) -> Result<(), AllocError> {
+    let (top, bottom) = (factor.numerator(), factor.denominator());
+    write!(
+        text,
+        "; {name:?} {:?} {} {top}/{bottom}",
+        row.coeffs, row.constant
+    )
+}
+
+// Writes a form as its name, its scale, its coefficients, its bounds, its row and how many times that it is.
+fn write_form(text: &mut String, form: &NamedForm) -> Result<(), AllocError> {
+    write!(
+        text,
+        "; {:?} {} {:?} {} {} {} {}",
+        form.form, form.scale, form.coeffs, form.low, form.high, form.row, form.times
+    )
+}
+
+// How many cases and columns there are; then each row, and then each form.
 fn text_of(alloc: Global, cases: u32, named: &NamedSystem) -> Result<String, AllocError> {
     let columns = named.system.columns();
     let mut text = format!(in alloc; "{cases} {columns}")?;
-    for ((name, factor), row) in named
-        .names
-        .iter()
-        .zip(&named.factors)
-        .zip(named.system.rows())
-    {
-        let constant = row.constant;
-        let top = factor.numerator();
-        let bottom = factor.denominator();
-        write!(
-            text,
-            "; {:?} {:?} {constant} {top}/{bottom}",
-            name, row.coeffs
-        )?;
+    let rows = named.system.rows().iter();
+    for ((name, factor), row) in named.names.iter().zip(&named.factors).zip(rows) {
+        write_row(&mut text, name, factor, row)?;
     }
     for form in &named.forms {
-        write!(
-            text,
-            "; {:?} {} {:?} {} {} {} {}",
-            form.form, form.scale, form.coeffs, form.low, form.high, form.row, form.times
-        )?;
+        write_form(&mut text, form)?;
     }
     Ok(text)
 }
 
+// Texts, classes, problems, cases, and what their systems say.
+const SYSTEMS: [(&str, Class, Problem, u32, &str); 15] = [
+    (
+        SIDE,
+        PURE,
+        Event(1, 0),
+        0,
+        "1 2; Block [-1, -1] -1 1/1; Tokens(0) [1, 0] 0 1/1; Tokens(1) [1, 1] 0 1/1",
+    ),
+    (
+        SIDE,
+        PURE,
+        States(0, 1),
+        1,
+        "2 2; Apart [0, -1] -1 1/1; Tokens(0) [1, 0] 0 1/1; Tokens(1) [1, 1] 0 1/1",
+    ),
+    (
+        ABA,
+        NONE,
+        Event(1, 0),
+        0,
+        "1 2; Stop(0) [-1, 0] -1 1/1; Stop(2) [0, 1] -1 1/1",
+    ),
+    (PAIR, NONE, States(0, 1), 0, "2 1; Apart [-1] -1 1/1"),
+    (
+        CHOICE,
+        NONBRANCHING,
+        States(1, 2),
+        3,
+        "4 2; Apart [1, -1] -1 1/1; Makes(0) [1, 0] 0 1/1",
+    ),
+    (
+        CHOICE,
+        PURE_NONBRANCHING,
+        Event(1, 0),
+        0,
+        "1 3; Block [-1, -2, 0] -1 1/1; Tokens(0) [1, 0, 0] 0 1/1; Tokens(1) [1, 1, 0] 0 1/1; Tokens(2) [1, 0, 1] 0 1/1; Makes(1) [0, 0, 1] 0 1/1",
+    ),
+    // a row that is divided, and one that is multiplied
+    (
+        TWICE,
+        NONBRANCHING,
+        States(0, 1),
+        1,
+        "4 1; Apart [2] -1 1/1; Makes(0) [1] 0 1/2",
+    ),
+    (RING, NONE, States(0, 1), 0, "2 1; Apart [-1] -2 2/1"),
+    // idle and equal rows are left out
+    (
+        IDLE,
+        PURE_NONBRANCHING,
+        States(1, 2),
+        1,
+        "4 2; Apart [0, 0] -1 1/1; Tokens(0) [1, 0] 0 1/1; Tokens(1) [1, 1] 0 1/1",
+    ),
+    // the forms of plain and of bounded classes
+    (
+        RING,
+        PLAIN,
+        Event(0, 1),
+        0,
+        "1 2; Empty [-1, 0] 0 1/1; Full(2) [1, -1] -1 1/1; Keep [0, -1] 0 1/1; Tokens(0) [1, 0] 0 1/1; Tokens(1) [2, -1] 0 2/1; Tokens(2) [1, -1] 0 1/1; Up(0) [0, 1] 2 2/1; Up(1) [0, -1] 1 1/1; Down(0) [0, -1] 2 2/1; Down(1) [0, 1] 1 1/1; Effect(0) 2 [0, -1] -1 1 8 1; Effect(1) 1 [0, 1] -1 1 9 1",
+    ),
+    (
+        RING,
+        SAFE,
+        Event(0, 1),
+        0,
+        "1 2; Stop(2) [0, -1] -1 1/1; Tokens(0) [1, 0] 0 1/1; Tokens(1) [2, -1] 0 2/1; Tokens(2) [1, -1] 0 1/1; Cap(0) [-1, 0] 1 1/1; Cap(1) [-2, 1] 2 2/1; Cap(2) [-1, 1] 1 1/1; Tokens(0) 1 [1, 0] 0 1 1 1; Tokens(1) 2 [2, -1] 0 1 2 1; Tokens(2) 1 [1, -1] 0 1 3 1",
+    ),
+    (
+        SIDE,
+        PLAIN,
+        Event(1, 0),
+        0,
+        "1 2; Empty [-1, -1] 0 1/1; Full(0) [1, 0] -1 1/1; Tokens(0) [1, 0] 0 1/1; Tokens(1) [1, 1] 0 1/1; Up(1) [0, -1] 1 1/1; Down(1) [0, 1] 1 1/1; Effect(0) 1 [0, 0] -1 1 0 0; Effect(1) 1 [0, 1] -1 1 5 1",
+    ),
+    (
+        STEP,
+        PURE_PLAIN,
+        Event(1, 0),
+        0,
+        "1 2; Block [-1, -2] -1 1/1; Tokens(0) [1, 0] 0 1/1; Tokens(1) [1, 1] 0 1/1; Up(0) [0, -1] 1 1/1; Down(0) [0, 1] 1 1/1; Effect(0) 1 [0, 1] -1 1 4 1",
+    ),
+    (
+        LOCK,
+        NONE,
+        Event(5, 4),
+        0,
+        "1 4; Stop(1) [0, 1, 0, 0] -1 1/1; Stop(3) [-1, 0, 0, 0] -1 1/1",
+    ),
+    (
+        LOCK,
+        PURE_PLAIN_SAFE,
+        Event(0, 2),
+        0,
+        "1 5; Block [-1, -1, 0, 0, 0] -1 1/1; Tokens(0) [1, 0, 0, 0, 0] 0 1/1; Tokens(1) [1, 0, 0, -1, -1] 0 1/1; Tokens(2) [1, -1, -1, 0, 0] 0 1/1; Tokens(3) [1, -1, -1, -1, -1] 0 1/1; Tokens(4) [1, 0, -1, 0, 0] 0 1/1; Tokens(5) [1, 0, -1, -1, -1] 0 1/1; Tokens(6) [1, 0, 0, 0, -1] 0 1/1; Tokens(7) [1, -1, -1, 0, -1] 0 1/1; Cap(0) [-1, 0, 0, 0, 0] 1 1/1; Cap(1) [-1, 0, 0, 1, 1] 1 1/1; Cap(2) [-1, 1, 1, 0, 0] 1 1/1; Cap(3) [-1, 1, 1, 1, 1] 1 1/1; Cap(4) [-1, 0, 1, 0, 0] 1 1/1; Cap(5) [-1, 0, 1, 1, 1] 1 1/1; Cap(6) [-1, 0, 0, 0, 1] 1 1/1; Cap(7) [-1, 1, 1, 0, 1] 1 1/1; Up(0) [0, 0, 0, 1, 1] 1 1/1; Up(1) [0, 1, 1, 0, 0] 1 1/1; Up(2) [0, -1, 0, 0, 0] 1 1/1; Up(3) [0, 0, -1, 0, 0] 1 1/1; Up(4) [0, 0, 0, -1, 0] 1 1/1; Up(5) [0, 0, 0, 0, -1] 1 1/1; Down(0) [0, 0, 0, -1, -1] 1 1/1; Down(1) [0, -1, -1, 0, 0] 1 1/1; Down(2) [0, 1, 0, 0, 0] 1 1/1; Down(3) [0, 0, 1, 0, 0] 1 1/1; Down(4) [0, 0, 0, 1, 0] 1 1/1; Down(5) [0, 0, 0, 0, 1] 1 1/1; Tokens(0) 1 [1, 0, 0, 0, 0] 0 1 1 1; Tokens(1) 1 [1, 0, 0, -1, -1] 0 1 2 1; Tokens(2) 1 [1, -1, -1, 0, 0] 0 1 3 1; Tokens(3) 1 [1, -1, -1, -1, -1] 0 1 4 1; Tokens(4) 1 [1, 0, -1, 0, 0] 0 1 5 1; Tokens(5) 1 [1, 0, -1, -1, -1] 0 1 6 1; Tokens(6) 1 [1, 0, 0, 0, -1] 0 1 7 1; Tokens(7) 1 [1, -1, -1, 0, -1] 0 1 8 1",
+    ),
+];
+
 #[test]
 fn systems_of_cases(rt: HostRuntime) -> Result<(), Fail> {
-    for (text, class, problem, number, rows) in [
-        (
-            SIDE,
-            PURE,
-            Event(1, 0),
-            0,
-            "1 2; Block [-1, -1] -1 1/1; Tokens(0) [1, 0] 0 1/1; Tokens(1) [1, 1] 0 1/1",
-        ),
-        (
-            SIDE,
-            PURE,
-            States(0, 1),
-            1,
-            "2 2; Apart [0, -1] -1 1/1; Tokens(0) [1, 0] 0 1/1; Tokens(1) [1, 1] 0 1/1",
-        ),
-        (
-            ABA,
-            NONE,
-            Event(1, 0),
-            0,
-            "1 2; Stop(0) [-1, 0] -1 1/1; Stop(2) [0, 1] -1 1/1",
-        ),
-        (PAIR, NONE, States(0, 1), 0, "2 1; Apart [-1] -1 1/1"),
-        (
-            CHOICE,
-            NONBRANCHING,
-            States(1, 2),
-            3,
-            "4 2; Apart [1, -1] -1 1/1; Makes(0) [1, 0] 0 1/1",
-        ),
-        (
-            CHOICE,
-            PURE_NONBRANCHING,
-            Event(1, 0),
-            0,
-            "1 3; Block [-1, -2, 0] -1 1/1; Tokens(0) [1, 0, 0] 0 1/1; Tokens(1) [1, 1, 0] 0 1/1; Tokens(2) [1, 0, 1] 0 1/1; Makes(1) [0, 0, 1] 0 1/1",
-        ),
-        // a row that is divided, and one that is multiplied
-        (
-            TWICE,
-            NONBRANCHING,
-            States(0, 1),
-            1,
-            "4 1; Apart [2] -1 1/1; Makes(0) [1] 0 1/2",
-        ),
-        (RING, NONE, States(0, 1), 0, "2 1; Apart [-1] -2 2/1"),
-        // idle and equal rows are left out
-        (
-            IDLE,
-            PURE_NONBRANCHING,
-            States(1, 2),
-            1,
-            "4 2; Apart [0, 0] -1 1/1; Tokens(0) [1, 0] 0 1/1; Tokens(1) [1, 1] 0 1/1",
-        ),
-        // the forms of plain and of bounded classes
-        (
-            RING,
-            PLAIN,
-            Event(0, 1),
-            0,
-            "1 2; Empty [-1, 0] 0 1/1; Full(2) [1, -1] -1 1/1; Keep [0, -1] 0 1/1; Tokens(0) [1, 0] 0 1/1; Tokens(1) [2, -1] 0 2/1; Tokens(2) [1, -1] 0 1/1; Up(0) [0, 1] 2 2/1; Up(1) [0, -1] 1 1/1; Down(0) [0, -1] 2 2/1; Down(1) [0, 1] 1 1/1; Effect(0) 2 [0, -1] -1 1 8 1; Effect(1) 1 [0, 1] -1 1 9 1",
-        ),
-        (
-            RING,
-            SAFE,
-            Event(0, 1),
-            0,
-            "1 2; Stop(2) [0, -1] -1 1/1; Tokens(0) [1, 0] 0 1/1; Tokens(1) [2, -1] 0 2/1; Tokens(2) [1, -1] 0 1/1; Cap(0) [-1, 0] 1 1/1; Cap(1) [-2, 1] 2 2/1; Cap(2) [-1, 1] 1 1/1; Tokens(0) 1 [1, 0] 0 1 1 1; Tokens(1) 2 [2, -1] 0 1 2 1; Tokens(2) 1 [1, -1] 0 1 3 1",
-        ),
-        (
-            SIDE,
-            PLAIN,
-            Event(1, 0),
-            0,
-            "1 2; Empty [-1, -1] 0 1/1; Full(0) [1, 0] -1 1/1; Tokens(0) [1, 0] 0 1/1; Tokens(1) [1, 1] 0 1/1; Up(1) [0, -1] 1 1/1; Down(1) [0, 1] 1 1/1; Effect(0) 1 [0, 0] -1 1 0 0; Effect(1) 1 [0, 1] -1 1 5 1",
-        ),
-        (
-            STEP,
-            PURE_PLAIN,
-            Event(1, 0),
-            0,
-            "1 2; Block [-1, -2] -1 1/1; Tokens(0) [1, 0] 0 1/1; Tokens(1) [1, 1] 0 1/1; Up(0) [0, -1] 1 1/1; Down(0) [0, 1] 1 1/1; Effect(0) 1 [0, 1] -1 1 4 1",
-        ),
-        (
-            LOCK,
-            NONE,
-            Event(5, 4),
-            0,
-            "1 4; Stop(1) [0, 1, 0, 0] -1 1/1; Stop(3) [-1, 0, 0, 0] -1 1/1",
-        ),
-        (
-            LOCK,
-            PURE_PLAIN_SAFE,
-            Event(0, 2),
-            0,
-            "1 5; Block [-1, -1, 0, 0, 0] -1 1/1; Tokens(0) [1, 0, 0, 0, 0] 0 1/1; Tokens(1) [1, 0, 0, -1, -1] 0 1/1; Tokens(2) [1, -1, -1, 0, 0] 0 1/1; Tokens(3) [1, -1, -1, -1, -1] 0 1/1; Tokens(4) [1, 0, -1, 0, 0] 0 1/1; Tokens(5) [1, 0, -1, -1, -1] 0 1/1; Tokens(6) [1, 0, 0, 0, -1] 0 1/1; Tokens(7) [1, -1, -1, 0, -1] 0 1/1; Cap(0) [-1, 0, 0, 0, 0] 1 1/1; Cap(1) [-1, 0, 0, 1, 1] 1 1/1; Cap(2) [-1, 1, 1, 0, 0] 1 1/1; Cap(3) [-1, 1, 1, 1, 1] 1 1/1; Cap(4) [-1, 0, 1, 0, 0] 1 1/1; Cap(5) [-1, 0, 1, 1, 1] 1 1/1; Cap(6) [-1, 0, 0, 0, 1] 1 1/1; Cap(7) [-1, 1, 1, 0, 1] 1 1/1; Up(0) [0, 0, 0, 1, 1] 1 1/1; Up(1) [0, 1, 1, 0, 0] 1 1/1; Up(2) [0, -1, 0, 0, 0] 1 1/1; Up(3) [0, 0, -1, 0, 0] 1 1/1; Up(4) [0, 0, 0, -1, 0] 1 1/1; Up(5) [0, 0, 0, 0, -1] 1 1/1; Down(0) [0, 0, 0, -1, -1] 1 1/1; Down(1) [0, -1, -1, 0, 0] 1 1/1; Down(2) [0, 1, 0, 0, 0] 1 1/1; Down(3) [0, 0, 1, 0, 0] 1 1/1; Down(4) [0, 0, 0, 1, 0] 1 1/1; Down(5) [0, 0, 0, 0, 1] 1 1/1; Tokens(0) 1 [1, 0, 0, 0, 0] 0 1 1 1; Tokens(1) 1 [1, 0, 0, -1, -1] 0 1 2 1; Tokens(2) 1 [1, -1, -1, 0, 0] 0 1 3 1; Tokens(3) 1 [1, -1, -1, -1, -1] 0 1 4 1; Tokens(4) 1 [1, 0, -1, 0, 0] 0 1 5 1; Tokens(5) 1 [1, 0, -1, -1, -1] 0 1 6 1; Tokens(6) 1 [1, 0, 0, 0, -1] 0 1 7 1; Tokens(7) 1 [1, -1, -1, 0, -1] 0 1 8 1",
-        ),
-    ] {
-        let told = told(rt.alloc(), text, class, problem, number)?;
-        assert_eq!(rt; told.as_str(), rows);
+    for (text, class, problem, number, rows) in SYSTEMS {
+        let told = told(rt.alloc(), text, class, problem, number).ok_or("rows")?;
+        assert!(rt; told.as_str() == rows, "{class:?} {problem:?} {text}");
     }
     Ok(())
 }
 
-// What the systems of several problems of one system say, each made with the same rows that they share.
+// What the systems of several problems say, each made with the same rows that they share.
+fn shared_texts(
+    alloc: Global,
+    lts: &Lts,
+    tree: &Tree,
+    basis: &Basis,
+    class: Class,
+    problems: &[(Problem, u32)],
+) -> Option<String>
+    requires tree { IsTreeOf lts.now tree.now }
+    requires labels { labels_of basis.now ≡ labels lts.now }
+{
+    let common = Common::new(alloc, lts, tree, basis, class).ok()?;
+    let mut told = String::new(alloc);
+    for &(problem, number) in problems {
+        let rows = shared_text(alloc, lts, tree, basis, &common, class, problem, number)?;
+        writeln!(told, "{rows}").ok()?;
+    }
+    Some(told)
+}
+
+// The same of the system that a text spells.
 fn all_told(
     alloc: Global,
     text: &str,
     class: Class,
     problems: &[(Problem, u32)],
-) -> Result<String, Fail> {
+) -> Option<String> {
     let lts = system(alloc, text)?;
-    let tree = Tree::grow(alloc, &lts)?;
-    let basis = basis(alloc, &lts, &tree)?;
-    let common = Common::new(alloc, &lts, &tree, &basis, class)?;
-    let mut told = String::new(alloc);
-    for &(problem, number) in problems {
-        let rows = shared_text(alloc, &lts, &tree, &basis, &common, class, problem, number)?;
-        writeln!(told, "{rows}")?;
-    }
-    Ok(told)
+    let Ok(tree) = Tree::grow(alloc, &lts) else {
+        return None;
+    };
+    let Ok(basis) = basis(alloc, &lts, &tree) else {
+        return None;
+    };
+    shared_texts(alloc, &lts, &tree, &basis, class, problems)
 }
 
-#[test]
-fn problems_share_their_rows(rt: HostRuntime) -> Result<(), Fail> {
-    for (text, class, problems, rows) in [
-        (
-            RING,
-            PLAIN,
-            [(Event(0, 1), 0), (Event(1, 1), 0), (States(0, 1), 0)],
-            "1 2; Empty [-1, 0] 0 1/1; Full(2) [1, -1] -1 1/1; Keep [0, -1] 0 1/1; Tokens(0) [1, 0] 0 1/1; Tokens(1) [2, -1] 0 2/1; Tokens(2) [1, -1] 0 1/1; Up(0) [0, 1] 2 2/1; Up(1) [0, -1] 1 1/1; Down(0) [0, -1] 2 2/1; Down(1) [0, 1] 1 1/1; Effect(0) 2 [0, -1] -1 1 8 1; Effect(1) 1 [0, 1] -1 1 9 1
+// Texts, classes, problems, and what their systems say.
+const SHARED: [(&str, Class, [(Problem, u32); 3], &str); 5] = [
+    (
+        RING,
+        PLAIN,
+        [(Event(0, 1), 0), (Event(1, 1), 0), (States(0, 1), 0)],
+        "1 2; Empty [-1, 0] 0 1/1; Full(2) [1, -1] -1 1/1; Keep [0, -1] 0 1/1; Tokens(0) [1, 0] 0 1/1; Tokens(1) [2, -1] 0 2/1; Tokens(2) [1, -1] 0 1/1; Up(0) [0, 1] 2 2/1; Up(1) [0, -1] 1 1/1; Down(0) [0, -1] 2 2/1; Down(1) [0, 1] 1 1/1; Effect(0) 2 [0, -1] -1 1 8 1; Effect(1) 1 [0, 1] -1 1 9 1
 1 2; Empty [-2, 1] 0 2/1; Full(2) [1, -1] -1 1/1; Keep [0, -1] 0 1/1; Tokens(0) [1, 0] 0 1/1; Tokens(1) [2, -1] 0 2/1; Tokens(2) [1, -1] 0 1/1; Up(0) [0, 1] 2 2/1; Up(1) [0, -1] 1 1/1; Down(0) [0, -1] 2 2/1; Down(1) [0, 1] 1 1/1; Effect(0) 2 [0, -1] -1 1 8 1; Effect(1) 1 [0, 1] -1 1 9 1
 2 2; Apart [0, -1] -2 2/1; Tokens(0) [1, 0] 0 1/1; Tokens(1) [2, -1] 0 2/1; Tokens(2) [1, -1] 0 1/1; Up(0) [0, 1] 2 2/1; Up(1) [0, -1] 1 1/1; Down(0) [0, -1] 2 2/1; Down(1) [0, 1] 1 1/1; Effect(0) 2 [0, -1] -1 1 6 1; Effect(1) 1 [0, 1] -1 1 7 1
 ",
-        ),
-        (
-            RING,
-            SAFE,
-            [(Event(0, 1), 0), (States(0, 1), 1), (Event(0, 1), 0)],
-            "1 2; Stop(2) [0, -1] -1 1/1; Tokens(0) [1, 0] 0 1/1; Tokens(1) [2, -1] 0 2/1; Tokens(2) [1, -1] 0 1/1; Cap(0) [-1, 0] 1 1/1; Cap(1) [-2, 1] 2 2/1; Cap(2) [-1, 1] 1 1/1; Tokens(0) 1 [1, 0] 0 1 1 1; Tokens(1) 2 [2, -1] 0 1 2 1; Tokens(2) 1 [1, -1] 0 1 3 1
+    ),
+    (
+        RING,
+        SAFE,
+        [(Event(0, 1), 0), (States(0, 1), 1), (Event(0, 1), 0)],
+        "1 2; Stop(2) [0, -1] -1 1/1; Tokens(0) [1, 0] 0 1/1; Tokens(1) [2, -1] 0 2/1; Tokens(2) [1, -1] 0 1/1; Cap(0) [-1, 0] 1 1/1; Cap(1) [-2, 1] 2 2/1; Cap(2) [-1, 1] 1 1/1; Tokens(0) 1 [1, 0] 0 1 1 1; Tokens(1) 2 [2, -1] 0 1 2 1; Tokens(2) 1 [1, -1] 0 1 3 1
 2 2; Apart [0, 1] -2 2/1; Tokens(0) [1, 0] 0 1/1; Tokens(1) [2, -1] 0 2/1; Tokens(2) [1, -1] 0 1/1; Cap(0) [-1, 0] 1 1/1; Cap(1) [-2, 1] 2 2/1; Cap(2) [-1, 1] 1 1/1; Tokens(0) 1 [1, 0] 0 1 1 1; Tokens(1) 2 [2, -1] 0 1 2 1; Tokens(2) 1 [1, -1] 0 1 3 1
 1 2; Stop(2) [0, -1] -1 1/1; Tokens(0) [1, 0] 0 1/1; Tokens(1) [2, -1] 0 2/1; Tokens(2) [1, -1] 0 1/1; Cap(0) [-1, 0] 1 1/1; Cap(1) [-2, 1] 2 2/1; Cap(2) [-1, 1] 1 1/1; Tokens(0) 1 [1, 0] 0 1 1 1; Tokens(1) 2 [2, -1] 0 1 2 1; Tokens(2) 1 [1, -1] 0 1 3 1
 ",
-        ),
-        // Down(1) differs from Apart by its constant alone
-        (
-            SIDE,
-            PLAIN,
-            [(Event(1, 0), 0), (Event(1, 1), 0), (States(0, 1), 0)],
-            "1 2; Empty [-1, -1] 0 1/1; Full(0) [1, 0] -1 1/1; Tokens(0) [1, 0] 0 1/1; Tokens(1) [1, 1] 0 1/1; Up(1) [0, -1] 1 1/1; Down(1) [0, 1] 1 1/1; Effect(0) 1 [0, 0] -1 1 0 0; Effect(1) 1 [0, 1] -1 1 5 1
+    ),
+    // Down(1) differs from Apart by its constant alone
+    (
+        SIDE,
+        PLAIN,
+        [(Event(1, 0), 0), (Event(1, 1), 0), (States(0, 1), 0)],
+        "1 2; Empty [-1, -1] 0 1/1; Full(0) [1, 0] -1 1/1; Tokens(0) [1, 0] 0 1/1; Tokens(1) [1, 1] 0 1/1; Up(1) [0, -1] 1 1/1; Down(1) [0, 1] 1 1/1; Effect(0) 1 [0, 0] -1 1 0 0; Effect(1) 1 [0, 1] -1 1 5 1
 1 2; Empty [-1, -1] 0 1/1; Full(0) [1, 0] -1 1/1; Keep [0, -1] 0 1/1; Tokens(0) [1, 0] 0 1/1; Tokens(1) [1, 1] 0 1/1; Up(1) [0, -1] 1 1/1; Down(1) [0, 1] 1 1/1; Effect(0) 1 [0, 0] -1 1 0 0; Effect(1) 1 [0, 1] -1 1 6 1
 2 2; Apart [0, 1] -1 1/1; Tokens(0) [1, 0] 0 1/1; Tokens(1) [1, 1] 0 1/1; Up(1) [0, -1] 1 1/1; Down(1) [0, 1] 1 1/1; Effect(0) 1 [0, 0] -1 1 0 0; Effect(1) 1 [0, 1] -1 1 4 1
 ",
-        ),
-        // the consumer of each case has no row `makes`
-        (
-            CHOICE,
-            NONBRANCHING,
-            [(States(1, 2), 0), (States(1, 2), 3), (Event(1, 0), 0)],
-            "4 2; Apart [-1, 1] -1 1/1; Makes(1) [0, 1] 0 1/1
+    ),
+    // the consumer of each case has no row `makes`
+    (
+        CHOICE,
+        NONBRANCHING,
+        [(States(1, 2), 0), (States(1, 2), 3), (Event(1, 0), 0)],
+        "4 2; Apart [-1, 1] -1 1/1; Makes(1) [0, 1] 0 1/1
 4 2; Apart [1, -1] -1 1/1; Makes(0) [1, 0] 0 1/1
 1 2; Stop(0) [-1, 0] -1 1/1; Makes(1) [0, 1] 0 1/1
 ",
-        ),
-        // `makes` is equal to Keep in the events, and no row of the states
-        (
-            PAIR,
-            PLAIN_NONBRANCHING,
-            [(Event(0, 1), 0), (Event(1, 0), 0), (States(0, 1), 1)],
-            "1 2; Empty [-1, 0] 0 1/1; Full(1) [1, -1] -1 1/1; Keep [0, -1] 0 1/1; Tokens(0) [1, 0] 0 1/1; Tokens(1) [1, -1] 0 1/1; Up(0) [0, 1] 1 1/1; Up(1) [0, -1] 1 1/1; Effect(0) 1 [0, -1] -1 1 6 1; Effect(1) 1 [0, 1] -1 1 5 1
+    ),
+    // `makes` is equal to Keep in the events, and no row of the states
+    (
+        PAIR,
+        PLAIN_NONBRANCHING,
+        [(Event(0, 1), 0), (Event(1, 0), 0), (States(0, 1), 1)],
+        "1 2; Empty [-1, 0] 0 1/1; Full(1) [1, -1] -1 1/1; Keep [0, -1] 0 1/1; Tokens(0) [1, 0] 0 1/1; Tokens(1) [1, -1] 0 1/1; Up(0) [0, 1] 1 1/1; Up(1) [0, -1] 1 1/1; Effect(0) 1 [0, -1] -1 1 6 1; Effect(1) 1 [0, 1] -1 1 5 1
 1 2; Empty [-1, 1] 0 1/1; Full(0) [1, 0] -1 1/1; Keep [0, 1] 0 1/1; Tokens(0) [1, 0] 0 1/1; Tokens(1) [1, -1] 0 1/1; Up(0) [0, 1] 1 1/1; Up(1) [0, -1] 1 1/1; Effect(0) 1 [0, -1] -1 1 6 1; Effect(1) 1 [0, 1] -1 1 5 1
 4 2; Apart [0, -1] -1 1/1; Tokens(0) [1, 0] 0 1/1; Tokens(1) [1, -1] 0 1/1; Up(0) [0, 1] 1 1/1; Up(1) [0, -1] 1 1/1; Makes(0) [0, -1] 0 1/1; Effect(0) 1 [0, -1] -1 1 4 1; Effect(1) 1 [0, 1] -1 1 3 1
 ",
-        ),
-    ] {
-        let told = all_told(rt.alloc(), text, class, &problems)?;
-        assert_eq!(rt; told.as_str(), rows);
+    ),
+];
+
+#[test]
+fn problems_share_their_rows(rt: HostRuntime) -> Result<(), Fail> {
+    for (text, class, problems, rows) in SHARED {
+        let told = all_told(rt.alloc(), text, class, &problems).ok_or("rows")?;
+        assert!(rt; told.as_str() == rows, "{class:?} {text}");
     }
     Ok(())
 }
