@@ -1,7 +1,8 @@
 //! Certificates as texts, written by hand.
-use crate::samples::{FORKED, MOST_BYTES, system};
+use crate::samples::{FORKED, system};
 use rg_cert::{CertFault, Certificate, Form, Node, Reason, RowName, print, read};
 use rg_lts::Lts;
+use rg_text::MOST_BYTES;
 use rg_theory::Class;
 use std::alloc::{AllocError, Global};
 use std::test::Fail;

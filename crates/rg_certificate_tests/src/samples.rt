@@ -1,10 +1,8 @@
 //! Systems from texts.
 use rg_apt::read_lts;
 use rg_lts::Lts;
+use rg_text::MOST_BYTES;
 use std::alloc::Global;
-
-/// The most bytes of a text that is read.
-pub(crate) const MOST_BYTES: usize = 16_777_216;
 
 /// The label a leads from s0 to s1 and to s2, and the label b has no arc.
 pub(crate) const FORKED: &str =

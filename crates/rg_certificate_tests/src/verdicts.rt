@@ -1,7 +1,8 @@
 //! Verdicts on certificates, each defect once.
-use crate::samples::{APART, FORKED, MOST_BYTES, RING, THERE_AND_BACK, system};
+use crate::samples::{APART, FORKED, RING, THERE_AND_BACK, system};
 use rg_cert::read;
 use rg_lts::Lts;
+use rg_text::MOST_BYTES;
 use rg_verify::{Defect, Variable, Verdict, verify};
 use std::alloc::Global;
 

@@ -4,6 +4,7 @@ ghost use Rattle.rg_refuting.specs.Refutes.{IsSeparationProblem};
 
 use rg_apt::read_lts;
 use rg_lts::Lts;
+use rg_text::MOST_BYTES;
 use rg_theory::{Class, Problem};
 use std::alloc::Global;
 
@@ -76,7 +77,7 @@ pub(crate) const CHOICE: &str =
 
 /// The system that a text spells.
 pub(crate) fn system(alloc: Global, text: &str) -> Option<Lts> {
-    if text.len() > 16777216 {
+    if text.len() > MOST_BYTES {
         return None;
     }
     read_lts(alloc, text.as_bytes()).ok()
