@@ -40,6 +40,10 @@ pub record IsWellFormedDraft (d : Draft) : Type 0 where
   pub few_labels : length d.label_names ≤ most_labels
   pub few_arcs : length d.arcs ≤ most_arcs
 
+-- the numbers of the arc name states and a label that are there
+abbrev pub IsArcWithin : Draft → Arc → Type 0
+IsArcWithin d a = IsArcInRange (finished d 0) a
+
 -- the state's name stands at its number
 abbrev pub IsStateNamed : Draft → ℕ → List ℕ → Type 0
 IsStateNamed d s name = slice_get d.state_names s ≡ Some name

@@ -2,9 +2,9 @@
 ghost use Rattle.std.specs.Prelude.{◌≡◌, ◌↔◌, ◌⊎◌, ℕ, ◌<◌, ◌≤◌, length, Contains, Some, None, [], ◌∷◌, ◌++◌, slice_get, IfOk, IfErr, OnOk, OnErr, IfSome, IfNone, IsErrOf, map, string_bytes};
 ghost use Rattle.rg_text.specs.Byte.{IsName};
 ghost use Rattle.rg_theory.specs.declared.Arc.{Arc};
-ghost use Rattle.rg_theory.specs.Limits.{most_states, most_labels};
+ghost use Rattle.rg_theory.specs.Limits.{most_states, most_labels, most_arcs};
 ghost use Rattle.rg_lts.specs.WellFormed.{IsWellFormed};
-ghost use Rattle.rg_lts.specs.Draft.{Draft, IsWellFormedDraft, blank, finished, names_alone, IsArcNamed, AddsArc, LacksState, LacksLabel, IsArcOverLimit, IsOtherInitial};
+ghost use Rattle.rg_lts.specs.Draft.{Draft, IsWellFormedDraft, blank, finished, names_alone, IsArcNamed, IsArcWithin, AddsArc, LacksState, LacksLabel, IsArcOverLimit, IsOtherInitial};
 ghost use Rattle.rg_lts.specs.Faults.{IsStateFault, IsLabelFault, IsArcFault, IsInitialFault, IsFinishFault};
 ghost use Rattle.rg_lts.specs.declared.fault.BuildFault.TheVariants as fault;
 
@@ -133,6 +133,20 @@ impl LtsBuilder {
         ensures err { OnErr result (self.new ≡ self.old) }
     {
         let arc = named_arc(&self.state_names, &self.label_names, from, label, to)?;
+        arc_set::add(&mut self.arcs, arc)?;
+        Ok(())
+    }
+
+    /// Adds the arc between two states that are there, by their numbers. An arc that is there already changes nothing.
+    /// `TooManyArcs` where the arc is new and there are 262,144 arcs.
+    pub fn arc_between(&mut self, arc: Arc) -> Result<(), BuildFault>
+        requires { IsArcWithin self.old arc }
+        ensures ok { OnOk result (AddsArc self.old self.new arc) }
+        ensures too_many { IsErrOf result fault.TooManyArcs ↔ ((¬ Contains self.old.arcs arc) × (most_arcs ≤ length self.old.arcs)) }
+        ensures well_formed { IsWellFormedDraft self.old }
+        ensures cause { IfErr result (λ e. (e ≡ fault.TooManyArcs) ⊎ (e ≡ fault.NoMemory)) }
+        ensures err { OnErr result (self.new ≡ self.old) }
+    {
         arc_set::add(&mut self.arcs, arc)?;
         Ok(())
     }

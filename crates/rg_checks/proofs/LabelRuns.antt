@@ -1,0 +1,70 @@
+-- The arcs of one label at one state.
+use Rattle.std.proofs.Common.{◌≡◌, ◌⊎◌, ◌↔◌, ℕ, ◌+◌, ◌<◌, ◌≤◌, List, length, get_or, slice_index_or, Contains, AllPairs, inl, inr, sym, subst, ◌∙◌, arith}
+use Rattle.std.specs.List.Sorted.{IsNonDecreasingBy}
+use Rattle.std.proofs.lemmas.Bool.{cases_lt}
+use Rattle.std.proofs.lemmas.List.Elements.{Contains-get_or}
+use Rattle.rg_theory.specs.declared.Arc.{Arc}
+use Rattle.rg_theory.specs.System.{System, IsArcBefore}
+use Rattle.rg_checks.proofs.Runs.{IsRun, part, part_at, part_short, run_members}
+
+-- the arcs leave the state
+abbrev pub AreLeaving : ℕ → List Arc → Type 0
+AreLeaving s arcs = (a : Arc) → Contains arcs a → a.from ≡ s
+
+from_is : (s : ℕ) (arcs : List Arc) (k : ℕ) (d : Arc) → AreLeaving s arcs → k < length arcs → (get_or arcs k d).from ≡ s
+from_is s arcs k d leaves lt = leaves (get_or arcs k d) (Contains-get_or arcs k d lt)
+
+label_rises : (a b : Arc) → a.from ≡ b.from → IsArcBefore a b → a.label ≤ b.label
+label_rises a b same (inl lt) = absurd (omega (arith, same))
+label_rises a b same (inr (e, inl lt)) = omega arith
+label_rises a b same (inr (e, inr (f, lt))) = omega (arith, f)
+
+target_rises : (a b : Arc) → a.from ≡ b.from → a.label ≡ b.label → IsArcBefore a b → a.to < b.to
+target_rises a b from label (inl lt) = absurd (omega (arith, from))
+target_rises a b from label (inr (e, inl lt)) = absurd (omega (arith, label))
+target_rises a b from label (inr (e, inr (f, lt))) = lt
+
+-- arcs of one state in order are in the order of their labels
+pub labels_rise : (s : ℕ) (arcs : List Arc) → AreLeaving s arcs → AllPairs IsArcBefore arcs → IsNonDecreasingBy (λ (a : Arc). a.label) arcs
+labels_rise s arcs leaves order i j d le lt = go (cases_lt i j)
+  where
+    go : (i < j) ⊎ (j ≤ i) → (slice_index_or arcs i d).label ≤ (slice_index_or arcs j d).label
+    go (inl less) =
+        label_rises (get_or arcs i d) (get_or arcs j d) (from_is s arcs i d leaves (omega arith) ∙ sym (from_is s arcs j d leaves lt)) (order i j d less lt)
+    go (inr ge) =
+        let same : i ≡ j = omega arith in
+        subst (λ k. (slice_index_or arcs i d).label ≤ (slice_index_or arcs k d).label) same (omega arith)
+
+module _ (s t : ℕ) (arcs : List Arc) (start end : ℕ) (leaves : AreLeaving s arcs) (order : AllPairs IsArcBefore arcs)
+    (r : IsRun (λ (a : Arc). a.label) arcs t start end) where
+  -- those of one label are in the order of their targets
+  pub targets_rise : AllPairs (λ (a b : Arc). a.to < b.to) (part arcs start end)
+  targets_rise i j d less lt =
+      let short = part_short arcs start end j r.within lt in
+      let w = r.within in
+      let at_i = part_at arcs start end i d (omega (arith, short.0)) in
+      let at_j = part_at arcs start end j d short.0 in
+      let in_i : start + i < length arcs = omega (arith, w, short.1) in
+      let in_j : start + j < length arcs = omega (arith, w, short.1) in
+      let a = get_or arcs (start + i) d in
+      let b = get_or arcs (start + j) d in
+      let low_i = r.from_start (start + i) d (omega arith) in_i in
+      let high_i = r.to_end (start + i) d (omega (arith, short.1)) in
+      let low_j = r.from_start (start + j) d (omega arith) in_j in
+      let high_j = r.to_end (start + j) d short.1 in
+      let rises : a.to < b.to = target_rises a b (from_is s arcs (start + i) d leaves in_i ∙ sym (from_is s arcs (start + j) d leaves in_j))
+      (omega (arith, low_i, high_i, low_j, high_j)) (order (start + i) (start + j) d (omega arith) in_j) in
+      subst (λ (x : Arc). x.to < (get_or (part arcs start end) j d).to) (sym at_i) (subst (λ (x : Arc). a.to < x.to) (sym at_j) rises)
+
+  pub members : (lts : System) → ((a : Arc) → Contains arcs a ↔ (Contains lts.arcs a × (a.from ≡ s))) → (a : Arc)
+      → Contains (part arcs start end) a ↔ (Contains lts.arcs a × (a.from ≡ s) × (a.label ≡ t))
+  members lts leaving a = (forth, back)
+    where
+      m : Contains (part arcs start end) a ↔ (Contains arcs a × (a.label ≡ t))
+      m = run_members (λ (x : Arc). x.label) arcs t start end r a
+
+      forth : Contains (part arcs start end) a → Contains lts.arcs a × (a.from ≡ s) × (a.label ≡ t)
+      forth has = let (there, label) = m.0 has in let (of_lts, from) = (leaving a).0 there in (of_lts, from, label)
+
+      back : Contains lts.arcs a × (a.from ≡ s) × (a.label ≡ t) → Contains (part arcs start end) a
+      back (of_lts, from, label) = m.1 ((leaving a).1 (of_lts, from), label)
