@@ -1,0 +1,14 @@
+pub mod Tabling
+pub mod Squaring
+pub mod Joinings
+pub mod Merging
+pub mod Blocking
+pub mod Walking
+pub mod Sizing
+pub mod FewInAll
+pub mod Splitting
+pub mod Numbering
+pub mod Partings
+mod Besides
+mod MadeParts
+pub mod FewBeside

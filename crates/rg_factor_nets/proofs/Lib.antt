@@ -1,0 +1,2 @@
+mod FewPlaces
+mod AllFactors
