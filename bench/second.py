@@ -3,13 +3,17 @@
 
     bench/second.py compare crates/regions/out/regions [SYSTEMS [SEED]]
     bench/second.py answer pure examples/side.apt
-    bench/second.py table [SYSTEMS [SEED]] > crates/rg_acceptance/src/second.rt
+    bench/second.py cases 1 1000 > crates/worked_runs/data/random.cases
+    bench/second.py cases 2 400 marking > crates/worked_runs/data/random_marking.cases
 
 It is written from docs/algorithm.md and docs/formats.md alone: fractions of any size, a problem at a time, each kept place asked, each
 dictionary made anew. `compare` makes random systems (2,000 unless a number is named) of up to 6 states and 4 labels, runs the program with 1 and
 with 3 jobs for a random class, and compares status and bytes; it prints each difference, and at last `N systems, M differences`. Where
-the second body forms a number out of 127 bits it can't tell the answer, and stops. It is run by hand and is no test. `table`
-writes the test of the gate that has its answers to so many such systems (32 unless a number is named).
+the second body forms a number out of 127 bits it can't tell the answer, and stops. It is run by hand and is no test. `cases SEED N`
+prints N random cases of every command but `selftest` and `generate`, in all three forms, for `worked_runs`, with what the second
+body says is due: nets and certificates of `synthesize`; what `verify` says of those certificates as they are, with a first multiplier
+below zero, and cut after a line; what `check` says of those nets as they are and with a number changed; systems in another form.
+A class of theirs asks no marking, or with the word `marking` each asks one; a third of those of `compare` do.
 """
 import itertools
 import os
@@ -29,12 +33,14 @@ class Class:
         self.pure, self.plain, self.nonbranching = 'pure' in words, 'plain' in words, 'output-nonbranching' in words
         bounds = [1 if w == 'safe' else int(w[:-len('-bounded')]) for w in words if w == 'safe' or w.endswith('-bounded')]
         self.bound = bounds[0] if bounds else None
+        self.marking = next((int(w[:-len('-marking')]) for w in words if w.endswith('-marking')), None)
         self.has_start = self.pure or self.plain or self.bound is not None
         self.moves = self.bound is None and (self.plain or not self.pure)
 
     def text(self):
         bound = [] if self.bound is None else ['safe' if self.bound == 1 else f'{self.bound}-bounded']
-        words = ['pure'] * self.pure + ['plain'] * self.plain + bound + ['output-nonbranching'] * self.nonbranching
+        marking = [] if self.marking is None else [f'{self.marking}-marking']
+        words = ['pure'] * self.pure + ['plain'] * self.plain + bound + marking + ['output-nonbranching'] * self.nonbranching
         return ','.join(words) or 'none'
 
 
@@ -251,6 +257,13 @@ class Setting:
             forms.append((scale, [int(z * scale) for z in numbers], (kind, of)))
         return forms
 
+    def forms_of(self, problem):
+        """What has to be whole in the cases of a problem: the start comes last, divided by the marking, which is its scale."""
+        c = self.class_
+        if c.marking is None or c.bound is None and not (c.plain and problem[0] == 'event'):
+            return self.forms
+        return [*self.forms, (c.marking, [1] + [0] * len(self.columns), ('start', None))]
+
     # ---- a case of a problem
 
     def case(self, problem, number):
@@ -263,10 +276,11 @@ class Setting:
                 rows.append(row)
                 kept.append((name, factor))
         columns = len(self.columns) + self.class_.has_start
-        point, tree = branch(columns, rows, self.forms)
+        forms = self.forms_of(problem)
+        point, tree = branch(columns, rows, forms)
         if point is not None:
             return self.place(problem, point), None
-        return None, self.nodes(problem, number, kept, tree)
+        return None, self.nodes(problem, number, kept, forms, tree)
 
     def place(self, problem, point):
         c, system = self.class_, self.system
@@ -280,7 +294,7 @@ class Setting:
             return sum((value[f] * self.walk.relations[t][1].get(f, 0) for f in self.columns), Fraction(0))
         effects = [effect(t) for t in range(len(system.labels))] + [start]
         if not c.plain and c.bound is None:
-            multiple = lcm(*(z.denominator for z in effects))
+            multiple = lcm(*(z.denominator for z in effects)) * (c.marking or 1)
             effects = [z * multiple for z in effects]
         tokens = {system.initial: effects[-1]}
         for s, t, r in self.tree:
@@ -288,24 +302,31 @@ class Setting:
         if c.moves:
             least = min(tokens.values())
             tokens = {s: m - least for s, m in tokens.items()}
+        if c.marking is not None and c.plain and c.bound is None and problem[0] == 'states':
+            missing = -tokens[system.initial] % c.marking
+            tokens = {s: m + missing for s, m in tokens.items()}
         takes = [max(Fraction(0), -e) for e in effects[:-1]]
         if problem[0] == 'event':
             t = problem[2]
             takes[t] = -effects[t] if c.pure else Fraction(1) if c.plain else min(tokens[s] for s in system.with_label(t))
         puts = [a + e for a, e in zip(takes, effects)]
         whole = [*takes, *puts, *tokens.values()]
-        assert all(z.denominator == 1 and z >= 0 for z in whole)
+        assert all(z.denominator == 1 and z >= 0 for z in whole) and tokens[system.initial] % (c.marking or 1) == 0
         fits(*whole)
         return [int(tokens[s]) for s in range(len(system.states))], [int(z) for z in takes], [int(z) for z in puts]
 
     # ---- certificates
 
-    def nodes(self, problem, number, kept, tree):
+    def split_line(self, kind, of, at):
+        if kind == 'start':
+            return f'split start {at}'
+        return f'split tokens {self.system.states[of]} {at}' if kind == 'M' else f'split effect {self.system.labels[of]} {at}'
+
+    def nodes(self, problem, number, kept, forms, tree):
         if tree[0] == 'split':
             _, form, at, low, high = tree
-            kind, of = self.forms[form][2]
-            line = f'split tokens {self.system.states[of]} {at}' if kind == 'M' else f'split effect {self.system.labels[of]} {at}'
-            return [line, *self.nodes(problem, number, kept, low), *self.nodes(problem, number, kept, high)]
+            line = self.split_line(*forms[form][2], at)
+            return [line, *self.nodes(problem, number, kept, forms, low), *self.nodes(problem, number, kept, forms, high)]
         _, above, multipliers = tree
         rows = []
         for i in sorted(multipliers):
@@ -316,8 +337,10 @@ class Setting:
                 rows.append((name, multipliers[i] * factor, self.expression(problem, number, name)[0]))
             else:
                 form, at, high = above[i - len(kept)]
-                kind, of = self.forms[form][2]
-                rows.append((('above', i - len(kept)), multipliers[i] * Fraction(self.forms[form][0]), [(1 if high else -1, kind, of)]))
+                scale, _, (kind, of) = forms[form]
+                if kind == 'start':
+                    scale, kind, of = 1, 'M', self.system.initial
+                rows.append((('above', i - len(kept)), multipliers[i] * Fraction(scale), [(1 if high else -1, kind, of)]))
         return ['leaf', *self.leaf(rows)]
 
     def leaf(self, rows):
@@ -405,22 +428,32 @@ def net_text(system, places):
 
 
 def cert_text(class_, reason):
-    return '\n'.join(['certificate 1', f'class {class_.text()}', *reason, 'end']) + '\n'
+    version = 1 if class_.marking is None else 2
+    return '\n'.join([f'certificate {version}', f'class {class_.text()}', *reason, 'end']) + '\n'
 
 
-def answer(system, word):
-    """Status and text."""
-    class_ = Class(word)
+def answer_early(system):
+    """The first state that isn't reached, else the first fork; None where there is neither."""
     s, t = system.states, system.labels
     reached = [system.initial]
     for q in reached:
         reached += [r for r in dict.fromkeys(a[2] for a in system.arcs if a[0] == q) if r not in reached]
     for q in range(len(s)):
         if q not in reached:
-            return 1, cert_text(class_, [f'unreachable {s[q]}'])
+            return f'unreachable {s[q]}'
     for a, b in zip(system.arcs, system.arcs[1:]):
         if a[:2] == b[:2]:
-            return 1, cert_text(class_, [f'fork {s[a[0]]} {t[a[1]]} {s[a[2]]} {s[b[2]]}'])
+            return f'fork {s[a[0]]} {t[a[1]]} {s[a[2]]} {s[b[2]]}'
+    return None
+
+
+def answer(system, word):
+    """Status and text."""
+    class_ = Class(word)
+    s, t = system.states, system.labels
+    early = answer_early(system)
+    if early is not None:
+        return 1, cert_text(class_, [early])
     setting, kept = Setting(system, class_), []
     for problem in problems(system):
         if any(separates(p, problem) for p in kept):
@@ -474,6 +507,13 @@ def random_class(rng):
     return ','.join(words) or 'none'
 
 
+def marked_class(rng):
+    """A random class that asks a marking."""
+    words = [w for w in random_class(rng).split(',') if w != 'none'] + [f'{rng.choice((1, 2, 2, 3, 4, 6))}-marking']
+    rng.shuffle(words)
+    return ','.join(words)
+
+
 def compare(program, count, seed):
     rng, differences, made = random.Random(seed), 0, 0
     with tempfile.TemporaryDirectory() as folder:
@@ -483,7 +523,7 @@ def compare(program, count, seed):
             if system is None:
                 continue
             made += 1
-            word = random_class(rng)
+            word = marked_class(rng) if rng.random() < 1 / 3 else random_class(rng)
             with open(path, 'w') as file:
                 file.write(system.text())
             second = answer(system, word)
@@ -497,45 +537,209 @@ def compare(program, count, seed):
     return differences == 0
 
 
-TABLE = '''//! Random systems of up to 6 states and 4 labels, and what a second body of `synthesize` answers, which takes a problem at a time and asks
-//! each kept place: `bench/second.py table` has written this file.
-use rg_test_files::NoRoom;
-use rg_test_runs::synthesize;
+# ---- other forms of a system
 
-// The class, the text of the system, the number of the status, and what is written to out.
-const ROWS: [(&str, &str, u8, &str); %d] = [
-%s];
-
-#[test]
-fn the_second_body_agrees(rt: HostRuntime) -> Result<(), NoRoom> {
-    for (class, system, number, out) in ROWS {
-        let outcome = synthesize(&rt, rt.alloc(), class, system.as_bytes())?;
-        assert_eq!(rt; outcome.status.number(), number);
-        assert!(rt; outcome.out.bytes() == out.as_bytes());
-        assert!(rt; outcome.err.bytes().is_empty());
-    }
-    Ok(())
-}
-'''
+def graph_text(system):
+    """The text of a state graph; None where it can't hold the system."""
+    s, t = system.states, system.labels
+    on_arcs = {q for a in system.arcs for q in (a[0], a[2])}
+    if len(system.used()) < len(t) or len(s) > 1 and len(on_arcs) < len(s):
+        return None
+    lines = ['.model lts', ' '.join(['.outputs', *t]), '.state graph', *(f'{s[q]} {t[u]} {s[r]}' for q, u, r in system.arcs)]
+    return '\n'.join([*lines, '.marking {' + s[system.initial] + '}', '.end']) + '\n'
 
 
-def table(count, seed):
-    """Rows of the test, as many nets as certificates, no two of one class and system, few of them refused before any problem is solved."""
-    rng, rows, seen, ended = random.Random(seed), [], set(), [0, 0]
-    quoted = lambda text: '"' + text.replace('\n', '\\n') + '"'
-    while len(rows) < count:
-        system = random_system(rng) if rng.random() < 0.5 else net_system(rng)
-        if system is None:
+def loss(system):
+    """What a state graph can't hold."""
+    for t, name in enumerate(system.labels):
+        if t not in system.used():
+            return f'no: label {name} has no arc\n'
+    on_arcs = {q for a in system.arcs for q in (a[0], a[2])}
+    return next(f'no: state {name} has no arc\n' for q, name in enumerate(system.states) if q not in on_arcs)
+
+
+def as_read_from_graph(system):
+    """The system with states and labels in the order in which arcs name them; the first state need not be the initial one."""
+    states = list(dict.fromkeys(q for a in system.arcs for q in (a[0], a[2]))) or [system.initial]
+    labels = list(dict.fromkeys(a[1] for a in system.arcs))
+    arcs = [(states.index(q), labels.index(t), states.index(r)) for q, t, r in system.arcs]
+    read = System([system.states[q] for q in states], [system.labels[t] for t in labels], arcs)
+    read.initial = states.index(system.initial)
+    return read
+
+
+def as_read_from_words(words):
+    """The tree of the prefixes of words, each a list of labels."""
+    prefixes, labels = [()], []
+    for word in words:
+        labels += [t for t in dict.fromkeys(word) if t not in labels]
+        prefixes += [p for k in range(len(word)) if (p := tuple(word[:k + 1])) not in prefixes]
+    arcs = [(prefixes.index(p[:-1]), labels.index(p[-1]), i) for i, p in enumerate(prefixes) if p]
+    return System([f's{i}' for i in range(len(prefixes))], labels, arcs)
+
+
+def system_text(system):
+    """The text of a system whose initial state may be any."""
+    lines = ['.type LTS', '.states', *(q + '[initial]' * (i == system.initial) for i, q in enumerate(system.states)), '.labels', *system.labels, '.arcs']
+    return '\n'.join([*lines, *(f'{system.states[s]} {system.labels[t]} {system.states[r]}' for s, t, r in system.arcs)]) + '\n'
+
+
+# ---- the judge of nets
+
+def places_of(system, net):
+    """The places of a net's text as it is written here: start number, takes and puts by label."""
+    lines = net.split('\n')
+    names = lines[lines.index('.places') + 1:lines.index('.transitions')]
+
+    def members(text):
+        weights = [0] * len(names)
+        for member in filter(None, text.strip('{} ').split(', ')):
+            weight, _, name = member.rpartition('*')
+            weights[names.index(name)] += int(weight or 1)
+        return weights
+    flows = [line.split(': ', 1)[1].split(' -> ') for line in lines[lines.index('.flows') + 1:-2]]
+    start = members(lines[-2].removeprefix('.initial_marking '))
+    takes, puts = [members(f[0]) for f in flows], [members(f[1]) for f in flows]
+    return [(start[p], [takes[t][p] for t in range(len(flows))], [puts[t][p] for t in range(len(flows))]) for p in range(len(names))]
+
+
+def judged(system, word, places):
+    """What `check` says."""
+    s, labels, class_ = system.states, system.labels, Class(word)
+    early = answer_early(system)
+    if early is not None:
+        return f'no: {early}\n'
+    enabled = lambda m, t: all(k >= p[1][t] for k, p in zip(m, places))
+    fired = lambda m, t: [k - p[1][t] + p[2][t] for k, p in zip(m, places)]
+    markings, order = {system.initial: [p[0] for p in places]}, [system.initial]
+    for q in order:
+        for _, t, r in (a for a in system.arcs if a[0] == q):
+            if r not in markings:
+                if not enabled(markings[q], t):
+                    return f'no: not enabled {s[q]} {labels[t]}\n'
+                markings[r] = fired(markings[q], t)
+                order.append(r)
+    for q, r in itertools.combinations(range(len(s)), 2):
+        if markings[q] == markings[r]:
+            return f'no: same marking {s[q]} {s[r]}\n'
+    for q in range(len(s)):
+        for t, name in enumerate(labels):
+            target = system.targets.get((q, t))
+            if target is None and enabled(markings[q], t):
+                return f'no: enabled {s[q]} {name}\n'
+            if target is not None and not enabled(markings[q], t):
+                return f'no: not enabled {s[q]} {name}\n'
+            if target is not None and fired(markings[q], t) != markings[target]:
+                return f'no: wrong step {s[q]} {name}\n'
+    for p, (_, takes, puts) in enumerate(places):
+        for t, name in enumerate(labels):
+            if class_.pure and takes[t] and puts[t]:
+                return f'no: not pure place {p} {name}\n'
+        for t, name in enumerate(labels):
+            if class_.plain and max(takes[t], puts[t]) > 1:
+                return f'no: not plain place {p} {name}\n'
+        for q in range(len(s)):
+            if class_.bound is not None and markings[q][p] > class_.bound:
+                return f'no: over place {p} {s[q]}\n'
+        takers = [name for t, name in enumerate(labels) if takes[t]]
+        if class_.nonbranching and len(takers) > 1:
+            return f'no: branching place {p} {takers[0]} {takers[1]}\n'
+        if class_.marking is not None and places[p][0] % class_.marking:
+            return f'no: not multiple place {p}\n'
+    return 'yes\n'
+
+
+# ---- cases of whole runs
+
+def told(name, words, files, status, text):
+    """A case in the form of files of cases. Each text ends with a line feed."""
+    piece = lambda data: ['| ' + line if line else '|' for line in data.split('\n')[:-1]]
+    lines = ['case ' + name, 'words ' + ' '.join(words)]
+    for file, data in files.items():
+        lines += ['file ' + file, *piece(data)]
+    return '\n'.join([*lines, f'status {status}', *(['out', *piece(text)] if text else [])]) + '\n'
+
+
+def random_words(rng):
+    return [[rng.choice('abc') for _ in range(rng.randint(0, 4))] for _ in range(rng.randint(1, 3))]
+
+
+def in_a_form(rng, system):
+    """A system as it is read, the text of it, and the words that name its form."""
+    kind = rng.random()
+    if kind < 0.25:
+        words = random_words(rng)
+        return as_read_from_words(words), ''.join(' '.join(w) + '\n' for w in words), ['--from', 'words']
+    if kind < 0.55 and graph_text(system) is not None:
+        return as_read_from_graph(system), graph_text(system), ['--from=graph']
+    return system, system.text(), []
+
+
+def changed_certificate(rng, certificate):
+    """A certificate with a change, and what is said of it."""
+    lines = certificate.split('\n')[:-1]
+    rows = [i for i, line in enumerate(lines) if line[:1].isdigit() and ' arc ' not in line]
+    if rows and rng.random() < 0.5:
+        i = rows[0]
+        nodes = [k for k, line in enumerate(lines[:i]) if line == 'case' or line == 'leaf' or line.startswith('split')]
+        last = max(k for k in nodes if lines[k] == 'case')
+        if sum(lines[k] == 'case' for k in nodes) == 1:
+            return '\n'.join(lines[:i] + ['-' + lines[i]] + lines[i + 1:]) + '\n', f'refused: case 0 node {sum(k > last for k in nodes) - 1}: not positive\n'
+    kept = rng.randrange(len(lines))
+    return ''.join(line + '\n' for line in lines[:kept]), f'refused: line {kept + 1}: expected form\n'
+
+
+def changed_net(rng, system, net):
+    """The text of a net with a number changed."""
+    places = places_of(system, net)
+    if not places:
+        return net
+    start, takes, puts = rng.choice(places)
+    whose = rng.choice([takes, puts])
+    if rng.random() < 0.3 or not whose:
+        places[places.index((start, takes, puts))] = (start + 1, takes, puts)
+    else:
+        t = rng.randrange(len(whose))
+        whose[t] = max(0, whose[t] + rng.choice([1, -1, 2]))
+    return net_text(system, [({system.initial: start}, takes, puts) for start, takes, puts in places])
+
+
+def random_case(rng, number, a_class):
+    """A case over classes that `a_class` makes; None where no system was made."""
+    system = random_system(rng) if rng.random() < 0.5 else net_system(rng)
+    if system is None:
+        return None
+    system, text, form = in_a_form(rng, system)
+    word, what = a_class(rng), rng.random()
+    if what < 0.15:
+        target = rng.choice(['apt', 'graph'])
+        out = system_text(system) if target == 'apt' else graph_text(system)
+        status = 0 if out is not None else 1
+        return told(f'{number}: convert', ['convert', target, 'f', *form], {'f': text}, status, loss(system) if out is None else out)
+    status, out = answer(system, word)
+    if what < 0.5:
+        jobs = rng.choice([[], [], ['--jobs', '2'], ['--jobs=7']])
+        return told(f'{number}: synthesize', ['synthesize', word, 'f', *form, *jobs], {'f': text}, status, out)
+    if status == 1:
+        changed, line = (out, f'accepted: no net of class {Class(word).text()}\n') if rng.random() < 0.5 else changed_certificate(rng, out)
+        return told(f'{number}: verify', ['verify', 'f', 'c', *form], {'f': text, 'c': changed}, int(changed != out), line)
+    net = out if rng.random() < 0.3 else changed_net(rng, system, out)
+    word = word if rng.random() < 0.5 else a_class(rng)
+    line = judged(system, word, places_of(system, net))
+    return told(f'{number}: check', ['check', word, 'f', 'n', *form], {'f': text, 'n': net}, int(line != 'yes\n'), line)
+
+
+def cases(seed, count, marked):
+    rng, made = random.Random(seed), 0
+    print(f'# {count} random cases of seed {seed}{", over classes with a marking" * marked}, which bench/second.py has written.')
+    while made < count:
+        try:
+            case = random_case(rng, made + 1, marked_class if marked else random_class)
+        except OutOfRange:
             continue
-        word, text = random_class(rng), system.text()
-        status, out = answer(system, word)
-        early = status == 1 and out.split('\n')[2].split()[0] in ('unreachable', 'fork')
-        if (word, text) in seen or len(system.states) < 3 or early and rng.random() < 0.9 or 2 * ended[status] >= count:
-            continue
-        seen.add((word, text))
-        ended[status] += 1
-        rows.append(f'    (\n        {quoted(word)},\n        {quoted(text)},\n        {status},\n        {quoted(out)},\n    ),\n')
-    return TABLE % (count, ''.join(rows))
+        if case is not None:
+            made += 1
+            print('\n' + case, end='')
 
 
 def read(path):
@@ -554,8 +758,8 @@ def main():
         return status
     if 2 <= len(words) <= 4 and words[0] == 'compare':
         return not compare(os.path.abspath(words[1]), int(words[2]) if len(words) > 2 else 2000, int(words[3]) if len(words) > 3 else 1)
-    if 1 <= len(words) <= 3 and words[0] == 'table':
-        sys.stdout.write(table(int(words[1]) if len(words) > 1 else 32, int(words[2]) if len(words) > 2 else 1))
+    if len(words) in (3, 4) and words[0] == 'cases' and words[3:] in ([], ['marking']):
+        cases(int(words[1]), int(words[2]), len(words) == 4)
         return 0
     sys.exit(__doc__)
 
