@@ -18,6 +18,7 @@ const NONE: Class = Class {
     pure: false,
     plain: false,
     bound: None,
+    marking: None,
     nonbranching: false,
 };
 

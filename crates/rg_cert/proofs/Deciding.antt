@@ -1,5 +1,5 @@
 -- What lines are like can be decided.
-use Rattle.std.proofs.Common.{◌≡◌, ◌≢◌, ◌⊎◌, inl, inr, ⊎_elim, ℕ, zero, suc, ◌<◌, ◌≤◌, ◌^◌, Bool, true, false, List, [], ◌∷◌, ◌++◌, length, get_or, Contains, ℤ, pos, negsuc, nat_abs, refl, ap, subst, arith}
+use Rattle.std.proofs.Common.{◌≡◌, ◌≢◌, ◌⊎◌, inl, inr, ⊎_elim, ℕ, zero, suc, ◌<◌, ◌≤◌, ◌^◌, Bool, true, false, List, [], ◌∷◌, ◌++◌, length, get_or, Contains, ℤ, pos, negsuc, nat_abs, refl, ap, subst, ◌∙◌, arith}
 use Rattle.std.specs.List.{list_all}
 use Rattle.std.specs.Char.{is_ascii_digit}
 use Rattle.std.proofs.lemmas.Bool.{cases_lt, cases_eq}
@@ -7,7 +7,11 @@ use Rattle.std.proofs.lemmas.List.Sums.{AllPass-from_list_all, list_all-from_All
 use Rattle.std.proofs.lemmas.List.Elements.{All-cons, All-nil}
 use Rattle.rg_text.specs.Byte.{IsName, is_name_byte}
 use Rattle.rg_theory.specs.System.{System}
+use Rattle.rg_theory.specs.declared.Class.{Class}
+use Rattle.rg_theory.specs.ClassWords.{NamesClass}
+use Rattle.rg_theory.proofs.ClassTold.{one_class}
 use Rattle.rg_theory.proofs.ClassDecided.{Decided, same_bytes, class_of_text}
+use Rattle.rg_cert.specs.Text.{Version, version_one, version_two, class_version}
 use Rattle.rg_cert.specs.Numerals.{IsPlain, IsNumeral}
 use Rattle.rg_cert.specs.Lines.{Range, multiplier, split_value, depth, IsIn, Field, word, class_words, state, label, number, HasFieldForm, IsFieldInRange, IsFieldKnown, AreAsked}
 use Rattle.rg_cert.proofs.Cuts.{Lacks}
@@ -76,16 +80,30 @@ contains_decided (first ∷ names) name = by (same_bytes first name) (contains_d
     by (inr other) (inl (k, less, is)) = inl (suc k, omega arith, is)
     by (inr other) (inr never) = inr (λ (k, less, is). none k other never less is)
 
+version_decided : (v w : Version) → Decided (v ≡ w)
+version_decided version_one version_one = inl refl
+version_decided version_one version_two = inr (λ e. absurd cc)
+version_decided version_two version_one = inr (λ e. absurd cc)
+version_decided version_two version_two = inl refl
+
+class_decided : (version : Version) (text : List ℕ) → Decided ((class : Class) × NamesClass text class) → Decided (HasFieldForm (class_words version) text)
+class_decided version text (inr none) = inr (λ (class, named, first). none (class, named))
+class_decided version text (inl (class, named)) = by (version_decided (class_version class) version)
+  where
+    by : Decided (class_version class ≡ version) → Decided (HasFieldForm (class_words version) text)
+    by (inl same) = inl (class, named, same)
+    by (inr other) = inr (λ (c, is, first). other (ap class_version (one_class text class c named is) ∙ first))
+
 form_decided : (field : Field) (text : List ℕ) → Decided (HasFieldForm field text)
 form_decided (word w) text = same_bytes text w
-form_decided class_words text = class_of_text text
+form_decided (class_words version) text = class_decided version text (class_of_text text)
 form_decided state text = name_decided text
 form_decided label text = name_decided text
 form_decided (number range) text = numeral_decided text
 
 in_range_decided : (field : Field) (text : List ℕ) → Decided (IsFieldInRange field text)
 in_range_decided (word w) text = inl tt
-in_range_decided class_words text = inl tt
+in_range_decided (class_words version) text = inl tt
 in_range_decided state text = inl tt
 in_range_decided label text = inl tt
 in_range_decided (number range) text = by (numeral_decided text)
@@ -100,7 +118,7 @@ in_range_decided (number range) text = by (numeral_decided text)
 
 known_decided : (lts : System) (field : Field) (text : List ℕ) → Decided (IsFieldKnown lts field text)
 known_decided lts (word w) text = inl tt
-known_decided lts class_words text = inl tt
+known_decided lts (class_words version) text = inl tt
 known_decided lts state text = contains_decided lts.state_names text
 known_decided lts label text = contains_decided lts.label_names text
 known_decided lts (number range) text = inl tt

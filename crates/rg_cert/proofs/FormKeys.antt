@@ -4,8 +4,13 @@ use Rattle.std.specs.List.{list_all}
 use Rattle.std.specs.Char.{is_ascii_digit}
 use Rattle.std.specs.Str.{bytes_eq}
 use Rattle.std.proofs.lemmas.Bool.Decides.{nat_tests}
+use Rattle.rg_theory.specs.declared.Class.{Class}
+use Rattle.rg_theory.specs.ClassWords.{NamesClass}
+use Rattle.rg_theory.proofs.ClassTold.{one_class}
+use Rattle.rg_theory.proofs.ClassDecided.{Decided, class_of_text}
+use Rattle.rg_cert.specs.Text.{version_one, version_two, class_version}
 use Rattle.rg_cert.specs.Numerals.{IsPlain, IsNumeral}
-use Rattle.rg_cert.specs.Lines.{HasFieldForm, AreAsked, RowForm.arc_form, RowForm.tokens_form, RowForm.cap_form, RowForm.up_form, RowForm.down_form, RowForm.makes_form, RowForm.stop_form, RowForm.block_form, RowForm.empty_form, RowForm.full_form, RowForm.keep_form, RowForm.apart_form, RowForm.above_form, LineForm, LineForm.heading_line, LineForm.class_line, LineForm.unreachable_line, LineForm.fork_line, LineForm.event_line, LineForm.states_line, LineForm.case_line, LineForm.split_tokens_line, LineForm.split_effect_line, LineForm.leaf_line, LineForm.row_line, LineForm.end_line, fields_of}
+use Rattle.rg_cert.specs.Lines.{HasFieldForm, AreAsked, RowForm.arc_form, RowForm.tokens_form, RowForm.cap_form, RowForm.up_form, RowForm.down_form, RowForm.makes_form, RowForm.stop_form, RowForm.block_form, RowForm.empty_form, RowForm.full_form, RowForm.keep_form, RowForm.apart_form, RowForm.above_form, LineForm, LineForm.heading_line, LineForm.class_line, LineForm.unreachable_line, LineForm.fork_line, LineForm.event_line, LineForm.states_line, LineForm.case_line, LineForm.split_tokens_line, LineForm.split_effect_line, LineForm.split_start_line, LineForm.leaf_line, LineForm.row_line, LineForm.end_line, fields_of}
 
 -- a word begins above the digits
 abbrev pub begins_word : List ℕ → Bool
@@ -14,10 +19,27 @@ begins_word (c ∷ cs) = nat_lt 64 c
 
 abbrev split_key : List (List ℕ) → Option LineForm
 split_key [] = None
-split_key (w ∷ more) = cond (bytes_eq w (codes "tokens")) (Some split_tokens_line) (cond (bytes_eq w (codes "effect")) (Some split_effect_line) (None))
+split_key (w ∷ more) = cond (bytes_eq w (codes "tokens")) (Some split_tokens_line) (cond (bytes_eq w (codes "effect")) (Some split_effect_line) (cond (bytes_eq w (codes "start")) (Some split_start_line) (None)))
+
+abbrev heading_key : List (List ℕ) → Option LineForm
+heading_key [] = None
+heading_key (w ∷ more) = cond (bytes_eq w (codes "1")) (Some (heading_line version_one)) (cond (bytes_eq w (codes "2")) (Some (heading_line version_two)) (None))
+
+-- the class of a text tells the form of its line
+abbrev class_form : (text : List ℕ) → Decided ((class : Class) × NamesClass text class) → Option LineForm
+class_form text (inl (class, named)) = Some (class_line (class_version class))
+class_form text (inr none) = None
+
+abbrev class_key : List (List ℕ) → Option LineForm
+class_key [] = None
+class_key (text ∷ more) = class_form text (class_of_text text)
+
+class_formed : (text : List ℕ) (class : Class) (is : Decided ((class : Class) × NamesClass text class)) → NamesClass text class → class_form text is ≡ Some (class_line (class_version class))
+class_formed text class (inl (other, named)) is = ap (λ c. Some (class_line (class_version c))) (one_class text other class named is)
+class_formed text class (inr none) is = absurd (none (class, is))
 
 abbrev word_key : List ℕ → List (List ℕ) → Option LineForm
-word_key w more = cond (bytes_eq w (codes "split")) (split_key more) (cond (bytes_eq w (codes "certificate")) (Some heading_line) (cond (bytes_eq w (codes "class")) (Some class_line) (cond (bytes_eq w (codes "unreachable")) (Some unreachable_line) (cond (bytes_eq w (codes "fork")) (Some fork_line) (cond (bytes_eq w (codes "event")) (Some event_line) (cond (bytes_eq w (codes "states")) (Some states_line) (cond (bytes_eq w (codes "case")) (Some case_line) (cond (bytes_eq w (codes "leaf")) (Some leaf_line) (cond (bytes_eq w (codes "end")) (Some end_line) (None))))))))))
+word_key w more = cond (bytes_eq w (codes "split")) (split_key more) (cond (bytes_eq w (codes "certificate")) (heading_key more) (cond (bytes_eq w (codes "class")) (class_key more) (cond (bytes_eq w (codes "unreachable")) (Some unreachable_line) (cond (bytes_eq w (codes "fork")) (Some fork_line) (cond (bytes_eq w (codes "event")) (Some event_line) (cond (bytes_eq w (codes "states")) (Some states_line) (cond (bytes_eq w (codes "case")) (Some case_line) (cond (bytes_eq w (codes "leaf")) (Some leaf_line) (cond (bytes_eq w (codes "end")) (Some end_line) (None))))))))))
 
 abbrev row_key : List (List ℕ) → Option LineForm
 row_key [] = None
@@ -48,8 +70,14 @@ row_keyed : (m w : List ℕ) (more : List (List ℕ)) (v : List ℕ) → ((z : �
 row_keyed m w more v (z, is) same = ap (λ b. cond b (word_key m (w ∷ more)) (row_key (w ∷ more))) (numeral_low m z is) ∙ ap (λ t. row_key (t ∷ more)) same
 
 pub keyed : (form : LineForm) (texts : List (List ℕ)) → AreAsked HasFieldForm (fields_of form) texts → form_key texts ≡ Some form
-keyed heading_line (w ∷ more) are = ap (λ t. form_key (t ∷ more)) are.0
-keyed class_line (w ∷ more) are = ap (λ t. form_key (t ∷ more)) are.0
+keyed (heading_line version_one) (w ∷ []) are = absurd are.1
+keyed (heading_line version_one) (w ∷ v ∷ more) are = ap (λ t. form_key (t ∷ v ∷ more)) are.0 ∙ ap (λ t. form_key (codes "certificate" ∷ t ∷ more)) are.1.0
+keyed (heading_line version_two) (w ∷ []) are = absurd are.1
+keyed (heading_line version_two) (w ∷ v ∷ more) are = ap (λ t. form_key (t ∷ v ∷ more)) are.0 ∙ ap (λ t. form_key (codes "certificate" ∷ t ∷ more)) are.1.0
+keyed (class_line version) (w ∷ []) are = absurd are.1
+keyed (class_line version) (w ∷ text ∷ more) are =
+    let (class, named, first) = are.1.0 in
+    ap (λ t. form_key (t ∷ text ∷ more)) are.0 ∙ class_formed text class (class_of_text text) named ∙ ap (λ v. Some (class_line v)) first
 keyed unreachable_line (w ∷ more) are = ap (λ t. form_key (t ∷ more)) are.0
 keyed fork_line (w ∷ more) are = ap (λ t. form_key (t ∷ more)) are.0
 keyed event_line (w ∷ more) are = ap (λ t. form_key (t ∷ more)) are.0
@@ -61,6 +89,8 @@ keyed split_tokens_line (w ∷ []) are = absurd are.1
 keyed split_tokens_line (w ∷ v ∷ more) are = ap (λ t. form_key (t ∷ v ∷ more)) are.0 ∙ ap (λ t. form_key (codes "split" ∷ t ∷ more)) are.1.0
 keyed split_effect_line (w ∷ []) are = absurd are.1
 keyed split_effect_line (w ∷ v ∷ more) are = ap (λ t. form_key (t ∷ v ∷ more)) are.0 ∙ ap (λ t. form_key (codes "split" ∷ t ∷ more)) are.1.0
+keyed split_start_line (w ∷ []) are = absurd are.1
+keyed split_start_line (w ∷ v ∷ more) are = ap (λ t. form_key (t ∷ v ∷ more)) are.0 ∙ ap (λ t. form_key (codes "split" ∷ t ∷ more)) are.1.0
 keyed (row_line arc_form) (m ∷ []) are = absurd are.1
 keyed (row_line arc_form) (m ∷ w ∷ more) are = row_keyed m w more (codes "arc") are.0 are.1.0
 keyed (row_line tokens_form) (m ∷ []) are = absurd are.1
@@ -87,8 +117,8 @@ keyed (row_line apart_form) (m ∷ []) are = absurd are.1
 keyed (row_line apart_form) (m ∷ w ∷ more) are = row_keyed m w more (codes "apart") are.0 are.1.0
 keyed (row_line above_form) (m ∷ []) are = absurd are.1
 keyed (row_line above_form) (m ∷ w ∷ more) are = row_keyed m w more (codes "above") are.0 are.1.0
-keyed heading_line [] are = absurd are
-keyed class_line [] are = absurd are
+keyed (heading_line version) [] are = absurd are
+keyed (class_line version) [] are = absurd are
 keyed unreachable_line [] are = absurd are
 keyed fork_line [] are = absurd are
 keyed event_line [] are = absurd are
@@ -96,6 +126,7 @@ keyed states_line [] are = absurd are
 keyed case_line [] are = absurd are
 keyed split_tokens_line [] are = absurd are
 keyed split_effect_line [] are = absurd are
+keyed split_start_line [] are = absurd are
 keyed leaf_line [] are = absurd are
 keyed end_line [] are = absurd are
 keyed (row_line arc_form) [] are = absurd are

@@ -7,7 +7,7 @@ use Rattle.rg_theory.specs.ClassWords.{class_text}
 use Rattle.rg_theory.proofs.ClassWritten.{written}
 use Rattle.rg_lts.specs.WellFormed.{IsWellFormed}
 use Rattle.rg_reasons.specs.Certificates.{Claim}
-use Rattle.rg_cert.specs.Text.{spaced}
+use Rattle.rg_cert.specs.Text.{Version, version_one, spaced}
 use Rattle.rg_cert.specs.Spells.{Spells}
 use Rattle.rg_cert.specs.Lines.{leaf_line, case_line, Count, one, several, Position, at_heading, at_class, at_reason, at_last, at_one_case, at_cases, at_node, at_row, at_end, to, follows}
 use Rattle.rg_cert.specs.Faults.{LinesLead}
@@ -33,36 +33,37 @@ end_here : (lts : System) (position : Position) → TextsLeadAll lts position ((
 end_here lts position lead = record { lines = (codes "end" ∷ []) ∷ []; lead = lead }
 
 -- the nodes that are due may be leaves
-row_ends : (lts : System) (count : Count) (due : ℕ) → CanEnd lts (at_row count due)
-row_ends lts one zero = end_here lts (at_row one zero) (end_leads lts (at_row one zero) refl)
-row_ends lts several zero = end_here lts (at_row several zero) (end_leads lts (at_row several zero) refl)
-row_ends lts count (suc due) = one_more lts (at_row count (suc due)) (codes "leaf" ∷ []) (at_row count due) (leaf lts (at_row count (suc due)) (at_row count due) refl) (row_ends lts count due)
+row_ends : (lts : System) (version : Version) (count : Count) (due : ℕ) → CanEnd lts (at_row version count due)
+row_ends lts version one zero = end_here lts (at_row version one zero) (end_leads lts (at_row version one zero) refl)
+row_ends lts version several zero = end_here lts (at_row version several zero) (end_leads lts (at_row version several zero) refl)
+row_ends lts version count (suc due) = one_more lts (at_row version count (suc due)) (codes "leaf" ∷ []) (at_row version count due) (leaf lts (at_row version count (suc due)) (at_row version count due) refl) (row_ends lts version count due)
 
-node_ends : (lts : System) (count : Count) (due : ℕ) → CanEnd lts (at_node count due)
-node_ends lts count due = one_more lts (at_node count due) (codes "leaf" ∷ []) (at_row count due) (leaf lts (at_node count due) (at_row count due) refl) (row_ends lts count due)
+node_ends : (lts : System) (version : Version) (count : Count) (due : ℕ) → CanEnd lts (at_node version count due)
+node_ends lts version count due = one_more lts (at_node version count due) (codes "leaf" ∷ []) (at_row version count due) (leaf lts (at_node version count due) (at_row version count due) refl) (row_ends lts version count due)
 
 last_ends : (lts : System) → CanEnd lts at_last
 last_ends lts = end_here lts at_last (end_leads lts at_last refl)
 
 -- the initial state has a name
-reason_ends : (lts : System) → IsWellFormed lts → CanEnd lts at_reason
-reason_ends lts fine = one_more lts at_reason _ at_last (head_leads lts (of_unreachable lts.initial) fine fine.in_range.initial) (last_ends lts)
+reason_ends : (lts : System) (version : Version) → IsWellFormed lts → CanEnd lts (at_reason version)
+reason_ends lts version fine = one_more lts (at_reason version) _ at_last (head_leads lts version (of_unreachable lts.initial) fine fine.in_range.initial) (last_ends lts)
 
 abbrev all_nets : Class
-all_nets = record { pure = false; plain = false; bound = None; nonbranching = false }
+all_nets = record { pure = false; plain = false; bound = None; marking = None; nonbranching = false }
 
-class_ends : (lts : System) → IsWellFormed lts → CanEnd lts at_class
-class_ends lts fine = one_more lts at_class _ at_reason (class_leads lts (class_text all_nets) all_nets (written all_nets tt)) (reason_ends lts fine)
+class_ends : (lts : System) (version : Version) → IsWellFormed lts → CanEnd lts (at_class version)
+class_ends lts version fine =
+    one_more lts (at_class version) _ (at_reason version) (class_leads lts version (class_text all_nets) all_nets (written all_nets (record { bound = tt; marking = tt })) (λ one. refl)) (reason_ends lts version fine)
 
 can_end : (lts : System) (position : Position) → IsWellFormed lts → CanEnd lts position
-can_end lts at_heading fine = one_more lts at_heading _ at_class (heading_leads lts) (class_ends lts fine)
-can_end lts at_class fine = class_ends lts fine
-can_end lts at_reason fine = reason_ends lts fine
+can_end lts at_heading fine = one_more lts at_heading _ (at_class version_one) (heading_leads lts version_one) (class_ends lts version_one fine)
+can_end lts (at_class version) fine = class_ends lts version fine
+can_end lts (at_reason version) fine = reason_ends lts version fine
 can_end lts at_last fine = last_ends lts
-can_end lts at_one_case fine = one_more lts at_one_case (codes "case" ∷ []) (at_node one 0) (case_here lts at_one_case (at_node one 0) refl) (node_ends lts one 0)
-can_end lts at_cases fine = end_here lts at_cases (end_leads lts at_cases refl)
-can_end lts (at_node count due) fine = node_ends lts count due
-can_end lts (at_row count due) fine = row_ends lts count due
+can_end lts (at_one_case version) fine = one_more lts (at_one_case version) (codes "case" ∷ []) (at_node version one 0) (case_here lts (at_one_case version) (at_node version one 0) refl) (node_ends lts version one 0)
+can_end lts (at_cases version) fine = end_here lts (at_cases version) (end_leads lts (at_cases version) refl)
+can_end lts (at_node version count due) fine = node_ends lts version count due
+can_end lts (at_row version count due) fine = row_ends lts version count due
 can_end lts at_end fine = record { lines = []; lead = refl }
 
 lead_on : (lts : System) (from : Position) (before : List (List ℕ)) (position : Position) (more : List (List ℕ)) (last : Position) → LinesLead lts from before position → LinesLead lts position more last

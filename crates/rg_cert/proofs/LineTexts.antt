@@ -7,8 +7,8 @@ use Rattle.std.proofs.lemmas.List.Elements.{All-append, All-cons, All-head, All-
 use Rattle.std.proofs.lemmas.List.Sums.{AllPass-from_list_all}
 use Rattle.rg_text.specs.Line.{fields}
 use Rattle.rg_theory.proofs.ClassBytes.{is_shown, named_shown}
-use Rattle.rg_cert.specs.Text.{spaced}
-use Rattle.rg_cert.specs.Lines.{Field, Field.word, Field.class_words, Field.state, Field.label, Field.number, HasFieldForm, AreAsked, RowForm, RowForm.arc_form, RowForm.tokens_form, RowForm.cap_form, RowForm.up_form, RowForm.down_form, RowForm.makes_form, RowForm.stop_form, RowForm.block_form, RowForm.empty_form, RowForm.full_form, RowForm.keep_form, RowForm.apart_form, RowForm.above_form, LineForm, LineForm.heading_line, LineForm.class_line, LineForm.unreachable_line, LineForm.fork_line, LineForm.event_line, LineForm.states_line, LineForm.case_line, LineForm.split_tokens_line, LineForm.split_effect_line, LineForm.leaf_line, LineForm.row_line, LineForm.end_line, fields_of, HasForm}
+use Rattle.rg_cert.specs.Text.{version_one, version_two, spaced}
+use Rattle.rg_cert.specs.Lines.{Field, Field.word, Field.class_words, Field.state, Field.label, Field.number, HasFieldForm, AreAsked, RowForm, RowForm.arc_form, RowForm.tokens_form, RowForm.cap_form, RowForm.up_form, RowForm.down_form, RowForm.makes_form, RowForm.stop_form, RowForm.block_form, RowForm.empty_form, RowForm.full_form, RowForm.keep_form, RowForm.apart_form, RowForm.above_form, LineForm, LineForm.heading_line, LineForm.class_line, LineForm.unreachable_line, LineForm.fork_line, LineForm.event_line, LineForm.states_line, LineForm.case_line, LineForm.split_tokens_line, LineForm.split_effect_line, LineForm.split_start_line, LineForm.leaf_line, LineForm.row_line, LineForm.end_line, fields_of, HasForm}
 use Rattle.rg_cert.proofs.Cuts.{Lacks, spaced_fields, fields_spaced, name_above}
 use Rattle.rg_cert.proofs.Decimal.{numeral_shown}
 
@@ -35,7 +35,7 @@ shown_above b is = grind (arith, nat_tests)
 
 field_above : (field : Field) (text : List ℕ) → is_fine field ≡ true → HasFieldForm field text → IsAbove text
 field_above (word w) text fine is = subst IsAbove (sym is) (All-weaker (λ b. is_above b ≡ true) (λ b. 32 < b) passes_above w (AllPass-from_list_all is_above w fine))
-field_above class_words text fine (class, named) = All-weaker (λ b. is_shown b ≡ true) (λ b. 32 < b) shown_above text (AllPass-from_list_all is_shown text (named_shown text class named))
+field_above (class_words version) text fine (class, named, first) = All-weaker (λ b. is_shown b ≡ true) (λ b. 32 < b) shown_above text (AllPass-from_list_all is_shown text (named_shown text class named))
 field_above state text fine is = name_above text is
 field_above label text fine is = name_above text is
 field_above (number range) text fine (z, is) = All-weaker (λ b. (32 < b) × (b < 128)) (λ b. 32 < b) (λ b h. h.0) text (numeral_shown text z is)
@@ -68,8 +68,9 @@ row_fine apart_form = refl
 row_fine above_form = refl
 
 form_fine : (form : LineForm) → list_all is_fine (fields_of form) ≡ true
-form_fine heading_line = refl
-form_fine class_line = refl
+form_fine (heading_line version_one) = refl
+form_fine (heading_line version_two) = refl
+form_fine (class_line version) = refl
 form_fine unreachable_line = refl
 form_fine fork_line = refl
 form_fine event_line = refl
@@ -77,6 +78,7 @@ form_fine states_line = refl
 form_fine case_line = refl
 form_fine split_tokens_line = refl
 form_fine split_effect_line = refl
+form_fine split_start_line = refl
 form_fine leaf_line = refl
 form_fine (row_line row) = row_fine row
 form_fine end_line = refl
@@ -100,8 +102,8 @@ pub fields_above : (text : List ℕ) (texts : List (List ℕ)) → All IsAbove (
 fields_above text texts above = spaced_fields text texts (all_lack 32 (text ∷ texts) (omega arith) above)
 
 some_field : (form : LineForm) → AreAsked HasFieldForm (fields_of form) [] → ⊥
-some_field heading_line are = are
-some_field class_line are = are
+some_field (heading_line version) are = are
+some_field (class_line version) are = are
 some_field unreachable_line are = are
 some_field fork_line are = are
 some_field event_line are = are
@@ -109,6 +111,7 @@ some_field states_line are = are
 some_field case_line are = are
 some_field split_tokens_line are = are
 some_field split_effect_line are = are
+some_field split_start_line are = are
 some_field leaf_line are = are
 some_field (row_line row) are = are
 some_field end_line are = are
@@ -144,8 +147,8 @@ row_few apart_form = refl
 row_few above_form = refl
 
 form_few : (form : LineForm) → is_few form ≡ true
-form_few heading_line = refl
-form_few class_line = refl
+form_few (heading_line version) = refl
+form_few (class_line version) = refl
 form_few unreachable_line = refl
 form_few fork_line = refl
 form_few event_line = refl
@@ -153,6 +156,7 @@ form_few states_line = refl
 form_few case_line = refl
 form_few split_tokens_line = refl
 form_few split_effect_line = refl
+form_few split_start_line = refl
 form_few leaf_line = refl
 form_few end_line = refl
 form_few (row_line row) = row_few row

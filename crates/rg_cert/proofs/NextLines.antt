@@ -13,7 +13,8 @@ use Rattle.rg_cert.specs.declared.position.Position.{Position as PositionOfCode}
 use Rattle.rg_cert.specs.declared.position.Position.TheVariants as of_position
 use Rattle.rg_cert.specs.declared.position.Next.{Next as NextOfCode}
 use Rattle.rg_cert.specs.declared.position.Next.TheVariants as of_next
-use Rattle.rg_cert.specs.Lines.{HasFieldForm, AreAsked, LineForm, heading_line, class_line, unreachable_line, fork_line, event_line, states_line, case_line, split_tokens_line, split_effect_line, leaf_line, row_line, end_line, RowForm, arc_form, tokens_form, cap_form, up_form, down_form, makes_form, stop_form, block_form, empty_form, full_form, keep_form, apart_form, above_form, fields_of, HasForm, Position, at_heading, at_class, at_reason, at_last, at_one_case, at_cases, at_node, at_row, at_end, refused, follows}
+use Rattle.rg_cert.specs.Text.{Version}
+use Rattle.rg_cert.specs.Lines.{HasFieldForm, AreAsked, LineForm, heading_line, class_line, unreachable_line, fork_line, event_line, states_line, case_line, split_tokens_line, split_effect_line, split_start_line, leaf_line, row_line, end_line, RowForm, arc_form, tokens_form, cap_form, up_form, down_form, makes_form, stop_form, block_form, empty_form, full_form, keep_form, apart_form, above_form, fields_of, HasForm, Position, at_heading, at_class, at_reason, at_last, at_one_case, at_cases, at_node, at_row, at_end, refused, follows}
 use Rattle.rg_cert.specs.Faults.{BeginsWith, BreaksAt, IsFaultAt}
 use Rattle.rg_cert.specs.Drafts.{IsWrong}
 use Rattle.rg_cert.specs.View.{row_form_in, line_form_in, position_in, next_in}
@@ -39,11 +40,11 @@ row_image above_form = (of_row.Above, refl)
 
 -- the form is one of the code's, or that of the first or second line
 abbrev IsImage : LineForm → Type 0
-IsImage form = ((f : FormOfCode) × (line_form_in f ≡ form)) ⊎ ((form ≡ heading_line) ⊎ (form ≡ class_line))
+IsImage form = ((f : FormOfCode) × (line_form_in f ≡ form)) ⊎ (((version : Version) × (form ≡ heading_line version)) ⊎ ((version : Version) × (form ≡ class_line version)))
 
 image : (form : LineForm) → IsImage form
-image heading_line = inr (inl refl)
-image class_line = inr (inr refl)
+image (heading_line version) = inr (inl (version, refl))
+image (class_line version) = inr (inr (version, refl))
 image unreachable_line = inl (of_line.Unreachable, refl)
 image fork_line = inl (of_line.Fork, refl)
 image event_line = inl (of_line.Event, refl)
@@ -51,52 +52,53 @@ image states_line = inl (of_line.States, refl)
 image case_line = inl (of_line.Case, refl)
 image split_tokens_line = inl (of_line.SplitTokens, refl)
 image split_effect_line = inl (of_line.SplitEffect, refl)
+image split_start_line = inl (of_line.SplitStart, refl)
 image leaf_line = inl (of_line.Leaf, refl)
 image (row_line row) = let of_code = row_image row in inl (of_line.Row of_code.0, (λ i. row_line (of_code.1 i)))
 image end_line = inl (of_line.End, refl)
 
 -- the first two lines are refused at the later positions
-refused_heading : (position : PositionOfCode) → follows (position_in position) heading_line ≡ refused
-refused_heading of_position.Reason = refl
-refused_heading of_position.Last = refl
-refused_heading of_position.OneCase = refl
-refused_heading of_position.Cases = refl
-refused_heading (of_position.Node c due) = refl
-refused_heading (of_position.Row count.One zero) = refl
-refused_heading (of_position.Row count.Several zero) = refl
-refused_heading (of_position.Row c (suc due)) = refl
-refused_heading of_position.End = refl
+refused_heading : (position : PositionOfCode) (version : Version) → follows (position_in position) (heading_line version) ≡ refused
+refused_heading (of_position.Reason v) version = refl
+refused_heading of_position.Last version = refl
+refused_heading (of_position.OneCase v) version = refl
+refused_heading (of_position.Cases v) version = refl
+refused_heading (of_position.Node v c due) version = refl
+refused_heading (of_position.Row v count.One zero) version = refl
+refused_heading (of_position.Row v count.Several zero) version = refl
+refused_heading (of_position.Row v c (suc due)) version = refl
+refused_heading of_position.End version = refl
 
-refused_class : (position : PositionOfCode) → follows (position_in position) class_line ≡ refused
-refused_class of_position.Reason = refl
-refused_class of_position.Last = refl
-refused_class of_position.OneCase = refl
-refused_class of_position.Cases = refl
-refused_class (of_position.Node c due) = refl
-refused_class (of_position.Row count.One zero) = refl
-refused_class (of_position.Row count.Several zero) = refl
-refused_class (of_position.Row c (suc due)) = refl
-refused_class of_position.End = refl
+refused_class : (position : PositionOfCode) (version : Version) → follows (position_in position) (class_line version) ≡ refused
+refused_class (of_position.Reason v) version = refl
+refused_class of_position.Last version = refl
+refused_class (of_position.OneCase v) version = refl
+refused_class (of_position.Cases v) version = refl
+refused_class (of_position.Node v c due) version = refl
+refused_class (of_position.Row v count.One zero) version = refl
+refused_class (of_position.Row v count.Several zero) version = refl
+refused_class (of_position.Row v c (suc due)) version = refl
+refused_class of_position.End version = refl
 
 -- what begins with no line that is due breaks off
 pub breaks : (position : Position) (rest : List ℕ) → (position ≡ at_end → ⊥) → ((form : LineForm) (texts : List (List ℕ)) → ¬ BeginsWith position rest form texts) → BreaksAt position rest
 breaks at_heading rest going none = none
-breaks at_class rest going none = none
-breaks at_reason rest going none = none
+breaks (at_class v) rest going none = none
+breaks (at_reason v) rest going none = none
 breaks at_last rest going none = none
-breaks at_one_case rest going none = none
-breaks at_cases rest going none = none
-breaks (at_node c due) rest going none = none
-breaks (at_row c due) rest going none = none
+breaks (at_one_case v) rest going none = none
+breaks (at_cases v) rest going none = none
+breaks (at_node v c due) rest going none = none
+breaks (at_row v c due) rest going none = none
 breaks at_end rest going none = absurd (going refl)
 
 pub goes : (position : PositionOfCode) → position ≢ of_position.End → position_in position ≡ at_end → ⊥
-goes of_position.Reason other e = absurd cc
+goes (of_position.Reason v) other e = absurd cc
 goes of_position.Last other e = absurd cc
-goes of_position.OneCase other e = absurd cc
-goes of_position.Cases other e = absurd cc
-goes (of_position.Node c due) other e = absurd cc
-goes (of_position.Row c due) other e = absurd cc
+goes (of_position.OneCase v) other e = absurd cc
+goes (of_position.Cases v) other e = absurd cc
+goes (of_position.Node v c due) other e = absurd cc
+goes (of_position.Row v c due) other e = absurd cc
 goes of_position.End other e = other refl
 
 -- a text without a line feed begins with no line
@@ -122,8 +124,8 @@ no_form position rest line more texts is lacks are none form ts b = by (image fo
 
     by : IsImage form → ⊥
     by (inl (f, e)) = none f (subst (λ g. AreAsked HasFieldForm (fields_of g) texts) (sym e) asked)
-    by (inr (inl e)) = b.due (subst (λ g. follows (position_in position) g ≡ refused) (sym e) (refused_heading position))
-    by (inr (inr e)) = b.due (subst (λ g. follows (position_in position) g ≡ refused) (sym e) (refused_class position))
+    by (inr (inl (v, e))) = b.due (subst (λ g. follows (position_in position) g ≡ refused) (sym e) (refused_heading position v))
+    by (inr (inr (v, e))) = b.due (subst (λ g. follows (position_in position) g ≡ refused) (sym e) (refused_class position v))
 
 -- the line has this form alone
 pub its_form : (position : Position) (rest line more : List ℕ) (f : LineForm) (texts : List (List ℕ)) → rest ≡ line ++ 10 ∷ more → Lacks 10 line → texts ≡ fields line

@@ -15,13 +15,13 @@ use Rattle.rg_theory.specs.declared.Problem.TheVariants.{Event, States}
 use Rattle.rg_theory.specs.ClassWords.{NamesClass}
 use Rattle.rg_theory.proofs.ClassTold.{one_class}
 use Rattle.rg_lts.specs.WellFormed.{AreNames, IsWellFormed}
-use Rattle.rg_refuting.specs.Row.{Form, Form.on_tokens, Form.on_effect}
+use Rattle.rg_refuting.specs.Row.{Form, Form.on_tokens, Form.on_effect, Form.on_start}
 use Rattle.rg_refuting.specs.Row.{RowName, RowName.arc_row, RowName.tokens_row, RowName.cap_row, RowName.up_row, RowName.down_row, RowName.makes_row, RowName.stop_row, RowName.block_row, RowName.empty_row, RowName.full_row, RowName.keep_row, RowName.apart_row, RowName.above_row}
 use Rattle.rg_refuting.specs.Refutes as refutes
 use Rattle.rg_refuting.specs.Refutes.{NamedRow, Tree, Tree.leaf, Tree.split}
 use Rattle.rg_reasons.specs.Trees.{leaf_node, split_node, preorder}
 use Rattle.rg_reasons.specs.Certificates.{Claim, IsRowNameOf, IsRowOf, IsFormOf, IsNodeOf, IsTreeOf, IsReasonOf, IsClaimOf}
-use Rattle.rg_cert.specs.Text.{state_name, label_name, row_fields, named_fields, form_fields, node_lines, case_lines, reason_lines, spaced, cert_lines, text_with, cert_text}
+use Rattle.rg_cert.specs.Text.{Version, state_name, label_name, row_fields, named_fields, form_fields, node_lines, case_lines, reason_lines, spaced, cert_lines, text_with, cert_text}
 use Rattle.rg_cert.specs.Spells.{Spells}
 use Rattle.rg_cert.specs.Numerals.{IsNumeral}
 use Rattle.rg_cert.specs.Lines.{at_heading, at_end}
@@ -258,6 +258,11 @@ one_form_of_split lts (on_tokens q) (on_effect u) a b fine x y e = absurd (other
 one_form_of_split lts (on_effect t) (on_tokens r) a b fine x y e = absurd (other_words (codes "effect") (codes "tokens") _ _ refl e)
 one_form_of_split lts (on_effect t) (on_effect u) a b fine x y e =
     let same : label_name lts t ≡ label_name lts u = cc in (ap on_effect (one_number lts.label_names t u fine.label_names x y same), cc)
+one_form_of_split lts on_start on_start a b fine x y e = (refl, cc)
+one_form_of_split lts on_start (on_tokens r) a b fine x y e = absurd (other_words (codes "start") (codes "tokens") _ _ refl e)
+one_form_of_split lts on_start (on_effect u) a b fine x y e = absurd (other_words (codes "start") (codes "effect") _ _ refl e)
+one_form_of_split lts (on_tokens q) on_start a b fine x y e = absurd (other_words (codes "tokens") (codes "start") _ _ refl e)
+one_form_of_split lts (on_effect t) on_start a b fine x y e = absurd (other_words (codes "effect") (codes "start") _ _ refl e)
 
 -- the lines don't begin with a row
 abbrev starts_word : List (List ℕ) → Bool
@@ -384,23 +389,23 @@ one_reason lts (refutes.refuted (States s s') ts) (refutes.fork r u r₁ r₂) f
 one_reason lts (refutes.refuted (States s s') ts) (refutes.refuted (Event r u) us) fine x y e = absurd (other_words (codes "states") (codes "event") _ _ refl (first_same _ _ _ _ e))
 
 -- the class and the reason of lines
-line_parts : (lts : System) (m n : List ℕ) (a b : refutes.Reason) → cert_lines m lts a ≡ cert_lines n lts b → (m ≡ n) × (reason_lines lts a ≡ reason_lines lts b)
+line_parts : (lts : System) (v w : Version) (m n : List ℕ) (a b : refutes.Reason) → cert_lines v m lts a ≡ cert_lines w n lts b → (m ≡ n) × (reason_lines lts a ≡ reason_lines lts b)
 unfolding cert_lines
-line_parts lts m n a b e =
+line_parts lts v w m n a b e =
     let class : m ≡ n = cc in
     let rest : reason_lines lts a ++ (codes "end" ∷ []) ∷ [] ≡ reason_lines lts b ++ (codes "end" ∷ []) ∷ [] = cc in
     (class, append_cancel_right (reason_lines lts a) (reason_lines lts b) ((codes "end" ∷ []) ∷ []) rest)
 
-pub spelled_lines : (bytes : List ℕ) (lts : System) (claim : Claim) → (is : Spells bytes lts claim) → bytes ≡ fed (map spaced (cert_lines is.class lts claim.reason))
+pub spelled_lines : (bytes : List ℕ) (lts : System) (claim : Claim) → (is : Spells bytes lts claim) → bytes ≡ fed (map spaced (cert_lines is.version is.class lts claim.reason))
 unfolding text_with
 spelled_lines bytes lts claim is = is.text
 
 pub one_claim : (bytes : List ℕ) (lts : System) (a b : Claim) → IsWellFormed lts → Spells bytes lts a → Spells bytes lts b → a ≡ b
 one_claim bytes lts a b fine x y =
-    let lines = one_lines lts bytes (cert_lines x.class lts a.reason) (cert_lines y.class lts b.reason)
-    (claim_leads lts x.class a.class a.reason fine x.named x.in_range.reason) (claim_leads lts y.class b.class b.reason fine y.named y.in_range.reason)
+    let lines = one_lines lts bytes (cert_lines x.version x.class lts a.reason) (cert_lines y.version y.class lts b.reason)
+    (claim_leads lts x.version x.class a fine x.named x.in_range.reason x.fits) (claim_leads lts y.version y.class b fine y.named y.in_range.reason y.fits)
     (spelled_lines bytes lts a x) (spelled_lines bytes lts b y) in
-    let parts = line_parts lts x.class y.class a.reason b.reason lines in
+    let parts = line_parts lts x.version y.version x.class y.class a.reason b.reason lines in
     let class = one_class y.class a.class b.class (subst (λ t. NamesClass t a.class) parts.0 x.named) y.named in
     let reason = one_reason lts a.reason b.reason fine x.in_range.reason y.in_range.reason parts.1 in
     (λ i. record { class = class i; reason = reason i })
@@ -412,8 +417,8 @@ told lts a b fine x y same =
 -- a text that spells a claim has no fault
 pub not_both : (bytes : List ℕ) (lts : System) (claim : Claim) (fault : CertFault) → IsWellFormed lts → Spells bytes lts claim → FirstFault bytes lts fault → ⊥
 not_both bytes lts claim fault fine is fails =
-    let lines = cert_lines is.class lts claim.reason in
+    let lines = cert_lines is.version is.class lts claim.reason in
     no_fault lts at_heading bytes 1 (map spaced lines) fault (record {
       cut = spelled_lines bytes lts claim is ∙ sym (append-nil (fed (map spaced lines)));
-      lines = lead_all_of lts at_heading lines at_end (claim_leads lts is.class claim.class claim.reason fine is.named is.in_range.reason);
+      lines = lead_all_of lts at_heading lines at_end (claim_leads lts is.version is.class claim fine is.named is.in_range.reason is.fits);
     }) fails

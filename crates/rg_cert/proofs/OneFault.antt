@@ -4,7 +4,7 @@ use Rattle.rg_text.specs.Line.{fed}
 use Rattle.rg_theory.specs.System.{System}
 use Rattle.rg_cert.specs.declared.fault.CertFault.{CertFault}
 use Rattle.rg_cert.specs.declared.fault.CertFault.TheVariants.{Expected, UnknownName, NumberPasses, TreeShort, TreeLong, NoMemory}
-use Rattle.rg_cert.specs.Lines.{HasFieldForm, AreAsked, LineForm, heading_line, class_line, unreachable_line, fork_line, event_line, states_line, case_line, split_tokens_line, split_effect_line, leaf_line, row_line, end_line, fields_of, HasForm, Position, at_heading, at_class, at_reason, at_last, at_one_case, at_cases, at_node, at_row, at_end, to, short, long, refused, follows}
+use Rattle.rg_cert.specs.Lines.{HasFieldForm, AreAsked, LineForm, heading_line, class_line, unreachable_line, fork_line, event_line, states_line, case_line, split_tokens_line, split_effect_line, split_start_line, leaf_line, row_line, end_line, fields_of, HasForm, Position, at_heading, at_class, at_reason, at_last, at_one_case, at_cases, at_node, at_row, at_end, to, short, long, refused, follows}
 use Rattle.rg_cert.specs.Faults.{IsRight, LineLeads, LinesLead, TextGoesOn, BeginsWith, BreaksAt, HasNumberOut, HasUnknownName, IsFaultAt, FaultFrom}
 use Rattle.rg_cert.proofs.Cuts.{one_cut}
 use Rattle.rg_cert.proofs.LineTexts.{line_lacks, fields_are}
@@ -13,8 +13,8 @@ use Rattle.rg_cert.proofs.NextLines.{same_line}
 
 -- nothing may stand after the end
 pub end_refuses : (form : LineForm) → follows at_end form ≡ refused
-end_refuses heading_line = refl
-end_refuses class_line = refl
+end_refuses (heading_line v) = refl
+end_refuses (class_line v) = refl
 end_refuses unreachable_line = refl
 end_refuses fork_line = refl
 end_refuses event_line = refl
@@ -22,6 +22,7 @@ end_refuses states_line = refl
 end_refuses case_line = refl
 end_refuses split_tokens_line = refl
 end_refuses split_effect_line = refl
+end_refuses split_start_line = refl
 end_refuses leaf_line = refl
 end_refuses (row_line row) = refl
 end_refuses end_line = refl
@@ -29,13 +30,13 @@ end_refuses end_line = refl
 -- what breaks off begins with no line
 breaks_begins : (position : Position) (rest : List ℕ) (form : LineForm) (texts : List (List ℕ)) → BreaksAt position rest → BeginsWith position rest form texts → ⊥
 breaks_begins at_heading rest form texts breaks b = breaks form texts b
-breaks_begins at_class rest form texts breaks b = breaks form texts b
-breaks_begins at_reason rest form texts breaks b = breaks form texts b
+breaks_begins (at_class v) rest form texts breaks b = breaks form texts b
+breaks_begins (at_reason v) rest form texts breaks b = breaks form texts b
 breaks_begins at_last rest form texts breaks b = breaks form texts b
-breaks_begins at_one_case rest form texts breaks b = breaks form texts b
-breaks_begins at_cases rest form texts breaks b = breaks form texts b
-breaks_begins (at_node c due) rest form texts breaks b = breaks form texts b
-breaks_begins (at_row c due) rest form texts breaks b = breaks form texts b
+breaks_begins (at_one_case v) rest form texts breaks b = breaks form texts b
+breaks_begins (at_cases v) rest form texts breaks b = breaks form texts b
+breaks_begins (at_node v c due) rest form texts breaks b = breaks form texts b
+breaks_begins (at_row v c due) rest form texts breaks b = breaks form texts b
 breaks_begins at_end rest form texts breaks b = b.due (end_refuses form)
 
 -- a line has one form and one list of texts

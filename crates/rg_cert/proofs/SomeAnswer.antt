@@ -1,8 +1,9 @@
 -- What right lines say, and the claim that they make.
-use Rattle.std.proofs.Common.{◌≡◌, ◌≢◌, ◌⊎◌, inl, inr, ℕ, zero, suc, ◌+◌, ◌<◌, ◌^◌, List, [], ◌∷◌, ◌++◌, length, get_or, codes, map, decimal, All, Contains, Option, None, Some, ℤ, nat_abs, append-nil, append_assoc, refl, sym, ap, ap₂, subst, ◌∙◌, arith, length-append}
-use Rattle.std.specs.List.{flat_map}
+use Rattle.std.proofs.Common.{◌≡◌, ◌≢◌, ◌⊎◌, inl, inr, Bool, true, false, ◌||◌, if◌then◌else◌, is_some, ℕ, zero, suc, ◌+◌, ◌<◌, ◌^◌, List, [], ◌∷◌, ◌++◌, length, get_or, codes, map, decimal, All, Contains, Option, None, Some, ℤ, nat_abs, append-nil, append_assoc, refl, sym, ap, ap₂, subst, ◌∙◌, arith, length-append}
+use Rattle.std.specs.List.{flat_map, list_any}
+use Rattle.std.proofs.lemmas.List.Folds.{list_any-append, list_any_none}
 use Rattle.std.specs.Fmt.{signed_decimal}
-use Rattle.std.proofs.lemmas.List.Elements.{All-head, All-tail, All-nil, All-cons}
+use Rattle.std.proofs.lemmas.List.Elements.{All-head, All-tail, All-nil, All-cons, All-weaker}
 use Rattle.rg_text.specs.Line.{fed, fields}
 use Rattle.rg_theory.specs.System.{System}
 use Rattle.rg_theory.specs.declared.Class.{Class}
@@ -10,19 +11,19 @@ use Rattle.rg_theory.specs.declared.Problem.TheVariants.{Event, States}
 use Rattle.rg_theory.specs.ClassWords.{NamesClass}
 use Rattle.rg_theory.proofs.ClassBytes.{named_bound}
 use Rattle.rg_theory.proofs.ClassDecided.{Decided}
-use Rattle.rg_refuting.specs.Row.{Form, Form.on_tokens, Form.on_effect}
+use Rattle.rg_refuting.specs.Row.{Form, Form.on_tokens, Form.on_effect, Form.on_start}
 use Rattle.rg_refuting.specs.Row.{RowName.arc_row, RowName.tokens_row, RowName.cap_row, RowName.up_row, RowName.down_row, RowName.makes_row, RowName.stop_row, RowName.block_row, RowName.empty_row, RowName.full_row, RowName.keep_row, RowName.apart_row, RowName.above_row}
 use Rattle.rg_refuting.specs.Refutes as refutes
 use Rattle.rg_refuting.specs.Refutes.{NamedRow, Tree}
 use Rattle.rg_cert.specs.declared.fault.CertFault.{CertFault}
 use Rattle.rg_cert.specs.declared.fault.CertFault.TheVariants.{Expected, UnknownName, NumberPasses, TreeShort, TreeLong}
-use Rattle.rg_reasons.specs.Trees.{TreeNode}
+use Rattle.rg_reasons.specs.Trees.{TreeNode, preorder}
 use Rattle.rg_reasons.specs.Certificates.{Claim, IsMultiplierInRange, IsSplitInRange, IsRowOf, IsNodeOf, IsTreeOf, IsReasonOf}
-use Rattle.rg_cert.specs.Text.{named_fields, node_lines, case_lines, reason_lines, spaced, cert_lines, text_with}
+use Rattle.rg_cert.specs.Text.{Version, version_one, version_two, heading, splits_start, reason_nodes, asks_two, named_fields, node_lines, case_lines, reason_lines, spaced, cert_lines, text_with}
 use Rattle.rg_cert.specs.Spells.{Spells}
-use Rattle.rg_cert.specs.Lines.{multiplier, split_value, depth, word, state, label, number, HasFieldForm, IsFieldInRange, IsFieldKnown, AreAsked, RowForm, arc_form, tokens_form, cap_form, up_form, down_form, makes_form, stop_form, block_form, empty_form, full_form, keep_form, apart_form, above_form, LineForm, heading_line, class_line, unreachable_line, fork_line, event_line, states_line, case_line, split_tokens_line, split_effect_line, leaf_line, row_line, end_line, fields_of, HasForm, Position, at_heading, at_class, at_reason, at_last, at_one_case, at_cases, at_node, at_row, at_end, Next, to, short, long, refused, follows}
+use Rattle.rg_cert.specs.Lines.{multiplier, split_value, depth, word, state, label, number, HasFieldForm, IsFieldInRange, IsFieldKnown, AreAsked, RowForm, arc_form, tokens_form, cap_form, up_form, down_form, makes_form, stop_form, block_form, empty_form, full_form, keep_form, apart_form, above_form, LineForm, heading_line, class_line, unreachable_line, fork_line, event_line, states_line, case_line, split_tokens_line, split_effect_line, split_start_line, leaf_line, row_line, end_line, fields_of, HasForm, Position, at_heading, at_class, at_reason, at_last, at_one_case, at_cases, at_node, at_row, at_end, Next, to, short, long, refused, follows}
 use Rattle.rg_cert.specs.Faults.{LineLeads, LinesLead, BeginsWith, IsFaultAt, FaultFrom}
-use Rattle.rg_cert.specs.Drafts.{Head, of_unreachable, of_fork, of_event, of_states, head_fields, IsHeadOf, after_head, Draft, blank, leaf_closed, case_closed, with_split, IsSplitLine, Adds, nodes_lines, draft_lines, IsCase, HasCases, IsDraftAt, IsGood}
+use Rattle.rg_cert.specs.Drafts.{Head, of_unreachable, of_fork, of_event, of_states, head_fields, IsHeadOf, after_head, Draft, blank, leaf_closed, case_closed, with_split, IsSplitLine, Adds, nodes_lines, draft_lines, IsClassIn, IsNodeIn, IsCase, HasCases, IsDraftAt, IsGood}
 use Rattle.rg_cert.proofs.Decimal.{numeral_text}
 use Rattle.rg_cert.proofs.LineTexts.{fields_are, from_fields}
 use Rattle.rg_cert.proofs.FormKeys.{form_key, keyed}
@@ -152,38 +153,53 @@ split_effect_there lts texts good =
       },
     )
 
+split_start_there : (lts : System) (texts : List (List ℕ)) → IsGood lts split_start_line texts → (form : Form) × (at : ℤ) × IsSplitLine lts texts form at
+split_start_there lts texts good =
+    let u = (good_at lts split_start_line texts 0 (word (codes "split")) good refl).form in
+    let v = (good_at lts split_start_line texts 1 (word (codes "start")) good refl).form in
+    let z = split_there (get_or texts 2 []) (good_at lts split_start_line texts 2 (number split_value) good refl).in_range in (
+      on_start,
+      z.0,
+      record {
+        variable = tt;
+        in_range = z.1;
+        are = three_texts HasFieldForm (word (codes "split")) (word (codes "start")) (number split_value) texts good.fields ∙ (λ i. u i ∷ v i ∷ z.2 i ∷ []);
+      },
+    )
+
 -- the head of a right line
-head_there : (lts : System) (form : LineForm) (texts : List (List ℕ)) (next : Position) → IsGood lts form texts → follows at_reason form ≡ to next
-    → (head : Head) × IsHeadOf lts head × (texts ≡ head_fields lts head) × (next ≡ after_head head)
-head_there lts unreachable_line texts next good leads =
+head_there : (lts : System) (version : Version) (form : LineForm) (texts : List (List ℕ)) (next : Position) → IsGood lts form texts → follows (at_reason version) form ≡ to next
+    → (head : Head) × IsHeadOf lts head × (texts ≡ head_fields lts head) × (next ≡ after_head version head)
+head_there lts version unreachable_line texts next good leads =
     let v = (good_at lts unreachable_line texts 0 (word (codes "unreachable")) good refl).form in
     let a = name_there lts.state_names (get_or texts 1 []) (good_at lts unreachable_line texts 1 state good refl).known in
     (of_unreachable a.0, a.1, two_texts HasFieldForm (word (codes "unreachable")) state texts good.fields ∙ (λ i. v i ∷ a.2 i ∷ []), cc)
-head_there lts fork_line texts next good leads =
+head_there lts version fork_line texts next good leads =
     let v = (good_at lts fork_line texts 0 (word (codes "fork")) good refl).form in
     let a = name_there lts.state_names (get_or texts 1 []) (good_at lts fork_line texts 1 state good refl).known in
     let b = name_there lts.label_names (get_or texts 2 []) (good_at lts fork_line texts 2 label good refl).known in
     let c = name_there lts.state_names (get_or texts 3 []) (good_at lts fork_line texts 3 state good refl).known in
     let d = name_there lts.state_names (get_or texts 4 []) (good_at lts fork_line texts 4 state good refl).known in
     (of_fork a.0 b.0 c.0 d.0, (a.1, b.1, c.1, d.1), five_texts HasFieldForm (word (codes "fork")) state label state state texts good.fields ∙ (λ i. v i ∷ a.2 i ∷ b.2 i ∷ c.2 i ∷ d.2 i ∷ []), cc)
-head_there lts event_line texts next good leads =
+head_there lts version event_line texts next good leads =
     let v = (good_at lts event_line texts 0 (word (codes "event")) good refl).form in
     let a = name_there lts.state_names (get_or texts 1 []) (good_at lts event_line texts 1 state good refl).known in
     let b = name_there lts.label_names (get_or texts 2 []) (good_at lts event_line texts 2 label good refl).known in
     (of_event a.0 b.0, (a.1, b.1), three_texts HasFieldForm (word (codes "event")) state label texts good.fields ∙ (λ i. v i ∷ a.2 i ∷ b.2 i ∷ []), cc)
-head_there lts states_line texts next good leads =
+head_there lts version states_line texts next good leads =
     let v = (good_at lts states_line texts 0 (word (codes "states")) good refl).form in
     let a = name_there lts.state_names (get_or texts 1 []) (good_at lts states_line texts 1 state good refl).known in
     let b = name_there lts.state_names (get_or texts 2 []) (good_at lts states_line texts 2 state good refl).known in
     (of_states a.0 b.0, (a.1, b.1), three_texts HasFieldForm (word (codes "states")) state state texts good.fields ∙ (λ i. v i ∷ a.2 i ∷ b.2 i ∷ []), cc)
-head_there lts heading_line texts next good leads = absurd cc
-head_there lts class_line texts next good leads = absurd cc
-head_there lts case_line texts next good leads = absurd cc
-head_there lts split_tokens_line texts next good leads = absurd cc
-head_there lts split_effect_line texts next good leads = absurd cc
-head_there lts leaf_line texts next good leads = absurd cc
-head_there lts (row_line row) texts next good leads = absurd cc
-head_there lts end_line texts next good leads = absurd cc
+head_there lts version (heading_line v) texts next good leads = absurd cc
+head_there lts version (class_line v) texts next good leads = absurd cc
+head_there lts version case_line texts next good leads = absurd cc
+head_there lts version split_tokens_line texts next good leads = absurd cc
+head_there lts version split_effect_line texts next good leads = absurd cc
+head_there lts version split_start_line texts next good leads = absurd cc
+head_there lts version leaf_line texts next good leads = absurd cc
+head_there lts version (row_line row) texts next good leads = absurd cc
+head_there lts version end_line texts next good leads = absurd cc
 
 -- each right line adds something
 adds_there : (lts : System) (position : Position) (form : LineForm) (texts : List (List ℕ)) (d : Draft) → IsGood lts form texts → (new : Draft) × Adds lts position form texts d new
@@ -191,38 +207,40 @@ adds_there lts position split_tokens_line texts d good =
     let is = split_tokens_there lts texts good in (with_split (leaf_closed position d) is.0 is.1, (is.0, is.1, is.2, refl))
 adds_there lts position split_effect_line texts d good =
     let is = split_effect_there lts texts good in (with_split (leaf_closed position d) is.0 is.1, (is.0, is.1, is.2, refl))
+adds_there lts position split_start_line texts d good =
+    let is = split_start_there lts texts good in (with_split (leaf_closed position d) is.0 is.1, (is.0, is.1, is.2, refl))
 adds_there lts position leaf_line texts d good = (leaf_closed position d, refl)
 adds_there lts position (row_line row) texts d good =
     let is = row_there lts row texts good in (record { cases = d.cases; nodes = d.nodes; rows = d.rows ++ is.0 ∷ [] }, (is.0, is.1, is.2, refl))
 adds_there lts position case_line texts d good = (case_closed position d, refl)
 adds_there lts position end_line texts d good = (case_closed position d, refl)
-adds_there lts position heading_line texts d good = (d, refl)
-adds_there lts position class_line texts d good = (d, refl)
+adds_there lts position (heading_line v) texts d good = (d, refl)
+adds_there lts position (class_line v) texts d good = (d, refl)
 adds_there lts position unreachable_line texts d good = (d, refl)
 adds_there lts position fork_line texts d good = (d, refl)
 adds_there lts position event_line texts d good = (d, refl)
 adds_there lts position states_line texts d good = (d, refl)
 
 -- the draft of lines
-record IsRead (lts : System) (head : Head) (position : Position) (d : Draft) (lines : List (List ℕ)) : Type 0 where
+record IsRead (lts : System) (version : Version) (head : Head) (position : Position) (d : Draft) (lines : List (List ℕ)) : Type 0 where
   pub last : Draft
   pub texts : List (List (List ℕ))
-  pub ended : IsDraftAt lts head at_end last
+  pub ended : IsDraftAt lts version head at_end last
   pub grown : draft_lines lts at_end last ≡ draft_lines lts position d ++ texts
   pub are : lines ≡ map spaced texts
 
-lines_read : (lts : System) (head : Head) (position : Position) (d : Draft) (lines : List (List ℕ)) → IsDraftAt lts head position d → LinesLead lts position lines at_end → IsRead lts head position d lines
-lines_read lts head position d [] is same = record {
+lines_read : (lts : System) (version : Version) (head : Head) (position : Position) (d : Draft) (lines : List (List ℕ)) → IsDraftAt lts version head position d → LinesLead lts position lines at_end → IsRead lts version head position d lines
+lines_read lts version head position d [] is same = record {
   last = d;
   texts = [];
-  ended = subst (λ p. IsDraftAt lts head p d) same is;
+  ended = subst (λ p. IsDraftAt lts version head p d) same is;
   grown = ap (λ p. draft_lines lts p d) (sym same) ∙ sym (append-nil (draft_lines lts position d));
   are = refl;
 }
-lines_read lts head position d (line ∷ lines) is (next, leads, more) =
+lines_read lts version head position d (line ∷ lines) is (next, leads, more) =
     let adds = adds_there lts position leads.form leads.texts d (record { fields = leads.has.fields; right = leads.right }) in
-    let one = drafted lts head position leads.form leads.texts next d adds.0 is leads.has.fields leads.leads adds.1 in
-    let rest = lines_read lts head next adds.0 lines one.0 more in
+    let one = drafted lts version head position leads.form leads.texts next d adds.0 is leads.has.fields leads.leads adds.1 in
+    let rest = lines_read lts version head next adds.0 lines one.0 more in
     record {
       last = rest.last;
       texts = leads.texts ∷ rest.texts;
@@ -232,44 +250,72 @@ lines_read lts head position d (line ∷ lines) is (next, leads, more) =
     }
 
 -- the trees of whole cases
-record AreTrees (lts : System) (cases : List (List TreeNode)) : Type 0 where
+record AreTrees (lts : System) (version : Version) (cases : List (List TreeNode)) : Type 0 where
   pub trees : List Tree
   pub count : length trees ≡ length cases
   pub each : All (IsTreeOf lts) trees
+  pub fits : version ≡ version_one → list_any splits_start (flat_map preorder trees) ≡ false
   pub lines : flat_map (case_lines lts) trees ≡ flat_map (nodes_lines lts) cases
 
-trees_there : (lts : System) (cases : List (List TreeNode)) → All (IsCase lts) cases → AreTrees lts cases
-trees_there lts [] each = record { trees = []; count = refl; each = All-nil (IsTreeOf lts); lines = refl }
-trees_there lts (nodes ∷ cases) each =
-    let first = All-head (IsCase lts) nodes cases each in
-    let more = trees_there lts cases (All-tail (IsCase lts) nodes cases each) in
+trees_there : (lts : System) (version : Version) (cases : List (List TreeNode)) → All (IsCase lts version) cases → AreTrees lts version cases
+trees_there lts version [] each = record { trees = []; count = refl; each = All-nil (IsTreeOf lts); fits = λ one. refl; lines = refl }
+trees_there lts version (nodes ∷ cases) each =
+    let first = All-head (IsCase lts version) nodes cases each in
+    let more = trees_there lts version cases (All-tail (IsCase lts version) nodes cases each) in
+    let nodes_in : All (IsNodeIn lts version) (preorder first.tree) = subst (All (IsNodeIn lts version)) first.whole first.each in
     record {
       trees = first.tree ∷ more.trees;
       count = ap suc more.count;
-      each = All-cons (IsTreeOf lts) first.tree more.trees (subst (All (IsNodeOf lts)) first.whole first.each) more.each;
+      each = All-cons (IsTreeOf lts) first.tree more.trees (All-weaker (IsNodeIn lts version) (IsNodeOf lts) (λ n h. h.of_system) (preorder first.tree) nodes_in) more.each;
+      fits = λ one. list_any-append splits_start (preorder first.tree) (flat_map preorder more.trees)
+          ∙ ap₂ ◌||◌ (list_any_none splits_start (preorder first.tree) (All-weaker (IsNodeIn lts version) (λ n. splits_start n ≡ false) (λ n h. h.fits one) (preorder first.tree) nodes_in)) (more.fits one);
       lines = ap₂ ◌++◌ (ap (λ l. (codes "case" ∷ []) ∷ flat_map (node_lines lts) l) (sym first.whole)) more.lines;
     }
 
 -- the reason of a head and cases
-reason_there : (lts : System) (head : Head) (cases : List (List TreeNode)) → IsHeadOf lts head → All (IsCase lts) cases → HasCases head cases
-    → (reason : refutes.Reason) × IsReasonOf lts reason × (reason_lines lts reason ≡ head_fields lts head ∷ flat_map (nodes_lines lts) cases)
-reason_there lts (of_unreachable s) cases is each none =
-    (refutes.unreachable s, is, ap (λ l. head_fields lts (of_unreachable s) ∷ flat_map (nodes_lines lts) l) (sym none))
-reason_there lts (of_fork s t s₁ s₂) cases is each none =
-    (refutes.fork s t s₁ s₂, is, ap (λ l. head_fields lts (of_fork s t s₁ s₂) ∷ flat_map (nodes_lines lts) l) (sym none))
-reason_there lts (of_event s t) cases is each one =
-    let trees = trees_there lts cases each in
-    (refutes.refuted (Event s t) trees.trees, (is.0, is.1, trees.count ∙ one, trees.each), ap (λ l. head_fields lts (of_event s t) ∷ l) trees.lines)
-reason_there lts (of_states s s') cases is each any =
-    let trees = trees_there lts cases each in
-    (refutes.refuted (States s s') trees.trees, (is.0, is.1, trees.each), ap (λ l. head_fields lts (of_states s s') ∷ l) trees.lines)
+record IsReasonThere (lts : System) (version : Version) (head : Head) (cases : List (List TreeNode)) : Type 0 where
+  pub reason : refutes.Reason
+  pub of_system : IsReasonOf lts reason
+  pub fits : version ≡ version_one → list_any splits_start (reason_nodes reason) ≡ false
+  pub lines : reason_lines lts reason ≡ head_fields lts head ∷ flat_map (nodes_lines lts) cases
 
-heading_there : (form : LineForm) (line : List ℕ) (texts : List (List ℕ)) (next : Position) → HasForm form line texts → follows at_heading form ≡ to next → (line ≡ codes "certificate 1") × (next ≡ at_class)
-heading_there heading_line line [] next has leads = absurd has.fields
-heading_there heading_line line (v ∷ []) next has leads = absurd has.fields.1
-heading_there heading_line line (v ∷ w ∷ []) next has leads = (has.spelled ∙ ap₂ (λ a b. a ++ 32 ∷ b) has.fields.0 has.fields.1.0, cc)
-heading_there heading_line line (v ∷ w ∷ t ∷ more) next has leads = absurd has.fields.1.1
-heading_there class_line line texts next has leads = absurd cc
+reason_there : (lts : System) (version : Version) (head : Head) (cases : List (List TreeNode)) → IsHeadOf lts head → All (IsCase lts version) cases → HasCases head cases → IsReasonThere lts version head cases
+reason_there lts version (of_unreachable s) cases is each none = record {
+  reason = refutes.unreachable s;
+  of_system = is;
+  fits = λ one. refl;
+  lines = ap (λ l. head_fields lts (of_unreachable s) ∷ flat_map (nodes_lines lts) l) (sym none);
+}
+reason_there lts version (of_fork s t s₁ s₂) cases is each none = record {
+  reason = refutes.fork s t s₁ s₂;
+  of_system = is;
+  fits = λ one. refl;
+  lines = ap (λ l. head_fields lts (of_fork s t s₁ s₂) ∷ flat_map (nodes_lines lts) l) (sym none);
+}
+reason_there lts version (of_event s t) cases is each one =
+    let trees = trees_there lts version cases each in
+    record {
+      reason = refutes.refuted (Event s t) trees.trees;
+      of_system = (is.0, is.1, trees.count ∙ one, trees.each);
+      fits = trees.fits;
+      lines = ap (λ l. head_fields lts (of_event s t) ∷ l) trees.lines;
+    }
+reason_there lts version (of_states s s') cases is each any =
+    let trees = trees_there lts version cases each in
+    record {
+      reason = refutes.refuted (States s s') trees.trees;
+      of_system = (is.0, is.1, trees.each);
+      fits = trees.fits;
+      lines = ap (λ l. head_fields lts (of_states s s') ∷ l) trees.lines;
+    }
+
+heading_there : (form : LineForm) (line : List ℕ) (texts : List (List ℕ)) (next : Position) → HasForm form line texts → follows at_heading form ≡ to next
+    → (version : Version) × (line ≡ spaced (heading version)) × (next ≡ at_class version)
+heading_there (heading_line version) line [] next has leads = absurd has.fields
+heading_there (heading_line version) line (v ∷ []) next has leads = absurd has.fields.1
+heading_there (heading_line version) line (v ∷ w ∷ []) next has leads = (version, has.spelled ∙ ap₂ (λ a b. a ++ 32 ∷ b) has.fields.0 has.fields.1.0, cc)
+heading_there (heading_line version) line (v ∷ w ∷ t ∷ more) next has leads = absurd has.fields.1.1
+heading_there (class_line version) line texts next has leads = absurd cc
 heading_there unreachable_line line texts next has leads = absurd cc
 heading_there fork_line line texts next has leads = absurd cc
 heading_there event_line line texts next has leads = absurd cc
@@ -277,74 +323,102 @@ heading_there states_line line texts next has leads = absurd cc
 heading_there case_line line texts next has leads = absurd cc
 heading_there split_tokens_line line texts next has leads = absurd cc
 heading_there split_effect_line line texts next has leads = absurd cc
+heading_there split_start_line line texts next has leads = absurd cc
 heading_there leaf_line line texts next has leads = absurd cc
 heading_there (row_line row) line texts next has leads = absurd cc
 heading_there end_line line texts next has leads = absurd cc
 
-class_there : (form : LineForm) (line : List ℕ) (texts : List (List ℕ)) (next : Position) → HasForm form line texts → follows at_class form ≡ to next
-    → (name : List ℕ) × (class : Class) × NamesClass name class × (line ≡ codes "class " ++ name) × (next ≡ at_reason)
-class_there class_line line texts next has leads = let is = class_texts line texts has in (is.0, is.1, is.2, is.3, cc)
-class_there heading_line line texts next has leads = absurd cc
-class_there unreachable_line line texts next has leads = absurd cc
-class_there fork_line line texts next has leads = absurd cc
-class_there event_line line texts next has leads = absurd cc
-class_there states_line line texts next has leads = absurd cc
-class_there case_line line texts next has leads = absurd cc
-class_there split_tokens_line line texts next has leads = absurd cc
-class_there split_effect_line line texts next has leads = absurd cc
-class_there leaf_line line texts next has leads = absurd cc
-class_there (row_line row) line texts next has leads = absurd cc
-class_there end_line line texts next has leads = absurd cc
+-- a class line of a version at which it may stand
+record IsClassThere (version : Version) (line : List ℕ) (next : Position) : Type 0 where
+  pub name : List ℕ
+  pub class : Class
+  pub named : NamesClass name class
+  pub fits : IsClassIn version class
+  pub spelled : line ≡ codes "class " ++ name
+  pub leads : next ≡ at_reason version
 
-blank_at : (lts : System) (head : Head) → IsDraftAt lts head (after_head head) blank × (draft_lines lts (after_head head) blank ≡ [])
-blank_at lts (of_unreachable s) = ((refl, refl), refl)
-blank_at lts (of_fork s t s₁ s₂) = ((refl, refl), refl)
-blank_at lts (of_event s t) = ((refl, refl), refl)
-blank_at lts (of_states s s') = ((refl, refl), refl)
+class_by : (version first : Version) (line : List ℕ) (texts : List (List ℕ)) (next : Position) → HasForm (class_line first) line texts → (version ≡ version_one → first ≡ version_one) → next ≡ at_reason version
+    → IsClassThere version line next
+class_by version first line texts next has fits leads =
+    let (name, class, named, is, spelled) = class_texts first line texts has in
+    record { name = name; class = class; named = named; fits = λ one. is ∙ fits one; spelled = spelled; leads = leads }
+
+class_there : (version : Version) (form : LineForm) (line : List ℕ) (texts : List (List ℕ)) (next : Position) → HasForm form line texts → follows (at_class version) form ≡ to next → IsClassThere version line next
+class_there version (class_line version_one) line texts next has leads = class_by version version_one line texts next has (λ e. refl) cc
+class_there version_one (class_line version_two) line texts next has leads = absurd cc
+class_there version_two (class_line version_two) line texts next has leads = class_by version_two version_two line texts next has (λ e. let both : version_two ≡ version_one = e in absurd cc) cc
+class_there version (heading_line v) line texts next has leads = absurd cc
+class_there version unreachable_line line texts next has leads = absurd cc
+class_there version fork_line line texts next has leads = absurd cc
+class_there version event_line line texts next has leads = absurd cc
+class_there version states_line line texts next has leads = absurd cc
+class_there version case_line line texts next has leads = absurd cc
+class_there version split_tokens_line line texts next has leads = absurd cc
+class_there version split_effect_line line texts next has leads = absurd cc
+class_there version split_start_line line texts next has leads = absurd cc
+class_there version leaf_line line texts next has leads = absurd cc
+class_there version (row_line row) line texts next has leads = absurd cc
+class_there version end_line line texts next has leads = absurd cc
+
+blank_at : (lts : System) (version : Version) (head : Head) → IsDraftAt lts version head (after_head version head) blank × (draft_lines lts (after_head version head) blank ≡ [])
+blank_at lts version (of_unreachable s) = ((refl, refl), refl)
+blank_at lts version (of_fork s t s₁ s₂) = ((refl, refl), refl)
+blank_at lts version (of_event s t) = ((refl, refl), refl)
+blank_at lts version (of_states s s') = ((refl, refl), refl)
+
+no_marking : (b : Bool) → (if b then version_two else version_one) ≡ version_one → b ≡ false
+no_marking true first = let both : version_two ≡ version_one = first in absurd cc
+no_marking false first = refl
+
+-- the version of a text has what its claim asks
+pub claim_fits : (version : Version) (claim : Claim) → IsClassIn version claim.class → (version ≡ version_one → list_any splits_start (reason_nodes claim.reason) ≡ false) → version ≡ version_one → asks_two claim ≡ false
+claim_fits version claim class reason one = ap₂ ◌||◌ (no_marking (is_some claim.class.marking) (class one)) (reason one)
 
 -- the claim of a whole text
-from_head : (lts : System) (name : List ℕ) (class : Class) (line : List ℕ) (lines : List (List ℕ)) (bytes : List ℕ) → NamesClass name class
-    → bytes ≡ fed (codes "certificate 1" ∷ (codes "class " ++ name) ∷ line ∷ lines) → LinesLead lts at_reason (line ∷ lines) at_end → (claim : Claim) × Spells bytes lts claim
+from_head : (lts : System) (version : Version) (name : List ℕ) (class : Class) (line : List ℕ) (lines : List (List ℕ)) (bytes : List ℕ) → NamesClass name class → IsClassIn version class
+    → bytes ≡ fed (spaced (heading version) ∷ (codes "class " ++ name) ∷ line ∷ lines) → LinesLead lts (at_reason version) (line ∷ lines) at_end → (claim : Claim) × Spells bytes lts claim
 unfolding text_with cert_lines
-from_head lts name class line lines bytes named is (next, leads, more) =
-    let head = head_there lts leads.form leads.texts next (record { fields = leads.has.fields; right = leads.right }) leads.leads in
-    let start = blank_at lts head.0 in
-    let read = lines_read lts head.0 (after_head head.0) blank lines start.0 (subst (λ p. LinesLead lts p lines at_end) head.3 more) in
-    let reason = reason_there lts head.0 read.last.cases head.1 read.ended.0 read.ended.1 in
+from_head lts version name class line lines bytes named fits is (next, leads, more) =
+    let head = head_there lts version leads.form leads.texts next (record { fields = leads.has.fields; right = leads.right }) leads.leads in
+    let start = blank_at lts version head.0 in
+    let read = lines_read lts version head.0 (after_head version head.0) blank lines start.0 (subst (λ p. LinesLead lts p lines at_end) head.3 more) in
+    let reason = reason_there lts version head.0 read.last.cases head.1 read.ended.0 read.ended.1 in
     let ends : flat_map (nodes_lines lts) read.last.cases ++ (codes "end" ∷ []) ∷ [] ≡ read.texts = read.grown ∙ ap (λ l. l ++ read.texts) start.1 in
-    let whole : line ∷ lines ≡ map spaced (reason_lines lts reason.0 ++ (codes "end" ∷ []) ∷ []) =
+    let whole : line ∷ lines ≡ map spaced (reason_lines lts reason.reason ++ (codes "end" ∷ []) ∷ []) =
     ap₂ ◌∷◌ (leads.has.spelled ∙ ap spaced head.2) (read.are ∙ ap (map spaced) (sym ends))
-    ∙ ap (λ l. map spaced (l ++ (codes "end" ∷ []) ∷ [])) (sym reason.2) in (
-      record { class = class; reason = reason.0 },
+    ∙ ap (λ l. map spaced (l ++ (codes "end" ∷ []) ∷ [])) (sym reason.lines) in (
+      record { class = class; reason = reason.reason },
       record {
-        in_range = record { reason = reason.1; bound = named_bound name class named };
+        in_range = record { reason = reason.of_system; numbers = named_bound name class named };
+        version = version;
+        fits = claim_fits version (record { class = class; reason = reason.reason }) fits reason.fits;
         class = name;
         named = named;
-        text = is ∙ ap (λ l. fed (codes "certificate 1" ∷ (codes "class " ++ name) ∷ l)) whole;
+        text = is ∙ ap (λ l. fed (spaced (heading version) ∷ (codes "class " ++ name) ∷ l)) whole;
       },
     )
 
-from_class : (lts : System) (line : List ℕ) (lines : List (List ℕ)) (bytes : List ℕ) → bytes ≡ fed (codes "certificate 1" ∷ line ∷ lines) → LinesLead lts at_class (line ∷ lines) at_end
+from_class : (lts : System) (version : Version) (line : List ℕ) (lines : List (List ℕ)) (bytes : List ℕ) → bytes ≡ fed (spaced (heading version) ∷ line ∷ lines) → LinesLead lts (at_class version) (line ∷ lines) at_end
     → (claim : Claim) × Spells bytes lts claim
-from_class lts line [] bytes is (next, leads, same) =
-    let class = class_there leads.form line leads.texts next leads.has leads.leads in
-    let both : at_reason ≡ at_end = sym class.4 ∙ same in
+from_class lts version line [] bytes is (next, leads, same) =
+    let class = class_there version leads.form line leads.texts next leads.has leads.leads in
+    let both : at_reason version ≡ at_end = sym class.leads ∙ same in
     absurd cc
-from_class lts line (third ∷ lines) bytes is (next, leads, more) =
-    let class = class_there leads.form line leads.texts next leads.has leads.leads in
-    from_head lts class.0 class.1 third lines bytes class.2 (is ∙ ap (λ l. fed (codes "certificate 1" ∷ l ∷ third ∷ lines)) class.3)
-    (subst (λ p. LinesLead lts p (third ∷ lines) at_end) class.4 more)
+from_class lts version line (third ∷ lines) bytes is (next, leads, more) =
+    let class = class_there version leads.form line leads.texts next leads.has leads.leads in
+    from_head lts version class.name class.class third lines bytes class.named class.fits (is ∙ ap (λ l. fed (spaced (heading version) ∷ l ∷ third ∷ lines)) class.spelled)
+    (subst (λ p. LinesLead lts p (third ∷ lines) at_end) class.leads more)
 
 -- lines that lead to the end spell a claim
 pub from_lines : (lts : System) (lines : List (List ℕ)) (bytes : List ℕ) → bytes ≡ fed lines → LinesLead lts at_heading lines at_end → (claim : Claim) × Spells bytes lts claim
 from_lines lts [] bytes is same = absurd cc
 from_lines lts (line ∷ []) bytes is (next, leads, same) =
     let heading = heading_there leads.form line leads.texts next leads.has leads.leads in
-    let both : at_class ≡ at_end = sym heading.1 ∙ same in
+    let both : at_class heading.0 ≡ at_end = sym heading.2 ∙ same in
     absurd cc
 from_lines lts (line ∷ second ∷ lines) bytes is (next, leads, more) =
     let heading = heading_there leads.form line leads.texts next leads.has leads.leads in
-    from_class lts second lines bytes (is ∙ ap (λ l. fed (l ∷ second ∷ lines)) heading.0) (subst (λ p. LinesLead lts p (second ∷ lines) at_end) heading.1 more)
+    from_class lts heading.0 second lines bytes (is ∙ ap (λ l. fed (l ∷ second ∷ lines)) heading.1) (subst (λ p. LinesLead lts p (second ∷ lines) at_end) heading.2 more)
 
 -- the text goes on with a right line, or with a fault
 abbrev GoesOnOrFails : System → Position → List ℕ → ℕ → Type 0
@@ -403,13 +477,13 @@ next_or_fault lts position text n going = by (cut_or_not 10 text)
 
 end_or_not : (position : Position) → (position ≡ at_end) ⊎ (position ≡ at_end → ⊥)
 end_or_not at_heading = inr (λ e. absurd cc)
-end_or_not at_class = inr (λ e. absurd cc)
-end_or_not at_reason = inr (λ e. absurd cc)
+end_or_not (at_class v) = inr (λ e. absurd cc)
+end_or_not (at_reason v) = inr (λ e. absurd cc)
 end_or_not at_last = inr (λ e. absurd cc)
-end_or_not at_one_case = inr (λ e. absurd cc)
-end_or_not at_cases = inr (λ e. absurd cc)
-end_or_not (at_node c due) = inr (λ e. absurd cc)
-end_or_not (at_row c due) = inr (λ e. absurd cc)
+end_or_not (at_one_case v) = inr (λ e. absurd cc)
+end_or_not (at_cases v) = inr (λ e. absurd cc)
+end_or_not (at_node v c due) = inr (λ e. absurd cc)
+end_or_not (at_row v c due) = inr (λ e. absurd cc)
 end_or_not at_end = inl refl
 
 -- the text is whole from a position on, or has a first fault

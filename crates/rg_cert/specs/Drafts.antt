@@ -1,18 +1,19 @@
 -- What is read of a certificate so far, from its third line on.
-use Rattle.std.specs.Prelude.{◌≡◌, ℕ, suc, ◌<◌, List, [], ◌∷◌, ◌++◌, map, length, slice_index_or, All, codes, ℤ}
+use Rattle.std.specs.Prelude.{◌≡◌, ℕ, suc, ◌<◌, false, List, [], ◌∷◌, ◌++◌, map, length, slice_index_or, All, codes, ℤ}
 use Rattle.std.specs.List.{flat_map}
 use Rattle.std.specs.Fmt.{signed_decimal}
 use Rattle.rg_theory.specs.System.{System, states, labels}
+use Rattle.rg_theory.specs.declared.Class.{Class}
 use Rattle.rg_refuting.specs.Row.{Form}
 use Rattle.rg_refuting.specs.Refutes.{NamedRow, Tree}
 use Rattle.rg_reasons.specs.Trees.{TreeNode, leaf_node, split_node, preorder, IsWholeTree}
 use Rattle.rg_reasons.specs.Certificates.{IsRowOf, IsFormOf, IsSplitInRange, IsNodeOf}
 use Rattle.rg_text.specs.Line.{fed}
-use Rattle.rg_cert.specs.Text.{spaced, state_name, label_name, named_fields, form_fields, node_lines}
+use Rattle.rg_cert.specs.Text.{Version, version_one, class_version, splits_start, spaced, state_name, label_name, named_fields, form_fields, node_lines}
 use Rattle.rg_cert.specs.declared.fault.CertFault.{CertFault}
 use Rattle.rg_cert.specs.declared.fault.CertFault.TheVariants.{NumberPasses, UnknownName}
 use Rattle.rg_cert.specs.Faults.{IsRight, HasNumberOut, HasUnknownName}
-use Rattle.rg_cert.specs.Lines.{Field, HasFieldForm, IsFieldInRange, IsFieldKnown, AreAsked, fields_of, HasForm, follows, to, LineForm, unreachable_line, fork_line, event_line, states_line, split_tokens_line, split_effect_line, leaf_line, case_line, end_line, row_line, Count, one, several, Position, at_last, at_one_case, at_cases, at_node, at_row, at_end}
+use Rattle.rg_cert.specs.Lines.{Field, HasFieldForm, IsFieldInRange, IsFieldKnown, AreAsked, fields_of, HasForm, follows, to, LineForm, unreachable_line, fork_line, event_line, states_line, split_tokens_line, split_effect_line, split_start_line, leaf_line, case_line, end_line, row_line, Count, one, several, Position, at_last, at_one_case, at_cases, at_node, at_row, at_end}
 
 -- the line of a reason
 pub data Head : Type 0 where
@@ -34,16 +35,16 @@ IsHeadOf lts (of_event s t) = (s < states lts) × (t < labels lts)
 IsHeadOf lts (of_states s s') = (s < states lts) × (s' < states lts)
 
 -- where the line after it stands
-abbrev pub after_head : Head → Position
-after_head (of_unreachable s) = at_last
-after_head (of_fork s t s₁ s₂) = at_last
-after_head (of_event s t) = at_one_case
-after_head (of_states s s') = at_cases
+abbrev pub after_head : Version → Head → Position
+after_head version (of_unreachable s) = at_last
+after_head version (of_fork s t s₁ s₂) = at_last
+after_head version (of_event s t) = at_one_case version
+after_head version (of_states s s') = at_cases version
 
 -- how many nodes are due after a position
 abbrev pub due_at : Position → ℕ
-due_at (at_node count due) = due
-due_at (at_row count due) = due
+due_at (at_node version count due) = due
+due_at (at_row version count due) = due
 due_at _ = 0
 
 -- the whole cases, the nodes of the case that is read, and the rows of its last leaf where that is read
@@ -57,12 +58,12 @@ blank = record { cases = []; nodes = []; rows = [] }
 
 -- the leaf that is read is whole, if one is read at the position
 abbrev pub leaf_closed : Position → Draft → Draft
-leaf_closed (at_row count due) d = record d { nodes = d.nodes ++ leaf_node d.rows ∷ []; rows = [] }
+leaf_closed (at_row version count due) d = record d { nodes = d.nodes ++ leaf_node d.rows ∷ []; rows = [] }
 leaf_closed _ d = d
 
 -- and so is its case
 abbrev pub case_closed : Position → Draft → Draft
-case_closed (at_row count due) d = record { cases = d.cases ++ (d.nodes ++ leaf_node d.rows ∷ []) ∷ []; nodes = []; rows = [] }
+case_closed (at_row version count due) d = record { cases = d.cases ++ (d.nodes ++ leaf_node d.rows ∷ []) ∷ []; nodes = []; rows = [] }
 case_closed _ d = d
 
 -- these are the fields of a split of the system
@@ -86,6 +87,7 @@ AddsRow lts texts d new = (r : NamedRow) × IsRowOf lts r × (texts ≡ named_fi
 abbrev pub Adds : System → Position → LineForm → List (List ℕ) → Draft → Draft → Type 0
 Adds lts position split_tokens_line texts d new = AddsSplit lts texts (leaf_closed position d) new
 Adds lts position split_effect_line texts d new = AddsSplit lts texts (leaf_closed position d) new
+Adds lts position split_start_line texts d new = AddsSplit lts texts (leaf_closed position d) new
 Adds lts position leaf_line texts d new = new ≡ leaf_closed position d
 Adds lts position (row_line row) texts d new = AddsRow lts texts d new
 Adds lts position case_line texts d new = new ≡ case_closed position d
@@ -98,8 +100,8 @@ nodes_lines lts nodes = (codes "case" ∷ []) ∷ flat_map (node_lines lts) node
 
 -- the lines of the draft
 abbrev pub draft_lines : System → Position → Draft → List (List (List ℕ))
-draft_lines lts (at_node count due) d = flat_map (nodes_lines lts) d.cases ++ nodes_lines lts d.nodes
-draft_lines lts (at_row count due) d = flat_map (nodes_lines lts) d.cases ++ nodes_lines lts (d.nodes ++ leaf_node d.rows ∷ [])
+draft_lines lts (at_node version count due) d = flat_map (nodes_lines lts) d.cases ++ nodes_lines lts d.nodes
+draft_lines lts (at_row version count due) d = flat_map (nodes_lines lts) d.cases ++ nodes_lines lts (d.nodes ++ leaf_node d.rows ∷ [])
 draft_lines lts at_end d = flat_map (nodes_lines lts) d.cases ++ (codes "end" ∷ []) ∷ []
 draft_lines lts _ d = []
 
@@ -107,11 +109,20 @@ draft_lines lts _ d = []
 abbrev pub IsOpen : List TreeNode → ℕ → Type 0
 IsOpen nodes due = (trees : List Tree) → length trees ≡ due → (tree : Tree) × IsWholeTree (nodes ++ flat_map preorder trees) tree
 
+-- a text of the version may have the class
+abbrev pub IsClassIn : Version → Class → Type 0
+IsClassIn version class = version ≡ version_one → class_version class ≡ version_one
+
+-- the numbers of the node are in range, and a text of the version may have it
+pub record IsNodeIn (lts : System) (version : Version) (node : TreeNode) : Type 0 where
+  pub of_system : IsNodeOf lts node
+  pub fits : version ≡ version_one → splits_start node ≡ false
+
 -- the nodes are a whole tree of the system
-pub record IsCase (lts : System) (nodes : List TreeNode) : Type 0 where
+pub record IsCase (lts : System) (version : Version) (nodes : List TreeNode) : Type 0 where
   pub tree : Tree
   pub whole : IsWholeTree nodes tree
-  pub each : All (IsNodeOf lts) nodes
+  pub each : All (IsNodeIn lts version) nodes
 
 -- a certificate with this head has so many cases
 abbrev pub IsCount : Count → Head → Type 0
@@ -120,12 +131,12 @@ IsCount several (of_states s s') = Unit {0}
 IsCount count head = ⊥
 
 -- whole cases, but none before the one that a certificate has, and an open tree
-pub record IsInTree (lts : System) (head : Head) (count : Count) (d : Draft) (due : ℕ) : Type 0 where
+pub record IsInTree (lts : System) (version : Version) (head : Head) (count : Count) (d : Draft) (due : ℕ) : Type 0 where
   pub asked : IsCount count head
-  pub cases : All (IsCase lts) d.cases
+  pub cases : All (IsCase lts version) d.cases
   pub one : count ≡ one → d.cases ≡ []
   pub tree : IsOpen d.nodes due
-  pub nodes : All (IsNodeOf lts) d.nodes
+  pub nodes : All (IsNodeIn lts version) d.nodes
 
 -- as many cases as the head asks
 abbrev pub HasCases : Head → List (List TreeNode) → Type 0
@@ -134,12 +145,12 @@ HasCases (of_fork s t s₁ s₂) cases = cases ≡ []
 HasCases (of_event s t) cases = length cases ≡ 1
 HasCases (of_states s s') cases = Unit {0}
 
--- what the draft is at a position
-abbrev pub IsDraftAt : System → Head → Position → Draft → Type 0
-IsDraftAt lts head (at_node count due) d = IsInTree lts head count d (suc due) × (d.rows ≡ [])
-IsDraftAt lts head (at_row count due) d = IsInTree lts head count d (suc due) × All (IsRowOf lts) d.rows
-IsDraftAt lts head at_end d = All (IsCase lts) d.cases × HasCases head d.cases
-IsDraftAt lts head position d = (position ≡ after_head head) × (d ≡ blank)
+-- what the draft is at a position, in a text of the version
+abbrev pub IsDraftAt : System → Version → Head → Position → Draft → Type 0
+IsDraftAt lts version head (at_node same count due) d = (same ≡ version) × IsInTree lts version head count d (suc due) × (d.rows ≡ [])
+IsDraftAt lts version head (at_row same count due) d = (same ≡ version) × IsInTree lts version head count d (suc due) × All (IsRowOf lts) d.rows
+IsDraftAt lts version head at_end d = All (IsCase lts version) d.cases × HasCases head d.cases
+IsDraftAt lts version head position d = (position ≡ after_head version head) × (d ≡ blank)
 
 -- the text goes on with a line that is right in itself and leads from a position to the next, and then with the rest
 pub record IsNextLine (lts : System) (position : Position) (text : List ℕ) (form : LineForm) (texts : List (List ℕ)) (next : Position) (rest : List ℕ) : Type 0 where
@@ -176,8 +187,8 @@ IsHeadForm states_line = Unit {0}
 IsHeadForm _ = ⊥
 
 -- the text is that of whole cases, as many as the head asks, and of the end
-pub record AreCasesOf (lts : System) (head : Head) (text : List ℕ) (cases : List (List TreeNode)) : Type 0 where
-  pub each : All (IsCase lts) cases
+pub record AreCasesOf (lts : System) (version : Version) (head : Head) (text : List ℕ) (cases : List (List TreeNode)) : Type 0 where
+  pub each : All (IsCase lts version) cases
   pub count : HasCases head cases
   pub spelled : text ≡ fed (map spaced (flat_map (nodes_lines lts) cases ++ (codes "end" ∷ []) ∷ []))
 

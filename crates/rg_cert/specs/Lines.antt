@@ -6,7 +6,7 @@ use Rattle.rg_theory.specs.declared.Class.{Class}
 use Rattle.rg_theory.specs.ClassWords.{NamesClass}
 use Rattle.rg_reasons.specs.Certificates.{IsMultiplierInRange, IsSplitInRange}
 use Rattle.rg_cert.specs.Numerals.{IsNumeral}
-use Rattle.rg_cert.specs.Text.{spaced}
+use Rattle.rg_cert.specs.Text.{Version, version_one, version_two, version_digits, class_version, spaced}
 
 -- the ranges of numbers
 pub data Range : Type 0 where
@@ -23,7 +23,7 @@ IsIn depth z = (d : ℕ) × (z ≡ pos d) × (d < 2 ^ 32)
 -- what a field of a line must be
 pub data Field : Type 0 where
   word : List ℕ → Field
-  class_words : Field
+  class_words : Version → Field  -- the first version whose texts have the class
   state : Field
   label : Field
   number : Range → Field
@@ -31,7 +31,7 @@ pub data Field : Type 0 where
 -- the field has the form that is due: a word, what names a class, a name, or a number
 abbrev pub HasFieldForm : Field → List ℕ → Type 0
 HasFieldForm (word w) text = text ≡ w
-HasFieldForm class_words text = (class : Class) × NamesClass text class
+HasFieldForm (class_words version) text = (class : Class) × NamesClass text class × (class_version class ≡ version)
 HasFieldForm state text = IsName text
 HasFieldForm label text = IsName text
 HasFieldForm (number range) text = (z : ℤ) × IsNumeral text z
@@ -72,8 +72,8 @@ pub data RowForm : Type 0 where
 
 -- the forms of lines
 pub data LineForm : Type 0 where
-  heading_line : LineForm
-  class_line : LineForm
+  heading_line : Version → LineForm
+  class_line : Version → LineForm
   unreachable_line : LineForm
   fork_line : LineForm
   event_line : LineForm
@@ -81,6 +81,7 @@ pub data LineForm : Type 0 where
   case_line : LineForm
   split_tokens_line : LineForm
   split_effect_line : LineForm
+  split_start_line : LineForm
   leaf_line : LineForm
   row_line : RowForm → LineForm
   end_line : LineForm
@@ -103,8 +104,8 @@ row_form_fields above_form = word (codes "above") ∷ number depth ∷ []
 
 -- the fields of a line
 abbrev pub fields_of : LineForm → List Field
-fields_of heading_line = word (codes "certificate") ∷ word (codes "1") ∷ []
-fields_of class_line = word (codes "class") ∷ class_words ∷ []
+fields_of (heading_line version) = word (codes "certificate") ∷ word (version_digits version) ∷ []
+fields_of (class_line version) = word (codes "class") ∷ class_words version ∷ []
 fields_of unreachable_line = word (codes "unreachable") ∷ state ∷ []
 fields_of fork_line = word (codes "fork") ∷ state ∷ label ∷ state ∷ state ∷ []
 fields_of event_line = word (codes "event") ∷ state ∷ label ∷ []
@@ -112,6 +113,7 @@ fields_of states_line = word (codes "states") ∷ state ∷ state ∷ []
 fields_of case_line = word (codes "case") ∷ []
 fields_of split_tokens_line = word (codes "split") ∷ word (codes "tokens") ∷ state ∷ number split_value ∷ []
 fields_of split_effect_line = word (codes "split") ∷ word (codes "effect") ∷ label ∷ number split_value ∷ []
+fields_of split_start_line = word (codes "split") ∷ word (codes "start") ∷ number split_value ∷ []
 fields_of leaf_line = word (codes "leaf") ∷ []
 fields_of (row_line row) = number multiplier ∷ row_form_fields row
 fields_of end_line = word (codes "end") ∷ []
@@ -126,16 +128,16 @@ pub data Count : Type 0 where
   one : Count
   several : Count
 
--- where a line stands
+-- where a line stands, in a text of a version
 pub data Position : Type 0 where
   at_heading : Position
-  at_class : Position
-  at_reason : Position
+  at_class : Version → Position
+  at_reason : Version → Position
   at_last : Position  -- after `unreachable` or `fork`
-  at_one_case : Position  -- after `event`
-  at_cases : Position  -- after `states`
-  at_node : Count → ℕ → Position  -- in a tree; a node is due, and so many after it
-  at_row : Count → ℕ → Position  -- in a leaf; so many nodes are due after it
+  at_one_case : Version → Position  -- after `event`
+  at_cases : Version → Position  -- after `states`
+  at_node : Version → Count → ℕ → Position  -- in a tree; a node is due, and so many after it
+  at_row : Version → Count → ℕ → Position  -- in a leaf; so many nodes are due after it
   at_end : Position  -- after `end`
 
 -- what comes of a line of some form at a position
@@ -145,42 +147,50 @@ pub data Next : Type 0 where
   long : Next  -- the tree is whole
   refused : Next
 
+-- what comes of a line that texts of the second version alone have
+abbrev pub if_two : Version → Next → Next
+if_two version_one next = refused
+if_two version_two next = next
+
 -- a node, a case or the end, in a tree of which a node is due, and so many after it
-abbrev pub in_tree : Count → ℕ → LineForm → Next
-in_tree count due split_tokens_line = to (at_node count (suc due))
-in_tree count due split_effect_line = to (at_node count (suc due))
-in_tree count due leaf_line = to (at_row count due)
-in_tree count due case_line = short
-in_tree count due end_line = short
-in_tree count due _ = refused
+abbrev pub in_tree : Version → Count → ℕ → LineForm → Next
+in_tree version count due split_tokens_line = to (at_node version count (suc due))
+in_tree version count due split_effect_line = to (at_node version count (suc due))
+in_tree version count due split_start_line = if_two version (to (at_node version count (suc due)))
+in_tree version count due leaf_line = to (at_row version count due)
+in_tree version count due case_line = short
+in_tree version count due end_line = short
+in_tree version count due _ = refused
 
 -- a node, a case or the end, after a whole tree
-abbrev pub after_tree : Count → LineForm → Next
-after_tree count split_tokens_line = long
-after_tree count split_effect_line = long
-after_tree count leaf_line = long
-after_tree several case_line = to (at_node several 0)
-after_tree count end_line = to at_end
-after_tree count _ = refused
+abbrev pub after_tree : Version → Count → LineForm → Next
+after_tree version count split_tokens_line = long
+after_tree version count split_effect_line = long
+after_tree version count split_start_line = if_two version long
+after_tree version count leaf_line = long
+after_tree version several case_line = to (at_node version several 0)
+after_tree version count end_line = to at_end
+after_tree version count _ = refused
 
 -- another row, or what follows the leaf
-abbrev pub in_leaf : Count → ℕ → LineForm → Next
-in_leaf count due (row_line row) = to (at_row count due)
-in_leaf count zero form = after_tree count form
-in_leaf count (suc due) form = in_tree count due form
+abbrev pub in_leaf : Version → Count → ℕ → LineForm → Next
+in_leaf version count due (row_line row) = to (at_row version count due)
+in_leaf version count zero form = after_tree version count form
+in_leaf version count (suc due) form = in_tree version count due form
 
 -- which lines may follow which
 abbrev pub follows : Position → LineForm → Next
-follows at_heading heading_line = to at_class
-follows at_class class_line = to at_reason
-follows at_reason unreachable_line = to at_last
-follows at_reason fork_line = to at_last
-follows at_reason event_line = to at_one_case
-follows at_reason states_line = to at_cases
+follows at_heading (heading_line version) = to (at_class version)
+follows (at_class version) (class_line version_one) = to (at_reason version)
+follows (at_class version) (class_line version_two) = if_two version (to (at_reason version))
+follows (at_reason version) unreachable_line = to at_last
+follows (at_reason version) fork_line = to at_last
+follows (at_reason version) event_line = to (at_one_case version)
+follows (at_reason version) states_line = to (at_cases version)
 follows at_last end_line = to at_end
-follows at_one_case case_line = to (at_node one 0)
-follows at_cases case_line = to (at_node several 0)
-follows at_cases end_line = to at_end
-follows (at_node count due) form = in_tree count due form
-follows (at_row count due) form = in_leaf count due form
+follows (at_one_case version) case_line = to (at_node version one 0)
+follows (at_cases version) case_line = to (at_node version several 0)
+follows (at_cases version) end_line = to at_end
+follows (at_node version count due) form = in_tree version count due form
+follows (at_row version count due) form = in_leaf version count due form
 follows _ _ = refused

@@ -1,18 +1,60 @@
 -- The text of a certificate.
-use Rattle.std.specs.Prelude.{ℕ, List, [], ◌∷◌, ◌++◌, map, codes, decimal, slice_index_or}
-use Rattle.std.specs.List.{flat_map}
+use Rattle.std.specs.Prelude.{ℕ, Bool, true, false, ◌||◌, if◌then◌else◌, List, [], ◌∷◌, ◌++◌, map, codes, decimal, slice_index_or, is_some}
+use Rattle.std.specs.List.{flat_map, list_any}
 use Rattle.std.specs.Fmt.{signed_decimal}
 use Rattle.rg_text.specs.Line.{fed}
 use Rattle.rg_theory.specs.System.{System}
 use Rattle.rg_theory.specs.ClassWords.{class_text}
+use Rattle.rg_theory.specs.declared.Class.{Class}
 use Rattle.rg_theory.specs.declared.Problem.{Problem}
 use Rattle.rg_theory.specs.declared.Problem.TheVariants.{Event, States}
-use Rattle.rg_refuting.specs.Row.{Form, Form.on_tokens, Form.on_effect}
+use Rattle.rg_refuting.specs.Row.{Form, Form.on_tokens, Form.on_effect, Form.on_start}
 use Rattle.rg_refuting.specs.Row as row
 use Rattle.rg_refuting.specs.Refutes as refutes
 use Rattle.rg_refuting.specs.Refutes.{NamedRow, Tree}
 use Rattle.rg_reasons.specs.Trees.{TreeNode, TreeNode.leaf_node, TreeNode.split_node, preorder}
 use Rattle.rg_reasons.specs.Certificates.{Claim}
+
+-- the versions of texts: the second one has classes with a marking, and splits on the start
+pub data Version : Type 0 where
+  version_one : Version
+  version_two : Version
+
+abbrev pub version_digits : Version → List ℕ
+version_digits version_one = codes "1"
+version_digits version_two = codes "2"
+
+-- the fields of the first line
+abbrev pub heading : Version → List (List ℕ)
+heading version = codes "certificate" ∷ version_digits version ∷ []
+
+-- the first version whose texts have the class
+abbrev pub class_version : Class → Version
+class_version class = if is_some class.marking then version_two else version_one
+
+abbrev pub is_start : Form → Bool
+is_start (on_tokens q) = false
+is_start (on_effect t) = false
+is_start on_start = true
+
+-- the node is a split on the start
+abbrev pub splits_start : TreeNode → Bool
+splits_start (leaf_node rows) = false
+splits_start (split_node form at) = is_start form
+
+-- the nodes of all trees of a reason
+abbrev pub reason_nodes : refutes.Reason → List TreeNode
+reason_nodes (refutes.unreachable s) = []
+reason_nodes (refutes.fork s t s₁ s₂) = []
+reason_nodes (refutes.refuted problem trees) = flat_map preorder trees
+
+-- the class asks a marking, or a split is on the start
+abbrev pub asks_two : Claim → Bool
+asks_two claim = is_some claim.class.marking || list_any splits_start (reason_nodes claim.reason)
+
+-- the version in which a claim is written
+abbrev pub version_of : Claim → Version
+version_of claim = if asks_two claim then version_two else version_one
 
 abbrev pub state_name : System → ℕ → List ℕ
 state_name lts s = slice_index_or lts.state_names s []
@@ -43,6 +85,7 @@ named_fields lts r = signed_decimal r.multiplier ∷ row_fields lts r.name
 abbrev pub form_fields : System → Form → List (List ℕ)
 form_fields lts (on_tokens q) = codes "tokens" ∷ state_name lts q ∷ []
 form_fields lts (on_effect t) = codes "effect" ∷ label_name lts t ∷ []
+form_fields lts on_start = codes "start" ∷ []
 
 -- the fields of the lines of a node
 abbrev pub node_lines : System → TreeNode → List (List (List ℕ))
@@ -70,14 +113,14 @@ spaced [] = []
 spaced (field ∷ []) = field
 spaced (field ∷ next ∷ more) = field ++ 32 ∷ spaced (next ∷ more)
 
--- the fields of all lines, with this text of the class
-unfoldable pub cert_lines : List ℕ → System → refutes.Reason → List (List (List ℕ))
-cert_lines class lts reason = (codes "certificate" ∷ codes "1" ∷ []) ∷ (codes "class" ∷ class ∷ []) ∷ (reason_lines lts reason ++ (codes "end" ∷ []) ∷ [])
+-- the fields of all lines in a version, with this text of the class
+unfoldable pub cert_lines : Version → List ℕ → System → refutes.Reason → List (List (List ℕ))
+cert_lines version class lts reason = heading version ∷ (codes "class" ∷ class ∷ []) ∷ (reason_lines lts reason ++ (codes "end" ∷ []) ∷ [])
 
--- the text of a claim, where its class has this text
-unfoldable pub text_with : List ℕ → System → refutes.Reason → List ℕ
-text_with class lts reason = fed (map spaced (cert_lines class lts reason))
+-- the text of a claim in a version, where its class has this text
+unfoldable pub text_with : Version → List ℕ → System → refutes.Reason → List ℕ
+text_with version class lts reason = fed (map spaced (cert_lines version class lts reason))
 
 -- the text of a claim
 abbrev pub cert_text : Claim → System → List ℕ
-cert_text claim lts = text_with (class_text claim.class) lts claim.reason
+cert_text claim lts = text_with (version_of claim) (class_text claim.class) lts claim.reason

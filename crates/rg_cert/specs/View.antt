@@ -9,6 +9,8 @@ use Rattle.rg_cert.specs.declared.table.RowForm.{RowForm}
 use Rattle.rg_cert.specs.declared.table.RowForm.TheVariants as of_row
 use Rattle.rg_cert.specs.declared.table.LineForm.{LineForm}
 use Rattle.rg_cert.specs.declared.table.LineForm.TheVariants as of_line
+use Rattle.rg_cert.specs.declared.version.Version.{Version}
+use Rattle.rg_cert.specs.declared.version.Version.TheVariants as version
 use Rattle.rg_cert.specs.declared.position.Count.{Count}
 use Rattle.rg_cert.specs.declared.position.Count.TheVariants as count
 use Rattle.rg_cert.specs.declared.position.Position.{Position}
@@ -21,6 +23,7 @@ use Rattle.rg_cert.specs.declared.draft.Draft.{Draft}
 use Rattle.rg_reasons.specs.declared.certificate.Reason.{Reason}
 use Rattle.rg_reasons.specs.declared.certificate.Reason.TheVariants as reason
 use Rattle.rg_reasons.specs.Trees.{TreeNode, named_row, node_of, nodes_of}
+use Rattle.rg_cert.specs.Text as text
 use Rattle.rg_cert.specs.Lines as line
 use Rattle.rg_cert.specs.Drafts as draft
 
@@ -58,21 +61,26 @@ line_form_in of_line.States = line.states_line
 line_form_in of_line.Case = line.case_line
 line_form_in of_line.SplitTokens = line.split_tokens_line
 line_form_in of_line.SplitEffect = line.split_effect_line
+line_form_in of_line.SplitStart = line.split_start_line
 line_form_in of_line.Leaf = line.leaf_line
 line_form_in (of_line.Row row) = line.row_line (row_form_in row)
 line_form_in of_line.End = line.end_line
+
+abbrev pub version_in : Version → text.Version
+version_in version.One = text.version_one
+version_in version.Two = text.version_two
 
 abbrev pub count_in : Count → line.Count
 count_in count.One = line.one
 count_in count.Several = line.several
 
 abbrev pub position_in : Position → line.Position
-position_in position.Reason = line.at_reason
+position_in (position.Reason v) = line.at_reason (version_in v)
 position_in position.Last = line.at_last
-position_in position.OneCase = line.at_one_case
-position_in position.Cases = line.at_cases
-position_in (position.Node count due) = line.at_node (count_in count) due
-position_in (position.Row count due) = line.at_row (count_in count) due
+position_in (position.OneCase v) = line.at_one_case (version_in v)
+position_in (position.Cases v) = line.at_cases (version_in v)
+position_in (position.Node v count due) = line.at_node (version_in v) (count_in count) due
+position_in (position.Row v count due) = line.at_row (version_in v) (count_in count) due
 position_in position.End = line.at_end
 
 abbrev pub next_in : Next → line.Next

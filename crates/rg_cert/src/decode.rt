@@ -4,7 +4,7 @@ ghost use Rattle.std.specs.Fmt.{signed_decimal};
 ghost use Rattle.rg_theory.specs.System.{states, labels};
 ghost use Rattle.rg_reasons.specs.Trees.{row_name_of, named_row, form_of};
 ghost use Rattle.rg_reasons.specs.Certificates.{IsMultiplierInRange, IsSplitInRange, IsRowNameOf, IsRowOf};
-ghost use Rattle.rg_cert.specs.Text.{state_name, label_name, row_fields, named_fields};
+ghost use Rattle.rg_cert.specs.Text.{Version, state_name, label_name, row_fields, named_fields};
 ghost use Rattle.rg_cert.specs.Lines.{Position.at_reason, Next.to, follows, Field.state as state_field, Field.label as label_field, Field.number as number_field, Range.multiplier as multiplier_range, Range.split_value as split_range, Range.depth as depth_range};
 ghost use Rattle.rg_cert.specs.Drafts.{IsGoodAt, IsGood, IsSplitLine, head_fields, IsHeadOf, IsHeadForm, after_head};
 ghost use Rattle.rg_cert.specs.View.{texts_in, line_form_in, head_in};
@@ -100,13 +100,21 @@ pub(crate) fn effect_split(texts: &[&[u8]], lts: &Lts) -> (Form, i64)
     )
 }
 
+// What a split of the start says.
+pub(crate) fn start_split(texts: &[&[u8]], lts: &Lts) -> (Form, i64)
+    requires { IsGood lts.now (line_form_in of_line.SplitStart) (texts_in texts.now) }
+    ensures { IsSplitLine lts.now (texts_in texts.now) (form_of result.0) result.1 }
+{
+    (Form::Start, split_value(text_at(texts, 2)))
+}
+
 // The reason that a line begins.
 pub(crate) fn head_of(form: LineForm, texts: &[&[u8]], lts: &Lts) -> Head
     requires good { IsGood lts.now (line_form_in form) (texts_in texts.now) }
     requires form { IsHeadForm (line_form_in form) }
     ensures head { IsHeadOf lts.now (head_in result) }
     ensures fields { texts_in texts.now ≡ head_fields lts.now (head_in result) }
-    ensures leads { follows at_reason (line_form_in form) ≡ to (after_head (head_in result)) }
+    ensures leads { (version : Version) → follows (at_reason version) (line_form_in form) ≡ to (after_head version (head_in result)) }
 {
     match form {
         LineForm::Unreachable => Head::Unreachable(state_at(texts, 1, lts)),

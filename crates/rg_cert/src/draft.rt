@@ -1,13 +1,14 @@
 //! What is read of a certificate so far.
 ghost use Rattle.std.specs.Prelude.{◌≡◌, OnOk};
 ghost use Rattle.rg_cert.specs.Drafts.{after_head, blank, leaf_closed, case_closed, with_split, IsGood, AddsRow, Adds};
-ghost use Rattle.rg_cert.specs.View.{texts_in, line_form_in, position_in, HasFewDue, head_in, draft_in};
+ghost use Rattle.rg_cert.specs.View.{texts_in, line_form_in, version_in, position_in, HasFewDue, head_in, draft_in};
 ghost use Rattle.rg_reasons.specs.Trees.{form_of};
 ghost use Rattle.rg_cert.specs.declared.table.LineForm.TheVariants as of_line;
 
-use crate::decode::{effect_split, row_of, tokens_split};
+use crate::decode::{effect_split, row_of, start_split, tokens_split};
 use crate::position::Position;
 use crate::table::{LineForm, RowForm};
+use crate::version::Version;
 use rg_lts::Lts;
 use rg_memory::NoMemory;
 use rg_reasons::{Case, Form, Node, RowName};
@@ -24,15 +25,15 @@ pub(crate) enum Head {
 }
 
 impl Head {
-    // Where the next line stands.
-    pub(crate) fn after(self) -> Position
-        ensures position { position_in result ≡ after_head (head_in self) }
+    // Where the next line stands, in a text of the version.
+    pub(crate) fn after(self, version: Version) -> Position
+        ensures position { position_in result ≡ after_head (version_in version) (head_in self) }
         ensures small { HasFewDue result 0 }
     {
         match self {
             Head::Unreachable(..) | Head::Fork(..) => Position::Last,
-            Head::Event(..) => Position::OneCase,
-            Head::States(..) => Position::Cases,
+            Head::Event(..) => Position::OneCase(version),
+            Head::States(..) => Position::Cases(version),
         }
     }
 }
@@ -81,6 +82,10 @@ impl Draft {
             LineForm::SplitEffect => {
                 self.close_leaf(alloc, position)?;
                 self.push_split(effect_split(texts, lts))
+            }
+            LineForm::SplitStart => {
+                self.close_leaf(alloc, position)?;
+                self.push_split(start_split(texts, lts))
             }
             LineForm::Leaf => self.close_leaf(alloc, position),
             LineForm::Case | LineForm::End => self.close_case(alloc, position),

@@ -13,6 +13,7 @@ mod position;
 mod printing;
 mod reading;
 mod table;
+mod version;
 
 pub use fault::CertFault;
 pub use laws::{certificate_is_told, lines_go_on, one_answer};

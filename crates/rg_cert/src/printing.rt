@@ -1,12 +1,12 @@
 //! The text of a certificate.
-ghost use Rattle.std.specs.Prelude.{◌≡◌, [], ◌∷◌, ◌++◌, ◌<◌, map, All, IfOk, OnOk, codes, decimal};
-ghost use Rattle.std.specs.List.{flat_map};
+ghost use Rattle.std.specs.Prelude.{◌≡◌, [], ◌∷◌, ◌++◌, ◌<◌, map, All, IfOk, OnOk, codes, decimal, if◌then◌else◌};
+ghost use Rattle.std.specs.List.{flat_map, list_any};
 ghost use Rattle.std.specs.Fmt.{signed_decimal};
 ghost use Rattle.rg_text.specs.Line.{fed};
 ghost use Rattle.rg_theory.specs.System.{states, labels};
 ghost use Rattle.rg_reasons.specs.Trees.{TreeNode.split_node, row_name_of, form_of, named_row, node_of, nodes_of};
-ghost use Rattle.rg_reasons.specs.Certificates.{claim_of, IsCertificateOf, IsRowNameOf, IsFormOf, IsRowOf, IsNodeOf};
-ghost use Rattle.rg_cert.specs.Text.{state_name, label_name, row_fields, named_fields, form_fields, node_lines, spaced, cert_text};
+ghost use Rattle.rg_reasons.specs.Certificates.{claim_of, HasWholeCases, IsCertificateOf, IsRowNameOf, IsFormOf, IsRowOf, IsNodeOf};
+ghost use Rattle.rg_cert.specs.Text.{version_one, version_two, heading, splits_start, asks_two, state_name, label_name, row_fields, named_fields, form_fields, node_lines, spaced, cert_text};
 ghost use Rattle.rg_cert.specs.Spells.{Spells};
 ghost use Rattle.rg_cert.specs.Drafts.{head_fields, IsHeadOf, nodes_lines, IsCase};
 ghost use Rattle.rg_cert.specs.View.{reason_head, reason_cases};
@@ -19,7 +19,8 @@ use rg_reasons::{Case, Certificate, Form, Node, Reason, RowName};
 use std::alloc::Global;
 
 /// The text of a certificate for a system: the lines `certificate 1`, `class` with the class, the reason with the
-/// names of its states and labels, the trees of its cases, and `end`. It spells what the certificate claims.
+/// names of its states and labels, the trees of its cases, and `end`. The first line is `certificate 2` exactly where
+/// the class asks a marking or a node splits on the start. The text spells what the certificate claims.
 /// `NoMemory` where the text doesn't fit into memory.
 pub fn print(alloc: Global, cert: &Certificate, lts: &Lts) -> Result<Vec<u8>, NoMemory>
     requires { IsCertificateOf lts.now cert.now }
@@ -28,7 +29,8 @@ pub fn print(alloc: Global, cert: &Certificate, lts: &Lts) -> Result<Vec<u8>, No
 {
     let class = class_text(alloc, cert.class)?;
     let mut text = Vec::new(alloc);
-    text.extend_from_slice(b"certificate 1\nclass ")?;
+    push_heading(&mut text, asks_two(cert))?;
+    text.extend_from_slice(b"class ")?;
     text.extend_from_slice(&class)?;
     text.push(b'\n')?;
     push_reason(&mut text, &cert.reason, lts)?;
@@ -36,10 +38,65 @@ pub fn print(alloc: Global, cert: &Certificate, lts: &Lts) -> Result<Vec<u8>, No
     Ok(text)
 }
 
+// Whether the class asks a marking or a node splits on the start.
+fn asks_two(cert: &Certificate) -> bool
+    requires { HasWholeCases cert.now.reason }
+    ensures { result ≡ asks_two (claim_of cert.now) }
+{
+    cert.class.marking.is_some() || reason_splits_start(&cert.reason)
+}
+
+// Whether a node of the reason splits on the start.
+fn reason_splits_start(reason: &Reason) -> bool
+    ensures { result ≡ list_any splits_start (flat_map (λ nodes. nodes) (reason_cases reason.now)) }
+{
+    match reason {
+        Reason::Unreachable(_) | Reason::Fork(..) => false,
+        Reason::Event(_, _, case) => nodes_split_start(&case.nodes),
+        Reason::States(_, _, cases) => cases_split_start(cases),
+    }
+}
+
+// Whether a node of the cases splits on the start.
+fn cases_split_start(cases: &[Case]) -> bool
+    ensures { result ≡ list_any splits_start (flat_map (λ nodes. nodes) (map nodes_of cases.now)) }
+{
+    for case in cases {
+        if nodes_split_start(&case.nodes) {
+            return true;
+        }
+    }
+    false
+}
+
+// Whether one of the nodes splits on the start.
+fn nodes_split_start(nodes: &[Node]) -> bool
+    ensures { result ≡ list_any splits_start (map node_of nodes.now) }
+{
+    for node in nodes {
+        if let Node::Split(Form::Start, _) = node {
+            return true;
+        }
+    }
+    false
+}
+
+// The first line.
+fn push_heading(text: &mut Vec<u8>, two: bool) -> Result<(), NoMemory>
+    ensures { OnOk result (text.new.items ≡ text.old.items ++ (spaced (heading (if two then version_two else version_one)) ++ 10 ∷ [])) }
+{
+    if two {
+        text.extend_from_slice(b"certificate 2\n")?;
+    } else {
+        text.extend_from_slice(b"certificate 1\n")?;
+    }
+    Ok(())
+}
+
 // The lines of a reason.
 fn push_reason(text: &mut Vec<u8>, reason: &Reason, lts: &Lts) -> Result<(), NoMemory>
     requires head { IsHeadOf lts.now (reason_head reason.now) }
-    requires cases { All (IsCase lts.now) (reason_cases reason.now) }
+    requires cases { All (IsCase lts.now version_two) (reason_cases reason.now) }
     ensures { OnOk result (text.new.items ≡ text.old.items ++ fed (map spaced (head_fields lts.now (reason_head reason.now) ∷ flat_map (nodes_lines lts.now) (reason_cases reason.now)))) }
 {
     match reason {
@@ -73,7 +130,7 @@ fn push_reason(text: &mut Vec<u8>, reason: &Reason, lts: &Lts) -> Result<(), NoM
 
 // The lines of cases.
 fn push_cases(text: &mut Vec<u8>, cases: &[Case], lts: &Lts) -> Result<(), NoMemory>
-    requires { All (IsCase lts.now) (map nodes_of cases.now) }
+    requires { All (IsCase lts.now version_two) (map nodes_of cases.now) }
     ensures { OnOk result (text.new.items ≡ text.old.items ++ fed (map spaced (flat_map (nodes_lines lts.now) (map nodes_of cases.now)))) }
 {
     for case in cases {
@@ -84,7 +141,7 @@ fn push_cases(text: &mut Vec<u8>, cases: &[Case], lts: &Lts) -> Result<(), NoMem
 
 // The lines of a case.
 fn push_case(text: &mut Vec<u8>, case: &Case, lts: &Lts) -> Result<(), NoMemory>
-    requires { IsCase lts.now (nodes_of case.now) }
+    requires { IsCase lts.now version_two (nodes_of case.now) }
     ensures { OnOk result (text.new.items ≡ text.old.items ++ fed (map spaced (nodes_lines lts.now (nodes_of case.now)))) }
 {
     text.extend_from_slice(b"case\n")?;
@@ -137,6 +194,7 @@ fn push_form(text: &mut Vec<u8>, form: Form, lts: &Lts) -> Result<(), NoMemory>
     match form {
         Form::Tokens(q) => push_with_state(text, b"split tokens", lts, q),
         Form::Effect(t) => push_with_label(text, b"split effect", lts, t),
+        Form::Start => push_word(text, b"split start"),
     }
 }
 

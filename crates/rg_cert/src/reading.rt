@@ -5,11 +5,12 @@ ghost use Rattle.rg_theory.specs.declared.Class.{Class};
 ghost use Rattle.rg_theory.specs.ClassWords.{NamesClass};
 ghost use Rattle.rg_reasons.specs.Trees.{nodes_of};
 ghost use Rattle.rg_reasons.specs.Certificates.{claim_of, IsCertificateOf};
+ghost use Rattle.rg_cert.specs.Text.{heading, spaced};
 ghost use Rattle.rg_cert.specs.Spells.{Spells};
 ghost use Rattle.rg_cert.specs.Lines.{Position.at_heading, Position.at_class, Position.at_reason};
 ghost use Rattle.rg_cert.specs.Faults.{BreaksAt, FaultFrom, FirstFault};
-ghost use Rattle.rg_cert.specs.Drafts.{IsHeadOf, HasCases, AreCasesOf, after_head, head_fields, IsHeadLine};
-ghost use Rattle.rg_cert.specs.View.{head_in, reason_head, reason_cases};
+ghost use Rattle.rg_cert.specs.Drafts.{IsClassIn, IsHeadOf, HasCases, AreCasesOf, after_head, head_fields, IsHeadLine};
+ghost use Rattle.rg_cert.specs.View.{version_in, head_in, reason_head, reason_cases};
 ghost use Rattle.rg_cert.specs.declared.fault.CertFault.TheVariants as fault;
 
 use crate::decode::head_of;
@@ -18,6 +19,7 @@ use crate::fault::CertFault;
 use crate::good_line::good_line;
 use crate::lines::first_line;
 use crate::position::Position;
+use crate::version::Version;
 use rg_lts::Lts;
 use rg_reasons::{Case, Certificate, Reason};
 use rg_theory::Class;
@@ -33,33 +35,43 @@ pub fn read(alloc: Global, bytes: &[u8], lts: &Lts) -> Result<Certificate, CertF
     ensures fault { IfErr result (λ e. e ≢ fault.NoMemory → FirstFault bytes.now lts.now e) }
 {
     lts.is_well_formed();
-    let rest = after_heading(bytes)?;
-    let (class, rest) = class_line(rest)?;
-    let (head, rest) = head_line(alloc, rest, lts)?;
-    let cases = cases(alloc, rest, head, lts)?;
+    let (version, rest) = after_heading(bytes)?;
+    let (class, rest) = class_line(version, rest)?;
+    let (head, rest) = head_line(alloc, version, rest, lts)?;
+    let cases = cases(alloc, version, rest, head, lts)?;
     Ok(Certificate {
         class,
         reason: reason_of(head, cases),
     })
 }
 
-// What follows the first line.
-fn after_heading(text: &[u8]) -> Result<&[u8], CertFault>
-    ensures ok { IfOk result (λ rest. text.entry.now ≡ codes "certificate 1" ++ 10 ∷ rest.now) }
+// The version that the first line names, and what follows.
+fn after_heading(text: &[u8]) -> Result<(Version, &[u8]), CertFault>
+    ensures ok { IfOk result (λ r. text.entry.now ≡ spaced (heading (version_in r.0)) ++ 10 ∷ r.1.now) }
     ensures err { IfErr result (λ e. (e ≡ fault.Expected 1) × BreaksAt at_heading text.entry.now) }
 {
-    text.strip_prefix(b"certificate 1\n")
-        .ok_or(CertFault::Expected(1))
+    if let Some(rest) = text.strip_prefix(b"certificate 1\n") {
+        return Ok((Version::One, rest));
+    }
+    match text.strip_prefix(b"certificate 2\n") {
+        Some(rest) => Ok((Version::Two, rest)),
+        None => Err(CertFault::Expected(1)),
+    }
 }
 
-// The class of the second line, and what follows.
-fn class_line(text: &[u8]) -> Result<(Class, &[u8]), CertFault>
-    ensures ok { IfOk result (λ r. (name : List ℕ) × NamesClass name r.0 × (text.entry.now ≡ (codes "class " ++ name) ++ 10 ∷ r.1.now)) }
-    ensures err { IfErr result (λ e. (e ≡ fault.Expected 2) × BreaksAt at_class text.entry.now) }
+// The class of the second line, which a text of the version may have, and what follows.
+fn class_line(version: Version, text: &[u8]) -> Result<(Class, &[u8]), CertFault>
+    ensures ok { IfOk result (λ r. (name : List ℕ) × NamesClass name r.0 × IsClassIn (version_in version) r.0 × (text.entry.now ≡ (codes "class " ++ name) ++ 10 ∷ r.1.now)) }
+    ensures err { IfErr result (λ e. (e ≡ fault.Expected 2) × BreaksAt (at_class (version_in version)) text.entry.now) }
 {
     match first_line(text) {
         Some((line, rest)) => match class_in(line) {
-            Some(class) => Ok((class, rest)),
+            Some(class) => {
+                if !version.has(class) {
+                    return Err(CertFault::Expected(2));
+                }
+                Ok((class, rest))
+            }
             None => Err(CertFault::Expected(2)),
         },
         None => Err(CertFault::Expected(2)),
@@ -92,22 +104,33 @@ fn class_of(name: &[u8]) -> Option<Class>
 }
 
 // The head of the third line, and what follows.
-fn head_line<'a>(alloc: Global, text: &'a [u8], lts: &Lts) -> Result<(Head, &'a [u8]), CertFault>
+fn head_line<'a>(
+    alloc: Global,
+    version: Version,
+    text: &'a [u8],
+    lts: &Lts,
+) -> Result<(Head, &'a [u8]), CertFault>
     ensures ok { IfOk result (λ r. IsHeadLine lts.now text.entry.now (head_in r.0) r.1.now) }
-    ensures err { IfErr result (λ e. e ≢ fault.NoMemory → FaultFrom lts.now at_reason text.entry.now 3 e) }
+    ensures err { IfErr result (λ e. e ≢ fault.NoMemory → FaultFrom lts.now (at_reason (version_in version)) text.entry.now 3 e) }
 {
-    let line = good_line(alloc, text, 3, Position::Reason, lts)?;
+    let line = good_line(alloc, text, 3, Position::Reason(version), lts)?;
     Ok((head_of(line.form, &line.texts, lts), line.rest))
 }
 
 // The cases that follow a head, from the fourth line on.
-fn cases(alloc: Global, text: &[u8], head: Head, lts: &Lts) -> Result<Vec<Case>, CertFault>
+fn cases(
+    alloc: Global,
+    version: Version,
+    text: &[u8],
+    head: Head,
+    lts: &Lts,
+) -> Result<Vec<Case>, CertFault>
     requires { length text.now ≤ most_bytes }
-    ensures ok { IfOk result (λ cases. AreCasesOf lts.now (head_in head) text.now (map nodes_of cases.items)) }
-    ensures err { IfErr result (λ e. e ≢ fault.NoMemory → FaultFrom lts.now (after_head (head_in head)) text.now 4 e) }
+    ensures ok { IfOk result (λ cases. AreCasesOf lts.now (version_in version) (head_in head) text.now (map nodes_of cases.items)) }
+    ensures err { IfErr result (λ e. e ≢ fault.NoMemory → FaultFrom lts.now (after_head (version_in version) (head_in head)) text.now 4 e) }
 {
     let mut draft = Draft::new(alloc);
-    let mut position = head.after();
+    let mut position = head.after(version);
     let mut rest = text;
     let mut number = 4;
     'lines: while position != Position::End {

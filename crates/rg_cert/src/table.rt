@@ -55,12 +55,13 @@ pub(crate) enum LineForm {
     Case,
     SplitTokens,
     SplitEffect,
+    SplitStart,
     Leaf,
     Row(RowForm),
     End,
 }
 
-const FORMS: [LineForm; 22] = [
+const FORMS: [LineForm; 23] = [
     LineForm::Unreachable,
     LineForm::Fork,
     LineForm::Event,
@@ -68,6 +69,7 @@ const FORMS: [LineForm; 22] = [
     LineForm::Case,
     LineForm::SplitTokens,
     LineForm::SplitEffect,
+    LineForm::SplitStart,
     LineForm::Leaf,
     LineForm::Row(RowForm::Arc),
     LineForm::Row(RowForm::Tokens),
@@ -112,6 +114,11 @@ impl LineForm {
                 Field::Word(b"split"),
                 Field::Word(b"effect"),
                 Field::Label,
+                Field::Number(Range::Split),
+            ],
+            LineForm::SplitStart => &[
+                Field::Word(b"split"),
+                Field::Word(b"start"),
                 Field::Number(Range::Split),
             ],
             LineForm::Leaf => &[Field::Word(b"leaf")],

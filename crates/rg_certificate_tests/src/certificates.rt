@@ -24,6 +24,7 @@ const PURE_AND_SAFE: Class = Class {
     pure: true,
     plain: false,
     bound: Some(1),
+    marking: None,
     nonbranching: false,
 };
 

@@ -5,6 +5,7 @@ const NONE: Class = Class {
     pure: false,
     plain: false,
     bound: None,
+    marking: None,
     nonbranching: false,
 };
 
@@ -12,6 +13,7 @@ const ALL: Class = Class {
     pure: true,
     plain: true,
     bound: Some(255),
+    marking: None,
     nonbranching: true,
 };
 

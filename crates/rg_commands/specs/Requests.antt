@@ -1,7 +1,7 @@
 -- What may be asked for.
 use Rattle.std.specs.Prelude.{ℕ, ◌≤◌, List, [], ◌∷◌}
 use Rattle.rg_theory.specs.declared.Class.{Class}
-use Rattle.rg_theory.specs.ClassWords.{HasBoundInRange}
+use Rattle.rg_theory.specs.ClassWords.{HasNumbersInRange}
 use Rattle.rg_families.specs.declared.Kind.{Kind}
 use Rattle.rg_families.specs.Families.{IsFamilyNumber}
 use Rattle.rg_commands.specs.Values.{most_self_test}
@@ -47,19 +47,19 @@ file_words (of_system work file form) = file ∷ second_files work
 file_words (generation kind n) = []
 file_words (self_test n) = []
 
--- the bound of a class is in range
-abbrev pub HasClassBound : Work → Type 0
-HasClassBound (net class) = HasBoundInRange class
-HasClassBound (judgement cert) = Unit {0}
-HasClassBound (verdict class named) = HasBoundInRange class
-HasClassBound (conversion target) = Unit {0}
+-- the numbers of a class are in range
+abbrev pub HasClassNumbers : Work → Type 0
+HasClassNumbers (net class) = HasNumbersInRange class
+HasClassNumbers (judgement cert) = Unit {0}
+HasClassNumbers (verdict class named) = HasNumbersInRange class
+HasClassNumbers (conversion target) = Unit {0}
 
 -- the number is one of a self test
 abbrev pub IsTestNumber : ℕ → Type 0
 IsTestNumber n = (1 ≤ n) × (n ≤ most_self_test)
 
--- the numbers that are asked are in range: the bound of a class, the number of a family's system, that of a self test
+-- the numbers that are asked are in range: those of a class, the number of a family's system, that of a self test
 abbrev pub HasBounds : Asked → Type 0
-HasBounds (of_system work file form) = HasClassBound work
+HasBounds (of_system work file form) = HasClassNumbers work
 HasBounds (generation kind n) = IsFamilyNumber kind n
 HasBounds (self_test n) = IsTestNumber n

@@ -1,6 +1,6 @@
 //! The words of `check`.
 ghost use Rattle.std.specs.Prelude.{map, string_bytes, IfOk, IfErr, Ok, Err};
-ghost use Rattle.rg_theory.specs.ClassWords.{HasBoundInRange};
+ghost use Rattle.rg_theory.specs.ClassWords.{HasNumbersInRange};
 ghost use Rattle.rg_commands.specs.Requests.{of_system, verdict};
 ghost use Rattle.rg_commands.specs.Says.{CheckSays, IsStopOf};
 
@@ -30,7 +30,7 @@ pub(crate) fn check_words<'a>(
     words: &'a [String],
 ) -> Result<CheckWords<'a>, WordsStop>
     ensures asks { IfOk result (λ w. CheckSays (map string_bytes words.entry.now) (Ok (of_system (verdict w.class w.net.now) w.file.now w.form))) }
-    ensures bounds { IfOk result (λ w. HasBoundInRange w.class) }
+    ensures bounds { IfOk result (λ w. HasNumbersInRange w.class) }
     ensures refused { IfErr result (IsStopOf (λ usage. CheckSays (map string_bytes words.entry.now) (Err usage))) }
 {
     let matches = matches_of(alloc, "check", &["CLASS", "FILE", "NET"], &["from"], words)?;

@@ -1,6 +1,6 @@
 //! The words of `synthesize`.
 ghost use Rattle.std.specs.Prelude.{map, string_bytes, IfOk, IfErr, Ok, Err};
-ghost use Rattle.rg_theory.specs.ClassWords.{HasBoundInRange};
+ghost use Rattle.rg_theory.specs.ClassWords.{HasNumbersInRange};
 ghost use Rattle.rg_commands.specs.Requests.{of_system, net};
 ghost use Rattle.rg_commands.specs.Says.{SynthesizeSays, IsStopOf, AreJobs};
 
@@ -30,7 +30,7 @@ pub(crate) fn synthesize_words<'a>(
     words: &'a [String],
 ) -> Result<SynthesizeWords<'a>, WordsStop>
     ensures asks { IfOk result (λ w. SynthesizeSays (map string_bytes words.entry.now) (Ok (of_system (net w.class) w.file.now w.form))) }
-    ensures bounds { IfOk result (λ w. HasBoundInRange w.class) }
+    ensures bounds { IfOk result (λ w. HasNumbersInRange w.class) }
     ensures jobs { IfOk result (λ w. AreJobs (map string_bytes words.entry.now) w.jobs) }
     ensures refused { IfErr result (IsStopOf (λ usage. SynthesizeSays (map string_bytes words.entry.now) (Err usage))) }
 {

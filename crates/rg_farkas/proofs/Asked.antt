@@ -1,5 +1,5 @@
 -- What is asked of a spreading: rows within the system, and names in range.
-use Rattle.std.proofs.Common.{ℕ, List, [], ◌∷◌, ◌++◌, map, drop, length, Ok, Contains, All, refl, subst, sym, arith}
+use Rattle.std.proofs.Common.{◌<◌, ℕ, List, [], ◌∷◌, ◌++◌, map, drop, length, Ok, Contains, All, refl, subst, sym, arith}
 use Rattle.std.specs.Prelude.{ℤ, pos, ◌<ℤ◌}
 use Rattle.std.proofs.lemmas.List.Elements.{All-nil, All-cons, All-head, All-tail, All-map, All-append, All-weaker}
 use Rattle.rg_theory.specs.declared.Arc.{Arc}
@@ -24,8 +24,8 @@ use Rattle.rg_farkas.proofs.LeafSteps.{not_zero_all}
 use Rattle.rg_farkas.proofs.TreeSums.{SaysArcs}
 
 module _ (lts : System) where
-  pub rows_within : (class : Class) (above : List Side) → All (λ s. IsFormOf lts s.form) above → (problem : Problem) (number : ℕ) → IsSeparationProblem lts problem → (shares : List Share) → All (λ s. IsRowNameOf lts s.name) shares → AreRowsWithin lts (row_expression lts class problem number above) shares
-  rows_within class above sides problem number asked shares names = All-weaker (λ s. IsRowNameOf lts s.name) (λ s. All (IsTermWithin (states lts) (labels lts)) (row_expression lts class problem number above s.name).terms) (λ s p. row_within lts class above sides problem number asked s.name p) shares names
+  pub rows_within : lts.initial < states lts → (class : Class) (above : List Side) → All (λ s. IsFormOf lts s.form) above → (problem : Problem) (number : ℕ) → IsSeparationProblem lts problem → (shares : List Share) → All (λ s. IsRowNameOf lts s.name) shares → AreRowsWithin lts (row_expression lts class problem number above) shares
+  rows_within start class above sides problem number asked shares names = All-weaker (λ s. IsRowNameOf lts s.name) (λ s. All (IsTermWithin (states lts) (labels lts)) (row_expression lts class problem number above s.name).terms) (λ s p. row_within lts start class above sides problem number asked s.name p) shares names
 
   -- ---- the arcs
 

@@ -12,7 +12,7 @@ use Rattle.rg_theory.specs.declared.Problem.{Problem}
 use Rattle.rg_theory.specs.System.{System}
 use Rattle.rg_integers.specs.Sum.{sum_below, number_at, dot}
 use Rattle.rg_integers.proofs.Ring.{ring, mul-add}
-use Rattle.rg_integers.proofs.Order.{mul_negative}
+use Rattle.rg_integers.proofs.Order.{mul_negative, mul-cancel_left, positive_differs}
 use Rattle.rg_integers.proofs.Sums.{sum_below-same, sum_below-zero, sum_below-times, sum_below-swap}
 use Rattle.rg_linear.specs.System.{LinearRow, LinearSystem, row_at, entry, AreFarkasMultipliers}
 use Rattle.rg_linear.specs.Cycle.{CycleBasis}
@@ -20,18 +20,19 @@ use Rattle.rg_linear.specs.Branching.{weights_from, Form, form_at, SplitSide, si
 use Rattle.rg_linear.proofs.Columns.{below_test, past_test}
 use Rattle.rg_linear.proofs.Splits.{index-front}
 use Rattle.rg_refuting.specs.Expression.{Variable, Variable.tokens_at, Expression, plus, minus, sum_of, value_in}
-use Rattle.rg_refuting.specs.Row.{Form as SplitForm, Form.on_tokens, form_variable, RowName, RowName.above_row, Side, RowStands, row_expression, side_expression}
+use Rattle.rg_refuting.specs.Row.{Form as SplitForm, Form.on_tokens, Form.on_effect, Form.on_start, form_variable, step_of, FormStands, RowName, RowName.above_row, Side, RowStands, row_expression, side_expression}
 use Rattle.rg_refuting.specs.Refutes.{NamedRow, constant_sum}
 use Rattle.rg_order_of_work.specs.Fold.{each, whole, Ratio}
 use Rattle.rg_order_of_work.specs.Rewriting.{has_start, split_forms, form_fold, KeptRow, CaseSystem, rows_of}
 use Rattle.rg_order_of_work.specs.Values.{numbers_along, column_values}
 use Rattle.rg_order_of_work.specs.Shown.{IsLive, named_side, named_sides}
-use Rattle.rg_order_of_work.specs.Spreading.{Share, kept_at, side_at, name_of, factor_of, share_fold}
+use Rattle.rg_order_of_work.specs.Spreading.{Share, kept_at, side_at, named_at, split_factor, name_of, factor_of, share_fold}
 use Rattle.rg_order_of_work.proofs.Signs.{factor_is_positive}
 use Rattle.rg_order_of_work.specs.Meaning.{IsCaseOver}
 use Rattle.rg_order_of_work.proofs.Names.{names_stand}
 use Rattle.rg_order_of_work.proofs.ColumnValues.{row_sum}
-use Rattle.rg_order_of_work.proofs.Forms.{form_named, form_value, form_positive}
+use Rattle.rg_order_of_work.proofs.Forms.{form_named, form_value, form_positive, step_positive}
+use Rattle.rg_order_of_work.proofs.FormRows.{start_scale}
 use Rattle.rg_reasons.specs.Certificates.{IsRowNameOf}
 use Rattle.rg_farkas.specs.Refuting.{KeepsEachArc, AreShares, SharesRefute}
 use Rattle.rg_farkas.proofs.Names.{IsUsed, names_in_range}
@@ -46,7 +47,7 @@ module _ (lts : System) (tree : List Arc) (basis : CycleBasis) (class : Class) (
   node = node_system (rows_of case) case.forms sides
 
   abbrev named : List Side
-  named = named_sides lts class sides
+  named = named_sides lts class problem sides
 
   abbrev no_row : KeptRow
   no_row = record { name = above_row 0; row = record { coeffs = []; constant = pos 0 }; factor = whole (pos 1) }
@@ -75,6 +76,54 @@ module _ (lts : System) (tree : List Arc) (basis : CycleBasis) (class : Class) (
       at : i ≡ length (rows_of case).rows + (i - length case.kept)
       at = let e = case_length in omega arith
 
+  -- what the split of a side is on
+  abbrev split_at : ℕ → SplitForm
+  split_at d = slice_index_or (split_forms lts class problem) (side_at sides d).form (on_tokens 0)
+
+  side_there : (d : ℕ) → d < length sides → (side_at sides d).form < length case.forms
+  side_there d lt = All-get_or (λ side. side.form < length case.forms) sides d no_side lt within
+
+  side_used : (d : ℕ) → d < length sides → IsUsed lts (form_variable lts.initial (split_at d)) × (has_start class ≡ true) × FormStands class (split_at d)
+  side_used d lt = form_used lts class problem (split_at d) c.in_range.initial (form_named lts tree basis class problem number case (side_at sides d).form c.is_case (side_there d lt)).1
+
+  named_is : (d : ℕ) → d < length sides → (named_at named d).form ≡ split_at d
+  named_is d lt = ap (λ (w : Side). w.form) (get_or-map (named_side lts class problem) sides d no_side (record { form = on_tokens 0; at = pos 0; high = false }) lt)
+
+  -- what the factor of a split is: its row is the factor times the named row
+  record IsFactor (w : SplitForm) (form : Form) : Type 0 where
+    pub positive : pos 0 <ℤ (split_factor w form).top
+    pub bottom : (split_factor w form).bottom ≡ pos 1
+    pub scale : form.scale ≡ (split_factor w form).top *ℤ pos (step_of class w)
+    pub value : (z y : ℤ) → pos (step_of class w) *ℤ z ≡ form.scale *ℤ y → z ≡ (split_factor w form).top *ℤ y
+
+  split_factor_is : (w : SplitForm) (form : Form) → form_fold lts tree basis class w (Ok form) → IsFactor w form
+  split_factor_is (on_tokens q) form made = record { positive = form_positive lts tree basis class problem number case c (on_tokens q) form made; bottom = refl; scale = one form.scale; value = λ z y e. once z ∙ e }
+    where
+      one : (z : ℤ) → z ≡ z *ℤ pos 1
+      one z = omega (arith, ints)
+
+      once : (z : ℤ) → z ≡ pos 1 *ℤ z
+      once z = omega (arith, ints)
+  split_factor_is (on_effect t) form made = record { positive = form_positive lts tree basis class problem number case c (on_effect t) form made; bottom = refl; scale = one form.scale; value = λ z y e. once z ∙ e }
+    where
+      one : (z : ℤ) → z ≡ z *ℤ pos 1
+      one z = omega (arith, ints)
+
+      once : (z : ℤ) → z ≡ pos 1 *ℤ z
+      once z = omega (arith, ints)
+  split_factor_is on_start form made = record {
+    positive = (omega (arith, ints));
+    bottom = refl;
+    scale = start_scale lts tree basis class form c.is_tree made ∙ once (pos (step_of class on_start));
+    value = λ z y e. mul-cancel_left (pos (step_of class on_start)) z (pos 1 *ℤ y) (positive_differs (pos (step_of class on_start)) (above (step_of class on_start) (step_positive class on_start c.numbers))) (e ∙ ap (λ m. m *ℤ y) (start_scale lts tree basis class form c.is_tree made) ∙ ap (λ m. pos (step_of class on_start) *ℤ m) (once y));
+  }
+    where
+      once : (z : ℤ) → z ≡ pos 1 *ℤ z
+      once z = omega (arith, ints)
+
+      above : (n : ℕ) → 0 < n → pos 0 <ℤ pos n
+      above n h = omega (arith, ints)
+
   -- what holds of the names of both kinds of rows
   name_told : (P : RowName → Type 0) → ((i : ℕ) → i < length case.kept → P (kept_at case i).name) → ((d : ℕ) → d < length sides → P (above_row d)) → (i : ℕ) → i < length case.kept + length sides → P (name_of case i)
   name_told P kept above i lt = ⊎_elim
@@ -82,11 +131,11 @@ module _ (lts : System) (tree : List Arc) (basis : CycleBasis) (class : Class) (
       (λ back. subst (λ b. P (if b then (kept_at case i).name else above_row (i - length case.kept))) (sym (past_test i (length case.kept) back)) (above (i - length case.kept) (omega arith)))
       (cases_lt i (length case.kept))
 
-  pub node_names_stand : (multiplier : ℕ → ℤ) (shares : List Share) → each (share_fold case sides) (weights_from multiplier 0 (length node.rows)) (Ok shares) → All (λ s. RowStands lts class problem number named s.name) shares
-  node_names_stand multiplier shares made = names_all case sides (length case.kept + length sides) multiplier (RowStands lts class problem number named) (name_told (RowStands lts class problem number named) (λ i lt. stands_below lts class problem number named (kept_at case i).name (names_stand lts class problem number (kept_at case i).name (own_row i lt).named)) (λ d lt. above_stands lts class problem number named d (named_side lts class (side_at sides d)) (get-map (named_side lts class) sides d no_side lt))) 0 (length node.rows) (let e = rows_length in omega arith) shares made
+  pub node_names_stand : (multiplier : ℕ → ℤ) (shares : List Share) → each (share_fold case sides named) (weights_from multiplier 0 (length node.rows)) (Ok shares) → All (λ s. RowStands lts class problem number named s.name) shares
+  node_names_stand multiplier shares made = names_all case sides named (length case.kept + length sides) multiplier (RowStands lts class problem number named) (name_told (RowStands lts class problem number named) (λ i lt. stands_below lts class problem number named (kept_at case i).name (names_stand lts class problem number (kept_at case i).name (own_row i lt).named)) (λ d lt. above_stands lts class problem number named d (named_side lts class problem (side_at sides d)) (get-map (named_side lts class problem) sides d no_side lt) (side_used d lt).2)) 0 (length node.rows) (let e = rows_length in omega arith) shares made
 
-  pub node_names_in_range : length sides ≤ 2 ^ 32 → (multiplier : ℕ → ℤ) (shares : List Share) → each (share_fold case sides) (weights_from multiplier 0 (length node.rows)) (Ok shares) → All (λ s. IsRowNameOf lts s.name) shares
-  node_names_in_range few multiplier shares made = names_all case sides (length case.kept + length sides) multiplier (IsRowNameOf lts) (name_told (IsRowNameOf lts) (λ i lt. names_in_range lts class problem number (kept_at case i).name (own_row i lt).named) (λ d lt. (omega arith))) 0 (length node.rows) (let e = rows_length in omega arith) shares made
+  pub node_names_in_range : length sides ≤ 2 ^ 32 → (multiplier : ℕ → ℤ) (shares : List Share) → each (share_fold case sides named) (weights_from multiplier 0 (length node.rows)) (Ok shares) → All (λ s. IsRowNameOf lts s.name) shares
+  node_names_in_range few multiplier shares made = names_all case sides named (length case.kept + length sides) multiplier (IsRowNameOf lts) (name_told (IsRowNameOf lts) (λ i lt. names_in_range lts class problem number (kept_at case i).name (own_row i lt).named) (λ d lt. (omega arith))) 0 (length node.rows) (let e = rows_length in omega arith) shares made
 
   module _ (live : IsLive lts problem) where
     abbrev columns : (x : Variable → ℤ) → KeepsEachArc lts x → List ℤ
@@ -133,7 +182,7 @@ module _ (lts : System) (tree : List Arc) (basis : CycleBasis) (class : Class) (
         constant : (kept_at case i).factor.bottom *ℤ (kept_at case i).row.constant ≡ (kept_at case i).factor.top *ℤ (row_expression lts class problem number [] (kept_at case i).name).constant
         constant = close (kept_at case i).factor.bottom (kept_at case i).factor.top (dot (kept_at case i).row.coeffs (columns (λ v. pos 0) zero_keeps)) (kept_at case i).row.constant (value_in (λ v. pos 0) (row_expression lts class problem number [] (kept_at case i).name).terms) (row_expression lts class problem number [] (kept_at case i).name).constant (link (λ v. pos 0) zero_keeps) (kept_value lts tree basis class problem number case c live (λ v. pos 0) zero_keeps (pos 1) (kept_at case i) (kept_has i lt))
 
-    -- the row of a side, whose factor is the form's scale
+    -- the row of a side
     module _ (d : ℕ) (lt : d < length sides) where
       abbrev side : SplitSide
       side = side_at sides d
@@ -142,37 +191,40 @@ module _ (lts : System) (tree : List Arc) (basis : CycleBasis) (class : Class) (
       form = form_at case.forms side.form
 
       abbrev split : SplitForm
-      split = slice_index_or (split_forms lts class) side.form (on_tokens 0)
+      split = split_at d
 
       abbrev v : Variable
       v = form_variable lts.initial split
+
+      abbrev step : ℤ
+      step = pos (step_of class split)
+
+      abbrev factor : ℤ
+      factor = (split_factor split form).top
 
       abbrev row_on : Bool → LinearRow
       row_on b = if b then (record { coeffs = form.coeffs; constant = neg_ℤ (form.scale *ℤ side.at) -ℤ form.scale }) else (record { coeffs = map neg_ℤ form.coeffs; constant = form.scale *ℤ side.at })
 
       abbrev said_on : Bool → Expression
-      said_on b = if b then sum_of (plus v ∷ []) (neg_ℤ side.at -ℤ pos 1) else sum_of (minus v ∷ []) side.at
-
-      there : side.form < length case.forms
-      there = All-get_or (λ side. side.form < length case.forms) sides d no_side lt within
+      said_on b = if b then sum_of (plus v ∷ []) (neg_ℤ (step *ℤ side.at) -ℤ step) else sum_of (minus v ∷ []) (step *ℤ side.at)
 
       made : form_fold lts tree basis class split (Ok form)
-      made = (form_named lts tree basis class problem number case side.form c.is_case there).2
+      made = (form_named lts tree basis class problem number case side.form c.is_case (side_there d lt)).2
 
-      used : IsUsed lts v × (has_start class ≡ true)
-      used = form_used lts class split (form_named lts tree basis class problem number case side.form c.is_case there).1
+      is : IsFactor split form
+      is = split_factor_is split form made
 
-      expression : row_expression lts class problem number named (above_row d) ≡ side_expression class lts.initial (Some (named_side lts class side))
-      expression = above_expression lts class problem number named d ∙ ap (side_expression class lts.initial) (get-map (named_side lts class) sides d no_side lt)
+      expression : row_expression lts class problem number named (above_row d) ≡ side_expression class lts.initial (Some (named_side lts class problem side))
+      expression = above_expression lts class problem number named d ∙ ap (side_expression class lts.initial) (get-map (named_side lts class problem) sides d no_side lt)
 
-      form_is : (x : Variable → ℤ) (keeps : KeepsEachArc lts x) → dot form.coeffs (columns x keeps) ≡ form.scale *ℤ x v
-      form_is x keeps =
-          form_value lts tree basis class problem number case c split form (own_start lts tree basis class problem number case c live x keeps) (own_effect lts tree basis class problem number case c live x keeps) made (form_named lts tree basis class problem number case side.form c.is_case there).0 (λ none. absurd (true≢false (sym used.1 ∙ none))) (own_given lts tree basis class problem number case c live x keeps)
-          ∙ ap (λ b. form.scale *ℤ numbers_along lts tree (if b then x (tokens_at lts.initial) else pos 0) (own_effect lts tree basis class problem number case c live x keeps) v) used.1
-          ∙ ap (λ z. form.scale *ℤ z) (sym (same_used lts tree basis class problem number case c live x keeps v used.0))
+      form_is : (x : Variable → ℤ) (keeps : KeepsEachArc lts x) → dot form.coeffs (columns x keeps) ≡ factor *ℤ x v
+      form_is x keeps = is.value (dot form.coeffs (columns x keeps)) (x v)
+          (form_value lts tree basis class problem number case c split form (own_start lts tree basis class problem number case c live x keeps) (own_effect lts tree basis class problem number case c live x keeps) made (form_named lts tree basis class problem number case side.form c.is_case (side_there d lt)).0 (λ none. absurd (true≢false (sym (side_used d lt).1 ∙ none))) (own_given lts tree basis class problem number case c live x keeps)
+          ∙ ap (λ b. form.scale *ℤ numbers_along lts tree (if b then x (tokens_at lts.initial) else pos 0) (own_effect lts tree basis class problem number case c live x keeps) v) (side_used d lt).1
+          ∙ ap (λ z. form.scale *ℤ z) (sym (same_used lts tree basis class problem number case c live x keeps v (side_used d lt).0)))
 
-      side_value : (x : Variable → ℤ) (keeps : KeepsEachArc lts x) (b : Bool) → pos 1 *ℤ dot (row_on b).coeffs (columns x keeps) ≡ form.scale *ℤ value_in x (said_on b).terms
-      side_value x keeps true = ap (λ z. pos 1 *ℤ z) (form_is x keeps) ∙ turn form.scale (x v)
+      side_value : (x : Variable → ℤ) (keeps : KeepsEachArc lts x) (b : Bool) → pos 1 *ℤ dot (row_on b).coeffs (columns x keeps) ≡ factor *ℤ value_in x (said_on b).terms
+      side_value x keeps true = ap (λ z. pos 1 *ℤ z) (form_is x keeps) ∙ turn factor (x v)
         where
           plain_one : (z : ℤ) → z ≡ (pos 1 *ℤ z) +ℤ pos 0
           plain_one z = omega (arith, ints)
@@ -182,7 +234,7 @@ module _ (lts : System) (tree : List Arc) (basis : CycleBasis) (class : Class) (
 
           turn : (s z : ℤ) → pos 1 *ℤ (s *ℤ z) ≡ s *ℤ ((pos 1 *ℤ z) +ℤ pos 0)
           turn s z = outer (s *ℤ z) ∙ ap (λ w. s *ℤ w) (plain_one z)
-      side_value x keeps false = ap (λ z. pos 1 *ℤ z) (dot-neg form.coeffs (columns x keeps) ∙ ap neg_ℤ (form_is x keeps)) ∙ turn form.scale (x v)
+      side_value x keeps false = ap (λ z. pos 1 *ℤ z) (dot-neg form.coeffs (columns x keeps) ∙ ap neg_ℤ (form_is x keeps)) ∙ turn factor (x v)
         where
           opposite : (z : ℤ) → neg_ℤ z ≡ (negsuc 0 *ℤ z) +ℤ pos 0
           opposite z = omega (arith, ints)
@@ -193,33 +245,36 @@ module _ (lts : System) (tree : List Arc) (basis : CycleBasis) (class : Class) (
           turn : (s z : ℤ) → pos 1 *ℤ neg_ℤ (s *ℤ z) ≡ s *ℤ ((negsuc 0 *ℤ z) +ℤ pos 0)
           turn s z = inner s z ∙ ap (λ w. s *ℤ w) (opposite z)
 
-      side_number : (b : Bool) → pos 1 *ℤ (row_on b).constant ≡ form.scale *ℤ (said_on b).constant
-      side_number true = turn form.scale side.at
+      side_number : (b : Bool) → pos 1 *ℤ (row_on b).constant ≡ factor *ℤ (said_on b).constant
+      side_number true = ap (λ m. pos 1 *ℤ (neg_ℤ (m *ℤ side.at) -ℤ m)) is.scale ∙ turn factor step side.at
         where
-          turn : (s u : ℤ) → pos 1 *ℤ (neg_ℤ (s *ℤ u) -ℤ s) ≡ s *ℤ (neg_ℤ u -ℤ pos 1)
-          turn s u = simp ring
-      side_number false = turn form.scale side.at
+          turn : (f n u : ℤ) → pos 1 *ℤ (neg_ℤ ((f *ℤ n) *ℤ u) -ℤ (f *ℤ n)) ≡ f *ℤ (neg_ℤ (n *ℤ u) -ℤ n)
+          turn f n u = simp ring
+      side_number false = ap (λ m. pos 1 *ℤ (m *ℤ side.at)) is.scale ∙ turn factor step side.at
         where
-          turn : (s u : ℤ) → pos 1 *ℤ (s *ℤ u) ≡ s *ℤ u
-          turn s u = simp ring
+          turn : (f n u : ℤ) → pos 1 *ℤ ((f *ℤ n) *ℤ u) ≡ f *ℤ (n *ℤ u)
+          turn f n u = simp ring
 
-      side_told : Told (above_row d) (whole (form_at case.forms (side_at sides d).form).scale) (side_row case.forms (side_at sides d))
-      side_told = (
-        form_positive lts tree basis class problem number case c split form made,
-        (omega (arith, ints)),
-        (λ x keeps. side_value x keeps side.high ∙ ap (λ e. form.scale *ℤ value_in x e.terms) (sym expression)),
-        side_number side.high ∙ ap (λ e. form.scale *ℤ e.constant) (sym expression),
+      own_told : Told (above_row d) (split_factor split form) (side_row case.forms side)
+      own_told = (
+        is.positive,
+        subst (λ b. pos 0 <ℤ b) (sym is.bottom) (omega (arith, ints)),
+        (λ x keeps. subst (λ b. b *ℤ dot (side_row case.forms side).coeffs (columns x keeps) ≡ factor *ℤ value_in x (row_expression lts class problem number named (above_row d)).terms) (sym is.bottom) (side_value x keeps side.high ∙ ap (λ e. factor *ℤ value_in x e.terms) (sym expression))),
+        subst (λ b. b *ℤ (side_row case.forms side).constant ≡ factor *ℤ (row_expression lts class problem number named (above_row d)).constant) (sym is.bottom) (side_number side.high ∙ ap (λ e. factor *ℤ e.constant) (sym expression)),
       )
 
-    row_told : (i : ℕ) → i < length case.kept + length sides → Told (name_of case i) (factor_of case sides i) (row_at node i)
+      side_told : Told (above_row d) (split_factor (named_at named d).form (form_at case.forms (side_at sides d).form)) (side_row case.forms (side_at sides d))
+      side_told = subst (λ w. Told (above_row d) (split_factor w form) (side_row case.forms side)) (sym (named_is d lt)) own_told
+
+    row_told : (i : ℕ) → i < length case.kept + length sides → Told (name_of case i) (factor_of case sides named i) (row_at node i)
     row_told i lt = ⊎_elim
-        (λ front. subst (λ b. Told (if b then (kept_at case i).name else above_row (i - length case.kept)) (if b then (kept_at case i).factor else whole (form_at case.forms (side_at sides (i - length case.kept)).form).scale) (row_at node i)) (sym (below_test i (length case.kept) front)) (subst (Told (kept_at case i).name (kept_at case i).factor) (sym (front_row i front)) (kept_told i front)))
-        (λ back. subst (λ b. Told (if b then (kept_at case i).name else above_row (i - length case.kept)) (if b then (kept_at case i).factor else whole (form_at case.forms (side_at sides (i - length case.kept)).form).scale) (row_at node i)) (sym (past_test i (length case.kept) back)) (subst (Told (above_row (i - length case.kept)) (whole (form_at case.forms (side_at sides (i - length case.kept)).form).scale)) (sym (back_row i back lt)) (side_told (i - length case.kept) (omega arith))))
+        (λ front. subst (λ b. Told (if b then (kept_at case i).name else above_row (i - length case.kept)) (if b then (kept_at case i).factor else split_factor (named_at named (i - length case.kept)).form (form_at case.forms (side_at sides (i - length case.kept)).form)) (row_at node i)) (sym (below_test i (length case.kept) front)) (subst (Told (kept_at case i).name (kept_at case i).factor) (sym (front_row i front)) (kept_told i front)))
+        (λ back. subst (λ b. Told (if b then (kept_at case i).name else above_row (i - length case.kept)) (if b then (kept_at case i).factor else split_factor (named_at named (i - length case.kept)).form (form_at case.forms (side_at sides (i - length case.kept)).form)) (row_at node i)) (sym (past_test i (length case.kept) back)) (subst (Told (above_row (i - length case.kept)) (split_factor (named_at named (i - length case.kept)).form (form_at case.forms (side_at sides (i - length case.kept)).form))) (sym (back_row i back lt)) (side_told (i - length case.kept) (omega arith))))
         (cases_lt i (length case.kept))
 
     -- ---- the law
 
-    module _ (multiplier : ℕ → ℤ) (farkas : AreFarkasMultipliers node multiplier) (shares : List Share) (made : each (share_fold case sides) (weights_from multiplier 0 (length node.rows)) (Ok shares)) where
+    module _ (multiplier : ℕ → ℤ) (farkas : AreFarkasMultipliers node multiplier) (shares : List Share) (made : each (share_fold case sides named) (weights_from multiplier 0 (length node.rows)) (Ok shares)) where
       module _ (x : Variable → ℤ) (keeps : KeepsEachArc lts x) where
         abbrev worth : ℕ → ℤ
         worth i = dot (row_at node i).coeffs (columns x keeps)
@@ -238,9 +293,9 @@ module _ (lts : System) (tree : List Arc) (basis : CycleBasis) (class : Class) (
 
       pub node_shares_refute : SharesRefute lts (row_expression lts class problem number named) shares
       node_shares_refute = record {
-        positive = shares_positive case sides (length case.kept + length sides) multiplier (λ i lt. farkas.not_negative i (subst (λ n. i < n) (sym rows_length) lt)) (λ i lt. let (top, bottom, _, _) = row_told i lt in (top, bottom)) 0 (length node.rows) (let e = rows_length in omega arith) shares made;
+        positive = shares_positive case sides named (length case.kept + length sides) multiplier (λ i lt. farkas.not_negative i (subst (λ n. i < n) (sym rows_length) lt)) (λ i lt. let (top, bottom, _, _) = row_told i lt in (top, bottom)) 0 (length node.rows) (let e = rows_length in omega arith) shares made;
         refute = λ scale rows positive are. record {
-          cancel = λ x keeps. shares_sum case sides (length case.kept + length sides) multiplier scale (λ name. value_in x (row_expression lts class problem number named name).terms) (worth x keeps) (λ i lt. (row_told i lt).1) (λ i lt. (row_told i lt).2 x keeps) (length node.rows) rows_length shares rows made are ∙ ap (λ z. scale *ℤ z) (cancel x keeps) ∙ *ℤ-zero scale;
+          cancel = λ x keeps. shares_sum case sides named (length case.kept + length sides) multiplier scale (λ name. value_in x (row_expression lts class problem number named name).terms) (worth x keeps) (λ i lt. (row_told i lt).1) (λ i lt. (row_told i lt).2 x keeps) (length node.rows) rows_length shares rows made are ∙ ap (λ z. scale *ℤ z) (cancel x keeps) ∙ *ℤ-zero scale;
           contradict = negative scale rows positive are;
         };
       }
@@ -250,5 +305,5 @@ module _ (lts : System) (tree : List Arc) (basis : CycleBasis) (class : Class) (
 
           negative : (scale : ℤ) (rows : List NamedRow) → pos 0 <ℤ scale → AreShares scale shares rows → constant_sum (row_expression lts class problem number named) rows <ℤ pos 0
           negative scale rows positive are =
-              subst (λ z. z <ℤ pos 0) (sym (shares_sum case sides (length case.kept + length sides) multiplier scale (λ name. (row_expression lts class problem number named name).constant) (λ i. (row_at node i).constant) (λ i lt. (row_told i lt).1) (λ i lt. (row_told i lt).3) (length node.rows) rows_length shares rows made are ∙ turn scale (sum_below (length node.rows) (λ i. multiplier i *ℤ (row_at node i).constant))))
+              subst (λ z. z <ℤ pos 0) (sym (shares_sum case sides named (length case.kept + length sides) multiplier scale (λ name. (row_expression lts class problem number named name).constant) (λ i. (row_at node i).constant) (λ i lt. (row_told i lt).1) (λ i lt. (row_told i lt).3) (length node.rows) rows_length shares rows made are ∙ turn scale (sum_below (length node.rows) (λ i. multiplier i *ℤ (row_at node i).constant))))
               (mul_negative (sum_below (length node.rows) (λ i. multiplier i *ℤ (row_at node i).constant)) scale farkas.contradicts positive)

@@ -43,6 +43,7 @@ const STRICT: Class = Class {
     pure: true,
     plain: true,
     bound: Some(1),
+    marking: None,
     nonbranching: true,
 };
 

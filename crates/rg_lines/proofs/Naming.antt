@@ -8,7 +8,7 @@ use Rattle.rg_theory.specs.Net.{Net, Marking}
 use Rattle.rg_theory.proofs.Arcs.{arc_in_range}
 use Rattle.rg_theory.proofs.Trees.{tree_arcs}
 use Rattle.rg_net.specs.declared.class_break.ClassBreak.{ClassBreak}
-use Rattle.rg_net.specs.declared.class_break.ClassBreak.TheVariants.{NotPure, NotPlain, Over, Branching}
+use Rattle.rg_net.specs.declared.class_break.ClassBreak.TheVariants.{NotPure, NotPlain, Over, Branching, NotMultiple}
 use Rattle.rg_net.specs.ClassBreaks.{IsBreak}
 use Rattle.rg_net_verdict.specs.declared.verdict.NetVerdict.TheVariants.{No}
 use Rattle.rg_net_verdict.specs.declared.verdict.NetNo.{NetNo}
@@ -24,6 +24,7 @@ break_has_names : (lts : System) (net : Net) (class : Class) (h : ℕ → Markin
 break_has_names lts net class h (NotPure p t) same (is, place, at, lt, takes, makes) = of_system lts net t same lt
 break_has_names lts net class h (NotPlain p t) same (is, place, at, lt, many) = of_system lts net t same lt
 break_has_names lts net class h (Over p s) same (m, at, lt, over) = subst (λ n. s < n) (length-map-range_with_len h 0 (states lts)) (slice_get_within (list_of lts h) s m at)
+break_has_names lts net class h (NotMultiple p) same breaks = tt
 break_has_names lts net class h (Branching p t t') same (is, place, at, less, lt, takes, takes') =
     let last = of_system lts net t' same lt in
     (omega arith, last)

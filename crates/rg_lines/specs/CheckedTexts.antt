@@ -2,7 +2,7 @@
 use Rattle.std.specs.Prelude.{ℕ, ◌<◌, List, ◌++◌, codes, decimal}
 use Rattle.rg_theory.specs.System.{System, states, labels}
 use Rattle.rg_net.specs.declared.class_break.ClassBreak.{ClassBreak}
-use Rattle.rg_net.specs.declared.class_break.ClassBreak.TheVariants.{NotPure, NotPlain, Over, Branching}
+use Rattle.rg_net.specs.declared.class_break.ClassBreak.TheVariants.{NotPure, NotPlain, Over, Branching, NotMultiple}
 use Rattle.rg_net_verdict.specs.declared.verdict.NetNo.{NetNo}
 use Rattle.rg_net_verdict.specs.declared.verdict.NetNo.TheVariants.{Unreachable, Fork, NotEnabled, SameMarking, Enabled, WrongStep, Class}
 use Rattle.rg_cert.specs.Text.{state_name, label_name}
@@ -17,6 +17,7 @@ HasBreakNames lts (NotPure p t) = t < labels lts
 HasBreakNames lts (NotPlain p t) = t < labels lts
 HasBreakNames lts (Over p s) = s < states lts
 HasBreakNames lts (Branching p t t') = (t < labels lts) × (t' < labels lts)
+HasBreakNames lts (NotMultiple p) = Unit {0}
 
 -- the states and labels of a difference are the system's
 abbrev pub HasNames : System → NetNo → Type 0
@@ -42,6 +43,7 @@ break_text lts (NotPure p t) = codes "not pure place " ++ weight_text lts p t
 break_text lts (NotPlain p t) = codes "not plain place " ++ weight_text lts p t
 break_text lts (Over p s) = codes "over place " ++ decimal p ++ codes " " ++ state_name lts s
 break_text lts (Branching p t t') = codes "branching place " ++ weight_text lts p t ++ codes " " ++ label_name lts t'
+break_text lts (NotMultiple p) = codes "not multiple place " ++ decimal p
 
 -- the first difference
 abbrev pub no_text : System → NetNo → List ℕ

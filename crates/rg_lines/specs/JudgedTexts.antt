@@ -11,7 +11,7 @@ use Rattle.rg_reasons.specs.declared.variable.Variable.{Variable}
 use Rattle.rg_reasons.specs.declared.variable.Variable.TheVariants.{Tokens, Effect}
 use Rattle.rg_reasons.specs.Sums.{variable_of}
 use Rattle.rg_verify.specs.declared.verdict.Defect.{Defect}
-use Rattle.rg_verify.specs.declared.verdict.Defect.TheVariants.{WrongRow, NotPositive, LeftOver, SumPasses, CaseMissing, NotSo}
+use Rattle.rg_verify.specs.declared.verdict.Defect.TheVariants.{WrongRow, NotPositive, LeftOver, SumPasses, WrongForm, CaseMissing, NotSo}
 
 -- the certificate holds, so there is no net of its class
 abbrev pub accepted_line : Class → List ℕ
@@ -36,15 +36,16 @@ abbrev pub HasName : System → Defect → Type 0
 HasName lts (LeftOver v) = IsVariableOf lts (variable_of v)
 HasName lts defect = Unit {0}
 
--- what is wrong with a leaf
+-- what is wrong with a node
 abbrev pub leaf_text : System → Defect → List ℕ
 leaf_text lts WrongRow = codes "wrong row"
 leaf_text lts NotPositive = codes "not positive"
 leaf_text lts SumPasses = codes "sum passes"
 leaf_text lts (LeftOver v) = codes "left over " ++ variable_text lts v
+leaf_text lts WrongForm = codes "wrong form"
 leaf_text lts defect = codes "no contradiction"
 
--- the certificate doesn't hold; a leaf's defect is told with its case and node
+-- the certificate doesn't hold; a node's defect is told with its case and node
 abbrev pub defect_text : System → ℕ → ℕ → Defect → List ℕ
 defect_text lts case node NotSo = codes "not so"
 defect_text lts case node CaseMissing = codes "case missing"

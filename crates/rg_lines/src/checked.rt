@@ -87,6 +87,7 @@ fn push_break(text: &mut Vec<u8>, lts: &Lts, broken: ClassBreak) -> Result<(), A
             push_state(text, b" ", lts, s)
         }
         ClassBreak::Branching(p, t, u) => push_branching(text, b"branching place ", lts, p, t, u),
+        ClassBreak::NotMultiple(p) => push_number(text, b"not multiple place ", u64::from(p)),
     }
 }
 

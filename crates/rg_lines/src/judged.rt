@@ -37,7 +37,7 @@ pub fn fault_text(alloc: Global, fault: CertFault) -> Result<Vec<u8>, AllocError
     }
 }
 
-/// The line that refuses a certificate of the system for a defect, told with its case and node where it is a leaf's.
+/// The line that refuses a certificate of the system for a defect, told with its case and node where it is a node's.
 pub fn defect_text(
     alloc: Global,
     lts: &Lts,
@@ -69,7 +69,7 @@ fn line_text(alloc: Global, line: u32, words: &[u8]) -> Result<Vec<u8>, AllocErr
     Ok(text)
 }
 
-// A leaf of the certificate doesn't refute.
+// A node of the certificate doesn't hold.
 fn node_text(alloc: Global, case: u32, node: u64, words: &[u8]) -> Result<Vec<u8>, AllocError>
     ensures { IfOk result (λ text. text.items ≡ refused_line (codes "case " ++ decimal case ++ codes " node " ++ decimal node ++ codes ": " ++ words.now)) }
 {
@@ -82,7 +82,7 @@ fn node_text(alloc: Global, case: u32, node: u64, words: &[u8]) -> Result<Vec<u8
     Ok(text)
 }
 
-// What is wrong with a leaf.
+// What is wrong with a node.
 fn leaf_text(alloc: Global, lts: &Lts, defect: Defect) -> Result<Vec<u8>, AllocError>
     requires { HasName lts.now defect }
     ensures { IfOk result (λ text. text.items ≡ leaf_text lts.now defect) }
@@ -92,7 +92,7 @@ fn leaf_text(alloc: Global, lts: &Lts, defect: Defect) -> Result<Vec<u8>, AllocE
     Ok(text)
 }
 
-// Adds what is wrong with a leaf.
+// Adds what is wrong with a node.
 fn push_leaf(text: &mut Vec<u8>, lts: &Lts, defect: Defect) -> Result<(), AllocError>
     requires { HasName lts.now defect }
     ensures { OnOk result (text.new.items ≡ text.old.items ++ leaf_text lts.now defect) }
@@ -101,6 +101,7 @@ fn push_leaf(text: &mut Vec<u8>, lts: &Lts, defect: Defect) -> Result<(), AllocE
         Defect::WrongRow => text.extend_from_slice(b"wrong row")?,
         Defect::NotPositive => text.extend_from_slice(b"not positive")?,
         Defect::SumPasses => text.extend_from_slice(b"sum passes")?,
+        Defect::WrongForm => text.extend_from_slice(b"wrong form")?,
         Defect::LeftOver(Variable::Tokens(q)) => {
             push_state(text, b"left over tokens ", lts, q)?;
         }

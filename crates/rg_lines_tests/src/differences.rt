@@ -10,7 +10,7 @@ use rg_net_verdict::NetNo;
 use std::alloc::Global;
 use std::test::Fail;
 
-const DIFFERENCES: [(NetNo, &str); 13] = [
+const DIFFERENCES: [(NetNo, &str); 14] = [
     (NetNo::Unreachable(2), "no: unreachable broken\n"),
     (NetNo::Fork(0, 1, 1, 2), "no: fork off hit on broken\n"),
     (NetNo::Fork(1, 0, 0, 2), "no: fork on press off broken\n"),
@@ -39,6 +39,10 @@ const DIFFERENCES: [(NetNo, &str); 13] = [
         NetNo::Class(ClassBreak::Branching(3, 0, 1)),
         "no: branching place 3 press hit\n",
     ),
+    (
+        NetNo::Class(ClassBreak::NotMultiple(12)),
+        "no: not multiple place 12\n",
+    ),
 ];
 
 // Whether the states and labels of the difference are the system's.
@@ -58,6 +62,7 @@ fn has_names(lts: &Lts, found: NetNo) -> bool
         NetNo::Class(ClassBreak::NotPure(_, t) | ClassBreak::NotPlain(_, t)) => t < labels,
         NetNo::Class(ClassBreak::Over(_, s)) => s < states,
         NetNo::Class(ClassBreak::Branching(_, t, u)) => t < labels && u < labels,
+        NetNo::Class(ClassBreak::NotMultiple(_)) => true,
     }
 }
 

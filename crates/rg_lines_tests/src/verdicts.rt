@@ -15,6 +15,7 @@ const NONE: Class = Class {
     pure: false,
     plain: false,
     bound: None,
+    marking: None,
     nonbranching: false,
 };
 
@@ -22,6 +23,7 @@ const ALL: Class = Class {
     pure: true,
     plain: true,
     bound: Some(255),
+    marking: None,
     nonbranching: true,
 };
 
@@ -122,7 +124,7 @@ fn faults(rt: HostRuntime) {
 }
 
 // A case, a node, a defect, and the line.
-const DEFECTS: [(u32, u64, Defect, &str); 10] = [
+const DEFECTS: [(u32, u64, Defect, &str); 11] = [
     (0, 0, Defect::NotSo, "refused: not so\n"),
     (0, 0, Defect::CaseMissing, "refused: case missing\n"),
     (
@@ -172,6 +174,12 @@ const DEFECTS: [(u32, u64, Defect, &str); 10] = [
         18446744073709551615,
         Defect::NoContradiction,
         "refused: case 4294967295 node 18446744073709551615: no contradiction\n",
+    ),
+    (
+        1,
+        5,
+        Defect::WrongForm,
+        "refused: case 1 node 5: wrong form\n",
     ),
 ];
 

@@ -4,10 +4,10 @@ use Rattle.std.specs.Option.{IsSomeAnd}
 use Rattle.std.proofs.lemmas.Option.{slice_get_within}
 use Rattle.rg_theory.specs.Net.{Place, Net, Marking, IsPlaceAt, tokens}
 use Rattle.rg_theory.specs.declared.Class.{Class}
-use Rattle.rg_theory.specs.Class.{IsPlaceInClass}
+use Rattle.rg_theory.specs.Class.{IsMultiple, IsPlaceInClass}
 use Rattle.rg_theory.proofs.Lists.{slice_get_some}
 use Rattle.rg_net.specs.declared.class_break.ClassBreak.{ClassBreak}
-use Rattle.rg_net.specs.declared.class_break.ClassBreak.TheVariants.{NotPure, NotPlain, Over, Branching}
+use Rattle.rg_net.specs.declared.class_break.ClassBreak.TheVariants.{NotPure, NotPlain, Over, Branching, NotMultiple}
 use Rattle.rg_net.specs.ClassBreaks.{AreInClass, IsBreak, IsBreakBefore, IsFirstBreak, place_of}
 use Rattle.rg_net.proofs.Placing.{placed_more}
 
@@ -19,6 +19,10 @@ pub record InClassBefore (net : Net) (markings : List Marking) (class : Class) (
 not_over : (bound : Option ℕ) (n : ℕ) → IsSomeAnd bound (λ k. k < n) → IfSome bound (λ k. n ≤ k) → ⊥
 not_over None n over most = over
 not_over (Some k) n over most = absurd (omega arith)
+
+not_multiple : (marking : Option ℕ) (start : ℕ) → IsSomeAnd marking (λ n. ¬ IsMultiple n start) → IfSome marking (λ n. IsMultiple n start) → ⊥
+not_multiple None start none all = none
+not_multiple (Some n) start none all = none all
 
 -- what is of the class has no break
 not_weights : (net : Net) (markings : List Marking) (class : Class) (a : ClassBreak) → ((p : Place) → IsPlaceAt net (place_of a) p → IsPlaceInClass class net.labels p)
@@ -32,6 +36,7 @@ not_weights net markings class (Over i s) fine within (m, at, lt, over) =
     not_over class.bound (tokens m i) over (within p place s m at)
 not_weights net markings class (Branching i t t') fine within (is, p, at, less, lt, takes, takes') =
     absurd (let same = (fine p at).nonbranching is t t' (omega arith) lt takes takes' in omega arith)
+not_weights net markings class (NotMultiple i) fine within (p, at, none) = not_multiple class.marking p.start none (fine p at).marking
 
 pub no_break : (net : Net) (markings : List Marking) (class : Class) (a : ClassBreak) → AreInClass net markings class → ¬ IsBreak net markings class a
 no_break net markings class a fine =

@@ -3,7 +3,7 @@ use Rattle.std.proofs.Common.{◌≡◌, ℕ, ◌<◌, ◌==◌, Bool, true, fal
 use Rattle.std.proofs.lemmas.Bool.Decides.{nat_tests}
 use Rattle.rg_theory.specs.declared.Class.{Class}
 use Rattle.rg_theory.specs.ClassWords.{conditions_of, word_of, comma_joined, class_text}
-use Rattle.rg_net.specs.ClassParts.{with_word, with_words, asked_words, bound_words}
+use Rattle.rg_net.specs.ClassParts.{with_word, with_words, asked_words, bound_words, marking_words}
 
 -- the bytes go on after a word
 pub longer_word : (text word more : List ℕ) → with_word text word ++ more ≡ with_word text (word ++ more)
@@ -15,28 +15,44 @@ with_words-append text [] ys = refl
 with_words-append text (x ∷ xs) ys = with_words-append (with_word text x) xs ys
 
 -- the words of a class, part by part
-abbrev parts : Bool → Bool → Option ℕ → Bool → List (List ℕ)
-parts pure plain bound nonbranching =
-    asked_words pure (codes "pure") ++ (asked_words plain (codes "plain") ++ (bound_words bound ++ asked_words nonbranching (codes "output-nonbranching")))
+abbrev parts : Bool → Bool → Option ℕ → Option ℕ → Bool → List (List ℕ)
+parts pure plain bound marking nonbranching =
+    asked_words pure (codes "pure") ++ (asked_words plain (codes "plain") ++ (bound_words bound ++ (marking_words marking ++ asked_words nonbranching (codes "output-nonbranching"))))
 
-same_words : (pure plain : Bool) (bound : Option ℕ) (nonbranching : Bool)
-    → map word_of (conditions_of (record { pure = pure; plain = plain; bound = bound; nonbranching = nonbranching })) ≡ parts pure plain bound nonbranching
-same_words true true (Some k) true = refl
-same_words true true (Some k) false = refl
-same_words true true None true = refl
-same_words true true None false = refl
-same_words true false (Some k) true = refl
-same_words true false (Some k) false = refl
-same_words true false None true = refl
-same_words true false None false = refl
-same_words false true (Some k) true = refl
-same_words false true (Some k) false = refl
-same_words false true None true = refl
-same_words false true None false = refl
-same_words false false (Some k) true = refl
-same_words false false (Some k) false = refl
-same_words false false None true = refl
-same_words false false None false = refl
+same_words : (pure plain : Bool) (bound marking : Option ℕ) (nonbranching : Bool)
+    → map word_of (conditions_of (record { pure = pure; plain = plain; bound = bound; marking = marking; nonbranching = nonbranching })) ≡ parts pure plain bound marking nonbranching
+same_words true true (Some k) (Some i) true = refl
+same_words true true (Some k) (Some i) false = refl
+same_words true true (Some k) None true = refl
+same_words true true (Some k) None false = refl
+same_words true true None (Some i) true = refl
+same_words true true None (Some i) false = refl
+same_words true true None None true = refl
+same_words true true None None false = refl
+same_words true false (Some k) (Some i) true = refl
+same_words true false (Some k) (Some i) false = refl
+same_words true false (Some k) None true = refl
+same_words true false (Some k) None false = refl
+same_words true false None (Some i) true = refl
+same_words true false None (Some i) false = refl
+same_words true false None None true = refl
+same_words true false None None false = refl
+same_words false true (Some k) (Some i) true = refl
+same_words false true (Some k) (Some i) false = refl
+same_words false true (Some k) None true = refl
+same_words false true (Some k) None false = refl
+same_words false true None (Some i) true = refl
+same_words false true None (Some i) false = refl
+same_words false true None None true = refl
+same_words false true None None false = refl
+same_words false false (Some k) (Some i) true = refl
+same_words false false (Some k) (Some i) false = refl
+same_words false false (Some k) None true = refl
+same_words false false (Some k) None false = refl
+same_words false false None (Some i) true = refl
+same_words false false None (Some i) false = refl
+same_words false false None None true = refl
+same_words false false None None false = refl
 
 -- a text after a word is joined by commas
 joined : (b : ℕ) (word : List ℕ) (more : List (List ℕ)) → with_words (b ∷ word) more ≡ comma_joined ((b ∷ word) ∷ more)
@@ -58,12 +74,21 @@ bound_begins k more = by (k == 1) (decimal k)
     by false [] = some _ _ _
     by false (d ∷ digits) = some d (digits ++ codes "-bounded") more
 
-parts_begin : (pure plain : Bool) (bound : Option ℕ) (nonbranching : Bool) → AreWords (parts pure plain bound nonbranching)
-parts_begin true plain bound nonbranching = some _ _ _
-parts_begin false true bound nonbranching = some _ _ _
-parts_begin false false (Some k) nonbranching = bound_begins k (asked_words nonbranching (codes "output-nonbranching"))
-parts_begin false false None true = some _ _ _
-parts_begin false false None false = none
+number_begins : (n : ℕ) (tail : List ℕ) (more : List (List ℕ)) → 0 < length tail → AreWords ((decimal n ++ tail) ∷ more)
+number_begins n tail more some_tail = by (decimal n) tail some_tail
+  where
+    by : (digits tail : List ℕ) → 0 < length tail → AreWords ((digits ++ tail) ∷ more)
+    by [] [] lt = absurd (omega arith)
+    by [] (c ∷ tail) lt = some c tail more
+    by (d ∷ digits) tail lt = some d (digits ++ tail) more
+
+parts_begin : (pure plain : Bool) (bound marking : Option ℕ) (nonbranching : Bool) → AreWords (parts pure plain bound marking nonbranching)
+parts_begin true plain bound marking nonbranching = some _ _ _
+parts_begin false true bound marking nonbranching = some _ _ _
+parts_begin false false (Some k) marking nonbranching = bound_begins k (marking_words marking ++ asked_words nonbranching (codes "output-nonbranching"))
+parts_begin false false None (Some n) nonbranching = number_begins n (codes "-marking") (asked_words nonbranching (codes "output-nonbranching")) (omega arith)
+parts_begin false false None None true = some _ _ _
+parts_begin false false None None false = none
 
 -- what is written of a text of words: `none` where there is no byte
 abbrev IsWritten : List (List ℕ) → List ℕ → Type 0
@@ -86,22 +111,25 @@ written _ (some b word more) =
     let is : text.0 ∷ text.1 ≡ comma_joined ((b ∷ word) ∷ more) = sym text.2 ∙ joined b word more in
     subst (IsWritten ((b ∷ word) ∷ more)) (sym text.2) (written_some text.0 text.1 ((b ∷ word) ∷ more) is)
 
--- the four steps make the words of the class
-pub four_steps : (class : Class) (t₀ t₁ t₂ t₃ t₄ : List ℕ) (n : ℕ) → n ≡ length t₄ → t₀ ≡ []
+-- the five steps make the words of the class
+pub five_steps : (class : Class) (t₀ t₁ t₂ t₃ t₄ t₅ : List ℕ) (n : ℕ) → n ≡ length t₅ → t₀ ≡ []
     → t₁ ≡ with_words t₀ (asked_words class.pure (codes "pure"))
     → t₂ ≡ with_words t₁ (asked_words class.plain (codes "plain"))
     → t₃ ≡ with_words t₂ (bound_words class.bound)
-    → t₄ ≡ with_words t₃ (asked_words class.nonbranching (codes "output-nonbranching"))
-    → (true ≡ (n == 0) → t₄ ++ codes "none" ≡ class_text class) × (false ≡ (n == 0) → t₄ ≡ class_text class)
-four_steps class t₀ t₁ t₂ t₃ t₄ n long e₀ e₁ e₂ e₃ e₄ =
+    → t₄ ≡ with_words t₃ (marking_words class.marking)
+    → t₅ ≡ with_words t₄ (asked_words class.nonbranching (codes "output-nonbranching"))
+    → (true ≡ (n == 0) → t₅ ++ codes "none" ≡ class_text class) × (false ≡ (n == 0) → t₅ ≡ class_text class)
+five_steps class t₀ t₁ t₂ t₃ t₄ t₅ n long e₀ e₁ e₂ e₃ e₄ e₅ =
     let a = asked_words class.pure (codes "pure") in
     let b = asked_words class.plain (codes "plain") in
     let c = bound_words class.bound in
-    let d = asked_words class.nonbranching (codes "output-nonbranching") in
-    let whole = parts class.pure class.plain class.bound class.nonbranching in
-    let all : t₄ ≡ with_words [] whole = e₄ ∙ ap (λ t. with_words t d) (e₃ ∙ ap (λ t. with_words t c) (e₂ ∙ ap (λ t. with_words t b) (e₁ ∙ ap (λ t. with_words t a) e₀)))
-    ∙ sym (with_words-append [] a (b ++ (c ++ d)) ∙ with_words-append (with_words [] a) b (c ++ d) ∙ with_words-append (with_words (with_words [] a) b) c d) in
-    subst (λ m. (true ≡ (m == 0) → t₄ ++ codes "none" ≡ class_text class) × (false ≡ (m == 0) → t₄ ≡ class_text class)) (sym long)
-    (subst (λ ws. IsWritten ws t₄)
-    (sym (same_words class.pure class.plain class.bound class.nonbranching))
-    (subst (IsWritten whole) (sym all) (written whole (parts_begin class.pure class.plain class.bound class.nonbranching))))
+    let d = marking_words class.marking in
+    let e = asked_words class.nonbranching (codes "output-nonbranching") in
+    let whole = parts class.pure class.plain class.bound class.marking class.nonbranching in
+    let all : t₅ ≡ with_words [] whole = e₅ ∙ ap (λ t. with_words t e) (e₄ ∙ ap (λ t. with_words t d) (e₃ ∙ ap (λ t. with_words t c) (e₂ ∙ ap (λ t. with_words t b) (e₁ ∙ ap (λ t. with_words t a) e₀))))
+    ∙ sym (with_words-append [] a (b ++ (c ++ (d ++ e))) ∙ with_words-append (with_words [] a) b (c ++ (d ++ e)) ∙ with_words-append (with_words (with_words [] a) b) c (d ++ e)
+    ∙ with_words-append (with_words (with_words (with_words [] a) b) c) d e) in
+    subst (λ m. (true ≡ (m == 0) → t₅ ++ codes "none" ≡ class_text class) × (false ≡ (m == 0) → t₅ ≡ class_text class)) (sym long)
+    (subst (λ ws. IsWritten ws t₅)
+    (sym (same_words class.pure class.plain class.bound class.marking class.nonbranching))
+    (subst (IsWritten whole) (sym all) (written whole (parts_begin class.pure class.plain class.bound class.marking class.nonbranching))))

@@ -4,6 +4,7 @@ mod Lines
 mod Told
 mod Free
 mod ClassTexts
+mod Multiples
 pub mod Placing
 mod Moving
 pub mod Rows

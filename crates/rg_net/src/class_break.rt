@@ -7,7 +7,7 @@ ghost use Rattle.rg_net.specs.Shown.{shown_place};
 ghost use Rattle.rg_net.specs.ClassBreaks.{AreInClass, IsFirstBreak, IsBreak, IsBreakBefore, shown_markings, place_of};
 
 use crate::net::{Net, Place};
-use crate::weights::{first_heavy, first_impure, first_over, first_two_takers};
+use crate::weights::{first_heavy, first_impure, first_over, first_two_takers, is_multiple};
 use rg_theory::Class;
 
 /// What keeps a net from being of a class: a place, by its number, and the labels or the marking that show it.
@@ -21,12 +21,14 @@ pub enum ClassBreak {
     Over(u32, u32),
     /// The two least labels that take from the place, in order.
     Branching(u32, u32, u32),
+    /// The place's start number isn't a multiple of the class's marking.
+    NotMultiple(u32),
 }
 
 /// Whether the net is of the class as far as these markings show, each with one number for each place: every place
 /// meets the conditions on weights, and has in none of the markings more tokens than the bound. If not, the first
-/// break: by place, then pure, plain, the bound and nonbranching in this order, then by the other numbers. It takes no
-/// memory.
+/// break: by place, then pure, plain, the bound, nonbranching and the marking in this order, then by the other numbers. It
+/// takes no memory.
 pub fn in_class(net: &Net, markings: &[Vec<u128>], class: Class) -> Result<(), ClassBreak>
     requires places { All (λ m. length m ≡ length net.now.places) (shown_markings markings.now) }
     requires few { length markings.now < 4294967296 }
@@ -78,6 +80,11 @@ fn first_at(
         && let Some((t, u)) = first_two_takers(net.labels(), place)
     {
         return Some(ClassBreak::Branching(i, t, u));
+    }
+    if let Some(n) = class.marking
+        && !is_multiple(n, place.start)
+    {
+        return Some(ClassBreak::NotMultiple(i));
     }
     None
 }

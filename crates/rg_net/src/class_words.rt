@@ -1,7 +1,7 @@
 //! The text of a class.
-ghost use Rattle.std.specs.Prelude.{◌≡◌, ◌≢◌, IfOk, OnOk};
-ghost use Rattle.rg_theory.specs.ClassWords.{class_text, bounded_word};
-ghost use Rattle.rg_net.specs.ClassParts.{with_word, with_words, asked_words, bound_words};
+ghost use Rattle.std.specs.Prelude.{◌≡◌, ◌++◌, decimal, IfOk, OnOk};
+ghost use Rattle.rg_theory.specs.ClassWords.{class_text};
+ghost use Rattle.rg_net.specs.ClassParts.{with_word, with_words, asked_words, bound_words, marking_words};
 
 use itoa::Buffer;
 use rg_memory::NoMemory;
@@ -9,7 +9,7 @@ use rg_theory::Class;
 use std::alloc::Global;
 
 /// The one text with which a class is written: `none`, or the words of its conditions with commas between, in the
-/// order `pure`, `plain`, `safe` or `N-bounded`, `output-nonbranching`. `NoMemory` where it doesn't fit into memory.
+/// order `pure`, `plain`, `safe` or `N-bounded`, `N-marking`, `output-nonbranching`. `NoMemory` where it doesn't fit into memory.
 pub fn class_text(alloc: Global, class: Class) -> Result<Vec<u8>, NoMemory>
     ensures { IfOk result (λ text. text.items ≡ class_text class) }
 {
@@ -17,6 +17,7 @@ pub fn class_text(alloc: Global, class: Class) -> Result<Vec<u8>, NoMemory>
     push_if(&mut text, class.pure, b"pure")?;
     push_if(&mut text, class.plain, b"plain")?;
     push_bound(&mut text, class.bound)?;
+    push_marking(&mut text, class.marking)?;
     push_if(&mut text, class.nonbranching, b"output-nonbranching")?;
     if text.is_empty() {
         text.extend_from_slice(b"none")?;
@@ -42,18 +43,27 @@ fn push_bound(text: &mut Vec<u8>, bound: Option<u8>) -> Result<(), NoMemory>
     match bound {
         None => Ok(()),
         Some(1) => push_word(text, b"safe"),
-        Some(k) => push_number(text, k),
+        Some(k) => push_number(text, k, b"-bounded"),
     }
 }
 
-// The word of a bound that isn't 1.
-fn push_number(text: &mut Vec<u8>, k: u8) -> Result<(), NoMemory>
-    requires { k ≢ 1 }
-    ensures { OnOk result (text.new.items ≡ with_word text.old.items (bounded_word k)) }
+// The word of the marking, where there is one.
+fn push_marking(text: &mut Vec<u8>, marking: Option<u8>) -> Result<(), NoMemory>
+    ensures { OnOk result (text.new.items ≡ with_words text.old.items (marking_words marking)) }
+{
+    match marking {
+        None => Ok(()),
+        Some(n) => push_number(text, n, b"-marking"),
+    }
+}
+
+// A number and its tail.
+fn push_number(text: &mut Vec<u8>, number: u8, tail: &[u8]) -> Result<(), NoMemory>
+    ensures { OnOk result (text.new.items ≡ with_word text.old.items (decimal number ++ tail.now)) }
 {
     let mut buffer = Buffer::new();
-    push_word(text, buffer.format(k).as_bytes())?;
-    text.extend_from_slice(b"-bounded")?;
+    push_word(text, buffer.format(number).as_bytes())?;
+    text.extend_from_slice(tail)?;
     Ok(())
 }
 

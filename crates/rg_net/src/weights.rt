@@ -1,7 +1,7 @@
-//! The first labels, and the first marking, that show that a place isn't of a class.
-ghost use Rattle.std.specs.Prelude.{◌≡◌, ◌⊎◌, ℕ, ◌<◌, ◌≤◌, length, All, Some, IfSome, IfNone, slice_get};
+//! The first labels, and the first marking, that show that a place isn't of a class, and its start.
+ghost use Rattle.std.specs.Prelude.{◌≡◌, ◌⊎◌, ◌↔◌, ℕ, ◌<◌, ◌≤◌, length, All, Some, IfSome, IfNone, IsTrue, slice_get};
 ghost use Rattle.rg_theory.specs.Net.{Marking, pre_weight, post_weight, tokens};
-ghost use Rattle.rg_theory.specs.Class.{IsPure, IsPlain, IsNonbranching};
+ghost use Rattle.rg_theory.specs.Class.{IsPure, IsPlain, IsNonbranching, IsMultiple};
 ghost use Rattle.rg_net.specs.Shown.{shown_place};
 ghost use Rattle.rg_net.specs.ClassBreaks.{shown_markings};
 
@@ -80,4 +80,14 @@ fn first_taker(labels: u32, place: &Place, from: u32) -> Option<u32>
         }
     }
     None
+}
+
+// Whether the number is so many times n.
+pub(crate) fn is_multiple(n: u8, number: u128) -> bool
+    ensures { IsTrue result ↔ IsMultiple n number }
+{
+    if n == 0 {
+        return number == 0;
+    }
+    number % u128::from(n) == 0
 }

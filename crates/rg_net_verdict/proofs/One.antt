@@ -15,7 +15,7 @@ use Rattle.rg_fraction.specs.declared.term.Wide.{Wide}
 use Rattle.std.proofs.lemmas.List.FromFn.{length-map-range_with_len, get_or-map-range_with_len}
 use Rattle.rg_net.specs.Firing.{left_on, StaysInRange}
 use Rattle.rg_net.specs.declared.class_break.ClassBreak.{ClassBreak}
-use Rattle.rg_net.specs.declared.class_break.ClassBreak.TheVariants.{NotPure, NotPlain, Over, Branching}
+use Rattle.rg_net.specs.declared.class_break.ClassBreak.TheVariants.{NotPure, NotPlain, Over, Branching, NotMultiple}
 use Rattle.rg_net.specs.ClassBreaks.{AreInClass, IsBreak, IsFirstBreak, IsBreakBefore, place_of, kind_of, first_of, second_of}
 use Rattle.rg_net.proofs.Breaking.{no_break}
 use Rattle.rg_net_verdict.specs.declared.verdict.CheckWide.{CheckWide}
@@ -225,6 +225,15 @@ equal_breaks (Over i t) (Branching j u u') p k e f = absurd (apart 2 3 (lit< tt)
 equal_breaks (Branching i t t') (NotPure j u) p k e f = absurd (apart' 3 0 (lit< tt) k)
 equal_breaks (Branching i t t') (NotPlain j u) p k e f = absurd (apart' 3 1 (lit< tt) k)
 equal_breaks (Branching i t t') (Over j u) p k e f = absurd (apart' 3 2 (lit< tt) k)
+equal_breaks (NotMultiple i) (NotMultiple j) p k e f = ap NotMultiple p
+equal_breaks (NotPure i t) (NotMultiple j) p k e f = absurd (apart 0 4 (lit< tt) k)
+equal_breaks (NotMultiple i) (NotPure j u) p k e f = absurd (apart' 4 0 (lit< tt) k)
+equal_breaks (NotPlain i t) (NotMultiple j) p k e f = absurd (apart 1 4 (lit< tt) k)
+equal_breaks (NotMultiple i) (NotPlain j u) p k e f = absurd (apart' 4 1 (lit< tt) k)
+equal_breaks (Over i t) (NotMultiple j) p k e f = absurd (apart 2 4 (lit< tt) k)
+equal_breaks (NotMultiple i) (Over j u) p k e f = absurd (apart' 4 2 (lit< tt) k)
+equal_breaks (Branching i t t') (NotMultiple j) p k e f = absurd (apart 3 4 (lit< tt) k)
+equal_breaks (NotMultiple i) (Branching j u u') p k e f = absurd (apart' 4 3 (lit< tt) k)
 
 trichotomy : (m n : ℕ) → (m < n) ⊎ ((n < m) ⊎ (m ≡ n))
 trichotomy m n = ⊎_elim (λ less. inl less) (λ more. ⊎_elim (λ less. inr (inl less)) (λ most. inr (inr (omega arith))) (cases_lt n m)) (cases_lt m n)

@@ -9,7 +9,7 @@ use Rattle.rg_theory.specs.declared.Class.{Class}
 use Rattle.rg_theory.specs.System.{System, states, labels, HasArc, IsInRange, IsAllReachable, IsForkFree}
 use Rattle.rg_theory.specs.Net.{Place, Net, Marking, IsPlaceAt, tokens, IsEnabled, Fires, FiresAll, Reached, start_marking}
 use Rattle.rg_theory.specs.Solves.{Solves, LeadsToMarking, marking_of}
-use Rattle.rg_theory.specs.Class.{IsBounded, InClass}
+use Rattle.rg_theory.specs.Class.{IsMultiple, IsBounded, InClass}
 use Rattle.rg_theory.specs.Tree.{IsTree, way_to}
 use Rattle.rg_theory.proofs.Arcs.{arc_in_range}
 use Rattle.rg_theory.proofs.Firing.{fires_enabled}
@@ -18,7 +18,7 @@ use Rattle.rg_theory.proofs.Trees.{tree_arcs, way_leads, way_of_initial}
 use Rattle.rg_theory.proofs.Solution.{solution_of, solved_all_reachable, solved_no_fork, solved_marking}
 use Rattle.rg_theory.proofs.Judge.{solved_by_steps, not_enabled_refutes, same_marking_refutes, enabled_refutes, wrong_step_refutes}
 use Rattle.rg_net.specs.declared.class_break.ClassBreak.{ClassBreak}
-use Rattle.rg_net.specs.declared.class_break.ClassBreak.TheVariants.{NotPure, NotPlain, Over, Branching}
+use Rattle.rg_net.specs.declared.class_break.ClassBreak.TheVariants.{NotPure, NotPlain, Over, Branching, NotMultiple}
 use Rattle.rg_net.specs.ClassBreaks.{AreInClass, IsBreak}
 use Rattle.rg_net_verdict.specs.declared.verdict.NetVerdict.TheVariants.{Yes, No}
 use Rattle.rg_net_verdict.specs.declared.verdict.NetNo.{NetNo}
@@ -97,6 +97,11 @@ module _ (lts : System) (net : Net) (tree : List Arc) (is : IsTree lts tree) (re
         by : (bound : Option ℕ) → IfSome bound (IsBounded net) → IsSomeAnd bound (λ k. k < tokens m i) → ⊥
         by None all passes' = passes'
         by (Some k) all passes' = absurd (let (p, at') = slice_get_some net.places i lt in let small = all m reached i p at' in omega arith)
+    break_refutes class (NotMultiple i) (p, at', breaks) inside = by class.marking breaks (inside.weights i p at').marking
+      where
+        by : (marking : Option ℕ) → IsSomeAnd marking (λ n. ¬ IsMultiple n p.start) → IfSome marking (λ n. IsMultiple n p.start) → ⊥
+        by None breaks' allows = breaks'
+        by (Some n) breaks' allows = breaks' allows
     break_refutes class (Branching i t t') (is, p, at', less, lt, takes, takes') inside = absurd (let e = (inside.weights i p at').nonbranching is t t' (omega arith) lt takes takes' in omega arith)
 
 pub yes_is_sound : (lts : System) (net : Net) (class : Class) → IsInRange lts → net.labels ≡ labels lts → IsVerdict lts net class (Ok Yes) → Solves net lts × InClass net class

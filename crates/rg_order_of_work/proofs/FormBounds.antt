@@ -1,29 +1,31 @@
 -- The forms of a case lie between their bounds wherever its rows are met.
-use Rattle.std.proofs.Common.{◌≡◌, ⊎_elim, ℕ, ◌<◌, is_some, unwrap_or, Bool, true, false, if◌then◌else◌, List, [], ◌∷◌, length, map, Ok, Contains, sym, ap, subst, ◌∙◌, arith}
-use Rattle.std.specs.Prelude.{ℤ, pos, negsuc, ◌+ℤ◌, ◌*ℤ◌, ◌<ℤ◌, ◌≤ℤ◌}
+use Rattle.std.proofs.Common.{◌≡◌, ◌⊎◌, inl, inr, refl, ℕ, ◌<◌, is_some, unwrap_or, Option, Some, None, true, false, List, [], ◌∷◌, length, Ok, Contains, sym, ap, subst, ◌∙◌, arith}
+use Rattle.std.specs.Prelude.{ℤ, pos, negsuc, ◌+ℤ◌, ◌-ℤ◌, ◌*ℤ◌, ◌<ℤ◌, ◌≤ℤ◌}
 use Rattle.std.proofs.lemmas.Int.{ints, by_lt_z}
-use Rattle.std.proofs.lemmas.Bool.{true≢false}
+use Rattle.std.proofs.lemmas.Bool.{true≢false, cases_Bool}
 use Rattle.rg_theory.specs.declared.Arc.{Arc}
 use Rattle.rg_theory.specs.declared.Class.{Class}
 use Rattle.rg_theory.specs.declared.Problem.{Problem}
 use Rattle.rg_theory.specs.declared.Problem.TheVariants.{Event, States}
 use Rattle.rg_theory.specs.System.{System, states, labels}
 use Rattle.rg_integers.proofs.Ring.{ring}
-use Rattle.rg_integers.proofs.Order.{mul_positive}
+use Rattle.rg_integers.proofs.Order.{mul_positive, mul_not_negative, factor_not_negative}
 use Rattle.rg_linear.specs.System.{IsPoint, MeetsRows}
 use Rattle.rg_linear.specs.Branching.{Form, form_at, scaled_value, AreBounded}
 use Rattle.rg_linear.specs.Cycle.{CycleBasis}
 use Rattle.rg_linear.proofs.Branches.{positive_times_less, positive_times_most}
 use Rattle.rg_refuting.specs.Expression.{Variable, Variable.tokens_at, Variable.effect_of, plus}
-use Rattle.rg_refuting.specs.Row.{Form as SplitForm, Form.on_tokens, Form.on_effect, form_variable, RowName.tokens_row, RowName.cap_row, RowName.up_row, RowName.down_row}
-use Rattle.rg_order_of_work.specs.Rewriting.{has_label, has_start, split_forms, form_fold, form_low, form_high, CaseSystem, rows_of, used_labels, all_numbers}
+use Rattle.rg_refuting.specs.Row.{Form as SplitForm, Form.on_tokens, Form.on_effect, Form.on_start, form_variable, step_of, RowName.tokens_row, RowName.cap_row, RowName.up_row, RowName.down_row}
+use Rattle.rg_order_of_work.specs.Rewriting.{splits_start, split_forms, form_fold, form_low, form_high, CaseSystem, rows_of}
 use Rattle.rg_order_of_work.specs.Values.{NamesLabels, numbers_along}
 use Rattle.rg_order_of_work.specs.Meaning.{IsCaseOver, KeepsRowsOver}
-use Rattle.rg_order_of_work.proofs.Lists.{where_is, of_if, of_optional, Contains-of_map}
 use Rattle.rg_order_of_work.proofs.CaseMeaning.{start_means}
 use Rattle.rg_order_of_work.proofs.PointEffects.{point_gives}
 use Rattle.rg_order_of_work.proofs.Points.{point_meets}
-use Rattle.rg_order_of_work.proofs.Forms.{form_there, form_positive, form_value, point_form, start_of_bound, start_of_plain}
+use Rattle.rg_order_of_work.proofs.Forms.{form_there, form_positive, form_value, point_form, step_positive, IsSplitOf, split_is, split_starts, start_split}
+use Rattle.rg_order_of_work.proofs.Along.{number_at_first}
+use Rattle.rg_order_of_work.proofs.StartBounds.{start_bounded}
+use Rattle.rg_refuting.specs.Refutes.{IsSeparationProblem}
 
 -- the bounds of a variable are those of its form
 bounds_of : (t s f z v low high : ℤ) → pos 0 <ℤ t → pos 0 <ℤ f → f *ℤ z ≡ t *ℤ v → (low *ℤ (t *ℤ s)) ≤ℤ z → z ≤ℤ (high *ℤ (t *ℤ s)) → ((low *ℤ (f *ℤ s)) ≤ℤ v) × (v ≤ℤ (high *ℤ (f *ℤ s)))
@@ -41,41 +43,131 @@ bounds_of t s f z v low high ht hf e below above = (
     turn : (f a t s : ℤ) → f *ℤ (a *ℤ (t *ℤ s)) ≡ t *ℤ (a *ℤ (f *ℤ s))
     turn f a t s = simp ring
 
+-- by steps, where the least is 0
+start_bounds : (n : ℕ) (t s f z v high : ℤ) → 0 < n → pos 0 <ℤ t → pos 0 <ℤ f → f *ℤ z ≡ pos n *ℤ (t *ℤ v) → (pos 0 *ℤ (t *ℤ s)) ≤ℤ z → z ≤ℤ (high *ℤ (t *ℤ s)) → ((pos 0 *ℤ (f *ℤ s)) ≤ℤ v) × (v ≤ℤ (high *ℤ (f *ℤ s)))
+start_bounds n t s f z v high some ht hf e below above = (from_zero (f *ℤ s) v low, subst (λ w. w ≤ℤ (high *ℤ (f *ℤ s))) refl (of_times t v (high *ℤ (f *ℤ s)) ht most))
+  where
+    from_zero : (a v : ℤ) → pos 0 ≤ℤ v → (pos 0 *ℤ a) ≤ℤ v
+    from_zero a v h = omega (arith, ints)
+
+    to_zero : (a z : ℤ) → (pos 0 *ℤ a) ≤ℤ z → pos 0 ≤ℤ z
+    to_zero a z h = omega (arith, ints)
+
+    weak : (z : ℤ) → pos 0 <ℤ z → pos 0 ≤ℤ z
+    weak z h = omega (arith, ints)
+
+    positive : (n : ℕ) → 0 < n → pos 0 <ℤ pos n
+    positive n h = omega (arith, ints)
+
+    many : pos 0 ≤ℤ (pos n *ℤ (t *ℤ v))
+    many = subst (λ w. pos 0 ≤ℤ w) e (mul_not_negative f z (weak f hf) (to_zero (t *ℤ s) z below))
+
+    one_time : pos 0 ≤ℤ (t *ℤ v)
+    one_time = factor_not_negative (pos n) (t *ℤ v) (positive n some) many
+
+    low : pos 0 ≤ℤ v
+    low = factor_not_negative t v ht one_time
+
+    more : (n : ℕ) (w : ℤ) → 0 < n → pos 0 ≤ℤ w → w ≤ℤ (pos n *ℤ w)
+    more n w some h = let d = mul_not_negative (pos n -ℤ pos 1) w (less n some) h in let is : (pos n -ℤ pos 1) *ℤ w ≡ (pos n *ℤ w) -ℤ w = simp ring (omega (arith, ints)) in omega (arith, ints)
+      where
+        less : (n : ℕ) → 0 < n → pos 0 ≤ℤ (pos n -ℤ pos 1)
+        less n h = omega (arith, ints)
+
+    turn : (f a t s : ℤ) → f *ℤ (a *ℤ (t *ℤ s)) ≡ t *ℤ (a *ℤ (f *ℤ s))
+    turn f a t s = simp ring
+
+    chain : (a b c d : ℤ) → a ≤ℤ b → b ≡ c → c ≤ℤ d → a ≤ℤ d
+    chain a b c d h g k = omega (arith, ints)
+
+    most : (t *ℤ v) ≤ℤ (t *ℤ (high *ℤ (f *ℤ s)))
+    most = subst (λ w. (t *ℤ v) ≤ℤ w) (turn f high t s) (chain (t *ℤ v) (pos n *ℤ (t *ℤ v)) (f *ℤ z) (f *ℤ (high *ℤ (t *ℤ s))) (more n (t *ℤ v) some one_time) (sym e) (positive_times_most f z (high *ℤ (t *ℤ s)) hf above))
+
+    of_times : (k a b : ℤ) → pos 0 <ℤ k → (k *ℤ a) ≤ℤ (k *ℤ b) → a ≤ℤ b
+    of_times k a b h g = by_lt_z b a (λ less. (let m = positive_times_less k b a h less in absurd (omega (arith, ints)))) (λ most. most)
+
 module _ (lts : System) (tree : List Arc) (basis : CycleBasis) (class : Class) (problem : Problem) (n : ℕ) (case : CaseSystem) (c : IsCaseOver lts tree basis class problem n case) where
   -- the rows bound a variable that has a form
-  variable_bounds : (k : ℤ) (x : Variable → ℤ) (split : SplitForm) → KeepsRowsOver lts class problem n k x → Contains (split_forms lts class) split → ((form_low class *ℤ k) ≤ℤ x (form_variable lts.initial split)) × (x (form_variable lts.initial split) ≤ℤ (form_high class *ℤ k))
-  variable_bounds k x split keeps has = ⊎_elim
-      (λ (bound, tokens). (let (q, at, is) = Contains-of_map on_tokens (all_numbers (states lts)) split tokens in
-      let lt = (where_is (λ q. true) 0 (states lts) q at).2 in
-      subst (λ w. ((form_low class *ℤ k) ≤ℤ x (form_variable lts.initial w)) × (x (form_variable lts.initial w) ≤ℤ (form_high class *ℤ k))) is (by_tokens problem keeps q bound (omega arith))))
-      (λ (bound, rest). (let (plain, effects) = of_optional class.plain (map on_effect (used_labels lts)) split rest in
-      let (t, at, is) = Contains-of_map on_effect (used_labels lts) split effects in
-      let lt = (where_is (λ t. has_label t lts.arcs) 0 (labels lts) t at).2 in
-      subst (λ w. ((form_low class *ℤ k) ≤ℤ x (form_variable lts.initial w)) × (x (form_variable lts.initial w) ≤ℤ (form_high class *ℤ k))) is (by_effect problem keeps t bound plain (omega arith))))
-      (of_if (is_some class.bound) (map on_tokens (all_numbers (states lts))) (if class.plain then map on_effect (used_labels lts) else []) split has)
+  variable_bounds : (k start : ℤ) (effect : ℕ → ℤ) (split : SplitForm) → pos 0 ≤ℤ k → KeepsRowsOver lts class problem n k (numbers_along lts tree start effect) → IsSplitOf lts class problem split → ((form_low split *ℤ k) ≤ℤ numbers_along lts tree start effect (form_variable lts.initial split)) × (numbers_along lts tree start effect (form_variable lts.initial split) ≤ℤ (form_high lts class split *ℤ k))
+  variable_bounds k start effect split scale keeps is = by split is
     where
-      tokens_both : (z b : ℤ) (o : Bool) → o ≡ true → pos 0 ≤ℤ (((pos 1 *ℤ z) +ℤ pos 0) +ℤ (pos 0 *ℤ k)) → pos 0 ≤ℤ (((negsuc 0 *ℤ z) +ℤ pos 0) +ℤ (b *ℤ k)) → (((if o then pos 0 else negsuc 0) *ℤ k) ≤ℤ z) × (z ≤ℤ ((if o then b else pos 1) *ℤ k))
-      tokens_both z b true e h g = (omega (arith, ints), omega (arith, ints))
-      tokens_both z b false e h g = absurd (true≢false (sym e))
+      x : Variable → ℤ
+      x = numbers_along lts tree start effect
 
-      effect_both : (z b : ℤ) (o : Bool) → o ≡ false → pos 0 ≤ℤ (((negsuc 0 *ℤ z) +ℤ pos 0) +ℤ (pos 1 *ℤ k)) → pos 0 ≤ℤ (((pos 1 *ℤ z) +ℤ pos 0) +ℤ (pos 1 *ℤ k)) → (((if o then pos 0 else negsuc 0) *ℤ k) ≤ℤ z) × (z ≤ℤ ((if o then b else pos 1) *ℤ k))
-      effect_both z b true e h g = absurd (true≢false e)
-      effect_both z b false e h g = (omega (arith, ints), omega (arith, ints))
+      tokens_low : (z : ℤ) → pos 0 ≤ℤ (((pos 1 *ℤ z) +ℤ pos 0) +ℤ (pos 0 *ℤ k)) → (pos 0 *ℤ k) ≤ℤ z
+      tokens_low z h = omega (arith, ints)
 
-      by_tokens : (p : Problem) → KeepsRowsOver lts class p n k x → (q : ℕ) → is_some class.bound ≡ true → q < states lts → ((form_low class *ℤ k) ≤ℤ x (tokens_at q)) × (x (tokens_at q) ≤ℤ (form_high class *ℤ k))
-      by_tokens (Event s t) kept q bound lt = tokens_both (x (tokens_at q)) (pos (unwrap_or class.bound 0)) (is_some class.bound) bound (kept (tokens_row q) tt) (kept (cap_row q) (lt, bound))
-      by_tokens (States s s') kept q bound lt = tokens_both (x (tokens_at q)) (pos (unwrap_or class.bound 0)) (is_some class.bound) bound (kept (tokens_row q) tt) (kept (cap_row q) (lt, bound))
+      tokens_high : (z b : ℤ) → pos 0 ≤ℤ (((negsuc 0 *ℤ z) +ℤ pos 0) +ℤ (b *ℤ k)) → z ≤ℤ (b *ℤ k)
+      tokens_high z b h = omega (arith, ints)
 
-      by_effect : (p : Problem) → KeepsRowsOver lts class p n k x → (t : ℕ) → is_some class.bound ≡ false → class.plain ≡ true → t < labels lts → ((form_low class *ℤ k) ≤ℤ x (effect_of t)) × (x (effect_of t) ≤ℤ (form_high class *ℤ k))
-      by_effect (Event s u) kept t bound plain lt = effect_both (x (effect_of t)) (pos (unwrap_or class.bound 0)) (is_some class.bound) bound (kept (up_row t) (lt, plain)) (kept (down_row t) (lt, plain))
-      by_effect (States s s') kept t bound plain lt = effect_both (x (effect_of t)) (pos (unwrap_or class.bound 0)) (is_some class.bound) bound (kept (up_row t) (lt, plain)) (kept (down_row t) (lt, plain))
+      effect_both : (z : ℤ) → pos 0 ≤ℤ (((negsuc 0 *ℤ z) +ℤ pos 0) +ℤ (pos 1 *ℤ k)) → pos 0 ≤ℤ (((pos 1 *ℤ z) +ℤ pos 0) +ℤ (pos 1 *ℤ k)) → ((negsuc 0 *ℤ k) ≤ℤ z) × (z ≤ℤ (pos 1 *ℤ k))
+      effect_both z h g = (omega (arith, ints), omega (arith, ints))
 
-  -- a class with a form has Start
-  starts : (split : SplitForm) → Contains (split_forms lts class) split → has_start class ≡ true
-  starts split has = ⊎_elim
-      (λ (bound, tokens). start_of_bound class bound)
-      (λ (bound, rest). start_of_plain class (of_optional class.plain (map on_effect (used_labels lts)) split rest).0)
-      (of_if (is_some class.bound) (map on_tokens (all_numbers (states lts))) (if class.plain then map on_effect (used_labels lts) else []) split has)
+      by_low : (p : Problem) → KeepsRowsOver lts class p n k x → (q : ℕ) → (pos 0 *ℤ k) ≤ℤ x (tokens_at q)
+      by_low (Event s t) kept q = tokens_low (x (tokens_at q)) (kept (tokens_row q) tt)
+      by_low (States s s') kept q = tokens_low (x (tokens_at q)) (kept (tokens_row q) tt)
+
+      by_high : (p : Problem) → KeepsRowsOver lts class p n k x → (q : ℕ) → is_some class.bound ≡ true → q < states lts → x (tokens_at q) ≤ℤ (pos (unwrap_or class.bound 0) *ℤ k)
+      by_high (Event s t) kept q bound lt = tokens_high (x (tokens_at q)) (pos (unwrap_or class.bound 0)) (kept (cap_row q) (lt, bound))
+      by_high (States s s') kept q bound lt = tokens_high (x (tokens_at q)) (pos (unwrap_or class.bound 0)) (kept (cap_row q) (lt, bound))
+
+      by_effect : (p : Problem) → KeepsRowsOver lts class p n k x → (t : ℕ) → class.plain ≡ true → t < labels lts → ((negsuc 0 *ℤ k) ≤ℤ x (effect_of t)) × (x (effect_of t) ≤ℤ (pos 1 *ℤ k))
+      by_effect (Event s u) kept t plain lt = effect_both (x (effect_of t)) (kept (up_row t) (lt, plain)) (kept (down_row t) (lt, plain))
+      by_effect (States s s') kept t plain lt = effect_both (x (effect_of t)) (kept (up_row t) (lt, plain)) (kept (down_row t) (lt, plain))
+
+      -- the bound of the start
+      of_bound : is_some class.bound ≡ true → pos (unwrap_or class.bound 0) ≡ pos (unwrap_or class.bound (states lts))
+      of_bound e = go class.bound e
+        where
+          go : (o : Option ℕ) → is_some o ≡ true → pos (unwrap_or o 0) ≡ pos (unwrap_or o (states lts))
+          go None e = absurd (true≢false (sym e))
+          go (Some b) e = refl
+
+      of_none : is_some class.bound ≡ false → pos (states lts) ≡ pos (unwrap_or class.bound (states lts))
+      of_none e = go class.bound e
+        where
+          go : (o : Option ℕ) → is_some o ≡ false → pos (states lts) ≡ pos (unwrap_or o (states lts))
+          go None e = refl
+          go (Some b) e = absurd (true≢false e)
+
+      from_first : (z s b : ℤ) → z ≡ s → s ≤ℤ (b *ℤ k) → z ≤ℤ (b *ℤ k)
+      from_first z s b e h = omega (arith, ints)
+
+      by_event : (p : Problem) → IsSeparationProblem lts p → KeepsRowsOver lts class p n k x → class.plain ≡ true → (s t : ℕ) → p ≡ Event s t → x (tokens_at lts.initial) ≤ℤ (pos (states lts) *ℤ k)
+      by_event (Event s t) asked kept plain s' t' same = from_first (x (tokens_at lts.initial)) start (pos (states lts)) (number_at_first lts tree start effect c.is_tree) (start_bounded lts tree class s t n k start effect c.in_range c.is_tree (c.reachable.each s asked.0) asked.1 plain scale kept)
+      by_event (States s s') asked kept plain s'' t' same = absurd (is_event (States s s') (Event s'' t') same tt)
+        where
+          IsStates : Problem → Type 0
+          IsStates (Event s t) = ⊥
+          IsStates (States s s') = Unit {0}
+
+          is_event : (a b : Problem) → a ≡ b → IsStates a → IsStates b
+          is_event a b e h = subst IsStates e h
+
+      start_high : splits_start class problem ≡ true → x (tokens_at lts.initial) ≤ℤ (pos (unwrap_or class.bound (states lts)) *ℤ k)
+      start_high splits = by_cases (cases_Bool (is_some class.bound)) (start_split class problem splits).1
+        where
+          by_cases : (is_some class.bound ≡ true) ⊎ (is_some class.bound ≡ false) → (is_some class.bound ≡ true) ⊎ ((class.plain ≡ true) × ((s : ℕ) × (t : ℕ) × (problem ≡ Event s t))) → x (tokens_at lts.initial) ≤ℤ (pos (unwrap_or class.bound (states lts)) *ℤ k)
+          by_cases (inl bound) _ = subst (λ b. x (tokens_at lts.initial) ≤ℤ (b *ℤ k)) (of_bound bound) (by_high problem keeps lts.initial bound c.in_range.initial)
+          by_cases (inr none) (inl bound) = absurd (true≢false (sym bound ∙ none))
+          by_cases (inr none) (inr (plain, (s, t, same))) = subst (λ b. x (tokens_at lts.initial) ≤ℤ (b *ℤ k)) (of_none none) (by_event problem c.asked keeps plain s t same)
+
+      by : (split : SplitForm) → IsSplitOf lts class problem split → ((form_low split *ℤ k) ≤ℤ x (form_variable lts.initial split)) × (x (form_variable lts.initial split) ≤ℤ (form_high lts class split *ℤ k))
+      by (on_tokens q) (bound, lt) = (by_low problem keeps q, by_high problem keeps q bound lt)
+      by (on_effect t) (bound, plain, used, lt) = by_effect problem keeps t plain lt
+      by on_start splits = (by_low problem keeps lts.initial, start_high splits)
+
+  -- the bounds of the variable are those of its form, by steps of any number where the least is 0
+  form_bounds : (split : SplitForm) (t s f z v high : ℤ) → pos 0 <ℤ t → pos 0 <ℤ f → f *ℤ z ≡ pos (step_of class split) *ℤ (t *ℤ v) → (form_low split *ℤ (t *ℤ s)) ≤ℤ z → z ≤ℤ (high *ℤ (t *ℤ s)) → ((form_low split *ℤ (f *ℤ s)) ≤ℤ v) × (v ≤ℤ (high *ℤ (f *ℤ s)))
+  form_bounds (on_tokens q) t s f z v high ht hf e below above = bounds_of t s f z v (pos 0) high ht hf (e ∙ one (t *ℤ v)) below above
+    where
+      one : (z : ℤ) → pos 1 *ℤ z ≡ z
+      one z = omega (arith, ints)
+  form_bounds (on_effect u) t s f z v high ht hf e below above = bounds_of t s f z v (negsuc 0) high ht hf (e ∙ one (t *ℤ v)) below above
+    where
+      one : (z : ℤ) → pos 1 *ℤ z ≡ z
+      one z = omega (arith, ints)
+  form_bounds on_start t s f z v high ht hf e below above = start_bounds (step_of class on_start) t s f z v high (step_positive class on_start c.numbers) ht hf e below above
 
   pub forms_bounded : AreBounded (rows_of case) case.forms
   forms_bounded = record {
@@ -83,23 +175,27 @@ module _ (lts : System) (tree : List Arc) (basis : CycleBasis) (class : Class) (
     between = λ f scale x lt p meets. between f scale x lt p meets (form_there lts tree basis class problem n case f c.is_case lt);
   }
     where
-      between : (f : ℕ) (scale : ℤ) (x : ℕ → ℤ) → f < length case.forms → IsPoint (rows_of case) scale x → MeetsRows (rows_of case) x → (split : SplitForm) × NamesLabels (labels lts) (plus (form_variable lts.initial split) ∷ []) × Contains (split_forms lts class) split × form_fold lts tree basis class split (Ok (form_at case.forms f))
+      between : (f : ℕ) (scale : ℤ) (x : ℕ → ℤ) → f < length case.forms → IsPoint (rows_of case) scale x → MeetsRows (rows_of case) x → (split : SplitForm) × NamesLabels (labels lts) (plus (form_variable lts.initial split) ∷ []) × Contains (split_forms lts class problem) split × form_fold lts tree basis class split (Ok (form_at case.forms f))
           → (((form_at case.forms f).low *ℤ ((form_at case.forms f).scale *ℤ scale)) ≤ℤ scaled_value (rows_of case) (form_at case.forms f) x) × (scaled_value (rows_of case) (form_at case.forms f) x ≤ℤ ((form_at case.forms f).high *ℤ ((form_at case.forms f).scale *ℤ scale)))
       between f scale x lt p meets (split, names, has, made) =
           let (times, start, effect, g) = point_gives lts tree basis class problem n case x c in
           let k : pos 0 <ℤ (times *ℤ scale) = mul_positive times scale g.positive p.positive in
-          let s = starts split has in
+          let own = split_is lts class problem split has in
+          let s = split_starts lts class problem split own in
           let keeps = (start_means lts tree basis class problem n case start effect (times *ℤ scale) c g.effects k s).0 ((point_meets lts tree basis class problem n case x scale times start effect c p g).0 meets) in
-          let (low, high) = variable_bounds (times *ℤ scale) (numbers_along lts tree start effect) split keeps has in
+          let (low, high) = variable_bounds (times *ℤ scale) start effect split (weak (times *ℤ scale) k) keeps own in
           let form = form_at case.forms f in
           let value = form_value lts tree basis class problem n case c split form start effect made names (λ none. absurd (true≢false (sym s ∙ none))) g.effects in
           let over = point_form lts tree basis class problem n case c x times start effect form g in
-          let both = bounds_of times scale form.scale (numbers_along lts tree start effect (form_variable lts.initial split)) (scaled_value (rows_of case) form x) (form_low class) (form_high class) g.positive (form_positive lts tree basis class problem n case c split form made) (sym value ∙ sym over) low high in
+          let both = form_bounds split times scale form.scale (numbers_along lts tree start effect (form_variable lts.initial split)) (scaled_value (rows_of case) form x) (form_high lts class split) g.positive (form_positive lts tree basis class problem n case c split form made) (sym value ∙ ap (λ z. pos (step_of class split) *ℤ z) (sym over)) low high in
           subst (λ (e : ℤ). ((e *ℤ (form.scale *ℤ scale)) ≤ℤ scaled_value (rows_of case) form x) × (scaled_value (rows_of case) form x ≤ℤ (form.high *ℤ (form.scale *ℤ scale)))) (low_is split form made)
-          (subst (λ (e : ℤ). ((form_low class *ℤ (form.scale *ℤ scale)) ≤ℤ scaled_value (rows_of case) form x) × (scaled_value (rows_of case) form x ≤ℤ (e *ℤ (form.scale *ℤ scale)))) (high_is split form made) both)
+          (subst (λ (e : ℤ). ((form_low split *ℤ (form.scale *ℤ scale)) ≤ℤ scaled_value (rows_of case) form x) × (scaled_value (rows_of case) form x ≤ℤ (e *ℤ (form.scale *ℤ scale)))) (high_is split form made) both)
         where
-          low_is : (split : SplitForm) (form : Form) → form_fold lts tree basis class split (Ok form) → form_low class ≡ form.low
+          weak : (z : ℤ) → pos 0 <ℤ z → pos 0 ≤ℤ z
+          weak z h = omega (arith, ints)
+
+          low_is : (split : SplitForm) (form : Form) → form_fold lts tree basis class split (Ok form) → form_low split ≡ form.low
           low_is split form (scaled, fold, e) = ap (λ (f : Form). f.low) (sym e)
 
-          high_is : (split : SplitForm) (form : Form) → form_fold lts tree basis class split (Ok form) → form_high class ≡ form.high
+          high_is : (split : SplitForm) (form : Form) → form_fold lts tree basis class split (Ok form) → form_high lts class split ≡ form.high
           high_is split form (scaled, fold, e) = ap (λ (f : Form). f.high) (sym e)

@@ -1,5 +1,5 @@
 -- Each form of a case is a multiple of the row that stays for the tokens of its state or for `down` of its label.
-use Rattle.std.proofs.Common.{◌≡◌, ◌⊎◌, ⊎_elim, ℕ, zero, suc, max, ◌<◌, is_some, unwrap_or, Bool, true, false, if◌then◌else◌, List, [], ◌∷◌, map, length, Ok, Contains, All, inl, inr, refl, sym, ap, subst, ◌∙◌, arith}
+use Rattle.std.proofs.Common.{◌≡◌, ◌⊎◌, ⊎_elim, ℕ, zero, suc, max, ◌<◌, ◌≤◌, is_some, unwrap_or, Option, Some, None, IfSome, true, false, if◌then◌else◌, List, [], ◌∷◌, map, length, Ok, Contains, All, inl, inr, refl, sym, ap, subst, ◌∙◌, arith}
 use Rattle.std.specs.Prelude.{ℤ, pos, negsuc, ◌*ℤ◌, int_div, slice_index_or}
 use Rattle.std.proofs.Math.IntN.{*ℤ-zero}
 use Rattle.std.proofs.lemmas.Int.{ints}
@@ -11,6 +11,7 @@ use Rattle.rg_theory.specs.declared.Class.{Class}
 use Rattle.rg_theory.specs.declared.Problem.{Problem}
 use Rattle.rg_theory.specs.declared.Problem.TheVariants.{Event, States}
 use Rattle.rg_theory.specs.System.{System, IsInRange, states, labels}
+use Rattle.rg_theory.specs.Tree.{IsTree}
 use Rattle.rg_integers.proofs.Ring.{ring}
 use Rattle.rg_integers.specs.Range.{InRange}
 use Rattle.rg_integers.specs.Divisor.{int_gcd}
@@ -21,45 +22,39 @@ use Rattle.rg_linear.specs.Branching.{Form, form_at}
 use Rattle.rg_linear.specs.Cycle.{CycleBasis}
 use Rattle.rg_linear.proofs.Firsts.{item_stays}
 use Rattle.rg_refuting.specs.Expression.{Term, Expression, plus, minus}
-use Rattle.rg_refuting.specs.Row.{RowName, RowName.cap_row, RowName.tokens_row, RowName.down_row, RowStands, row_expression, Form as SplitForm, Form.on_tokens, Form.on_effect, form_variable}
+use Rattle.rg_refuting.specs.Row.{RowName, RowName.cap_row, RowName.tokens_row, RowName.down_row, RowStands, row_expression, Form as SplitForm, Form.on_tokens, Form.on_effect, Form.on_start, form_variable, step_of}
 use Rattle.rg_order_of_work.specs.Fold.{Ratio, whole, mul}
-use Rattle.rg_order_of_work.specs.Rewriting.{Scaled, has_label, terms_fold, form_fold, row_fold, split_forms, form_low, form_high, used_labels, all_numbers, names_of, KeptRow, IsIdle, CaseSystem, rows_of, system_fold}
+use Rattle.rg_order_of_work.specs.Rewriting.{Scaled, has_start, terms_fold, form_fold, row_fold, split_forms, form_low, form_high, names_of, KeptRow, IsIdle, CaseSystem, rows_of, system_fold}
 use Rattle.rg_order_of_work.specs.Meaning.{IsCaseOver}
 use Rattle.rg_order_of_work.specs.FormRows.{form_row, IsMultipleOfRow}
 use Rattle.rg_order_of_work.proofs.OneResult.{terms_one}
-use Rattle.rg_order_of_work.proofs.Lists.{Contains-map, Contains-of_map, where_is, of_if, of_optional}
+use Rattle.rg_order_of_work.proofs.Lists.{Contains-map}
 use Rattle.rg_order_of_work.proofs.Opposites.{same_multiple}
 use Rattle.rg_order_of_work.proofs.LeftOut.{left_out}
 use Rattle.rg_order_of_work.proofs.SystemRows.{made_of}
-use Rattle.rg_order_of_work.proofs.Forms.{form_named, start_of_bound}
+use Rattle.rg_order_of_work.proofs.Forms.{form_named, start_of_bound, plain_has, IsSplitOf, split_is, split_starts}
+use Rattle.rg_order_of_work.proofs.StartAlone.{start_alone}
+use Rattle.rg_integers.proofs.Signs.{abs-times}
 
 -- the row has the terms of the form
-pub same_terms : (lts : System) (class : Class) (problem : Problem) (n : ℕ) (split : SplitForm) → (row_expression lts class problem n [] (form_row split)).terms ≡ plus (form_variable lts.initial split) ∷ []
+pub same_terms : (lts : System) (class : Class) (problem : Problem) (n : ℕ) (split : SplitForm) → (row_expression lts class problem n [] (form_row lts.initial split)).terms ≡ plus (form_variable lts.initial split) ∷ []
 same_terms lts class (Event s t) n (on_tokens q) = refl
 same_terms lts class (Event s t) n (on_effect u) = refl
+same_terms lts class (Event s t) n on_start = refl
 same_terms lts class (States s s') n (on_tokens q) = refl
 same_terms lts class (States s s') n (on_effect u) = refl
+same_terms lts class (States s s') n on_start = refl
 
 -- the form is the row, times what the row was divided by
-pub form_over_row : (lts : System) (tree : List Arc) (basis : CycleBasis) (class : Class) (problem : Problem) (n : ℕ) (split : SplitForm) (form : Form) (k : KeptRow) → form_fold lts tree basis class split (Ok form) → row_fold lts tree basis class (form_row split) (row_expression lts class problem n [] (form_row split)) (Ok k) → (divisor : ℕ) × (form.coeffs ≡ map (λ z. pos (max divisor 1) *ℤ z) k.row.coeffs)
+pub form_over_row : (lts : System) (tree : List Arc) (basis : CycleBasis) (class : Class) (problem : Problem) (n : ℕ) (split : SplitForm) (form : Form) (k : KeptRow) → form_fold lts tree basis class split (Ok form) → row_fold lts tree basis class (form_row lts.initial split) (row_expression lts class problem n [] (form_row lts.initial split)) (Ok k) → (divisor : ℕ) × (form.coeffs ≡ map (λ z. pos (max divisor 1) *ℤ z) k.row.coeffs)
 form_over_row lts tree basis class problem n split form k (scaled, fold, e) (scaled', fold', (constant, product, (named, d))) =
     let one = (terms_one lts tree basis class (plus (form_variable lts.initial split) ∷ [])).one (Ok scaled) (Ok scaled') fold (subst (λ (ts : List Term). terms_fold lts tree basis class ts (Ok scaled')) (same_terms lts class problem n split) fold') in
     let same : scaled ≡ scaled' = cc in
     (d.divisor, ap (λ (f : Form). f.coeffs) e ∙ ap (λ (s : Scaled). s.numbers) same ∙ d.coeffs)
 
 -- the row is among those of the case
-pub form_row_named : (lts : System) (class : Class) (problem : Problem) (n : ℕ) (split : SplitForm) → IsInRange lts → Contains (split_forms lts class) split → Contains (names_of lts class problem n) (form_row split)
-form_row_named lts class problem n split fine has = ⊎_elim
-    (λ (bound, tokens). (let (q, at, is) = Contains-of_map on_tokens (all_numbers (states lts)) split tokens in
-    let lt = (where_is (λ q. true) 0 (states lts) q at).2 in
-    subst (λ w. Contains (names_of lts class problem n) (form_row w)) is
-    (⊎_elim (λ named. named) (⊎_elim (λ none. absurd (true≢false (sym (start_of_bound class bound) ∙ none))) (λ past. absurd (omega arith))) (left_out lts class problem n (tokens_row q) fine (tokens_stand problem q)))))
-    (λ (bound, rest). (let (plain, effects) = of_optional class.plain (map on_effect (used_labels lts)) split rest in
-    let (t, at, is) = Contains-of_map on_effect (used_labels lts) split effects in
-    let (used, _, lt) = where_is (λ t. has_label t lts.arcs) 0 (labels lts) t at in
-    subst (λ w. Contains (names_of lts class problem n) (form_row w)) is
-    (⊎_elim (λ named. named) (λ none. absurd (true≢false (sym used ∙ none))) (left_out lts class problem n (down_row t) fine (down_stands problem t (omega arith) plain)))))
-    (of_if (is_some class.bound) (map on_tokens (all_numbers (states lts))) (if class.plain then map on_effect (used_labels lts) else []) split has)
+pub form_row_named : (lts : System) (class : Class) (problem : Problem) (n : ℕ) (split : SplitForm) → IsInRange lts → Contains (split_forms lts class problem) split → Contains (names_of lts class problem n) (form_row lts.initial split)
+form_row_named lts class problem n split fine has = by split (split_is lts class problem split has)
   where
     tokens_stand : (p : Problem) (q : ℕ) → RowStands lts class p n [] (tokens_row q)
     tokens_stand (Event s t) q = tt
@@ -68,6 +63,14 @@ form_row_named lts class problem n split fine has = ⊎_elim
     down_stands : (p : Problem) (t : ℕ) → t < labels lts → class.plain ≡ true → RowStands lts class p n [] (down_row t)
     down_stands (Event s u) t lt plain = (lt, plain)
     down_stands (States s s') t lt plain = (lt, plain)
+
+    tokens_named : (q : ℕ) → q < states lts → has_start class ≡ true → Contains (names_of lts class problem n) (tokens_row q)
+    tokens_named q lt starts = ⊎_elim (λ named. named) (⊎_elim (λ none. absurd (true≢false (sym starts ∙ none))) (λ past. absurd (omega arith))) (left_out lts class problem n (tokens_row q) fine (tokens_stand problem q))
+
+    by : (split : SplitForm) → IsSplitOf lts class problem split → Contains (names_of lts class problem n) (form_row lts.initial split)
+    by (on_tokens q) (bound, lt) = tokens_named q lt (start_of_bound class bound)
+    by (on_effect t) (bound, plain, used, lt) = ⊎_elim (λ named. named) (λ none. absurd (true≢false (sym used ∙ none))) (left_out lts class problem n (down_row t) fine (down_stands problem t lt plain))
+    by on_start splits = tokens_named lts.initial fine.initial (split_starts lts class problem on_start splits)
 
 pub number_times : (d : ℤ) (xs : List ℤ) (j : ℕ) → number_at (map (λ z. d *ℤ z) xs) j ≡ d *ℤ number_at xs j
 number_times d [] j = sym (*ℤ-zero d)
@@ -106,9 +109,9 @@ form_multiple lts tree basis class problem n case c f lt = from c.is_case
   where
     from : system_fold lts tree basis class problem n (Ok case) → (row : ℕ) × (times : ℤ) × IsMultipleOfRow (rows_of case) (form_at case.forms f) row times
     from (all, made, (forms, forms_made, (columns, keeps, form_list))) =
-        let split = slice_index_or (split_forms lts class) f (on_tokens 0) in
+        let split = slice_index_or (split_forms lts class problem) f (on_tokens 0) in
         let (names, has, fold) = form_named lts tree basis class problem n case f c.is_case lt in
-        let (k, in_all, row) = made_of (λ name. row_fold lts tree basis class name (row_expression lts class problem n [] name)) (names_of lts class problem n) all (form_row split) made (form_row_named lts class problem n split c.in_range has) in
+        let (k, in_all, row) = made_of (λ name. row_fold lts tree basis class name (row_expression lts class problem n [] name)) (names_of lts class problem n) all (form_row lts.initial split) made (form_row_named lts class problem n split c.in_range has) in
         let (divisor, e) = form_over_row lts tree basis class problem n split (form_at case.forms f) k fold row in
         found k divisor e (item_stays (λ x. x.row) IsIdle [] all case.kept k keeps in_all)
       where
@@ -126,52 +129,77 @@ form_multiple lts tree basis class problem n case c f lt = from c.is_case
 product_in_range : (c m : ℤ) (p : Ratio) → mul (whole c) (whole m) (Ok p) → InRange (c *ℤ m)
 product_in_range c m p (fits, _, _) = subst (λ z. InRange (z *ℤ m)) (first_part c) (subst (λ z. InRange (int_div c (int_gcd c (pos 1)) *ℤ z)) (first_part m) fits.left)
 
--- the scale times the constant of a row with the terms of the form
-fits_one : (lts : System) (tree : List Arc) (basis : CycleBasis) (class : Class) (split : SplitForm) (form : Form) (name : RowName) (e : Expression) (k : KeptRow) → form_fold lts tree basis class split (Ok form) → e.terms ≡ plus (form_variable lts.initial split) ∷ [] → row_fold lts tree basis class name e (Ok k) → InRange (e.constant *ℤ form.scale)
-fits_one lts tree basis class split form name e k (scaled, fold, is) same (scaled', fold', (constant, product, divided)) =
+by_one : (n : ℕ) (m : ℤ) → n ≡ 1 → m ≡ pos n *ℤ m
+by_one n m e = subst (λ k. m ≡ pos k *ℤ m) (sym e) (one m)
+  where
+    one : (m : ℤ) → m ≡ pos 1 *ℤ m
+    one m = omega (arith, ints)
+
+-- the scale times the constant of a row with the terms of the form, where a step is 1
+fits_one : (lts : System) (tree : List Arc) (basis : CycleBasis) (class : Class) (split : SplitForm) (form : Form) (name : RowName) (e : Expression) (k : KeptRow) → step_of class split ≡ 1 → form_fold lts tree basis class split (Ok form) → e.terms ≡ plus (form_variable lts.initial split) ∷ [] → row_fold lts tree basis class name e (Ok k) → InRange (e.constant *ℤ form.scale)
+fits_one lts tree basis class split form name e k step (scaled, fold, is) same (scaled', fold', (constant, product, divided)) =
     let one = (terms_one lts tree basis class (plus (form_variable lts.initial split) ∷ [])).one (Ok scaled) (Ok scaled') fold (subst (λ (ts : List Term). terms_fold lts tree basis class ts (Ok scaled')) same fold') in
     let equal : scaled ≡ scaled' = cc in
-    subst (λ z. InRange (e.constant *ℤ z)) (ap (λ (s : Scaled). s.multiple) (sym equal) ∙ ap (λ (f : Form). f.scale) (sym is)) (product_in_range e.constant scaled'.multiple constant product)
+    subst (λ z. InRange (e.constant *ℤ z)) (ap (λ (s : Scaled). s.multiple) (sym equal) ∙ by_one (step_of class split) scaled.multiple step ∙ ap (λ (f : Form). f.scale) (sym is)) (product_in_range e.constant scaled'.multiple constant product)
 
 -- or with their opposites
-fits_opposite : (lts : System) (tree : List Arc) (basis : CycleBasis) (class : Class) (split : SplitForm) (form : Form) (name : RowName) (e : Expression) (k : KeptRow) → form_fold lts tree basis class split (Ok form) → e.terms ≡ minus (form_variable lts.initial split) ∷ [] → row_fold lts tree basis class name e (Ok k) → InRange (e.constant *ℤ form.scale)
-fits_opposite lts tree basis class split form name e k (scaled, fold, is) opposite (scaled', fold', (constant, product, divided)) =
-    subst (λ z. InRange (e.constant *ℤ z)) (same_multiple lts tree basis class (form_variable lts.initial split) scaled scaled' fold (subst (λ (ts : List Term). terms_fold lts tree basis class ts (Ok scaled')) opposite fold') ∙ ap (λ (f : Form). f.scale) (sym is)) (product_in_range e.constant scaled'.multiple constant product)
+fits_opposite : (lts : System) (tree : List Arc) (basis : CycleBasis) (class : Class) (split : SplitForm) (form : Form) (name : RowName) (e : Expression) (k : KeptRow) → step_of class split ≡ 1 → form_fold lts tree basis class split (Ok form) → e.terms ≡ minus (form_variable lts.initial split) ∷ [] → row_fold lts tree basis class name e (Ok k) → InRange (e.constant *ℤ form.scale)
+fits_opposite lts tree basis class split form name e k step (scaled, fold, is) opposite (scaled', fold', (constant, product, divided)) =
+    subst (λ z. InRange (e.constant *ℤ z)) (same_multiple lts tree basis class (form_variable lts.initial split) scaled scaled' fold (subst (λ (ts : List Term). terms_fold lts tree basis class ts (Ok scaled')) opposite fold') ∙ by_one (step_of class split) scaled.multiple step ∙ ap (λ (f : Form). f.scale) (sym is)) (product_in_range e.constant scaled'.multiple constant product)
 
-pub form_fits : (lts : System) (tree : List Arc) (basis : CycleBasis) (class : Class) (problem : Problem) (n : ℕ) (case : CaseSystem) → IsCaseOver lts tree basis class problem n case → (f : ℕ) → f < length case.forms → InRange ((form_at case.forms f).scale *ℤ (form_at case.forms f).low) × InRange ((form_at case.forms f).scale *ℤ (form_at case.forms f).high)
-form_fits lts tree basis class problem n case c f lt = from c.is_case
+pub start_scale : (lts : System) (tree : List Arc) (basis : CycleBasis) (class : Class) (form : Form) → IsTree lts tree → form_fold lts tree basis class on_start (Ok form) → form.scale ≡ pos (step_of class on_start)
+start_scale lts tree basis class form g (scaled, fold, e) = ap (λ (f : Form). f.scale) e ∙ ap (λ m. pos (step_of class on_start) *ℤ m) (start_alone lts tree basis class scaled g fold) ∙ once (pos (step_of class on_start))
+  where
+    once : (z : ℤ) → z *ℤ pos 1 ≡ z
+    once z = omega (arith, ints)
+
+pub form_fits : (lts : System) (tree : List Arc) (basis : CycleBasis) (class : Class) (problem : Problem) (n : ℕ) (case : CaseSystem) → IsCaseOver lts tree basis class problem n case → states lts ≤ 4096 → (f : ℕ) → f < length case.forms → InRange ((form_at case.forms f).scale *ℤ (form_at case.forms f).low) × InRange ((form_at case.forms f).scale *ℤ (form_at case.forms f).high)
+form_fits lts tree basis class problem n case c few f lt = from c.is_case
   where
     turn : (a b : ℤ) → a *ℤ b ≡ b *ℤ a
     turn a b = simp ring
 
-    -- between 0 and a bound, or between -1 and 1
-    bounded : (o : Bool) (s b : ℤ) → o ≡ true → InRange (b *ℤ s) → InRange (s *ℤ (if o then pos 0 else negsuc 0)) × InRange (s *ℤ (if o then b else pos 1))
-    bounded true s b e h = (subst InRange (sym (*ℤ-zero s)) (omega arith), subst InRange (turn b s) h)
-    bounded false s b e h = absurd (true≢false (sym e))
+    zero_low : (s : ℤ) → InRange (s *ℤ pos 0)
+    zero_low s = subst InRange (sym (*ℤ-zero s)) (omega arith)
 
-    plainly : (o : Bool) (s b : ℤ) → o ≡ false → InRange (pos 1 *ℤ s) → InRange (s *ℤ (if o then pos 0 else negsuc 0)) × InRange (s *ℤ (if o then b else pos 1))
-    plainly true s b e h = absurd (true≢false e)
-    plainly false s b e h = (less s h, subst InRange (turn (pos 1) s) h)
+    plainly : (s : ℤ) → InRange (pos 1 *ℤ s) → InRange (s *ℤ negsuc 0) × InRange (s *ℤ pos 1)
+    plainly s h = (less s h, subst InRange (turn (pos 1) s) h)
       where
         less : (s : ℤ) → InRange (pos 1 *ℤ s) → InRange (s *ℤ negsuc 0)
         less s h = omega (arith, ints)
 
+    -- of the start a step is at most 255, and there are at most 4,096 states
+    start_fits : (form : Form) → form_fold lts tree basis class on_start (Ok form) → InRange (form.scale *ℤ form_high lts class on_start)
+    start_fits form (scaled, fold, e) = subst (λ (x : Form). InRange (x.scale *ℤ form_high lts class on_start)) (sym e)
+        (subst (λ m. InRange ((pos (step_of class on_start) *ℤ m) *ℤ form_high lts class on_start)) (sym (start_alone lts tree basis class scaled c.is_tree fold)) (by_numbers (step_of class on_start) (unwrap_or class.bound (states lts)) (step_few class.marking c.numbers.marking) (high_few class.bound c.numbers.bound)))
+      where
+        by_numbers : (n h : ℕ) → n ≤ 255 → h ≤ 4096 → InRange ((pos n *ℤ pos 1) *ℤ pos h)
+        by_numbers n h few low = let most = abs-times (pos n *ℤ pos 1) (pos h) 255 4096 (omega (arith, ints)) (omega (arith, ints)) in omega (arith, most)
+
+        step_few : (o : Option ℕ) → IfSome o (λ n. (0 < n) × (n ≤ 255)) → unwrap_or o 1 ≤ 255
+        step_few None h = omega arith
+        step_few (Some n) h = h.1
+
+        high_few : (o : Option ℕ) → IfSome o (λ n. (0 < n) × (n ≤ 255)) → unwrap_or o (states lts) ≤ 4096
+        high_few None h = few
+        high_few (Some n) h = let lt = h.1 in omega arith
+
     from : system_fold lts tree basis class problem n (Ok case) → InRange ((form_at case.forms f).scale *ℤ (form_at case.forms f).low) × InRange ((form_at case.forms f).scale *ℤ (form_at case.forms f).high)
     from (all, made, rest) =
-        let split = slice_index_or (split_forms lts class) f (on_tokens 0) in
+        let split = slice_index_or (split_forms lts class problem) f (on_tokens 0) in
         let (names, has, fold) = form_named lts tree basis class problem n case f c.is_case lt in
-        bounds split (form_at case.forms f) has fold
+        with_bounds split (form_at case.forms f) fold (bounds split (form_at case.forms f) (split_is lts class problem split has) fold)
       where
         row_of : (name : RowName) → Contains (names_of lts class problem n) name → (k : KeptRow) × row_fold lts tree basis class name (row_expression lts class problem n [] name) (Ok k)
         row_of name has = let (k, in_all, row) = made_of (λ m. row_fold lts tree basis class m (row_expression lts class problem n [] m)) (names_of lts class problem n) all name made has in (k, row)
 
         tokens_of : (q : ℕ) (form : Form) (p : Problem) → form_fold lts tree basis class (on_tokens q) (Ok form) → (k : KeptRow) → row_fold lts tree basis class (cap_row q) (row_expression lts class p n [] (cap_row q)) (Ok k) → InRange (pos (unwrap_or class.bound 0) *ℤ form.scale)
-        tokens_of q form (Event s t) fold k row = fits_opposite lts tree basis class (on_tokens q) form (cap_row q) (row_expression lts class (Event s t) n [] (cap_row q)) k fold refl row
-        tokens_of q form (States s s') fold k row = fits_opposite lts tree basis class (on_tokens q) form (cap_row q) (row_expression lts class (States s s') n [] (cap_row q)) k fold refl row
+        tokens_of q form (Event s t) fold k row = fits_opposite lts tree basis class (on_tokens q) form (cap_row q) (row_expression lts class (Event s t) n [] (cap_row q)) k refl fold refl row
+        tokens_of q form (States s s') fold k row = fits_opposite lts tree basis class (on_tokens q) form (cap_row q) (row_expression lts class (States s s') n [] (cap_row q)) k refl fold refl row
 
         effect_of_label : (t : ℕ) (form : Form) (p : Problem) → form_fold lts tree basis class (on_effect t) (Ok form) → (k : KeptRow) → row_fold lts tree basis class (down_row t) (row_expression lts class p n [] (down_row t)) (Ok k) → InRange (pos 1 *ℤ form.scale)
-        effect_of_label t form (Event s u) fold k row = fits_one lts tree basis class (on_effect t) form (down_row t) (row_expression lts class (Event s u) n [] (down_row t)) k fold refl row
-        effect_of_label t form (States s s') fold k row = fits_one lts tree basis class (on_effect t) form (down_row t) (row_expression lts class (States s s') n [] (down_row t)) k fold refl row
+        effect_of_label t form (Event s u) fold k row = fits_one lts tree basis class (on_effect t) form (down_row t) (row_expression lts class (Event s u) n [] (down_row t)) k refl fold refl row
+        effect_of_label t form (States s s') fold k row = fits_one lts tree basis class (on_effect t) form (down_row t) (row_expression lts class (States s s') n [] (down_row t)) k refl fold refl row
 
         cap_stands : (p : Problem) (q : ℕ) → q < states lts → is_some class.bound ≡ true → RowStands lts class p n [] (cap_row q)
         cap_stands (Event s t) q lt bound = (lt, bound)
@@ -180,20 +208,16 @@ form_fits lts tree basis class problem n case c f lt = from c.is_case
         cap_named : (q : ℕ) → q < states lts → is_some class.bound ≡ true → Contains (names_of lts class problem n) (cap_row q)
         cap_named q lt bound = ⊎_elim (λ named. named) (λ none. absurd none) (left_out lts class problem n (cap_row q) c.in_range (cap_stands problem q lt bound))
 
-        low_high : (split : SplitForm) (form : Form) → form_fold lts tree basis class split (Ok form) → (form.low ≡ form_low class) × (form.high ≡ form_high class)
-        low_high split form (scaled, fold, e) = (ap (λ (x : Form). x.low) e, ap (λ (x : Form). x.high) e)
+        bounds : (split : SplitForm) (form : Form) → IsSplitOf lts class problem split → form_fold lts tree basis class split (Ok form) → InRange (form.scale *ℤ form_low split) × InRange (form.scale *ℤ form_high lts class split)
+        bounds (on_tokens q) form (bound, lt) fold =
+            let (k, row) = row_of (cap_row q) (cap_named q lt bound) in
+            (zero_low form.scale, subst InRange (turn (pos (unwrap_or class.bound 0)) form.scale) (tokens_of q form problem fold k row))
+        bounds (on_effect t) form (bound, plain, used, lt) fold =
+            let (k, row) = row_of (down_row t) (form_row_named lts class problem n (on_effect t) c.in_range (plain_has lts class problem t bound plain lt used)) in
+            plainly form.scale (effect_of_label t form problem fold k row)
+        bounds on_start form splits fold = (zero_low form.scale, start_fits form fold)
 
-        bounds : (split : SplitForm) (form : Form) → Contains (split_forms lts class) split → form_fold lts tree basis class split (Ok form) → InRange (form.scale *ℤ form.low) × InRange (form.scale *ℤ form.high)
-        bounds split form has fold =
-            let (low, high) = low_high split form fold in
-            subst (λ z. InRange (form.scale *ℤ z) × InRange (form.scale *ℤ form.high)) (sym low) (subst (λ z. InRange (form.scale *ℤ form_low class) × InRange (form.scale *ℤ z)) (sym high)
-            (⊎_elim
-            (λ (bound, tokens). (let (q, at, is) = Contains-of_map on_tokens (all_numbers (states lts)) split tokens in
-            let below = (where_is (λ q. true) 0 (states lts) q at).2 in
-            let (k, row) = row_of (cap_row q) (cap_named q (omega arith) bound) in
-            bounded (is_some class.bound) form.scale (pos (unwrap_or class.bound 0)) bound (tokens_of q form problem (subst (λ w. form_fold lts tree basis class w (Ok form)) (sym is) fold) k row)))
-            (λ (bound, rest'). (let (plain, effects) = of_optional class.plain (map on_effect (used_labels lts)) split rest' in
-            let (t, at, is) = Contains-of_map on_effect (used_labels lts) split effects in
-            let (k, row) = row_of (down_row t) (subst (λ w. Contains (names_of lts class problem n) (form_row w)) (sym is) (form_row_named lts class problem n split c.in_range has)) in
-            plainly (is_some class.bound) form.scale (pos (unwrap_or class.bound 0)) bound (effect_of_label t form problem (subst (λ w. form_fold lts tree basis class w (Ok form)) (sym is) fold) k row)))
-            (of_if (is_some class.bound) (map on_tokens (all_numbers (states lts))) (if class.plain then map on_effect (used_labels lts) else []) split has)))
+        with_bounds : (split : SplitForm) (form : Form) → form_fold lts tree basis class split (Ok form) → InRange (form.scale *ℤ form_low split) × InRange (form.scale *ℤ form_high lts class split) → InRange (form.scale *ℤ form.low) × InRange (form.scale *ℤ form.high)
+        with_bounds split form (scaled, fold, e) fits =
+            subst (λ z. InRange (form.scale *ℤ z) × InRange (form.scale *ℤ form.high)) (sym (ap (λ (x : Form). x.low) e))
+            (subst (λ z. InRange (form.scale *ℤ form_low split) × InRange (form.scale *ℤ z)) (sym (ap (λ (x : Form). x.high) e)) fits)

@@ -1,29 +1,33 @@
 -- The forms of a case are worth the tokens and effects that they name.
-use Rattle.std.proofs.Common.{◌≡◌, ⊎_elim, ℕ, zero, suc, ◌<◌, ◌||◌, is_some, Bool, true, false, if◌then◌else◌, List, [], ◌∷◌, length, map, Result, Ok, Contains, refl, sym, ap, subst, ◌∙◌, arith}
+use Rattle.std.proofs.Common.{◌≡◌, ⊎_elim, ℕ, zero, suc, ◌<◌, ◌≤◌, ◌||◌, ◌&&◌, ◌⊎◌, inl, inr, is_some, unwrap_or, Option, Some, None, IfSome, Bool, true, false, if◌then◌else◌, List, [], ◌∷◌, length, map, Result, Ok, Contains, refl, sym, ap, subst, ◌∙◌, arith}
 use Rattle.std.specs.Prelude.{ℤ, pos, ◌+ℤ◌, ◌*ℤ◌, ◌<ℤ◌, slice_index_or}
 use Rattle.std.proofs.lemmas.Int.{ints}
 use Rattle.std.proofs.lemmas.Bool.{true≢false}
 use Rattle.std.proofs.lemmas.List.{get_or_default}
+use Rattle.std.proofs.lemmas.List.Elements.{Contains-append_left, Contains-append_right, Contains-append_cases}
 use Rattle.rg_theory.specs.declared.Arc.{Arc}
 use Rattle.rg_theory.specs.declared.Class.{Class}
 use Rattle.rg_theory.specs.declared.Problem.{Problem}
+use Rattle.rg_theory.specs.declared.Problem.TheVariants.{Event, States}
+use Rattle.rg_theory.specs.ClassWords.{HasNumbersInRange}
 use Rattle.rg_theory.specs.System.{System, states, labels}
+use Rattle.rg_theory.proofs.Lists.{Contains-cons_cases}
 use Rattle.rg_integers.specs.Sum.{dot, number_at}
 use Rattle.rg_integers.proofs.Ring.{ring}
-use Rattle.rg_integers.proofs.Order.{mul-cancel_left, positive_differs}
+use Rattle.rg_integers.proofs.Order.{mul-cancel_left, positive_differs, mul_positive}
 use Rattle.rg_integers.proofs.Sums.{sum_below-same, sum_below-times}
 use Rattle.rg_fraction.specs.declared.term.Wide.{Wide}
 use Rattle.rg_linear.specs.Branching.{Form, form_at, scaled_value, FormsWhole}
 use Rattle.rg_linear.specs.Cycle.{CycleBasis}
 use Rattle.rg_refuting.specs.Expression.{plus}
-use Rattle.rg_refuting.specs.Row.{Form as SplitForm, Form.on_tokens, Form.on_effect, form_variable}
+use Rattle.rg_refuting.specs.Row.{Form as SplitForm, Form.on_tokens, Form.on_effect, Form.on_start, form_variable, step_of}
 use Rattle.rg_order_of_work.specs.Fold.{each}
-use Rattle.rg_order_of_work.specs.Rewriting.{has_label, has_start, split_forms, form_fold, CaseSystem, rows_of, system_fold, used_labels, all_numbers}
+use Rattle.rg_order_of_work.specs.Rewriting.{has_label, has_start, splits_start, split_forms, form_fold, CaseSystem, rows_of, system_fold, used_labels, all_numbers}
 use Rattle.rg_order_of_work.specs.Values.{NamesLabels, numbers_along, column_values}
 use Rattle.rg_order_of_work.proofs.ExactRows.{terms_value}
 use Rattle.rg_order_of_work.proofs.Signs.{terms_positive}
 use Rattle.rg_order_of_work.specs.Meaning.{IsCaseOver, AreEffects, AreGivenBy}
-use Rattle.rg_order_of_work.proofs.Lists.{Contains-map, Contains-of_map, where_is, where_has, if_true, if_false, of_if, of_optional}
+use Rattle.rg_order_of_work.proofs.Lists.{first, nothing, Contains-map, Contains-of_map, where_is, where_has, if_true, if_false, of_if, of_optional}
 use Rattle.rg_order_of_work.proofs.ColumnValues.{row_sum}
 
 -- ---- the forms are those of the variables, in order
@@ -43,28 +47,41 @@ pub record FormOf (lts : System) (tree : List Arc) (basis : CycleBasis) (class :
   pub within : number < length case.forms
   pub made : form_fold lts tree basis class split (Ok (form_at case.forms number))
 
-pub form_of_variable : (lts : System) (tree : List Arc) (basis : CycleBasis) (class : Class) (problem : Problem) (n : ℕ) (case : CaseSystem) (split : SplitForm) → system_fold lts tree basis class problem n (Ok case) → Contains (split_forms lts class) split → FormOf lts tree basis class case split
+pub form_of_variable : (lts : System) (tree : List Arc) (basis : CycleBasis) (class : Class) (problem : Problem) (n : ℕ) (case : CaseSystem) (split : SplitForm) → system_fold lts tree basis class problem n (Ok case) → Contains (split_forms lts class problem) split → FormOf lts tree basis class case split
 form_of_variable lts tree basis class problem n case split (all, made, (forms, forms_made, (columns, keeps, form_list))) (f, lt, e) = record {
   number = f;
-  within = subst (λ k. f < k) (sym (ap length form_list ∙ each_length (form_fold lts tree basis class) (split_forms lts class) forms forms_made)) lt;
-  made = subst (λ (w : SplitForm). form_fold lts tree basis class w (Ok (form_at case.forms f))) e (subst (λ (fs : List Form). form_fold lts tree basis class (slice_index_or (split_forms lts class) f split) (Ok (form_at fs f))) (sym form_list) (each_at (form_fold lts tree basis class) (split_forms lts class) forms f split (record { scale = pos 1; coeffs = []; low = pos 0; high = pos 0 }) forms_made lt));
+  within = subst (λ k. f < k) (sym (ap length form_list ∙ each_length (form_fold lts tree basis class) (split_forms lts class problem) forms forms_made)) lt;
+  made = subst (λ (w : SplitForm). form_fold lts tree basis class w (Ok (form_at case.forms f))) e (subst (λ (fs : List Form). form_fold lts tree basis class (slice_index_or (split_forms lts class problem) f split) (Ok (form_at fs f))) (sym form_list) (each_at (form_fold lts tree basis class) (split_forms lts class problem) forms f split (record { scale = pos 1; coeffs = []; low = pos 0; high = pos 0 }) forms_made lt));
 }
 
 -- ---- its value
 
+pub step_positive : (class : Class) (split : SplitForm) → HasNumbersInRange class → 0 < step_of class split
+step_positive class (on_tokens q) numbers = omega arith
+step_positive class (on_effect t) numbers = omega arith
+step_positive class on_start numbers = by class.marking numbers.marking
+  where
+    by : (o : Option ℕ) → IfSome o (λ n. (0 < n) × (n ≤ 255)) → 0 < unwrap_or o 1
+    by None h = omega arith
+    by (Some n) h = h.0
+
 module _ (lts : System) (tree : List Arc) (basis : CycleBasis) (class : Class) (problem : Problem) (n : ℕ) (case : CaseSystem) (c : IsCaseOver lts tree basis class problem n case) where
   pub form_positive : (split : SplitForm) → (form : Form) → form_fold lts tree basis class split (Ok form) → pos 0 <ℤ form.scale
-  form_positive split form (scaled, fold, e) = subst (λ (f : Form). pos 0 <ℤ f.scale) (sym e) (terms_positive lts tree basis class (plus (form_variable lts.initial split) ∷ []) scaled fold)
+  form_positive split form (scaled, fold, e) = subst (λ (f : Form). pos 0 <ℤ f.scale) (sym e) (mul_positive (pos (step_of class split)) scaled.multiple (let some = step_positive class split c.numbers in omega (arith, ints)) (terms_positive lts tree basis class (plus (form_variable lts.initial split) ∷ []) scaled fold))
 
-  pub form_value : (split : SplitForm) (form : Form) (start : ℤ) (effect : ℕ → ℤ) → form_fold lts tree basis class split (Ok form) → NamesLabels (labels lts) (plus (form_variable lts.initial split) ∷ []) → (has_start class ≡ false → start ≡ pos 0) → AreEffects lts tree basis effect → dot form.coeffs (column_values lts basis class start effect) ≡ form.scale *ℤ numbers_along lts tree start effect (form_variable lts.initial split)
+  pub form_value : (split : SplitForm) (form : Form) (start : ℤ) (effect : ℕ → ℤ) → form_fold lts tree basis class split (Ok form) → NamesLabels (labels lts) (plus (form_variable lts.initial split) ∷ []) → (has_start class ≡ false → start ≡ pos 0) → AreEffects lts tree basis effect → pos (step_of class split) *ℤ dot form.coeffs (column_values lts basis class start effect) ≡ form.scale *ℤ numbers_along lts tree start effect (form_variable lts.initial split)
   form_value split form start effect (scaled, fold, e) names no_start given =
-      ap (λ (f : Form). dot f.coeffs (column_values lts basis class start effect)) e
-      ∙ terms_value lts tree basis class (plus (form_variable lts.initial split) ∷ []) start effect scaled c.is_basis names no_start given.follows given.unused fold
-      ∙ ap (λ z. scaled.multiple *ℤ z) (one (numbers_along lts tree start effect (form_variable lts.initial split)))
+      ap (λ (f : Form). pos (step_of class split) *ℤ dot f.coeffs (column_values lts basis class start effect)) e
+      ∙ ap (λ z. pos (step_of class split) *ℤ z) (terms_value lts tree basis class (plus (form_variable lts.initial split) ∷ []) start effect scaled c.is_basis names no_start given.follows given.unused fold
+      ∙ ap (λ z. scaled.multiple *ℤ z) (one (numbers_along lts tree start effect (form_variable lts.initial split))))
+      ∙ turn (pos (step_of class split)) scaled.multiple (numbers_along lts tree start effect (form_variable lts.initial split))
       ∙ ap (λ (f : Form). f.scale *ℤ numbers_along lts tree start effect (form_variable lts.initial split)) (sym e)
     where
       one : (z : ℤ) → (pos 1 *ℤ z) +ℤ pos 0 ≡ z
       one z = omega (arith, ints)
+
+      turn : (n m z : ℤ) → n *ℤ (m *ℤ z) ≡ (n *ℤ m) *ℤ z
+      turn n m z = simp ring
 
   -- over the columns of a point
   pub point_form : (v : ℕ → ℤ) (times start : ℤ) (effect : ℕ → ℤ) (form : Form) → AreGivenBy lts tree basis class case v times start effect → times *ℤ scaled_value (rows_of case) form v ≡ dot form.coeffs (column_values lts basis class start effect)
@@ -76,30 +93,31 @@ module _ (lts : System) (tree : List Arc) (basis : CycleBasis) (class : Class) (
       turn : (a b d : ℤ) → a *ℤ (b *ℤ d) ≡ b *ℤ (a *ℤ d)
       turn a b d = simp ring
 
-  -- a variable with a whole form is a multiple of the scale
-  pub variable_multiple : (v : ℕ → ℤ) (scale times start : ℤ) (effect : ℕ → ℤ) (split : SplitForm) → has_start class ≡ true → FormsWhole (rows_of case) case.forms scale v → AreGivenBy lts tree basis class case v times start effect → NamesLabels (labels lts) (plus (form_variable lts.initial split) ∷ []) → Contains (split_forms lts class) split → (u : ℤ) × (numbers_along lts tree start effect (form_variable lts.initial split) ≡ (times *ℤ scale) *ℤ u)
+  -- a variable with a whole form is a multiple of the scale, by its steps
+  pub variable_multiple : (v : ℕ → ℤ) (scale times start : ℤ) (effect : ℕ → ℤ) (split : SplitForm) → has_start class ≡ true → FormsWhole (rows_of case) case.forms scale v → AreGivenBy lts tree basis class case v times start effect → NamesLabels (labels lts) (plus (form_variable lts.initial split) ∷ []) → Contains (split_forms lts class problem) split → (u : ℤ) × (numbers_along lts tree start effect (form_variable lts.initial split) ≡ (times *ℤ scale) *ℤ (pos (step_of class split) *ℤ u))
   variable_multiple v scale times start effect split starts whole g names has =
       let f = form_of_variable lts tree basis class problem n case split c.is_case has in
       let (u, e) = whole f.number f.within in
       let value = form_value split (form_at case.forms f.number) start effect f.made names (λ none. absurd (true≢false (sym starts ∙ none))) g.effects in
       let over = point_form v times start effect (form_at case.forms f.number) g in
-      (u, mul-cancel_left (form_at case.forms f.number).scale _ _ (positive_differs (form_at case.forms f.number).scale (form_positive split (form_at case.forms f.number) f.made)) (sym value ∙ sym over ∙ ap (λ z. times *ℤ z) e ∙ turn times u (form_at case.forms f.number).scale scale))
+      (u, mul-cancel_left (form_at case.forms f.number).scale _ _ (positive_differs (form_at case.forms f.number).scale (form_positive split (form_at case.forms f.number) f.made)) (sym value ∙ ap (λ z. pos (step_of class split) *ℤ z) (sym over ∙ ap (λ z. times *ℤ z) e) ∙ turn (pos (step_of class split)) times u (form_at case.forms f.number).scale scale))
     where
-      turn : (t u f s : ℤ) → t *ℤ (u *ℤ (f *ℤ s)) ≡ f *ℤ ((t *ℤ s) *ℤ u)
-      turn t u f s = simp ring
+      turn : (n t u f s : ℤ) → n *ℤ (t *ℤ (u *ℤ (f *ℤ s))) ≡ f *ℤ ((t *ℤ s) *ℤ (n *ℤ u))
+      turn n t u f s = simp ring
 
-  -- and whole numbers of Start and effects make every form whole
-  pub whole_forms : (v : ℕ → ℤ) (start : ℤ) (effect : ℕ → ℤ) (f : ℕ) (split : SplitForm) → has_start class ≡ true → AreGivenBy lts tree basis class case v (pos 1) start effect → NamesLabels (labels lts) (plus (form_variable lts.initial split) ∷ []) → form_fold lts tree basis class split (Ok (form_at case.forms f)) → (u : ℤ) × (scaled_value (rows_of case) (form_at case.forms f) v ≡ u *ℤ ((form_at case.forms f).scale *ℤ pos 1))
-  whole_forms v start effect f split starts g names made =
+  -- and Start and effects that are whole make every form whole where its variable is so many steps
+  pub whole_forms : (v : ℕ → ℤ) (start : ℤ) (effect : ℕ → ℤ) (f : ℕ) (split : SplitForm) (w : ℤ) → has_start class ≡ true → AreGivenBy lts tree basis class case v (pos 1) start effect → NamesLabels (labels lts) (plus (form_variable lts.initial split) ∷ []) → form_fold lts tree basis class split (Ok (form_at case.forms f)) → numbers_along lts tree start effect (form_variable lts.initial split) ≡ pos (step_of class split) *ℤ w → (u : ℤ) × (scaled_value (rows_of case) (form_at case.forms f) v ≡ u *ℤ ((form_at case.forms f).scale *ℤ pos 1))
+  whole_forms v start effect f split w starts g names made is =
       let value = form_value split (form_at case.forms f) start effect made names (λ none. absurd (true≢false (sym starts ∙ none))) g.effects in
       let over = point_form v (pos 1) start effect (form_at case.forms f) g in
-      (numbers_along lts tree start effect (form_variable lts.initial split), one (scaled_value (rows_of case) (form_at case.forms f) v) ∙ over ∙ value ∙ turn (form_at case.forms f).scale (numbers_along lts tree start effect (form_variable lts.initial split)))
+      let some : pos 0 <ℤ pos (step_of class split) = (let h = step_positive class split c.numbers in omega (arith, ints)) in
+      (w, mul-cancel_left (pos (step_of class split)) _ _ (positive_differs (pos (step_of class split)) some) (ap (λ z. pos (step_of class split) *ℤ z) (one (scaled_value (rows_of case) (form_at case.forms f) v) ∙ over) ∙ value ∙ ap (λ z. (form_at case.forms f).scale *ℤ z) is ∙ turn (form_at case.forms f).scale (pos (step_of class split)) w))
     where
       one : (z : ℤ) → z ≡ pos 1 *ℤ z
       one z = omega (arith, ints)
 
-      turn : (f u : ℤ) → f *ℤ u ≡ u *ℤ (f *ℤ pos 1)
-      turn f u = simp ring
+      turn : (f n u : ℤ) → f *ℤ (n *ℤ u) ≡ n *ℤ (u *ℤ (f *ℤ pos 1))
+      turn f n u = simp ring
 
 -- ---- which variables have a form
 
@@ -120,31 +138,81 @@ start_of_plain class e = go class.pure class.plain (is_some class.bound) e
     go false true d e = refl
     go false false d e = absurd (true≢false (sym e))
 
-pub bounded_has : (lts : System) (class : Class) (q : ℕ) → is_some class.bound ≡ true → q < states lts → Contains (split_forms lts class) (on_tokens q)
-bounded_has lts class q bound lt = if_true (is_some class.bound) (map on_tokens (all_numbers (states lts))) (if class.plain then map on_effect (used_labels lts) else []) (on_tokens q) bound (Contains-map on_tokens (all_numbers (states lts)) q (where_has (λ q. true) 0 (states lts) q refl (omega arith) (omega arith)))
+pub bounded_has : (lts : System) (class : Class) (problem : Problem) (q : ℕ) → is_some class.bound ≡ true → q < states lts → Contains (split_forms lts class problem) (on_tokens q)
+bounded_has lts class problem q bound lt = Contains-append_left (if is_some class.bound then map on_tokens (all_numbers (states lts)) else (if class.plain then map on_effect (used_labels lts) else [])) (if splits_start class problem then (on_start ∷ []) else []) (on_tokens q)
+    (if_true (is_some class.bound) (map on_tokens (all_numbers (states lts))) (if class.plain then map on_effect (used_labels lts) else []) (on_tokens q) bound (Contains-map on_tokens (all_numbers (states lts)) q (where_has (λ q. true) 0 (states lts) q refl (omega arith) (omega arith))))
 
-pub plain_has : (lts : System) (class : Class) (t : ℕ) → is_some class.bound ≡ false → class.plain ≡ true → t < labels lts → has_label t lts.arcs ≡ true → Contains (split_forms lts class) (on_effect t)
-plain_has lts class t bound plain lt used = if_false (is_some class.bound) (map on_tokens (all_numbers (states lts))) (if class.plain then map on_effect (used_labels lts) else []) (on_effect t) bound (if_true class.plain (map on_effect (used_labels lts)) [] (on_effect t) plain (Contains-map on_effect (used_labels lts) t (where_has (λ t. has_label t lts.arcs) 0 (labels lts) t used (omega arith) (omega arith))))
+pub plain_has : (lts : System) (class : Class) (problem : Problem) (t : ℕ) → is_some class.bound ≡ false → class.plain ≡ true → t < labels lts → has_label t lts.arcs ≡ true → Contains (split_forms lts class problem) (on_effect t)
+plain_has lts class problem t bound plain lt used = Contains-append_left (if is_some class.bound then map on_tokens (all_numbers (states lts)) else (if class.plain then map on_effect (used_labels lts) else [])) (if splits_start class problem then (on_start ∷ []) else []) (on_effect t)
+    (if_false (is_some class.bound) (map on_tokens (all_numbers (states lts))) (if class.plain then map on_effect (used_labels lts) else []) (on_effect t) bound (if_true class.plain (map on_effect (used_labels lts)) [] (on_effect t) plain (Contains-map on_effect (used_labels lts) t (where_has (λ t. has_label t lts.arcs) 0 (labels lts) t used (omega arith) (omega arith)))))
+
+pub start_has : (lts : System) (class : Class) (problem : Problem) → splits_start class problem ≡ true → Contains (split_forms lts class problem) on_start
+start_has lts class problem splits = Contains-append_right (if is_some class.bound then map on_tokens (all_numbers (states lts)) else (if class.plain then map on_effect (used_labels lts) else [])) (if splits_start class problem then (on_start ∷ []) else []) on_start
+    (if_true (splits_start class problem) (on_start ∷ []) [] on_start splits (first on_start []))
+
+-- what a split may be on, by kinds
+abbrev pub IsSplitOf : System → Class → Problem → SplitForm → Type 0
+IsSplitOf lts class problem (on_tokens q) = (is_some class.bound ≡ true) × (q < states lts)
+IsSplitOf lts class problem (on_effect t) = (is_some class.bound ≡ false) × (class.plain ≡ true) × (has_label t lts.arcs ≡ true) × (t < labels lts)
+IsSplitOf lts class problem on_start = splits_start class problem ≡ true
+
+pub split_is : (lts : System) (class : Class) (problem : Problem) (split : SplitForm) → Contains (split_forms lts class problem) split → IsSplitOf lts class problem split
+split_is lts class problem split has = ⊎_elim
+    (λ front. ⊎_elim
+    (λ (bound, tokens). (let (q, at, is) = Contains-of_map on_tokens (all_numbers (states lts)) split tokens in
+    subst (IsSplitOf lts class problem) is (bound, (let w = (where_is (λ q. true) 0 (states lts) q at).2 in omega arith))))
+    (λ (bound, rest). (let (plain, effects) = of_optional class.plain (map on_effect (used_labels lts)) split rest in
+    let (t, at, is) = Contains-of_map on_effect (used_labels lts) split effects in
+    let (used, low, lt) = where_is (λ t. has_label t lts.arcs) 0 (labels lts) t at in
+    subst (IsSplitOf lts class problem) is (bound, plain, used, omega arith)))
+    (of_if (is_some class.bound) (map on_tokens (all_numbers (states lts))) (if class.plain then map on_effect (used_labels lts) else []) split front))
+    (λ back. (let (splits, alone) = of_optional (splits_start class problem) (on_start ∷ []) split back in
+    ⊎_elim (λ is. subst (IsSplitOf lts class problem) is splits) (λ none. absurd (nothing split none)) (Contains-cons_cases on_start split [] alone)))
+    (Contains-append_cases (if is_some class.bound then map on_tokens (all_numbers (states lts)) else (if class.plain then map on_effect (used_labels lts) else [])) (if splits_start class problem then (on_start ∷ []) else []) split has)
+
+-- where the start is split on it has to be a multiple, and has a bound: that of the class, or that of an event in a plain one
+pub start_split : (class : Class) (problem : Problem) → splits_start class problem ≡ true → (is_some class.marking ≡ true) × ((is_some class.bound ≡ true) ⊎ ((class.plain ≡ true) × ((s : ℕ) × (t : ℕ) × (problem ≡ Event s t))))
+start_split class (Event s t) e = by (is_some class.marking) class.plain (is_some class.bound) e
+  where
+    by : (m p b : Bool) → (m && (p || b)) ≡ true → (m ≡ true) × ((b ≡ true) ⊎ ((p ≡ true) × ((s' : ℕ) × (t' : ℕ) × (Event s t ≡ Event s' t'))))
+    by false p b e = absurd (true≢false (sym e))
+    by true true b e = (refl, inr (refl, (s, t, refl)))
+    by true false true e = (refl, inl refl)
+    by true false false e = absurd (true≢false (sym e))
+start_split class (States s s') e = by (is_some class.marking) (is_some class.bound) e
+  where
+    by : (m b : Bool) → (m && b) ≡ true → (m ≡ true) × ((b ≡ true) ⊎ ((class.plain ≡ true) × ((s'' : ℕ) × (t' : ℕ) × (States s s' ≡ Event s'' t'))))
+    by false b e = absurd (true≢false (sym e))
+    by true true e = (refl, inl refl)
+    by true false e = absurd (true≢false (sym e))
+
+-- such a class has Start
+pub split_starts : (lts : System) (class : Class) (problem : Problem) (split : SplitForm) → IsSplitOf lts class problem split → has_start class ≡ true
+split_starts lts class problem (on_tokens q) (bound, lt) = start_of_bound class bound
+split_starts lts class problem (on_effect t) (bound, plain, used, lt) = start_of_plain class plain
+split_starts lts class problem on_start splits = ⊎_elim (start_of_bound class) (λ (plain, event). start_of_plain class plain) (start_split class problem splits).1
 
 -- the variable of a form names a label of the system
-pub form_names : (lts : System) (class : Class) (split : SplitForm) → Contains (split_forms lts class) split → NamesLabels (labels lts) (plus (form_variable lts.initial split) ∷ [])
-form_names lts class split has = ⊎_elim
-    (λ (bound, tokens). (let (q, at, is) = Contains-of_map on_tokens (all_numbers (states lts)) split tokens in subst (λ w. NamesLabels (labels lts) (plus (form_variable lts.initial w) ∷ [])) is tt))
-    (λ (bound, rest). (let (plain, effects) = of_optional class.plain (map on_effect (used_labels lts)) split rest in let (t, at, is) = Contains-of_map on_effect (used_labels lts) split effects in subst (λ w. NamesLabels (labels lts) (plus (form_variable lts.initial w) ∷ [])) is (let w = (where_is (λ t. has_label t lts.arcs) 0 (labels lts) t at).2 in (omega arith), tt)))
-    (of_if (is_some class.bound) (map on_tokens (all_numbers (states lts))) (if class.plain then map on_effect (used_labels lts) else []) split has)
+pub form_names : (lts : System) (class : Class) (problem : Problem) (split : SplitForm) → Contains (split_forms lts class problem) split → NamesLabels (labels lts) (plus (form_variable lts.initial split) ∷ [])
+form_names lts class problem split has = by split (split_is lts class problem split has)
+  where
+    by : (split : SplitForm) → IsSplitOf lts class problem split → NamesLabels (labels lts) (plus (form_variable lts.initial split) ∷ [])
+    by (on_tokens q) h = tt
+    by (on_effect t) (bound, plain, used, lt) = (lt, tt)
+    by on_start h = tt
 
 -- the variable that names form f
-pub form_named : (lts : System) (tree : List Arc) (basis : CycleBasis) (class : Class) (problem : Problem) (n : ℕ) (case : CaseSystem) (f : ℕ) → system_fold lts tree basis class problem n (Ok case) → f < length case.forms → NamesLabels (labels lts) (plus (form_variable lts.initial (slice_index_or (split_forms lts class) f (on_tokens 0))) ∷ []) × Contains (split_forms lts class) (slice_index_or (split_forms lts class) f (on_tokens 0)) × form_fold lts tree basis class (slice_index_or (split_forms lts class) f (on_tokens 0)) (Ok (form_at case.forms f))
+pub form_named : (lts : System) (tree : List Arc) (basis : CycleBasis) (class : Class) (problem : Problem) (n : ℕ) (case : CaseSystem) (f : ℕ) → system_fold lts tree basis class problem n (Ok case) → f < length case.forms → NamesLabels (labels lts) (plus (form_variable lts.initial (slice_index_or (split_forms lts class problem) f (on_tokens 0))) ∷ []) × Contains (split_forms lts class problem) (slice_index_or (split_forms lts class problem) f (on_tokens 0)) × form_fold lts tree basis class (slice_index_or (split_forms lts class problem) f (on_tokens 0)) (Ok (form_at case.forms f))
 form_named lts tree basis class problem n case f (all, made, (forms, forms_made, (columns, keeps, form_list))) lt =
-    let within : f < length (split_forms lts class) = subst (λ k. f < k) (ap length form_list ∙ each_length (form_fold lts tree basis class) (split_forms lts class) forms forms_made) lt in
-    let split = slice_index_or (split_forms lts class) f (on_tokens 0) in
-    let has : Contains (split_forms lts class) split = (f, within, get_or_default (split_forms lts class) f split (on_tokens 0) within) in
-    (form_names lts class split has, has, subst (λ (fs : List Form). form_fold lts tree basis class split (Ok (form_at fs f))) (sym form_list) (each_at (form_fold lts tree basis class) (split_forms lts class) forms f (on_tokens 0) (record { scale = pos 1; coeffs = []; low = pos 0; high = pos 0 }) forms_made within))
+    let within : f < length (split_forms lts class problem) = subst (λ k. f < k) (ap length form_list ∙ each_length (form_fold lts tree basis class) (split_forms lts class problem) forms forms_made) lt in
+    let split = slice_index_or (split_forms lts class problem) f (on_tokens 0) in
+    let has : Contains (split_forms lts class problem) split = (f, within, get_or_default (split_forms lts class problem) f split (on_tokens 0) within) in
+    (form_names lts class problem split has, has, subst (λ (fs : List Form). form_fold lts tree basis class split (Ok (form_at fs f))) (sym form_list) (each_at (form_fold lts tree basis class) (split_forms lts class problem) forms f (on_tokens 0) (record { scale = pos 1; coeffs = []; low = pos 0; high = pos 0 }) forms_made within))
 
 -- the variable of form f
-pub form_there : (lts : System) (tree : List Arc) (basis : CycleBasis) (class : Class) (problem : Problem) (n : ℕ) (case : CaseSystem) (f : ℕ) → system_fold lts tree basis class problem n (Ok case) → f < length case.forms → (split : SplitForm) × NamesLabels (labels lts) (plus (form_variable lts.initial split) ∷ []) × Contains (split_forms lts class) split × form_fold lts tree basis class split (Ok (form_at case.forms f))
-form_there lts tree basis class problem n case f made lt = let (names, has, fold) = form_named lts tree basis class problem n case f made lt in (slice_index_or (split_forms lts class) f (on_tokens 0), names, has, fold)
+pub form_there : (lts : System) (tree : List Arc) (basis : CycleBasis) (class : Class) (problem : Problem) (n : ℕ) (case : CaseSystem) (f : ℕ) → system_fold lts tree basis class problem n (Ok case) → f < length case.forms → (split : SplitForm) × NamesLabels (labels lts) (plus (form_variable lts.initial split) ∷ []) × Contains (split_forms lts class problem) split × form_fold lts tree basis class split (Ok (form_at case.forms f))
+form_there lts tree basis class problem n case f made lt = let (names, has, fold) = form_named lts tree basis class problem n case f made lt in (slice_index_or (split_forms lts class problem) f (on_tokens 0), names, has, fold)
 
 -- as many forms as variables
-pub form_count : (lts : System) (tree : List Arc) (basis : CycleBasis) (class : Class) (problem : Problem) (n : ℕ) (case : CaseSystem) → system_fold lts tree basis class problem n (Ok case) → length case.forms ≡ length (split_forms lts class)
-form_count lts tree basis class problem n case (all, made, (forms, forms_made, (columns, keeps, form_list))) = ap length form_list ∙ each_length (form_fold lts tree basis class) (split_forms lts class) forms forms_made
+pub form_count : (lts : System) (tree : List Arc) (basis : CycleBasis) (class : Class) (problem : Problem) (n : ℕ) (case : CaseSystem) → system_fold lts tree basis class problem n (Ok case) → length case.forms ≡ length (split_forms lts class problem)
+form_count lts tree basis class problem n case (all, made, (forms, forms_made, (columns, keeps, form_list))) = ap length form_list ∙ each_length (form_fold lts tree basis class) (split_forms lts class problem) forms forms_made

@@ -107,7 +107,7 @@ shared_stays lts class consumer scale x y (cap_row q) fine same positive tokens 
 shared_stays lts class consumer scale x y (up_row t) fine same positive tokens stands h = effect_stays lts (negsuc 0) (pos 1 *ℤ scale) x y t same (omega (arith, ints)) h
 shared_stays lts class consumer scale x y (down_row t) fine same positive tokens stands h = effect_stays lts (pos 1) (pos 1 *ℤ scale) x y t same (omega (arith, ints)) h
 shared_stays lts class consumer scale x y (makes_row t) fine same positive tokens stands h = effect_stays lts (pos 1) (pos 0 *ℤ scale) x y t same (omega (arith, ints)) h
-shared_stays lts class consumer scale x y (above_row d) fine same positive tokens stands h = absurd (true≢false (sym stands))
+shared_stays lts class consumer scale x y (above_row d) fine same positive tokens stands h = absurd stands
 shared_stays lts class consumer scale x y (stop_row q) fine same positive tokens stands h = absurd stands
 shared_stays lts class consumer scale x y block_row fine same positive tokens stands h = absurd stands
 shared_stays lts class consumer scale x y empty_row fine same positive tokens stands h = absurd stands

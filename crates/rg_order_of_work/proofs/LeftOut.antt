@@ -1,5 +1,5 @@
 -- Each row that stands is among the names, or left out.
-use Rattle.std.proofs.Common.{◌≡◌, ◌⊎◌, ⊎_elim, ℕ, ◌==◌, ◌&&◌, not, is_some, Bool, true, false, if◌then◌else◌, List, [], ◌∷◌, ◌++◌, map, Contains, inl, inr, refl, sym, ap, arith, eq-eqb, ne_eqb}
+use Rattle.std.proofs.Common.{◌≡◌, ◌⊎◌, ⊎_elim, ℕ, ◌==◌, ◌&&◌, not, is_some, Bool, true, false, if◌then◌else◌, List, [], ◌∷◌, ◌++◌, map, Contains, inl, inr, refl, ap, arith, eq-eqb, ne_eqb}
 use Rattle.std.proofs.lemmas.Bool.{true≢false, and_from, cases_Bool, cases_lt, not_from_false}
 use Rattle.std.proofs.lemmas.List.Elements.{Contains-append_left, Contains-append_right}
 use Rattle.rg_theory.specs.declared.Arc.{Arc}
@@ -70,7 +70,7 @@ shared_part lts class problem number (makes_row t) (lt, nonbranching, differ) =
     (λ e. inl (inr (inr (inr (inr (if_true class.nonbranching (map makes_row (numbers_where (λ u. has_label u lts.arcs && not (u == case_consumer lts problem number)) 0 (labels lts))) [] (makes_row t) nonbranching (Contains-map makes_row (numbers_where (λ u. has_label u lts.arcs && not (u == case_consumer lts problem number)) 0 (labels lts)) t (where_has (λ u. has_label u lts.arcs && not (u == case_consumer lts problem number)) 0 (labels lts) t (and_from (has_label t lts.arcs) (not (t == case_consumer lts problem number)) e (not_from_false (t == case_consumer lts problem number) (ne_eqb t (case_consumer lts problem number) differ))) (omega arith) (omega arith)))))))))
     (λ e. inr e)
     (cases_Bool (has_label t lts.arcs))
-shared_part lts class problem number (above_row d) stands = absurd (true≢false (sym stands))
+shared_part lts class problem number (above_row d) stands = absurd stands
 shared_part lts class problem number (stop_row q) stands = absurd stands
 shared_part lts class problem number block_row stands = absurd stands
 shared_part lts class problem number empty_row stands = absurd stands

@@ -29,3 +29,8 @@ pub mod FormBounds
 pub mod Opposites
 pub mod FormRows
 pub mod WholePoints
+pub mod StartBounds
+pub mod Missing
+pub mod Times
+pub mod Lifts
+pub mod StartAlone

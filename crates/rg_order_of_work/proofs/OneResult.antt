@@ -18,7 +18,7 @@ use Rattle.rg_fraction.specs.Rows.{IsRowGcd}
 use Rattle.rg_order_of_work.specs.Fold.{either, IsOne, Ratio, whole, IsRatio, add, mul, whole_sum}
 use Rattle.rg_linear.specs.Cycle.{CycleBasis}
 use Rattle.rg_order_of_work.specs.Rewriting.{dependent_term, coefficient_fold, substitute_fold, dependent_labels, free_labels, Scaled, scaled_fold, terms_fold, KeptRow, divided, row_fold, IsIdle, form_fold, CaseSystem, kept_of, system_fold, has_label, is_in, names_of, split_forms}
-use Rattle.rg_order_of_work.specs.Placing.{effect_fold, made_whole, along_tree, shift_fold, is_shifted, place_fold}
+use Rattle.rg_order_of_work.specs.Placing.{effect_fold, made_whole, along_tree, shift_fold, is_shifted, is_lifted, place_fold}
 use Rattle.rg_order_of_work.specs.Spreading.{Share, share_fold, Pair, pair_fold, chord_fold, ArcTimes, Addend, Addend.number, Addend.product, addend_fold, tree_fold, parts_of, sizes_fold, checked_leaf, used_chords, chord_arcs, named_from, arc_name, multiplier_among, not_zero, leaf_fold, spread_fold}
 use Rattle.rg_linear.proofs.Firsts.{same_kept}
 use Rattle.rg_order_of_work.proofs.FoldLemmas.{Same, gives_one, and_then_one, each_one, further_one, joined_one, term_one, ratio_one, quotient_one, two_terms_one, add_one, multiple_one}
@@ -106,7 +106,7 @@ pub kept_one : (lts : System) (basis : CycleBasis) (class : Class) (all : List K
 kept_one lts basis class all forms = record { one = kept_same lts basis class all forms }
 
 pub system_one : (lts : System) (tree : List Arc) (basis : CycleBasis) (class : Class) (problem : Problem) (number : ℕ) → IsOne (system_fold lts tree basis class problem number)
-system_one lts tree basis class problem n = and_then_one _ _ (each_one _ (λ name. row_one lts tree basis class name (row_expression lts class problem n [] name)) (names_of lts class problem n)) (λ all. and_then_one _ _ (each_one _ (form_one lts tree basis class) (split_forms lts class)) (λ forms. kept_one lts basis class all forms))
+system_one lts tree basis class problem n = and_then_one _ _ (each_one _ (λ name. row_one lts tree basis class name (row_expression lts class problem n [] name)) (names_of lts class problem n)) (λ all. and_then_one _ _ (each_one _ (form_one lts tree basis class) (split_forms lts class problem)) (λ forms. kept_one lts basis class all forms))
 
 -- ---- places
 
@@ -114,27 +114,29 @@ pub effect_one : (lts : System) (basis : CycleBasis) (value : ℕ → Ratio) (t 
 effect_one lts basis value t = either_one (not (has_label t lts.arcs)) _ _ (gives_one _) (either_one (is_in basis.members t) _ _ (gives_one _) (joined_one add _ add_one (λ f. and_then_one _ _ (quotient_one _ _) (λ k. two_terms_one _ _ _ _)) _ _))
 
 pub whole_one : (class : Class) (numbers : List Ratio) → IsOne (made_whole class numbers)
-whole_one class numbers = either_one (class.plain || is_some class.bound) _ _ (gives_one _) (and_then_one _ _ (multiple_one _) (λ m. each_one _ (λ r. two_terms_one _ _ _ _) _))
+whole_one class numbers = either_one (class.plain || is_some class.bound) _ _ (gives_one _) (and_then_one _ _ (multiple_one _) (λ m. and_then_one _ _ (each_one _ (λ r. two_terms_one _ _ _ _) _)
+    (λ products. either_one (is_some class.marking) _ _ (each_one _ (λ r. two_terms_one _ _ _ _) _) (gives_one _))))
 
 pub along_one : (effect number : ℕ → Ratio) (tree : List Arc) → IsOne (along_tree effect number tree)
 along_one effect m [] = gives_one _
 along_one effect f (a ∷ tree) = and_then_one _ _ (two_terms_one _ _ _ _) (λ m. along_one effect (λ s. if s == a.to then m else f s) tree)
 
-pub shift_one : (class : Class) (numbers : List Ratio) → IsOne (shift_fold class numbers)
-shift_one class numbers = either_one (is_shifted class) _ _ (each_one _ (λ m. two_terms_one _ _ _ _) _) (gives_one _)
+pub shift_one : (lts : System) (class : Class) (problem : Problem) (numbers : List Ratio) → IsOne (shift_fold lts class problem numbers)
+shift_one lts class problem numbers = and_then_one _ _ (either_one (is_shifted class) _ _ (each_one _ (λ m. two_terms_one _ _ _ _) _) (gives_one _))
+    (λ moved. either_one (is_lifted class problem) _ _ (each_one _ (λ m. two_terms_one _ _ _ _) _) (gives_one _))
 
 pub place_one : (lts : System) (tree : List Arc) (basis : CycleBasis) (class : Class) (problem : Problem) (start : Ratio) (value : ℕ → Ratio) → IsOne (place_fold lts tree basis class problem start value)
 place_one lts tree basis class problem start value =
     and_then_one _ _ (each_one _ (effect_one lts basis value) _)
     (λ effects. and_then_one _ _ (whole_one class _)
     (λ found. and_then_one _ _ (along_one _ _ tree)
-    (λ m. and_then_one _ _ (shift_one class _)
+    (λ m. and_then_one _ _ (shift_one lts class problem _)
     (λ numbers. and_then_one _ _ (each_one _ (λ u. term_one _) _) (λ post. gives_one _)))))
 
 -- ---- spreading
 
-pub share_one : (case : CaseSystem) (above : List SplitSide) (w : Weight) → IsOne (share_fold case above w)
-share_one case above w = and_then_one _ _ (two_terms_one _ _ _ _) (λ m. gives_one _)
+pub share_one : (case : CaseSystem) (sides : List SplitSide) (above : List Side) (w : Weight) → IsOne (share_fold case sides above w)
+share_one case sides above w = and_then_one _ _ (two_terms_one _ _ _ _) (λ m. gives_one _)
 
 pub pair_one : (tree : List Arc) (basis : CycleBasis) (expression : RowName → Expression) (c : ℕ) (p : Pair) → IsOne (pair_fold tree basis expression c p)
 pair_one tree basis expression c p = and_then_one _ _ (two_terms_one _ _ _ _) (λ x. and_then_one _ _ (quotient_one _ _) (λ k. two_terms_one _ _ _ _))
@@ -176,5 +178,5 @@ leaf_of_shares_one lts tree basis expression shares =
 
 pub spread_one : (lts : System) (tree : List Arc) (basis : CycleBasis) (class : Class) (problem : Problem) (number : ℕ) (case : CaseSystem) (sides : List SplitSide) (above : List Side) (weights : List Weight) → IsOne (spread_fold lts tree basis class problem number case sides above weights)
 spread_one lts tree basis class problem n case sides above weights =
-    and_then_one _ _ (each_one _ (share_one case sides) weights)
+    and_then_one _ _ (each_one _ (share_one case sides above) weights)
     (λ shares. leaf_of_shares_one lts tree basis (row_expression lts class problem n above) shares)

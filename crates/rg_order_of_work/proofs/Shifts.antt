@@ -45,7 +45,7 @@ shared_value lts class consumer scale by x y (cap_row q) none shift (lt, some) o
 shared_value lts class consumer scale by x y (up_row t) none shift (lt, plain) other = both class.plain (no_words class none).1 plain
 shared_value lts class consumer scale by x y (down_row t) none shift (lt, plain) other = both class.plain (no_words class none).1 plain
 shared_value lts class consumer scale by x y (makes_row t) none (tokens, effects) stands other = one_effect (pos 0 *ℤ scale) (x (effect_of t)) (y (effect_of t)) (effects t)
-shared_value lts class consumer scale by x y (above_row d) none shift stands other = absurd (true≢false (sym stands))
+shared_value lts class consumer scale by x y (above_row d) none shift stands other = absurd stands
 shared_value lts class consumer scale by x y (stop_row q) none shift stands other = absurd stands
 shared_value lts class consumer scale by x y block_row none shift stands other = absurd stands
 shared_value lts class consumer scale by x y empty_row none shift stands other = absurd stands

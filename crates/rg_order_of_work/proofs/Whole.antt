@@ -7,15 +7,15 @@ use Rattle.rg_theory.specs.declared.Class.{Class}
 use Rattle.rg_theory.specs.declared.Problem.{Problem}
 use Rattle.rg_theory.specs.declared.Problem.TheVariants.{Event, States}
 use Rattle.rg_theory.specs.System.{System}
-use Rattle.rg_refuting.specs.Expression.{Variable, Variable.tokens_at, Variable.effect_of, Term, value_in, numbers_by}
+use Rattle.rg_refuting.specs.Expression.{Variable, Term, value_in, numbers_by}
 use Rattle.rg_refuting.specs.Row.{RowName, RowName.arc_row, RowName.tokens_row, RowName.cap_row, RowName.up_row, RowName.down_row, RowName.makes_row, RowName.stop_row, RowName.block_row, RowName.empty_row, RowName.full_row, RowName.keep_row, RowName.apart_row, RowName.above_row, SharedStands, RowStands, shared_expression, row_expression, apart_expression, order_of, consumer_of, Says}
 use Rattle.rg_integers.proofs.ListSums.{sum_over-same}
 use Rattle.rg_order_of_work.specs.Meaning.{value_over, RowHolds, KeepsRowsOver, HasSolution, HasWholeSolutionIn}
-use Rattle.rg_order_of_work.proofs.CaseRows.{IsArcRow, says, said, tokens_row_holds}
+use Rattle.rg_order_of_work.proofs.CaseRows.{IsArcRow, says, said}
 use Rattle.rg_order_of_work.proofs.CaseMeaning.{whole_means}
 
 pub solution_of_whole : (lts : System) (class : Class) (problem : Problem) (number : ℕ) → HasWholeSolutionIn lts class problem number → HasSolution lts class problem number
-solution_of_whole lts class problem number (tokens, effect, keeps) = (pos 1, numbers_by tokens effect, omega (arith, ints), (whole_means lts class problem number (numbers_by tokens effect)).1 keeps)
+solution_of_whole lts class problem number (tokens, effect, start, keeps) = (pos 1, numbers_by tokens effect, omega (arith, ints), (whole_means lts class problem number (numbers_by tokens effect)).1 keeps)
 
 -- ---- the constants of rows
 
@@ -33,7 +33,7 @@ shared_low lts class consumer (cap_row q) plain bound (lt, some) = absurd (not_s
 shared_low lts class consumer (up_row t) plain bound (lt, is_plain) = absurd (true≢false (sym is_plain ∙ plain))
 shared_low lts class consumer (down_row t) plain bound (lt, is_plain) = absurd (true≢false (sym is_plain ∙ plain))
 shared_low lts class consumer (makes_row t) plain bound stands = inl refl
-shared_low lts class consumer (above_row d) plain bound stands = absurd (true≢false (sym stands))
+shared_low lts class consumer (above_row d) plain bound stands = absurd stands
 shared_low lts class consumer name plain bound stands = absurd stands
 
 event_low : (lts : System) (class : Class) (s t number : ℕ) (name : RowName) → class.plain ≡ false → IsNone class.bound → RowStands lts class (Event s t) number [] name → IsLow (row_expression lts class (Event s t) number [] name).constant
@@ -89,21 +89,10 @@ at_one lts class problem number scale x plain bound positive keeps name stands =
 pub same_numbers : (lts : System) (class : Class) (problem : Problem) (number : ℕ) (x y : Variable → ℤ) → ((v : Variable) → x v ≡ y v) → KeepsRowsOver lts class problem number (pos 1) x → KeepsRowsOver lts class problem number (pos 1) y
 same_numbers lts class problem number x y same keeps name stands = subst (Says name) (ap (λ z. z +ℤ ((row_expression lts class problem number [] name).constant *ℤ pos 1)) (sum_over-same (λ (t : Term). t.coefficient *ℤ x t.variable) (λ (t : Term). t.coefficient *ℤ y t.variable) (row_expression lts class problem number [] name).terms (λ t has. ap (λ z. t.coefficient *ℤ z) (same t.variable)))) (keeps name stands)
 
-tokens_stand : (lts : System) (class : Class) (problem : Problem) (number q : ℕ) → RowStands lts class problem number [] (tokens_row q)
+pub tokens_stand : (lts : System) (class : Class) (problem : Problem) (number q : ℕ) → RowStands lts class problem number [] (tokens_row q)
 tokens_stand lts class (Event s t) number q = tt
 tokens_stand lts class (States s s') number q = tt
 
 pub absolute : (z : ℤ) → pos 0 ≤ℤ z → z ≡ pos (unsigned_abs z)
 absolute (pos n) h = refl
 absolute (negsuc n) h = absurd (omega (arith, ints))
-
-pub whole_of_solution : (lts : System) (class : Class) (problem : Problem) (number : ℕ) → class.plain ≡ false → IsNone class.bound → HasSolution lts class problem number → HasWholeSolutionIn lts class problem number
-whole_of_solution lts class problem number plain bound (scale, x, positive, keeps) = (
-  λ q. unsigned_abs (x (tokens_at q)),
-  λ t. x (effect_of t),
-  (whole_means lts class problem number (numbers_by (λ q. unsigned_abs (x (tokens_at q))) (λ t. x (effect_of t)))).0 (same_numbers lts class problem number x (numbers_by (λ q. unsigned_abs (x (tokens_at q))) (λ t. x (effect_of t))) same (at_one lts class problem number scale x plain bound positive keeps)),
-)
-  where
-    same : (v : Variable) → x v ≡ numbers_by (λ q. unsigned_abs (x (tokens_at q))) (λ t. x (effect_of t)) v
-    same (tokens_at q) = absolute (x (tokens_at q)) ((tokens_row_holds lts class problem number scale x q).1 (keeps (tokens_row q) (tokens_stand lts class problem number q)))
-    same (effect_of t) = refl

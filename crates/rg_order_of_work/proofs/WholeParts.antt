@@ -116,7 +116,7 @@ shared_parts lts class consumer scale x y (cap_row q) fine parts tokens (lt, som
 shared_parts lts class consumer scale x y (up_row t) fine parts tokens stands h = effect_down lts scale x y t (pos 1) parts (omega (arith, ints)) h
 shared_parts lts class consumer scale x y (down_row t) fine parts tokens stands h = effect_up lts scale x y t (pos 1) parts (omega (arith, ints)) h
 shared_parts lts class consumer scale x y (makes_row t) fine parts tokens stands h = effect_up lts scale x y t (pos 0) parts (omega (arith, ints)) h
-shared_parts lts class consumer scale x y (above_row d) fine parts tokens stands h = absurd (true≢false (sym stands))
+shared_parts lts class consumer scale x y (above_row d) fine parts tokens stands h = absurd stands
 shared_parts lts class consumer scale x y (stop_row q) fine parts tokens stands h = absurd stands
 shared_parts lts class consumer scale x y block_row fine parts tokens stands h = absurd stands
 shared_parts lts class consumer scale x y empty_row fine parts tokens stands h = absurd stands

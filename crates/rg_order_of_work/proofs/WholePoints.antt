@@ -1,5 +1,5 @@
 -- The system of a case has a point with whole forms exactly where whole numbers keep all rows of the case.
-use Rattle.std.proofs.Common.{◌≡◌, ◌⊎◌, ⊎_elim, ◌↔◌, ℕ, zero, suc, ◌/◌, ◌%◌, ◌<◌, ◌≤◌, is_some, Option, Some, None, IsNone, Bool, true, false, if◌then◌else◌, List, [], ◌∷◌, length, map, Contains, ◌==◌, eqb-true, inl, inr, refl, sym, ap, subst, ◌∙◌, arith}
+use Rattle.std.proofs.Common.{◌≡◌, ◌⊎◌, ⊎_elim, ◌↔◌, ℕ, zero, suc, ◌/◌, ◌%◌, ◌<◌, ◌≤◌, ◌+◌, ◌++◌, ◌&&◌, ◌||◌, is_some, unwrap_or, IfSome, Option, Some, None, IsNone, Bool, true, false, if◌then◌else◌, List, [], ◌∷◌, length, map, Contains, ◌==◌, eqb-true, inl, inr, refl, sym, ap, subst, ◌∙◌, arith}
 use Rattle.std.specs.Prelude.{ℤ, pos, negsuc, ◌+ℤ◌, ◌-ℤ◌, ◌*ℤ◌, ◌<ℤ◌, ◌≤ℤ◌, unsigned_abs}
 use Rattle.std.proofs.Math.Nat.{div-add-mod'}
 use Rattle.std.proofs.Math.IntN.{*ℤ-zero}
@@ -8,29 +8,38 @@ use Rattle.std.proofs.lemmas.Bool.{true≢false, cases_lt, cases_Bool}
 use Rattle.rg_theory.specs.declared.Arc.{Arc}
 use Rattle.rg_theory.specs.declared.Class.{Class}
 use Rattle.rg_theory.specs.declared.Problem.{Problem}
+use Rattle.rg_theory.specs.declared.Problem.TheVariants.{Event, States}
+use Rattle.rg_theory.specs.Class.{IsMultiple, AllowsStart}
+use Rattle.rg_theory.specs.ClassWords.{HasNumbersInRange}
 use Rattle.rg_theory.specs.System.{System, IsInRange, states, labels}
 use Rattle.rg_theory.proofs.Arcs.{arc_in_range}
-use Rattle.rg_theory.specs.Tree.{parikh}
+use Rattle.rg_theory.specs.Tree.{IsTree, parikh}
 use Rattle.rg_integers.specs.Sum.{sum_below}
 use Rattle.rg_integers.proofs.Ring.{ring}
 use Rattle.rg_integers.proofs.Order.{mul_positive}
 use Rattle.rg_linear.specs.Cycle.{CycleBasis}
 use Rattle.rg_refuting.specs.Expression.{Variable, Variable.tokens_at, Variable.effect_of, numbers_by}
-use Rattle.rg_refuting.specs.Row.{Form as SplitForm, Form.on_tokens, Form.on_effect, form_variable, cases_of}
+use Rattle.rg_refuting.specs.Row.{Form as SplitForm, Form.on_tokens, Form.on_effect, Form.on_start, RowName.tokens_row, form_variable, step_of, cases_of}
 use Rattle.rg_refuting.specs.Refutes.{IsSeparationProblem, IsSeparable}
 use Rattle.rg_refuting.proofs.Making.{rows_exact}
-use Rattle.rg_order_of_work.specs.Rewriting.{has_label, has_start, split_forms, CaseSystem, used_labels, all_numbers}
+use Rattle.rg_order_of_work.specs.Rewriting.{has_label, has_start, splits_start, split_forms, CaseSystem, used_labels, all_numbers}
 use Rattle.rg_order_of_work.specs.Shown.{IsLive}
 use Rattle.rg_order_of_work.specs.Values.{numbers_along}
 use Rattle.rg_order_of_work.specs.WholeParts.{AreWholeParts, HasWholePoint, SomeCaseHasWholePoint}
-use Rattle.rg_order_of_work.specs.Meaning.{IsCaseOver, AreEffects, used_effect, KeepsRowsOver, HasWholeSolutionIn}
+use Rattle.rg_order_of_work.specs.Meaning.{IsCaseOver, AreEffects, used_effect, KeepsRowsOver, HasWholeSolutionIn, shifted}
 use Rattle.rg_order_of_work.proofs.CaseMeaning.{start_means, whole_means}
 use Rattle.rg_order_of_work.proofs.Kept.{arc_value, effects_given, meets_given}
 use Rattle.rg_order_of_work.proofs.PointEffects.{point_gives}
 use Rattle.rg_order_of_work.proofs.Points.{point_meets, given_point, points_exact}
-use Rattle.rg_order_of_work.proofs.Whole.{solution_of_whole, whole_of_solution, same_numbers, absolute}
-use Rattle.rg_order_of_work.proofs.WholeParts.{whole_tokens, whole_rows}
-use Rattle.rg_order_of_work.proofs.Forms.{variable_multiple, whole_forms, bounded_has, plain_has, form_names, form_there, form_count, start_of_bound, start_of_plain}
+use Rattle.rg_order_of_work.proofs.Whole.{solution_of_whole, same_numbers, tokens_stand, absolute}
+use Rattle.rg_order_of_work.proofs.Times.{whole_of_solution, allows_by, steps_by, start_steps}
+use Rattle.rg_order_of_work.specs.Placing.{missing}
+use Rattle.rg_order_of_work.proofs.Missing.{missing_is_least}
+use Rattle.rg_order_of_work.proofs.Lifts.{lifted_keeps}
+use Rattle.rg_order_of_work.proofs.CaseRows.{tokens_row_holds}
+use Rattle.rg_order_of_work.proofs.Along.{number_at_first}
+use Rattle.rg_order_of_work.proofs.WholeParts.{whole_rows}
+use Rattle.rg_order_of_work.proofs.Forms.{variable_multiple, whole_forms, bounded_has, plain_has, start_has, form_names, form_there, form_count, start_of_bound, start_of_plain}
 
 -- ---- whole parts
 
@@ -135,35 +144,86 @@ module _ (lts : System) (k : ℤ) (positive : pos 0 <ℤ k) (x : Variable → �
   pub some_parts : (y : Variable → ℤ) × AreWholeParts lts k x y × ((q : ℕ) → q < states lts → x (tokens_at q) ≡ (k *ℤ y (tokens_at q)) +ℤ rest)
   some_parts = (chosen, chosen_parts, chosen_tokens)
 
--- whole parts keep the rows
-solve_parts : (lts : System) (class : Class) (problem : Problem) (number : ℕ) (k : ℤ) (x y : Variable → ℤ) → IsInRange lts → IsSeparationProblem lts problem → IsLive lts problem → AreWholeParts lts k x y → KeepsRowsOver lts class problem number k x → HasWholeSolutionIn lts class problem number
-solve_parts lts class problem number k x y fine asked live parts keeps = (
+-- whole numbers that keep the rows are a solution where the class allows their start
+solve_kept : (lts : System) (class : Class) (problem : Problem) (number : ℕ) (y : Variable → ℤ) → AllowsStart class (unsigned_abs (y (tokens_at lts.initial))) → KeepsRowsOver lts class problem number (pos 1) y → HasWholeSolutionIn lts class problem number
+solve_kept lts class problem number y allows keeps = (
   λ q. unsigned_abs (y (tokens_at q)),
   λ t. y (effect_of t),
+  allows,
   (whole_means lts class problem number (numbers_by (λ q. unsigned_abs (y (tokens_at q))) (λ t. y (effect_of t)))).0
-      (same_numbers lts class problem number y (numbers_by (λ q. unsigned_abs (y (tokens_at q))) (λ t. y (effect_of t))) same (whole_rows lts class problem number k x y fine asked live parts keeps)),
+      (same_numbers lts class problem number y (numbers_by (λ q. unsigned_abs (y (tokens_at q))) (λ t. y (effect_of t))) same keeps),
 )
   where
     same : (v : Variable) → y v ≡ numbers_by (λ q. unsigned_abs (y (tokens_at q))) (λ t. y (effect_of t)) v
-    same (tokens_at q) = absolute (y (tokens_at q)) (whole_tokens lts class problem number k x y q parts keeps)
+    same (tokens_at q) = absolute (y (tokens_at q)) ((tokens_row_holds lts class problem number (pos 1) y q).1 (keeps (tokens_row q) (tokens_stand lts class problem number q)))
     same (effect_of t) = refl
+
+-- whole parts do
+solve_parts : (lts : System) (class : Class) (problem : Problem) (number : ℕ) (k : ℤ) (x y : Variable → ℤ) → IsInRange lts → IsSeparationProblem lts problem → IsLive lts problem → AllowsStart class (unsigned_abs (y (tokens_at lts.initial))) → AreWholeParts lts k x y → KeepsRowsOver lts class problem number k x → HasWholeSolutionIn lts class problem number
+solve_parts lts class problem number k x y fine asked live allows parts keeps = solve_kept lts class problem number y allows (whole_rows lts class problem number k x y fine asked live parts keeps)
+
+-- in a problem of two states and a class without bound the class allows their start after a lift
+solve_lifted : (lts : System) (class : Class) (s s' number : ℕ) (y : Variable → ℤ) → is_some class.bound ≡ false → HasNumbersInRange class → KeepsRowsOver lts class (States s s') number (pos 1) y → HasWholeSolutionIn lts class (States s s') number
+solve_lifted lts class s s' number y bound numbers keeps =
+    solve_kept lts class (States s s') number (shifted (pos more) y) (subst (λ m. AllowsStart class m) (sum_is (y (tokens_at lts.initial)) more above) (lifted class.marking numbers.marking))
+    (lifted_keeps lts class bound (pos more) (omega (arith, ints)) y s s' number keeps)
+  where
+    more : ℕ
+    more = missing (unwrap_or class.marking 1) (unsigned_abs (y (tokens_at lts.initial)))
+
+    above : pos 0 ≤ℤ y (tokens_at lts.initial)
+    above = (tokens_row_holds lts class (States s s') number (pos 1) y lts.initial).1 (keeps (tokens_row lts.initial) tt)
+
+    sum_is : (z : ℤ) (m : ℕ) → pos 0 ≤ℤ z → unsigned_abs z + m ≡ unsigned_abs (z +ℤ pos m)
+    sum_is z m h = omega (arith, ints)
+
+    lifted : (o : Option ℕ) → IfSome o (λ n. (0 < n) × (n ≤ 255)) → IfSome o (λ n. IsMultiple n (unsigned_abs (y (tokens_at lts.initial)) + missing (unwrap_or o 1) (unsigned_abs (y (tokens_at lts.initial)))))
+    lifted None h = tt
+    lifted (Some n) (some, few) = (missing_is_least n (unsigned_abs (y (tokens_at lts.initial))) some).0
 
 -- ---- numbers along the tree whose forms are whole
 
-module _ (lts : System) (tree : List Arc) (basis : CycleBasis) (class : Class) (problem : Problem) (number : ℕ) (fine : IsInRange lts) (k : ℤ) (positive : pos 0 <ℤ k) (start : ℤ) (effect : ℕ → ℤ) (e : AreEffects lts tree basis effect) (keeps : KeepsRowsOver lts class problem number k (numbers_along lts tree start effect)) (whole : (split : SplitForm) → Contains (split_forms lts class) split → IsTimes k (numbers_along lts tree start effect (form_variable lts.initial split))) where
+-- the start is split on in a bounded class, and in an event problem of a plain one
+bounded_splits : (class : Class) (problem : Problem) → is_some class.marking ≡ true → is_some class.bound ≡ true → splits_start class problem ≡ true
+bounded_splits class (Event s t) m b = by (is_some class.marking) class.plain (is_some class.bound) m b
+  where
+    by : (m p b : Bool) → m ≡ true → b ≡ true → (m && (p || b)) ≡ true
+    by true true b e f = refl
+    by true false b e f = f
+    by false p b e f = e
+bounded_splits class (States s s') m b = by (is_some class.marking) (is_some class.bound) m b
+  where
+    by : (m b : Bool) → m ≡ true → b ≡ true → (m && b) ≡ true
+    by true b e f = f
+    by false b e f = e
+
+plain_splits : (class : Class) (s t : ℕ) → is_some class.marking ≡ true → class.plain ≡ true → splits_start class (Event s t) ≡ true
+plain_splits class s t m p = by (is_some class.marking) class.plain (is_some class.bound) m p
+  where
+    by : (m p b : Bool) → m ≡ true → p ≡ true → (m && (p || b)) ≡ true
+    by true true b e f = refl
+    by true false b e f = absurd (true≢false (sym f))
+    by false p b e f = e
+
+-- a class without marking allows every start
+allowed : (class : Class) (m : ℕ) → (is_some class.marking ≡ true → AllowsStart class m) → AllowsStart class m
+allowed class m some = by class.marking some
+  where
+    by : (o : Option ℕ) → (is_some o ≡ true → IfSome o (λ n. IsMultiple n m)) → IfSome o (λ n. IsMultiple n m)
+    by None h = tt
+    by (Some n) h = h refl
+
+module _ (lts : System) (tree : List Arc) (basis : CycleBasis) (class : Class) (problem : Problem) (number : ℕ) (fine : IsInRange lts) (g : IsTree lts tree) (k : ℤ) (positive : pos 0 <ℤ k) (start : ℤ) (effect : ℕ → ℤ) (e : AreEffects lts tree basis effect) (keeps : KeepsRowsOver lts class problem number k (numbers_along lts tree start effect)) (whole : (split : SplitForm) → Contains (split_forms lts class problem) split → IsTimes k (numbers_along lts tree start effect (form_variable lts.initial split))) (starts : splits_start class problem ≡ true → (u : ℤ) × (numbers_along lts tree start effect (tokens_at lts.initial) ≡ k *ℤ (pos (unwrap_or class.marking 1) *ℤ u))) where
   -- where all tokens are whole
-  pub bounded_parts : is_some class.bound ≡ true → (y : Variable → ℤ) × AreWholeParts lts k (numbers_along lts tree start effect) y × ((q : ℕ) → q < states lts → numbers_along lts tree start effect (tokens_at q) ≡ k *ℤ y (tokens_at q))
+  pub bounded_parts : is_some class.bound ≡ true → (y : Variable → ℤ) × AreWholeParts lts k (numbers_along lts tree start effect) y × AllowsStart class (unsigned_abs (y (tokens_at lts.initial)))
   bounded_parts bound =
-      let tokens : (q : ℕ) → q < states lts → (u : ℤ) × (numbers_along lts tree start effect (tokens_at q) ≡ (k *ℤ u) +ℤ pos 0) = λ q lt. (let (u, h) = whole (on_tokens q) (bounded_has lts class q bound lt) in (u, more _ _ h)) in
+      let tokens : (q : ℕ) → q < states lts → (u : ℤ) × (numbers_along lts tree start effect (tokens_at q) ≡ (k *ℤ u) +ℤ pos 0) = λ q lt. (let (u, h) = whole (on_tokens q) (bounded_has lts class problem q bound lt) in (u, more _ _ h)) in
       let effects : (t : ℕ) → has_label t lts.arcs ≡ true → IsTimes k (effect t) = λ t h. of_arc t (label_found t lts.arcs h) in
       let (y, parts, exact) = some_parts lts k positive (numbers_along lts tree start effect) (pos 0) (omega (arith, ints)) positive tokens effects in
-      (y, parts, λ q lt. less_none (numbers_along lts tree start effect (tokens_at q)) (k *ℤ y (tokens_at q)) (exact q lt))
+      (y, parts, allowed class (unsigned_abs (y (tokens_at lts.initial))) (λ some. (let (u, h) = starts (bounded_splits class problem some bound) in allows_by class (y (tokens_at lts.initial)) u (start_steps (unwrap_or class.marking 1) k (numbers_along lts tree start effect (tokens_at lts.initial)) (y (tokens_at lts.initial)) (pos 0) u (omega (arith, ints)) positive (exact lts.initial fine.initial) h))))
     where
       more : (z y : ℤ) → z ≡ y → z ≡ y +ℤ pos 0
       more z y e = omega (arith, ints)
-
-      less_none : (z y : ℤ) → z ≡ y +ℤ pos 0 → z ≡ y
-      less_none z y e = omega (arith, ints)
 
       less : (k a e b u w : ℤ) → a ≡ k *ℤ u → b ≡ k *ℤ w → a +ℤ e ≡ b → e ≡ k *ℤ (w -ℤ u)
       less k a e b u w h g m = let d : k *ℤ (w -ℤ u) ≡ (k *ℤ w) -ℤ (k *ℤ u) = simp ring (omega (arith, ints)) in omega (arith, ints)
@@ -171,22 +231,22 @@ module _ (lts : System) (tree : List Arc) (basis : CycleBasis) (class : Class) (
       of_arc : (t : ℕ) → (a : Arc) × Contains lts.arcs a × (a.label ≡ t) → IsTimes k (effect t)
       of_arc t (a, has, is) =
           let ranges = arc_in_range lts fine a.from a.label a.to has in
-          let (u, h) = whole (on_tokens a.from) (bounded_has lts class a.from bound ranges.0) in
-          let (w, h') = whole (on_tokens a.to) (bounded_has lts class a.to bound ranges.2) in
+          let (u, h) = whole (on_tokens a.from) (bounded_has lts class problem a.from bound ranges.0) in
+          let (w, h') = whole (on_tokens a.to) (bounded_has lts class problem a.to bound ranges.2) in
           let m = arc_value lts class problem number k (numbers_along lts tree start effect) a.from a.label a.to keeps has in
           (w -ℤ u, subst (λ n. effect n ≡ k *ℤ (w -ℤ u)) is (less k _ _ _ u w h h' m))
 
   -- where all effects of labels with an arc are whole
-  pub plain_parts : is_some class.bound ≡ false → class.plain ≡ true → (y : Variable → ℤ) × AreWholeParts lts k (numbers_along lts tree start effect) y
+  pub plain_parts : is_some class.bound ≡ false → class.plain ≡ true → (y : Variable → ℤ) × AreWholeParts lts k (numbers_along lts tree start effect) y × (splits_start class problem ≡ true → (u : ℤ) × (y (tokens_at lts.initial) ≡ pos (unwrap_or class.marking 1) *ℤ u))
   plain_parts bound plain =
       let effects : (t : ℕ) → has_label t lts.arcs ≡ true → IsTimes k (effect t) = λ t h. (let (a, has, is) = label_found t lts.arcs h in
       let lt : t < labels lts = subst (λ n. n < labels lts) is (arc_in_range lts fine a.from a.label a.to has).1 in
-      whole (on_effect t) (plain_has lts class t bound plain lt h)) in
+      whole (on_effect t) (plain_has lts class problem t bound plain lt h)) in
       let parts = parts_by start k positive in
       let tokens : (q : ℕ) → q < states lts → (u : ℤ) × (numbers_along lts tree start effect (tokens_at q) ≡ (k *ℤ u) +ℤ parts.rest) = λ q lt. (let (u, h) = sum_times k (labels lts) (λ t. pos (parikh tree q t) *ℤ effect t) (λ t below. scaled k (pos (parikh tree q t)) (effect t) (⊎_elim (λ used. effects t used) (λ none. (pos 0, e.unused t none ∙ sym (*ℤ-zero k))) (cases_Bool (has_label t lts.arcs)))) in
       (parts.part +ℤ u, joined k start _ parts.part parts.rest u parts.is h)) in
       let (y, are, exact) = some_parts lts k positive (numbers_along lts tree start effect) parts.rest parts.not_negative parts.below tokens effects in
-      (y, are)
+      (y, are, λ splits. (let (u, h) = starts splits in (u, start_steps (unwrap_or class.marking 1) k (numbers_along lts tree start effect (tokens_at lts.initial)) (y (tokens_at lts.initial)) parts.rest u parts.not_negative parts.below (exact lts.initial fine.initial) h)))
     where
       scaled : (k n z : ℤ) → IsTimes k z → IsTimes k (n *ℤ z)
       scaled k n z (u, e) = (n *ℤ u, ap (λ y. n *ℤ y) e ∙ turn n k u)
@@ -197,32 +257,55 @@ module _ (lts : System) (tree : List Arc) (basis : CycleBasis) (class : Class) (
       joined : (k s m a r u : ℤ) → s ≡ (k *ℤ a) +ℤ r → m ≡ k *ℤ u → s +ℤ m ≡ (k *ℤ (a +ℤ u)) +ℤ r
       joined k s m a r u e h = let d : k *ℤ (a +ℤ u) ≡ (k *ℤ a) +ℤ (k *ℤ u) = simp ring (omega (arith, ints)) in omega (arith, ints)
 
+-- of an event by the form of the start, of two states by a lift
+by_problem : (lts : System) (class : Class) (problem : Problem) (number : ℕ) (k : ℤ) (x y : Variable → ℤ) → IsInRange lts → IsSeparationProblem lts problem → IsLive lts problem → HasNumbersInRange class → is_some class.bound ≡ false → class.plain ≡ true → AreWholeParts lts k x y → KeepsRowsOver lts class problem number k x → (splits_start class problem ≡ true → (u : ℤ) × (y (tokens_at lts.initial) ≡ pos (unwrap_or class.marking 1) *ℤ u)) → HasWholeSolutionIn lts class problem number
+by_problem lts class (Event s t) number k x y fine asked live numbers bound plain are keeps starts =
+    solve_parts lts class (Event s t) number k x y fine asked live (allowed class (unsigned_abs (y (tokens_at lts.initial))) (λ some. (let (u, h) = starts (plain_splits class s t some plain) in allows_by class (y (tokens_at lts.initial)) u h))) are keeps
+by_problem lts class (States s s') number k x y fine asked live numbers bound plain are keeps starts =
+    solve_lifted lts class s s' number y bound numbers (whole_rows lts class (States s s') number k x y fine asked live are keeps)
+
 -- ---- points with whole forms
 
 module _ (lts : System) (tree : List Arc) (basis : CycleBasis) (class : Class) (problem : Problem) (number : ℕ) (case : CaseSystem) (c : IsCaseOver lts tree basis class problem number case) (live : IsLive lts problem) where
-  -- the point gives whole parts
-  point_solution : has_start class ≡ true → ((k : ℤ) (start : ℤ) (effect : ℕ → ℤ) → pos 0 <ℤ k → AreEffects lts tree basis effect → KeepsRowsOver lts class problem number k (numbers_along lts tree start effect) → ((split : SplitForm) → Contains (split_forms lts class) split → IsTimes k (numbers_along lts tree start effect (form_variable lts.initial split))) → (y : Variable → ℤ) × AreWholeParts lts k (numbers_along lts tree start effect) y) → HasWholePoint case → HasWholeSolutionIn lts class problem number
-  point_solution starts parts (scale, v, p, meets, whole) =
+  abbrev WholeAt : ℤ → ℤ → (ℕ → ℤ) → Type 0
+  WholeAt k start effect = ((split : SplitForm) → Contains (split_forms lts class problem) split → IsTimes k (numbers_along lts tree start effect (form_variable lts.initial split))) × (splits_start class problem ≡ true → (u : ℤ) × (numbers_along lts tree start effect (tokens_at lts.initial) ≡ k *ℤ (pos (unwrap_or class.marking 1) *ℤ u)))
+
+  -- the point gives numbers along the tree with whole forms
+  point_solution : has_start class ≡ true → ((k : ℤ) (start : ℤ) (effect : ℕ → ℤ) → pos 0 <ℤ k → AreEffects lts tree basis effect → KeepsRowsOver lts class problem number k (numbers_along lts tree start effect) → WholeAt k start effect → HasWholeSolutionIn lts class problem number) → HasWholePoint case → HasWholeSolutionIn lts class problem number
+  point_solution starts solve (scale, v, p, meets, whole) =
       let (times, start, effect, g) = point_gives lts tree basis class problem number case v c in
       let k : pos 0 <ℤ (times *ℤ scale) = mul_positive times scale g.positive p.positive in
       let keeps = (start_means lts tree basis class problem number case start effect (times *ℤ scale) c g.effects k starts).0 ((point_meets lts tree basis class problem number case v scale times start effect c p g).0 meets) in
-      let (y, are) = parts (times *ℤ scale) start effect k g.effects keeps (λ split has. variable_multiple lts tree basis class problem number case c v scale times start effect split starts whole g (form_names lts class split has) has) in
-      solve_parts lts class problem number (times *ℤ scale) (numbers_along lts tree start effect) y c.in_range c.asked live are keeps
+      let steps : (split : SplitForm) → Contains (split_forms lts class problem) split → (u : ℤ) × (numbers_along lts tree start effect (form_variable lts.initial split) ≡ (times *ℤ scale) *ℤ (pos (step_of class split) *ℤ u)) = λ split has. variable_multiple lts tree basis class problem number case c v scale times start effect split starts whole g (form_names lts class problem split has) has in
+      solve (times *ℤ scale) start effect k g.effects keeps
+      ((λ split has. (let (u, h) = steps split has in (pos (step_of class split) *ℤ u, h))), (λ splits. steps on_start (start_has lts class problem splits)))
 
   bounded_solution : is_some class.bound ≡ true → HasWholePoint case → HasWholeSolutionIn lts class problem number
-  bounded_solution bound = point_solution (start_of_bound class bound) (λ k start effect positive e keeps whole. (let (y, are, _) = bounded_parts lts tree basis class problem number c.in_range k positive start effect e keeps whole bound in (y, are)))
+  bounded_solution bound = point_solution (start_of_bound class bound) (λ k start effect positive e keeps (whole, steps).
+      (let (y, are, allows) = bounded_parts lts tree basis class problem number c.in_range c.is_tree k positive start effect e keeps whole steps bound in
+      solve_parts lts class problem number k (numbers_along lts tree start effect) y c.in_range c.asked live allows are keeps))
 
   plain_solution : is_some class.bound ≡ false → class.plain ≡ true → HasWholePoint case → HasWholeSolutionIn lts class problem number
-  plain_solution bound plain = point_solution (start_of_plain class plain) (λ k start effect positive e keeps whole. plain_parts lts tree basis class problem number c.in_range k positive start effect e keeps whole bound plain)
+  plain_solution bound plain = point_solution (start_of_plain class plain) (λ k start effect positive e keeps (whole, steps).
+      (let (y, are, start_is) = plain_parts lts tree basis class problem number c.in_range c.is_tree k positive start effect e keeps whole steps bound plain in
+      by_problem lts class problem number k (numbers_along lts tree start effect) y c.in_range c.asked live c.numbers bound plain are keeps start_is))
 
   -- whole numbers give a point with whole forms
   whole_point : has_start class ≡ true → HasWholeSolutionIn lts class problem number → HasWholePoint case
-  whole_point starts (tokens, effect, keeps) =
+  whole_point starts (tokens, effect, allows, keeps) =
       let x = numbers_by tokens effect in
       let keeps' = (whole_means lts class problem number x).1 keeps in
       let e = effects_given lts tree basis class problem number case x (pos 1) c keeps' in
       let (v, p, g) = given_point lts tree basis class problem number case (x (tokens_at lts.initial)) (used_effect lts x) (pos 1) c e (omega (arith, ints)) in
-      (pos 1, v, p, (point_meets lts tree basis class problem number case v (pos 1) (pos 1) (x (tokens_at lts.initial)) (used_effect lts x) c p g).1 (meets_given lts tree basis class problem number case x (pos 1) c live (omega (arith, ints)) keeps'), λ f lt. (let (var, names, has, made) = form_there lts tree basis class problem number case f c.is_case lt in whole_forms lts tree basis class problem number case c v (x (tokens_at lts.initial)) (used_effect lts x) f var starts g names made))
+      (pos 1, v, p, (point_meets lts tree basis class problem number case v (pos 1) (pos 1) (x (tokens_at lts.initial)) (used_effect lts x) c p g).1 (meets_given lts tree basis class problem number case x (pos 1) c live (omega (arith, ints)) keeps'), λ f lt. (let (var, names, has, made) = form_there lts tree basis class problem number case f c.is_case lt in let (w, is) = steps_of tokens allows (used_effect lts x) var in whole_forms lts tree basis class problem number case c v (x (tokens_at lts.initial)) (used_effect lts x) f var w starts g names made is))
+    where
+      one : (z : ℤ) → z ≡ pos 1 *ℤ z
+      one z = omega (arith, ints)
+
+      steps_of : (tokens : ℕ → ℕ) → AllowsStart class (tokens lts.initial) → (effect : ℕ → ℤ) (split : SplitForm) → (w : ℤ) × (numbers_along lts tree (pos (tokens lts.initial)) effect (form_variable lts.initial split) ≡ pos (step_of class split) *ℤ w)
+      steps_of tokens allows effect (on_tokens q) = (numbers_along lts tree (pos (tokens lts.initial)) effect (tokens_at q), one (numbers_along lts tree (pos (tokens lts.initial)) effect (tokens_at q)))
+      steps_of tokens allows effect (on_effect t) = (effect t, one (effect t))
+      steps_of tokens allows effect on_start = let (w, is) = steps_by class (tokens lts.initial) allows in (w, number_at_first lts tree (pos (tokens lts.initial)) effect c.is_tree ∙ is)
 
   -- a class without forms
   no_bound : is_some class.bound ≡ false → IsNone class.bound
@@ -234,13 +317,29 @@ module _ (lts : System) (tree : List Arc) (basis : CycleBasis) (class : Class) (
 
   formless : is_some class.bound ≡ false → class.plain ≡ false → HasWholePoint case ↔ HasWholeSolutionIn lts class problem number
   formless bound plain = (
-    (λ (scale, v, p, meets, whole). whole_of_solution lts class problem number plain (no_bound bound) ((points_exact lts tree basis class problem number case c live).0 (scale, v, p, meets))),
+    (λ (scale, v, p, meets, whole). whole_of_solution lts class problem number plain (no_bound bound) c.numbers ((points_exact lts tree basis class problem number case c live).0 (scale, v, p, meets))),
     (λ solution. (let (scale, v, p, meets) = (points_exact lts tree basis class problem number case c live).1 (solution_of_whole lts class problem number solution) in
         (scale, v, p, meets, λ f lt. absurd (none f (form_count lts tree basis class problem number case c.is_case ∙ ap length (no_variable bound plain)) lt)))),
   )
     where
-      no_variable : is_some class.bound ≡ false → class.plain ≡ false → split_forms lts class ≡ []
-      no_variable b p = ap (λ x. if x then map on_tokens (all_numbers (states lts)) else (if class.plain then map on_effect (used_labels lts) else [])) b ∙ ap (λ x. if x then map on_effect (used_labels lts) else []) p
+      no_variable : is_some class.bound ≡ false → class.plain ≡ false → split_forms lts class problem ≡ []
+      no_variable b p =
+          ap (λ x. (if x then map on_tokens (all_numbers (states lts)) else (if class.plain then map on_effect (used_labels lts) else [])) ++ (if splits_start class problem then (on_start ∷ []) else [])) b
+          ∙ ap (λ x. (if x then map on_effect (used_labels lts) else []) ++ (if splits_start class problem then (on_start ∷ []) else [])) p
+          ∙ ap (λ x. if x then (on_start ∷ []) else []) (no_splits problem)
+        where
+          no_splits : (p' : Problem) → splits_start class p' ≡ false
+          no_splits (Event s t) = by (is_some class.marking) class.plain (is_some class.bound) p b
+            where
+              by : (m p b : Bool) → p ≡ false → b ≡ false → (m && (p || b)) ≡ false
+              by true true b e f = e
+              by true false b e f = f
+              by false p b e f = refl
+          no_splits (States s s') = by (is_some class.marking) (is_some class.bound) b
+            where
+              by : (m b : Bool) → b ≡ false → (m && b) ≡ false
+              by true b f = f
+              by false b f = refl
 
       none : (f : ℕ) → length case.forms ≡ 0 → f < length case.forms → ⊥
       none f e lt = omega arith
@@ -254,6 +353,6 @@ module _ (lts : System) (tree : List Arc) (basis : CycleBasis) (class : Class) (
 pub whole_point_separates : (lts : System) (tree : List Arc) (basis : CycleBasis) (class : Class) (problem : Problem) (case : ℕ → CaseSystem) → IsLive lts problem → 0 < cases_of lts class problem → ((number : ℕ) → number < cases_of lts class problem → IsCaseOver lts tree basis class problem number (case number)) → SomeCaseHasWholePoint lts class problem case ↔ IsSeparable lts class problem
 whole_point_separates lts tree basis class problem case live some c =
     let exact = rows_exact lts class problem (c 0 some).in_range (c 0 some).asked some in (
-      (λ (number, lt, point). (let (tokens, effect, keeps) = (whole_points_exact lts tree basis class problem number (case number) (c number lt) live).0 point in exact.1 (number, lt, tokens, effect, keeps))),
-      (λ separable. (let (number, lt, tokens, effect, keeps) = exact.0 separable in (number, lt, (whole_points_exact lts tree basis class problem number (case number) (c number lt) live).1 (tokens, effect, keeps)))),
+      (λ (number, lt, point). (let (tokens, effect, allows, keeps) = (whole_points_exact lts tree basis class problem number (case number) (c number lt) live).0 point in exact.1 (number, lt, tokens, effect, allows, keeps))),
+      (λ separable. (let (number, lt, tokens, effect, allows, keeps) = exact.0 separable in (number, lt, (whole_points_exact lts tree basis class problem number (case number) (c number lt) live).1 (tokens, effect, allows, keeps)))),
     )

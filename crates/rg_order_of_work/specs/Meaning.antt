@@ -4,6 +4,8 @@ use Rattle.rg_theory.specs.declared.Arc.{Arc}
 use Rattle.rg_theory.specs.System.{System, IsInRange, IsAllReachable, states}
 use Rattle.rg_theory.specs.Tree.{IsTree}
 use Rattle.rg_theory.specs.declared.Class.{Class}
+use Rattle.rg_theory.specs.Class.{AllowsStart}
+use Rattle.rg_theory.specs.ClassWords.{HasNumbersInRange}
 use Rattle.rg_theory.specs.declared.Problem.{Problem}
 use Rattle.rg_refuting.specs.Expression.{Variable, Variable.tokens_at, Variable.effect_of, Expression, value_in, numbers_by}
 use Rattle.rg_refuting.specs.Row.{RowName, RowName.arc_row, RowName.tokens_row, RowName.up_row, RowName.down_row, RowName.makes_row, RowStands, row_expression, Says, KeepsRows}
@@ -61,6 +63,7 @@ pub record IsCaseOver (lts : System) (tree : List Arc) (basis : CycleBasis) (cla
   pub is_tree : IsTree lts tree
   pub is_basis : IsBasis lts tree basis
   pub asked : IsSeparationProblem lts problem
+  pub numbers : HasNumbersInRange class
   pub is_case : system_fold lts tree basis class problem number (Ok case)
 
 -- the effects follow the relations of the basis, and those of labels without an arc are 0
@@ -102,6 +105,6 @@ HasPoint case = (scale : ℤ) × (v : ℕ → ℤ) × IsPoint (rows_of case) sca
 abbrev pub HasSolution : System → Class → Problem → ℕ → Type 0
 HasSolution lts class problem number = (scale : ℤ) × (x : Variable → ℤ) × (pos 0 <ℤ scale) × KeepsRowsOver lts class problem number scale x
 
--- some whole numbers, the tokens at least 0, keep all rows of the case
+-- some whole numbers, the tokens at least 0 and at the start such as the class allows, keep all rows of the case
 abbrev pub HasWholeSolutionIn : System → Class → Problem → ℕ → Type 0
-HasWholeSolutionIn lts class problem number = (tokens : ℕ → ℕ) × (effect : ℕ → ℤ) × KeepsRows lts class problem number (numbers_by tokens effect)
+HasWholeSolutionIn lts class problem number = (tokens : ℕ → ℕ) × (effect : ℕ → ℤ) × AllowsStart class (tokens lts.initial) × KeepsRows lts class problem number (numbers_by tokens effect)

@@ -1,5 +1,5 @@
 -- The place that a point of a case's system makes.
-use Rattle.std.specs.Prelude.{ℕ, ◌==◌, ◌&&◌, ◌||◌, not, is_some, Bool, if◌then◌else◌, List, [], ◌∷◌, ◌++◌, map, slice_index_or, ℤ, pos, neg_ℤ, ◌*ℤ◌, int_lt, unsigned_abs, Result}
+use Rattle.std.specs.Prelude.{ℕ, ◌-◌, ◌%◌, ◌==◌, ◌&&◌, ◌||◌, not, is_some, unwrap_or, Bool, false, if◌then◌else◌, List, [], ◌∷◌, ◌++◌, map, slice_index_or, ℤ, pos, neg_ℤ, ◌*ℤ◌, int_lt, unsigned_abs, Result}
 use Rattle.rg_theory.specs.declared.Arc.{Arc}
 use Rattle.rg_theory.specs.System.{System, states, labels}
 use Rattle.rg_theory.specs.Net.{Place}
@@ -21,11 +21,13 @@ effect_fold lts basis value t =
 abbrev pub negated : Ratio → Ratio
 negated f = record { top = neg_ℤ f.top; bottom = f.bottom }
 
--- the effects by label, and Start behind them, made whole in a class that is neither plain nor bounded
+-- the effects by label, and Start behind them, made whole in a class that is neither plain nor bounded, and then multiples
+-- of what the start has to be a multiple of
 abbrev pub made_whole : Class → List Ratio → Result (List Ratio) Wide → Type 0
 made_whole class numbers =
     either (class.plain || is_some class.bound) (gives numbers)
-    (and_then (multiple_of_all (map (λ r. r.bottom) numbers)) (λ m. each (λ r. mul r (whole m)) numbers))
+    (and_then (multiple_of_all (map (λ r. r.bottom) numbers)) (λ m. and_then (each (λ r. mul r (whole m)) numbers)
+    (λ products. either (is_some class.marking) (each (λ r. mul r (whole (pos (unwrap_or class.marking 1)))) products) (gives products))))
 
 abbrev pub ratio_at : List Ratio → ℕ → Ratio
 ratio_at numbers i = slice_index_or numbers i (whole (pos 0))
@@ -51,14 +53,25 @@ least_of (f ∷ rest) = least_from f rest
 abbrev pub is_shifted : Class → Bool
 is_shifted class = not (is_some class.bound) && (class.plain || not class.pure)
 
-abbrev pub shift_fold : Class → List Ratio → Result (List Ratio) Wide → Type 0
-shift_fold class numbers = either (is_shifted class) (each (λ m. add m (negated (least_of numbers))) numbers) (gives numbers)
-
 abbrev pub tops : List Ratio → List ℤ
 tops numbers = map (λ r. r.top) numbers
 
 abbrev pub top_at : List Ratio → ℕ → ℤ
 top_at numbers i = (ratio_at numbers i).top
+
+-- how many more make m a multiple of n
+abbrev pub missing : ℕ → ℕ → ℕ
+missing n m = (n - m % n) % n
+
+-- then they are moved back until the start is a multiple: in a problem of two states of a plain class without bound
+abbrev pub is_lifted : Class → Problem → Bool
+is_lifted class (Event s t) = false
+is_lifted class (States s s') = is_some class.marking && (class.plain && not (is_some class.bound))
+
+abbrev pub shift_fold : System → Class → Problem → List Ratio → Result (List Ratio) Wide → Type 0
+shift_fold lts class problem numbers =
+    and_then (either (is_shifted class) (each (λ m. add m (negated (least_of numbers))) numbers) (gives numbers))
+    (λ moved. either (is_lifted class problem) (each (λ m. add m (whole (pos (missing (unwrap_or class.marking 1) (unsigned_abs (top_at moved lts.initial)))))) moved) (gives moved))
 
 -- what a label with this effect takes, if no more is asked of it
 abbrev pub taken_by_effect : ℤ → ℤ
@@ -82,6 +95,6 @@ place_fold lts tree basis class problem start value =
     and_then (each (effect_fold lts basis value) (all_numbers (labels lts)))
     (λ effects. and_then (made_whole class (effects ++ start ∷ []))
     (λ found. and_then (along_tree (ratio_at found) (λ s. ratio_at found (labels lts)) tree)
-    (λ number. and_then (shift_fold class (map number (all_numbers (states lts))))
+    (λ number. and_then (shift_fold lts class problem (map number (all_numbers (states lts))))
     (λ numbers. and_then (each (λ u. whole_sum (taken lts class problem numbers found u) (top_at found u)) (all_numbers (labels lts)))
     (λ post. gives (place_of lts numbers (map (taken lts class problem numbers found) (all_numbers (labels lts))) post))))))

@@ -6,7 +6,7 @@ use Rattle.rg_theory.specs.declared.Class.{Class}
 use Rattle.rg_theory.specs.declared.Problem.{Problem}
 use Rattle.rg_theory.specs.declared.Problem.TheVariants.{Event, States}
 use Rattle.rg_refuting.specs.Expression.{Variable, Variable.tokens_at, Variable.effect_of, Term, Expression, plus}
-use Rattle.rg_refuting.specs.Row.{RowName, RowName.tokens_row, RowName.cap_row, RowName.up_row, RowName.down_row, RowName.makes_row, RowName.stop_row, RowName.block_row, RowName.empty_row, RowName.full_row, RowName.keep_row, RowName.apart_row, row_expression, case_consumer, Form as SplitForm, Form.on_tokens, Form.on_effect, form_variable}
+use Rattle.rg_refuting.specs.Row.{RowName, RowName.tokens_row, RowName.cap_row, RowName.up_row, RowName.down_row, RowName.makes_row, RowName.stop_row, RowName.block_row, RowName.empty_row, RowName.full_row, RowName.keep_row, RowName.apart_row, row_expression, case_consumer, Form as SplitForm, Form.on_tokens, Form.on_effect, Form.on_start, form_variable, step_of}
 use Rattle.rg_linear.specs.System.{LinearRow, LinearSystem}
 use Rattle.rg_linear.specs.Branching.{Form}
 use Rattle.rg_fraction.specs.declared.term.Wide.{Wide}
@@ -165,20 +165,31 @@ names_of lts class problem number =
 abbrev pub IsIdle : KeptRow → Type 0
 IsIdle kept = IsZeroVector kept.row.coeffs × (pos 0 ≤ℤ kept.row.constant)
 
+-- the start is split on where it has to be a multiple and its tokens have a bound: in a bounded class, and in an event
+-- problem of a plain class
+abbrev pub splits_start : Class → Problem → Bool
+splits_start class (Event s t) = is_some class.marking && (class.plain || is_some class.bound)
+splits_start class (States s s') = is_some class.marking && is_some class.bound
+
 -- what the splits of a case may be on, in their order
-abbrev pub split_forms : System → Class → List SplitForm
-split_forms lts class =
-    if is_some class.bound then map on_tokens (all_numbers (states lts))
-    else (if class.plain then map on_effect (used_labels lts) else [])
+abbrev pub split_forms : System → Class → Problem → List SplitForm
+split_forms lts class problem =
+    (if is_some class.bound then map on_tokens (all_numbers (states lts)) else (if class.plain then map on_effect (used_labels lts) else []))
+    ++ (if splits_start class problem then (on_start ∷ []) else [])
 
-abbrev pub form_low : Class → ℤ
-form_low class = if is_some class.bound then pos 0 else negsuc 0
+abbrev pub form_low : SplitForm → ℤ
+form_low (on_tokens q) = pos 0
+form_low (on_effect t) = negsuc 0
+form_low on_start = pos 0
 
-abbrev pub form_high : Class → ℤ
-form_high class = if is_some class.bound then pos (unwrap_or class.bound 0) else pos 1
+-- without a bound the start has at most as many steps as there are states
+abbrev pub form_high : System → Class → SplitForm → ℤ
+form_high lts class (on_tokens q) = pos (unwrap_or class.bound 0)
+form_high lts class (on_effect t) = pos 1
+form_high lts class on_start = pos (unwrap_or class.bound (states lts))
 
 abbrev pub form_fold : System → List Arc → CycleBasis → Class → SplitForm → Result Form Wide → Type 0
-form_fold lts tree basis class form = and_then (terms_fold lts tree basis class (plus (form_variable lts.initial form) ∷ [])) (λ scaled. gives (record { scale = scaled.multiple; coeffs = scaled.numbers; low = form_low class; high = form_high class }))
+form_fold lts tree basis class form = and_then (terms_fold lts tree basis class (plus (form_variable lts.initial form) ∷ [])) (λ scaled. gives (record { scale = pos (step_of class form) *ℤ scaled.multiple; coeffs = scaled.numbers; low = form_low form; high = form_high lts class form }))
 
 -- the rows and forms of a case
 pub record CaseSystem : Type 0 where
@@ -197,4 +208,4 @@ kept_of lts basis class all forms (Err w) = ⊥
 abbrev pub system_fold : System → List Arc → CycleBasis → Class → Problem → ℕ → Result CaseSystem Wide → Type 0
 system_fold lts tree basis class problem number =
     and_then (each (λ name. row_fold lts tree basis class name (row_expression lts class problem number [] name)) (names_of lts class problem number))
-    (λ all. and_then (each (form_fold lts tree basis class) (split_forms lts class)) (λ forms. kept_of lts basis class all forms))
+    (λ all. and_then (each (form_fold lts tree basis class) (split_forms lts class problem)) (λ forms. kept_of lts basis class all forms))

@@ -70,11 +70,11 @@ pub record StandsIn (lts : System) (class : Class) (w : Shown) (problem : Proble
   pub case_below : w.case_number < cases_of lts class problem
 
 -- the sides of the splits, their forms by name
-abbrev pub named_side : System → Class → SplitSide → Side
-named_side lts class side = record { form = slice_index_or (split_forms lts class) side.form (on_tokens 0); at = side.at; high = side.high }
+abbrev pub named_side : System → Class → Problem → SplitSide → Side
+named_side lts class problem side = record { form = slice_index_or (split_forms lts class problem) side.form (on_tokens 0); at = side.at; high = side.high }
 
-abbrev pub named_sides : System → Class → List SplitSide → List Side
-named_sides lts class sides = map (named_side lts class) sides
+abbrev pub named_sides : System → Class → Problem → List SplitSide → List Side
+named_sides lts class problem sides = map (named_side lts class problem) sides
 
 -- f is the value of variable j where every member is 0
 abbrev pub IsValueAt : LinearSystem → List ℕ → ℕ → Ratio → Type 0
@@ -133,7 +133,7 @@ pub record PivotShown (lts : System) (class : Class) (w : Shown) : Type 0 where
   pub sides : List SplitSide
   pub at : WideAt
   pub stops : Branching (rows_of case) case.forms (stopped sides at)
-  pub above_is : w.above ≡ named_sides lts class sides
+  pub above_is : w.above ≡ named_sides lts class of_case.problem sides
   pub stands : StandsAt w at
 
 -- the first step out of range of the place that the point makes
@@ -145,7 +145,7 @@ pub record PlaceShown (lts : System) (class : Class) (w : Shown) : Type 0 where
   pub start : Ratio
   pub value : ℕ → Ratio
   pub finds : Branching (rows_of case) case.forms (found set sides)
-  pub above_is : w.above ≡ named_sides lts class sides
+  pub above_is : w.above ≡ named_sides lts class of_case.problem sides
   pub nowhere : StandsNowhere w
   pub point : PointOf lts of_case.basis class (node_system (rows_of case) case.forms sides) set start value
   pub passes : place_fold lts of_case.arcs of_case.basis class of_case.problem start value (Err w.wide)
@@ -159,9 +159,9 @@ pub record SpreadShown (lts : System) (class : Class) (w : Shown) : Type 0 where
   pub weights : List Weight
   pub refutes : Branching (rows_of case) case.forms (tree refuting)
   pub has_leaf : HasLeaf [] refuting sides weights
-  pub above_is : w.above ≡ named_sides lts class sides
+  pub above_is : w.above ≡ named_sides lts class of_case.problem sides
   pub nowhere : StandsNowhere w
-  pub passes : spread_fold lts of_case.arcs of_case.basis class of_case.problem w.case_number case sides (named_sides lts class sides) weights (Err w.wide)
+  pub passes : spread_fold lts of_case.arcs of_case.basis class of_case.problem w.case_number case sides (named_sides lts class of_case.problem sides) weights (Err w.wide)
 
 abbrev pub ShownAt : Stage → System → Class → Shown → Type 0
 ShownAt cycle lts class w = CycleShown lts w

@@ -5,10 +5,10 @@ use Rattle.rg_theory.specs.System.{System, states, labels}
 use Rattle.rg_theory.specs.declared.Class.{Class}
 use Rattle.rg_theory.specs.declared.Problem.{Problem}
 use Rattle.rg_refuting.specs.Expression.{Variable, Variable.tokens_at, Variable.effect_of, Expression, coefficient_in}
-use Rattle.rg_refuting.specs.Row.{RowName, RowName.arc_row, RowName.above_row, Side, row_expression}
+use Rattle.rg_refuting.specs.Row.{RowName, RowName.arc_row, RowName.above_row, Form as SplitForm, Form.on_tokens, Form.on_effect, Form.on_start, Side, row_expression}
 use Rattle.rg_refuting.specs.Refutes.{NamedRow}
 use Rattle.rg_integers.specs.Sign.{size}
-use Rattle.rg_linear.specs.Branching.{Weight, form_at, SplitSide}
+use Rattle.rg_linear.specs.Branching.{Weight, Form, form_at, SplitSide}
 use Rattle.rg_fraction.specs.declared.term.Wide.{Wide}
 use Rattle.rg_fraction.specs.Rows.{IsRowGcd}
 use Rattle.rg_order_of_work.specs.Fold.{gives, and_then, each, joined, Ratio, whole, quotient, add, mul, whole_sum, whole_product}
@@ -33,12 +33,24 @@ name_of case i = if nat_lt i (length case.kept) then (kept_at case i).name else 
 abbrev pub side_at : List SplitSide → ℕ → SplitSide
 side_at above d = slice_index_or above d (record { form = 0; at = pos 0; high = Rattle.std.specs.Prelude.false })
 
--- the factor from its named row to row i
-abbrev pub factor_of : CaseSystem → List SplitSide → ℕ → Ratio
-factor_of case above i = if nat_lt i (length case.kept) then (kept_at case i).factor else whole (form_at case.forms (side_at above (i - length case.kept)).form).scale
+abbrev pub named_at : List Side → ℕ → Side
+named_at above d = slice_index_or above d (record { form = on_tokens 0; at = pos 0; high = Rattle.std.specs.Prelude.false })
 
-abbrev pub share_fold : CaseSystem → List SplitSide → Weight → Result Share Wide → Type 0
-share_fold case above w = and_then (mul (whole w.multiplier) (factor_of case above w.row)) (λ m. gives (record { name = name_of case w.row; multiplier = m }))
+-- the factor from the named row of a split to its row: the scale of the form; the start's row is its named row, whose
+-- scale is a step
+abbrev pub split_factor : SplitForm → Form → Ratio
+split_factor (on_tokens q) form = whole form.scale
+split_factor (on_effect t) form = whole form.scale
+split_factor on_start form = whole (pos 1)
+
+-- the factor from its named row to row i
+abbrev pub factor_of : CaseSystem → List SplitSide → List Side → ℕ → Ratio
+factor_of case form_sides above i =
+    if nat_lt i (length case.kept) then (kept_at case i).factor
+    else split_factor (named_at above (i - length case.kept)).form (form_at case.forms (side_at form_sides (i - length case.kept)).form)
+
+abbrev pub share_fold : CaseSystem → List SplitSide → List Side → Weight → Result Share Wide → Type 0
+share_fold case form_sides above w = and_then (mul (whole w.multiplier) (factor_of case form_sides above w.row)) (λ m. gives (record { name = name_of case w.row; multiplier = m }))
 
 -- ---- chords
 
@@ -152,5 +164,5 @@ leaf_fold lts tree basis expression shares =
 -- the leaf of the weights of a node's rows
 abbrev pub spread_fold : System → List Arc → CycleBasis → Class → Problem → ℕ → CaseSystem → List SplitSide → List Side → List Weight → Result (List NamedRow) Wide → Type 0
 spread_fold lts tree basis class problem case_number case form_sides above weights =
-    and_then (each (share_fold case form_sides) weights)
+    and_then (each (share_fold case form_sides above) weights)
     (λ shares. leaf_fold lts tree basis (row_expression lts class problem case_number above) shares)

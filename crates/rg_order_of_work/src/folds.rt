@@ -1,8 +1,9 @@
 //! Each fold has one result, so a call whose value or shown numbers are a result of its fold answers
 //! exactly.
 
-ghost use Rattle.std.specs.Prelude.{◌≡◌, ◌≢◌, ℕ, ℤ, List, ◌∷◌, Ok, Result, pos};
+ghost use Rattle.std.specs.Prelude.{◌≡◌, ◌≢◌, ℕ, ◌+◌, ◌<◌, ℤ, List, ◌∷◌, Ok, Result, pos};
 ghost use Rattle.rg_theory.specs.System.{System};
+ghost use Rattle.rg_theory.specs.Class.{IsMultiple};
 ghost use Rattle.rg_integers.specs.Range.{InRange};
 ghost use Rattle.rg_refuting.specs.Expression.{Expression};
 ghost use Rattle.rg_refuting.specs.Row.{RowName, Side};
@@ -11,7 +12,7 @@ ghost use Rattle.rg_fraction.specs.Fractions.{numerator_of, denominator_of, IsVa
 ghost use Rattle.rg_order_of_work.specs.Fold.{IsOne, Ratio, whole, ratio_of, shown_result, and_then, further, quotient, term, add, mul, multiple_of_all};
 ghost use Rattle.rg_linear.specs.Cycle.{CycleBasis};
 ghost use Rattle.rg_order_of_work.specs.Rewriting.{dependent_term, substitute_fold, row_fold, CaseSystem, system_fold};
-ghost use Rattle.rg_order_of_work.specs.Placing.{place_fold};
+ghost use Rattle.rg_order_of_work.specs.Placing.{missing, place_fold};
 ghost use Rattle.rg_order_of_work.specs.Spreading.{Share, leaf_fold, spread_fold};
 
 use rg_fraction::{Fraction, Wide};
@@ -51,4 +52,9 @@ pub fn folds_are_one()
     ensures place { (lts : System) (tree : List Arc) (basis : CycleBasis) (class : Class) (problem : Problem) (start : Ratio) (value : ℕ → Ratio) → IsOne (place_fold lts tree basis class problem start value) }
     ensures leaf { (lts : System) (tree : List Arc) (basis : CycleBasis) (expression : RowName → Expression) (shares : List Share) → IsOne (leaf_fold lts tree basis expression shares) }
     ensures spread { (lts : System) (tree : List Arc) (basis : CycleBasis) (class : Class) (problem : Problem) (number : ℕ) (case : CaseSystem) (sides : List SplitSide) (above : List Side) (weights : List Weight) → IsOne (spread_fold lts tree basis class problem number case sides above weights) }
+{}
+
+/// So many more make a number a multiple, and no fewer do.
+pub fn missing_is_least()
+    ensures { (n m : ℕ) → 0 < n → IsMultiple n (m + missing n m) × ((k : ℕ) → k < missing n m → ¬ IsMultiple n (m + k)) }
 {}

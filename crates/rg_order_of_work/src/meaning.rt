@@ -4,10 +4,10 @@
 //! A region is given by a number of the initial state and the effects of the labels (Badouel,
 //! Bernardinello and Darondeau, *Petri Net Synthesis*). The system of a case has columns for Start, that
 //! number, and for the effects that are free, and rows for the named rows of the case.
-ghost use Rattle.std.specs.Prelude.{◌≡◌, ◌⊎◌, ◌↔◌, ℕ, ◌+◌, ◌<◌, IsTrue, IsFalse, List, [], ◌∷◌, length, slice_index_or, Contains, Ok, ℤ, pos, ◌*ℤ◌, ◌<ℤ◌, ◌≤ℤ◌};
+ghost use Rattle.std.specs.Prelude.{◌≡◌, ◌⊎◌, ◌↔◌, ℕ, ◌+◌, ◌<◌, ◌≤◌, IsTrue, IsFalse, List, [], ◌∷◌, length, slice_index_or, Contains, Ok, ℤ, pos, ◌*ℤ◌, ◌<ℤ◌, ◌≤ℤ◌};
 ghost use Rattle.rg_theory.specs.System.{System, HasArc, IsInRange, IsAllReachable, states, labels};
 ghost use Rattle.rg_refuting.specs.Expression.{Variable, plus};
-ghost use Rattle.rg_refuting.specs.Row.{RowName, RowStands, row_expression, cases_of, KeepsRows, Form as SplitForm, form_variable};
+ghost use Rattle.rg_refuting.specs.Row.{RowName, RowStands, row_expression, cases_of, KeepsRows, Form as SplitForm, Form.on_start, form_variable, step_of};
 ghost use Rattle.rg_refuting.specs.Refutes.{IsSeparationProblem, IsSeparable};
 ghost use Rattle.rg_integers.specs.Range.{InRange};
 ghost use Rattle.rg_integers.specs.Sum.{sum_below, number_at, dot};
@@ -86,13 +86,14 @@ pub fn points_are_exact()
 {}
 
 /// The form of a split, with its scale, is worth the tokens or the effect that Start and the effects give
-/// it. The forms of a case lie between their bounds wherever its rows are met; each has the coefficients of a
-/// row, so many times; and its bounds times its scale are in range.
+/// it, by its steps; that of the start is Start alone, once. The forms of a case lie between their bounds wherever its
+/// rows are met; each has the coefficients of a row, so many times; and its bounds times its scale are in range.
 pub fn forms_are_exact()
-    ensures value { (lts : System) (tree : List Arc) (basis : CycleBasis) (class : Class) (problem : Problem) (number : ℕ) (case : CaseSystem) → IsCaseOver lts tree basis class problem number case → (split : SplitForm) (form : Form) (start : ℤ) (effect : ℕ → ℤ) → form_fold lts tree basis class split (Ok form) → NamesLabels (labels lts) (plus (form_variable lts.initial split) ∷ []) → (IsFalse (has_start class) → start ≡ pos 0) → AreEffects lts tree basis effect → dot form.coeffs (column_values lts basis class start effect) ≡ form.scale *ℤ numbers_along lts tree start effect (form_variable lts.initial split) }
+    ensures value { (lts : System) (tree : List Arc) (basis : CycleBasis) (class : Class) (problem : Problem) (number : ℕ) (case : CaseSystem) → IsCaseOver lts tree basis class problem number case → (split : SplitForm) (form : Form) (start : ℤ) (effect : ℕ → ℤ) → form_fold lts tree basis class split (Ok form) → NamesLabels (labels lts) (plus (form_variable lts.initial split) ∷ []) → (IsFalse (has_start class) → start ≡ pos 0) → AreEffects lts tree basis effect → pos (step_of class split) *ℤ dot form.coeffs (column_values lts basis class start effect) ≡ form.scale *ℤ numbers_along lts tree start effect (form_variable lts.initial split) }
+    ensures start { (lts : System) (tree : List Arc) (basis : CycleBasis) (class : Class) (form : Form) → IsTree lts tree → form_fold lts tree basis class on_start (Ok form) → form.scale ≡ pos (step_of class on_start) }
     ensures bounded { (lts : System) (tree : List Arc) (basis : CycleBasis) (class : Class) (problem : Problem) (number : ℕ) (case : CaseSystem) → IsCaseOver lts tree basis class problem number case → AreBounded (rows_of case) case.forms }
     ensures multiple { (lts : System) (tree : List Arc) (basis : CycleBasis) (class : Class) (problem : Problem) (number : ℕ) (case : CaseSystem) → IsCaseOver lts tree basis class problem number case → (f : ℕ) → f < length case.forms → (row : ℕ) × (times : ℤ) × IsMultipleOfRow (rows_of case) (form_at case.forms f) row times }
-    ensures fit { (lts : System) (tree : List Arc) (basis : CycleBasis) (class : Class) (problem : Problem) (number : ℕ) (case : CaseSystem) → IsCaseOver lts tree basis class problem number case → (f : ℕ) → f < length case.forms → InRange ((form_at case.forms f).scale *ℤ (form_at case.forms f).low) × InRange ((form_at case.forms f).scale *ℤ (form_at case.forms f).high) }
+    ensures fit { (lts : System) (tree : List Arc) (basis : CycleBasis) (class : Class) (problem : Problem) (number : ℕ) (case : CaseSystem) → IsCaseOver lts tree basis class problem number case → states lts ≤ 4096 → (f : ℕ) → f < length case.forms → InRange ((form_at case.forms f).scale *ℤ (form_at case.forms f).low) × InRange ((form_at case.forms f).scale *ℤ (form_at case.forms f).high) }
 {}
 
 /// In every class the system of a case has a point with whole forms exactly where whole numbers keep all

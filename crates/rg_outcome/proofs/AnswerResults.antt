@@ -7,6 +7,7 @@ use Rattle.std.proofs.lemmas.List.Elements.{Contains-append_left, Contains-push}
 use Rattle.rg_theory.specs.declared.Arc.{Arc}
 use Rattle.rg_theory.specs.System.{System, states, labels, HasArc, IsInRange, IsReachable, IsAllReachable, IsForkFree, IsArcBefore, IsLeastUnreachable, IsLeastFork}
 use Rattle.rg_theory.specs.declared.Class.{Class}
+use Rattle.rg_theory.specs.ClassWords.{HasNumbersInRange}
 use Rattle.rg_theory.specs.Tree.{Joins, Grows, IsTree, tree_order}
 use Rattle.rg_theory.proofs.Arcs.{arc_in_range}
 use Rattle.rg_theory.proofs.Trees.{reachable_is_met, met_is_reachable}
@@ -278,10 +279,10 @@ module _ (lts : System) (fine : IsInRange lts) where
       })
       by (inr none) = inl (record { one_target = λ s t a b h h'. no_fork_at s t (none s t) a b h h' })
 
-pub always_answered : (lts : System) (class : Class) → IsInRange lts → (a : Answer) × Out lts class a
-always_answered lts class fine = let (tree, is) = some_tree lts fine in by tree is (reachable_or_not lts fine tree is) (fork_or_not lts fine)
+pub always_answered : (lts : System) (class : Class) → IsInRange lts → HasNumbersInRange class → (a : Answer) × Out lts class a
+always_answered lts class fine numbers = let (tree, is) = some_tree lts fine in by tree is (reachable_or_not lts fine tree is) (fork_or_not lts fine)
   where
     by : (tree : List Arc) → IsTree lts tree → IsAllReachable lts ⊎ ((s : ℕ) × IsLeastUnreachable lts s) → IsForkFree lts ⊎ HasLeastFork lts fine → (a : Answer) × Out lts class a
     by tree is (inr (s, least)) _ = (unsolvable (unreachable s), a_state s least)
     by tree is (inl reachable) (inr f) = (unsolvable (fork f.s f.t f.one f.two), a_fork f.s f.t f.one f.two reachable f.is)
-    by tree is (inl reachable) (inl free) = some_answer lts tree class fine reachable free is
+    by tree is (inl reachable) (inl free) = some_answer lts tree class fine numbers reachable free is

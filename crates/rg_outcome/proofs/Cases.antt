@@ -39,16 +39,16 @@ tree_ok_not_err t at e = cc
 module _ (lts : System) (arcs : List Arc) (basis : CycleBasis) (class : Class) (problem : Problem) (number : ℕ) (case : CaseSystem) where
   pub same_tree : (above : List SplitSide) (t : SplitTree) (r r' : Result Tree LeafWide) → spread_tree lts arcs basis class problem number case above t r → spread_tree lts arcs basis class problem number case above t r' → r ≡ r'
   same_tree above (leaf weights) (Ok t) (Ok t') (rows, made, e) (rows', made', e') =
-      let same : rows ≡ rows' = ok_is rows rows' ((spread_one lts arcs basis class problem number case above (named_sides lts class above) weights).one (Ok rows) (Ok rows') made made') in
+      let same : rows ≡ rows' = ok_is rows rows' ((spread_one lts arcs basis class problem number case above (named_sides lts class problem above) weights).one (Ok rows) (Ok rows') made made') in
       ap Ok (e ∙ ap refuting_leaf same ∙ sym e')
-  same_tree above (leaf weights) (Ok t) (Err at) (rows, made, e) (e', err) = absurd (ok_not_err rows at.wide ((spread_one lts arcs basis class problem number case above (named_sides lts class above) weights).one (Ok rows) (Err at.wide) made err))
-  same_tree above (leaf weights) (Err at) (Ok t) (e, err) (rows, made, e') = absurd (ok_not_err rows at.wide ((spread_one lts arcs basis class problem number case above (named_sides lts class above) weights).one (Ok rows) (Err at.wide) made err))
+  same_tree above (leaf weights) (Ok t) (Err at) (rows, made, e) (e', err) = absurd (ok_not_err rows at.wide ((spread_one lts arcs basis class problem number case above (named_sides lts class problem above) weights).one (Ok rows) (Err at.wide) made err))
+  same_tree above (leaf weights) (Err at) (Ok t) (e, err) (rows, made, e') = absurd (ok_not_err rows at.wide ((spread_one lts arcs basis class problem number case above (named_sides lts class problem above) weights).one (Ok rows) (Err at.wide) made err))
   same_tree above (leaf weights) (Err at) (Err at') (e, err) (e', err') =
-      ap Err (same_leaf_wide at at' (e ∙ sym e') (err_is at.wide at'.wide ((spread_one lts arcs basis class problem number case above (named_sides lts class above) weights).one (Err at.wide) (Err at'.wide) err err')))
+      ap Err (same_leaf_wide at at' (e ∙ sym e') (err_is at.wide at'.wide ((spread_one lts arcs basis class problem number case above (named_sides lts class problem above) weights).one (Err at.wide) (Err at'.wide) err err')))
   same_tree above (split f u low high) (Ok t) (Ok t') (l, h, is_l, is_h, e) (l', h', is_l', is_h', e') =
       let el : l ≡ l' = tree_ok l l' (same_tree (above ++ low_side f u ∷ []) low (Ok l) (Ok l') is_l is_l') in
       let eh : h ≡ h' = tree_ok h h' (same_tree (above ++ high_side f u ∷ []) high (Ok h) (Ok h') is_h is_h') in
-      ap Ok (e ∙ ap (λ x. refuting_split (named_side lts class (low_side f u)).form u x h) el ∙ ap (λ x. refuting_split (named_side lts class (low_side f u)).form u l' x) eh ∙ sym e')
+      ap Ok (e ∙ ap (λ x. refuting_split (named_side lts class problem (low_side f u)).form u x h) el ∙ ap (λ x. refuting_split (named_side lts class problem (low_side f u)).form u l' x) eh ∙ sym e')
   same_tree above (split f u low high) (Ok t) (Err at) (l, h, is_l, is_h, e) (inl err) = absurd (tree_ok_not_err l at (same_tree (above ++ low_side f u ∷ []) low (Ok l) (Err at) is_l err))
   same_tree above (split f u low high) (Ok t) (Err at) (l, h, is_l, is_h, e) (inr (l', is_l', err)) = absurd (tree_ok_not_err h at (same_tree (above ++ high_side f u ∷ []) high (Ok h) (Err at) is_h err))
   same_tree above (split f u low high) (Err at) (Ok t) (inl err) (l, h, is_l, is_h, e) = absurd (tree_ok_not_err l at (same_tree (above ++ low_side f u ∷ []) low (Ok l) (Err at) is_l err))
@@ -63,15 +63,15 @@ module _ (lts : System) (arcs : List Arc) (basis : CycleBasis) (class : Class) (
 -- what the place, or the leaves, of a case come to
 abbrev placing : System → Class → Problem → ℕ → List SplitSide → Result Place Wide → CaseResult
 placing lts class problem number sides (Ok p) = makes p
-placing lts class problem number sides (Err w) = passes (step_at Stage.place problem number (named_sides lts class sides) w)
+placing lts class problem number sides (Err w) = passes (step_at Stage.place problem number (named_sides lts class problem sides) w)
 
 abbrev leaving : System → Class → Problem → ℕ → Result Tree LeafWide → CaseResult
 leaving lts class problem number (Ok t) = refutes t
-leaving lts class problem number (Err at) = passes (step_at Stage.spread problem number (named_sides lts class at.above) at.wide)
+leaving lts class problem number (Err at) = passes (step_at Stage.spread problem number (named_sides lts class problem at.above) at.wide)
 
 -- what follows where a branching ends in this way
 abbrev EndsIn : System → List Arc → CycleBasis → Class → Problem → ℕ → CaseSystem → BranchOutcome → CaseResult → Type 0
-EndsIn lts arcs basis class problem number case (stopped sides at) r = r ≡ passes (term_at problem number (named_sides lts class sides) at)
+EndsIn lts arcs basis class problem number case (stopped sides at) r = r ≡ passes (term_at problem number (named_sides lts class problem sides) at)
 EndsIn lts arcs basis class problem number case (found members sides) r =
     (start : Ratio) × (value : ℕ → Ratio) × (made : Result Place Wide) × PointOf lts basis class (node_system (rows_of case) case.forms sides) members start value
     × place_fold lts arcs basis class problem start value made × (r ≡ placing lts class problem number sides made)

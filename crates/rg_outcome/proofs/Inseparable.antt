@@ -6,6 +6,7 @@ use Rattle.rg_theory.specs.declared.Arc.{Arc}
 use Rattle.rg_theory.specs.System.{System, states, labels, Leads, IsInRange, IsAllReachable}
 use Rattle.rg_theory.specs.Net.{Place}
 use Rattle.rg_theory.specs.declared.Class.{Class}
+use Rattle.rg_theory.specs.ClassWords.{HasNumbersInRange}
 use Rattle.rg_theory.specs.declared.Problem.{Problem}
 use Rattle.rg_theory.specs.declared.Problem.TheVariants.{Event, States}
 use Rattle.rg_theory.specs.Problem.{IsProblem, IsInseparable}
@@ -99,7 +100,7 @@ asked lts (States s s') is = let a = is.0 in let b = is.1 in (omega arith, b, λ
 
 -- ---- no region of the class
 
-module _ (lts : System) (arcs : List Arc) (basis : CycleBasis) (class : Class) (fine : IsInRange lts) (reachable : IsAllReachable lts) (is_tree : IsTree lts arcs) (is_basis : IsBasis lts arcs basis) where
+module _ (lts : System) (arcs : List Arc) (basis : CycleBasis) (class : Class) (fine : IsInRange lts) (numbers : HasNumbersInRange class) (reachable : IsAllReachable lts) (is_tree : IsTree lts arcs) (is_basis : IsBasis lts arcs basis) where
   -- the system of a case with a tree has no point with whole forms
   no_point : (problem : Problem) (number : ℕ) (h : HasTree lts arcs basis class problem number) → IsCaseOver lts arcs basis class problem number h.case → ¬ HasWholePoint h.case
   no_point problem number h over (scale, v, point, meets, whole) =
@@ -107,12 +108,12 @@ module _ (lts : System) (arcs : List Arc) (basis : CycleBasis) (class : Class) (
 
   all_inseparable : (problem : Problem) (trees : List Tree) → IsProblem lts problem → IsLive lts problem → CasesCome (CaseComes lts arcs basis class problem) (cases_of lts class problem) (refuted trees) → IsInseparable lts class problem
   all_inseparable problem trees is live c p m region sep =
-      let (number, lt, tokens, effect, keeps) = (rows_exact lts class problem fine (asked lts problem is) (some_case lts class problem fine reachable is)).0 (p, m, region, sep) in
+      let (number, lt, tokens, effect, allowed, keeps) = (rows_exact lts class problem fine (asked lts problem is) (some_case lts class problem fine reachable is)).0 (p, m, region, sep) in
       let all = refuted_cases (CaseComes lts arcs basis class problem) (cases_of lts class problem) (refuted trees) trees c refl in
       let (t, at) = slice_get_some trees number (let l = all.long in omega arith) in
       let h = has_tree lts arcs basis class problem number (refutes t) t (all.each number t at) refl in
-      let over : IsCaseOver lts arcs basis class problem number h.case = record { in_range = fine; reachable = reachable; is_tree = is_tree; is_basis = is_basis; asked = asked lts problem is; is_case = h.made } in
-      no_point problem number h over ((whole_points_exact lts arcs basis class problem number h.case over live).1 (tokens, effect, keeps))
+      let over : IsCaseOver lts arcs basis class problem number h.case = record { in_range = fine; reachable = reachable; is_tree = is_tree; is_basis = is_basis; asked = asked lts problem is; numbers = numbers; is_case = h.made } in
+      no_point problem number h over ((whole_points_exact lts arcs basis class problem number h.case over live).1 (tokens, effect, allowed, keeps))
 
   pub inseparable : (problem : Problem) (trees : List Tree) → IsProblem lts problem → ProblemComes lts arcs basis class problem (refuted trees) → IsInseparable lts class problem
   inseparable (Event s t) trees is (inl (dead, e)) = absurd (placed_or_refuted _ trees (sym e))

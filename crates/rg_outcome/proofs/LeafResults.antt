@@ -10,15 +10,15 @@ use Rattle.rg_integers.specs.Sum.{number_at}
 use Rattle.rg_integers.proofs.Divisors.{gcd_below}
 use Rattle.rg_fraction.specs.declared.term.Wide.{Wide}
 use Rattle.rg_refuting.specs.Expression.{Expression, coefficient_in}
-use Rattle.rg_refuting.specs.Row.{RowName, Side, row_expression}
+use Rattle.rg_refuting.specs.Row.{RowName, Side, Form as SplitForm, Form.on_tokens, Form.on_effect, Form.on_start, row_expression}
 use Rattle.rg_refuting.specs.Refutes.{NamedRow, Tree, Tree.leaf as refuting_leaf, Tree.split as refuting_split}
-use Rattle.rg_linear.specs.Branching.{Weight, form_at, SplitSide, SplitTree, SplitTree.leaf, SplitTree.split, low_side, high_side}
+use Rattle.rg_linear.specs.Branching.{Form, Weight, form_at, SplitSide, SplitTree, SplitTree.leaf, SplitTree.split, low_side, high_side}
 use Rattle.rg_linear.specs.Cycle.{CycleBasis}
 use Rattle.rg_linear.proofs.Firsts.{kept_is}
 use Rattle.rg_order_of_work.specs.Fold.{gives, and_then, each, joined, whole, quotient, add, mul, whole_sum, whole_product}
 use Rattle.rg_order_of_work.specs.Rewriting.{dependent_labels, count_of, scaled_fold, Scaled, KeptRow, IsIdle, row_fold, names_of, CaseSystem, system_fold}
 use Rattle.rg_order_of_work.specs.Placing.{negated}
-use Rattle.rg_order_of_work.specs.Spreading.{Share, name_of, side_at, factor_of, share_fold, Pair, pairs_of, pair_fold, used_chords, chord_fold, ArcTimes, arc_name, Addend, Addend.number, Addend.product, addend_fold, addends_at, tree_fold, named_from, parts_of, multiplier_among, not_zero, sizes_fold, variables_of, checked_leaf, chord_arcs, leaf_fold, spread_fold}
+use Rattle.rg_order_of_work.specs.Spreading.{Share, name_of, named_at, side_at, split_factor, factor_of, share_fold, Pair, pairs_of, pair_fold, used_chords, chord_fold, ArcTimes, arc_name, Addend, Addend.number, Addend.product, addend_fold, addends_at, tree_fold, named_from, parts_of, multiplier_among, not_zero, sizes_fold, variables_of, checked_leaf, chord_arcs, leaf_fold, spread_fold}
 use Rattle.rg_order_of_work.specs.Shown.{named_side, named_sides}
 use Rattle.rg_order_of_work.proofs.Lists.{first, behind}
 use Rattle.rg_order_of_work.proofs.Signs.{factor_is_positive}
@@ -44,24 +44,29 @@ kept_factor [] d all over i = over
 kept_factor (k ∷ kept) d all over zero = all k (first k kept)
 kept_factor (k ∷ kept) d all over (suc i) = kept_factor kept d (λ x has. all x (behind k x kept has)) over i
 
-factor_over : (case : CaseSystem) (above : List SplitSide) → HaveFactors case → (i : ℕ) → IsOver (factor_of case above i)
-factor_over case above all i = by (nat_lt i (length case.kept))
+split_factor_over : (split : SplitForm) (form : Form) → IsOver (split_factor split form)
+split_factor_over (on_tokens q) form = whole_over form.scale
+split_factor_over (on_effect t) form = whole_over form.scale
+split_factor_over on_start form = whole_over (pos 1)
+
+factor_over : (case : CaseSystem) (sides : List SplitSide) (above : List Side) → HaveFactors case → (i : ℕ) → IsOver (factor_of case sides above i)
+factor_over case sides above all i = by (nat_lt i (length case.kept))
   where
     of_row : IsOver (slice_index_or case.kept i (record { name = RowName.above_row 0; row = record { coeffs = []; constant = pos 0 }; factor = whole (pos 1) })).factor
     of_row = kept_factor case.kept (record { name = RowName.above_row 0; row = record { coeffs = []; constant = pos 0 }; factor = whole (pos 1) }) all (whole_over (pos 1)) i
 
-    by : (b : Bool) → IsOver (if b then (slice_index_or case.kept i (record { name = RowName.above_row 0; row = record { coeffs = []; constant = pos 0 }; factor = whole (pos 1) })).factor else whole (form_at case.forms (side_at above (i - length case.kept)).form).scale)
+    by : (b : Bool) → IsOver (if b then (slice_index_or case.kept i (record { name = RowName.above_row 0; row = record { coeffs = []; constant = pos 0 }; factor = whole (pos 1) })).factor else split_factor (named_at above (i - length case.kept)).form (form_at case.forms (side_at sides (i - length case.kept)).form))
     by true = of_row
-    by false = whole_over (form_at case.forms (side_at above (i - length case.kept)).form).scale
+    by false = split_factor_over (named_at above (i - length case.kept)).form (form_at case.forms (side_at sides (i - length case.kept)).form)
 
 abbrev pub ShareOver : Share → Type 0
 ShareOver s = IsOver s.multiplier
 
-some_share : (case : CaseSystem) (above : List SplitSide) (weights : List Weight) → HaveFactors case → HasSome (each (share_fold case above) weights)
-some_share case above weights all = some_each (share_fold case above) weights (λ w has. some_then (mul (whole w.multiplier) (factor_of case above w.row)) (λ m. gives (record { name = name_of case w.row; multiplier = m })) (some_product (whole w.multiplier) (factor_of case above w.row) (whole_over w.multiplier) (factor_over case above all w.row)) (λ m _. some_given (record { name = name_of case w.row; multiplier = m })))
+some_share : (case : CaseSystem) (sides : List SplitSide) (above : List Side) (weights : List Weight) → HaveFactors case → HasSome (each (share_fold case sides above) weights)
+some_share case sides above weights all = some_each (share_fold case sides above) weights (λ w has. some_then (mul (whole w.multiplier) (factor_of case sides above w.row)) (λ m. gives (record { name = name_of case w.row; multiplier = m })) (some_product (whole w.multiplier) (factor_of case sides above w.row) (whole_over w.multiplier) (factor_over case sides above all w.row)) (λ m _. some_given (record { name = name_of case w.row; multiplier = m })))
 
-shares_over : (case : CaseSystem) (above : List SplitSide) (weights : List Weight) → Makes (Each ShareOver) (each (share_fold case above) weights)
-shares_over case above weights = makes_each ShareOver (share_fold case above) weights (λ w has s (m, made, e). subst ShareOver (sym e) (product_over (whole w.multiplier) (factor_of case above w.row) m made))
+shares_over : (case : CaseSystem) (sides : List SplitSide) (above : List Side) (weights : List Weight) → Makes (Each ShareOver) (each (share_fold case sides above) weights)
+shares_over case sides above weights = makes_each ShareOver (share_fold case sides above) weights (λ w has s (m, made, e). subst ShareOver (sym e) (product_over (whole w.multiplier) (factor_of case sides above w.row) m made))
 
 -- ---- chords
 
@@ -152,13 +157,13 @@ module _ (lts : System) (arcs : List Arc) (basis : CycleBasis) (related : HaveRe
 module _ (lts : System) (arcs : List Arc) (basis : CycleBasis) (class : Class) (problem : Problem) (n : ℕ) (case : CaseSystem) (related : HaveRelations lts basis) (factors : HaveFactors case) where
   some_spread : (sides : List SplitSide) (above : List Side) (weights : List Weight) → HasSome (spread_fold lts arcs basis class problem n case sides above weights)
   some_spread sides above weights =
-      some_then (each (share_fold case sides) weights) (λ shares. leaf_fold lts arcs basis (row_expression lts class problem n above) shares) (some_share case sides weights factors)
-      (λ shares h. some_leaf lts arcs basis related (row_expression lts class problem n above) shares (shares_over case sides weights shares h))
+      some_then (each (share_fold case sides above) weights) (λ shares. leaf_fold lts arcs basis (row_expression lts class problem n above) shares) (some_share case sides above weights factors)
+      (λ shares h. some_leaf lts arcs basis related (row_expression lts class problem n above) shares (shares_over case sides above weights shares h))
 
   pub some_spread_tree : (above : List SplitSide) (t : SplitTree) → (r : Result Tree LeafWide) × spread_tree lts arcs basis class problem n case above t r
-  some_spread_tree above (leaf weights) = by (some_spread above (named_sides lts class above) weights)
+  some_spread_tree above (leaf weights) = by (some_spread above (named_sides lts class problem above) weights)
     where
-      by : HasSome (spread_fold lts arcs basis class problem n case above (named_sides lts class above) weights) → (r : Result Tree LeafWide) × spread_tree lts arcs basis class problem n case above (leaf weights) r
+      by : HasSome (spread_fold lts arcs basis class problem n case above (named_sides lts class problem above) weights) → (r : Result Tree LeafWide) × spread_tree lts arcs basis class problem n case above (leaf weights) r
       by (Ok rows, h) = (Ok (refuting_leaf rows), (rows, h, refl))
       by (Err w, h) = (Err (record { above = above; wide = w }), (refl, h))
   some_spread_tree above (split f u low high) = by (some_spread_tree (above ++ low_side f u ∷ []) low) (some_spread_tree (above ++ high_side f u ∷ []) high)
@@ -167,4 +172,4 @@ module _ (lts : System) (arcs : List Arc) (basis : CycleBasis) (class : Class) (
           → (r : Result Tree LeafWide) × spread_tree lts arcs basis class problem n case above (split f u low high) r
       by (Err at, h) _ = (Err at, inl h)
       by (Ok l, h) (Err at, g) = (Err at, inr (l, h, g))
-      by (Ok l, h) (Ok r, g) = (Ok (refuting_split (named_side lts class (low_side f u)).form u l r), (l, r, h, g, refl))
+      by (Ok l, h) (Ok r, g) = (Ok (refuting_split (named_side lts class problem (low_side f u)).form u l r), (l, r, h, g, refl))

@@ -1,6 +1,6 @@
 -- The place of a point has a result, or its first step out of range.
 use Rattle.std.proofs.Common.{◌≡◌, ◌≢◌, ℕ, zero, suc, ◌==◌, ◌&&◌, ◌||◌, not, is_some, Bool, true, false, if◌then◌else◌, List, [], ◌∷◌, ◌++◌, map, Result, Ok, refl, sym, ap, ap₂, subst, arith}
-use Rattle.std.specs.Prelude.{pos, int_lt, ◌*ℤ◌}
+use Rattle.std.specs.Prelude.{ℤ, pos, int_lt, ◌*ℤ◌, unwrap_or, unsigned_abs}
 use Rattle.rg_theory.specs.declared.Arc.{Arc}
 use Rattle.rg_theory.specs.System.{System, states, labels}
 use Rattle.rg_theory.specs.Net.{Place}
@@ -10,7 +10,7 @@ use Rattle.rg_fraction.specs.declared.term.Wide.{Wide}
 use Rattle.rg_linear.specs.Cycle.{CycleBasis}
 use Rattle.rg_order_of_work.specs.Fold.{gives, and_then, either, each, joined, Ratio, whole, quotient, add, mul, whole_sum, multiple_of_all}
 use Rattle.rg_order_of_work.specs.Rewriting.{is_in, has_label, free_columns, all_numbers}
-use Rattle.rg_order_of_work.specs.Placing.{effect_fold, negated, made_whole, ratio_at, along_tree, lesser, least_from, least_of, is_shifted, shift_fold, top_at, taken, place_of, place_fold}
+use Rattle.rg_order_of_work.specs.Placing.{effect_fold, negated, made_whole, ratio_at, along_tree, lesser, least_from, least_of, is_shifted, is_lifted, missing, shift_fold, top_at, taken, place_of, place_fold}
 use Rattle.rg_order_of_work.proofs.Lists.{first, behind, where_is, where_has, Contains-of_map}
 use Rattle.rg_outcome.proofs.Steps.{HasSome, Makes, Each, each_none, each_cons, some_given, some_then, makes_then, some_each, makes_each, some_joined, makes_joined, IsOver, whole_over, some_quotient, some_sum, some_product, some_term, sums_join, product_over, some_multiple}
 use Rattle.rg_outcome.proofs.SystemResults.{HaveRelations, each_append}
@@ -67,27 +67,78 @@ module _ (lts : System) (basis : CycleBasis) (related : HaveRelations lts basis)
 
 -- ---- made whole
 
-module _ (class : Class) (numbers : List Ratio) (over : Each IsOver numbers) where
-  some_whole : HasSome (made_whole class numbers)
-  some_whole = by (class.plain || is_some class.bound)
-    where
-      by : (b : Bool) → HasSome (either b (gives numbers) (and_then (multiple_of_all (map (λ r. r.bottom) numbers)) (λ m. each (λ r. mul r (whole m)) numbers)))
-      by true = some_given numbers
-      by false = some_then (multiple_of_all (map (λ r. r.bottom) numbers)) (λ m. each (λ r. mul r (whole m)) numbers) (some_multiple (map (λ r. r.bottom) numbers)) (λ m _. some_each (λ r. mul r (whole m)) numbers (λ r has. some_product r (whole m) (over r has) (whole_over m)))
+module _ (class : Class) where
+  abbrev times_marking : List Ratio → Result (List Ratio) Wide → Type 0
+  times_marking products = either (is_some class.marking) (each (λ r. mul r (whole (pos (unwrap_or class.marking 1)))) products) (gives products)
 
-  whole_made_over : Makes (Each IsOver) (made_whole class numbers)
-  whole_made_over = by (class.plain || is_some class.bound)
+  some_times : (products : List Ratio) → Each IsOver products → HasSome (times_marking products)
+  some_times products over = by (is_some class.marking)
     where
-      by : (b : Bool) → Makes (Each IsOver) (either b (gives numbers) (and_then (multiple_of_all (map (λ r. r.bottom) numbers)) (λ m. each (λ r. mul r (whole m)) numbers)))
-      by true = λ x e. subst (Each IsOver) (sym e) over
-      by false = makes_then (Each IsOver) (multiple_of_all (map (λ r. r.bottom) numbers)) (λ m. each (λ r. mul r (whole m)) numbers) (λ m _. makes_each IsOver (λ r. mul r (whole m)) numbers (λ r has. product_over r (whole m)))
+      by : (b : Bool) → HasSome (either b (each (λ r. mul r (whole (pos (unwrap_or class.marking 1)))) products) (gives products))
+      by true = some_each (λ r. mul r (whole (pos (unwrap_or class.marking 1)))) products (λ r has. some_product r (whole (pos (unwrap_or class.marking 1))) (over r has) (whole_over (pos (unwrap_or class.marking 1))))
+      by false = some_given products
 
-  some_shift : HasSome (shift_fold class numbers)
-  some_shift = by (is_shifted class)
+  times_over : (products : List Ratio) → Each IsOver products → Makes (Each IsOver) (times_marking products)
+  times_over products over = by (is_some class.marking)
+    where
+      by : (b : Bool) → Makes (Each IsOver) (either b (each (λ r. mul r (whole (pos (unwrap_or class.marking 1)))) products) (gives products))
+      by true = makes_each IsOver (λ r. mul r (whole (pos (unwrap_or class.marking 1)))) products (λ r has. product_over r (whole (pos (unwrap_or class.marking 1))))
+      by false = λ x e. subst (Each IsOver) (sym e) over
+
+  module _ (numbers : List Ratio) (over : Each IsOver numbers) where
+    abbrev from_multiple : ℤ → Result (List Ratio) Wide → Type 0
+    from_multiple m = and_then (each (λ r. mul r (whole m)) numbers) times_marking
+
+    products_over : (m : ℤ) → Makes (Each IsOver) (each (λ r. mul r (whole m)) numbers)
+    products_over m = makes_each IsOver (λ r. mul r (whole m)) numbers (λ r has. product_over r (whole m))
+
+    some_whole : HasSome (made_whole class numbers)
+    some_whole = by (class.plain || is_some class.bound)
+      where
+        by : (b : Bool) → HasSome (either b (gives numbers) (and_then (multiple_of_all (map (λ r. r.bottom) numbers)) from_multiple))
+        by true = some_given numbers
+        by false = some_then (multiple_of_all (map (λ r. r.bottom) numbers)) from_multiple (some_multiple (map (λ r. r.bottom) numbers))
+            (λ m _. some_then (each (λ r. mul r (whole m)) numbers) times_marking (some_each (λ r. mul r (whole m)) numbers (λ r has. some_product r (whole m) (over r has) (whole_over m))) (λ products h. some_times products (products_over m products h)))
+
+    whole_made_over : Makes (Each IsOver) (made_whole class numbers)
+    whole_made_over = by (class.plain || is_some class.bound)
+      where
+        by : (b : Bool) → Makes (Each IsOver) (either b (gives numbers) (and_then (multiple_of_all (map (λ r. r.bottom) numbers)) from_multiple))
+        by true = λ x e. subst (Each IsOver) (sym e) over
+        by false = makes_then (Each IsOver) (multiple_of_all (map (λ r. r.bottom) numbers)) from_multiple (λ m _. makes_then (Each IsOver) (each (λ r. mul r (whole m)) numbers) times_marking (λ products h. times_over products (products_over m products h)))
+
+-- ---- shifted
+
+module _ (lts : System) (class : Class) (problem : Problem) (numbers : List Ratio) (over : Each IsOver numbers) where
+  abbrev moved_by : Result (List Ratio) Wide → Type 0
+  moved_by = either (is_shifted class) (each (λ m. add m (negated (least_of numbers))) numbers) (gives numbers)
+
+  abbrev lifted_by : List Ratio → Result (List Ratio) Wide → Type 0
+  lifted_by moved = either (is_lifted class problem) (each (λ m. add m (whole (pos (missing (unwrap_or class.marking 1) (unsigned_abs (top_at moved lts.initial)))))) moved) (gives moved)
+
+  some_moved : HasSome moved_by
+  some_moved = by (is_shifted class)
     where
       by : (b : Bool) → HasSome (either b (each (λ m. add m (negated (least_of numbers))) numbers) (gives numbers))
       by true = some_each (λ m. add m (negated (least_of numbers))) numbers (λ m has. some_sum m (negated (least_of numbers)) (over m has) (least_of_over numbers over))
       by false = some_given numbers
+
+  moved_over : Makes (Each IsOver) moved_by
+  moved_over = by (is_shifted class)
+    where
+      by : (b : Bool) → Makes (Each IsOver) (either b (each (λ m. add m (negated (least_of numbers))) numbers) (gives numbers))
+      by true = makes_each IsOver (λ m. add m (negated (least_of numbers))) numbers (λ m has. sums_join.makes m (negated (least_of numbers)) (over m has) (least_of_over numbers over))
+      by false = λ x e. subst (Each IsOver) (sym e) over
+
+  some_lifted : (moved : List Ratio) → Each IsOver moved → HasSome (lifted_by moved)
+  some_lifted moved all = by (is_lifted class problem)
+    where
+      by : (b : Bool) → HasSome (either b (each (λ m. add m (whole (pos (missing (unwrap_or class.marking 1) (unsigned_abs (top_at moved lts.initial)))))) moved) (gives moved))
+      by true = some_each (λ m. add m (whole (pos (missing (unwrap_or class.marking 1) (unsigned_abs (top_at moved lts.initial)))))) moved (λ m has. some_sum m (whole (pos (missing (unwrap_or class.marking 1) (unsigned_abs (top_at moved lts.initial))))) (all m has) (whole_over (pos (missing (unwrap_or class.marking 1) (unsigned_abs (top_at moved lts.initial))))))
+      by false = some_given moved
+
+  some_shift : HasSome (shift_fold lts class problem numbers)
+  some_shift = some_then moved_by lifted_by some_moved (λ moved h. some_lifted moved (moved_over moved h))
 
 -- ---- along the tree
 
@@ -117,7 +168,7 @@ module _ (lts : System) (arcs : List Arc) (basis : CycleBasis) (class : Class) (
   from_shifted found numbers = and_then (each (λ u. whole_sum (taken lts class problem numbers found u) (top_at found u)) (all_numbers (labels lts))) (λ post. gives (place_of lts numbers (map (taken lts class problem numbers found) (all_numbers (labels lts))) post))
 
   abbrev from_number : List Ratio → (ℕ → Ratio) → Result Place Wide → Type 0
-  from_number found number = and_then (shift_fold class (map number (all_numbers (states lts)))) (from_shifted found)
+  from_number found number = and_then (shift_fold lts class problem (map number (all_numbers (states lts)))) (from_shifted found)
 
   abbrev from_found : List Ratio → Result Place Wide → Type 0
   from_found found = and_then (along_tree (ratio_at found) (λ s. ratio_at found (labels lts)) arcs) (from_number found)
@@ -126,7 +177,7 @@ module _ (lts : System) (arcs : List Arc) (basis : CycleBasis) (class : Class) (
   some_shifted found numbers = some_then (each (λ u. whole_sum (taken lts class problem numbers found u) (top_at found u)) (all_numbers (labels lts))) (λ post. gives (place_of lts numbers (map (taken lts class problem numbers found) (all_numbers (labels lts))) post)) (some_each (λ u. whole_sum (taken lts class problem numbers found u) (top_at found u)) (all_numbers (labels lts)) (λ u has. some_term _)) (λ post _. some_given (place_of lts numbers (map (taken lts class problem numbers found) (all_numbers (labels lts))) post))
 
   some_numbered : (found : List Ratio) (number : ℕ → Ratio) → ((s : ℕ) → IsOver (number s)) → HasSome (from_number found number)
-  some_numbered found number over = some_then (shift_fold class (map number (all_numbers (states lts)))) (from_shifted found) (some_shift class (map number (all_numbers (states lts))) (each_mapped IsOver number (all_numbers (states lts)) (λ s has. over s))) (λ numbers _. some_shifted found numbers)
+  some_numbered found number over = some_then (shift_fold lts class problem (map number (all_numbers (states lts)))) (from_shifted found) (some_shift lts class problem (map number (all_numbers (states lts))) (each_mapped IsOver number (all_numbers (states lts)) (λ s has. over s))) (λ numbers _. some_shifted found numbers)
 
   some_found : (found : List Ratio) → Each IsOver found → HasSome (from_found found)
   some_found found over = some_then (along_tree (ratio_at found) (λ s. ratio_at found (labels lts)) arcs) (from_number found) (some_along (ratio_at found) (λ s. ratio_at found (labels lts)) arcs (at_over found over) (λ s. at_over found over (labels lts)))

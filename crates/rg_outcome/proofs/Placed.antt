@@ -4,6 +4,7 @@ use Rattle.rg_theory.specs.declared.Arc.{Arc}
 use Rattle.rg_theory.specs.System.{System, labels, IsInRange, IsAllReachable}
 use Rattle.rg_theory.specs.Net.{Place}
 use Rattle.rg_theory.specs.declared.Class.{Class}
+use Rattle.rg_theory.specs.ClassWords.{HasNumbersInRange}
 use Rattle.rg_theory.specs.declared.Problem.{Problem}
 use Rattle.rg_theory.specs.declared.Problem.TheVariants.{Event, States}
 use Rattle.rg_theory.specs.Problem.{IsProblem}
@@ -86,10 +87,10 @@ made_by_case comes n r p (first_term i w lt has none makes_none) e = absurd (pas
 
 -- ---- a region of the class
 
-module _ (lts : System) (arcs : List Arc) (basis : CycleBasis) (class : Class) (fine : IsInRange lts) (reachable : IsAllReachable lts) (is_tree : IsTree lts arcs) (is_basis : IsBasis lts arcs basis) where
+module _ (lts : System) (arcs : List Arc) (basis : CycleBasis) (class : Class) (fine : IsInRange lts) (numbers : HasNumbersInRange class) (reachable : IsAllReachable lts) (is_tree : IsTree lts arcs) (is_basis : IsBasis lts arcs basis) where
   case_separates : (problem : Problem) (number : ℕ) (p : Place) → IsProblem lts problem → IsLive lts problem → HasPlace lts arcs basis class problem number p → IsSeparatedIn lts class problem p
   case_separates problem number p is live h =
-      let over : IsCaseOver lts arcs basis class problem number h.case = record { in_range = fine; reachable = reachable; is_tree = is_tree; is_basis = is_basis; asked = asked lts problem is; is_case = h.is_case } in
+      let over : IsCaseOver lts arcs basis class problem number h.case = record { in_range = fine; reachable = reachable; is_tree = is_tree; is_basis = is_basis; asked = asked lts problem is; numbers = numbers; is_case = h.is_case } in
       let made = found_makes lts arcs basis class problem number h.case h.members h.sides h.start h.value p over live h.branching h.point h.place in
       (tokens_of made.numbers, made.region, made.separates)
 
@@ -110,4 +111,4 @@ module _ (lts : System) (arcs : List Arc) (basis : CycleBasis) (class : Class) (
   pub refuted_stay : RefutedStay lts (ProblemComes lts arcs basis class)
   refuted_stay problem other trees p is is' has has' (m', region', sep) =
       let (m, region, _) = placed_separates other p is' has' in
-      inseparable lts arcs basis class fine reachable is_tree is_basis problem trees is has p m region (other_numbers lts reachable p m m' problem is region.region region' sep)
+      inseparable lts arcs basis class fine numbers reachable is_tree is_basis problem trees is has p m region (other_numbers lts reachable p m m' problem is region.region region' sep)

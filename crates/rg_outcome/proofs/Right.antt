@@ -4,6 +4,7 @@ use Rattle.rg_theory.specs.declared.Arc.{Arc}
 use Rattle.rg_theory.specs.System.{System, IsInRange, IsAllReachable}
 use Rattle.rg_theory.specs.Net.{Place}
 use Rattle.rg_theory.specs.declared.Class.{Class}
+use Rattle.rg_theory.specs.ClassWords.{HasNumbersInRange}
 use Rattle.rg_theory.specs.declared.Problem.{Problem}
 use Rattle.rg_theory.specs.declared.Problem.TheVariants.{Event, States}
 use Rattle.rg_theory.specs.Problem.{IsProblem}
@@ -56,8 +57,8 @@ shown_by_case comes n r w (first_term i w' lt has none makes_none) e = (i, lt, s
 module _ (lts : System) (arcs : List Arc) (basis : CycleBasis) (class : Class) (is_tree : IsTree lts arcs) (is_basis : IsBasis lts arcs basis) (problem : Problem) (is : IsProblem lts problem) (live : IsLive lts problem) (number : ℕ) (below : number < cases_of lts class problem) where
   -- the leaf in which the step stands
   leaf_of : (case : CaseSystem) (above : List SplitSide) (t : SplitTree) (at : LeafWide) → spread_tree lts arcs basis class problem number case above t (Err at)
-      → (weights : List Weight) × HasLeaf above t at.above weights × spread_fold lts arcs basis class problem number case at.above (named_sides lts class at.above) weights (Err at.wide)
-  leaf_of case above (leaf weights) at (e, stops) = (weights, (e, refl), subst (λ sides. spread_fold lts arcs basis class problem number case sides (named_sides lts class sides) weights (Err at.wide)) (sym e) stops)
+      → (weights : List Weight) × HasLeaf above t at.above weights × spread_fold lts arcs basis class problem number case at.above (named_sides lts class problem at.above) weights (Err at.wide)
+  leaf_of case above (leaf weights) at (e, stops) = (weights, (e, refl), subst (λ sides. spread_fold lts arcs basis class problem number case sides (named_sides lts class problem sides) weights (Err at.wide)) (sym e) stops)
   leaf_of case above (split f u low high) at (inl in_low) = let (weights, has, stops) = leaf_of case (above ++ low_side f u ∷ []) low at in_low in (weights, inl has, stops)
   leaf_of case above (split f u low high) at (inr (l, made, in_high)) = let (weights, has, stops) = leaf_of case (above ++ high_side f u ∷ []) high at in_high in (weights, inr has, stops)
 
@@ -131,22 +132,22 @@ module _ (lts : System) (arcs : List Arc) (basis : CycleBasis) (class : Class) (
 
 -- ---- a search
 
-module _ (lts : System) (class : Class) (fine : IsInRange lts) (reachable : IsAllReachable lts) where
+module _ (lts : System) (class : Class) (fine : IsInRange lts) (numbers : HasNumbersInRange class) (reachable : IsAllReachable lts) where
   regions_made : (arcs : List Arc) (basis : CycleBasis) (kept : List Place) → IsTree lts arcs → IsBasis lts arcs basis → All (IsMade lts (ProblemComes lts arcs basis class)) kept → All (IsRegionIn lts class) kept
   regions_made arcs basis kept is_tree is_basis made k p lt =
       let (problem, is, has) = made k p lt in
-      let (m, region, _) = placed_separates lts arcs basis class fine reachable is_tree is_basis problem _ is has in
+      let (m, region, _) = placed_separates lts arcs basis class fine numbers reachable is_tree is_basis problem _ is has in
       (m, region)
 
   problems_right : (arcs : List Arc) (basis : CycleBasis) (o : Separation) → IsTree lts arcs → IsBasis lts arcs basis → Says lts (ProblemComes lts arcs basis class) o → IsSearchRight lts class o
   problems_right arcs basis (places kept) is_tree is_basis h = (regions_made arcs basis kept is_tree is_basis h.made, h.separate)
-  problems_right arcs basis (of_problem problem trees) is_tree is_basis h = (h.first.0.0, inseparable lts arcs basis class fine reachable is_tree is_basis problem trees h.first.0.0 h.has)
+  problems_right arcs basis (of_problem problem trees) is_tree is_basis h = (h.first.0.0, inseparable lts arcs basis class fine numbers reachable is_tree is_basis problem trees h.first.0.0 h.has)
   problems_right arcs basis (of_term w) is_tree is_basis h = problem_shows lts arcs basis class is_tree is_basis h.problem w h.first.0.0 h.has
 
   pub search_right : (o : Separation) → Searched lts class o → IsSearchRight lts class o
   search_right o (a_cycle w stage h) = subst (λ s. ShownAt s lts class w) (sym stage) h
   search_right o (all_problems arcs basis _ is_tree is_basis d) =
-      problems_right arcs basis o is_tree is_basis (says lts (ProblemComes lts arcs basis class) (same_solved lts arcs basis class) (refuted_stay lts arcs basis class fine reachable is_tree is_basis) o d)
+      problems_right arcs basis o is_tree is_basis (says lts (ProblemComes lts arcs basis class) (same_solved lts arcs basis class) (refuted_stay lts arcs basis class fine numbers reachable is_tree is_basis) o d)
 
   -- ---- an answer
 
@@ -161,7 +162,7 @@ module _ (lts : System) (class : Class) (fine : IsInRange lts) (reachable : IsAl
   given_right (of_term w) (unsolvable r) h g = absurd g
   given_right (of_term w) (too_wide v) h g = subst (ShownWide lts class) g h
 
-pub answer_right : (lts : System) (class : Class) (a : Answer) → IsInRange lts → Out lts class a → IsRight lts class a
-answer_right lts class a fine (a_state s h) = no_from_unreachable lts class s fine h.state h.unreachable
-answer_right lts class a fine (a_fork s t s₁ s₂ reachable h) = no_from_fork lts class s t s₁ s₂ fine h.fork
-answer_right lts class a fine (a_search o _ reachable free searched g) = given_right lts class fine reachable o a (search_right lts class fine reachable o searched) g
+pub answer_right : (lts : System) (class : Class) (a : Answer) → IsInRange lts → HasNumbersInRange class → Out lts class a → IsRight lts class a
+answer_right lts class a fine numbers (a_state s h) = no_from_unreachable lts class s fine h.state h.unreachable
+answer_right lts class a fine numbers (a_fork s t s₁ s₂ reachable h) = no_from_fork lts class s t s₁ s₂ fine h.fork
+answer_right lts class a fine numbers (a_search o _ reachable free searched g) = given_right lts class fine numbers reachable o a (search_right lts class fine numbers reachable o searched) g

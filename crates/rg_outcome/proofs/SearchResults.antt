@@ -7,6 +7,7 @@ use Rattle.rg_theory.specs.declared.Arc.{Arc}
 use Rattle.rg_theory.specs.System.{System, labels, IsInRange, IsAllReachable, IsForkFree}
 use Rattle.rg_theory.specs.Net.{Place}
 use Rattle.rg_theory.specs.declared.Class.{Class}
+use Rattle.rg_theory.specs.ClassWords.{HasNumbersInRange}
 use Rattle.rg_theory.specs.declared.Problem.{Problem}
 use Rattle.rg_theory.specs.Problem.{IsProblem, SeparateAll}
 use Rattle.rg_theory.specs.Region.{IsRegion}
@@ -78,7 +79,7 @@ cycle_term at = record {
   wide = at.term;
 }
 
-module _ (lts : System) (arcs : List Arc) (class : Class) (fine : IsInRange lts) (reachable : IsAllReachable lts) (is_tree : IsTree lts arcs) where
+module _ (lts : System) (arcs : List Arc) (class : Class) (fine : IsInRange lts) (numbers : HasNumbersInRange class) (reachable : IsAllReachable lts) (is_tree : IsTree lts arcs) where
   pub some_search : (o : Separation) × Searched lts class o
   some_search = let (kept, keeps) = some_kept (chord_vectors lts arcs) in let (o, walk) = cycle_ends (chord_system lts arcs kept) in by kept keeps o walk
     where
@@ -87,7 +88,7 @@ module _ (lts : System) (arcs : List Arc) (class : Class) (fine : IsInRange lts)
           let has = (cycle_set_knows (chord_system lts arcs kept) members walk).has in
           let basis = basis_of (labels lts) (chord_vectors lts arcs) kept members has in
           let is_basis : IsBasis lts arcs basis = some_basis (labels lts) (chord_vectors lts arcs) kept members has keeps walk in
-          let (o, d) = some_separation lts (ProblemComes lts arcs basis class) reachable (all_results lts arcs basis class fine reachable is_tree is_basis) (places_separate lts arcs basis class fine reachable is_tree is_basis) in
+          let (o, d) = some_separation lts (ProblemComes lts arcs basis class) reachable (all_results lts arcs basis class fine numbers reachable is_tree is_basis) (places_separate lts arcs basis class fine numbers reachable is_tree is_basis) in
           (o, all_problems arcs basis o is_tree is_basis d)
       by kept keeps (walk_passes at) walk = (
         of_term (cycle_term at),
@@ -132,9 +133,9 @@ module _ (lts : System) (reachable : IsAllReachable lts) where
 
 -- ---- an answer
 
-module _ (lts : System) (arcs : List Arc) (class : Class) (fine : IsInRange lts) (reachable : IsAllReachable lts) (free : IsForkFree lts) (is_tree : IsTree lts arcs) where
+module _ (lts : System) (arcs : List Arc) (class : Class) (fine : IsInRange lts) (numbers : HasNumbersInRange class) (reachable : IsAllReachable lts) (free : IsForkFree lts) (is_tree : IsTree lts arcs) where
   pub some_answer : (a : Answer) × Out lts class a
-  some_answer = let (o, searched) = some_search lts arcs class fine reachable is_tree in by o searched (search_right lts class fine reachable o searched)
+  some_answer = let (o, searched) = some_search lts arcs class fine numbers reachable is_tree in by o searched (search_right lts class fine numbers reachable o searched)
     where
       by : (o : Separation) → Searched lts class o → IsSearchRight lts class o → (a : Answer) × Out lts class a
       by (places kept) searched (regions, separate) =

@@ -18,7 +18,7 @@ use Rattle.rg_integers.proofs.Divisors.{exact, gcd_below}
 use Rattle.rg_integers.proofs.Order.{positive_differs}
 use Rattle.rg_fraction.specs.Rows.{IsRowGcd}
 use Rattle.rg_refuting.specs.Expression.{Term, Expression, plus}
-use Rattle.rg_refuting.specs.Row.{RowName, row_expression, Form as SplitForm, form_variable}
+use Rattle.rg_refuting.specs.Row.{RowName, row_expression, Form as SplitForm, form_variable, step_of}
 use Rattle.rg_linear.specs.System.{LinearRow}
 use Rattle.rg_linear.specs.Branching.{Form}
 use Rattle.rg_linear.specs.Cycle.{CycleBasis, IsZeroVector}
@@ -214,14 +214,14 @@ some_firsts {X} {K} key Drops drops same seen (x ∷ xs) = by (drops x) (among s
 
 some_form : (lts : System) (arcs : List Arc) (basis : CycleBasis) (class : Class) (form : SplitForm) → HaveRelations lts basis → HasSome (form_fold lts arcs basis class form)
 some_form lts arcs basis class form related =
-    some_then (terms_fold lts arcs basis class (plus (form_variable lts.initial form) ∷ [])) (λ scaled. gives (record { scale = scaled.multiple; coeffs = scaled.numbers; low = form_low class; high = form_high class })) (some_terms lts arcs basis class (plus (form_variable lts.initial form) ∷ []) related)
-    (λ scaled _. some_given (record { scale = scaled.multiple; coeffs = scaled.numbers; low = form_low class; high = form_high class }))
+    some_then (terms_fold lts arcs basis class (plus (form_variable lts.initial form) ∷ [])) (λ scaled. gives (record { scale = pos (step_of class form) *ℤ scaled.multiple; coeffs = scaled.numbers; low = form_low form; high = form_high lts class form })) (some_terms lts arcs basis class (plus (form_variable lts.initial form) ∷ []) related)
+    (λ scaled _. some_given (record { scale = pos (step_of class form) *ℤ scaled.multiple; coeffs = scaled.numbers; low = form_low form; high = form_high lts class form }))
 
 pub some_system : (lts : System) (arcs : List Arc) (basis : CycleBasis) (class : Class) (problem : Problem) (number : ℕ) → HaveRelations lts basis → HasSome (system_fold lts arcs basis class problem number)
 some_system lts arcs basis class problem number related =
-    some_then (each (λ name. row_fold lts arcs basis class name (row_expression lts class problem number [] name)) (names_of lts class problem number)) (λ all. and_then (each (form_fold lts arcs basis class) (split_forms lts class)) (λ forms. kept_of lts basis class all forms))
+    some_then (each (λ name. row_fold lts arcs basis class name (row_expression lts class problem number [] name)) (names_of lts class problem number)) (λ all. and_then (each (form_fold lts arcs basis class) (split_forms lts class problem)) (λ forms. kept_of lts basis class all forms))
     (some_each (λ name. row_fold lts arcs basis class name (row_expression lts class problem number [] name)) (names_of lts class problem number) (λ name has. some_row lts arcs basis class name (row_expression lts class problem number [] name) related))
-    (λ all _. some_then (each (form_fold lts arcs basis class) (split_forms lts class)) (λ forms. kept_of lts basis class all forms) (some_each (form_fold lts arcs basis class) (split_forms lts class) (λ form has. some_form lts arcs basis class form related)) (λ forms _. kept all forms))
+    (λ all _. some_then (each (form_fold lts arcs basis class) (split_forms lts class problem)) (λ forms. kept_of lts basis class all forms) (some_each (form_fold lts arcs basis class) (split_forms lts class problem) (λ form has. some_form lts arcs basis class form related)) (λ forms _. kept all forms))
   where
     kept : (all : List KeptRow) (forms : List Form) → HasSome (kept_of lts basis class all forms)
     kept all forms = let (rows, keeps) = some_firsts (λ (k : KeptRow). k.row) IsIdle idle same_row [] all in (Ok (record { columns = column_count lts basis class; kept = rows; forms = forms }), (refl, keeps, refl))

@@ -32,12 +32,12 @@ pub record LeafWide : Type 0 where
 
 -- the tree of the leaves of all the multipliers, or the first step out of range, the low side before the high one
 abbrev pub spread_tree : System → List Arc → CycleBasis → Class → Problem → ℕ → CaseSystem → List SplitSide → SplitTree → Result Tree LeafWide → Type 0
-spread_tree lts arcs basis class problem number case above (leaf weights) (Ok t) = (rows : List NamedRow) × spread_fold lts arcs basis class problem number case above (named_sides lts class above) weights (Ok rows) × (t ≡ refuting_leaf rows)
-spread_tree lts arcs basis class problem number case above (leaf weights) (Err at) = (at.above ≡ above) × spread_fold lts arcs basis class problem number case above (named_sides lts class above) weights (Err at.wide)
+spread_tree lts arcs basis class problem number case above (leaf weights) (Ok t) = (rows : List NamedRow) × spread_fold lts arcs basis class problem number case above (named_sides lts class problem above) weights (Ok rows) × (t ≡ refuting_leaf rows)
+spread_tree lts arcs basis class problem number case above (leaf weights) (Err at) = (at.above ≡ above) × spread_fold lts arcs basis class problem number case above (named_sides lts class problem above) weights (Err at.wide)
 spread_tree lts arcs basis class problem number case above (split f u low high) (Ok t) =
     (l h : Tree) × spread_tree lts arcs basis class problem number case (above ++ low_side f u ∷ []) low (Ok l)
     × spread_tree lts arcs basis class problem number case (above ++ high_side f u ∷ []) high (Ok h)
-    × (t ≡ refuting_split (named_side lts class (low_side f u)).form u l h)
+    × (t ≡ refuting_split (named_side lts class problem (low_side f u)).form u l h)
 spread_tree lts arcs basis class problem number case above (split f u low high) (Err at) =
     spread_tree lts arcs basis class problem number case (above ++ low_side f u ∷ []) low (Err at)
     ⊎ ((l : Tree) × spread_tree lts arcs basis class problem number case (above ++ low_side f u ∷ []) low (Ok l) × spread_tree lts arcs basis class problem number case (above ++ high_side f u ∷ []) high (Err at))
@@ -81,12 +81,12 @@ pub data CaseComes (lts : System) (arcs : List Arc) (basis : CycleBasis) (class 
       → CaseComes lts arcs basis class problem number (passes (step_at Stage.row problem number [] w))
   pivot_passes : (case : CaseSystem) (sides : List SplitSide) (at : WideAt) → system_fold lts arcs basis class problem number (Ok case)
       → Branching (rows_of case) case.forms (stopped sides at)
-      → CaseComes lts arcs basis class problem number (passes (term_at problem number (named_sides lts class sides) at))
+      → CaseComes lts arcs basis class problem number (passes (term_at problem number (named_sides lts class problem sides) at))
   place_passes : (case : CaseSystem) (members : List ℕ) (sides : List SplitSide) (start : Ratio) (value : ℕ → Ratio) (w : Wide)
       → system_fold lts arcs basis class problem number (Ok case) → Branching (rows_of case) case.forms (found members sides)
       → PointOf lts basis class (node_system (rows_of case) case.forms sides) members start value
       → place_fold lts arcs basis class problem start value (Err w)
-      → CaseComes lts arcs basis class problem number (passes (step_at Stage.place problem number (named_sides lts class sides) w))
+      → CaseComes lts arcs basis class problem number (passes (step_at Stage.place problem number (named_sides lts class problem sides) w))
   place_is_made : (case : CaseSystem) (members : List ℕ) (sides : List SplitSide) (start : Ratio) (value : ℕ → Ratio) (p : Place)
       → system_fold lts arcs basis class problem number (Ok case) → Branching (rows_of case) case.forms (found members sides)
       → PointOf lts basis class (node_system (rows_of case) case.forms sides) members start value
@@ -94,7 +94,7 @@ pub data CaseComes (lts : System) (arcs : List Arc) (basis : CycleBasis) (class 
       → CaseComes lts arcs basis class problem number (makes p)
   leaf_passes : (case : CaseSystem) (multipliers : SplitTree) (at : LeafWide) → system_fold lts arcs basis class problem number (Ok case)
       → Branching (rows_of case) case.forms (tree multipliers) → spread_tree lts arcs basis class problem number case [] multipliers (Err at)
-      → CaseComes lts arcs basis class problem number (passes (step_at Stage.spread problem number (named_sides lts class at.above) at.wide))
+      → CaseComes lts arcs basis class problem number (passes (step_at Stage.spread problem number (named_sides lts class problem at.above) at.wide))
   is_refuted : (case : CaseSystem) (multipliers : SplitTree) (t : Tree) → system_fold lts arcs basis class problem number (Ok case)
       → Branching (rows_of case) case.forms (tree multipliers) → spread_tree lts arcs basis class problem number case [] multipliers (Ok t)
       → CaseComes lts arcs basis class problem number (refutes t)

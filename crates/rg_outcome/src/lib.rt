@@ -8,6 +8,7 @@
 
 ghost use Rattle.std.specs.Prelude.{◌≡◌, ℕ, List, Option};
 ghost use Rattle.rg_theory.specs.System.{System, IsInRange, IsAllReachable};
+ghost use Rattle.rg_theory.specs.ClassWords.{HasNumbersInRange};
 ghost use Rattle.rg_theory.specs.Net.{Place};
 ghost use Rattle.rg_theory.specs.Problem.{IsProblem, IsInseparable};
 ghost use Rattle.rg_theory.specs.Tree.{IsTree};
@@ -28,13 +29,13 @@ use rg_theory::{Arc, Class, Problem, one_least_fork};
 pub fn solving_is_one()
     ensures case { (lts : System) (arcs : List Arc) (basis : CycleBasis) (class : Class) (problem : Problem) (number : ℕ) (r r' : CaseResult) → CaseComes lts arcs basis class problem number r → CaseComes lts arcs basis class problem number r' → r ≡ r' }
     ensures problem { (lts : System) (arcs : List Arc) (basis : CycleBasis) (class : Class) (problem : Problem) (r r' : Solved) → ProblemComes lts arcs basis class problem r → ProblemComes lts arcs basis class problem r' → r ≡ r' }
-    ensures some { (lts : System) (arcs : List Arc) (basis : CycleBasis) (class : Class) (problem : Problem) → IsInRange lts → IsAllReachable lts → IsTree lts arcs → IsBasis lts arcs basis → IsProblem lts problem → (r : Solved) × ProblemComes lts arcs basis class problem r }
+    ensures some { (lts : System) (arcs : List Arc) (basis : CycleBasis) (class : Class) (problem : Problem) → IsInRange lts → HasNumbersInRange class → IsAllReachable lts → IsTree lts arcs → IsBasis lts arcs basis → IsProblem lts problem → (r : Solved) × ProblemComes lts arcs basis class problem r }
 {}
 
 /// What is left of all problems, with the places kept so far, comes to one result, and all of them come to some.
 pub fn separation_is_one()
     ensures one { (lts : System) (arcs : List Arc) (basis : CycleBasis) (class : Class) (last : Option Problem) (kept : List Place) (o o' : Separation) → ComesFrom lts (ProblemComes lts arcs basis class) last kept o → ComesFrom lts (ProblemComes lts arcs basis class) last kept o' → o ≡ o' }
-    ensures some { (lts : System) (arcs : List Arc) (basis : CycleBasis) (class : Class) → IsInRange lts → IsAllReachable lts → IsTree lts arcs → IsBasis lts arcs basis → (o : Separation) × Comes lts (ProblemComes lts arcs basis class) o }
+    ensures some { (lts : System) (arcs : List Arc) (basis : CycleBasis) (class : Class) → IsInRange lts → HasNumbersInRange class → IsAllReachable lts → IsTree lts arcs → IsBasis lts arcs basis → (o : Separation) × Comes lts (ProblemComes lts arcs basis class) o }
 {}
 
 /// Solved in blocks of any lengths, whose results are taken over in the order of the problems, the problems come to what
@@ -47,25 +48,25 @@ pub fn blocks_come_to_the_same()
 /// refuted, each place that is kept is that of a problem, and the places separate all problems, or the term is that of the
 /// first problem that none of them separates.
 pub fn separation_says()
-    ensures { (lts : System) (arcs : List Arc) (basis : CycleBasis) (class : Class) (o : Separation) → IsInRange lts → IsAllReachable lts → IsTree lts arcs → IsBasis lts arcs basis → Comes lts (ProblemComes lts arcs basis class) o → Says lts (ProblemComes lts arcs basis class) o }
+    ensures { (lts : System) (arcs : List Arc) (basis : CycleBasis) (class : Class) (o : Separation) → IsInRange lts → HasNumbersInRange class → IsAllReachable lts → IsTree lts arcs → IsBasis lts arcs basis → Comes lts (ProblemComes lts arcs basis class) o → Says lts (ProblemComes lts arcs basis class) o }
 {}
 
 /// A problem all of whose cases are refuted is separated by no region of the class: a region would give some case a point
 /// with whole forms, and branching leaves none (Schrijver, *Theory of Linear and Integer Programming*).
 pub fn refuted_is_inseparable()
-    ensures { (lts : System) (arcs : List Arc) (basis : CycleBasis) (class : Class) (problem : Problem) (trees : List Tree) → IsInRange lts → IsAllReachable lts → IsTree lts arcs → IsBasis lts arcs basis → IsProblem lts problem → ProblemComes lts arcs basis class problem (Solved.refuted trees) → IsInseparable lts class problem }
+    ensures { (lts : System) (arcs : List Arc) (basis : CycleBasis) (class : Class) (problem : Problem) (trees : List Tree) → IsInRange lts → HasNumbersInRange class → IsAllReachable lts → IsTree lts arcs → IsBasis lts arcs basis → IsProblem lts problem → ProblemComes lts arcs basis class problem (Solved.refuted trees) → IsInseparable lts class problem }
 {}
 
 /// The place that a problem comes to is a region of the class that separates it.
 pub fn placed_separates()
-    ensures { (lts : System) (arcs : List Arc) (basis : CycleBasis) (class : Class) (problem : Problem) (p : Place) → IsInRange lts → IsAllReachable lts → IsTree lts arcs → IsBasis lts arcs basis → IsProblem lts problem → ProblemComes lts arcs basis class problem (Solved.placed p) → IsSeparatedIn lts class problem p }
+    ensures { (lts : System) (arcs : List Arc) (basis : CycleBasis) (class : Class) (problem : Problem) (p : Place) → IsInRange lts → HasNumbersInRange class → IsAllReachable lts → IsTree lts arcs → IsBasis lts arcs basis → IsProblem lts problem → ProblemComes lts arcs basis class problem (Solved.placed p) → IsSeparatedIn lts class problem p }
 {}
 
 /// A search for places comes to one result. A system and a class have one answer, and always one.
 pub fn outcome_is_one()
     ensures search { (lts : System) (class : Class) (o o' : Separation) → Searched lts class o → Searched lts class o' → o ≡ o' }
     ensures answer { (lts : System) (class : Class) (a a' : Answer) → Out lts class a → Out lts class a' → a ≡ a' }
-    ensures some { (lts : System) (class : Class) → IsInRange lts → (a : Answer) × Out lts class a }
+    ensures some { (lts : System) (class : Class) → IsInRange lts → HasNumbersInRange class → (a : Answer) × Out lts class a }
 {
     one_least_fork();
     pruned_is_one();
@@ -75,6 +76,6 @@ pub fn outcome_is_one()
 /// problem that it refutes. So the net of an answer is of the class and solves the system, a reason leaves no net of the
 /// class (Badouel, Bernardinello and Darondeau, *Petri Net Synthesis*), and system and class fix the term.
 pub fn outcome_is_right()
-    ensures search { (lts : System) (class : Class) (o : Separation) → IsInRange lts → IsAllReachable lts → Searched lts class o → IsSearchRight lts class o }
-    ensures answer { (lts : System) (class : Class) (a : Answer) → IsInRange lts → Out lts class a → IsRight lts class a }
+    ensures search { (lts : System) (class : Class) (o : Separation) → IsInRange lts → HasNumbersInRange class → IsAllReachable lts → Searched lts class o → IsSearchRight lts class o }
+    ensures answer { (lts : System) (class : Class) (a : Answer) → IsInRange lts → HasNumbersInRange class → Out lts class a → IsRight lts class a }
 {}

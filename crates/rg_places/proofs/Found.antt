@@ -1,5 +1,5 @@
 -- Effects and Start, made whole, keep the rows of a case over the common multiple.
-use Rattle.std.proofs.Common.{◌≡◌, ⊎_elim, ℕ, zero, suc, ◌+◌, ◌-◌, ◌<◌, ◌≤◌, ◌||◌, is_some, Bool, true, false, if◌then◌else◌, Option, Some, None, IsNone, List, [], ◌∷◌, ◌++◌, map, length, slice_index_or, Contains, Ok, refl, sym, ap, ap₂, subst, ◌∙◌, arith, zero-add}
+use Rattle.std.proofs.Common.{◌≡◌, ⊎_elim, ℕ, zero, suc, ◌+◌, ◌-◌, ◌<◌, ◌≤◌, ◌||◌, is_some, Bool, true, false, if◌then◌else◌, Option, Some, None, IsNone, List, [], ◌∷◌, ◌++◌, map, length, slice_index_or, Contains, Result, Ok, unwrap_or, IfSome, refl, sym, ap, ap₂, subst, ◌∙◌, arith, zero-add}
 use Rattle.std.specs.Prelude.{ℤ, pos, ◌+ℤ◌, ◌*ℤ◌, ◌<ℤ◌, ◌≤ℤ◌}
 use Rattle.std.specs.List.{range_with_len}
 use Rattle.std.proofs.lemmas.Int.{ints}
@@ -9,16 +9,18 @@ use Rattle.std.proofs.lemmas.List.FromFn.{get_or-range_with_len, length-range_wi
 use Rattle.rg_theory.specs.declared.Arc.{Arc}
 use Rattle.rg_theory.specs.declared.Class.{Class}
 use Rattle.rg_theory.specs.System.{System, labels}
+use Rattle.rg_theory.specs.ClassWords.{HasNumbersInRange}
+use Rattle.rg_fraction.specs.declared.term.Wide.{Wide}
 use Rattle.rg_integers.specs.Range.{InRange}
 use Rattle.rg_integers.proofs.Ranges.{zero_in_range}
 use Rattle.rg_integers.specs.Sum.{sum_below, dot}
 use Rattle.rg_integers.proofs.Ring.{ring}
-use Rattle.rg_integers.proofs.Order.{mul-cancel_left, mul_is_zero, mul_not_negative, factor_not_negative, positive_differs}
+use Rattle.rg_integers.proofs.Order.{mul-cancel_left, mul_is_zero, mul_not_negative, factor_not_negative, positive_differs, mul_positive}
 use Rattle.rg_integers.proofs.Sums.{sum_below-same, sum_below-times}
 use Rattle.rg_integers.proofs.Dots.{dot_comm, dot-times}
 use Rattle.rg_linear.specs.Cycle.{CycleBasis, FollowsRelations}
 use Rattle.rg_linear.specs.System.{LinearRow}
-use Rattle.rg_order_of_work.specs.Fold.{each, Ratio, whole, mul, multiple_of_all}
+use Rattle.rg_order_of_work.specs.Fold.{gives, and_then, either, each, Ratio, whole, mul, multiple_of_all}
 use Rattle.rg_order_of_work.specs.Chords.{chord_system, IsBasis}
 use Rattle.rg_order_of_work.specs.Rewriting.{is_in, numbers_where, all_numbers, has_label, free_labels, has_start, CaseSystem}
 use Rattle.rg_order_of_work.specs.Values.{picked, column_values}
@@ -87,8 +89,13 @@ pub not_bounded : (o : Option ℕ) → IsNone o → is_some o ≡ false
 not_bounded None e = refl
 not_bounded (Some k) e = absurd (true≢false e)
 
-abbrev pub whole_by : Bool → List Ratio → List Ratio → Type 0
-whole_by b numbers found = Rattle.rg_order_of_work.specs.Fold.either b (Rattle.rg_order_of_work.specs.Fold.gives numbers) (Rattle.rg_order_of_work.specs.Fold.and_then (multiple_of_all (map (λ r. r.bottom) numbers)) (λ m. each (λ r. mul r (whole m)) numbers)) (Ok found)
+-- times what the start has to be a multiple of
+abbrev pub TimesMarking : Class → List Ratio → Result (List Ratio) Wide → Type 0
+TimesMarking class numbers r = either (is_some class.marking) (each (λ r. mul r (whole (pos (unwrap_or class.marking 1)))) numbers) (gives numbers) r
+
+abbrev pub whole_by : Class → Bool → List Ratio → List Ratio → Type 0
+whole_by class b numbers found = either b (gives numbers) (and_then (multiple_of_all (map (λ r. r.bottom) numbers)) (λ m. and_then (each (λ r. mul r (whole m)) numbers)
+    (λ products. either (is_some class.marking) (each (λ r. mul r (whole (pos (unwrap_or class.marking 1)))) products) (gives products)))) (Ok found)
 
 -- the effects and Start behind them, over the scale
 module _ (lts : System) (tree : List Arc) (basis : CycleBasis) (start : Ratio) (value : ℕ → Ratio) (first : ℤ) (effect : ℕ → ℤ) (scale : ℤ) (effects : List Ratio) (is : IsBasis lts tree basis) (e : AreEffects lts tree basis effect) (v : AreValuesOf lts basis start value first effect scale) (made : each (effect_fold lts basis value) (all_numbers (labels lts)) (Ok effects)) where
@@ -107,18 +114,14 @@ module _ (lts : System) (tree : List Arc) (basis : CycleBasis) (start : Ratio) (
       none : (n : ℕ) → n - n ≡ 0
       none n = omega arith
 
-pub found_is : (lts : System) (tree : List Arc) (basis : CycleBasis) (class : Class) (start : Ratio) (value : ℕ → Ratio) (first : ℤ) (effect : ℕ → ℤ) (scale : ℤ) (effects found : List Ratio) → class.plain ≡ false → IsNone class.bound → IsBasis lts tree basis → AreEffects lts tree basis effect → AreValuesOf lts basis start value first effect scale → each (effect_fold lts basis value) (all_numbers (labels lts)) (Ok effects) → made_whole class (effects ++ start ∷ []) (Ok found) → (m : ℤ) × AreFound lts found first effect scale m
-found_is lts tree basis class start value first effect scale effects found plain bound is e v made whole_made =
-    let (m, multiple, products) = subst (λ b. whole_by b numbers found) (ap₂ ◌||◌ plain (not_bounded class.bound bound)) whole_made in (
-      m,
-      record {
-        positive = all_multiple (map (λ r. r.bottom) numbers) m (positive_all numbers (λ i lt. (at i lt).1.1)) multiple;
-        is_whole = λ i. ⊎_elim (λ lt. (made_at numbers found m scale (at i lt).0 i lt multiple products (at i lt).1).0) (λ le. past m products i le) (cases_lt i (length numbers));
-        fits = λ i. ⊎_elim (λ lt. (made_at numbers found m scale (at i lt).0 i lt multiple products (at i lt).1).1) (λ le. past_fits m products i le) (cases_lt i (length numbers));
-        effects = λ t lt. (made_at numbers found m scale (effect t) t (let k = many in omega arith) multiple products (at_label t lt)).2;
-        start_is = (made_at numbers found m scale first (labels lts) (let k = many in omega arith) multiple products at_start).2;
-      },
-    )
+products_are : (lts : System) (tree : List Arc) (basis : CycleBasis) (class : Class) (start : Ratio) (value : ℕ → Ratio) (first : ℤ) (effect : ℕ → ℤ) (scale : ℤ) (effects found : List Ratio) → class.plain ≡ false → IsNone class.bound → IsBasis lts tree basis → AreEffects lts tree basis effect → AreValuesOf lts basis start value first effect scale → each (effect_fold lts basis value) (all_numbers (labels lts)) (Ok effects) → (m : ℤ) → multiple_of_all (map (λ r. r.bottom) (effects ++ start ∷ [])) (Ok m) → each (λ r. mul r (whole m)) (effects ++ start ∷ []) (Ok found) → AreFound lts found first effect scale m
+products_are lts tree basis class start value first effect scale effects found plain bound is e v made m multiple products = record {
+  positive = all_multiple (map (λ r. r.bottom) numbers) m (positive_all numbers (λ i lt. (at i lt).1.1)) multiple;
+  is_whole = λ i. ⊎_elim (λ lt. (made_at numbers found m scale (at i lt).0 i lt multiple products (at i lt).1).0) (λ le. past m products i le) (cases_lt i (length numbers));
+  fits = λ i. ⊎_elim (λ lt. (made_at numbers found m scale (at i lt).0 i lt multiple products (at i lt).1).1) (λ le. past_fits m products i le) (cases_lt i (length numbers));
+  effects = λ t lt. (made_at numbers found m scale (effect t) t (let k = many in omega arith) multiple products (at_label t lt)).2;
+  start_is = (made_at numbers found m scale first (labels lts) (let k = many in omega arith) multiple products at_start).2;
+}
   where
     numbers : List Ratio
     numbers = effects ++ start ∷ []
@@ -143,6 +146,73 @@ found_is lts tree basis class start value first effect scale effects found plain
 
     past_fits : (m : ℤ) → each (λ r. mul r (whole m)) (effects ++ start ∷ []) (Ok found) → (i : ℕ) → length (effects ++ start ∷ []) ≤ i → InRange (top_at found i)
     past_fits m products i le = let beyond = get_or_past found i (whole (pos 0)) (subst (λ n. n ≤ i) (sym (each_length (λ r. mul r (whole m)) (effects ++ start ∷ []) found products)) le) in subst (λ (r : Ratio). InRange r.top) (sym beyond) zero_in_range
+
+-- times n
+times_at : (products found : List Ratio) (n : ℤ) (i : ℕ) → i < length products → each (λ r. mul r (whole n)) products (Ok found) → ratio_at products i ≡ whole (top_at products i) → (ratio_at found i ≡ whole (top_at found i)) × InRange (top_at found i) × (top_at found i ≡ top_at products i *ℤ n)
+times_at products found n i lt times is =
+    let (same, fits) = product_fits (whole (top_at products i)) (ratio_at found i) n n (omega (arith, ints)) (once n) (subst (λ r. mul r (whole n) (Ok (ratio_at found i))) is (each_at (λ r. mul r (whole n)) products found (whole (pos 0)) (whole (pos 0)) i times lt)) in
+    let top : top_at found i ≡ top_at products i *ℤ n = ap (λ (r : Ratio). r.top) same in
+    (same ∙ ap whole (sym top), subst InRange (sym top) fits, top)
+  where
+    once : (n : ℤ) → n ≡ pos 1 *ℤ n
+    once n = omega (arith, ints)
+
+-- each number is so many steps
+abbrev pub AreSteps : Class → List Ratio → Type 0
+AreSteps class found = (i : ℕ) → (u : ℤ) × (top_at found i ≡ pos (unwrap_or class.marking 1) *ℤ u)
+
+-- the numbers times what the start has to be a multiple of
+times_are : (lts : System) (class : Class) (products found : List Ratio) (first : ℤ) (effect : ℕ → ℤ) (scale m : ℤ) → HasNumbersInRange class → length products ≡ labels lts + 1 → AreFound lts products first effect scale m → TimesMarking class products (Ok found) → (k : ℤ) × AreFound lts found first effect scale k × AreSteps class found
+times_are lts class products found first effect scale m numbers many f times = by class.marking numbers.marking times
+  where
+    by : (o : Option ℕ) → IfSome o (λ n. (0 < n) × (n ≤ 255)) → either (is_some o) (each (λ r. mul r (whole (pos (unwrap_or o 1)))) products) (gives products) (Ok found) → (k : ℤ) × AreFound lts found first effect scale k × ((i : ℕ) → (u : ℤ) × (top_at found i ≡ pos (unwrap_or o 1) *ℤ u))
+    by None h same = (m, subst (λ l. AreFound lts l first effect scale m) (sym same) f, λ i. (top_at found i, once (top_at found i)))
+      where
+        once : (n : ℤ) → n ≡ pos 1 *ℤ n
+        once n = omega (arith, ints)
+    by (Some n) (some, few) made = (
+      m *ℤ pos n,
+      record {
+        positive = mul_positive m (pos n) f.positive (omega (arith, ints));
+        is_whole = λ i. ⊎_elim (λ lt. (at i lt).0) (λ le. (past i le).0) (cases_lt i (length products));
+        fits = λ i. ⊎_elim (λ lt. (at i lt).1) (λ le. (past i le).1) (cases_lt i (length products));
+        effects = λ t lt. moved (top_at found t) (top_at products t) scale (effect t) m (pos n) (at t (omega arith)).2 (f.effects t lt);
+        start_is = moved (top_at found (labels lts)) (top_at products (labels lts)) scale first m (pos n) (at (labels lts) (omega arith)).2 f.start_is;
+      },
+      λ i. ⊎_elim (λ lt. (top_at products i, (at i lt).2 ∙ swap (top_at products i) (pos n))) (λ le. (pos 0, (past i le).2 ∙ none (pos n))) (cases_lt i (length products)),
+    )
+      where
+        at : (i : ℕ) → i < length products → (ratio_at found i ≡ whole (top_at found i)) × InRange (top_at found i) × (top_at found i ≡ top_at products i *ℤ pos n)
+        at i lt = times_at products found (pos n) i lt made (f.is_whole i)
+
+        past : (i : ℕ) → length products ≤ i → (ratio_at found i ≡ whole (top_at found i)) × InRange (top_at found i) × (top_at found i ≡ pos 0)
+        past i le =
+            let beyond = get_or_past found i (whole (pos 0)) (subst (λ k. k ≤ i) (sym (each_length (λ r. mul r (whole (pos n))) products found made)) le) in
+            (beyond ∙ ap (λ (r : Ratio). whole r.top) (sym beyond), subst (λ (r : Ratio). InRange r.top) (sym beyond) zero_in_range, ap (λ (r : Ratio). r.top) beyond)
+
+        swap : (a b : ℤ) → a *ℤ b ≡ b *ℤ a
+        swap a b = simp ring
+
+        none : (n : ℤ) → pos 0 ≡ n *ℤ pos 0
+        none n = sym (swap n (pos 0) ∙ zero_times n)
+          where
+            zero_times : (m : ℤ) → pos 0 *ℤ m ≡ pos 0
+            zero_times m = omega (arith, ints)
+
+        turn : (p n s : ℤ) → (p *ℤ n) *ℤ s ≡ (p *ℤ s) *ℤ n
+        turn p n s = simp ring
+
+        turn' : (e m n : ℤ) → (e *ℤ m) *ℤ n ≡ e *ℤ (m *ℤ n)
+        turn' e m n = simp ring
+
+        moved : (a p s e m n : ℤ) → a ≡ p *ℤ n → p *ℤ s ≡ e *ℤ m → a *ℤ s ≡ e *ℤ (m *ℤ n)
+        moved a p s e m n g h = ap (λ z. z *ℤ s) g ∙ turn p n s ∙ ap (λ z. z *ℤ n) h ∙ turn' e m n
+
+pub found_is : (lts : System) (tree : List Arc) (basis : CycleBasis) (class : Class) (start : Ratio) (value : ℕ → Ratio) (first : ℤ) (effect : ℕ → ℤ) (scale : ℤ) (effects found : List Ratio) → HasNumbersInRange class → class.plain ≡ false → IsNone class.bound → IsBasis lts tree basis → AreEffects lts tree basis effect → AreValuesOf lts basis start value first effect scale → each (effect_fold lts basis value) (all_numbers (labels lts)) (Ok effects) → made_whole class (effects ++ start ∷ []) (Ok found) → (m : ℤ) × AreFound lts found first effect scale m × AreSteps class found
+found_is lts tree basis class start value first effect scale effects found numbers plain bound is e v made whole_made =
+    let (m, multiple, (products, are, times)) = subst (λ b. whole_by class b (effects ++ start ∷ []) found) (ap₂ ◌||◌ plain (not_bounded class.bound bound)) whole_made in
+    let f = products_are lts tree basis class start value first effect scale effects products plain bound is e v made m multiple are in
+    times_are lts class products found first effect scale m numbers (each_length (λ r. mul r (whole m)) (effects ++ start ∷ []) products are ∙ length-append effects (start ∷ []) ∙ ap (λ n. n + 1) (effects_count lts tree basis start value first effect scale effects is e v made)) f times
 
 -- ---- the rows over the multiple
 

@@ -20,6 +20,11 @@ pub sub_step : (f g : Fraction) (r : Result Fraction Wide) → IsSum (numerator_
 sub_step f g (Ok h) (top, bottom, v) = (top, bottom, new_step h ((numerator_of f *ℤ denominator_of g) +ℤ (neg_ℤ (numerator_of g) *ℤ denominator_of f)) (denominator_of f *ℤ denominator_of g) (positive_differs (denominator_of f *ℤ denominator_of g) (mul_positive (denominator_of f) (denominator_of g) f.positive g.positive)) v)
 sub_step f g (Err w) passes = passes
 
+-- a sum
+pub add_step : (f g : Fraction) (r : Result Fraction Wide) → IsSum (numerator_of f) (denominator_of f) (numerator_of g) (denominator_of g) r → add (ratio_of f) (ratio_of g) (shown_result ratio_of r)
+add_step f g (Ok h) (top, bottom, v) = (top, bottom, new_step h ((numerator_of f *ℤ denominator_of g) +ℤ (numerator_of g *ℤ denominator_of f)) (denominator_of f *ℤ denominator_of g) (positive_differs (denominator_of f *ℤ denominator_of g) (mul_positive (denominator_of f) (denominator_of g) f.positive g.positive)) v)
+add_step f g (Err w) passes = passes
+
 -- a value times a quotient
 pub share_step : (n d : ℤ) (value share : Fraction) (r : Result Fraction Wide) → d ≢ pos 0 → IsValue share n d → IsProduct (numerator_of value) (denominator_of value) (numerator_of share) (denominator_of share) r → and_then (quotient n d) (λ k. mul (ratio_of value) k) (shown_result ratio_of r)
 share_step n d value share r ne v p = go r (mul_step value share r p)

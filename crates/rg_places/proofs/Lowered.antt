@@ -58,7 +58,7 @@ module _ (lts : System) (class : Class) (plain : class.plain ≡ true) (bound : 
   shared_lowered consumer (up_row t) stands h = h
   shared_lowered consumer (down_row t) stands h = h
   shared_lowered consumer (makes_row t) stands h = h
-  shared_lowered consumer (above_row d) stands h = absurd (true≢false (sym stands))
+  shared_lowered consumer (above_row d) stands h = absurd stands
   shared_lowered consumer (stop_row q) stands h = absurd stands
   shared_lowered consumer block_row stands h = absurd stands
   shared_lowered consumer empty_row stands h = absurd stands

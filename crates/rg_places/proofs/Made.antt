@@ -35,7 +35,7 @@ use Rattle.rg_order_of_work.proofs.Whole.{same_numbers, absolute}
 use Rattle.rg_places.specs.Places.{AreFormsWhole, AreValuesOf, tokens_of, NumbersFit, PlaceIsMade}
 use Rattle.rg_places.proofs.Found.{found_is}
 use Rattle.rg_places.proofs.Moved.{AllWhole, least_is}
-use Rattle.rg_places.proofs.Kept.{AreKept, kept_is}
+use Rattle.rg_places.proofs.Kept.{AreKept, lift_kept, kept_is}
 use Rattle.rg_places.proofs.WholeKept.{whole_kept}
 use Rattle.rg_places.proofs.PlaceWeights.{taken_down, given_up, opposite_down, opposite_up, more_up, taken_in_range, fits_most, all_most, taken_at, taken_length, given_at, given_length, place_is, region_same}
 
@@ -109,8 +109,8 @@ state_made lts class s s' number found numbers x given fine asked k made =
     finish lts class (States s s') number found numbers x given (λ t. down (effects_in x t)) (λ t. up (effects_in x t)) fine asked k made
     (λ i lt. taken_down (top_at found i) ∙ ap down (k.effects i lt))
     (λ i lt. given_up (top_at found i) ∙ ap up (k.effects i lt))
-    (effect_suits lts class (tokens_in x) (effects_in x) (consumer_of lts number) (state_facts lts class s s' number (tokens_in x) (effects_in x) keeps))
-    (state_place lts class s s' number (tokens_in x) (effects_in x) fine keeps).2
+    (effect_suits lts class (tokens_in x) (effects_in x) (consumer_of lts number) (state_facts lts class s s' number (tokens_in x) (effects_in x) keeps) k.start)
+    (state_place lts class s s' number (tokens_in x) (effects_in x) fine k.start keeps).2
 
 -- ---- event problems
 
@@ -140,7 +140,7 @@ pure_made lts class s t number found numbers x given pure fine asked k made =
     (λ is. ap (λ z. unsigned_abs (z +ℤ top_at found i)) (pure_label lts class s t i found numbers pure is) ∙ opposite_up (top_at found i) (negative i lt is) ∙ ap up (k.effects i lt))
     (λ differ. ap (λ z. unsigned_abs (z +ℤ top_at found i)) (other_label lts class s t i found numbers differ) ∙ given_up (top_at found i) ∙ ap up (k.effects i lt))
     (cases_eq i t))
-    (effect_suits lts class (tokens_in x) (effects_in x) t (event_facts lts class s t number (tokens_in x) (effects_in x) keeps))
+    (effect_suits lts class (tokens_in x) (effects_in x) t (event_facts lts class s t number (tokens_in x) (effects_in x) keeps) k.start)
     (subst (λ n. tokens_in x s < n) (sym (weight_by (λ u. down (effects_in x u)) (labels lts) t asked.1)) blocks)
   where
     keeps : KeepsRows lts class (Event s t) number (numbers_by (tokens_in x) (effects_in x))
@@ -209,7 +209,7 @@ stopped_made lts class s t number found numbers x given plain impure fine asked 
     (λ is. ap₂ (λ y z. unsigned_abs (y +ℤ z)) (stopped_label lts class s t i found numbers impure plain is) (k.effects i lt ∙ ap (effects_in x) is) ∙ more_up (least_at lts numbers t).top (effects_in x t) not_negative more ∙ sym (ap (λ b. if b then (n + up (effects_in x t) - down (effects_in x t)) else up (effects_in x i)) (eq-eqb i t is)))
     (λ differ. ap (λ z. unsigned_abs (z +ℤ top_at found i)) (other_label lts class s t i found numbers differ) ∙ given_up (top_at found i) ∙ ap up (k.effects i lt) ∙ sym (at_label_other t (n + up (effects_in x t) - down (effects_in x t)) (λ u. up (effects_in x u)) i differ))
     (cases_eq i t))
-    (stopping_suits lts class (tokens_in x) (effects_in x) t n facts impure more enough (λ c. absurd (true≢false (sym c ∙ plain))))
+    (stopping_suits lts class (tokens_in x) (effects_in x) t n facts k.start impure more enough (λ c. absurd (true≢false (sym c ∙ plain))))
     (subst (λ m. tokens_in x s < m) (sym (weight_by pre (labels lts) t asked.1 ∙ ap (λ b. if b then n else down (effects_in x t)) (eq-eqb t t refl))) stops)
   where
     at : StopsAt lts t numbers x
@@ -272,7 +272,7 @@ plain_made lts class s t number found numbers x given plain impure fine asked k 
     (λ is. ap₂ (λ y z. unsigned_abs (y +ℤ z)) (plain_label lts class s t i found numbers impure plain is) (k.effects i lt ∙ ap (effects_in x) is) ∙ more_up (pos 1) (effects_in x t) (omega (arith, ints)) more ∙ sym (ap (λ b. if b then (1 + up (effects_in x t) - down (effects_in x t)) else up (effects_in x i)) (eq-eqb i t is)))
     (λ differ. ap (λ z. unsigned_abs (z +ℤ top_at found i)) (other_label lts class s t i found numbers differ) ∙ given_up (top_at found i) ∙ ap up (k.effects i lt) ∙ sym (at_label_other t (1 + up (effects_in x t) - down (effects_in x t)) (λ u. up (effects_in x u)) i differ))
     (cases_eq i t))
-    (stopping_suits lts class (tokens_in x) (effects_in x) t 1 facts impure more enough (λ c. (omega arith, kept_low (effects_in x t) (keeps keep_row (plain, impure)))))
+    (stopping_suits lts class (tokens_in x) (effects_in x) t 1 facts k.start impure more enough (λ c. (omega arith, kept_low (effects_in x t) (keeps keep_row (plain, impure)))))
     (subst (λ m. tokens_in x s < m) (sym (weight_by pre (labels lts) t asked.1 ∙ ap (λ b. if b then 1 else down (effects_in x t)) (eq-eqb t t refl))) stops)
   where
     pre : ℕ → ℕ
@@ -318,12 +318,13 @@ made_for lts class (Event s t) number found numbers x given fine asked live k ma
 made_for lts class (States s s') number found numbers x given fine asked live k made = state_made lts class s s' number found numbers x given fine asked k made
 
 -- numbers that are kept
-kept_for : (lts : System) (tree : List Arc) (basis : CycleBasis) (class : Class) (problem : Problem) (number : ℕ) (case : CaseSystem) (start : Ratio) (value : ℕ → Ratio) (first : ℤ) (effect : ℕ → ℤ) (scale : ℤ) (effects found numbers : List Ratio) (out : ℕ → Ratio) → IsCaseOver lts tree basis class problem number case → IsLive lts problem → AreEffects lts tree basis effect → MeetsCase lts basis class case first effect scale → AreFormsWhole lts basis class case first effect scale → AreValuesOf lts basis start value first effect scale → each (effect_fold lts basis value) (all_numbers (labels lts)) (Ok effects) → made_whole class (effects ++ start ∷ []) (Ok found) → along_tree (ratio_at found) (λ s. ratio_at found (labels lts)) tree (Ok out) → shift_fold class (map out (all_numbers (states lts))) (Ok numbers) → (x : Variable → ℤ) × AreKept lts class problem number found numbers x
-kept_for lts tree basis class problem number case start value first effect scale effects found numbers out c live e met whole_forms v effects_made whole_made along shift = ⊎_elim
-    (λ is. whole_kept lts tree basis class problem number case first effect scale start value effects found numbers out c live e v whole_forms met is effects_made whole_made along shift)
+kept_for : (lts : System) (tree : List Arc) (basis : CycleBasis) (class : Class) (problem : Problem) (number : ℕ) (case : CaseSystem) (start : Ratio) (value : ℕ → Ratio) (first : ℤ) (effect : ℕ → ℤ) (scale : ℤ) (effects found numbers : List Ratio) (out : ℕ → Ratio) → IsCaseOver lts tree basis class problem number case → IsLive lts problem → AreEffects lts tree basis effect → MeetsCase lts basis class case first effect scale → AreFormsWhole lts basis class case first effect scale → AreValuesOf lts basis start value first effect scale → each (effect_fold lts basis value) (all_numbers (labels lts)) (Ok effects) → made_whole class (effects ++ start ∷ []) (Ok found) → along_tree (ratio_at found) (λ s. ratio_at found (labels lts)) tree (Ok out) → shift_fold lts class problem (map out (all_numbers (states lts))) (Ok numbers) → (x : Variable → ℤ) × AreKept lts class problem number found numbers x
+kept_for lts tree basis class problem number case start value first effect scale effects found numbers out c live e met whole_forms v effects_made whole_made along (moved, shift, lift) = ⊎_elim
+    (λ is. (let (x, k, allowed) = whole_kept lts tree basis class problem number case first effect scale start value effects found moved out c live e v whole_forms met is effects_made whole_made along shift in lift_kept lts class problem number found moved numbers x c.in_range c.numbers k lift allowed))
     (λ other. (let (plain, bound) = neither class.plain class.bound other in
-    let (m, f) = found_is lts tree basis class start value first effect scale effects found plain bound c.is_basis e v effects_made whole_made in
-    kept_is lts tree basis class problem number case first effect scale m found numbers out plain bound c e v.positive f met along shift))
+    let (m, f, steps) = found_is lts tree basis class start value first effect scale effects found c.numbers plain bound c.is_basis e v effects_made whole_made in
+    let (x, k, allowed) = kept_is lts tree basis class problem number case first effect scale m found moved out plain bound c e v.positive f steps met along shift in
+    lift_kept lts class problem number found moved numbers x c.in_range c.numbers k lift (λ none. allowed)))
     (cases_Bool (class.plain || is_some class.bound))
   where
     neither : (p : Bool) (o : Option ℕ) → (p || is_some o) ≡ false → (p ≡ false) × IsNone o

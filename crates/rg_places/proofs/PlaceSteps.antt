@@ -1,6 +1,6 @@
 -- The steps from effects to a place, one after the other.
-use Rattle.std.proofs.Common.{◌≡◌, ℕ, ◌+◌, ◌||◌, is_some, Bool, true, false, List, [], ◌∷◌, ◌++◌, length, map, unsigned_abs, Result, Ok, Err, inl, inr, ap, refl, sym, subst, ◌∙◌}
-use Rattle.std.specs.Prelude.{ℤ, IfOk}
+use Rattle.std.proofs.Common.{◌≡◌, ℕ, ◌+◌, ◌||◌, is_some, Some, None, Bool, true, false, List, [], ◌∷◌, ◌++◌, length, map, unsigned_abs, Result, Ok, Err, inl, inr, ap, refl, sym, subst, ◌∙◌}
+use Rattle.std.specs.Prelude.{ℤ, pos, unwrap_or, IfOk}
 use Rattle.std.proofs.lemmas.List.{length-map, length-append}
 use Rattle.rg_theory.specs.declared.Arc.{Arc}
 use Rattle.rg_theory.specs.declared.Class.{Class}
@@ -13,12 +13,12 @@ use Rattle.rg_order_of_work.specs.Fold.{gives, and_then, either, each, IsOne, Ra
 use Rattle.rg_order_of_work.proofs.FoldLemmas.{and_then_one, each_one}
 use Rattle.rg_order_of_work.proofs.OneResult.{effect_one, whole_one, along_one, shift_one}
 use Rattle.rg_order_of_work.specs.Rewriting.{all_numbers}
-use Rattle.rg_order_of_work.specs.Placing.{effect_fold, negated, made_whole, ratio_at, along_tree, least_of, is_shifted, shift_fold, top_at, taken, place_fold}
+use Rattle.rg_order_of_work.specs.Placing.{effect_fold, negated, made_whole, ratio_at, along_tree, least_of, is_shifted, is_lifted, missing, shift_fold, top_at, taken, place_fold}
 use Rattle.rg_places.specs.Places.{numbers_fold}
 use Rattle.rg_places.specs.Steps.{IsAlongTree, found_fold, weights_fold}
 use Rattle.rg_cycles.proofs.Items.{each_length}
 use Rattle.rg_places.proofs.PlaceWeights.{taken_length, given_length}
-use Rattle.rg_places.proofs.Found.{all_length}
+use Rattle.rg_places.proofs.Found.{all_length, TimesMarking}
 
 -- ---- answers
 
@@ -28,42 +28,92 @@ if_ok P Q (Err e) f p = tt
 
 -- ---- made whole
 
-module _ (class : Class) (numbers : List Ratio) where
-  pub made_kept : (class.plain || is_some class.bound) ≡ true → made_whole class numbers (Ok numbers)
-  made_kept e = subst (λ b. either b (gives numbers) (and_then (multiple_of_all (map (λ r. r.bottom) numbers)) (λ m. each (λ r. mul r (whole m)) numbers)) (Ok numbers)) (sym e) refl
+pub times_length : (class : Class) (numbers found : List Ratio) → TimesMarking class numbers (Ok found) → length found ≡ length numbers
+times_length class numbers found h = go (is_some class.marking) h
+  where
+    go : (b : Bool) → either b (each (λ r. mul r (whole (pos (unwrap_or class.marking 1)))) numbers) (gives numbers) (Ok found) → length found ≡ length numbers
+    go true e = each_length (λ r. mul r (whole (pos (unwrap_or class.marking 1)))) numbers found e
+    go false e = ap length e
 
-  made_by : (class.plain || is_some class.bound) ≡ false → (r : Result (List Ratio) Wide) → and_then (multiple_of_all (map (λ r. r.bottom) numbers)) (λ m. each (λ r. mul r (whole m)) numbers) r → made_whole class numbers r
-  made_by e r h = subst (λ b. either b (gives numbers) (and_then (multiple_of_all (map (λ r. r.bottom) numbers)) (λ m. each (λ r. mul r (whole m)) numbers)) r) (sym e) h
+pub times_made : (class : Class) (numbers : List Ratio) (n : ℕ) → class.marking ≡ Some n → (r : Result (List Ratio) Wide) → each (λ r. mul r (whole (pos n))) numbers r → TimesMarking class numbers r
+times_made class numbers n is r h = subst (λ o. either (is_some o) (each (λ r. mul r (whole (pos (unwrap_or o 1)))) numbers) (gives numbers) r) (sym is) h
+
+pub times_kept : (class : Class) (numbers : List Ratio) → class.marking ≡ None → TimesMarking class numbers (Ok numbers)
+times_kept class numbers is = subst (λ o. either (is_some o) (each (λ r. mul r (whole (pos (unwrap_or o 1)))) numbers) (gives numbers) (Ok numbers)) (sym is) refl
+
+module _ (class : Class) (numbers : List Ratio) where
+  abbrev Rest : Result (List Ratio) Wide → Type 0
+  Rest r = and_then (multiple_of_all (map (λ r. r.bottom) numbers)) (λ m. and_then (each (λ r. mul r (whole m)) numbers)
+      (λ products. either (is_some class.marking) (each (λ r. mul r (whole (pos (unwrap_or class.marking 1)))) products) (gives products))) r
+
+  pub made_kept : (class.plain || is_some class.bound) ≡ true → made_whole class numbers (Ok numbers)
+  made_kept e = subst (λ b. either b (gives numbers) Rest (Ok numbers)) (sym e) refl
+
+  made_by : (class.plain || is_some class.bound) ≡ false → (r : Result (List Ratio) Wide) → Rest r → made_whole class numbers r
+  made_by e r h = subst (λ b. either b (gives numbers) Rest r) (sym e) h
 
   pub multiple_fails : (w : Wide) → (class.plain || is_some class.bound) ≡ false → multiple_of_all (map (λ r. r.bottom) numbers) (Err w) → made_whole class numbers (Err w)
   multiple_fails w e h = made_by e (Err w) (inl h)
 
-  pub multiple_makes : (m : ℤ) → (class.plain || is_some class.bound) ≡ false → multiple_of_all (map (λ r. r.bottom) numbers) (Ok m) → (r : Result (List Ratio) Wide) → each (λ r. mul r (whole m)) numbers r → made_whole class numbers r
-  multiple_makes m e h (Ok found) products = made_by e (Ok found) (m, h, products)
-  multiple_makes m e h (Err w) products = made_by e (Err w) (inr (m, h, products))
+  pub products_fail : (m : ℤ) (w : Wide) → (class.plain || is_some class.bound) ≡ false → multiple_of_all (map (λ r. r.bottom) numbers) (Ok m) → each (λ r. mul r (whole m)) numbers (Err w) → made_whole class numbers (Err w)
+  products_fail m w e h products = made_by e (Err w) (inr (m, h, inl products))
+
+  pub multiple_makes : (m : ℤ) (products : List Ratio) → (class.plain || is_some class.bound) ≡ false → multiple_of_all (map (λ r. r.bottom) numbers) (Ok m) → each (λ r. mul r (whole m)) numbers (Ok products) → (r : Result (List Ratio) Wide) → TimesMarking class products r → made_whole class numbers r
+  multiple_makes m products e h are (Ok found) times = made_by e (Ok found) (m, h, (products, are, times))
+  multiple_makes m products e h are (Err w) times = made_by e (Err w) (inr (m, h, inr (products, are, times)))
 
   pub made_length : (found : List Ratio) → made_whole class numbers (Ok found) → length found ≡ length numbers
   made_length found h = go (class.plain || is_some class.bound) h
     where
-      go : (b : Bool) → either b (gives numbers) (and_then (multiple_of_all (map (λ r. r.bottom) numbers)) (λ m. each (λ r. mul r (whole m)) numbers)) (Ok found) → length found ≡ length numbers
+      go : (b : Bool) → either b (gives numbers) Rest (Ok found) → length found ≡ length numbers
       go true e = ap length e
-      go false (m, multiple, products) = each_length (λ r. mul r (whole m)) numbers found products
+      go false (m, multiple, (products, are, times)) = times_length class products found times ∙ each_length (λ r. mul r (whole m)) numbers products are
 
 -- ---- shifted
 
-module _ (class : Class) (numbers : List Ratio) where
-  pub shift_kept : is_shifted class ≡ false → shift_fold class numbers (Ok numbers)
-  shift_kept e = subst (λ b. either b (each (λ m. add m (negated (least_of numbers))) numbers) (gives numbers) (Ok numbers)) (sym e) refl
+abbrev pub Moved : Class → List Ratio → Result (List Ratio) Wide → Type 0
+Moved class numbers r = either (is_shifted class) (each (λ m. add m (negated (least_of numbers))) numbers) (gives numbers) r
 
-  pub shift_made : (by : Ratio) → by ≡ least_of numbers → is_shifted class ≡ true → (r : Result (List Ratio) Wide) → each (λ m. add m (negated by)) numbers r → shift_fold class numbers r
-  shift_made by least e r h = subst (λ b. either b (each (λ m. add m (negated (least_of numbers))) numbers) (gives numbers) r) (sym e) (subst (λ l. each (λ m. add m (negated l)) numbers r) least h)
+abbrev pub Lifted : System → Class → Problem → List Ratio → Result (List Ratio) Wide → Type 0
+Lifted lts class problem moved r = either (is_lifted class problem) (each (λ m. add m (whole (pos (missing (unwrap_or class.marking 1) (unsigned_abs (top_at moved lts.initial)))))) moved) (gives moved) r
 
-  pub shift_length : (shifted : List Ratio) → shift_fold class numbers (Ok shifted) → length shifted ≡ length numbers
-  shift_length shifted h = go (is_shifted class) h
-    where
-      go : (b : Bool) → either b (each (λ m. add m (negated (least_of numbers))) numbers) (gives numbers) (Ok shifted) → length shifted ≡ length numbers
-      go true e = each_length (λ m. add m (negated (least_of numbers))) numbers shifted e
-      go false e = ap length e
+pub moved_kept : (class : Class) (numbers : List Ratio) → is_shifted class ≡ false → Moved class numbers (Ok numbers)
+moved_kept class numbers e = subst (λ b. either b (each (λ m. add m (negated (least_of numbers))) numbers) (gives numbers) (Ok numbers)) (sym e) refl
+
+pub moved_made : (class : Class) (numbers : List Ratio) (by : Ratio) → by ≡ least_of numbers → is_shifted class ≡ true → (r : Result (List Ratio) Wide) → each (λ m. add m (negated by)) numbers r → Moved class numbers r
+moved_made class numbers by least e r h = subst (λ b. either b (each (λ m. add m (negated (least_of numbers))) numbers) (gives numbers) r) (sym e) (subst (λ l. each (λ m. add m (negated l)) numbers r) least h)
+
+pub moved_length : (class : Class) (numbers moved : List Ratio) → Moved class numbers (Ok moved) → length moved ≡ length numbers
+moved_length class numbers moved h = go (is_shifted class) h
+  where
+    go : (b : Bool) → either b (each (λ m. add m (negated (least_of numbers))) numbers) (gives numbers) (Ok moved) → length moved ≡ length numbers
+    go true e = each_length (λ m. add m (negated (least_of numbers))) numbers moved e
+    go false e = ap length e
+
+pub lifted_kept : (lts : System) (class : Class) (problem : Problem) (moved : List Ratio) → is_lifted class problem ≡ false → Lifted lts class problem moved (Ok moved)
+lifted_kept lts class problem moved e = subst (λ b. either b (each (λ m. add m (whole (pos (missing (unwrap_or class.marking 1) (unsigned_abs (top_at moved lts.initial)))))) moved) (gives moved) (Ok moved)) (sym e) refl
+
+pub lifted_made : (lts : System) (class : Class) (problem : Problem) (moved : List Ratio) (by : Ratio) → by ≡ whole (pos (missing (unwrap_or class.marking 1) (unsigned_abs (top_at moved lts.initial)))) → is_lifted class problem ≡ true → (r : Result (List Ratio) Wide) → each (λ m. add m by) moved r → Lifted lts class problem moved r
+lifted_made lts class problem moved by is e r h =
+    subst (λ b. either b (each (λ m. add m (whole (pos (missing (unwrap_or class.marking 1) (unsigned_abs (top_at moved lts.initial)))))) moved) (gives moved) r) (sym e) (subst (λ l. each (λ m. add m l) moved r) is h)
+
+pub lifted_length : (lts : System) (class : Class) (problem : Problem) (moved lifted : List Ratio) → Lifted lts class problem moved (Ok lifted) → length lifted ≡ length moved
+lifted_length lts class problem moved lifted h = go (is_lifted class problem) h
+  where
+    go : (b : Bool) → either b (each (λ m. add m (whole (pos (missing (unwrap_or class.marking 1) (unsigned_abs (top_at moved lts.initial)))))) moved) (gives moved) (Ok lifted) → length lifted ≡ length moved
+    go true e = each_length (λ m. add m (whole (pos (missing (unwrap_or class.marking 1) (unsigned_abs (top_at moved lts.initial)))))) moved lifted e
+    go false e = ap length e
+
+module _ (lts : System) (class : Class) (problem : Problem) (numbers : List Ratio) where
+  pub moved_fails : (w : Wide) → Moved class numbers (Err w) → shift_fold lts class problem numbers (Err w)
+  moved_fails w h = inl h
+
+  pub shift_made : (moved : List Ratio) → Moved class numbers (Ok moved) → (r : Result (List Ratio) Wide) → Lifted lts class problem moved r → shift_fold lts class problem numbers r
+  shift_made moved first (Ok shifted) h = (moved, first, h)
+  shift_made moved first (Err w) h = inr (moved, first, h)
+
+  pub shift_length : (shifted : List Ratio) → shift_fold lts class problem numbers (Ok shifted) → length shifted ≡ length numbers
+  shift_length shifted (moved, first, h) = lifted_length lts class problem moved shifted h ∙ moved_length class numbers moved first
 
 -- ---- found numbers
 
@@ -99,30 +149,30 @@ module _ (lts : System) (tree : List Arc) (basis : CycleBasis) (class : Class) (
           count : IsAlongTree lts tree found before → length before ≡ states lts
           count (number, h, are) = ap length are ∙ length-map (all_numbers (states lts)) number ∙ all_length (states lts)
 
-      pub shift_fails : (w : Wide) → shift_fold class before (Err w) → place_fold lts tree basis class problem start value (Err w)
+      pub shift_fails : (w : Wide) → shift_fold lts class problem before (Err w) → place_fold lts tree basis class problem start value (Err w)
       shift_fails w h = go is_found is_along
         where
           go : (effects : List Ratio) × each (effect_fold lts basis value) (all_numbers (labels lts)) (Ok effects) × made_whole class (effects ++ start ∷ []) (Ok found) → IsAlongTree lts tree found before → place_fold lts tree basis class problem start value (Err w)
-          go (effects, made, whole_made) (number, along, are) = inr (effects, made, inr (found, whole_made, inr (number, along, inl (subst (λ l. shift_fold class l (Err w)) are h))))
+          go (effects, made, whole_made) (number, along, are) = inr (effects, made, inr (found, whole_made, inr (number, along, inl (subst (λ l. shift_fold lts class problem l (Err w)) are h))))
 
-      module _ (numbers : List Ratio) (is_shift : shift_fold class before (Ok numbers)) where
-        pub numbers_made : numbers_fold lts tree basis class start value (Ok numbers)
+      module _ (numbers : List Ratio) (is_shift : shift_fold lts class problem before (Ok numbers)) where
+        pub numbers_made : numbers_fold lts tree basis class problem start value (Ok numbers)
         numbers_made = go is_found is_along
           where
-            go : (effects : List Ratio) × each (effect_fold lts basis value) (all_numbers (labels lts)) (Ok effects) × made_whole class (effects ++ start ∷ []) (Ok found) → IsAlongTree lts tree found before → numbers_fold lts tree basis class start value (Ok numbers)
-            go (effects, made, whole_made) (number, along, are) = (effects, made, (found, whole_made, (number, along, subst (λ l. shift_fold class l (Ok numbers)) are is_shift)))
+            go : (effects : List Ratio) × each (effect_fold lts basis value) (all_numbers (labels lts)) (Ok effects) × made_whole class (effects ++ start ∷ []) (Ok found) → IsAlongTree lts tree found before → numbers_fold lts tree basis class problem start value (Ok numbers)
+            go (effects, made, whole_made) (number, along, are) = (effects, made, (found, whole_made, (number, along, subst (λ l. shift_fold lts class problem l (Ok numbers)) are is_shift)))
 
         pub place_made_by : (r : Result Place Wide) → weights_fold lts class problem found numbers r → place_fold lts tree basis class problem start value r
         place_made_by r h = go is_found is_along r h
           where
             go : (effects : List Ratio) × each (effect_fold lts basis value) (all_numbers (labels lts)) (Ok effects) × made_whole class (effects ++ start ∷ []) (Ok found) → IsAlongTree lts tree found before → (r : Result Place Wide) → weights_fold lts class problem found numbers r → place_fold lts tree basis class problem start value r
-            go (effects, made, whole_made) (number, along, are) (Ok place) h = (effects, made, (found, whole_made, (number, along, (numbers, subst (λ l. shift_fold class l (Ok numbers)) are is_shift, h))))
-            go (effects, made, whole_made) (number, along, are) (Err w) h = inr (effects, made, inr (found, whole_made, inr (number, along, inr (numbers, subst (λ l. shift_fold class l (Ok numbers)) are is_shift, h))))
+            go (effects, made, whole_made) (number, along, are) (Ok place) h = (effects, made, (found, whole_made, (number, along, (numbers, subst (λ l. shift_fold lts class problem l (Ok numbers)) are is_shift, h))))
+            go (effects, made, whole_made) (number, along, are) (Err w) h = inr (effects, made, inr (found, whole_made, inr (number, along, inr (numbers, subst (λ l. shift_fold lts class problem l (Ok numbers)) are is_shift, h))))
 
 -- ---- one list, and weights of all labels
 
-pub numbers_one : (lts : System) (tree : List Arc) (basis : CycleBasis) (class : Class) (start : Ratio) (value : ℕ → Ratio) → IsOne (numbers_fold lts tree basis class start value)
-numbers_one lts tree basis class start value = and_then_one _ _ (each_one _ (effect_one lts basis value) _) (λ effects. and_then_one _ _ (whole_one class _) (λ found. and_then_one _ _ (along_one _ _ tree) (λ number. shift_one class _)))
+pub numbers_one : (lts : System) (tree : List Arc) (basis : CycleBasis) (class : Class) (problem : Problem) (start : Ratio) (value : ℕ → Ratio) → IsOne (numbers_fold lts tree basis class problem start value)
+numbers_one lts tree basis class problem start value = and_then_one _ _ (each_one _ (effect_one lts basis value) _) (λ effects. and_then_one _ _ (whole_one class _) (λ found. and_then_one _ _ (along_one _ _ tree) (λ number. shift_one lts class problem _)))
 
 pub weights_of_all : (lts : System) (tree : List Arc) (basis : CycleBasis) (class : Class) (problem : Problem) (start : Ratio) (value : ℕ → Ratio) (place : Place) → place_fold lts tree basis class problem start value (Ok place) → (length place.pre ≡ labels lts) × (length place.post ≡ labels lts)
 weights_of_all lts tree basis class problem start value place (effects, made, (found, whole_made, (number, along, (numbers, shift, (post, sums, e))))) = (

@@ -1,9 +1,8 @@
 -- In a class that is plain or bounded, the numbers that a point with whole forms makes are whole and keep all rows of the case.
-use Rattle.std.proofs.Common.{◌≡◌, ⊎_elim, ℕ, zero, suc, ◌*◌, ◌<◌, ◌≤◌, ◌&&◌, ◌||◌, not, is_some, unwrap_or, Bool, true, false, if◌then◌else◌, List, [], ◌∷◌, ◌++◌, map, length, Contains, Ok, refl, sym, ap, ap₂, subst, ◌∙◌, arith}
+use Rattle.std.proofs.Common.{◌≡◌, ⊎_elim, ℕ, ◌*◌, ◌<◌, ◌≤◌, ◌&&◌, ◌||◌, not, is_some, unwrap_or, Option, Some, None, IfSome, Bool, true, false, if◌then◌else◌, List, [], ◌∷◌, ◌++◌, map, length, Contains, Ok, refl, sym, ap, ap₂, subst, ◌∙◌, arith}
 use Rattle.std.specs.Prelude.{ℤ, pos, negsuc, neg_ℤ, ◌+ℤ◌, ◌*ℤ◌, ◌<ℤ◌, ◌≤ℤ◌, unsigned_abs}
-use Rattle.std.proofs.Math.Nat.{mul-suc}
 use Rattle.std.proofs.Math.IntN.{*ℤ-zero}
-use Rattle.std.proofs.lemmas.Int.{ints, unsigned_abs-mul, by_lt_z}
+use Rattle.std.proofs.lemmas.Int.{ints, by_lt_z}
 use Rattle.std.proofs.lemmas.Bool.{true≢false, cases_Bool}
 use Rattle.std.proofs.lemmas.List.{length-map, get_or-map}
 use Rattle.std.proofs.lemmas.List.Elements.{Contains-get_or}
@@ -21,18 +20,20 @@ use Rattle.rg_linear.specs.Branching.{form_at}
 use Rattle.rg_linear.specs.Cycle.{CycleBasis}
 use Rattle.rg_linear.proofs.Branches.{positive_times_less}
 use Rattle.rg_refuting.specs.Expression.{Variable, Variable.tokens_at, Variable.effect_of}
-use Rattle.rg_refuting.specs.Row.{RowName.cap_row, Form as SplitForm, Form.on_tokens, form_variable}
+use Rattle.rg_refuting.specs.Row.{RowName.cap_row, RowName.block_row, RowName.empty_row, RowName.down_row, Form as SplitForm, Form.on_tokens, Form.on_start, form_variable, step_of}
 use Rattle.rg_order_of_work.specs.Fold.{each, Ratio, whole, add}
-use Rattle.rg_order_of_work.specs.Rewriting.{has_label, all_numbers, has_start, split_forms, form_fold, form_high, CaseSystem}
+use Rattle.rg_order_of_work.specs.Rewriting.{has_label, all_numbers, has_start, splits_start, split_forms, CaseSystem}
 use Rattle.rg_order_of_work.specs.Values.{numbers_along}
 use Rattle.rg_order_of_work.specs.Shown.{IsLive}
-use Rattle.rg_order_of_work.specs.Placing.{negated, ratio_at, along_tree, least_of, shift_fold, top_at, effect_fold, made_whole}
+use Rattle.rg_order_of_work.specs.Placing.{negated, ratio_at, along_tree, least_of, is_shifted, is_lifted, top_at, effect_fold, made_whole}
 use Rattle.rg_order_of_work.specs.Meaning.{KeepsRowsOver, IsCaseOver, AreEffects, MeetsCase}
 use Rattle.rg_order_of_work.specs.WholeParts.{AreWholeParts}
 use Rattle.rg_order_of_work.proofs.RowValues.{add_over}
 use Rattle.rg_order_of_work.proofs.CaseMeaning.{start_means}
-use Rattle.rg_order_of_work.proofs.Forms.{form_of_variable, form_value, form_positive, form_names, bounded_has}
-use Rattle.rg_order_of_work.proofs.FormRows.{form_fits}
+use Rattle.rg_order_of_work.proofs.Forms.{form_of_variable, form_value, form_positive, form_names, bounded_has, start_has}
+use Rattle.rg_order_of_work.proofs.Times.{rest_none, allows_by}
+use Rattle.rg_theory.specs.Class.{IsMultiple, AllowsStart}
+use Rattle.rg_refuting.specs.Refutes.{IsSeparationProblem}
 use Rattle.rg_order_of_work.proofs.WholeParts.{whole_tokens, whole_rows}
 use Rattle.rg_order_of_work.proofs.WholePoints.{bounded_parts, plain_parts}
 use Rattle.rg_order_of_work.proofs.Lists.{Contains-of_map, where_is}
@@ -40,26 +41,12 @@ use Rattle.rg_places.specs.Places.{IsReduced, AreValuesOf, AreFormsWhole}
 use Rattle.rg_places.proofs.Wholes.{each_at}
 use Rattle.rg_places.proofs.Found.{IsOverAt, all_length, all_at, whole_by, label_at, start_at}
 use Rattle.rg_places.proofs.Reduced.{effect_reduced, start_is_reduced}
-use Rattle.rg_places.proofs.Kept.{AreKept, shift_by}
+use Rattle.rg_places.proofs.Kept.{AreMoved, shift_by}
 use Rattle.rg_places.proofs.Overs.{whole_over, sum_in_range, along_gives_over, opposite_over, AreOver, one_value, least_over}
 use Rattle.rg_places.proofs.Lowered.{lowered, lowered_at, lowered_keeps}
 use Rattle.rg_cycles.proofs.Items.{each_length}
 
--- a factor of a number in range is in range
-factor_in_range : (z m : ℤ) → pos 0 <ℤ m → InRange (m *ℤ z) → InRange z
-factor_in_range z m h fits = below (unsigned_abs z) (unsigned_abs m) (unsigned_abs (m *ℤ z)) _ (some m h) (turn (unsigned_abs z) (unsigned_abs m) ∙ sym (unsigned_abs-mul m z)) fits
-  where
-    some : (m : ℤ) → pos 0 <ℤ m → 0 < unsigned_abs m
-    some m h = omega (arith, ints)
-
-    turn : (a b : ℕ) → a * b ≡ b * a
-    turn a b = omega arith
-
-    below : (a b n m : ℕ) → 0 < b → a * b ≡ n → n < m → a < m
-    below a zero n m h e lt = absurd (omega arith)
-    below a (suc b) n m h e lt = let k = mul-suc a b in omega arith
-
-module _ (lts : System) (tree : List Arc) (basis : CycleBasis) (class : Class) (problem : Problem) (number : ℕ) (case : CaseSystem) (first : ℤ) (effect : ℕ → ℤ) (scale : ℤ) (start : Ratio) (value : ℕ → Ratio) (effects found numbers : List Ratio) (out : ℕ → Ratio) (c : IsCaseOver lts tree basis class problem number case) (live : IsLive lts problem) (e : AreEffects lts tree basis effect) (v : AreValuesOf lts basis start value first effect scale) (whole_forms : AreFormsWhole lts basis class case first effect scale) (met : MeetsCase lts basis class case first effect scale) (whole_class : (class.plain || is_some class.bound) ≡ true) (made : each (effect_fold lts basis value) (all_numbers (labels lts)) (Ok effects)) (whole_made : made_whole class (effects ++ start ∷ []) (Ok found)) (along : along_tree (ratio_at found) (λ s. ratio_at found (labels lts)) tree (Ok out)) (shift : shift_fold class (map out (all_numbers (states lts))) (Ok numbers)) where
+module _ (lts : System) (tree : List Arc) (basis : CycleBasis) (class : Class) (problem : Problem) (number : ℕ) (case : CaseSystem) (first : ℤ) (effect : ℕ → ℤ) (scale : ℤ) (start : Ratio) (value : ℕ → Ratio) (effects found numbers : List Ratio) (out : ℕ → Ratio) (c : IsCaseOver lts tree basis class problem number case) (live : IsLive lts problem) (e : AreEffects lts tree basis effect) (v : AreValuesOf lts basis start value first effect scale) (whole_forms : AreFormsWhole lts basis class case first effect scale) (met : MeetsCase lts basis class case first effect scale) (whole_class : (class.plain || is_some class.bound) ≡ true) (made : each (effect_fold lts basis value) (all_numbers (labels lts)) (Ok effects)) (whole_made : made_whole class (effects ++ start ∷ []) (Ok found)) (along : along_tree (ratio_at found) (λ s. ratio_at found (labels lts)) tree (Ok out)) (shift : shift_by (is_shifted class) (map out (all_numbers (states lts))) numbers) where
   abbrev x : Variable → ℤ
   x = numbers_along lts tree first effect
 
@@ -73,22 +60,31 @@ module _ (lts : System) (tree : List Arc) (basis : CycleBasis) (class : Class) (
   keeps : KeepsRowsOver lts class problem number scale x
   keeps = (start_means lts tree basis class problem number case first effect scale c e v.positive starts).0 met
 
-  -- a variable that has a form is whole
-  variable_whole : (split : SplitForm) → Contains (split_forms lts class) split → (u : ℤ) × (x (form_variable lts.initial split) ≡ scale *ℤ u)
-  variable_whole split has =
+  -- a variable that has a form is whole, by its steps
+  variable_steps : (split : SplitForm) → Contains (split_forms lts class problem) split → (u : ℤ) × (x (form_variable lts.initial split) ≡ scale *ℤ (pos (step_of class split) *ℤ u))
+  variable_steps split has =
       let f = form_of_variable lts tree basis class problem number case split c.is_case has in
       let (u, is) = whole_forms f.number f.within in
       let form = form_at case.forms f.number in
-      let worth = form_value lts tree basis class problem number case c split form first effect f.made (form_names lts class split has) (λ none. absurd (true≢false (sym starts ∙ none))) e in
-      (u, mul-cancel_left form.scale (x (form_variable lts.initial split)) (scale *ℤ u) (positive_differs form.scale (form_positive lts tree basis class problem number case c split form f.made)) (sym worth ∙ is ∙ turn u form.scale scale))
+      let worth = form_value lts tree basis class problem number case c split form first effect f.made (form_names lts class problem split has) (λ none. absurd (true≢false (sym starts ∙ none))) e in (
+        u,
+        mul-cancel_left form.scale (x (form_variable lts.initial split)) (scale *ℤ (pos (step_of class split) *ℤ u)) (positive_differs form.scale (form_positive lts tree basis class problem number case c split form f.made))
+            (sym worth ∙ ap (λ z. pos (step_of class split) *ℤ z) is ∙ turn (pos (step_of class split)) u form.scale scale),
+      )
     where
-      turn : (u f s : ℤ) → u *ℤ (f *ℤ s) ≡ f *ℤ (s *ℤ u)
-      turn u f s = simp ring
+      turn : (n u f s : ℤ) → n *ℤ (u *ℤ (f *ℤ s)) ≡ f *ℤ (s *ℤ (n *ℤ u))
+      turn n u f s = simp ring
+
+  variable_whole : (split : SplitForm) → Contains (split_forms lts class problem) split → (u : ℤ) × (x (form_variable lts.initial split) ≡ scale *ℤ u)
+  variable_whole split has = let (u, is) = variable_steps split has in (pos (step_of class split) *ℤ u, is)
+
+  start_whole : splits_start class problem ≡ true → (u : ℤ) × (x (tokens_at lts.initial) ≡ scale *ℤ (pos (unwrap_or class.marking 1) *ℤ u))
+  start_whole splits = variable_steps on_start (start_has lts class problem splits)
 
   -- ---- the numbers of the fold
 
   same : found ≡ effects ++ start ∷ []
-  same = subst (λ b. whole_by b (effects ++ start ∷ []) found) whole_class whole_made
+  same = subst (λ b. whole_by class b (effects ++ start ∷ []) found) whole_class whole_made
 
   label_over : (t : ℕ) → t < labels lts → IsOverAt scale (ratio_at found t) (effect t)
   label_over t lt = subst (λ l. IsOverAt scale (ratio_at l t) (effect t)) (sym same) (label_at lts tree basis start value first effect scale effects c.is_basis e v made t lt)
@@ -132,9 +128,9 @@ module _ (lts : System) (tree : List Arc) (basis : CycleBasis) (class : Class) (
 
   -- ---- a bounded class
 
-  bounded_kept : is_some class.bound ≡ true → (y : Variable → ℤ) × AreKept lts class problem number found numbers y
+  bounded_kept : is_some class.bound ≡ true → (y : Variable → ℤ) × AreMoved lts class problem number found numbers y × (is_lifted class problem ≡ false → AllowsStart class (unsigned_abs (y (tokens_at lts.initial))))
   bounded_kept bound =
-      let (y, parts, exact) = bounded_parts lts tree basis class problem number c.in_range scale v.positive first effect e keeps variable_whole bound in
+      let (y, parts, allowed_start) = bounded_parts lts tree basis class problem number c.in_range c.is_tree scale v.positive first effect e keeps variable_whole start_whole bound in
       let kept = keeps_whole y parts in
       let stays : numbers ≡ list = subst (λ b. shift_by b list numbers) (ap (λ b. not b && (class.plain || not class.pure)) bound) shift in (
         y,
@@ -143,27 +139,26 @@ module _ (lts : System) (tree : List Arc) (basis : CycleBasis) (class : Class) (
           at = (
             ap length stays ∙ list_length,
             λ s lt. (
-              ap (λ l. ratio_at l s) stays ∙ list_at s lt ∙ whole_over scale (y (tokens_at s)) (out s) v.positive (subst (IsOverAt scale (out s)) (exact s lt) (state_over s lt).0) (state_over s lt).1,
+              ap (λ l. ratio_at l s) stays ∙ list_at s lt ∙ whole_over scale (y (tokens_at s)) (out s) v.positive (subst (IsOverAt scale (out s)) (exact bound y parts s lt) (state_over s lt).0) (state_over s lt).1,
               fits y kept s lt (whole_tokens lts class problem number scale x y s parts keeps),
             ),
           );
           effects = effect_whole y parts;
         },
+        λ none. allowed_start,
       )
     where
-      most : (o : Bool) (b : ℤ) → o ≡ true → (if o then b else pos 1) ≡ b
-      most true b e = refl
-      most false b e = absurd (true≢false (sym e))
+      exact : is_some class.bound ≡ true → (y : Variable → ℤ) → AreWholeParts lts scale x y → (s : ℕ) → s < states lts → x (tokens_at s) ≡ scale *ℤ y (tokens_at s)
+      exact bound y parts s lt =
+          let (u, is) = variable_whole (on_tokens s) (bounded_has lts class problem s bound lt) in
+          is ∙ ap (λ z. scale *ℤ z) (sym (rest_none scale (y (tokens_at s)) parts.rest u parts.not_negative parts.below (sym (parts.tokens s lt) ∙ is)).1)
 
-      high_of : (split : SplitForm) (form : Rattle.rg_linear.specs.Branching.Form) → form_fold lts tree basis class split (Ok form) → form.high ≡ form_high class
-      high_of split form (scaled, fold, is) = ap (λ (g : Rattle.rg_linear.specs.Branching.Form). g.high) is
-
-      bound_in_range : (s : ℕ) → s < states lts → InRange (pos (unwrap_or class.bound 0))
-      bound_in_range s lt =
-          let f = form_of_variable lts tree basis class problem number case (on_tokens s) c.is_case (bounded_has lts class s bound lt) in
-          let form = form_at case.forms f.number in
-          factor_in_range (pos (unwrap_or class.bound 0)) form.scale (form_positive lts tree basis class problem number case c (on_tokens s) form f.made)
-          (subst (λ z. InRange (form.scale *ℤ z)) (high_of (on_tokens s) form f.made ∙ most (is_some class.bound) (pos (unwrap_or class.bound 0)) bound) (form_fits lts tree basis class problem number case c f.number f.within).1)
+      bound_in_range : InRange (pos (unwrap_or class.bound 0))
+      bound_in_range = let h = few class.bound c.numbers.bound in omega (arith, ints, h)
+        where
+          few : (o : Option ℕ) → IfSome o (λ k. (0 < k) × (k ≤ 255)) → unwrap_or o 0 ≤ 255
+          few None h = omega arith
+          few (Some k) h = h.1
 
       capped : (z k : ℤ) → pos 0 ≤ℤ z → pos 0 ≤ℤ (((negsuc 0 *ℤ z) +ℤ pos 0) +ℤ (k *ℤ pos 1)) → InRange k → InRange z
       capped z k low high fits = between (unsigned_abs z) (unsigned_abs k) _ (below z k low high) fits
@@ -179,7 +174,7 @@ module _ (lts : System) (tree : List Arc) (basis : CycleBasis) (class : Class) (
       cap (States a b) y s lt kept = kept (cap_row s) (lt, bound)
 
       fits : (y : Variable → ℤ) → KeepsRowsOver lts class problem number (pos 1) y → (s : ℕ) → s < states lts → pos 0 ≤ℤ y (tokens_at s) → InRange (y (tokens_at s))
-      fits y kept s lt low = capped (y (tokens_at s)) (pos (unwrap_or class.bound 0)) low (cap problem y s lt kept) (bound_in_range s lt)
+      fits y kept s lt low = capped (y (tokens_at s)) (pos (unwrap_or class.bound 0)) low (cap problem y s lt kept) bound_in_range
 
   -- ---- a plain class without bound
 
@@ -189,9 +184,9 @@ module _ (lts : System) (tree : List Arc) (basis : CycleBasis) (class : Class) (
       let (_, _, lt) = where_is (λ q. true) 0 (states lts) s within in
       (x (tokens_at s), subst (λ q. IsOverAt scale q (x (tokens_at s))) is (state_over s (omega arith)).0)
 
-  plain_kept : is_some class.bound ≡ false → class.plain ≡ true → (y : Variable → ℤ) × AreKept lts class problem number found numbers y
+  plain_kept : is_some class.bound ≡ false → class.plain ≡ true → (y : Variable → ℤ) × AreMoved lts class problem number found numbers y × (is_lifted class problem ≡ false → AllowsStart class (unsigned_abs (y (tokens_at lts.initial))))
   plain_kept bound plain =
-      let (y, parts) = plain_parts lts tree basis class problem number c.in_range scale v.positive first effect e keeps variable_whole bound plain in
+      let (y, parts, start_steps) = plain_parts lts tree basis class problem number c.in_range c.is_tree scale v.positive first effect e keeps variable_whole start_whole bound plain in
       let kept = keeps_whole y parts in
       let shifts = subst (λ b. shift_by b list numbers) (ap₂ (λ a b. not a && (b || not class.pure)) bound plain) shift in
       let (least, over, has, low) = least_over scale list (subst (λ k. 0 < k) (sym list_length) (let lt = c.in_range.initial in omega arith)) v.positive all_over in
@@ -221,8 +216,50 @@ module _ (lts : System) (tree : List Arc) (basis : CycleBasis) (class : Class) (
           );
           effects = effect_whole y parts;
         },
+        λ none. subst (λ z. AllowsStart class (unsigned_abs z)) (sym (lowered_at lts class plain bound c.in_range (neg_ℤ (y (tokens_at l))) le y above lts.initial c.in_range.initial))
+            (allowed_by problem y l bound plain c.asked kept (λ s lt. order s lt) (whole_tokens lts class problem number scale x y l parts keeps) start_steps none),
       )
     where
+      allowed : (o : Option ℕ) (m : ℕ) → (is_some o ≡ true → IfSome o (λ n. IsMultiple n m)) → IfSome o (λ n. IsMultiple n m)
+      allowed None m h = tt
+      allowed (Some n) m h = h refl
+
+      event_splits : (m p b : Bool) → m ≡ true → p ≡ true → (m && (p || b)) ≡ true
+      event_splits true true b e f = refl
+      event_splits true false b e f = absurd (true≢false (sym f))
+      event_splits false p b e f = absurd (true≢false (sym e))
+
+      states_lifts : (m p b : Bool) → m ≡ true → p ≡ true → b ≡ false → (m && (p && not b)) ≡ true
+      states_lifts true true false e f g = refl
+      states_lifts true true true e f g = absurd (true≢false g)
+      states_lifts true false b e f g = absurd (true≢false (sym f))
+      states_lifts false p b e f g = absurd (true≢false (sym e))
+
+      low_empty : (a l : ℤ) → pos 0 ≤ℤ l → l ≤ℤ a → pos 0 ≤ℤ (((negsuc 0 *ℤ a) +ℤ pos 0) +ℤ (pos 0 *ℤ pos 1)) → l ≡ pos 0
+      low_empty a l h k g = omega (arith, ints)
+
+      low_block : (a e l : ℤ) → pos 0 ≤ℤ l → l ≤ℤ a → pos 0 ≤ℤ (((negsuc 0 *ℤ a) +ℤ ((negsuc 0 *ℤ e) +ℤ pos 0)) +ℤ (negsuc 0 *ℤ pos 1)) → pos 0 ≤ℤ (((pos 1 *ℤ e) +ℤ pos 0) +ℤ (pos 1 *ℤ pos 1)) → l ≡ pos 0
+      low_block a e l h k g d = omega (arith, ints)
+
+      less_none : (a l : ℤ) (n : ℕ) (u : ℤ) → l ≡ pos 0 → a ≡ pos n *ℤ u → a +ℤ neg_ℤ l ≡ pos n *ℤ u
+      less_none a l n u e g = same a l e ∙ g
+        where
+          same : (a l : ℤ) → l ≡ pos 0 → a +ℤ neg_ℤ l ≡ a
+          same a l e = omega (arith, ints)
+
+      -- of an event the least is 0, at the stopped state; of two states the numbers are moved back
+      allowed_by : (p : Problem) (y : Variable → ℤ) (l : ℕ) → is_some class.bound ≡ false → class.plain ≡ true → IsSeparationProblem lts p → KeepsRowsOver lts class p number (pos 1) y → ((s : ℕ) → s < states lts → y (tokens_at l) ≤ℤ y (tokens_at s)) → pos 0 ≤ℤ y (tokens_at l)
+          → (splits_start class p ≡ true → (u : ℤ) × (y (tokens_at lts.initial) ≡ pos (unwrap_or class.marking 1) *ℤ u)) → is_lifted class p ≡ false → AllowsStart class (unsigned_abs (y (tokens_at lts.initial) +ℤ neg_ℤ (y (tokens_at l))))
+      allowed_by (Event s t) y l bound plain asked kept order low steps none =
+          let least = ⊎_elim
+          (λ pure. low_block (y (tokens_at s)) (y (effect_of t)) (y (tokens_at l)) low (order s asked.0) (kept block_row pure) (kept (down_row t) (asked.1, plain)))
+          (λ impure. low_empty (y (tokens_at s)) (y (tokens_at l)) low (order s asked.0) (kept empty_row (plain, impure)))
+          (cases_Bool class.pure) in
+          allowed class.marking (unsigned_abs (y (tokens_at lts.initial) +ℤ neg_ℤ (y (tokens_at l))))
+          (λ some. (let (u, is) = steps (event_splits (is_some class.marking) class.plain (is_some class.bound) some plain) in allows_by class (y (tokens_at lts.initial) +ℤ neg_ℤ (y (tokens_at l))) u (less_none (y (tokens_at lts.initial)) (y (tokens_at l)) (unwrap_or class.marking 1) u least is)))
+      allowed_by (States s s') y l bound plain asked kept order low steps none =
+          allowed class.marking (unsigned_abs (y (tokens_at lts.initial) +ℤ neg_ℤ (y (tokens_at l)))) (λ some. absurd (true≢false (sym (states_lifts (is_some class.marking) class.plain (is_some class.bound) some plain bound) ∙ none)))
+
       down : (z : ℤ) → pos 0 ≤ℤ z → neg_ℤ z ≤ℤ pos 0
       down z h = omega (arith, ints)
 
@@ -241,7 +278,7 @@ module _ (lts : System) (tree : List Arc) (basis : CycleBasis) (class : Class) (
           let h = low (ratio_at list s) (x (tokens_at s)) (Contains-get_or list s (whole (pos 0)) (subst (λ k. s < k) (sym list_length) lt)) (subst (λ q. IsOverAt scale q (x (tokens_at s))) (sym (list_at s lt)) (state_over s lt).0) in
           subst (λ z. z ≤ℤ x (tokens_at s)) (sym same_l) h
 
-  pub whole_kept : (y : Variable → ℤ) × AreKept lts class problem number found numbers y
+  pub whole_kept : (y : Variable → ℤ) × AreMoved lts class problem number found numbers y × (is_lifted class problem ≡ false → AllowsStart class (unsigned_abs (y (tokens_at lts.initial))))
   whole_kept = ⊎_elim bounded_kept (λ bound. plain_kept bound (plainly class.plain (is_some class.bound) whole_class bound)) (cases_Bool (is_some class.bound))
     where
       plainly : (a b : Bool) → (a || b) ≡ true → b ≡ false → a ≡ true

@@ -49,12 +49,12 @@ abbrev pub AreFormsWhole : System → CycleBasis → Class → CaseSystem → �
 AreFormsWhole lts basis class case first effect scale = (f : ℕ) → f < length case.forms → (u : ℤ) × (dot (form_at case.forms f).coeffs (column_values lts basis class first effect) ≡ u *ℤ ((form_at case.forms f).scale *ℤ scale))
 
 -- the numbers of the states that Start and the values of the free labels make on the way to a place
-abbrev pub numbers_fold : System → List Arc → CycleBasis → Class → Ratio → (ℕ → Ratio) → Result (List Ratio) Wide → Type 0
-numbers_fold lts tree basis class start value =
+abbrev pub numbers_fold : System → List Arc → CycleBasis → Class → Problem → Ratio → (ℕ → Ratio) → Result (List Ratio) Wide → Type 0
+numbers_fold lts tree basis class problem start value =
     and_then (each (effect_fold lts basis value) (all_numbers (labels lts)))
     (λ effects. and_then (made_whole class (effects ++ start ∷ []))
     (λ found. and_then (along_tree (ratio_at found) (λ s. ratio_at found (labels lts)) tree)
-    (λ number. shift_fold class (map number (all_numbers (states lts))))))
+    (λ number. shift_fold lts class problem (map number (all_numbers (states lts))))))
 
 -- the tokens of the states by these numbers
 abbrev pub tokens_of : List Ratio → ℕ → ℕ
@@ -70,7 +70,7 @@ pub record NumbersFit (place : Place) (m : ℕ → ℕ) : Type 0 where
 -- the place, with the numbers of the states that are made on the way to it, is a region of the class that separates, and its numbers fit
 pub record PlaceIsMade (lts : System) (tree : List Arc) (basis : CycleBasis) (class : Class) (problem : Problem) (start : Ratio) (value : ℕ → Ratio) (place : Place) : Type 0 where
   pub numbers : List Ratio
-  pub made : numbers_fold lts tree basis class start value (Ok numbers)
+  pub made : numbers_fold lts tree basis class problem start value (Ok numbers)
   pub region : RegionIn lts class place (tokens_of numbers)
   pub separates : Separates place (tokens_of numbers) problem
   pub fit : NumbersFit place (tokens_of numbers)

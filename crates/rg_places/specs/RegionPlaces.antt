@@ -32,7 +32,7 @@ abbrev pub PlaceSeparates : Problem → RegionPlace → Type 0
 PlaceSeparates problem r = Separates (shown_place r.place) (region_tokens r) problem
 
 -- the tokens are the numbers of the states that are made on the way to the place
-pub record AreTokensMade (lts : System) (tree : List Arc) (basis : CycleBasis) (class : Class) (start : Ratio) (value : ℕ → Ratio) (tokens : List ℕ) : Type 0 where
+pub record AreTokensMade (lts : System) (tree : List Arc) (basis : CycleBasis) (class : Class) (problem : Problem) (start : Ratio) (value : ℕ → Ratio) (tokens : List ℕ) : Type 0 where
   pub numbers : List Ratio
-  pub made : numbers_fold lts tree basis class start value (Ok numbers)
+  pub made : numbers_fold lts tree basis class problem start value (Ok numbers)
   pub tokens_are : tokens ≡ map (λ n. unsigned_abs n.top) numbers

@@ -20,7 +20,7 @@ use rg_theory::{Arc, Class, Problem};
 /// region of the class with the numbers made on the way to it, which are one list. It separates, and all
 /// its numbers are at most 2^127 - 1.
 pub fn place_is_region()
-    ensures numbers { (lts : System) (tree : List Arc) (basis : CycleBasis) (class : Class) (start : Ratio) (value : ℕ → Ratio) → IsOne (numbers_fold lts tree basis class start value) }
+    ensures numbers { (lts : System) (tree : List Arc) (basis : CycleBasis) (class : Class) (problem : Problem) (start : Ratio) (value : ℕ → Ratio) → IsOne (numbers_fold lts tree basis class problem start value) }
     ensures made { (lts : System) (tree : List Arc) (basis : CycleBasis) (class : Class) (problem : Problem) (number : ℕ) (case : CaseSystem) (start : Ratio) (value : ℕ → Ratio) (first : ℤ) (effect : ℕ → ℤ) (scale : ℤ) (place : Place) → IsCaseOver lts tree basis class problem number case → IsLive lts problem → AreEffects lts tree basis effect → MeetsCase lts basis class case first effect scale → AreFormsWhole lts basis class case first effect scale → AreValuesOf lts basis start value first effect scale → place_fold lts tree basis class problem start value (Ok place) → PlaceIsMade lts tree basis class problem start value place }
 {}
 

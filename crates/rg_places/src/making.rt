@@ -36,8 +36,10 @@ use std::alloc::Global;
 /// The point has one fraction for each column: Start, the tokens of the initial state, where the class is
 /// pure, plain or bounded, and then the effects of the free labels with an arc, in order. The effects of the
 /// other labels follow by the basis. In a class that is neither plain nor bounded, Start and all effects are
-/// multiplied by their least common denominator. The tokens of the states follow along the tree; in a class
-/// that isn't bounded, and is plain or not pure, the least of them is taken from all. Then each label takes
+/// multiplied by their least common denominator, and then by the class's marking, where it asks one. The tokens of the
+/// states follow along the tree; in a class that isn't bounded, and is plain or not pure, the least of them is taken from
+/// all. In a problem of two states of a plain class without bound the least number that makes the initial state's tokens
+/// a multiple of the marking is then added to all. Then each label takes
 /// as much as its effect takes away, and the event's label as much as stops it: its effect taken away in a
 /// pure class, else 1 in a plain one, and in others the least tokens of the states that it leaves.
 ///
@@ -59,13 +61,13 @@ pub fn make_place(
     requires asked { IsSeparationProblem lts.now problem }
     requires columns { length point.now ≡ column_count lts.now (cycle_of basis.now) class }
     ensures place { IfOk result (λ r. place_fold lts.now tree.now.arcs (cycle_of basis.now) class problem (point_start class point.now) (point_value lts.now (cycle_of basis.now) class point.now) (Ok (shown_place r.place))) }
-    ensures tokens { IfOk result (λ r. AreTokensMade lts.now tree.now.arcs (cycle_of basis.now) class (point_start class point.now) (point_value lts.now (cycle_of basis.now) class point.now) r.tokens.items) }
+    ensures tokens { IfOk result (λ r. AreTokensMade lts.now tree.now.arcs (cycle_of basis.now) class problem (point_start class point.now) (point_value lts.now (cycle_of basis.now) class point.now) r.tokens.items) }
     ensures region { IfOk result (λ r. IsLive lts.now problem → SolvesCase lts.now tree.now.arcs (cycle_of basis.now) class problem point.now → IsRegionPlace lts.now class r × PlaceSeparates problem r) }
     ensures wide { (w : Wide) → IsErrOf result (stop.Wide w) → place_fold lts.now tree.now.arcs (cycle_of basis.now) class problem (point_start class point.now) (point_value lts.now (cycle_of basis.now) class point.now) (Err w) }
 {
     let found = found_numbers(alloc, lts, basis, class, point)?;
     let numbers = along_tree(alloc, lts, tree.arcs(), &found)?;
-    let numbers = shifted(alloc, class, numbers)?;
+    let numbers = shifted(alloc, lts, class, problem, numbers)?;
     place_of(alloc, lts, class, problem, &found, &numbers)
 }
 

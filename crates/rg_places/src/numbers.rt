@@ -1,18 +1,19 @@
 //! The numbers of the states.
-ghost use Rattle.std.specs.Prelude.{◌≡◌, ℕ, ◌<◌, ◌+◌, ◌∷◌, pos, length, map, Ok, Err, IfOk, IsErrOf};
+ghost use Rattle.std.specs.Prelude.{◌≡◌, ℕ, ◌<◌, ◌+◌, ◌∷◌, unwrap_or, unsigned_abs, pos, length, map, Ok, Err, IfOk, IsErrOf};
 ghost use Rattle.rg_theory.specs.System.{states, labels};
 ghost use Rattle.rg_theory.specs.Tree.{IsTree};
 ghost use Rattle.rg_fraction.specs.declared.term.Wide.{Wide};
-ghost use Rattle.rg_order_of_work.specs.Fold.{each, add, Ratio, ratio_of};
+ghost use Rattle.rg_order_of_work.specs.Fold.{gives, either, each, add, whole, Ratio, ratio_of};
 ghost use Rattle.rg_order_of_work.specs.Rewriting.{all_numbers};
-ghost use Rattle.rg_order_of_work.specs.Placing.{along_tree, ratio_at, negated, lesser, least_of, is_shifted, shift_fold};
+ghost use Rattle.rg_order_of_work.specs.Placing.{along_tree, ratio_at, negated, lesser, least_of, is_shifted, is_lifted, missing, top_at, shift_fold};
 ghost use Rattle.rg_fraction.specs.declared.fold_stop.FoldStop.TheVariants as stop;
 ghost use Rattle.rg_places.specs.PointValues.{ratios_of};
 ghost use Rattle.rg_places.specs.Steps.{IsAlongTree};
 
+use crate::whole::widened;
 use rg_fraction::{FoldStop, Fraction};
 use rg_lts::{Arc, Lts};
-use rg_theory::Class;
+use rg_theory::{Class, Problem};
 use std::alloc::Global;
 use std::cmp::Ordering;
 
@@ -38,21 +39,83 @@ pub(crate) fn along_tree(
     Ok(numbers)
 }
 
-// In a class that isn't bounded, and is plain or not pure, the numbers less the least of them, and in others the
-// numbers.
+// The numbers, moved so that the least is 0 where the class asks that, and then moved back where the start has to be a
+// multiple.
 pub(crate) fn shifted(
     alloc: Global,
+    lts: &Lts,
     class: Class,
+    problem: Problem,
     numbers: Vec<Fraction>,
 ) -> Result<Vec<Fraction>, FoldStop>
-    ensures value { IfOk result (λ shifted. shift_fold class (ratios_of numbers.items) (Ok (ratios_of shifted.items))) }
-    ensures wide { (w : Wide) → IsErrOf result (stop.Wide w) → shift_fold class (ratios_of numbers.items) (Err w) }
+    requires { length numbers.items ≡ states lts.now }
+    ensures value { IfOk result (λ shifted. shift_fold lts.now class problem (ratios_of numbers.items) (Ok (ratios_of shifted.items))) }
+    ensures wide { (w : Wide) → IsErrOf result (stop.Wide w) → shift_fold lts.now class problem (ratios_of numbers.items) (Err w) }
+{
+    let moved = moved(alloc, class, numbers)?;
+    lifted(alloc, lts, class, problem, moved)
+}
+
+// In a class that isn't bounded, and is plain or not pure, the numbers less the least of them, and in others the
+// numbers.
+fn moved(alloc: Global, class: Class, numbers: Vec<Fraction>) -> Result<Vec<Fraction>, FoldStop>
+    ensures value { IfOk result (λ moved. either (is_shifted class) (each (λ m. add m (negated (least_of (ratios_of numbers.items)))) (ratios_of numbers.items)) (gives (ratios_of numbers.items)) (Ok (ratios_of moved.items))) }
+    ensures wide { (w : Wide) → IsErrOf result (stop.Wide w) → either (is_shifted class) (each (λ m. add m (negated (least_of (ratios_of numbers.items)))) (ratios_of numbers.items)) (gives (ratios_of numbers.items)) (Err w) }
 {
     if !is_shifted(class) {
         return Ok(numbers);
     }
     let by = least(&numbers);
     lowered(alloc, &numbers, by)
+}
+
+// In a problem of two states of a plain class without bound the numbers and what is missing at the start, which is to
+// be a multiple of the class's marking, and in others the numbers.
+fn lifted(
+    alloc: Global,
+    lts: &Lts,
+    class: Class,
+    problem: Problem,
+    numbers: Vec<Fraction>,
+) -> Result<Vec<Fraction>, FoldStop>
+    requires { length numbers.items ≡ states lts.now }
+    ensures value { IfOk result (λ lifted. either (is_lifted class problem) (each (λ m. add m (whole (pos (missing (unwrap_or class.marking 1) (unsigned_abs (top_at (ratios_of numbers.items) lts.now.initial)))))) (ratios_of numbers.items)) (gives (ratios_of numbers.items)) (Ok (ratios_of lifted.items))) }
+    ensures wide { (w : Wide) → IsErrOf result (stop.Wide w) → either (is_lifted class problem) (each (λ m. add m (whole (pos (missing (unwrap_or class.marking 1) (unsigned_abs (top_at (ratios_of numbers.items) lts.now.initial)))))) (ratios_of numbers.items)) (gives (ratios_of numbers.items)) (Err w) }
+{
+    if !is_lifted(class, problem) {
+        return Ok(numbers);
+    }
+    let start = numbers[lts.initial() as usize].numerator().unsigned_abs();
+    let by = missing(class.marking.unwrap_or(1), start);
+    raised(alloc, &numbers, whole_number(by))
+}
+
+// Whether the start has to be moved back to a multiple: in a problem of two states of a plain class without bound.
+fn is_lifted(class: Class, problem: Problem) -> bool
+    ensures { result ≡ is_lifted class problem }
+{
+    match problem {
+        Problem::Event(..) => false,
+        Problem::States(..) => { class.marking.is_some() && (class.plain && class.bound.is_none()) }
+    }
+}
+
+// The number as a fraction.
+fn whole_number(n: u8) -> Fraction
+    ensures { ratio_of result ≡ whole (pos n) }
+{
+    Fraction::new(widened(n), 1)
+}
+
+// How many more make m a multiple of n; 0 where n is 0.
+fn missing(n: u8, m: u128) -> u8
+    ensures { result ≡ missing n m }
+{
+    if n == 0 {
+        return 0;
+    }
+    let n = u128::from(n);
+    ((n - m % n) % n) as u8
 }
 
 // Whether the class asks that the least number be 0.
@@ -73,6 +136,19 @@ fn lowered(alloc: Global, numbers: &[Fraction], by: Fraction) -> Result<Vec<Frac
         lowered.push(difference)?;
     }
     Ok(lowered)
+}
+
+// Each number and so much.
+fn raised(alloc: Global, numbers: &[Fraction], by: Fraction) -> Result<Vec<Fraction>, FoldStop>
+    ensures value { IfOk result (λ raised. each (λ m. add m (ratio_of by)) (ratios_of numbers.now) (Ok (ratios_of raised.items))) }
+    ensures wide { (w : Wide) → IsErrOf result (stop.Wide w) → each (λ m. add m (ratio_of by)) (ratios_of numbers.now) (Err w) }
+{
+    let mut raised = Vec::new(alloc);
+    for number in numbers {
+        let sum = number.add(by)?;
+        raised.push(sum)?;
+    }
+    Ok(raised)
 }
 
 // The least of the numbers, 0 of none.

@@ -1,6 +1,8 @@
 //! Fractions without denominators.
-ghost use Rattle.std.specs.Prelude.{◌≡◌, ◌||◌, is_some, Ok, Err, IfOk, IsErrOf};
+ghost use Rattle.std.specs.Prelude.{◌≡◌, ◌||◌, is_some, unwrap_or, pos, Ok, Err, IfOk, IsErrOf};
+ghost use Rattle.rg_integers.specs.Range.{InRange};
 ghost use Rattle.rg_fraction.specs.declared.term.Wide.{Wide};
+ghost use Rattle.rg_order_of_work.specs.Fold.{gives, either, each, mul, whole};
 ghost use Rattle.rg_order_of_work.specs.Placing.{made_whole};
 ghost use Rattle.rg_fraction.specs.declared.fold_stop.FoldStop.TheVariants as stop;
 ghost use Rattle.rg_places.specs.PointValues.{ratios_of};
@@ -10,8 +12,8 @@ use rg_fraction::{FoldStop, Fraction};
 use rg_theory::Class;
 use std::alloc::Global;
 
-// In a class that is neither plain nor bounded the numbers times their least common denominator, and in
-// others the numbers.
+// In a class that is neither plain nor bounded the numbers times their least common denominator, and then times the
+// marking that the class asks, and in others the numbers.
 pub(crate) fn made_whole(
     alloc: Global,
     class: Class,
@@ -24,7 +26,23 @@ pub(crate) fn made_whole(
         return Ok(numbers);
     }
     let multiple = common_denominator(&numbers)?;
-    products(alloc, &numbers, multiple)
+    let whole = products(alloc, &numbers, multiple)?;
+    times_marking(alloc, class, whole)
+}
+
+// The numbers times the marking that the class asks, if it asks one.
+fn times_marking(
+    alloc: Global,
+    class: Class,
+    numbers: Vec<Fraction>,
+) -> Result<Vec<Fraction>, FoldStop>
+    ensures value { IfOk result (λ found. either (is_some class.marking) (each (λ r. mul r (whole (pos (unwrap_or class.marking 1)))) (ratios_of numbers.items)) (gives (ratios_of numbers.items)) (Ok (ratios_of found.items))) }
+    ensures wide { (w : Wide) → IsErrOf result (stop.Wide w) → either (is_some class.marking) (each (λ r. mul r (whole (pos (unwrap_or class.marking 1)))) (ratios_of numbers.items)) (gives (ratios_of numbers.items)) (Err w) }
+{
+    match class.marking {
+        Some(n) => products(alloc, &numbers, widened(n)),
+        None => Ok(numbers),
+    }
 }
 
 // Whether the class is plain or bounded, so that its points are split until they are whole.
@@ -32,4 +50,12 @@ fn has_whole_points(class: Class) -> bool
     ensures { result ≡ (class.plain || is_some class.bound) }
 {
     class.plain || class.bound.is_some()
+}
+
+// The number.
+pub(crate) fn widened(n: u8) -> i128
+    ensures value { result ≡ pos n }
+    ensures in_range { InRange result }
+{
+    i128::from(n)
 }

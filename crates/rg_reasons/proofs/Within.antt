@@ -1,17 +1,17 @@
 -- The terms of the rows are over the states and labels of the system.
 use Rattle.std.proofs.Common.{ℕ, zero, suc, ◌<◌, Bool, true, false, if◌then◌else◌, List, [], ◌∷◌, All}
-use Rattle.std.specs.Prelude.{pos, neg_ℤ, ◌-ℤ◌, Some, slice_get}
+use Rattle.std.specs.Prelude.{pos, neg_ℤ, ◌-ℤ◌, ◌*ℤ◌, Some, slice_get}
 use Rattle.std.proofs.lemmas.List.Elements.{All-nil, All-cons, All-head, All-tail}
 use Rattle.rg_theory.specs.declared.Class.{Class}
 use Rattle.rg_theory.specs.declared.Problem.{Problem}
 use Rattle.rg_theory.specs.declared.Problem.TheVariants.{Event, States}
 use Rattle.rg_theory.specs.System.{System, states, labels}
 use Rattle.rg_refuting.specs.Expression.{Variable, Variable.tokens_at, Variable.effect_of, Term, Expression, plus, minus, sum_of}
-use Rattle.rg_refuting.specs.Row.{Form, Form.on_tokens, Form.on_effect, form_variable, Side, RowName, RowName.arc_row, RowName.tokens_row, RowName.cap_row, RowName.up_row, RowName.down_row, RowName.makes_row, RowName.stop_row, RowName.block_row, RowName.empty_row, RowName.full_row, RowName.keep_row, RowName.apart_row, RowName.above_row, side_expression, shared_expression, event_expression, state_expression, apart_expression, row_expression, order_of}
+use Rattle.rg_refuting.specs.Row.{Form, Form.on_tokens, Form.on_effect, Form.on_start, form_variable, step_of, Side, RowName, RowName.arc_row, RowName.tokens_row, RowName.cap_row, RowName.up_row, RowName.down_row, RowName.makes_row, RowName.stop_row, RowName.block_row, RowName.empty_row, RowName.full_row, RowName.keep_row, RowName.apart_row, RowName.above_row, side_expression, shared_expression, event_expression, state_expression, apart_expression, row_expression, order_of}
 use Rattle.rg_refuting.specs.Refutes.{IsSeparationProblem}
 use Rattle.rg_reasons.specs.Certificates.{IsFormOf, IsRowNameOf, IsTermWithin}
 
-module _ (lts : System) where
+module _ (lts : System) (start : lts.initial < states lts) where
   abbrev Within : Term → Type 0
   Within = IsTermWithin (states lts) (labels lts)
 
@@ -30,6 +30,7 @@ module _ (lts : System) where
   form_within : (f : Form) → IsFormOf lts f → Within (plus (form_variable lts.initial f)) × Within (minus (form_variable lts.initial f))
   form_within (on_tokens q) p = (p, p)
   form_within (on_effect t) p = (p, p)
+  form_within on_start p = (start, start)
 
   side_within : (class : Class) (s : Side) → IsFormOf lts s.form → All Within (side_expression class lts.initial (Some s)).terms
   side_within class s p = go s.high
@@ -37,7 +38,7 @@ module _ (lts : System) where
       v : Variable
       v = form_variable lts.initial s.form
 
-      go : (b : Bool) → All Within (if◌then◌else◌ {A = Expression} b (sum_of (plus v ∷ []) (neg_ℤ s.at -ℤ pos 1)) (sum_of (minus v ∷ []) s.at)).terms
+      go : (b : Bool) → All Within (if◌then◌else◌ {A = Expression} b (sum_of (plus v ∷ []) (neg_ℤ (pos (step_of class s.form) *ℤ s.at) -ℤ pos (step_of class s.form))) (sum_of (minus v ∷ []) (pos (step_of class s.form) *ℤ s.at))).terms
       go true = one (plus v) (form_within s.form p).0
       go false = one (minus v) (form_within s.form p).1
 

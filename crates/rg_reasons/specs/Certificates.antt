@@ -3,7 +3,7 @@ use Rattle.std.specs.Prelude.{◌≡◌, ℕ, ◌^◌, ◌<◌, ◌≤◌, [], �
 use Rattle.rg_theory.specs.System.{System, states, labels}
 use Rattle.rg_theory.specs.declared.Class.{Class}
 use Rattle.rg_theory.specs.declared.Problem.TheVariants as problem
-use Rattle.rg_theory.specs.ClassWords.{HasBoundInRange}
+use Rattle.rg_theory.specs.ClassWords.{HasNumbersInRange}
 use Rattle.rg_refuting.specs.Expression.{Term, Variable, Variable.tokens_at, Variable.effect_of}
 use Rattle.rg_refuting.specs.Row as row
 use Rattle.rg_refuting.specs.Refutes as refutes
@@ -75,6 +75,7 @@ pub record IsRowOf (lts : System) (r : NamedRow) : Type 0 where
 abbrev pub IsFormOf : System → row.Form → Type 0
 IsFormOf lts (row.on_tokens q) = q < states lts
 IsFormOf lts (row.on_effect t) = t < labels lts
+IsFormOf lts row.on_start = Unit {0}
 
 -- the state or label is one of so many
 abbrev pub IsVariableWithin : ℕ → ℕ → Variable → Type 0
@@ -104,10 +105,10 @@ IsReasonOf lts (refutes.fork s t s₁ s₂) = (s < states lts) × (t < labels lt
 IsReasonOf lts (refutes.refuted (problem.Event s t) trees) = (s < states lts) × (t < labels lts) × (length trees ≡ 1) × All (IsTreeOf lts) trees
 IsReasonOf lts (refutes.refuted (problem.States s s') trees) = (s < states lts) × (s' < states lts) × All (IsTreeOf lts) trees
 
--- the numbers are in range of the system, and the class has a bound from 1 to 255 or none
+-- the numbers are in range of the system, and those of the class from 1 to 255
 pub record IsClaimOf (lts : System) (claim : Claim) : Type 0 where
   pub reason : IsReasonOf lts claim.reason
-  pub bound : HasBoundInRange claim.class
+  pub numbers : HasNumbersInRange claim.class
 
 -- the certificate's trees are whole, and its numbers are in range of the system
 pub record IsCertificateOf (lts : System) (cert : Certificate) : Type 0 where

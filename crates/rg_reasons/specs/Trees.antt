@@ -62,6 +62,7 @@ row_name_of (of_code.Above d) = row.above_row d
 abbrev pub form_of : Form → row.Form
 form_of (form.Tokens q) = row.on_tokens q
 form_of (form.Effect t) = row.on_effect t
+form_of form.Start = row.on_start
 
 abbrev pub named_row : RowName × ℤ → NamedRow
 named_row r = record { multiplier = r.1; name = row_name_of r.0 }

@@ -37,11 +37,13 @@ pub enum RowName {
     Above(u32),
 }
 
-/// What a split speaks of: the tokens at a state, or the effect of a label.
+/// What a split speaks of: the tokens at a state, the effect of a label, or the tokens at the initial state.
 #[derive(Clone, Copy, Debug, PartialEq, Eq)]
 pub enum Form {
     Tokens(u32),
     Effect(u32),
+    /// The tokens at the initial state by steps of N, in a class `N-marking`.
+    Start,
 }
 
 /// A node of a tree of splits, as in branch and bound (Schrijver, Theory of Linear and Integer Programming).
@@ -50,7 +52,7 @@ pub enum Node {
     /// Rows with their multipliers, in any order. By the lemma of Farkas they refute where the multiplied
     /// expressions add up to a number below 0.
     Leaf(Vec<(RowName, i128)>),
-    /// The form is at most the number in the low side, and above it in the high side.
+    /// The form is at most the number in the low side, and above it in the high side; the start counts its steps.
     Split(Form, i64),
 }
 

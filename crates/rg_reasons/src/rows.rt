@@ -1,5 +1,5 @@
 //! What the named rows say.
-ghost use Rattle.std.specs.Prelude.{◌≡◌, [], ◌∷◌, map, option_map};
+ghost use Rattle.std.specs.Prelude.{◌≡◌, ◌<◌, ◌^◌, [], ◌∷◌, map, option_map, pos, ◌*ℤ◌, unsigned_abs};
 ghost use Rattle.rg_integers.specs.Range.{InRange};
 ghost use Rattle.rg_refuting.specs.Row.{row_expression, shared_expression, event_expression, state_expression, apart_expression, side_expression};
 ghost use Rattle.rg_reasons.specs.Trees.{row_name_of};
@@ -105,10 +105,27 @@ fn of_side(lts: &Lts, class: Class, side: Option<Side>) -> Expression
     ensures { expression_of result ≡ side_expression class lts.now.initial (option_map side_of side) }
 {
     match side {
-        Some(side) if side.high => one(Plus(side.form.variable(lts)), -i128::from(side.at) - 1),
-        Some(side) => one(Minus(side.form.variable(lts)), i128::from(side.at)),
+        Some(side) if side.high => {
+            let step = side.form.step(class);
+            one(
+                Plus(side.form.variable(lts)),
+                -steps(step, side.at) - i128::from(step),
+            )
+        }
+        Some(side) => one(
+            Minus(side.form.variable(lts)),
+            steps(side.form.step(class), side.at),
+        ),
         None => sum([None, None, None], 0),
     }
+}
+
+// So many steps.
+fn steps(step: u8, count: i64) -> i128
+    ensures value { result ≡ pos step *ℤ count }
+    ensures small { unsigned_abs result < 2 ^ 72 }
+{
+    i128::from(step) * i128::from(count)
 }
 
 // The sum of one term and the constant.

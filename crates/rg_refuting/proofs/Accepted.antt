@@ -16,7 +16,7 @@ use Rattle.rg_theory.proofs.Lists.{slice_get_some}
 use Rattle.rg_theory.proofs.No.{no_from_unreachable, no_from_fork, no_from_inseparable}
 use Rattle.rg_refuting.specs.Row.{cases_of, order_of, consumer_of}
 use Rattle.rg_refuting.specs.Refutes.{Tree, TreeRefutes, Reason, Reason.unreachable, Reason.fork, Reason.refuted, IsRefuted, Accepts}
-use Rattle.rg_refuting.proofs.Rows.{numbers_of, event_says, state_says, IsInOrder, none_from}
+use Rattle.rg_refuting.proofs.Rows.{numbers_of, region_steps, event_says, state_says, IsInOrder, none_from}
 use Rattle.rg_refuting.proofs.Trees.{tree_none, AreOnSides}
 
 -- the first number below n at which P holds, or none
@@ -29,8 +29,8 @@ find_below P dec (suc n) = go (find_below P dec n) (dec n)
     go (inr none) (inl h) = inl (n, omega arith, h)
     go (inr none) (inr not_here) = inr (λ k lt h. ⊎_elim (λ less. none k less h) (λ more. (let e : k ≡ n = omega arith in not_here (subst P e h))) (cases_lt k n))
 
-pub no_sides : (initial : ℕ) (p : Place) (m : ℕ → ℕ) → AreOnSides initial (numbers_of p m) []
-no_sides initial p m d side e = absurd (none-some side e)
+pub no_sides : (class : Class) (initial : ℕ) (p : Place) (m : ℕ → ℕ) → AreOnSides class initial (numbers_of p m) []
+no_sides class initial p m d side e = absurd (none-some side e)
 
 -- the tree of a case refutes
 tree_of : (lts : System) (class : Class) (problem : Problem) (trees : List Tree) → IsRefuted lts class problem trees → (number : ℕ) → number < cases_of lts class problem → (tree : Tree) × TreeRefutes lts class problem number [] tree
@@ -41,9 +41,9 @@ tree_of lts class problem trees given number lt =
 event_inseparable : (lts : System) (class : Class) (s t : ℕ) (trees : List Tree) → IsRefuted lts class (Event s t) trees → IsInseparable lts class (Event s t)
 event_inseparable lts class s t trees given p m r less =
     let (tree, refutes) = tree_of lts class (Event s t) trees given 0 (omega arith) in
-    tree_none lts class (Event s t) 0 (numbers_of p m)
+    tree_none lts class (Event s t) 0 (numbers_of p m) (region_steps lts class p m r)
     (λ above on name stands. event_says lts class p m s t above r given.asked.1 less on name stands)
-    [] (no_sides lts.initial p m) tree refutes
+    [] (no_sides class lts.initial p m) tree refutes
 
 -- one label alone takes from the place
 consumer : (lts : System) (class : Class) (p : Place) (m : ℕ → ℕ) → RegionIn lts class p m → IsTrue class.nonbranching → 0 < labels lts → (c : ℕ) × (c < labels lts) × ((t : ℕ) → t < labels lts → t ≢ c → pre_weight p t ≡ 0)
@@ -90,9 +90,9 @@ state_inseparable : (lts : System) (class : Class) (s s' : ℕ) (trees : List Tr
 state_inseparable lts class s s' trees given p m r differ =
     let (number, lt, less, only) = state_case lts class s s' p m r differ (subst (λ n. 0 < n) given.cases given.some) in
     let (tree, refutes) = tree_of lts class (States s s') trees given number lt in
-    tree_none lts class (States s s') number (numbers_of p m)
+    tree_none lts class (States s s') number (numbers_of p m) (region_steps lts class p m r)
     (λ above on name stands. state_says lts class p m s s' number above r less only on name stands)
-    [] (no_sides lts.initial p m) tree refutes
+    [] (no_sides class lts.initial p m) tree refutes
 
 refuted_no_net : (lts : System) (class : Class) (problem : Problem) (trees : List Tree) → IsInRange lts → IsRefuted lts class problem trees → NoNet lts class
 refuted_no_net lts class (Event s t) trees fine given = no_from_inseparable lts class (Event s t) fine given.asked (event_inseparable lts class s t trees given)

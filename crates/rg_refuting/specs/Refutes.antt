@@ -4,13 +4,14 @@ use Rattle.rg_integers.specs.Range.{greatest}
 use Rattle.rg_integers.specs.Sum.{sum_over}
 use Rattle.rg_theory.specs.System.{System, states, labels, HasArc, IsFork, IsClosedWithout}
 use Rattle.rg_theory.specs.declared.Class.{Class}
+use Rattle.rg_theory.specs.Class.{AllowsStart}
 use Rattle.rg_theory.specs.Net.{Place}
 use Rattle.rg_theory.specs.Region.{RegionIn}
 use Rattle.rg_theory.specs.declared.Problem.{Problem}
 use Rattle.rg_theory.specs.declared.Problem.TheVariants.{Event, States}
 use Rattle.rg_theory.specs.Problem.{Separates}
 use Rattle.rg_refuting.specs.Expression.{Variable, Expression, coefficient_in, numbers_by}
-use Rattle.rg_refuting.specs.Row.{Form, Side, RowName, RowName.arc_row, RowStands, row_expression, KeepsRows, cases_of}
+use Rattle.rg_refuting.specs.Row.{Form, FormStands, Side, RowName, RowName.arc_row, RowStands, row_expression, KeepsRows, cases_of}
 
 -- a row of a leaf, times a number
 pub record NamedRow : Type 0 where
@@ -49,11 +50,12 @@ pub data Tree : Type 0 where
   leaf : List NamedRow → Tree
   split : Form → ℤ → Tree → Tree → Tree
 
--- every leaf refutes, below the sides that lead to it, outermost first
+-- each split may be on its form, and every leaf refutes, below the sides that lead to it, outermost first
 abbrev pub TreeRefutes : System → Class → Problem → ℕ → List Side → Tree → Type 0
 TreeRefutes lts class problem number above (leaf rows) = LeafRefutes (RowStands lts class problem number above) (row_expression lts class problem number above) rows
 TreeRefutes lts class problem number above (split form at low high) =
-    TreeRefutes lts class problem number (above ++ record { form = form; at = at; high = false } ∷ []) low
+    FormStands class form
+    × TreeRefutes lts class problem number (above ++ record { form = form; at = at; high = false } ∷ []) low
     × TreeRefutes lts class problem number (above ++ record { form = form; at = at; high = true } ∷ []) high
 
 -- the reason that a certificate gives
@@ -71,9 +73,9 @@ IsSeparationProblem lts (States s s') = (s < states lts) × (s' < states lts) ×
 abbrev pub IsSeparable : System → Class → Problem → Type 0
 IsSeparable lts class problem = (p : Place) × (m : ℕ → ℕ) × RegionIn lts class p m × Separates p m problem
 
--- whole numbers, the tokens at least 0, keep all rows of some case
+-- whole numbers, the tokens at least 0 and at the start such as the class allows, keep all rows of some case
 abbrev pub HasWholeSolution : System → Class → Problem → Type 0
-HasWholeSolution lts class problem = (number : ℕ) × (number < cases_of lts class problem) × (tokens : ℕ → ℕ) × (effect : ℕ → ℤ) × KeepsRows lts class problem number (numbers_by tokens effect)
+HasWholeSolution lts class problem = (number : ℕ) × (number < cases_of lts class problem) × (tokens : ℕ → ℕ) × (effect : ℕ → ℤ) × AllowsStart class (tokens lts.initial) × KeepsRows lts class problem number (numbers_by tokens effect)
 
 -- one tree for each case of the problem, and each of them refutes
 pub record IsRefuted (lts : System) (class : Class) (problem : Problem) (trees : List Tree) : Type 0 where

@@ -1,15 +1,21 @@
 -- The forms in the order of the named rows are those of the case.
-use Rattle.std.proofs.Common.{◌≡◌, ℕ, ◌==◌, ◌&&◌, not, is_some, Bool, true, false, if◌then◌else◌, Option, Some, None, List, [], ◌∷◌, ◌++◌, map, refl, ap, ap₂, sym, ◌∙◌}
+use Rattle.std.proofs.Common.{◌≡◌, ℕ, ◌<◌, ◌==◌, ◌&&◌, ◌||◌, IsTrue, Contains, length, not, is_some, Bool, true, false, if◌then◌else◌, Option, Some, None, List, [], ◌∷◌, ◌++◌, map, refl, ap, ap₂, subst, sym, ◌∙◌, arith}
 use Rattle.std.proofs.lemmas.Bool.{true≢false}
-use Rattle.std.proofs.lemmas.List.{append-nil}
+use Rattle.std.specs.Prelude.{slice_index_or}
+use Rattle.std.proofs.lemmas.List.{append-nil, get_or-map, length-map}
+use Rattle.std.proofs.lemmas.List.Elements.{Contains-append_left, Contains-append_right}
 use Rattle.rg_theory.specs.declared.Class.{Class}
 use Rattle.rg_theory.specs.declared.Problem.{Problem}
 use Rattle.rg_theory.specs.declared.Problem.TheVariants.{Event, States}
 use Rattle.rg_theory.specs.System.{System, states, labels}
-use Rattle.rg_refuting.specs.Row.{RowName, RowName.tokens_row, RowName.cap_row, RowName.up_row, RowName.down_row, RowName.makes_row, RowName.stop_row, RowName.block_row, RowName.empty_row, RowName.full_row, RowName.keep_row, case_consumer, Form as SplitForm, Form.on_tokens, Form.on_effect}
-use Rattle.rg_order_of_work.specs.Rewriting.{numbers_where, has_label, used_labels, states_with, has_start, all_numbers, problem_rows, names_of, split_forms}
+use Rattle.rg_refuting.specs.Row.{RowName, RowName.tokens_row, RowName.cap_row, RowName.up_row, RowName.down_row, RowName.makes_row, RowName.stop_row, RowName.block_row, RowName.empty_row, RowName.full_row, RowName.keep_row, case_consumer, Form as SplitForm, Form.on_tokens, Form.on_effect, Form.on_start}
+use Rattle.rg_order_of_work.specs.Rewriting.{numbers_where, has_label, used_labels, states_with, has_start, all_numbers, problem_rows, names_of, splits_start, split_forms}
 use Rattle.rg_order_of_work.proofs.Forms.{start_of_bound}
-use Rattle.rg_rows.specs.Forms.{form_in, put_form, forms_in}
+use Rattle.rg_order_of_work.proofs.Lists.{Contains-map, where_has}
+use Rattle.rg_reasons.specs.declared.certificate.RowName.{RowName as CodeName}
+use Rattle.rg_reasons.specs.declared.certificate.RowName.TheVariants as of_code
+use Rattle.rg_reasons.specs.Trees.{row_name_of}
+use Rattle.rg_rows.specs.Forms.{form_in, put_form, forms_in, case_forms}
 
 forms-append : (class : Class) (xs ys : List RowName) → forms_in class (xs ++ ys) ≡ forms_in class xs ++ forms_in class ys
 forms-append class [] ys = refl
@@ -49,8 +55,9 @@ problem_none lts class (Event s t) = go class.pure class.plain
     go false false = no_forms class stop_row (states_with lts t) (λ n. refl)
 problem_none lts class (States s s') = refl
 
-pub forms_are : (lts : System) (class : Class) (problem : Problem) (number : ℕ) → forms_in class (names_of lts class problem number) ≡ split_forms lts class
-forms_are lts class problem number =
+named_forms : (lts : System) (class : Class) (problem : Problem) (number : ℕ)
+    → forms_in class (names_of lts class problem number) ≡ (if is_some class.bound then map on_tokens (all_numbers (states lts)) else (if class.plain then map on_effect (used_labels lts) else []))
+named_forms lts class problem number =
     forms-append class (own ++ tokens ++ caps ++ sides) makes
     ∙ ap₂ (λ x y. x ++ y)
     (forms-append class (own ++ tokens ++ caps) sides
@@ -93,3 +100,67 @@ forms_are lts class problem number =
     choose false true false n X Y start = none n Y
     choose false false true n X Y start = none n []
     choose false false false n X Y start = none n []
+
+pub forms_are : (lts : System) (class : Class) (problem : Problem) (number : ℕ) → case_forms class problem (names_of lts class problem number) ≡ split_forms lts class problem
+forms_are lts class problem number = ap (λ l. l ++ (if splits_start class problem then (on_start ∷ []) else [])) (named_forms lts class problem number)
+
+-- where the case splits on the start, its names have the row of the initial state
+pub has_start_name : (lts : System) (class : Class) (problem : Problem) (number : ℕ) → lts.initial < states lts → IsTrue (splits_start class problem) → Contains (names_of lts class problem number) (tokens_row lts.initial)
+has_start_name lts class problem number initial splits =
+    Contains-append_left (own ++ tokens ++ caps ++ sides) makes (tokens_row lts.initial)
+    (Contains-append_left (own ++ tokens ++ caps) sides (tokens_row lts.initial)
+    (Contains-append_left (own ++ tokens) caps (tokens_row lts.initial)
+    (Contains-append_right own tokens (tokens_row lts.initial)
+    (subst (λ b. Contains (if b then map tokens_row (all_numbers (states lts)) else []) (tokens_row lts.initial)) (sym (started problem splits))
+    (Contains-map tokens_row (all_numbers (states lts)) lts.initial (where_has (λ q. true) 0 (states lts) lts.initial refl (omega arith) (omega arith)))))))
+  where
+    own : List RowName
+    own = problem_rows lts class problem
+
+    tokens : List RowName
+    tokens = if has_start class then map tokens_row (all_numbers (states lts)) else []
+
+    caps : List RowName
+    caps = if is_some class.bound then map cap_row (all_numbers (states lts)) else []
+
+    sides : List RowName
+    sides = if class.plain then (map up_row (used_labels lts) ++ map down_row (used_labels lts)) else []
+
+    makes : List RowName
+    makes = if class.nonbranching then map makes_row (numbers_where (λ u. has_label u lts.arcs && not (u == case_consumer lts problem number)) 0 (labels lts)) else []
+
+    by_event : (pure marking plain bound : Bool) → (marking && (plain || bound)) ≡ true → (pure || (plain || bound)) ≡ true
+    by_event true marking plain bound e = refl
+    by_event false true plain bound e = e
+    by_event false false plain bound e = absurd cc
+
+    by_states : (pure marking plain bound : Bool) → (marking && bound) ≡ true → (pure || (plain || bound)) ≡ true
+    by_states true marking plain bound e = refl
+    by_states false marking true bound e = refl
+    by_states false true false bound e = e
+    by_states false false false bound e = absurd cc
+
+    started : (p : Problem) → IsTrue (splits_start class p) → has_start class ≡ true
+    started (Event s t) e = by_event class.pure (is_some class.marking) class.plain (is_some class.bound) e
+    started (States s s') e = by_states class.pure (is_some class.marking) class.plain (is_some class.bound) e
+
+-- the code's name of the row
+token_name : (n : CodeName) (q : ℕ) → row_name_of n ≡ tokens_row q → n ≡ of_code.Tokens q
+token_name (of_code.Arc a) q e = absurd cc
+token_name (of_code.Tokens r) q e = let same : r ≡ q = cc in ap of_code.Tokens same
+token_name (of_code.Cap r) q e = absurd cc
+token_name (of_code.Up t) q e = absurd cc
+token_name (of_code.Down t) q e = absurd cc
+token_name (of_code.Makes t) q e = absurd cc
+token_name (of_code.Stop r) q e = absurd cc
+token_name of_code.Block q e = absurd cc
+token_name of_code.Empty q e = absurd cc
+token_name (of_code.Full r) q e = absurd cc
+token_name of_code.Keep q e = absurd cc
+token_name of_code.Apart q e = absurd cc
+token_name (of_code.Above d) q e = absurd cc
+
+pub code_name : (names : List CodeName) (q : ℕ) → Contains (map row_name_of names) (tokens_row q) → Contains names (of_code.Tokens q)
+code_name names q (k, lt, at) =
+    let below : k < length names = subst (λ n. k < n) (length-map names row_name_of) lt in
+    (k, below, token_name (slice_index_or names k (of_code.Tokens q)) q (sym (get_or-map row_name_of names k (of_code.Tokens q) (tokens_row q) below) ∙ at))

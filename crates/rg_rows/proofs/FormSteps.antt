@@ -1,17 +1,19 @@
 -- The forms of the named rows, one after the other.
-use Rattle.std.proofs.Common.{◌≡◌, ℕ, max, ◌+◌, ◌<◌, ◌≤◌, ◌&&◌, not, is_some, Bool, true, false, if◌then◌else◌, Some, None, List, [], ◌∷◌, ◌++◌, map, drop, length, Result, Ok, Err, All, ap, refl, subst, sym, ◌∙◌, arith, inl, append_assoc}
-use Rattle.std.specs.Prelude.{pos, ◌*ℤ◌, ◌<ℤ◌, slice_index_or}
+use Rattle.std.proofs.Common.{◌≡◌, ℕ, max, ◌+◌, ◌<◌, ◌≤◌, ◌&&◌, not, is_some, Bool, true, false, if◌then◌else◌, Some, None, List, [], ◌∷◌, ◌++◌, map, drop, length, Result, Ok, Err, All, ap, refl, subst, sym, ◌∙◌, arith, inl, inr, append_assoc}
+use Rattle.std.proofs.lemmas.Int.{ints}
+use Rattle.std.specs.Prelude.{ℤ, pos, ◌*ℤ◌, ◌<ℤ◌, slice_index_or}
 use Rattle.std.proofs.lemmas.List.{append-nil, drop_all, get_or-map, length-map}
 use Rattle.std.specs.Arc.{arc_slice_items}
 use Rattle.rg_theory.specs.declared.Arc.{Arc}
 use Rattle.rg_theory.specs.declared.Class.{Class}
 use Rattle.rg_theory.specs.declared.Problem.{Problem}
 use Rattle.rg_theory.specs.System.{System}
+use Rattle.rg_theory.specs.ClassWords.{HasNumbersInRange}
 use Rattle.rg_fraction.specs.declared.term.Wide.{Wide}
 use Rattle.rg_linear.specs.Branching.{Form}
 use Rattle.rg_linear.specs.Cycle.{CycleBasis}
 use Rattle.rg_refuting.specs.Expression.{Term, Expression, plus}
-use Rattle.rg_refuting.specs.Row.{RowName, RowName.arc_row, RowName.tokens_row, RowName.cap_row, RowName.up_row, RowName.down_row, RowName.makes_row, RowName.stop_row, RowName.block_row, RowName.empty_row, RowName.full_row, RowName.keep_row, RowName.apart_row, RowName.above_row, row_expression, Form as SplitForm, Form.on_tokens, Form.on_effect, form_variable}
+use Rattle.rg_refuting.specs.Row.{RowName, RowName.arc_row, RowName.tokens_row, RowName.cap_row, RowName.up_row, RowName.down_row, RowName.makes_row, RowName.stop_row, RowName.block_row, RowName.empty_row, RowName.full_row, RowName.keep_row, RowName.apart_row, RowName.above_row, row_expression, Form as SplitForm, Form.on_tokens, Form.on_effect, form_variable, step_of}
 use Rattle.rg_order_of_work.specs.Fold.{each}
 use Rattle.rg_order_of_work.specs.Rewriting.{Scaled, column_count, terms_fold, form_fold, form_low, form_high, KeptRow}
 use Rattle.rg_order_of_work.specs.FormRows.{form_row}
@@ -31,34 +33,64 @@ use Rattle.rg_rows.specs.Making.{IsMade}
 use Rattle.rg_rows.proofs.Placing.{row_got}
 
 -- the row that the form is of
-pub form_in_row : (class : Class) (name : RowName) (split : SplitForm) → form_in class name ≡ Some split → name ≡ form_row split
-form_in_row class (tokens_row q) split e = go (is_some class.bound) e
+pub form_in_row : (initial : ℕ) (class : Class) (name : RowName) (split : SplitForm) → form_in class name ≡ Some split → name ≡ form_row initial split
+form_in_row initial class (tokens_row q) split e = go (is_some class.bound) e
   where
-    go : (b : Bool) → (if b then Some (on_tokens q) else None) ≡ Some split → tokens_row q ≡ form_row split
-    go true e = ap form_row (only e)
+    go : (b : Bool) → (if b then Some (on_tokens q) else None) ≡ Some split → tokens_row q ≡ form_row initial split
+    go true e = ap (form_row initial) (only e)
       where
         only : Some (on_tokens q) ≡ Some split → on_tokens q ≡ split
         only e = cc
     go false e = cc
-form_in_row class (down_row t) split e = go (class.plain && not (is_some class.bound)) e
+form_in_row initial class (down_row t) split e = go (class.plain && not (is_some class.bound)) e
   where
-    go : (b : Bool) → (if b then Some (on_effect t) else None) ≡ Some split → down_row t ≡ form_row split
-    go true e = ap form_row (only e)
+    go : (b : Bool) → (if b then Some (on_effect t) else None) ≡ Some split → down_row t ≡ form_row initial split
+    go true e = ap (form_row initial) (only e)
       where
         only : Some (on_effect t) ≡ Some split → on_effect t ≡ split
         only e = cc
     go false e = cc
-form_in_row class (arc_row q t q') split e = cc
-form_in_row class (cap_row q) split e = cc
-form_in_row class (up_row t) split e = cc
-form_in_row class (makes_row t) split e = cc
-form_in_row class (stop_row q) split e = cc
-form_in_row class block_row split e = cc
-form_in_row class empty_row split e = cc
-form_in_row class (full_row q) split e = cc
-form_in_row class keep_row split e = cc
-form_in_row class apart_row split e = cc
-form_in_row class (above_row d) split e = cc
+form_in_row initial class (arc_row q t q') split e = cc
+form_in_row initial class (cap_row q) split e = cc
+form_in_row initial class (up_row t) split e = cc
+form_in_row initial class (makes_row t) split e = cc
+form_in_row initial class (stop_row q) split e = cc
+form_in_row initial class block_row split e = cc
+form_in_row initial class empty_row split e = cc
+form_in_row initial class (full_row q) split e = cc
+form_in_row initial class keep_row split e = cc
+form_in_row initial class apart_row split e = cc
+form_in_row initial class (above_row d) split e = cc
+
+-- and it is counted one by one
+pub form_in_step : (class : Class) (name : RowName) (split : SplitForm) → form_in class name ≡ Some split → step_of class split ≡ 1
+form_in_step class (tokens_row q) split e = go (is_some class.bound) e
+  where
+    go : (b : Bool) → (if b then Some (on_tokens q) else None) ≡ Some split → step_of class split ≡ 1
+    go true e = sym (ap (step_of class) (only e))
+      where
+        only : Some (on_tokens q) ≡ Some split → on_tokens q ≡ split
+        only e = cc
+    go false e = cc
+form_in_step class (down_row t) split e = go (class.plain && not (is_some class.bound)) e
+  where
+    go : (b : Bool) → (if b then Some (on_effect t) else None) ≡ Some split → step_of class split ≡ 1
+    go true e = sym (ap (step_of class) (only e))
+      where
+        only : Some (on_effect t) ≡ Some split → on_effect t ≡ split
+        only e = cc
+    go false e = cc
+form_in_step class (arc_row q t q') split e = cc
+form_in_step class (cap_row q) split e = cc
+form_in_step class (up_row t) split e = cc
+form_in_step class (makes_row t) split e = cc
+form_in_step class (stop_row q) split e = cc
+form_in_step class block_row split e = cc
+form_in_step class empty_row split e = cc
+form_in_step class (full_row q) split e = cc
+form_in_step class keep_row split e = cc
+form_in_step class apart_row split e = cc
+form_in_step class (above_row d) split e = cc
 
 -- ---- the list
 
@@ -92,20 +124,20 @@ named_end class names i done so_far past = sym (append-nil done) ∙ ap (λ l. d
 
 -- ---- one form
 
-module _ (lts : System) (tree : List Arc) (basis : CycleBasis) (class : Class) (problem : Problem) (number : ℕ) (split : SplitForm) (e : Expression) (is : e ≡ row_expression lts class problem number [] (form_row split)) where
-  terms_are : (r : Result Scaled Wide) → terms_fold lts tree basis class e.terms r → terms_fold lts tree basis class (plus (form_variable lts.initial split) ∷ []) r
+module _ (lts : System) (tree : List Arc) (basis : CycleBasis) (class : Class) (problem : Problem) (number : ℕ) (split : SplitForm) (e : Expression) (is : e ≡ row_expression lts class problem number [] (form_row lts.initial split)) where
+  pub terms_are : (r : Result Scaled Wide) → terms_fold lts tree basis class e.terms r → terms_fold lts tree basis class (plus (form_variable lts.initial split) ∷ []) r
   terms_are r h = subst (λ (ts : List Term). terms_fold lts tree basis class ts r) (ap (λ (x : Expression). x.terms) is ∙ same_terms lts class problem number split) h
 
-  pub form_of_terms : (s : Scaled) (form : Form) → terms_fold lts tree basis class e.terms (Ok s) → form ≡ record { scale = s.multiple; coeffs = s.numbers; low = form_low class; high = form_high class } → form_fold lts tree basis class split (Ok form)
+  pub form_of_terms : (s : Scaled) (form : Form) → terms_fold lts tree basis class e.terms (Ok s) → form ≡ record { scale = pos (step_of class split) *ℤ s.multiple; coeffs = s.numbers; low = form_low split; high = form_high lts class split } → form_fold lts tree basis class split (Ok form)
   form_of_terms s form h same = (s, terms_are (Ok s) h, same)
 
   pub form_of_none : (w : Wide) → terms_fold lts tree basis class e.terms (Err w) → form_fold lts tree basis class split (Err w)
   form_of_none w h = inl (terms_are (Err w) h)
 
   -- the numbers are those of the row, so many times
-  pub times_row : (s : Scaled) (k : KeptRow) → terms_fold lts tree basis class e.terms (Ok s) → fold_of lts tree basis class problem number (form_row split) (Ok k) → (d : ℕ) × (0 < d) × (s.numbers ≡ map (λ z. pos d *ℤ z) k.row.coeffs)
+  pub times_row : (s : Scaled) (k : KeptRow) → terms_fold lts tree basis class e.terms (Ok s) → fold_of lts tree basis class problem number (form_row lts.initial split) (Ok k) → (d : ℕ) × (0 < d) × (s.numbers ≡ map (λ z. pos d *ℤ z) k.row.coeffs)
   times_row s k h row =
-      let (divisor, same) = form_over_row lts tree basis class problem number split (record { scale = s.multiple; coeffs = s.numbers; low = form_low class; high = form_high class }) k (form_of_terms s (record { scale = s.multiple; coeffs = s.numbers; low = form_low class; high = form_high class }) h refl) row in
+      let (divisor, same) = form_over_row lts tree basis class problem number split (record { scale = pos (step_of class split) *ℤ s.multiple; coeffs = s.numbers; low = form_low split; high = form_high lts class split }) k (form_of_terms s (record { scale = pos (step_of class split) *ℤ s.multiple; coeffs = s.numbers; low = form_low split; high = form_high lts class split }) h refl) row in
       (max divisor 1, omega arith, same)
 
 -- the row at a place, and its name
@@ -122,7 +154,7 @@ row_at_place lts tree basis class problem number names all i name k made lt at a
 pub record Keeps (lts : System) (tree : List Arc) (basis : CycleBasis) (class : Class) (names : List CodeName) (rows : List CaseRow) (places : List ℕ) (i : ℕ) (forms : List NamedForm) : Type 0 where
   pub so_far : (r : Result (List Form) Wide) → each (form_fold lts tree basis class) (forms_in class (drop i (map row_name_of names))) r → each (form_fold lts tree basis class) (forms_in class (map row_name_of names)) (behind (map linear_form forms) r)
   pub splits : map split_of forms ++ forms_in class (drop i (map row_name_of names)) ≡ forms_in class (map row_name_of names)
-  pub made : All (IsMade class (column_count lts basis class) (map kept_row rows) places) forms
+  pub made : All (IsMade lts class (column_count lts basis class) (map kept_row rows) places) forms
 
 -- ---- the row at place i, which has a form
 
@@ -134,18 +166,24 @@ module _ (lts : System) (tree : List Arc) (basis : CycleBasis) (class : Class) (
   next_name = from_place (map row_name_of names) i (row_name_of d) (subst (λ n. i < n) (sym (length-map names row_name_of)) lt) ∙ ap (λ x. x ∷ drop (i + 1) (map row_name_of names)) (get_or-map row_name_of names i d (row_name_of d) lt)
 
   module _ (form : CodeForm) (is_form : Some (form_of form) ≡ form_in class (row_name_of (slice_index_or names i d))) (e : Expression) (is_e : e ≡ row_expression lts class problem number [] (row_name_of (slice_index_or names i d))) where
-    named : name ≡ form_row (form_of form)
-    named = form_in_row class name (form_of form) (sym is_form)
+    named : name ≡ form_row lts.initial (form_of form)
+    named = form_in_row lts.initial class name (form_of form) (sym is_form)
 
-    is_split : e ≡ row_expression lts class problem number [] (form_row (form_of form))
+    stepped : (m : ℤ) → m ≡ pos (step_of class (form_of form)) *ℤ m
+    stepped m = once m ∙ ap (λ k. pos k *ℤ m) (sym (form_in_step class name (form_of form) (sym is_form)))
+      where
+        once : (m : ℤ) → m ≡ pos 1 *ℤ m
+        once m = omega (arith, ints)
+
+    is_split : e ≡ row_expression lts class problem number [] (form_row lts.initial (form_of form))
     is_split = is_e ∙ ap (row_expression lts class problem number []) named
 
     module _ (xs : List Form) (so_far : (r : Result (List Form) Wide) → each (form_fold lts tree basis class) (forms_in class (drop i (map row_name_of names))) r → each (form_fold lts tree basis class) (forms_in class (map row_name_of names)) (behind xs r)) where
       pub step_fails : (w : Wide) → terms_fold lts tree basis class e.terms (Err w) → each (form_fold lts tree basis class) (forms_in class (map row_name_of names)) (Err w)
       step_fails w h = form_fails class (form_fold lts tree basis class) (map row_name_of names) i name next_name xs so_far (form_of form) (sym is_form) w (form_of_none lts tree basis class problem number (form_of form) e is_split w h)
 
-      pub step_next : (f : NamedForm) (s : Scaled) → terms_fold lts tree basis class e.terms (Ok s) → f.scale ≡ s.multiple → (arc_slice_items f.coeffs) ≡ s.numbers → f.low ≡ form_low class → f.high ≡ form_high class → (r : Result (List Form) Wide) → each (form_fold lts tree basis class) (forms_in class (drop (i + 1) (map row_name_of names))) r → each (form_fold lts tree basis class) (forms_in class (map row_name_of names)) (behind (xs ++ linear_form f ∷ []) r)
-      step_next f s h scale coeffs low high = form_next class (form_fold lts tree basis class) (map row_name_of names) i name next_name xs so_far (form_of form) (sym is_form) (linear_form f) (form_of_terms lts tree basis class problem number (form_of form) e is_split s (linear_form f) h (λ j. record { scale = scale j; coeffs = coeffs j; low = low j; high = high j }))
+      pub step_next : (f : NamedForm) (s : Scaled) → terms_fold lts tree basis class e.terms (Ok s) → f.scale ≡ s.multiple → (arc_slice_items f.coeffs) ≡ s.numbers → f.low ≡ form_low (form_of form) → f.high ≡ form_high lts class (form_of form) → (r : Result (List Form) Wide) → each (form_fold lts tree basis class) (forms_in class (drop (i + 1) (map row_name_of names))) r → each (form_fold lts tree basis class) (forms_in class (map row_name_of names)) (behind (xs ++ linear_form f ∷ []) r)
+      step_next f s h scale coeffs low high = form_next class (form_fold lts tree basis class) (map row_name_of names) i name next_name xs so_far (form_of form) (sym is_form) (linear_form f) (form_of_terms lts tree basis class problem number (form_of form) e is_split s (linear_form f) h (λ j. record { scale = (scale ∙ stepped s.multiple) j; coeffs = coeffs j; low = low j; high = high j }))
 
     pub step_named : (done : List SplitForm) → done ++ forms_in class (drop i (map row_name_of names)) ≡ forms_in class (map row_name_of names) → (f : NamedForm) → f.form ≡ form → (done ++ split_of f ∷ []) ++ forms_in class (drop (i + 1) (map row_name_of names)) ≡ forms_in class (map row_name_of names)
     step_named done so_far f same = ap (λ x. (done ++ form_of x ∷ []) ++ forms_in class (drop (i + 1) (map row_name_of names))) same ∙ named_next class (map row_name_of names) i name next_name done so_far (form_of form) (sym is_form)
@@ -157,17 +195,34 @@ module _ (lts : System) (tree : List Arc) (basis : CycleBasis) (class : Class) (
       pub step_times : (s : Scaled) → terms_fold lts tree basis class e.terms (Ok s) → (t : ℕ) × (0 < t) × (s.numbers ≡ map (λ z. pos t *ℤ z) (arc_slice_items row.coeffs))
       step_times s h = times_row lts tree basis class problem number (form_of form) e is_split s (kept_row row) h (subst (λ n. fold_of lts tree basis class problem number n (Ok (kept_row row))) named row_is.0)
 
-      pub step_made : (columns : ℕ) (places : List ℕ) (f : NamedForm) → f.form ≡ form → IsPartOf f (arc_slice_items row.coeffs) (slice_index_or places i 0) → (f.low ≡ form_low class) × (f.high ≡ form_high class) → length (arc_slice_items f.coeffs) ≡ columns → pos 0 <ℤ f.scale → InRange f.scale → All InRange (arc_slice_items f.coeffs) → InRange f.times → IsMade class columns (map kept_row rows) places f
+      pub step_made : (columns : ℕ) (places : List ℕ) (f : NamedForm) → f.form ≡ form → IsPartOf f (arc_slice_items row.coeffs) (slice_index_or places i 0) → (f.low ≡ form_low (form_of form)) × (f.high ≡ form_high lts class (form_of form)) → length (arc_slice_items f.coeffs) ≡ columns → (HasNumbersInRange class → pos 0 <ℤ f.scale) → InRange f.scale → All InRange (arc_slice_items f.coeffs) → InRange f.times → IsMade lts class columns (map kept_row rows) places f
       step_made columns places f same part bounds one_each positive scale coeffs times = record {
         number = i;
         row = kept_row row;
         at = row_got rows i row lt' is_row;
-        named = row_is.1 ∙ named ∙ ap (λ x. form_row (form_of x)) (sym same);
+        named = row_is.1 ∙ named ∙ ap (λ x. form_row lts.initial (form_of x)) (sym same);
         part = part;
-        bounds = bounds;
+        bounds = (bounds.0 ∙ ap (λ x. form_low (form_of x)) (sym same), bounds.1 ∙ ap (λ x. form_high lts class (form_of x)) (sym same));
         one_each = one_each;
         positive = positive;
         scale_in_range = scale;
         coeffs_in_range = coeffs;
         times_in_range = times;
       }
+
+-- ---- the start, behind the forms of the named rows
+
+-- one more at the end
+pub each_last : {A X : Type 0} (make : A → Result X Wide → Type 0) (xs : List A) (a : A) (ys : List X) (y : X) → each make xs (Ok ys) → make a (Ok y) → each make (xs ++ a ∷ []) (Ok (ys ++ y ∷ []))
+each_last make [] a ys y made last = subst (λ l. each make (a ∷ []) (Ok (l ++ y ∷ []))) (sym made) (y, last, ([], refl, refl))
+each_last make (x ∷ xs) a ys y (z, first, (rest, more, is)) last = (z, first, (rest ++ y ∷ [], each_last make xs a rest y more last, ap (λ l. l ++ y ∷ []) is))
+
+pub each_last_fails : {A X : Type 0} (make : A → Result X Wide → Type 0) (xs : List A) (a : A) (ys : List X) (w : Wide) → each make xs (Ok ys) → make a (Err w) → each make (xs ++ a ∷ []) (Err w)
+each_last_fails make [] a ys w made last = inl last
+each_last_fails make (x ∷ xs) a ys w (z, first, (rest, more, is)) last = inr (z, first, inl (each_last_fails make xs a rest w more last))
+
+pub each_early_fails : {A X : Type 0} (make : A → Result X Wide → Type 0) (xs zs : List A) (w : Wide) → each make xs (Err w) → each make (xs ++ zs) (Err w)
+each_early_fails make [] zs w made = absurd made
+each_early_fails make (x ∷ xs) zs w (inl first) = inl first
+each_early_fails make (x ∷ xs) zs w (inr (z, first, inl more)) = inr (z, first, inl (each_early_fails make xs zs w more))
+each_early_fails make (x ∷ xs) zs w (inr (z, first, inr (rest, more, none))) = absurd none

@@ -48,8 +48,8 @@ differs t h e = omega (arith, ints)
 has_at : (xs : List KeptRow) (i : ℕ) (r : KeptRow) → slice_get xs i ≡ Some r → Contains xs r
 has_at xs i r at = (i, slice_get_within xs i r at, get_or_from_slice_get xs i r r at)
 
-module _ (lts : System) (tree : List Arc) (basis : CycleBasis) (class : Class) (problem : Problem) (number : ℕ) (names : List RowName) (case : CaseSystem) (all : List KeptRow) (places : List ℕ) (made : each (fold_of lts tree basis class problem number) names (Ok all)) (are : ArePlaces all case.kept places) (columns : ℕ) (f : NamedForm) (is : IsMade class columns all places f) where
-  own_fold : fold_of lts tree basis class problem number (form_row (split_of f)) (Ok is.row)
+module _ (lts : System) (tree : List Arc) (basis : CycleBasis) (class : Class) (problem : Problem) (number : ℕ) (names : List RowName) (case : CaseSystem) (all : List KeptRow) (places : List ℕ) (made : each (fold_of lts tree basis class problem number) names (Ok all)) (are : ArePlaces all case.kept places) (columns : ℕ) (f : NamedForm) (is : IsMade lts class columns all places f) where
+  own_fold : fold_of lts tree basis class problem number (form_row lts.initial (split_of f)) (Ok is.row)
   own_fold =
       let (name, has, fold) = made_from (fold_of lts tree basis class problem number) names all is.row made (has_at all is.number is.row is.at) in
       subst (λ n. fold_of lts tree basis class problem number n (Ok is.row)) (sym (name_is name fold) ∙ is.named) fold
@@ -63,7 +63,7 @@ module _ (lts : System) (tree : List Arc) (basis : CycleBasis) (class : Class) (
 
   pub stands_in_row : StandsInRow lts tree basis class problem number (rows_of case) f
   stands_in_row = λ k fold.
-      (let one = (row_one lts tree basis class (form_row (split_of f)) (row_expression lts class problem number [] (form_row (split_of f)))).one (Ok is.row) (Ok k) own_fold fold in
+      (let one = (row_one lts tree basis class (form_row lts.initial (split_of f)) (row_expression lts class problem number [] (form_row lts.initial (split_of f)))).one (Ok is.row) (Ok k) own_fold fold in
       let same : is.row ≡ k = cc in
       ⊎_elim
       (λ (positive, e, place, some). inl (differs f.times positive, place_is e place some ∙ ap (λ (r : KeptRow). Some r.row) same))

@@ -6,6 +6,7 @@ mod FormTimes
 mod FormRoom
 mod FormNames
 mod FormSteps
+mod Starts
 mod Assembling
 mod Terms
 mod Sharing

@@ -84,8 +84,8 @@ module _ (lts : System) (tree : List Arc) (basis : CycleBasis) (class : Class) (
   case_fails w h = inl (subst (λ l. each (fold_of lts tree basis class problem number) l (Err w)) named h)
 
   module _ (all : List KeptRow) (made : each (fold_of lts tree basis class problem number) names (Ok all)) where
-    pub forms_fail : (w : Wide) → each (form_fold lts tree basis class) (split_forms lts class) (Err w) → system_fold lts tree basis class problem number (Err w)
+    pub forms_fail : (w : Wide) → each (form_fold lts tree basis class) (split_forms lts class problem) (Err w) → system_fold lts tree basis class problem number (Err w)
     forms_fail w h = inr (all, subst (λ l. each (fold_of lts tree basis class problem number) l (Ok all)) named made, inl h)
 
-    pub case_made : (forms : List Form) (shown : CaseSystem) → each (form_fold lts tree basis class) (split_forms lts class) (Ok forms) → shown.columns ≡ column_count lts basis class → KeepsFirsts (λ k. k.row) IsIdle [] all shown.kept → shown.forms ≡ forms → system_fold lts tree basis class problem number (Ok shown)
+    pub case_made : (forms : List Form) (shown : CaseSystem) → each (form_fold lts tree basis class) (split_forms lts class problem) (Ok forms) → shown.columns ≡ column_count lts basis class → KeepsFirsts (λ k. k.row) IsIdle [] all shown.kept → shown.forms ≡ forms → system_fold lts tree basis class problem number (Ok shown)
     case_made forms shown forms_made columns firsts same = (all, subst (λ l. each (fold_of lts tree basis class problem number) l (Ok all)) named made, (forms, forms_made, (columns, firsts, same)))

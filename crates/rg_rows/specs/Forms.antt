@@ -1,5 +1,5 @@
 -- The forms of a case, and what a branching asks of them.
-use Rattle.std.specs.Prelude.{◌≡◌, ◌≢◌, ◌⊎◌, ℕ, ◌+◌, ◌^◌, ◌<◌, ◌&&◌, not, is_some, if◌then◌else◌, List, [], ◌∷◌, map, length, All, Option, Some, None, Ok, slice_get, ℤ, pos, ◌+ℤ◌, ◌-ℤ◌, ◌*ℤ◌, ◌≤ℤ◌, ◌<ℤ◌}
+use Rattle.std.specs.Prelude.{◌≡◌, ◌≢◌, ◌⊎◌, ℕ, ◌+◌, ◌^◌, ◌<◌, ◌&&◌, not, ◌++◌, is_some, if◌then◌else◌, List, [], ◌∷◌, map, length, All, Option, Some, None, Ok, slice_get, ℤ, pos, ◌+ℤ◌, ◌-ℤ◌, ◌*ℤ◌, ◌≤ℤ◌, ◌<ℤ◌}
 use Rattle.std.specs.Arc.{arc_slice_items}
 use Rattle.rg_theory.specs.declared.Arc.{Arc}
 use Rattle.rg_theory.specs.declared.Class.{Class}
@@ -10,8 +10,8 @@ use Rattle.rg_integers.specs.Sum.{sum_over}
 use Rattle.rg_linear.specs.System.{LinearSystem}
 use Rattle.rg_linear.specs.Branching.{Form, AreBounded}
 use Rattle.rg_linear.specs.Cycle.{CycleBasis, IsZeroVector}
-use Rattle.rg_refuting.specs.Row.{RowName, RowName.tokens_row, RowName.down_row, Form as SplitForm, Form.on_tokens, Form.on_effect}
-use Rattle.rg_order_of_work.specs.Rewriting.{KeptRow}
+use Rattle.rg_refuting.specs.Row.{RowName, RowName.tokens_row, RowName.down_row, Form as SplitForm, Form.on_tokens, Form.on_effect, Form.on_start}
+use Rattle.rg_order_of_work.specs.Rewriting.{splits_start, KeptRow}
 use Rattle.rg_order_of_work.specs.FormRows.{form_row, IsMultipleOfRow}
 use Rattle.rg_reasons.specs.Trees.{form_of}
 use Rattle.rg_rows.specs.declared.named_form.NamedForm.{NamedForm}
@@ -41,6 +41,10 @@ abbrev pub forms_in : Class → List RowName → List SplitForm
 forms_in class [] = []
 forms_in class (name ∷ names) = put_form (form_in class name) (forms_in class names)
 
+-- and behind them the start, where the case splits on it
+abbrev pub case_forms : Class → Problem → List RowName → List SplitForm
+case_forms class problem names = forms_in class names ++ (if splits_start class problem then (on_start ∷ []) else [])
+
 -- ---- the row of a form
 
 -- the form is the row times a positive number, and is not 0, or it is 0 and names no row
@@ -49,11 +53,11 @@ IsPartOf f coeffs place =
     ((pos 0 <ℤ f.times) × ((arc_slice_items f.coeffs) ≡ map (λ z. f.times *ℤ z) coeffs) × (f.row ≡ place) × ¬ IsZeroVector (arc_slice_items f.coeffs))
     ⊎ ((f.times ≡ pos 0) × (f.row ≡ 0) × IsZeroVector (arc_slice_items f.coeffs))
 
--- the row of the form is the one that stayed for `tokens` of its state or `down` of its label; a form without coefficients
+-- the row of the form is the one that stayed for `tokens` of its state, the initial one for the start, or `down` of its label; a form without coefficients
 -- has times 0 and row 0
 abbrev pub StandsInRow : System → List Arc → CycleBasis → Class → Problem → ℕ → LinearSystem → NamedForm → Type 0
 StandsInRow lts tree basis class problem number system f =
-    (k : KeptRow) → fold_of lts tree basis class problem number (form_row (split_of f)) (Ok k)
+    (k : KeptRow) → fold_of lts tree basis class problem number (form_row lts.initial (split_of f)) (Ok k)
     → ((f.times ≢ pos 0) × (slice_get system.rows f.row ≡ Some k.row)) ⊎ ((f.times ≡ pos 0) × (f.row ≡ 0) × IsZeroVector (arc_slice_items f.coeffs))
 
 -- ---- what a branching asks

@@ -2,6 +2,8 @@
 use Rattle.std.specs.Prelude.{◌≡◌, ℕ, List, length, All, Some, slice_get, slice_index_or, pos, ◌<ℤ◌}
 use Rattle.std.specs.Arc.{arc_slice_items}
 use Rattle.rg_theory.specs.declared.Class.{Class}
+use Rattle.rg_theory.specs.System.{System}
+use Rattle.rg_theory.specs.ClassWords.{HasNumbersInRange}
 use Rattle.rg_integers.specs.Range.{InRange}
 use Rattle.rg_order_of_work.specs.Rewriting.{KeptRow, form_low, form_high}
 use Rattle.rg_order_of_work.specs.FormRows.{form_row}
@@ -9,15 +11,15 @@ use Rattle.rg_rows.specs.declared.named_form.NamedForm.{NamedForm}
 use Rattle.rg_rows.specs.Forms.{split_of, IsPartOf}
 
 -- it has the terms of one of the rows, and names the place of that row; its numbers are in range
-pub record IsMade (class : Class) (columns : ℕ) (all : List KeptRow) (places : List ℕ) (f : NamedForm) : Type 0 where
+pub record IsMade (lts : System) (class : Class) (columns : ℕ) (all : List KeptRow) (places : List ℕ) (f : NamedForm) : Type 0 where
   pub number : ℕ
   pub row : KeptRow
   pub at : slice_get all number ≡ Some row
-  pub named : row.name ≡ form_row (split_of f)
+  pub named : row.name ≡ form_row lts.initial (split_of f)
   pub part : IsPartOf f row.row.coeffs (slice_index_or places number 0)
-  pub bounds : (f.low ≡ form_low class) × (f.high ≡ form_high class)
+  pub bounds : (f.low ≡ form_low (split_of f)) × (f.high ≡ form_high lts class (split_of f))
   pub one_each : length (arc_slice_items f.coeffs) ≡ columns
-  pub positive : pos 0 <ℤ f.scale
+  pub positive : HasNumbersInRange class → pos 0 <ℤ f.scale
   pub scale_in_range : InRange f.scale
   pub coeffs_in_range : All InRange (arc_slice_items f.coeffs)
   pub times_in_range : InRange f.times

@@ -1,5 +1,5 @@
 //! The forms of a case.
-ghost use Rattle.std.specs.Prelude.{◌≡◌, ◌⊎◌, ℕ, ◌<◌, [], length, map, All, ℤ, pos, ◌*ℤ◌, Ok, Err, option_map, IfOk, IsErrOf};
+ghost use Rattle.std.specs.Prelude.{◌≡◌, ◌⊎◌, ℕ, ◌<◌, [], length, map, All, Contains, slice_index_or, ℤ, pos, ◌*ℤ◌, Ok, Err, option_map, IfOk, IsErrOf, IsTrue};
 ghost use Rattle.std.specs.Arc.{arc_slice_items};
 ghost use Rattle.rg_integers.specs.Range.{InRange};
 ghost use Rattle.rg_theory.specs.System.{states, labels};
@@ -9,14 +9,16 @@ ghost use Rattle.rg_linear.specs.Cycle.{IsZeroVector};
 ghost use Rattle.rg_spanning.specs.Spanning.{IsTreeOf};
 ghost use Rattle.rg_cycles.specs.View.{labels_of, cycle_of};
 ghost use Rattle.rg_order_of_work.specs.Fold.{each};
-ghost use Rattle.rg_order_of_work.specs.Rewriting.{column_count, terms_fold, form_fold, form_low, form_high};
+ghost use Rattle.rg_order_of_work.specs.Rewriting.{column_count, terms_fold, form_fold, form_low, form_high, splits_start};
 ghost use Rattle.rg_denominators.specs.View.{scaled_of};
 ghost use Rattle.rg_reasons.specs.Trees.{row_name_of, form_of};
-ghost use Rattle.rg_refuting.specs.Row.{row_expression};
+ghost use Rattle.rg_refuting.specs.Row.{row_expression, step_of, Form.on_start};
+ghost use Rattle.rg_reasons.specs.declared.certificate.RowName.{RowName as CodeName};
+ghost use Rattle.rg_reasons.specs.declared.certificate.RowName.TheVariants.{Tokens};
 ghost use Rattle.rg_expressions.specs.View.{TermNamesStateBelow};
 ghost use Rattle.rg_rows.specs.View.{kept_row, row_in, AreNamesWithin, fold_of};
 ghost use Rattle.rg_rows.specs.Sharing.{IsCommonOf};
-ghost use Rattle.rg_rows.specs.Forms.{linear_form, split_of, form_in, forms_in, IsPartOf};
+ghost use Rattle.rg_rows.specs.Forms.{linear_form, split_of, form_in, forms_in, case_forms, IsPartOf};
 ghost use Rattle.rg_rows.specs.Making.{IsMade};
 
 use crate::case_row::CaseRow;
@@ -30,13 +32,119 @@ use rg_fraction::FoldStop;
 use rg_lts::Lts;
 use rg_reasons::{Form, ProblemCase, RowName, expression};
 use rg_spanning::Tree;
-use rg_theory::Class;
+use rg_theory::{Class, Problem};
 use std::alloc::{AllocError, Global};
 use std::sync::ArcSlice;
 
-// The forms in order: in a bounded class the tokens of each state, else in a plain one the effect of each label with an
+// The forms in order: those of the named rows, and behind them the tokens at the start, where the case splits on it.
+pub(crate) fn case_forms(
+    alloc: Global,
+    lts: &Lts,
+    tree: &Tree,
+    basis: &Basis,
+    common: &Common,
+    case: ProblemCase,
+    names: &[RowName],
+    rows: &[HeldRow<'_>],
+    places: &[u32],
+) -> Result<Vec<NamedForm>, FoldStop>
+    requires tree { IsTreeOf lts.now tree.now }
+    requires labels { labels_of basis.now ≡ labels lts.now }
+    requires common { IsCommonOf lts.now tree.now.arcs (cycle_of basis.now) case.class common.now }
+    requires names { AreNamesWithin lts.now case.class case.problem case.number (map row_name_of names.now) }
+    requires rows { each (fold_of lts.now tree.now.arcs (cycle_of basis.now) case.class case.problem case.number) (map row_name_of names.now) (Ok (map kept_row (map row_in rows.now))) }
+    requires one_each { length rows.now ≡ length names.now }
+    requires places { length places.now ≡ length rows.now }
+    requires start { IsTrue (splits_start case.class case.problem) → Contains names.now (Tokens lts.now.initial) }
+    ensures value { IfOk result (λ v. each (form_fold lts.now tree.now.arcs (cycle_of basis.now) case.class) (case_forms case.class case.problem (map row_name_of names.now)) (Ok (map linear_form v.items))) }
+    ensures forms { IfOk result (λ v. map split_of v.items ≡ case_forms case.class case.problem (map row_name_of names.now)) }
+    ensures made { IfOk result (λ v. All (IsMade lts.now case.class (column_count lts.now (cycle_of basis.now) case.class) (map kept_row (map row_in rows.now)) places.now) v.items) }
+    ensures wide { (w : Wide) → IsErrOf result (stop.Wide w) → each (form_fold lts.now tree.now.arcs (cycle_of basis.now) case.class) (case_forms case.class case.problem (map row_name_of names.now)) (Err w) }
+{
+    let mut forms = forms(alloc, lts, tree, basis, common, case, names, rows, places)?;
+    if splits_start(case.class, case.problem) {
+        let start = start_form(alloc, lts, tree, basis, common, case, names, rows, places)?;
+        forms.push(start)?;
+    }
+    Ok(forms)
+}
+
+// Whether the start has to be split on: a class that asks a marking is bounded, or is plain and the problem an event's.
+fn splits_start(class: Class, problem: Problem) -> bool
+    ensures { result ≡ splits_start class problem }
+{
+    match problem {
+        Problem::Event(..) => class.marking.is_some() && (class.plain || class.bound.is_some()),
+        Problem::States(..) => class.marking.is_some() && class.bound.is_some(),
+    }
+}
+
+// The form of the tokens at the start, which has the terms of the row `tokens` of the initial state.
+fn start_form(
+    alloc: Global,
+    lts: &Lts,
+    tree: &Tree,
+    basis: &Basis,
+    common: &Common,
+    case: ProblemCase,
+    names: &[RowName],
+    rows: &[HeldRow<'_>],
+    places: &[u32],
+) -> Result<NamedForm, FoldStop>
+    requires tree { IsTreeOf lts.now tree.now }
+    requires labels { labels_of basis.now ≡ labels lts.now }
+    requires common { IsCommonOf lts.now tree.now.arcs (cycle_of basis.now) case.class common.now }
+    requires names { AreNamesWithin lts.now case.class case.problem case.number (map row_name_of names.now) }
+    requires rows { each (fold_of lts.now tree.now.arcs (cycle_of basis.now) case.class case.problem case.number) (map row_name_of names.now) (Ok (map kept_row (map row_in rows.now))) }
+    requires one_each { length rows.now ≡ length names.now }
+    requires places { length places.now ≡ length rows.now }
+    requires start { Contains names.now (Tokens lts.now.initial) }
+    ensures value { IfOk result (λ f. form_fold lts.now tree.now.arcs (cycle_of basis.now) case.class on_start (Ok (linear_form f))) }
+    ensures form { IfOk result (λ f. split_of f ≡ on_start) }
+    ensures made { IfOk result (λ f. IsMade lts.now case.class (column_count lts.now (cycle_of basis.now) case.class) (map kept_row (map row_in rows.now)) places.now f) }
+    ensures wide { (w : Wide) → IsErrOf result (stop.Wide w) → form_fold lts.now tree.now.arcs (cycle_of basis.now) case.class on_start (Err w) }
+{
+    let name = RowName::Tokens(lts.initial());
+    let i = place_of(names, name);
+    let scaled = terms_in_case(alloc, lts, tree, basis, common, case, name)?;
+    let scale = start_scale(case.class);
+    let form = form_over(
+        lts,
+        case.class,
+        Form::Start,
+        scale,
+        scaled,
+        rows[i].row(),
+        places[i],
+    )?;
+    Ok(form)
+}
+
+// By steps of how many the start is counted.
+fn start_scale(class: Class) -> i128
+    ensures value { result ≡ pos (step_of class on_start) }
+    ensures in_range { InRange result }
+{
+    i128::from(Form::Start.step(class))
+}
+
+// The place of a name among names that have it.
+fn place_of(names: &[RowName], name: RowName) -> usize
+    requires { Contains names.now name }
+    ensures within { result < length names.now }
+    ensures here { (d : CodeName) → slice_index_or names.now result d ≡ name }
+{
+    for (i, other) in names.iter().enumerate() {
+        if *other == name {
+            return i;
+        }
+    }
+    unreachable!()
+}
+
+// The forms of the named rows, in order: in a bounded class the tokens of each state, else in a plain one the effect of each label with an
 // arc. Each is written over the columns as the row named `tokens` or `down` is, and not divided.
-pub(crate) fn forms(
+fn forms(
     alloc: Global,
     lts: &Lts,
     tree: &Tree,
@@ -56,14 +164,22 @@ pub(crate) fn forms(
     requires places { length places.now ≡ length rows.now }
     ensures value { IfOk result (λ v. each (form_fold lts.now tree.now.arcs (cycle_of basis.now) case.class) (forms_in case.class (map row_name_of names.now)) (Ok (map linear_form v.items))) }
     ensures forms { IfOk result (λ v. map split_of v.items ≡ forms_in case.class (map row_name_of names.now)) }
-    ensures made { IfOk result (λ v. All (IsMade case.class (column_count lts.now (cycle_of basis.now) case.class) (map kept_row (map row_in rows.now)) places.now) v.items) }
+    ensures made { IfOk result (λ v. All (IsMade lts.now case.class (column_count lts.now (cycle_of basis.now) case.class) (map kept_row (map row_in rows.now)) places.now) v.items) }
     ensures wide { (w : Wide) → IsErrOf result (stop.Wide w) → each (form_fold lts.now tree.now.arcs (cycle_of basis.now) case.class) (forms_in case.class (map row_name_of names.now)) (Err w) }
 {
     let mut forms = Vec::new(alloc);
     for (i, &name) in names.iter().enumerate() {
         if let Some(form) = form_named(case.class, name) {
             let scaled = terms_in_case(alloc, lts, tree, basis, common, case, name)?;
-            let named = form_over(case.class, form, scaled, rows[i].row(), places[i])?;
+            let named = form_over(
+                lts,
+                case.class,
+                form,
+                scaled.multiple,
+                scaled,
+                rows[i].row(),
+                places[i],
+            )?;
             forms.push(named)?;
         }
     }
@@ -121,16 +237,18 @@ fn form_named(class: Class, name: RowName) -> Option<Form>
 
 // The form with these numbers, of which those of the row are a part.
 fn form_over(
+    lts: &Lts,
     class: Class,
     form: Form,
+    scale: i128,
     scaled: Scaled,
     row: &CaseRow,
     place: u32,
 ) -> Result<NamedForm, AllocError>
     requires { (d : ℕ) × (0 < d) × (scaled.numbers.items ≡ map (λ z. pos d *ℤ z) (arc_slice_items row.now.coeffs)) }
     ensures form { IfOk result (λ f. f.form ≡ form) }
-    ensures numbers { IfOk result (λ f. (f.scale ≡ scaled.multiple) × (arc_slice_items f.coeffs ≡ scaled.numbers.items)) }
-    ensures bounds { IfOk result (λ f. (f.low ≡ form_low class) × (f.high ≡ form_high class)) }
+    ensures numbers { IfOk result (λ f. (f.scale ≡ scale) × (arc_slice_items f.coeffs ≡ scaled.numbers.items)) }
+    ensures bounds { IfOk result (λ f. (f.low ≡ form_low (form_of form)) × (f.high ≡ form_high lts.now class (form_of form))) }
     ensures row { IfOk result (λ f. IsPartOf f (arc_slice_items row.now.coeffs) place) }
     ensures in_range { IfOk result (λ f. InRange f.times) }
 {
@@ -138,27 +256,34 @@ fn form_over(
     let coeffs = ArcSlice::from_vec(scaled.numbers)?;
     Ok(NamedForm {
         form,
-        scale: scaled.multiple,
+        scale,
         coeffs,
-        low: low(class),
-        high: high(class),
+        low: low(form),
+        high: high(lts, class, form),
         row: if times == 0 { 0 } else { place },
         times,
     })
 }
 
-// The least that a form of the class may be.
-fn low(class: Class) -> i64
-    ensures { result ≡ form_low class }
+// The least that a form may be.
+fn low(form: Form) -> i64
+    ensures { result ≡ form_low (form_of form) }
 {
-    if class.bound.is_some() { 0 } else { -1 }
+    match form {
+        Form::Tokens(_) | Form::Start => 0,
+        Form::Effect(_) => -1,
+    }
 }
 
-// The most that it may be.
-fn high(class: Class) -> i64
-    ensures { result ≡ form_high class }
+// The most that a form of the class may be.
+fn high(lts: &Lts, class: Class, form: Form) -> i64
+    ensures { result ≡ form_high lts.now class (form_of form) }
 {
-    class.bound.map_or(1, i64::from)
+    match form {
+        Form::Tokens(_) => class.bound.map_or(0, i64::from),
+        Form::Effect(_) => 1,
+        Form::Start => class.bound.map_or(i64::from(lts.states()), i64::from),
+    }
 }
 
 // How many times the parts the numbers are, 0 where all are 0.

@@ -1,7 +1,7 @@
 //! The system of a case.
 ghost use Rattle.std.specs.Prelude.{◌≡◌, ◌<◌, length, All, map, Ok, Err, IfOk, IsErrOf};
 ghost use Rattle.std.specs.Arc.{arc_slice_items};
-ghost use Rattle.rg_theory.specs.ClassWords.{HasBoundInRange};
+ghost use Rattle.rg_theory.specs.ClassWords.{HasNumbersInRange};
 ghost use Rattle.rg_theory.specs.System.{labels, IsAllReachable};
 ghost use Rattle.rg_fraction.specs.declared.term.Wide.{Wide};
 ghost use Rattle.rg_refuting.specs.Refutes.{IsSeparationProblem};
@@ -19,7 +19,7 @@ ghost use Rattle.rg_rows.specs.Forms.{split_of, StandsInRow, AreFormsOf};
 ghost use Rattle.rg_rows.specs.Shown.{ShowsCase};
 
 use crate::common::Common;
-use crate::forms::forms;
+use crate::forms::case_forms;
 use crate::held_row::{HeldRow, row_in_case};
 use crate::kept::firsts;
 use crate::named_form::NamedForm;
@@ -54,8 +54,10 @@ pub struct NamedSystem {
 /// equal rows the first stays.
 ///
 /// The forms are in a bounded class the tokens of each state, from 0 to the bound, else in a plain class the effect of
-/// each label with an arc, from -1 to 1; in another class there are none. They are written over the columns as the rows
-/// are, and not divided. The rows and forms are as a branching on the forms asks (Schrijver, *Theory of Linear and
+/// each label with an arc, from -1 to 1; in another class there are none. In a class that asks a marking the tokens at the
+/// start come behind these, in steps of the marking: in a bounded class from 0 to the bound, and in a plain class without
+/// bound, where an event is asked, from 0 to the number of states. They are written over the columns as the rows are, and
+/// not divided. The rows and forms are as a branching on the forms asks (Schrijver, *Theory of Linear and
 /// Integer Programming*): where all states can be reached and the basis is that of the chords, the rows bound each form.
 ///
 /// `FoldStop::Wide` comes exactly where a step of this, row by row and then form by form, is out of range, with the
@@ -75,9 +77,9 @@ pub fn system(
     requires tree { IsTreeOf lts.now tree.now }
     requires labels { labels_of basis.now ≡ labels lts.now }
     ensures system { IfOk result (λ named. (shown : CaseSystem) × system_fold lts.now tree.now.arcs (cycle_of basis.now) class problem case (Ok shown) × ShowsCase named shown) }
-    ensures named { IfOk result (λ named. map split_of named.forms.items ≡ split_forms lts.now class) }
+    ensures named { IfOk result (λ named. map split_of named.forms.items ≡ split_forms lts.now class problem) }
     ensures rows { IfOk result (λ named. All (StandsInRow lts.now tree.now.arcs (cycle_of basis.now) class problem case named.system) named.forms.items) }
-    ensures forms { IsAllReachable lts.now → IsBasis lts.now tree.now.arcs (cycle_of basis.now) → HasBoundInRange class → IfOk result (λ named. AreFormsOf named.system named.forms.items) }
+    ensures forms { IsAllReachable lts.now → IsBasis lts.now tree.now.arcs (cycle_of basis.now) → HasNumbersInRange class → IfOk result (λ named. AreFormsOf named.system named.forms.items) }
     ensures wide { (w : Wide) → IsErrOf result (stop.Wide w) → system_fold lts.now tree.now.arcs (cycle_of basis.now) class problem case (Err w) }
 {
     let common = Common::new(alloc, lts, tree, basis, class)?;
@@ -102,9 +104,9 @@ pub fn system_with(
     requires labels { labels_of basis.now ≡ labels lts.now }
     requires common { IsCommonOf lts.now tree.now.arcs (cycle_of basis.now) class common.now }
     ensures system { IfOk result (λ named. (shown : CaseSystem) × system_fold lts.now tree.now.arcs (cycle_of basis.now) class problem case (Ok shown) × ShowsCase named shown) }
-    ensures named { IfOk result (λ named. map split_of named.forms.items ≡ split_forms lts.now class) }
+    ensures named { IfOk result (λ named. map split_of named.forms.items ≡ split_forms lts.now class problem) }
     ensures rows { IfOk result (λ named. All (StandsInRow lts.now tree.now.arcs (cycle_of basis.now) class problem case named.system) named.forms.items) }
-    ensures forms { IsAllReachable lts.now → IsBasis lts.now tree.now.arcs (cycle_of basis.now) → HasBoundInRange class → IfOk result (λ named. AreFormsOf named.system named.forms.items) }
+    ensures forms { IsAllReachable lts.now → IsBasis lts.now tree.now.arcs (cycle_of basis.now) → HasNumbersInRange class → IfOk result (λ named. AreFormsOf named.system named.forms.items) }
     ensures wide { (w : Wide) → IsErrOf result (stop.Wide w) → system_fold lts.now tree.now.arcs (cycle_of basis.now) class problem case (Err w) }
 {
     lts.is_well_formed();
@@ -116,7 +118,7 @@ pub fn system_with(
     let names = names(alloc, lts, case, &common.columns)?;
     let all = rows(alloc, lts, tree, basis, common, case, &names)?;
     let (kept, places) = firsts(alloc, &all)?;
-    let forms = forms(alloc, lts, tree, basis, common, case, &names, &all, &places)?;
+    let forms = case_forms(alloc, lts, tree, basis, common, case, &names, &all, &places)?;
     Ok(NamedSystem {
         system: System::new(common.columns.count(basis), kept.rows),
         names: kept.names,

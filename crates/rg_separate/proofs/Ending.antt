@@ -42,7 +42,7 @@ comes_of s = ProblemComes s.lts.now s.tree.now.arcs (cycle_of s.basis.now) s.cla
 
 module _ (s : Setting) (is : IsSetting s) where
   pub places_separate : EachPlaceSeparates s.lts.now (comes_of s)
-  places_separate = record { separate = λ problem p has come. (let (m, region, separates) = placed_separates s.lts.now s.tree.now.arcs (cycle_of s.basis.now) s.class is.in_range is.reachable is.tree.tree is.basis problem p has come in (m, region.region, separates)) }
+  places_separate = record { separate = λ problem p has come. (let (m, region, separates) = placed_separates s.lts.now s.tree.now.arcs (cycle_of s.basis.now) s.class is.in_range is.bound is.reachable is.tree.tree is.basis problem p has come in (m, region.region, separates)) }
 
   searched_of : (o : outcome.Separation) → Comes s.lts.now (comes_of s) o → Searched s.lts.now s.class o
   searched_of o come = all_problems s.tree.now.arcs (cycle_of s.basis.now) o is.tree.tree is.basis come
@@ -61,7 +61,7 @@ module _ (s : Setting) (is : IsSetting s) where
     separated_searched = searched_of (places (map shown_place kept)) all_come
 
     pub separated_tells : AreSeparating s.lts.now s.class (map shown_place kept)
-    separated_tells = separating s.lts.now s.class kept separated is.in_range are (let few = few_places s.lts.now (comes_of s) (map shown_place kept) fine all_come in let l = length-map kept shown_place in omega arith) separated_searched
+    separated_tells = separating s.lts.now s.class kept separated is.in_range is.bound are (let few = few_places s.lts.now (comes_of s) (map shown_place kept) fine all_come in let l = length-map kept shown_place in omega arith) separated_searched
 
   -- the problem that ends the search
   refuted_last : (kept : List Place) (q : Problem) (o : outcome.Separation) → Comes s.lts.now (comes_of s) o → ShowsSeparation s.lts.now (comes_of s) kept (ended.Unsolvable q) o → EndsWith s q

@@ -1,5 +1,5 @@
 -- The named rows of a leaf, one after the other.
-use Rattle.std.proofs.Common.{◌≡◌, inl, ℕ, zero, suc, ◌+◌, ◌-◌, ◌<◌, ◌≤◌, Bool, true, false, if◌then◌else◌, ◌||◌, List, [], ◌∷◌, length, get_or, All, Result, Ok, Err, sym, ap, subst, ◌∙◌, arith}
+use Rattle.std.proofs.Common.{◌≡◌, inl, ℕ, zero, suc, ◌+◌, ◌-◌, ◌<◌, ◌≤◌, Bool, true, false, if◌then◌else◌, ◌||◌, List, [], ◌∷◌, map, length, get_or, All, Result, Ok, Err, sym, ap, subst, ◌∙◌, arith}
 use Rattle.std.specs.Prelude.{ℤ, pos, negsuc, ◌≤ℤ◌, int_lt, nat_lt}
 use Rattle.std.proofs.lemmas.List.{get_or-map, length-map}
 use Rattle.std.proofs.lemmas.List.Elements.{All-nil, All-cons}
@@ -10,21 +10,22 @@ use Rattle.rg_fraction.specs.declared.term.Wide.{Wide}
 use Rattle.rg_fraction.specs.declared.fraction.Fraction.{Fraction}
 use Rattle.rg_fraction.specs.Fractions.{IsValue, IsProduct, numerator_of, denominator_of}
 use Rattle.rg_integers.specs.Range.{InRange}
-use Rattle.rg_refuting.specs.Row.{RowName.above_row}
+use Rattle.rg_refuting.specs.Row.{RowName.above_row, Form.on_tokens, Side}
 use Rattle.rg_linear.specs.System.{LinearSystem}
-use Rattle.rg_linear.specs.Branching.{Weight, weights_from, Form, form_at, SplitSide}
+use Rattle.rg_linear.specs.Branching.{Weight, weights_from, form_at, SplitSide}
 use Rattle.rg_order_of_work.specs.Fold.{Ratio, whole, ratio_of, shown_result, mul}
 use Rattle.rg_order_of_work.specs.Rewriting.{CaseSystem}
-use Rattle.rg_order_of_work.specs.Spreading.{share_fold, kept_at, name_of, side_at, factor_of}
+use Rattle.rg_order_of_work.specs.Spreading.{share_fold, kept_at, name_of, side_at, named_at, split_factor, factor_of}
 use Rattle.rg_order_of_work.proofs.FoldLemmas.{ratio_one, new_step, mul_step}
 use Rattle.rg_order_of_work.proofs.Scaling.{whole_ratio}
 use Rattle.rg_reasons.specs.declared.certificate.RowName.{RowName as NameOfCode}
 use Rattle.rg_reasons.specs.Trees.{row_name_of}
 use Rattle.rg_rows.specs.declared.named_system.NamedSystem.{NamedSystem}
 use Rattle.rg_rows.specs.declared.named_form.NamedForm.{NamedForm}
-use Rattle.rg_rows.specs.Forms.{linear_form}
+use Rattle.rg_rows.specs.Forms.{linear_form, split_of}
 use Rattle.rg_rows.specs.Shown.{ShowsCase}
 use Rattle.rg_farkas.specs.Leaves.{share_of}
+use Rattle.rg_separate.specs.Casing.{sides_among}
 
 -- ---- the weights of multipliers
 
@@ -78,28 +79,42 @@ module _ (named : NamedSystem) (case : CaseSystem) (shows : ShowsCase named case
       ∙ get_or-map (λ k. k.name) case.kept i _ (row_name_of n) kept
       ∙ sym (ap (λ b. if b then (kept_at case i).name else above_row (i - length case.kept)) (lt-ltb i (length case.kept) kept))
 
-  pub own_factor : (sides : List SplitSide) (i : ℕ) (f : Fraction) → i < length named.system.rows → ratio_of (get_or named.factors.items i f) ≡ factor_of case sides i
-  own_factor sides i f lt =
+  pub own_factor : (sides : List SplitSide) (named_above : List Side) (i : ℕ) (f : Fraction) → i < length named.system.rows → ratio_of (get_or named.factors.items i f) ≡ factor_of case sides named_above i
+  own_factor sides named_above i f lt =
       let kept : i < length case.kept = (let e = rows_are in omega arith) in
       sym (get_or-map ratio_of named.factors.items i f (ratio_of f) (let e = factors_many in omega arith))
       ∙ ap (λ rs. get_or rs i (ratio_of f)) shows.factors
       ∙ get_or-map (λ k. k.factor) case.kept i _ (ratio_of f) kept
-      ∙ sym (ap (λ b. if b then (kept_at case i).factor else whole (form_at case.forms (side_at sides (i - length case.kept)).form).scale) (lt-ltb i (length case.kept) kept))
+      ∙ sym (ap (λ b. if b then (kept_at case i).factor else split_factor (named_at named_above (i - length case.kept)).form (form_at case.forms (side_at sides (i - length case.kept)).form)) (lt-ltb i (length case.kept) kept))
 
   -- ---- the row of a split
 
   pub split_name : (i : ℕ) → length named.system.rows ≤ i → above_row (i - length named.system.rows) ≡ name_of case i
   split_name i le = ap (λ n. above_row (i - n)) rows_are ∙ sym (ap (λ b. if b then (kept_at case i).name else above_row (i - length case.kept)) (not_below i (length case.kept) (let e = rows_are in omega arith)))
 
-  pub split_factor : (sides : List SplitSide) (i : ℕ) (side : SplitSide) (f : NamedForm) (scale : Fraction) → length named.system.rows ≤ i → side_at sides (i - length named.system.rows) ≡ side → side.form < length named.forms.items → get_or named.forms.items side.form f ≡ f → IsValue scale f.scale (pos 1) → ratio_of scale ≡ factor_of case sides i
-  split_factor sides i side f scale le at lt form value =
-      whole_fraction scale f.scale value
-      ∙ ap (λ (g : NamedForm). whole g.scale) (sym form)
-      ∙ ap (λ (g : Form). whole g.scale) (sym (get_or-map linear_form named.forms.items side.form f (record { scale = pos 1; coeffs = []; low = pos 0; high = pos 0 }) lt))
-      ∙ ap (λ fs. whole (form_at fs side.form).scale) shows.forms
-      ∙ ap (λ (s : SplitSide). whole (form_at case.forms s.form).scale) (sym at)
-      ∙ ap (λ n. whole (form_at case.forms (side_at sides (i - n)).form).scale) rows_are
-      ∙ sym (ap (λ b. if b then (kept_at case i).factor else whole (form_at case.forms (side_at sides (i - length case.kept)).form).scale) (not_below i (length case.kept) (let e = rows_are in omega arith)))
+  abbrev among : List SplitSide → List Side
+  among sides = sides_among (map split_of named.forms.items) sides
+
+  -- the form by name of the side
+  form_named : (sides : List SplitSide) (d : ℕ) (side : SplitSide) (f : NamedForm) → d < length sides → side_at sides d ≡ side → side.form < length named.forms.items → get_or named.forms.items side.form f ≡ f → (named_at (among sides) d).form ≡ split_of f
+  form_named sides d side f below at lt form =
+      let name : SplitSide → Side = λ s. record { form = get_or (map split_of named.forms.items) s.form (on_tokens 0); at = s.at; high = s.high } in
+      ap (λ (s : Side). s.form) (get_or-map name sides d (record { form = 0; at = pos 0; high = false }) (record { form = on_tokens 0; at = pos 0; high = false }) below)
+      ∙ ap (λ (s : SplitSide). get_or (map split_of named.forms.items) s.form (on_tokens 0)) at
+      ∙ get_or-map split_of named.forms.items side.form f (on_tokens 0) lt
+      ∙ ap split_of form
+
+  pub factor_of_split : (sides : List SplitSide) (i : ℕ) (side : SplitSide) (f : NamedForm) (scale : Fraction) (z : ℤ) → length named.system.rows ≤ i → i - length named.system.rows < length sides → side_at sides (i - length named.system.rows) ≡ side → side.form < length named.forms.items → get_or named.forms.items side.form f ≡ f → IsValue scale z (pos 1) → whole z ≡ split_factor (split_of f) (linear_form f) → ratio_of scale ≡ factor_of case sides (among sides) i
+  factor_of_split sides i side f scale z le below at lt form value factor =
+      whole_fraction scale z value
+      ∙ factor
+      ∙ ap (λ g. split_factor g (linear_form f)) (sym (form_named sides (i - length named.system.rows) side f below at lt form))
+      ∙ ap (λ (g : NamedForm). split_factor (named_at (among sides) (i - length named.system.rows)).form (linear_form g)) (sym form)
+      ∙ ap (split_factor (named_at (among sides) (i - length named.system.rows)).form) (sym (get_or-map linear_form named.forms.items side.form f (record { scale = pos 1; coeffs = []; low = pos 0; high = pos 0 }) lt))
+      ∙ ap (λ fs. split_factor (named_at (among sides) (i - length named.system.rows)).form (form_at fs side.form)) shows.forms
+      ∙ ap (λ (s : SplitSide). split_factor (named_at (among sides) (i - length named.system.rows)).form (form_at case.forms s.form)) (sym at)
+      ∙ ap (λ n. split_factor (named_at (among sides) (i - n)).form (form_at case.forms (side_at sides (i - n)).form)) rows_are
+      ∙ sym (ap (λ b. if b then (kept_at case i).factor else split_factor (named_at (among sides) (i - length case.kept)).form (form_at case.forms (side_at sides (i - length case.kept)).form)) (not_below i (length case.kept) (let e = rows_are in omega arith)))
 
 -- ---- one share
 
@@ -107,9 +122,9 @@ module _ (named : NamedSystem) (case : CaseSystem) (shows : ShowsCase named case
 product_step : (f factor : Fraction) (z : ℤ) (other : Ratio) (r : Result Fraction Wide) → IsValue f z (pos 1) → ratio_of factor ≡ other → IsProduct (numerator_of f) (denominator_of f) (numerator_of factor) (denominator_of factor) r → mul (whole z) other (shown_result ratio_of r)
 product_step f factor z other r is same product = subst (λ x. mul x other (shown_result ratio_of r)) (whole_fraction f z is) (subst (λ x. mul (ratio_of f) x (shown_result ratio_of r)) same (mul_step f factor r product))
 
-module _ (case : CaseSystem) (sides : List SplitSide) (i : ℕ) (z : ℤ) (f factor : Fraction) (is : IsValue f z (pos 1)) (factor_is : ratio_of factor ≡ factor_of case sides i) where
-  pub share_made : (name : NameOfCode) (share : Fraction) → row_name_of name ≡ name_of case i → IsProduct (numerator_of f) (denominator_of f) (numerator_of factor) (denominator_of factor) (Ok share) → share_fold case sides (record { row = i; multiplier = z }) (Ok (share_of (name, share)))
-  share_made name share named product = (ratio_of share, product_step f factor z (factor_of case sides i) (Ok share) is factor_is product, ap (λ n. record { name = n; multiplier = ratio_of share }) named)
+module _ (case : CaseSystem) (sides : List SplitSide) (above : List Side) (i : ℕ) (z : ℤ) (f factor : Fraction) (is : IsValue f z (pos 1)) (factor_is : ratio_of factor ≡ factor_of case sides above i) where
+  pub share_made : (name : NameOfCode) (share : Fraction) → row_name_of name ≡ name_of case i → IsProduct (numerator_of f) (denominator_of f) (numerator_of factor) (denominator_of factor) (Ok share) → share_fold case sides above (record { row = i; multiplier = z }) (Ok (share_of (name, share)))
+  share_made name share named product = (ratio_of share, product_step f factor z (factor_of case sides above i) (Ok share) is factor_is product, ap (λ n. record { name = n; multiplier = ratio_of share }) named)
 
-  pub share_fails : (w : Wide) → IsProduct (numerator_of f) (denominator_of f) (numerator_of factor) (denominator_of factor) (Err w) → share_fold case sides (record { row = i; multiplier = z }) (Err w)
-  share_fails w product = inl (product_step f factor z (factor_of case sides i) (Err w) is factor_is product)
+  pub share_fails : (w : Wide) → IsProduct (numerator_of f) (denominator_of f) (numerator_of factor) (denominator_of factor) (Err w) → share_fold case sides above (record { row = i; multiplier = z }) (Err w)
+  share_fails w product = inl (product_step f factor z (factor_of case sides above i) (Err w) is factor_is product)

@@ -1,15 +1,15 @@
 -- The leaves of a case that is refuted, and what is shown where one passes.
-use Rattle.std.proofs.Common.{rules, ◌≡◌, ℕ, zero, suc, ◌+◌, ◌^◌, ◌<◌, ◌≤◌, Bool, true, false, is_some, if◌then◌else◌, List, [], ◌∷◌, map, length, get_or, All, Option, Some, None, Ok, Err, refl, sym, ap, subst, ◌∙◌, arith}
+use Rattle.std.proofs.Common.{rules, ◌≡◌, ℕ, ◌+◌, ◌^◌, ◌<◌, ◌≤◌, if◌then◌else◌, List, [], ◌∷◌, map, length, get_or, All, Result, Ok, Err, refl, sym, ap, subst, ◌∙◌, arith}
 use Rattle.std.specs.Prelude.{ℤ, pos, negsuc, nat_abs, ◌≤ℤ◌, slice_index_or, FitsSigned}
 use Rattle.std.specs.Int.{w64}
 use Rattle.std.proofs.lemmas.Int.{ints}
-use Rattle.std.proofs.lemmas.List.{length-map, length-append, get_or-map}
+use Rattle.std.proofs.lemmas.List.{length-map, length-append, get_or-map, get_or_default}
 use Rattle.std.proofs.lemmas.List.Elements.{All-nil, All-cons, All-map, All-weaker}
 use Rattle.rg_theory.specs.declared.Arc.{Arc}
-use Rattle.rg_theory.specs.System.{System, states, labels}
+use Rattle.rg_theory.specs.System.{System, labels}
 use Rattle.rg_theory.specs.declared.Class.{Class}
 use Rattle.rg_theory.specs.declared.Problem.{Problem}
-use Rattle.rg_refuting.specs.Row.{Form as SplitForm, Form.on_tokens, Form.on_effect, Side, RowStands, row_expression}
+use Rattle.rg_refuting.specs.Row.{Form as SplitForm, Form.on_tokens, Form.on_effect, Form.on_start, Side, RowStands, row_expression}
 use Rattle.rg_refuting.specs.Refutes.{LeafRefutes}
 use Rattle.rg_fraction.specs.declared.term.Wide.{Wide}
 use Rattle.rg_fraction.specs.declared.fraction.Fraction.{Fraction}
@@ -17,7 +17,8 @@ use Rattle.rg_linear.specs.Branching.{SplitSide, side_row, Weight, SplitTree, Br
 use Rattle.rg_linear.specs.Cycle.{CycleBasis}
 use Rattle.rg_order_of_work.specs.Fold.{each}
 use Rattle.rg_order_of_work.specs.Meaning.{IsCaseOver}
-use Rattle.rg_order_of_work.specs.Rewriting.{has_label, numbers_where, all_numbers, used_labels, split_forms, form_low, form_fold, rows_of}
+use Rattle.rg_order_of_work.specs.Rewriting.{CaseSystem, split_forms, form_low, form_fold, rows_of}
+use Rattle.rg_order_of_work.proofs.Forms.{IsSplitOf, split_is}
 use Rattle.rg_order_of_work.specs.Spreading.{Share, share_fold, leaf_fold, spread_fold}
 use Rattle.rg_order_of_work.specs.Shown.{SpreadShown, HasLeaf, named_side, named_sides}
 use Rattle.rg_cycles.specs.View.{cycle_of}
@@ -32,12 +33,13 @@ use Rattle.rg_branch.specs.Asked.{IsSideOf}
 use Rattle.rg_rows.specs.declared.named_system.NamedSystem.{NamedSystem}
 use Rattle.rg_rows.specs.declared.named_form.NamedForm.{NamedForm}
 use Rattle.rg_rows.specs.Forms.{linear_form, split_of}
+use Rattle.rg_rows.specs.Shown.{ShowsCase}
 use Rattle.rg_farkas.specs.Refuting.{SharesRefute}
 use Rattle.rg_farkas.specs.Leaves.{share_of, IsLeafWith, RefutesCase}
 use Rattle.rg_farkas.proofs.Multipliers.{node_names_stand, node_names_in_range, node_shares_refute}
 use Rattle.rg_separate.specs.declared.wide_at.Stage.TheVariants.{Spread}
 use Rattle.rg_separate.specs.declared.setting.CaseSetting.{CaseSetting}
-use Rattle.rg_separate.specs.Casing.{IsCase, IsNamedSystem, forms_in, AreRefuting, VisitStands, IsMadeOf, SharesFold, LeafPasses}
+use Rattle.rg_separate.specs.Casing.{IsCase, IsNamedSystem, forms_in, AreRefuting, VisitStands, IsMadeOf, sides_among, SharesFold, LeafPasses}
 use Rattle.rg_separate.specs.Passing.{passed_at}
 use Rattle.rg_separate.proofs.Factors.{weights_are, weights_few}
 use Rattle.rg_separate.proofs.PlaceOfPoint.{asked, case_over}
@@ -45,30 +47,22 @@ use Rattle.rg_separate.proofs.Walking.{IsWalk, walk_leaf}
 
 -- ---- the forms of a class are of the system
 
-numbers_below : (test : ℕ → Bool) (a n total : ℕ) → a + n ≤ total → All (λ q. q < total) (numbers_where test a n)
-numbers_below test a zero total le = All-nil (λ q. q < total)
-numbers_below test a (suc n) total le = go (test a) (numbers_below test (suc a) n total (omega arith))
+pub forms_of_system : (lts : System) (class : Class) (problem : Problem) → All (IsFormOf lts) (split_forms lts class problem)
+forms_of_system lts class problem i d lt = by (get_or (split_forms lts class problem) i d) (split_is lts class problem (get_or (split_forms lts class problem) i d) (i, lt, get_or_default (split_forms lts class problem) i (get_or (split_forms lts class problem) i d) d lt))
   where
-    go : (b : Bool) → All (λ q. q < total) (numbers_where test (suc a) n) → All (λ q. q < total) (if b then (a ∷ numbers_where test (suc a) n) else numbers_where test (suc a) n)
-    go true rest = All-cons (λ q. q < total) a _ (omega arith) rest
-    go false rest = rest
+    by : (split : SplitForm) → IsSplitOf lts class problem split → IsFormOf lts split
+    by (on_tokens q) (bound, below) = below
+    by (on_effect t) (bound, plain, used, below) = below
+    by on_start splits = tt
 
-pub forms_of_system : (lts : System) (class : Class) → All (IsFormOf lts) (split_forms lts class)
-forms_of_system lts class = go (is_some class.bound) class.plain
-  where
-    go : (b p : Bool) → All (IsFormOf lts) (if b then map on_tokens (all_numbers (states lts)) else (if p then map on_effect (used_labels lts) else []))
-    go true p = All-map (IsFormOf lts) on_tokens (all_numbers (states lts)) (numbers_below (λ q. true) 0 (states lts) (states lts) (omega arith))
-    go false true = All-map (IsFormOf lts) on_effect (used_labels lts) (numbers_below (λ t. has_label t lts.arcs) 0 (labels lts) (labels lts) (omega arith))
-    go false false = All-nil (IsFormOf lts)
-
-pub sides_of_system : (lts : System) (class : Class) (sides : List SplitSide) → All (λ side. side.form < length (split_forms lts class)) sides → All (λ s. IsFormOf lts s.form) (named_sides lts class sides)
-sides_of_system lts class sides all =
-    All-map (λ (s : Side). IsFormOf lts s.form) (named_side lts class) sides
-    (All-weaker (λ (side : SplitSide). side.form < length (split_forms lts class)) (λ (side : SplitSide). IsFormOf lts (slice_index_or (split_forms lts class) side.form (on_tokens 0))) (λ side lt. forms_of_system lts class side.form (on_tokens 0) lt) sides all)
+pub sides_of_system : (lts : System) (class : Class) (problem : Problem) (sides : List SplitSide) → All (λ side. side.form < length (split_forms lts class problem)) sides → All (λ s. IsFormOf lts s.form) (named_sides lts class problem sides)
+sides_of_system lts class problem sides all =
+    All-map (λ (s : Side). IsFormOf lts s.form) (named_side lts class problem) sides
+    (All-weaker (λ (side : SplitSide). side.form < length (split_forms lts class problem)) (λ (side : SplitSide). IsFormOf lts (slice_index_or (split_forms lts class problem) side.form (on_tokens 0))) (λ side lt. forms_of_system lts class problem side.form (on_tokens 0) lt) sides all)
 
 -- ---- what is shown where a leaf passes
 
-pub spread_shown : (c : CaseSetting) (named : NamedSystem) (whole : SplitTree) (sides : List SplitSide) (weights : List Weight) (w : Wide) → IsCase c → (system : IsNamedSystem c named) → Branching named.system (forms_in named) (tree whole) → HasLeaf [] whole sides weights → spread_fold c.setting.lts.now c.setting.tree.now.arcs (cycle_of c.setting.basis.now) c.setting.class c.problem c.number system.case sides (named_sides c.setting.lts.now c.setting.class sides) weights (Err w) → SpreadShown c.setting.lts.now c.setting.class (passed_at Spread c (named_sides c.setting.lts.now c.setting.class sides) w)
+pub spread_shown : (c : CaseSetting) (named : NamedSystem) (whole : SplitTree) (sides : List SplitSide) (weights : List Weight) (w : Wide) → IsCase c → (system : IsNamedSystem c named) → Branching named.system (forms_in named) (tree whole) → HasLeaf [] whole sides weights → spread_fold c.setting.lts.now c.setting.tree.now.arcs (cycle_of c.setting.basis.now) c.setting.class c.problem c.number system.case sides (named_sides c.setting.lts.now c.setting.class c.problem sides) weights (Err w) → SpreadShown c.setting.lts.now c.setting.class (passed_at Spread c (named_sides c.setting.lts.now c.setting.class c.problem sides) w)
 spread_shown c named whole sides weights w is system ends has fails = record {
   case = system.case;
   of_case = record {
@@ -90,7 +84,7 @@ spread_shown c named whole sides weights w is system ends has fails = record {
   passes = fails;
 }
 
-pub leaf_shown : (c : CaseSetting) (named : NamedSystem) (nodes : List TreeNode) (i : ℕ) (above : List SplitSide) (made : List reasons.TreeNode) (n : TreeNode) (w : Wide) → IsCase c → IsNamedSystem c named → IsWalk c named nodes i above made → i < length nodes → get_or nodes i n ≡ n → LeafPasses c named above n w → SpreadShown c.setting.lts.now c.setting.class (passed_at Spread c (named_sides c.setting.lts.now c.setting.class above) w)
+pub leaf_shown : (c : CaseSetting) (named : NamedSystem) (nodes : List TreeNode) (i : ℕ) (above : List SplitSide) (made : List reasons.TreeNode) (n : TreeNode) (w : Wide) → IsCase c → IsNamedSystem c named → IsWalk c named nodes i above made → i < length nodes → get_or nodes i n ≡ n → LeafPasses c named above n w → SpreadShown c.setting.lts.now c.setting.class (passed_at Spread c (named_sides c.setting.lts.now c.setting.class c.problem above) w)
 leaf_shown c named nodes i above made (leaf_node weights) w is system walk lt here fails =
     spread_shown c named walk.whole above weights w is system walk.outcome (walk_leaf c named nodes i above made walk weights lt here) (fails system.case system.shows)
 leaf_shown c named nodes i above made (split_node f u) w is system walk lt here fails = absurd fails
@@ -101,7 +95,11 @@ leaf_shown c named nodes i above made (split_node f u) w is system walk lt here 
 refuting_case : (c : CaseSetting) (named : NamedSystem) (system : IsNamedSystem c named) (sides : List SplitSide) (weights : List Weight) → AreRefuting (node_system named.system (forms_in named) sides) weights → AreRefuting (node_system (rows_of system.case) system.case.forms sides) weights
 refuting_case c named system sides weights are = subst (λ s. AreRefuting (node_system s system.case.forms sides) weights) system.shows.system (subst (λ fs. AreRefuting (node_system named.system fs sides) weights) system.shows.forms are)
 
-pub leaf_asked : (c : CaseSetting) (named : NamedSystem) (sides : List SplitSide) (above : List SideOfCode) (weights : List Weight) (shares : List (NameOfCode × Fraction)) → IsCase c → IsNamedSystem c named → VisitStands named.system (forms_in named) (record { sides = sides; node = leaf_node weights }) → map side_of above ≡ named_sides c.setting.lts.now c.setting.class sides → length shares ≡ length weights → SharesFold named sides weights (Ok (map share_of shares)) → RefutesCase c.setting.lts.now c.setting.tree.now c.setting.basis.now c.setting.class c.problem c.number shares above
+-- the shares with the sides by their names in the class
+pub shares_named : (c : CaseSetting) (named : NamedSystem) (system : IsNamedSystem c named) (sides : List SplitSide) (weights : List Weight) (result : Result (List Share) Wide) → SharesFold named sides weights result → (case : CaseSystem) → ShowsCase named case → each (share_fold case sides (named_sides c.setting.lts.now c.setting.class c.problem sides)) weights result
+shares_named c named system sides weights result fold case shows = subst (λ (ss : List Side). each (share_fold case sides ss) weights result) (ap (λ fs. sides_among fs sides) system.by_name) (fold case shows)
+
+pub leaf_asked : (c : CaseSetting) (named : NamedSystem) (sides : List SplitSide) (above : List SideOfCode) (weights : List Weight) (shares : List (NameOfCode × Fraction)) → IsCase c → IsNamedSystem c named → VisitStands named.system (forms_in named) (record { sides = sides; node = leaf_node weights }) → map side_of above ≡ named_sides c.setting.lts.now c.setting.class c.problem sides → length shares ≡ length weights → SharesFold named sides weights (Ok (map share_of shares)) → RefutesCase c.setting.lts.now c.setting.tree.now c.setting.basis.now c.setting.class c.problem c.number shares above
 leaf_asked c named sides above weights shares is system stands by_name count fold = record {
   reachable = is.setting.reachable;
   tree = is.setting.tree;
@@ -109,12 +107,12 @@ leaf_asked c named sides above weights shares is system stands by_name count fol
   basis = is.setting.basis;
   asked = asked lts problem is.has;
   case = is.below;
-  sides = subst (All (λ (s : Side). IsFormOf lts s.form)) (sym by_name) (sides_of_system lts class sides (All-weaker (IsSideOf (forms_in named)) (λ (s : SplitSide). s.form < length (split_forms lts class)) (λ s at. (let e = forms_many in let l = at.form in omega arith)) sides stands.sides.each));
+  sides = subst (All (λ (s : Side). IsFormOf lts s.form)) (sym by_name) (sides_of_system lts class problem sides (All-weaker (IsSideOf (forms_in named)) (λ (s : SplitSide). s.form < length (split_forms lts class problem)) (λ s at. (let e = forms_many in let l = at.form in omega arith)) sides stands.sides.each));
   stand = subst (λ ss. All (λ (s : Share). RowStands lts class problem number ss s.name) (map share_of shares)) (sym by_name) (node_names_stand lts tree cycle class problem number system.case over sides within refuting.multiplier (map share_of shares) made);
   names = node_names_in_range lts tree cycle class problem number system.case over sides within (let f = stands.few in omega arith) refuting.multiplier (map share_of shares) made;
   refute = subst (λ ss. SharesRefute lts (row_expression lts class problem number ss) (map share_of shares)) (sym by_name) (node_shares_refute lts tree cycle class problem number system.case over sides within is.live refuting.multiplier refuting.refute (map share_of shares) made);
   few_rows = (let w = ap length refuting.weights_are in let f = weights_few refuting.multiplier 0 (length (node_system (rows_of system.case) system.case.forms sides).rows) in let g = refuting.few in let e = count in omega arith);
-  few_sides = (let e = sym (length-map above side_of) ∙ ap length by_name ∙ length-map sides (named_side lts class) in let f = stands.few in omega arith);
+  few_sides = (let e = sym (length-map above side_of) ∙ ap length by_name ∙ length-map sides (named_side lts class problem) in let f = stands.few in omega arith);
 }
   where
     lts : System
@@ -141,25 +139,25 @@ leaf_asked c named sides above weights shares is system stands by_name count fol
     refuting : AreRefuting (node_system (rows_of system.case) system.case.forms sides) weights
     refuting = refuting_case c named system sides weights stands.node
 
-    forms_many : length (forms_in named) ≡ length (split_forms lts class)
+    forms_many : length (forms_in named) ≡ length (split_forms lts class problem)
     forms_many = length-map named.forms.items linear_form ∙ sym (length-map named.forms.items split_of) ∙ ap length system.by_name
 
     within : All (λ side. side.form < length system.case.forms) sides
     within = All-weaker (IsSideOf (forms_in named)) (λ (s : SplitSide). s.form < length system.case.forms) (λ s at. subst (λ fs. s.form < length fs) system.shows.forms at.form) sides stands.sides.each
 
-    made : each (share_fold system.case sides) (weights_from refuting.multiplier 0 (length (node_system (rows_of system.case) system.case.forms sides).rows)) (Ok (map share_of shares))
-    made = subst (λ ws. each (share_fold system.case sides) ws (Ok (map share_of shares))) refuting.weights_are (fold system.case system.shows)
+    made : each (share_fold system.case sides (named_sides lts class problem sides)) (weights_from refuting.multiplier 0 (length (node_system (rows_of system.case) system.case.forms sides).rows)) (Ok (map share_of shares))
+    made = subst (λ ws. each (share_fold system.case sides (named_sides lts class problem sides)) ws (Ok (map share_of shares))) refuting.weights_are (shares_named c named system sides weights (Ok (map share_of shares)) fold system.case system.shows)
 
 -- ---- the leaf that is made
 
-pub leaf_made : (c : CaseSetting) (named : NamedSystem) (sides : List SplitSide) (above : List Side) (weights : List Weight) (shares : List Share) (n : reasons.TreeNode) → above ≡ named_sides c.setting.lts.now c.setting.class sides → SharesFold named sides weights (Ok shares)
+pub leaf_made : (c : CaseSetting) (named : NamedSystem) (sides : List SplitSide) (above : List Side) (weights : List Weight) (shares : List Share) (n : reasons.TreeNode) → IsNamedSystem c named → above ≡ named_sides c.setting.lts.now c.setting.class c.problem sides → SharesFold named sides weights (Ok shares)
     → IsLeafWith (λ rows. leaf_fold c.setting.lts.now c.setting.tree.now.arcs (cycle_of c.setting.basis.now) (row_expression c.setting.lts.now c.setting.class c.problem c.number above) shares (Ok rows)) n
     → IsLeafWith (LeafRefutes (RowStands c.setting.lts.now c.setting.class c.problem c.number above) (row_expression c.setting.lts.now c.setting.class c.problem c.number above)) n → IsMadeOf c named sides (leaf_node weights) n
-leaf_made c named sides above weights shares (made_leaf rows) e fold leaf is = record {
+leaf_made c named sides above weights shares (made_leaf rows) system e fold leaf is = record {
   refutes = subst (λ ss. LeafRefutes (RowStands c.setting.lts.now c.setting.class c.problem c.number ss) (row_expression c.setting.lts.now c.setting.class c.problem c.number ss) rows) e is;
-  spreads = λ case shows. (shares, fold case shows, subst (λ ss. leaf_fold c.setting.lts.now c.setting.tree.now.arcs (cycle_of c.setting.basis.now) (row_expression c.setting.lts.now c.setting.class c.problem c.number ss) shares (Ok rows)) e leaf);
+  spreads = λ case shows. (shares, shares_named c named system sides weights (Ok shares) fold case shows, subst (λ ss. leaf_fold c.setting.lts.now c.setting.tree.now.arcs (cycle_of c.setting.basis.now) (row_expression c.setting.lts.now c.setting.class c.problem c.number ss) shares (Ok rows)) e leaf);
 }
-leaf_made c named sides above weights shares (made_split form at) e fold leaf is = absurd is
+leaf_made c named sides above weights shares (made_split form at) system e fold leaf is = absurd is
 
 -- ---- the split that is made
 
@@ -167,15 +165,16 @@ lows_of : (lts : System) (arcs : List Arc) (basis : CycleBasis) (class : Class) 
 lows_of lts arcs basis class [] forms e = subst (All (λ (f : Form). negsuc 0 ≤ℤ f.low)) (let s : [] ≡ forms = cc in s) (All-nil (λ (f : Form). negsuc 0 ≤ℤ f.low))
 lows_of lts arcs basis class (s ∷ splits) forms (x, (scaled, made, is), (more, rest, e)) =
     subst (All (λ (f : Form). negsuc 0 ≤ℤ f.low)) (let t : (x ∷ more) ≡ forms = cc in t)
-    (All-cons (λ (f : Form). negsuc 0 ≤ℤ f.low) x more (subst (λ (z : ℤ). negsuc 0 ≤ℤ z) (let t : form_low class ≡ x.low = (let u = is in cc) in t) (low class.bound)) (lows_of lts arcs basis class splits more rest))
+    (All-cons (λ (f : Form). negsuc 0 ≤ℤ f.low) x more (subst (λ (z : ℤ). negsuc 0 ≤ℤ z) (let t : form_low s ≡ x.low = (let u = is in cc) in t) (low s)) (lows_of lts arcs basis class splits more rest))
   where
-    low : (o : Option ℕ) → negsuc 0 ≤ℤ (if is_some o then pos 0 else negsuc 0)
-    low None = omega (arith, ints)
-    low (Some k) = omega (arith, ints)
+    low : (split : SplitForm) → negsuc 0 ≤ℤ form_low split
+    low (on_tokens q) = omega (arith, ints)
+    low (on_effect t) = omega (arith, ints)
+    low on_start = omega (arith, ints)
 
 pub split_fits : (c : CaseSetting) (named : NamedSystem) (f : ℕ) (u : ℤ) (d : NamedForm) → IsNamedSystem c named → f < length (forms_in named) → (form_at (forms_in named) f).low ≤ℤ u → FitsSigned w64 u → IsNodeOf c.setting.lts.now (made_split (form_of (get_or named.forms.items f d).form) u)
 split_fits c named f u d system lt le fits = (
-  subst (IsFormOf c.setting.lts.now) (ap (λ fs. get_or fs f (on_tokens 0)) (sym system.by_name) ∙ get_or-map split_of named.forms.items f d (on_tokens 0) within) (forms_of_system c.setting.lts.now c.setting.class f (on_tokens 0) (let e = sym (length-map named.forms.items split_of) ∙ ap length system.by_name in let w = within in omega arith)),
+  subst (IsFormOf c.setting.lts.now) (ap (λ fs. get_or fs f (on_tokens 0)) (sym system.by_name) ∙ get_or-map split_of named.forms.items f d (on_tokens 0) within) (forms_of_system c.setting.lts.now c.setting.class c.problem f (on_tokens 0) (let e = sym (length-map named.forms.items split_of) ∙ ap length system.by_name in let w = within in omega arith)),
   above u fits (let l = least in omega (arith, ints)),
 )
   where
@@ -183,7 +182,7 @@ split_fits c named f u d system lt le fits = (
     within = let e = length-map named.forms.items linear_form in omega arith
 
     all : All (λ g. negsuc 0 ≤ℤ g.low) system.case.forms
-    all = let (rows, rows_made, (forms, forms_made, (columns, keeps, form_list))) = system.made in subst (All (λ (g : Form). negsuc 0 ≤ℤ g.low)) (sym form_list) (lows_of c.setting.lts.now c.setting.tree.now.arcs (cycle_of c.setting.basis.now) c.setting.class (split_forms c.setting.lts.now c.setting.class) forms forms_made)
+    all = let (rows, rows_made, (forms, forms_made, (columns, keeps, form_list))) = system.made in subst (All (λ (g : Form). negsuc 0 ≤ℤ g.low)) (sym form_list) (lows_of c.setting.lts.now c.setting.tree.now.arcs (cycle_of c.setting.basis.now) c.setting.class (split_forms c.setting.lts.now c.setting.class c.problem) forms forms_made)
 
     least : negsuc 0 ≤ℤ (form_at (forms_in named) f).low
     least = subst (All (λ (g : Form). negsuc 0 ≤ℤ g.low)) (sym system.shows.forms) all f (record { scale = pos 1; coeffs = []; low = pos 0; high = pos 0 }) lt

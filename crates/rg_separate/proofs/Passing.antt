@@ -23,7 +23,7 @@ use Rattle.rg_separate.specs.Casing.{IsCase, IsNamedSystem, forms_in}
 use Rattle.rg_separate.specs.Passing.{passed_at, pivot_at, cycle_passed}
 
 -- the term that an exchange of the case's descent shows
-pub pivot_shown : (c : CaseSetting) (named : NamedSystem) (sides : List SplitSide) (members : List ℕ) (at : PivotWide) → IsCase c → IsNamedSystem c named → Branching named.system (forms_in named) (stopped sides (wide_at members at)) → PivotShown c.setting.lts.now c.setting.class (pivot_at c (named_sides c.setting.lts.now c.setting.class sides) members at)
+pub pivot_shown : (c : CaseSetting) (named : NamedSystem) (sides : List SplitSide) (members : List ℕ) (at : PivotWide) → IsCase c → IsNamedSystem c named → Branching named.system (forms_in named) (stopped sides (wide_at members at)) → PivotShown c.setting.lts.now c.setting.class (pivot_at c (named_sides c.setting.lts.now c.setting.class c.problem sides) members at)
 pivot_shown c named sides members at is system stops = record {
   case = system.case;
   of_case = record {
@@ -43,7 +43,7 @@ pivot_shown c named sides members at is system stops = record {
 }
 
 -- the case comes to that term
-pub pivot_comes : (c : CaseSetting) (named : NamedSystem) (sides : List SplitSide) (at : WideAt) → (system : IsNamedSystem c named) → Branching named.system (forms_in named) (stopped sides at) → CaseComes c.setting.lts.now c.setting.tree.now.arcs (cycle_of c.setting.basis.now) c.setting.class c.problem c.number (passes (term_at c.problem c.number (named_sides c.setting.lts.now c.setting.class sides) at))
+pub pivot_comes : (c : CaseSetting) (named : NamedSystem) (sides : List SplitSide) (at : WideAt) → (system : IsNamedSystem c named) → Branching named.system (forms_in named) (stopped sides at) → CaseComes c.setting.lts.now c.setting.tree.now.arcs (cycle_of c.setting.basis.now) c.setting.class c.problem c.number (passes (term_at c.problem c.number (named_sides c.setting.lts.now c.setting.class c.problem sides) at))
 pivot_comes c named sides at system stops = pivot_passes system.case sides at system.made (subst (λ s. Branching s system.case.forms (stopped sides at)) system.shows.system (subst (λ fs. Branching named.system fs (stopped sides at)) system.shows.forms stops))
 
 -- the step that the rows of the case show

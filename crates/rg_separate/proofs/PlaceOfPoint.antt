@@ -50,6 +50,7 @@ case_over c named is system = record {
   is_tree = is.setting.tree.tree;
   is_basis = is.setting.basis;
   asked = asked c.setting.lts.now c.problem is.has;
+  numbers = is.setting.bound;
   is_case = system.made;
 }
 
@@ -101,11 +102,11 @@ module _ (c : CaseSetting) (named : NamedSystem) (sides : List SplitSide) (point
   pub place_comes : (p : Place) → place_fold c.setting.lts.now c.setting.tree.now.arcs (cycle_of c.setting.basis.now) c.setting.class c.problem (point_start c.setting.class point) (point_value c.setting.lts.now (cycle_of c.setting.basis.now) c.setting.class point) (Ok p) → CaseComes c.setting.lts.now c.setting.tree.now.arcs (cycle_of c.setting.basis.now) c.setting.class c.problem c.number (makes p)
   place_comes p fold = place_is_made system.case at.members sides (point_start c.setting.class point) (point_value c.setting.lts.now (cycle_of c.setting.basis.now) c.setting.class point) p system.made case_found case_point fold
 
-  pub place_fails : (w : Wide) → place_fold c.setting.lts.now c.setting.tree.now.arcs (cycle_of c.setting.basis.now) c.setting.class c.problem (point_start c.setting.class point) (point_value c.setting.lts.now (cycle_of c.setting.basis.now) c.setting.class point) (Err w) → CaseComes c.setting.lts.now c.setting.tree.now.arcs (cycle_of c.setting.basis.now) c.setting.class c.problem c.number (passes (passed_at PlaceStage c (named_sides c.setting.lts.now c.setting.class sides) w))
+  pub place_fails : (w : Wide) → place_fold c.setting.lts.now c.setting.tree.now.arcs (cycle_of c.setting.basis.now) c.setting.class c.problem (point_start c.setting.class point) (point_value c.setting.lts.now (cycle_of c.setting.basis.now) c.setting.class point) (Err w) → CaseComes c.setting.lts.now c.setting.tree.now.arcs (cycle_of c.setting.basis.now) c.setting.class c.problem c.number (passes (passed_at PlaceStage c (named_sides c.setting.lts.now c.setting.class c.problem sides) w))
   place_fails w fold = place_passes system.case at.members sides (point_start c.setting.class point) (point_value c.setting.lts.now (cycle_of c.setting.basis.now) c.setting.class point) w system.made case_found case_point fold
 
 -- the step that the place of the point shows
-pub place_shown : (c : CaseSetting) (named : NamedSystem) (sides : List SplitSide) (fractions : List Fraction) (w : Wide) → IsCase c → IsNamedSystem c named → IsFoundPoint named.system (forms_in named) sides fractions → place_fold c.setting.lts.now c.setting.tree.now.arcs (cycle_of c.setting.basis.now) c.setting.class c.problem (point_start c.setting.class fractions) (point_value c.setting.lts.now (cycle_of c.setting.basis.now) c.setting.class fractions) (Err w) → PlaceShown c.setting.lts.now c.setting.class (passed_at PlaceStage c (named_sides c.setting.lts.now c.setting.class sides) w)
+pub place_shown : (c : CaseSetting) (named : NamedSystem) (sides : List SplitSide) (fractions : List Fraction) (w : Wide) → IsCase c → IsNamedSystem c named → IsFoundPoint named.system (forms_in named) sides fractions → place_fold c.setting.lts.now c.setting.tree.now.arcs (cycle_of c.setting.basis.now) c.setting.class c.problem (point_start c.setting.class fractions) (point_value c.setting.lts.now (cycle_of c.setting.basis.now) c.setting.class fractions) (Err w) → PlaceShown c.setting.lts.now c.setting.class (passed_at PlaceStage c (named_sides c.setting.lts.now c.setting.class c.problem sides) w)
 place_shown c named sides fractions w is system at fails = record {
   case = system.case;
   of_case = record {

@@ -9,7 +9,7 @@ use Rattle.rg_theory.specs.declared.Class.{Class}
 use Rattle.rg_theory.specs.declared.Problem.{Problem}
 use Rattle.rg_theory.specs.declared.Problem.TheVariants.{Event, States}
 use Rattle.rg_theory.specs.Problem.{IsProblem}
-use Rattle.rg_theory.specs.ClassWords.{HasBoundInRange}
+use Rattle.rg_theory.specs.ClassWords.{HasNumbersInRange}
 use Rattle.rg_theory.proofs.Arcs.{arc_in_range}
 use Rattle.rg_refuting.specs.Row.{cases_of}
 use Rattle.rg_refuting.specs.Refutes.{Tree, TreeRefutes}
@@ -52,7 +52,7 @@ each_case lts class problem cases all i t e =
     let (case, at, is) = tree_at cases i t e in
     subst (TreeRefutes lts class problem i []) is (all i case at).refutes
 
-pub refuted_all : (lts : System) (class : Class) (s s' : ℕ) (cases : Vec Case Global) → IsInRange lts → IsAllReachable lts → HasBoundInRange class → IsProblem lts (States s s') → length cases.items ≡ cases_of lts class (States s s') → ((i : ℕ) (case : Case) → slice_get cases.items i ≡ Some case → RefutesCase lts class (States s s') i case) → IsGoodReason lts class (reason.States s s' cases)
+pub refuted_all : (lts : System) (class : Class) (s s' : ℕ) (cases : Vec Case Global) → IsInRange lts → IsAllReachable lts → HasNumbersInRange class → IsProblem lts (States s s') → length cases.items ≡ cases_of lts class (States s s') → ((i : ℕ) (case : Case) → slice_get cases.items i ≡ Some case → RefutesCase lts class (States s s') i case) → IsGoodReason lts class (reason.States s s' cases)
 refuted_all lts class s s' cases fine reachable bounded (less, lt) count all =
     let below : s < states lts = omega arith in
     record {
@@ -66,7 +66,7 @@ refuted_all lts class s s' cases fine reachable bounded (less, lt) count all =
         whole = λ k d lt'. (all k (get_or cases.items k d) (slice_get-get_or cases.items k d lt')).whole;
         claim = record {
           reason = (below, lt, All-map (IsTreeOf lts) case_tree cases.items (λ k d lt'. (all k (get_or cases.items k d) (slice_get-get_or cases.items k d lt')).in_range));
-          bound = bounded;
+          numbers = bounded;
         };
       };
     }
@@ -75,7 +75,7 @@ one_tree : (lts : System) (class : Class) (problem : Problem) (case : Case) → 
 one_tree lts class problem case is zero t e = subst (TreeRefutes lts class problem 0 []) (let f : case_tree case ≡ t = cc in f) is.refutes
 one_tree lts class problem case is (suc i) t e = absurd cc
 
-pub refuted_one : (lts : System) (class : Class) (s t : ℕ) (case : Case) → HasBoundInRange class → IsProblem lts (Event s t) → RefutesCase lts class (Event s t) 0 case → IsGoodReason lts class (reason.Event s t case)
+pub refuted_one : (lts : System) (class : Class) (s t : ℕ) (case : Case) → HasNumbersInRange class → IsProblem lts (Event s t) → RefutesCase lts class (Event s t) 0 case → IsGoodReason lts class (reason.Event s t case)
 refuted_one lts class s t case bounded asked is =
     record {
       holds = record { asked = asked; cases = refl; some = omega arith; each = one_tree lts class (Event s t) case is };
@@ -83,7 +83,7 @@ refuted_one lts class s t case bounded asked is =
         whole = is.whole;
         claim = record {
           reason = (asked.0, asked.1, refl, one_in_range);
-          bound = bounded;
+          numbers = bounded;
         };
       };
     }

@@ -4,6 +4,7 @@ use Rattle.std.proofs.lemmas.List.{length-map, get_or-map}
 use Rattle.std.proofs.lemmas.List.Elements.{All-map}
 use Rattle.rg_theory.specs.System.{System, labels, IsInRange, IsAllReachable}
 use Rattle.rg_theory.specs.declared.Class.{Class}
+use Rattle.rg_theory.specs.ClassWords.{HasNumbersInRange}
 use Rattle.rg_theory.specs.Problem.{SeparateAll}
 use Rattle.rg_theory.proofs.Yes.{region_unique}
 use Rattle.rg_net.specs.Range.{IsPlaceInRange}
@@ -27,8 +28,8 @@ narrow lts class p reachable kept (m, region) = record {
 }
 
 -- the places with which the search ends are regions that separate all problems
-pub separating : (lts : System) (class : Class) (kept : List PlaceOfCode) (separated : Separated) → IsInRange lts → AreKept lts kept separated → length kept < 4294967296 → Searched lts class (places (map shown_place kept)) → AreSeparating lts class (map shown_place kept)
-separating lts class kept separated fine are few searched = record {
+pub separating : (lts : System) (class : Class) (kept : List PlaceOfCode) (separated : Separated) → IsInRange lts → HasNumbersInRange class → AreKept lts kept separated → length kept < 4294967296 → Searched lts class (places (map shown_place kept)) → AreSeparating lts class (map shown_place kept)
+separating lts class kept separated fine numbers are few searched = record {
   regions = All-map (IsNarrowRegion lts class) shown_place kept (λ i d lt. narrow lts class (get_or kept i d) are.reachable (are.each i d lt) (subst (IsRegionIn lts class) (get_or-map shown_place kept i d (shown_place d) lt) (right.0 i (shown_place d) (let l = length-map kept shown_place in omega arith))));
   in_range = record {
     weights = All-map (λ p. (length p.pre ≡ labels lts) × (length p.post ≡ labels lts)) shown_place kept (λ i d lt. ((are.each i d lt).narrow.pre, (are.each i d lt).narrow.post));
@@ -39,4 +40,4 @@ separating lts class kept separated fine are few searched = record {
 }
   where
     right : All (IsRegionIn lts class) (map shown_place kept) × SeparateAll (map shown_place kept) lts
-    right = search_right lts class fine are.reachable (places (map shown_place kept)) searched
+    right = search_right lts class fine numbers are.reachable (places (map shown_place kept)) searched

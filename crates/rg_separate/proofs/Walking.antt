@@ -1,15 +1,19 @@
 -- The nodes that are made on the way through a tree, and the tree that they are.
-use Rattle.std.proofs.Common.{◌≡◌, ◌⊎◌, inl, inr, ⊎_elim, ℕ, suc, ◌+◌, ◌<◌, ◌≤◌, Bool, true, false, List, [], ◌∷◌, ◌++◌, map, length, length-append, get_or, append_assoc, append-nil, All, Ok, Err, refl, ap, ap₂, sym, subst, ◌∙◌, arith}
+use Rattle.std.proofs.Common.{◌≡◌, ◌⊎◌, inl, inr, ⊎_elim, ℕ, zero, suc, ◌+◌, ◌<◌, ◌≤◌, Bool, true, false, List, [], ◌∷◌, ◌++◌, map, length, length-append, get_or, append_assoc, append-nil, All, Ok, Err, refl, ap, ap₂, sym, subst, ◌∙◌, arith}
 use Rattle.std.specs.Prelude.{ℤ, slice_index_or}
-use Rattle.std.proofs.lemmas.List.{map-append, length-map}
+use Rattle.std.proofs.lemmas.List.{map-append, length-map, get_or_default}
 use Rattle.std.proofs.Math.Seq.{get_or-append_seam}
-use Rattle.std.proofs.lemmas.List.Elements.{All-nil, All-push}
-use Rattle.rg_refuting.specs.Row.{Form as SplitForm, Form.on_tokens, Side}
+use Rattle.std.proofs.lemmas.List.Elements.{All-nil, All-push, All-head, All-tail}
+use Rattle.rg_refuting.specs.Row.{Form as SplitForm, Form.on_tokens, Form.on_effect, Form.on_start, FormStands, Side}
+use Rattle.rg_theory.specs.System.{System}
+use Rattle.rg_theory.specs.declared.Class.{Class}
+use Rattle.rg_theory.specs.declared.Problem.{Problem}
 use Rattle.rg_refuting.specs.Refutes.{Tree, Tree.leaf as leaf_of, Tree.split as split_of, TreeRefutes}
 use Rattle.rg_fraction.specs.declared.term.Wide.{Wide}
 use Rattle.rg_linear.specs.Branching.{SplitSide, Weight, SplitTree, SplitTree.leaf, SplitTree.split, low_side, high_side, BranchOutcome.tree, Branching, AreBounded}
 use Rattle.rg_linear.specs.Room.{room}
 use Rattle.rg_order_of_work.specs.Rewriting.{split_forms, CaseSystem, rows_of}
+use Rattle.rg_order_of_work.proofs.Forms.{IsSplitOf, split_is, start_split}
 use Rattle.rg_order_of_work.specs.Shown.{HasLeaf, named_side, named_sides}
 use Rattle.rg_reasons.specs.declared.certificate.Case.{Case}
 use Rattle.rg_reasons.specs.Trees as reasons
@@ -29,6 +33,21 @@ use Rattle.rg_separate.specs.Casing.{IsNamedSystem, forms_in, Visit, visits, nex
 use Rattle.rg_separate.specs.Passing.{passed_at}
 use Rattle.rg_separate.specs.Deciding.{RefutesCase, CaseComesTo}
 use Rattle.rg_separate.proofs.Visits.{Follows, tree_follows, nodes_visited, IsLeafOf, leaves_visited, visits_stand}
+
+-- ---- the form of a split stands in the class
+
+held_or : (P : SplitForm → Type 0) (xs : List SplitForm) (f : ℕ) (d : SplitForm) → All P xs → P d → P (slice_index_or xs f d)
+held_or P [] f d all h = h
+held_or P (x ∷ xs) zero d all h = All-head P x xs all
+held_or P (x ∷ xs) (suc f) d all h = held_or P xs f d (All-tail P x xs all) h
+
+pub form_stands : (lts : System) (class : Class) (problem : Problem) (f : ℕ) → FormStands class (slice_index_or (split_forms lts class problem) f (on_tokens 0))
+form_stands lts class problem f = held_or (FormStands class) (split_forms lts class problem) f (on_tokens 0) (λ i d lt. by (get_or (split_forms lts class problem) i d) (split_is lts class problem (get_or (split_forms lts class problem) i d) (i, lt, get_or_default (split_forms lts class problem) i (get_or (split_forms lts class problem) i d) d lt))) tt
+  where
+    by : (split : SplitForm) → IsSplitOf lts class problem split → FormStands class split
+    by (on_tokens q) h = tt
+    by (on_effect t) h = tt
+    by on_start splits = (start_split class problem splits).0
 
 -- ---- nodes beside the visits of which they are made
 
@@ -57,7 +76,7 @@ module _ (c : CaseSetting) (named : NamedSystem) where
   pub record IsTreeMade (above : List SplitSide) (t : SplitTree) (nodes : List reasons.TreeNode) : Type 0 where
     pub made : Tree
     pub nodes_are : nodes ≡ reasons.preorder made
-    pub refutes : TreeRefutes c.setting.lts.now c.setting.class c.problem c.number (named_sides c.setting.lts.now c.setting.class above) made
+    pub refutes : TreeRefutes c.setting.lts.now c.setting.class c.problem c.number (named_sides c.setting.lts.now c.setting.class c.problem above) made
     pub spreads : (case : CaseSystem) → ShowsCase named case → spread_tree c.setting.lts.now c.setting.tree.now.arcs (cycle_of c.setting.basis.now) c.setting.class c.problem c.number case above t (Ok made)
 
   pub tree_made : (above : List SplitSide) (t : SplitTree) (nodes : List reasons.TreeNode) → AreMadeOf (visits above t) nodes → IsTreeMade above t nodes
@@ -75,22 +94,23 @@ module _ (c : CaseSetting) (named : NamedSystem) where
         made = split_of form at one.made two.made;
         nodes_are = ap (λ ns. made_split form at ∷ ns) (e ∙ ap₂ (λ xs ys. xs ++ ys) one.nodes_are two.nodes_are);
         refutes = (
+          subst (FormStands c.setting.class) (sym by_name) (form_stands c.setting.lts.now c.setting.class c.problem f),
           subst (λ sides. TreeRefutes c.setting.lts.now c.setting.class c.problem c.number sides one.made) (below (low_side f u) false by_name number_is refl refl refl) one.refutes,
           subst (λ sides. TreeRefutes c.setting.lts.now c.setting.class c.problem c.number sides two.made) (below (high_side f u) true by_name number_is refl refl refl) two.refutes,
         );
         spreads = λ case shows. (one.made, two.made, one.spreads case shows, two.spreads case shows, ap₂ (λ g z. split_of g z one.made two.made) by_name number_is);
       }
     where
-      below : (side : SplitSide) (is_high : Bool) → form ≡ slice_index_or (split_forms c.setting.lts.now c.setting.class) f (on_tokens 0) → at ≡ u → side.form ≡ f → side.at ≡ u → side.high ≡ is_high → named_sides c.setting.lts.now c.setting.class (above ++ side ∷ []) ≡ named_sides c.setting.lts.now c.setting.class above ++ record { form = form; at = at; high = is_high } ∷ []
+      below : (side : SplitSide) (is_high : Bool) → form ≡ slice_index_or (split_forms c.setting.lts.now c.setting.class c.problem) f (on_tokens 0) → at ≡ u → side.form ≡ f → side.at ≡ u → side.high ≡ is_high → named_sides c.setting.lts.now c.setting.class c.problem (above ++ side ∷ []) ≡ named_sides c.setting.lts.now c.setting.class c.problem above ++ record { form = form; at = at; high = is_high } ∷ []
       below side is_high by_name number_is e g h =
-          map-append (named_side c.setting.lts.now c.setting.class) above (side ∷ [])
-          ∙ ap (λ side'. named_sides c.setting.lts.now c.setting.class above ++ side' ∷ []) (same side.form side.at side.high e g h)
+          map-append (named_side c.setting.lts.now c.setting.class c.problem) above (side ∷ [])
+          ∙ ap (λ side'. named_sides c.setting.lts.now c.setting.class c.problem above ++ side' ∷ []) (same side.form side.at side.high e g h)
         where
           side_by : SplitForm → ℤ → Bool → Side
           side_by form at high = record { form = form; at = at; high = high }
 
-          same : (x : ℕ) (y : ℤ) (z : Bool) → x ≡ f → y ≡ u → z ≡ is_high → side_by (slice_index_or (split_forms c.setting.lts.now c.setting.class) x (on_tokens 0)) y z ≡ side_by form at is_high
-          same x y z e g h = ap (λ k. side_by (slice_index_or (split_forms c.setting.lts.now c.setting.class) k (on_tokens 0)) y z) e ∙ ap (λ g. side_by g y z) (sym by_name) ∙ ap (λ k. side_by form k z) (g ∙ sym number_is) ∙ ap (side_by form at) h
+          same : (x : ℕ) (y : ℤ) (z : Bool) → x ≡ f → y ≡ u → z ≡ is_high → side_by (slice_index_or (split_forms c.setting.lts.now c.setting.class c.problem) x (on_tokens 0)) y z ≡ side_by form at is_high
+          same x y z e g h = ap (λ k. side_by (slice_index_or (split_forms c.setting.lts.now c.setting.class c.problem) k (on_tokens 0)) y z) e ∙ ap (λ g. side_by g y z) (sym by_name) ∙ ap (λ k. side_by form k z) (g ∙ sym number_is) ∙ ap (side_by form at) h
 
   -- ---- the first leaf that passes
 
@@ -251,5 +271,5 @@ module _ (c : CaseSetting) (named : NamedSystem) (system : IsNamedSystem c named
       is_refuted system.case w.whole (case_tree case) system.made (case_branching w.whole w.outcome)
       (subst (λ t. spread_tree c.setting.lts.now c.setting.tree.now.arcs (cycle_of c.setting.basis.now) c.setting.class c.problem c.number system.case [] w.whole (Ok t)) (sym same) (end.spreads system.case system.shows))
 
-  pub walk_passes : (made : List reasons.TreeNode) (n : TreeNode) (wide : Wide) → IsWalk c named nodes i above made → i < length nodes → get_or nodes i n ≡ n → LeafPasses c named above n wide → CaseComes c.setting.lts.now c.setting.tree.now.arcs (cycle_of c.setting.basis.now) c.setting.class c.problem c.number (passes (passed_at Spread c (named_sides c.setting.lts.now c.setting.class above) wide))
+  pub walk_passes : (made : List reasons.TreeNode) (n : TreeNode) (wide : Wide) → IsWalk c named nodes i above made → i < length nodes → get_or nodes i n ≡ n → LeafPasses c named above n wide → CaseComes c.setting.lts.now c.setting.tree.now.arcs (cycle_of c.setting.basis.now) c.setting.class c.problem c.number (passes (passed_at Spread c (named_sides c.setting.lts.now c.setting.class c.problem above) wide))
   walk_passes made n wide w lt here fails = leaf_passes system.case w.whole (record { above = above; wide = wide }) system.made (case_branching w.whole w.outcome) (walk_fails c named nodes i above made w n wide lt here fails system.case system.shows)

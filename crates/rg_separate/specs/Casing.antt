@@ -38,7 +38,7 @@ pub record IsNamedSystem (c : CaseSetting) (named : NamedSystem) : Type 0 where
   pub case : CaseSystem
   pub made : system_fold c.setting.lts.now c.setting.tree.now.arcs (cycle_of c.setting.basis.now) c.setting.class c.problem c.number (Ok case)
   pub shows : ShowsCase named case
-  pub by_name : map split_of named.forms.items ≡ split_forms c.setting.lts.now c.setting.class
+  pub by_name : map split_of named.forms.items ≡ split_forms c.setting.lts.now c.setting.class c.problem
   pub forms : AreFormsOf named.system named.forms.items
 
 -- ---- the way through a tree of splits
@@ -84,21 +84,21 @@ sides_among forms sides = map (λ side. record { form = slice_index_or forms sid
 
 -- the rows refute the case below the sides, and are the leaf of the weights
 pub record IsLeafMade (c : CaseSetting) (named : NamedSystem) (above : List SplitSide) (weights : List Weight) (rows : List NamedRow) : Type 0 where
-  pub refutes : LeafRefutes (RowStands c.setting.lts.now c.setting.class c.problem c.number (named_sides c.setting.lts.now c.setting.class above)) (row_expression c.setting.lts.now c.setting.class c.problem c.number (named_sides c.setting.lts.now c.setting.class above)) rows
-  pub spreads : (case : CaseSystem) → ShowsCase named case → spread_fold c.setting.lts.now c.setting.tree.now.arcs (cycle_of c.setting.basis.now) c.setting.class c.problem c.number case above (named_sides c.setting.lts.now c.setting.class above) weights (Ok rows)
+  pub refutes : LeafRefutes (RowStands c.setting.lts.now c.setting.class c.problem c.number (named_sides c.setting.lts.now c.setting.class c.problem above)) (row_expression c.setting.lts.now c.setting.class c.problem c.number (named_sides c.setting.lts.now c.setting.class c.problem above)) rows
+  pub spreads : (case : CaseSystem) → ShowsCase named case → spread_fold c.setting.lts.now c.setting.tree.now.arcs (cycle_of c.setting.basis.now) c.setting.class c.problem c.number case above (named_sides c.setting.lts.now c.setting.class c.problem above) weights (Ok rows)
 
 -- the leaf is made; the split has its form's name
 abbrev pub IsMadeOf : CaseSetting → NamedSystem → List SplitSide → TreeNode → reasons.TreeNode → Type 0
 IsMadeOf c named above (leaf_node weights) (made_leaf rows) = IsLeafMade c named above weights rows
 IsMadeOf c named above (leaf_node weights) (made_split form at) = ⊥
 IsMadeOf c named above (split_node f u) (made_leaf rows) = ⊥
-IsMadeOf c named above (split_node f u) (made_split form at) = (form ≡ slice_index_or (split_forms c.setting.lts.now c.setting.class) f (on_tokens 0)) × (at ≡ u)
+IsMadeOf c named above (split_node f u) (made_split form at) = (form ≡ slice_index_or (split_forms c.setting.lts.now c.setting.class c.problem) f (on_tokens 0)) × (at ≡ u)
 
 -- the shares of the weights below the sides: the fold's result
 abbrev pub SharesFold : NamedSystem → List SplitSide → List Weight → Result (List Share) Wide → Type 0
-SharesFold named above weights result = (case : CaseSystem) → ShowsCase named case → each (share_fold case above) weights result
+SharesFold named above weights result = (case : CaseSystem) → ShowsCase named case → each (share_fold case above (sides_among (map split_of named.forms.items) above)) weights result
 
 -- the first step of a leaf out of range
 abbrev pub LeafPasses : CaseSetting → NamedSystem → List SplitSide → TreeNode → Wide → Type 0
-LeafPasses c named above (leaf_node weights) w = (case : CaseSystem) → ShowsCase named case → spread_fold c.setting.lts.now c.setting.tree.now.arcs (cycle_of c.setting.basis.now) c.setting.class c.problem c.number case above (named_sides c.setting.lts.now c.setting.class above) weights (Err w)
+LeafPasses c named above (leaf_node weights) w = (case : CaseSystem) → ShowsCase named case → spread_fold c.setting.lts.now c.setting.tree.now.arcs (cycle_of c.setting.basis.now) c.setting.class c.problem c.number case above (named_sides c.setting.lts.now c.setting.class c.problem above) weights (Err w)
 LeafPasses c named above (split_node f u) w = ⊥

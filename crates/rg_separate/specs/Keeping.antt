@@ -2,7 +2,7 @@
 use Rattle.std.specs.Prelude.{◌≡◌, List, map, All}
 use Rattle.rg_theory.specs.System.{System, labels, IsInRange, IsAllReachable}
 use Rattle.rg_theory.specs.declared.Class.{Class}
-use Rattle.rg_theory.specs.ClassWords.{HasBoundInRange}
+use Rattle.rg_theory.specs.ClassWords.{HasNumbersInRange}
 use Rattle.rg_net.specs.declared.net.Place.{Place}
 use Rattle.rg_net.specs.Range.{IsPlaceInRange}
 use Rattle.rg_net.specs.Shown.{shown_place}
@@ -25,7 +25,7 @@ pub record IsSetting (s : Setting) : Type 0 where
   pub tree : IsTreeOf s.lts.now s.tree.now
   pub labels : labels_of s.basis.now ≡ labels s.lts.now
   pub basis : IsBasis s.lts.now s.tree.now.arcs (cycle_of s.basis.now)
-  pub bound : HasBoundInRange s.class
+  pub bound : HasNumbersInRange s.class
   pub common : IsCommonOf s.lts.now s.tree.now.arcs (cycle_of s.basis.now) s.class s.common.now
 
 -- the place is a region, of some class, and its numbers fit

@@ -4,7 +4,7 @@ ghost use Rattle.rg_refuting.specs.Row.{cases_of};
 ghost use Rattle.rg_refuting.specs.Refutes.{Reason.refuted};
 ghost use Rattle.rg_reasons.specs.declared.certificate.Case.{Case};
 ghost use Rattle.rg_reasons.specs.Certificates.{case_tree, reason_of};
-ghost use Rattle.rg_theory.specs.ClassWords.{HasBoundInRange};
+ghost use Rattle.rg_theory.specs.ClassWords.{HasNumbersInRange};
 ghost use Rattle.rg_theory.specs.System.{IsAllReachable};
 ghost use Rattle.rg_theory.specs.Problem.{IsProblem};
 ghost use Rattle.rg_order_of_work.specs.Shown.{IsLive};
@@ -119,7 +119,7 @@ fn without_place(setting: Setting<'_>, problem: Problem, tried: Tried) -> Proble
 
 // The reason that these trees give.
 fn reason(lts: &Lts, class: Class, problem: Problem, cases: Vec<Case>) -> Reason
-    requires bound { HasBoundInRange class }
+    requires bound { HasNumbersInRange class }
     requires reachable { IsAllReachable lts.now }
     requires has { IsProblem lts.now problem }
     requires all { length cases.items ≡ cases_of lts.now class problem }

@@ -1,6 +1,6 @@
 //! The order of work.
 ghost use Rattle.std.specs.Prelude.{◌≡◌, ◌≤◌, map, IfOk};
-ghost use Rattle.rg_theory.specs.ClassWords.{HasBoundInRange};
+ghost use Rattle.rg_theory.specs.ClassWords.{HasNumbersInRange};
 ghost use Rattle.rg_theory.specs.System.{IsAllReachable};
 ghost use Rattle.rg_net.specs.Shown.{shown_place};
 ghost use Rattle.rg_order_of_work.specs.Shown.{ShownWide};
@@ -63,7 +63,7 @@ pub fn separate<R: Threads + Sync, G: Gate + Sync>(
     gate: &G,
 ) -> Result<Separation, NoMemory>
     requires reachable { IsAllReachable lts.now }
-    requires bound { HasBoundInRange class }
+    requires bound { HasNumbersInRange class }
     requires some { 1 ≤ jobs }
     ensures searched { IfOk result (IsSearched lts.now class) }
     ensures places { IfOk result (λ s. IfPlaces s (λ places. AreSeparating lts.now class (map shown_place places))) }

@@ -3,18 +3,19 @@ ghost use Rattle.std.specs.Prelude.{◌≡◌, ◌+◌, ◌<◌, ◌≤ℤ◌, p
 ghost use Rattle.rg_fraction.specs.declared.term.Wide.{Wide};
 ghost use Rattle.rg_fraction.specs.declared.fold_stop.FoldStop.TheVariants as stop;
 ghost use Rattle.rg_integers.specs.Range.{InRange};
-ghost use Rattle.rg_order_of_work.specs.Fold.{ratio_of, shown_result};
+ghost use Rattle.rg_order_of_work.specs.Fold.{whole, ratio_of, shown_result};
 ghost use Rattle.rg_order_of_work.specs.Rewriting.{CaseSystem};
-ghost use Rattle.rg_order_of_work.specs.Spreading.{share_fold, name_of, factor_of};
+ghost use Rattle.rg_order_of_work.specs.Spreading.{share_fold, name_of, split_factor, factor_of};
 ghost use Rattle.rg_reasons.specs.Trees.{row_name_of};
 ghost use Rattle.rg_branch.specs.View.{sides_of, weight_of};
+ghost use Rattle.rg_rows.specs.Forms.{linear_form, split_of};
 ghost use Rattle.rg_rows.specs.Shown.{ShowsCase};
 ghost use Rattle.rg_farkas.specs.Leaves.{share_of};
-ghost use Rattle.rg_separate.specs.Casing.{SharesFold};
+ghost use Rattle.rg_separate.specs.Casing.{sides_among, SharesFold};
 
 use rg_fraction::{FoldStop, Fraction, Wide};
-use rg_reasons::RowName;
-use rg_rows::NamedSystem;
+use rg_reasons::{Form, RowName};
+use rg_rows::{NamedForm, NamedSystem};
 use std::alloc::Global;
 
 // The named rows of the weights below these splits, each with its row's multiplier times its factor.
@@ -55,7 +56,7 @@ fn share(
     requires scales { All (λ f. InRange f.scale) named.now.forms.items }
     requires row { row < length named.now.system.rows + length above.now }
     requires not_negative { pos 0 ≤ℤ multiplier }
-    ensures { (case : CaseSystem) → ShowsCase named.now case → share_fold case (sides_of above.now) (record { row = row; multiplier = multiplier }) (shown_result share_of result) }
+    ensures { (case : CaseSystem) → ShowsCase named.now case → share_fold case (sides_of above.now) (sides_among (map split_of named.now.forms.items) (sides_of above.now)) (record { row = row; multiplier = multiplier }) (shown_result share_of result) }
 {
     let (name, factor) = row_of(named, above, row);
     match Fraction::new(multiplier, 1).mul(factor) {
@@ -71,7 +72,7 @@ fn row_of(named: &NamedSystem, above: &[(u32, i64, bool)], row: u32) -> (RowName
     requires scales { All (λ f. InRange f.scale) named.now.forms.items }
     requires row { row < length named.now.system.rows + length above.now }
     ensures name { (case : CaseSystem) → ShowsCase named.now case → row_name_of result.0 ≡ name_of case row }
-    ensures factor { (case : CaseSystem) → ShowsCase named.now case → ratio_of result.1 ≡ factor_of case (sides_of above.now) row }
+    ensures factor { (case : CaseSystem) → ShowsCase named.now case → ratio_of result.1 ≡ factor_of case (sides_of above.now) (sides_among (map split_of named.now.forms.items) (sides_of above.now)) row }
 {
     let rows = named.system.rows().len();
     let row = row as usize;
@@ -80,6 +81,18 @@ fn row_of(named: &NamedSystem, above: &[(u32, i64, bool)], row: u32) -> (RowName
     }
     let depth = row - rows;
     let form = above[depth].0;
-    let scale = named.forms[form as usize].scale;
-    (RowName::Above(depth as u32), Fraction::new(scale, 1))
+    let factor = split_factor(&named.forms[form as usize]);
+    (RowName::Above(depth as u32), Fraction::new(factor, 1))
+}
+
+// The factor of a split's row: the scale of its form, and of the start, whose row is its named row itself, 1.
+fn split_factor(form: &NamedForm) -> i128
+    requires { InRange form.now.scale }
+    ensures in_range { InRange result }
+    ensures factor { whole result ≡ split_factor (split_of form.now) (linear_form form.now) }
+{
+    match form.form {
+        Form::Start => 1,
+        _ => form.scale,
+    }
 }

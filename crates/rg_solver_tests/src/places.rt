@@ -7,8 +7,8 @@ ghost use Rattle.rg_cycles.specs.View.{labels_of, cycle_of};
 
 use crate::bases::basis;
 use crate::systems::{
-    ABA, CHOICE, NONBRANCHING, NONE, PLAIN, PURE, PURE_PLAIN, RING, SIDE, STEP, TWO_BOUNDED,
-    is_asked, system,
+    ABA, CHOICE, NONBRANCHING, NONE, PLAIN, PLAIN_ONE_MARKING, PLAIN_TWO_MARKING, PURE, PURE_PLAIN,
+    RING, SIDE, STEP, TWO_BOUNDED, TWO_MARKING, is_asked, system,
 };
 use rg_columns::{Columns, has_start, used_labels};
 use rg_cycles::Basis;
@@ -292,6 +292,60 @@ fn tokens_of_states(rt: HostRuntime) {
     are_made(&rt, &WITH_TOKENS);
 }
 
+// 2^125.
+const FAR: i128 = 42535295865117307932921825928971026432;
+
+const MARKED: [Worked; 4] = [
+    // in a problem of two states a plain class has one more token at each state, which makes the start a multiple
+    Worked {
+        text: STEP,
+        class: PLAIN_TWO_MARKING,
+        problem: States(0, 1),
+        numbers: &[(1, 1), (-1, 1)],
+        start: 2,
+        pre: &[1],
+        post: &[0],
+        tokens: Some(&[2, 1]),
+    },
+    Worked {
+        text: STEP,
+        class: PLAIN_ONE_MARKING,
+        problem: States(0, 1),
+        numbers: &[(1, 1), (-1, 1)],
+        start: 1,
+        pre: &[1],
+        post: &[0],
+        tokens: Some(&[1, 0]),
+    },
+    // in an event problem it has no more
+    Worked {
+        text: STEP,
+        class: PLAIN_TWO_MARKING,
+        problem: Event(1, 0),
+        numbers: &[(1, 1), (-1, 1)],
+        start: 1,
+        pre: &[1],
+        post: &[0],
+        tokens: Some(&[1, 0]),
+    },
+    // a class that isn't plain has twice the effects
+    Worked {
+        text: STEP,
+        class: TWO_MARKING,
+        problem: States(0, 1),
+        numbers: &[(-FAR, 1)],
+        start: 85070591730234615865843651857942052864,
+        pre: &[85070591730234615865843651857942052864],
+        post: &[0],
+        tokens: Some(&[85070591730234615865843651857942052864, 0]),
+    },
+];
+
+#[test]
+fn starts_are_multiples(rt: HostRuntime) {
+    are_made(&rt, &MARKED);
+}
+
 // What the point of these numbers passes, in a problem of the lock.
 fn passed(alloc: Global, numbers: &[(i128, i128)]) -> Option<FoldStop> {
     placed(alloc, LOCK, NONE, Event(1, 2), numbers)?.err()
@@ -307,6 +361,23 @@ fn the_first_step_out_of_range_is_shown(rt: HostRuntime) {
     };
     let numbers = [(1, i128::MAX), (1, i128::MAX - 1)];
     assert!(rt; passed(rt.alloc(), &numbers) == Some(FoldStop::Wide(passes)));
+}
+
+// What the point of this number passes, in a class that asks a multiple of 2 and whose problem is two states.
+fn passed_by_the_marking(alloc: Global, effect: i128) -> Option<FoldStop> {
+    placed(alloc, STEP, TWO_MARKING, States(0, 1), &[(effect, 1)])?.err()
+}
+
+#[test]
+fn the_marking_comes_out_of_range(rt: HostRuntime) {
+    let effect = -(FAR * 2);
+    let passes = Wide {
+        a: effect,
+        b: 2,
+        c: 0,
+        d: 0,
+    };
+    assert!(rt; passed_by_the_marking(rt.alloc(), effect) == Some(FoldStop::Wide(passes)));
 }
 
 // A label without an arc, and one with an arc.

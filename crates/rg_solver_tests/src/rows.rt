@@ -7,8 +7,9 @@ ghost use Rattle.rg_rows.specs.Sharing.{IsCommonOf};
 
 use crate::bases::basis;
 use crate::systems::{
-    ABA, CHOICE, NONBRANCHING, NONE, PLAIN, PLAIN_NONBRANCHING, PURE, PURE_NONBRANCHING,
-    PURE_PLAIN, PURE_PLAIN_SAFE, RING, SAFE, SIDE, STEP, is_asked, system,
+    ABA, CHOICE, NONBRANCHING, NONE, PLAIN, PLAIN_NONBRANCHING, PLAIN_TWO_MARKING, PURE,
+    PURE_NONBRANCHING, PURE_PLAIN, PURE_PLAIN_SAFE, RING, SAFE, SIDE, STEP,
+    TWO_BOUNDED_TWO_MARKING, is_asked, system,
 };
 use rg_cycles::Basis;
 use rg_fraction::Fraction;
@@ -130,7 +131,7 @@ fn text_of(alloc: Global, cases: u32, named: &NamedSystem) -> Result<String, All
 }
 
 // Texts, classes, problems, cases, and what their systems say.
-const SYSTEMS: [(&str, Class, Problem, u32, &str); 15] = [
+const SYSTEMS: [(&str, Class, Problem, u32, &str); 19] = [
     (
         SIDE,
         PURE,
@@ -212,6 +213,35 @@ const SYSTEMS: [(&str, Class, Problem, u32, &str); 15] = [
         Event(1, 0),
         0,
         "1 2; Block [-1, -2] -1 1/1; Tokens(0) [1, 0] 0 1/1; Tokens(1) [1, 1] 0 1/1; Up(0) [0, -1] 1 1/1; Down(0) [0, 1] 1 1/1; Effect(0) 1 [0, 1] -1 1 4 1",
+    ),
+    // a class that asks a marking counts the start by its steps: in the event problems of a plain class, and in all of a bounded one
+    (
+        STEP,
+        PLAIN_TWO_MARKING,
+        Event(1, 0),
+        0,
+        "1 2; Empty [-1, -1] 0 1/1; Full(0) [1, 0] -1 1/1; Keep [0, -1] 0 1/1; Tokens(0) [1, 0] 0 1/1; Tokens(1) [1, 1] 0 1/1; Up(0) [0, -1] 1 1/1; Down(0) [0, 1] 1 1/1; Effect(0) 1 [0, 1] -1 1 6 1; Start 2 [1, 0] 0 2 3 1",
+    ),
+    (
+        STEP,
+        PLAIN_TWO_MARKING,
+        States(0, 1),
+        0,
+        "2 2; Apart [0, 1] -1 1/1; Tokens(0) [1, 0] 0 1/1; Tokens(1) [1, 1] 0 1/1; Up(0) [0, -1] 1 1/1; Down(0) [0, 1] 1 1/1; Effect(0) 1 [0, 1] -1 1 4 1",
+    ),
+    (
+        STEP,
+        TWO_BOUNDED_TWO_MARKING,
+        Event(1, 0),
+        0,
+        "1 2; Stop(0) [0, -1] -1 1/1; Tokens(0) [1, 0] 0 1/1; Tokens(1) [1, 1] 0 1/1; Cap(0) [-1, 0] 2 1/1; Cap(1) [-1, -1] 2 1/1; Tokens(0) 1 [1, 0] 0 2 1 1; Tokens(1) 1 [1, 1] 0 2 2 1; Start 2 [1, 0] 0 2 1 1",
+    ),
+    (
+        STEP,
+        TWO_BOUNDED_TWO_MARKING,
+        States(0, 1),
+        1,
+        "2 2; Apart [0, -1] -1 1/1; Tokens(0) [1, 0] 0 1/1; Tokens(1) [1, 1] 0 1/1; Cap(0) [-1, 0] 2 1/1; Cap(1) [-1, -1] 2 1/1; Tokens(0) 1 [1, 0] 0 2 1 1; Tokens(1) 1 [1, 1] 0 2 2 1; Start 2 [1, 0] 0 2 1 1",
     ),
     (
         LOCK,

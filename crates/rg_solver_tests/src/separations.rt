@@ -1,6 +1,6 @@
 //! Whole separations, with any number of jobs.
 ghost use Rattle.std.specs.Prelude.{◌≤◌};
-ghost use Rattle.rg_theory.specs.ClassWords.{HasBoundInRange};
+ghost use Rattle.rg_theory.specs.ClassWords.{HasNumbersInRange};
 
 use crate::systems::{ABA, CHOICE, NONBRANCHING, NONE, RING, SAFE, TWO_BOUNDED, system};
 use rg_lts::Lts;
@@ -28,7 +28,7 @@ fn places<R: Threads + Sync>(
     class: Class,
     jobs: u8,
 ) -> Option<Option<usize>>
-    requires bound { HasBoundInRange class }
+    requires bound { HasNumbersInRange class }
     requires some { 1 ≤ jobs }
 {
     let Ok(_) = Tree::grow(alloc, lts) else {
@@ -46,7 +46,7 @@ fn has_places<R: Threads + Sync>(
     jobs: u8,
     wanted: Option<usize>,
 ) -> bool
-    requires bound { HasBoundInRange class }
+    requires bound { HasNumbersInRange class }
     requires some { 1 ≤ jobs }
 {
     match system(alloc, text) {

@@ -12,6 +12,7 @@ pub(crate) const NONE: Class = Class {
     pure: false,
     plain: false,
     bound: None,
+    marking: None,
     nonbranching: false,
 };
 
@@ -37,6 +38,21 @@ pub(crate) const PURE_PLAIN: Class = Class {
     ..PLAIN
 };
 
+pub(crate) const TWO_MARKING: Class = Class {
+    marking: Some(2),
+    ..NONE
+};
+
+pub(crate) const PLAIN_ONE_MARKING: Class = Class {
+    marking: Some(1),
+    ..PLAIN
+};
+
+pub(crate) const PLAIN_TWO_MARKING: Class = Class {
+    plain: true,
+    ..TWO_MARKING
+};
+
 pub(crate) const PLAIN_NONBRANCHING: Class = Class {
     plain: true,
     ..NONBRANCHING
@@ -55,6 +71,11 @@ pub(crate) const PURE_PLAIN_SAFE: Class = Class {
 pub(crate) const TWO_BOUNDED: Class = Class {
     bound: Some(2),
     ..NONE
+};
+
+pub(crate) const TWO_BOUNDED_TWO_MARKING: Class = Class {
+    bound: Some(2),
+    ..TWO_MARKING
 };
 
 /// A loop and a step.

@@ -3,7 +3,7 @@ use Rattle.std.proofs.Common.{◌≡◌, ℕ, Bool, List, Vec, Global, map, refl
 use Rattle.rg_theory.specs.System.{System, IsInRange, IsAllReachable, IsClosedWithout, IsLeastUnreachable, IsLeastFork}
 use Rattle.rg_theory.specs.Net.{Place}
 use Rattle.rg_theory.specs.declared.Class.{Class}
-use Rattle.rg_theory.specs.ClassWords.{HasBoundInRange}
+use Rattle.rg_theory.specs.ClassWords.{HasNumbersInRange}
 use Rattle.rg_theory.proofs.Arcs.{arc_in_range}
 use Rattle.rg_net.specs.Shown.{shown_place}
 use Rattle.rg_net.specs.declared.net.Place.{Place as PlaceOfCode}
@@ -62,13 +62,13 @@ right lts class cert fine of_class answer holds in_range = record {
 abbrev pub IsShutOut : System → ℕ → Type 0
 IsShutOut lts s = (inside : ℕ → Bool) × IsClosedWithout lts s inside
 
-pub state_right : (lts : System) (class : Class) (s : ℕ) → IsInRange lts → HasBoundInRange class → IsLeastUnreachable lts s → IsShutOut lts s → IsRightCertificate lts class (record { class = class; reason = Unreachable s })
+pub state_right : (lts : System) (class : Class) (s : ℕ) → IsInRange lts → HasNumbersInRange class → IsLeastUnreachable lts s → IsShutOut lts s → IsRightCertificate lts class (record { class = class; reason = Unreachable s })
 state_right lts class s fine bound least shut_out =
-    right lts class (record { class = class; reason = Unreachable s }) fine refl (a_state s least) (least.state, shut_out) (record { whole = tt; claim = record { reason = least.state; bound = bound } })
+    right lts class (record { class = class; reason = Unreachable s }) fine refl (a_state s least) (least.state, shut_out) (record { whole = tt; claim = record { reason = least.state; numbers = bound } })
 
-pub fork_right : (lts : System) (class : Class) (s t s₁ s₂ : ℕ) → IsInRange lts → HasBoundInRange class → IsAllReachable lts → IsLeastFork lts s t s₁ s₂ → IsRightCertificate lts class (record { class = class; reason = Fork s t s₁ s₂ })
+pub fork_right : (lts : System) (class : Class) (s t s₁ s₂ : ℕ) → IsInRange lts → HasNumbersInRange class → IsAllReachable lts → IsLeastFork lts s t s₁ s₂ → IsRightCertificate lts class (record { class = class; reason = Fork s t s₁ s₂ })
 fork_right lts class s t s₁ s₂ fine bound reachable least =
     let first = arc_in_range lts fine s t s₁ least.fork.0 in
     let other = arc_in_range lts fine s t s₂ least.fork.1 in
     right lts class (record { class = class; reason = Fork s t s₁ s₂ }) fine refl (a_fork s t s₁ s₂ reachable least) least.fork
-    (record { whole = tt; claim = record { reason = (first.0, first.1, first.2, other.2); bound = bound } })
+    (record { whole = tt; claim = record { reason = (first.0, first.1, first.2, other.2); numbers = bound } })

@@ -1,7 +1,7 @@
 //! The order of work on a system.
 ghost use Rattle.std.specs.Prelude.{◌≡◌, ◌≤◌, map, All, IfOk};
 ghost use Rattle.rg_theory.specs.System.{labels, IsAllReachable};
-ghost use Rattle.rg_theory.specs.ClassWords.{HasBoundInRange};
+ghost use Rattle.rg_theory.specs.ClassWords.{HasNumbersInRange};
 ghost use Rattle.rg_theory.specs.Problem.{SeparateAll};
 ghost use Rattle.rg_net.specs.Range.{IsNetInRange};
 ghost use Rattle.rg_net.specs.Shown.{shown_place};
@@ -43,7 +43,7 @@ pub fn synthesize<R: Threads + Sync, G: Gate + Sync>(
     jobs: u8,
     gate: &G,
 ) -> Result<Answer, NoMemory>
-    requires bound { HasBoundInRange class }
+    requires bound { HasNumbersInRange class }
     requires some { 1 ≤ jobs }
     ensures out { IfOk result (λ a. Out lts.now class (answer_of a)) }
     ensures net { IfOk result (λ a. IfNet a (IsSolvingNet lts.now class)) }
@@ -76,7 +76,7 @@ fn open_answer<R: Threads + Sync, G: Gate + Sync>(
     gate: &G,
 ) -> Result<Answer, NoMemory>
     requires is_open { IsOpen lts.now }
-    requires bound { HasBoundInRange class }
+    requires bound { HasNumbersInRange class }
     requires some { 1 ≤ jobs }
     ensures out { IfOk result (λ a. Out lts.now class (answer_of a)) }
     ensures net { IfOk result (λ a. IfNet a (IsSolvingNet lts.now class)) }

@@ -1,6 +1,6 @@
 //! The answers for whole systems, with one job and with seven.
-ghost use Rattle.std.specs.Prelude.{◌≤◌, IsTrue};
-ghost use Rattle.rg_theory.specs.ClassWords.{HasBoundInRange};
+ghost use Rattle.std.specs.Prelude.{◌<◌, ◌≤◌, IsTrue, IfSome};
+ghost use Rattle.rg_theory.specs.ClassWords.{HasNumbersInRange};
 
 use rg_apt::read_lts;
 use rg_families::{Kind, generate, is_family_number};
@@ -18,6 +18,7 @@ const NONE: Class = Class {
     pure: false,
     plain: false,
     bound: None,
+    marking: None,
     nonbranching: false,
 };
 
@@ -74,14 +75,23 @@ fn system(alloc: Global, text: &str) -> Result<Lts, Fail> {
     Ok(read_lts(alloc, text.as_bytes())?)
 }
 
-// Whether the class has no bound, or one from 1 to 255.
-fn has_bound(class: Class) -> bool
-    ensures { IsTrue result → HasBoundInRange class }
+// Whether there is no number, or one from 1 to 255.
+fn is_in_range(number: Option<u8>) -> bool
+    ensures { IsTrue result → IfSome number (λ k. (0 < k) × (k ≤ 255)) }
 {
-    match class.bound {
+    match number {
         None => true,
-        Some(bound) => 1 <= bound && bound <= 255,
+        Some(k) => 1 <= k && k <= 255,
     }
+}
+
+// Whether the numbers of the class are in range.
+fn has_numbers(class: Class) -> bool
+    ensures { IsTrue result → HasNumbersInRange class }
+{
+    let bound = is_in_range(class.bound);
+    let marking = is_in_range(class.marking);
+    bound && marking
 }
 
 // What comes of a system.
@@ -92,7 +102,7 @@ fn come_to<R: Threads + Sync>(
     class: Class,
     jobs: u8,
 ) -> Result<Found, Fail>
-    requires bound { HasBoundInRange class }
+    requires bound { HasNumbersInRange class }
     requires some { 1 ≤ jobs }
 {
     Ok(match synthesize(rt, alloc, lts, class, jobs, &NoGate)? {
@@ -124,7 +134,7 @@ fn answers_are_told(rt: HostRuntime) -> Result<(), Fail> {
         (THERE_AND_BACK, NONE, Found::States(0, 1)),
     ] {
         let lts = system(rt.alloc(), text)?;
-        assert!(rt; has_bound(class));
+        assert!(rt; has_numbers(class));
         let with_one = come_to(&rt, rt.alloc(), &lts, class, 1)?;
         assert_eq!(rt; with_one, answer);
         let with_seven = come_to(&rt, rt.alloc(), &lts, class, 7)?;

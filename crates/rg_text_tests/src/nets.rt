@@ -52,21 +52,24 @@ const PRINTED: [(&str, &str, &str); 3] = [
 
 #[test]
 fn classes(rt: HostRuntime) -> Result<(), Fail> {
-    for (pure, plain, bound, nonbranching, wanted) in [
-        (false, false, None, false, "none"),
-        (false, false, Some(1), false, "safe"),
+    for (pure, plain, bound, marking, nonbranching, wanted) in [
+        (false, false, None, None, false, "none"),
+        (false, false, Some(1), None, false, "safe"),
+        (false, false, None, Some(2), false, "2-marking"),
         (
             true,
             true,
             Some(255),
+            Some(3),
             true,
-            "pure,plain,255-bounded,output-nonbranching",
+            "pure,plain,255-bounded,3-marking,output-nonbranching",
         ),
     ] {
         let class = Class {
             pure,
             plain,
             bound,
+            marking,
             nonbranching,
         };
         assert!(rt;

@@ -8,8 +8,8 @@ use Rattle.std.proofs.lemmas.List.Folds.{list_all-append}
 use Rattle.std.proofs.lemmas.List.Splits.{join_with_byte-slice_split}
 use Rattle.rg_theory.specs.declared.Class.{Class}
 use Rattle.rg_theory.specs.declared.class_words.Condition.{Condition}
-use Rattle.rg_theory.specs.declared.class_words.Condition.TheVariants.{Pure, Plain, Bounded, Nonbranching}
-use Rattle.rg_theory.specs.ClassWords.{IsWordOf, AreWordsOf, no_condition, with_condition, with_conditions, class_words, NamesClass, HasBoundInRange}
+use Rattle.rg_theory.specs.declared.class_words.Condition.TheVariants.{Pure, Plain, Bounded, Multiple, Nonbranching}
+use Rattle.rg_theory.specs.ClassWords.{IsWordOf, AreWordsOf, no_condition, with_condition, with_conditions, class_words, NamesClass, HasNumbersInRange}
 use Rattle.rg_theory.proofs.ClassTexts.{numerals}
 
 -- a byte of ASCII that shows, and no space
@@ -37,6 +37,8 @@ word_shown Plain word is = ap (list_all is_shown) is
 word_shown (Bounded k) word (inl (one, safe)) = ap (list_all is_shown) safe
 word_shown (Bounded k) word (inr (some, few, spelled)) =
     ap (list_all is_shown) spelled ∙ both_shown (decimal k) (codes "-bounded") (digits_shown (decimal k) (digits_decimal numerals k (omega arith))) refl
+word_shown (Multiple n) word (some, few, spelled) =
+    ap (list_all is_shown) spelled ∙ both_shown (decimal n) (codes "-marking") (digits_shown (decimal n) (digits_decimal numerals n (omega arith))) refl
 word_shown Nonbranching word is = ap (list_all is_shown) is
 
 joined_shown : (word : List ℕ) (more : List (List ℕ)) → list_all is_shown word ≡ true → list_all is_shown (join_with_byte 44 more) ≡ true
@@ -54,18 +56,22 @@ pub named_shown : (text : List ℕ) (class : Class) → NamesClass text class �
 named_shown text class (inl x) = ap (list_all is_shown) x.0
 named_shown text class (inr x) = ap (list_all is_shown) (sym (join_with_byte-slice_split 44 text)) ∙ words_shown x.conditions (class_words text) x.words
 
-bound_with : (class : Class) (c : Condition) (word : List ℕ) → HasBoundInRange class → IsWordOf c word → HasBoundInRange (with_condition class c)
-bound_with class Pure word given is = given
-bound_with class Plain word given is = given
-bound_with class (Bounded k) word given (inl (one, safe)) = (omega arith, omega arith)
-bound_with class (Bounded k) word given (inr (some, few, spelled)) = (some, few)
-bound_with class Nonbranching word given is = given
+bound_with : (class : Class) (c : Condition) (word : List ℕ) → HasNumbersInRange class → IsWordOf c word → HasNumbersInRange (with_condition class c)
+bound_with class Pure word given is = record { bound = given.bound; marking = given.marking }
+bound_with class Plain word given is = record { bound = given.bound; marking = given.marking }
+bound_with class (Bounded k) word given (inl (one, safe)) = record { bound = (omega arith, omega arith); marking = given.marking }
+bound_with class (Bounded k) word given (inr (some, few, spelled)) = record { bound = (some, few); marking = given.marking }
+bound_with class (Multiple n) word given (some, few, spelled) = record { bound = given.bound; marking = (some, few) }
+bound_with class Nonbranching word given is = record { bound = given.bound; marking = given.marking }
 
-bound_with_all : (class : Class) (cs : List Condition) (words : List (List ℕ)) → HasBoundInRange class → AreWordsOf cs words → HasBoundInRange (with_conditions class cs)
+no_numbers : HasNumbersInRange no_condition
+no_numbers = record { bound = tt; marking = tt }
+
+bound_with_all : (class : Class) (cs : List Condition) (words : List (List ℕ)) → HasNumbersInRange class → AreWordsOf cs words → HasNumbersInRange (with_conditions class cs)
 bound_with_all class [] words given is = given
 bound_with_all class (c ∷ cs) words given is = bound_with_all (with_condition class c) cs is.1 (bound_with class c is.0 given is.2) is.3
 
--- a class that a text names has a bound from 1 to 255, or none
-pub named_bound : (text : List ℕ) (class : Class) → NamesClass text class → HasBoundInRange class
-named_bound text class (inl x) = subst HasBoundInRange (sym x.1) tt
-named_bound text class (inr x) = subst HasBoundInRange (sym x.made) (bound_with_all no_condition x.conditions (class_words text) tt x.words)
+-- a class that a text names has a bound from 1 to 255, or none, and a marking from 1 to 255, or none
+pub named_bound : (text : List ℕ) (class : Class) → NamesClass text class → HasNumbersInRange class
+named_bound text class (inl x) = subst HasNumbersInRange (sym x.1) no_numbers
+named_bound text class (inr x) = subst HasNumbersInRange (sym x.made) (bound_with_all no_condition x.conditions (class_words text) no_numbers x.words)

@@ -1,13 +1,13 @@
 -- A text names a class, or it names none.
-use Rattle.std.proofs.Common.{◌≡◌, ◌≢◌, ◌⊎◌, inl, inr, ⊎_elim, ℕ, zero, suc, ◌<◌, ◌≤◌, Bool, true, false, List, [], ◌∷◌, ◌++◌, codes, true≢false, refl, sym, subst, ◌∙◌, arith}
+use Rattle.std.proofs.Common.{◌≡◌, ◌≢◌, ◌⊎◌, inl, inr, ⊎_elim, ℕ, zero, suc, ◌<◌, ◌≤◌, Bool, true, false, List, [], ◌∷◌, ◌++◌, codes, decimal, true≢false, refl, sym, subst, ◌∙◌, arith}
 use Rattle.std.specs.Str.{bytes_eq}
 use Rattle.std.proofs.lemmas.Slice.Eq.{bytes_eq-Decides}
 use Rattle.std.proofs.lemmas.Bool.{cases_lt}
 use Rattle.rg_theory.specs.declared.Class.{Class}
 use Rattle.rg_theory.specs.declared.class_words.Condition.{Condition}
-use Rattle.rg_theory.specs.declared.class_words.Condition.TheVariants.{Pure, Plain, Bounded, Nonbranching}
+use Rattle.rg_theory.specs.declared.class_words.Condition.TheVariants.{Pure, Plain, Bounded, Multiple, Nonbranching}
 use Rattle.rg_theory.specs.declared.class_words.ClassFault.TheVariants.{Repeated}
-use Rattle.rg_theory.specs.ClassWords.{bounded_word, IsWordOf, AreWordsOf, no_condition, with_condition, asks_for, class_words, NamesClass}
+use Rattle.rg_theory.specs.ClassWords.{IsWordOf, AreWordsOf, no_condition, with_condition, asks_for, class_words, NamesClass}
 use Rattle.rg_theory.proofs.ClassTexts.{repeated}
 use Rattle.rg_theory.proofs.ClassLoop.{ReadsTo, reads_none, reads_more, reads_end, reads_refused}
 use Rattle.rg_theory.proofs.ClassTold.{not_both}
@@ -23,44 +23,48 @@ same_bytes xs ys = by (bytes_eq xs ys) refl
     by true e = inl ((bytes_eq-Decides xs ys).0 e)
     by false e = inr (λ same. true≢false (sym ((bytes_eq-Decides xs ys).1 same) ∙ e))
 
--- the word is that of a bound below n
-abbrev IsBoundBelow : List ℕ → ℕ → Type 0
-IsBoundBelow word n = (k : ℕ) × (k < n) × (0 < k) × (word ≡ bounded_word k)
+-- the word is a number below n, and the tail
+abbrev pub IsNumberBelow : List ℕ → List ℕ → ℕ → Type 0
+IsNumberBelow tail word n = (k : ℕ) × (k < n) × (0 < k) × (word ≡ decimal k ++ tail)
 
-bound_or_not : (word : List ℕ) (n : ℕ) → Decided (IsBoundBelow word n)
-bound_or_not word zero = inr (λ (k, less, some, is). omega arith)
-bound_or_not word (suc n) = by (bound_or_not word n) (cases_lt 0 n) (same_bytes word (bounded_word n))
+pub number_or_not : (tail word : List ℕ) (n : ℕ) → Decided (IsNumberBelow tail word n)
+number_or_not tail word zero = inr (λ (k, less, some, is). omega arith)
+number_or_not tail word (suc n) = by (number_or_not tail word n) (cases_lt 0 n) (same_bytes word (decimal n ++ tail))
   where
     last : (k : ℕ) → k < suc n → n ≤ k → k ≡ n
     last k less more = omega arith
 
-    by : Decided (IsBoundBelow word n) → (0 < n) ⊎ (n ≤ 0) → Decided (word ≡ bounded_word n) → Decided (IsBoundBelow word (suc n))
+    by : Decided (IsNumberBelow tail word n) → (0 < n) ⊎ (n ≤ 0) → Decided (word ≡ decimal n ++ tail) → Decided (IsNumberBelow tail word (suc n))
     by (inl (k, less, some, is)) size here = inl (k, omega arith, some, is)
     by (inr none) (inl some) (inl is) = inl (n, omega arith, some, is)
     by (inr none) (inl some) (inr other) =
-        inr (λ (k, less, positive, is). ⊎_elim (λ below. none (k, below, positive, is)) (λ above. other (subst (λ m. word ≡ bounded_word m) (last k less above) is)) (cases_lt k n))
+        inr (λ (k, less, positive, is). ⊎_elim (λ below. none (k, below, positive, is)) (λ above. other (subst (λ m. word ≡ decimal m ++ tail) (last k less above) is)) (cases_lt k n))
     by (inr none) (inr small) here =
         inr (λ (k, less, positive, is). ⊎_elim (λ below. none (k, below, positive, is)) (λ above. omega arith) (cases_lt k n))
 
-condition_or_not : (word : List ℕ) → Decided ((c : Condition) × IsWordOf c word)
+pub condition_or_not : (word : List ℕ) → Decided ((c : Condition) × IsWordOf c word)
 condition_or_not word =
-    by (same_bytes word (codes "pure")) (same_bytes word (codes "plain")) (same_bytes word (codes "safe")) (same_bytes word (codes "output-nonbranching")) (bound_or_not word 256)
+    by (same_bytes word (codes "pure")) (same_bytes word (codes "plain")) (same_bytes word (codes "safe")) (same_bytes word (codes "output-nonbranching")) (number_or_not (codes "-bounded") word 256)
+    (number_or_not (codes "-marking") word 256)
   where
-    none : (c : Condition) → (word ≢ codes "pure") → (word ≢ codes "plain") → (word ≢ codes "safe") → (word ≢ codes "output-nonbranching") → (IsBoundBelow word 256 → ⊥) → IsWordOf c word → ⊥
-    none Pure pure plain safe branching bound is = pure is
-    none Plain pure plain safe branching bound is = plain is
-    none (Bounded k) pure plain safe branching bound (inl (one, is)) = safe is
-    none (Bounded k) pure plain safe branching bound (inr (some, few, is)) = bound (k, omega arith, some, is)
-    none Nonbranching pure plain safe branching bound is = branching is
+    none : (c : Condition) → (word ≢ codes "pure") → (word ≢ codes "plain") → (word ≢ codes "safe") → (word ≢ codes "output-nonbranching") → (IsNumberBelow (codes "-bounded") word 256 → ⊥)
+        → (IsNumberBelow (codes "-marking") word 256 → ⊥) → IsWordOf c word → ⊥
+    none Pure pure plain safe branching bound marking is = pure is
+    none Plain pure plain safe branching bound marking is = plain is
+    none (Bounded k) pure plain safe branching bound marking (inl (one, is)) = safe is
+    none (Bounded k) pure plain safe branching bound marking (inr (some, few, is)) = bound (k, omega arith, some, is)
+    none (Multiple n) pure plain safe branching bound marking (some, few, is) = marking (n, omega arith, some, is)
+    none Nonbranching pure plain safe branching bound marking is = branching is
 
-    by : Decided (word ≡ codes "pure") → Decided (word ≡ codes "plain") → Decided (word ≡ codes "safe") → Decided (word ≡ codes "output-nonbranching") → Decided (IsBoundBelow word 256)
-        → Decided ((c : Condition) × IsWordOf c word)
-    by (inl is) plain safe branching bound = inl (Pure, is)
-    by (inr pure) (inl is) safe branching bound = inl (Plain, is)
-    by (inr pure) (inr plain) (inl is) branching bound = inl (Bounded 1, inl (refl, is))
-    by (inr pure) (inr plain) (inr safe) (inl is) bound = inl (Nonbranching, is)
-    by (inr pure) (inr plain) (inr safe) (inr branching) (inl (k, less, some, is)) = inl (Bounded k, inr (some, omega arith, is))
-    by (inr pure) (inr plain) (inr safe) (inr branching) (inr bound) = inr (λ (c, is). none c pure plain safe branching bound is)
+    by : Decided (word ≡ codes "pure") → Decided (word ≡ codes "plain") → Decided (word ≡ codes "safe") → Decided (word ≡ codes "output-nonbranching") → Decided (IsNumberBelow (codes "-bounded") word 256)
+        → Decided (IsNumberBelow (codes "-marking") word 256) → Decided ((c : Condition) × IsWordOf c word)
+    by (inl is) plain safe branching bound marking = inl (Pure, is)
+    by (inr pure) (inl is) safe branching bound marking = inl (Plain, is)
+    by (inr pure) (inr plain) (inl is) branching bound marking = inl (Bounded 1, inl (refl, is))
+    by (inr pure) (inr plain) (inr safe) (inl is) bound marking = inl (Nonbranching, is)
+    by (inr pure) (inr plain) (inr safe) (inr branching) (inl (k, less, some, is)) marking = inl (Bounded k, inr (some, omega arith, is))
+    by (inr pure) (inr plain) (inr safe) (inr branching) (inr bound) (inl (n, less, some, is)) = inl (Multiple n, (some, omega arith, is))
+    by (inr pure) (inr plain) (inr safe) (inr branching) (inr bound) (inr marking) = inr (λ (c, is). none c pure plain safe branching bound marking is)
 
 -- of words that give conditions each gives one
 gives_each : (cs : List Condition) (before : List (List ℕ)) (word : List ℕ) (rest : List (List ℕ)) → AreWordsOf cs (before ++ word ∷ rest) → (c : Condition) × IsWordOf c word

@@ -6,7 +6,7 @@ use Rattle.std.proofs.lemmas.Slice.Eq.{bytes_eq-Decides}
 use Rattle.std.proofs.lemmas.Iterator.{YieldsList}
 use Rattle.rg_theory.specs.declared.Class.{Class}
 use Rattle.rg_theory.specs.declared.class_words.Condition.{Condition}
-use Rattle.rg_theory.specs.declared.class_words.Condition.TheVariants.{Pure, Plain, Bounded, Nonbranching}
+use Rattle.rg_theory.specs.declared.class_words.Condition.TheVariants.{Pure, Plain, Bounded, Multiple, Nonbranching}
 use Rattle.rg_theory.specs.declared.class_words.ClassFault.{ClassFault}
 use Rattle.rg_theory.specs.ClassWords.{IsWordOf, AreWordsOf, is_like, AreUnlike, no_condition, with_condition, with_conditions, asks_for, class_words, NamesClass, IsRefusedWord, FirstRefusedWord}
 
@@ -16,20 +16,21 @@ one_if true = 1
 one_if false = 0
 
 abbrev pub weight : Class → ℕ
-weight class = one_if class.pure + one_if class.plain + one_if (is_some class.bound) + one_if class.nonbranching
+weight class = one_if class.pure + one_if class.plain + one_if (is_some class.bound) + one_if (is_some class.marking) + one_if class.nonbranching
 
 one_at_most : (b : Bool) → one_if b ≤ 1
 one_at_most true = omega arith
 one_at_most false = omega arith
 
-pub few : (class : Class) → weight class ≤ 4
-few class = omega (arith, one_at_most class.pure, one_at_most class.plain, one_at_most (is_some class.bound), one_at_most class.nonbranching)
+pub few : (class : Class) → weight class ≤ 5
+few class = omega (arith, one_at_most class.pure, one_at_most class.plain, one_at_most (is_some class.bound), one_at_most (is_some class.marking), one_at_most class.nonbranching)
 
 -- one more condition
 pub heavier : (class : Class) (c : Condition) → asks_for class c ≡ false → weight (with_condition class c) ≡ weight class + 1
 heavier class Pure e = omega (arith, ap one_if e)
 heavier class Plain e = omega (arith, ap one_if e)
 heavier class (Bounded k) e = omega (arith, ap one_if e)
+heavier class (Multiple n) e = omega (arith, ap one_if e)
 heavier class Nonbranching e = omega (arith, ap one_if e)
 
 -- words before have been read, and these are left
@@ -69,36 +70,54 @@ kept : (class : Class) (b c : Condition) → asks_for class c ≡ true → asks_
 kept class Pure Pure e = refl
 kept class Pure Plain e = e
 kept class Pure (Bounded k) e = e
+kept class Pure (Multiple n) e = e
 kept class Pure Nonbranching e = e
 kept class Plain Pure e = e
 kept class Plain Plain e = refl
 kept class Plain (Bounded k) e = e
+kept class Plain (Multiple n) e = e
 kept class Plain Nonbranching e = e
 kept class (Bounded j) Pure e = e
 kept class (Bounded j) Plain e = e
 kept class (Bounded j) (Bounded k) e = refl
+kept class (Bounded j) (Multiple n) e = e
 kept class (Bounded j) Nonbranching e = e
+kept class (Multiple m) Pure e = e
+kept class (Multiple m) Plain e = e
+kept class (Multiple m) (Bounded k) e = e
+kept class (Multiple m) (Multiple n) e = refl
+kept class (Multiple m) Nonbranching e = e
 kept class Nonbranching Pure e = e
 kept class Nonbranching Plain e = e
 kept class Nonbranching (Bounded k) e = e
+kept class Nonbranching (Multiple n) e = e
 kept class Nonbranching Nonbranching e = refl
 
 like_asked : (class : Class) (b c : Condition) → is_like b c ≡ true → asks_for (with_condition class b) c ≡ true
 like_asked class Pure Pure e = refl
 like_asked class Pure Plain e = absurd cc
 like_asked class Pure (Bounded k) e = absurd cc
+like_asked class Pure (Multiple n) e = absurd cc
 like_asked class Pure Nonbranching e = absurd cc
 like_asked class Plain Pure e = absurd cc
 like_asked class Plain Plain e = refl
 like_asked class Plain (Bounded k) e = absurd cc
+like_asked class Plain (Multiple n) e = absurd cc
 like_asked class Plain Nonbranching e = absurd cc
 like_asked class (Bounded j) Pure e = absurd cc
 like_asked class (Bounded j) Plain e = absurd cc
 like_asked class (Bounded j) (Bounded k) e = refl
+like_asked class (Bounded j) (Multiple n) e = absurd cc
 like_asked class (Bounded j) Nonbranching e = absurd cc
+like_asked class (Multiple m) Pure e = absurd cc
+like_asked class (Multiple m) Plain e = absurd cc
+like_asked class (Multiple m) (Bounded k) e = absurd cc
+like_asked class (Multiple m) (Multiple n) e = refl
+like_asked class (Multiple m) Nonbranching e = absurd cc
 like_asked class Nonbranching Pure e = absurd cc
 like_asked class Nonbranching Plain e = absurd cc
 like_asked class Nonbranching (Bounded k) e = absurd cc
+like_asked class Nonbranching (Multiple n) e = absurd cc
 like_asked class Nonbranching Nonbranching e = refl
 
 kept_all : (class : Class) (cs : List Condition) (c : Condition) → asks_for class c ≡ true → asks_for (with_conditions class cs) c ≡ true

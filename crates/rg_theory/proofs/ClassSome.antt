@@ -1,84 +1,68 @@
 -- A text names a class, or it has a first refused word.
-use Rattle.std.proofs.Common.{◌≡◌, ◌≢◌, ◌⊎◌, inl, inr, ⊎_elim, ℕ, zero, suc, ◌-◌, ◌<◌, ◌≤◌, Bool, true, false, List, [], ◌∷◌, ◌++◌, length, take, get_or, Any, codes, true≢false, refl, sym, ap, ap₂, subst, ◌∙◌, arith, append_assoc, append-nil, length-append}
+use Rattle.std.proofs.Common.{◌≡◌, ◌≢◌, ◌⊎◌, inl, inr, ⊎_elim, ℕ, zero, suc, ◌-◌, ◌<◌, ◌≤◌, Bool, true, false, List, [], ◌∷◌, ◌++◌, length, take, get_or, Any, codes, decimal, true≢false, refl, sym, ap, ap₂, subst, ◌∙◌, arith, append_assoc, append-nil, length-append}
 use Rattle.std.proofs.Math.Seq.{take-append_seam}
 use Rattle.std.proofs.lemmas.Bool.{cases_lt}
 use Rattle.std.proofs.lemmas.List.Quantifiers.{all_pairs_push}
 use Rattle.std.specs.List.{list_all}
 use Rattle.std.specs.Char.{is_ascii_digit}
-use Rattle.rg_theory.specs.declared.Class.{Class}
 use Rattle.rg_theory.specs.declared.class_words.Condition.{Condition}
-use Rattle.rg_theory.specs.declared.class_words.Condition.TheVariants.{Pure, Plain, Bounded, Nonbranching}
+use Rattle.rg_theory.specs.declared.class_words.Condition.TheVariants.{Bounded, Multiple}
 use Rattle.rg_theory.specs.declared.class_words.ClassFault.{ClassFault}
 use Rattle.rg_theory.specs.declared.class_words.ClassFault.TheVariants.{UnknownWord, BadNumber, Repeated}
-use Rattle.rg_theory.specs.ClassWords.{bounded_word, IsWordOf, AreWordsOf, is_like, AreUnlike, no_condition, with_conditions, class_words, NamesClass, IsBadBound, IsRefusedWord, FirstRefusedWord, IsClassTold}
-use Rattle.rg_theory.proofs.ClassDecided.{Decided, same_bytes}
-
--- the word is that of a bound below n
-abbrev IsBoundBelow : List ℕ → ℕ → Type 0
-IsBoundBelow word n = (k : ℕ) × (k < n) × (0 < k) × (word ≡ bounded_word k)
-
-bound_or_not : (word : List ℕ) (n : ℕ) → Decided (IsBoundBelow word n)
-bound_or_not word zero = inr (λ (k, less, some, is). omega arith)
-bound_or_not word (suc n) = by (bound_or_not word n) (cases_lt 0 n) (same_bytes word (bounded_word n))
-  where
-    last : (k : ℕ) → k < suc n → n ≤ k → k ≡ n
-    last k less more = omega arith
-
-    by : Decided (IsBoundBelow word n) → (0 < n) ⊎ (n ≤ 0) → Decided (word ≡ bounded_word n) → Decided (IsBoundBelow word (suc n))
-    by (inl (k, less, some, is)) size here = inl (k, omega arith, some, is)
-    by (inr none) (inl some) (inl is) = inl (n, omega arith, some, is)
-    by (inr none) (inl some) (inr other) =
-        inr (λ (k, less, positive, is). ⊎_elim (λ under. none (k, under, positive, is)) (λ above. other (subst (λ m. word ≡ bounded_word m) (last k less above) is)) (cases_lt k n))
-    by (inr none) (inr small) here =
-        inr (λ (k, less, positive, is). ⊎_elim (λ under. none (k, under, positive, is)) (λ above. omega arith) (cases_lt k n))
+use Rattle.rg_theory.specs.ClassWords.{IsWordOf, AreWordsOf, is_like, AreUnlike, no_condition, with_conditions, class_words, IsBadNumeral, IsTail, IsBadNumber, IsRefusedWord, IsClassTold}
+use Rattle.rg_theory.proofs.ClassDecided.{Decided, same_bytes, condition_or_not}
+use Rattle.rg_theory.proofs.ClassTexts.{tail_length}
 
 -- a condition that the word gives
 abbrev Gives : List ℕ → Type 0
 Gives word = (c : Condition) × IsWordOf c word
 
-gives_or_not : (word : List ℕ) → Decided (Gives word)
-gives_or_not word =
-    by (same_bytes word (codes "pure")) (same_bytes word (codes "plain")) (same_bytes word (codes "safe")) (same_bytes word (codes "output-nonbranching")) (bound_or_not word 256)
-  where
-    none : (c : Condition) → (word ≢ codes "pure") → (word ≢ codes "plain") → (word ≢ codes "safe") → (word ≢ codes "output-nonbranching") → (IsBoundBelow word 256 → ⊥) → IsWordOf c word → ⊥
-    none Pure pure plain safe branching bound is = pure is
-    none Plain pure plain safe branching bound is = plain is
-    none (Bounded k) pure plain safe branching bound (inl (one, is)) = safe is
-    none (Bounded k) pure plain safe branching bound (inr (some, few, is)) = bound (k, omega arith, some, is)
-    none Nonbranching pure plain safe branching bound is = branching is
+-- a number with a tail gives a condition
+gives_numbered : (word tail : List ℕ) (k : ℕ) → 0 < k → k ≤ 255 → IsTail tail → word ≡ decimal k ++ tail → Gives word
+gives_numbered word tail k some few (inl e) is = (Bounded k, inr (some, few, is ∙ ap (λ t. decimal k ++ t) e))
+gives_numbered word tail k some few (inr e) is = (Multiple k, (some, few, is ∙ ap (λ t. decimal k ++ t) e))
 
-    by : Decided (word ≡ codes "pure") → Decided (word ≡ codes "plain") → Decided (word ≡ codes "safe") → Decided (word ≡ codes "output-nonbranching") → Decided (IsBoundBelow word 256)
-        → Decided (Gives word)
-    by (inl is) plain safe branching bound = inl (Pure, is)
-    by (inr pure) (inl is) safe branching bound = inl (Plain, is)
-    by (inr pure) (inr plain) (inl is) branching bound = inl (Bounded 1, inl (refl, is))
-    by (inr pure) (inr plain) (inr safe) (inl is) bound = inl (Nonbranching, is)
-    by (inr pure) (inr plain) (inr safe) (inr branching) (inl (k, less, some, is)) = inl (Bounded k, inr (some, omega arith, is))
-    by (inr pure) (inr plain) (inr safe) (inr branching) (inr bound) = inr (λ (c, is). none c pure plain safe branching bound is)
-
--- a word that gives no condition is a bad bound, or it isn't
-bad_or_not : (word : List ℕ) → (Gives word → ⊥) → Decided (IsBadBound word)
-bad_or_not word gives = by (same_bytes word (digits ++ codes "-bounded")) (list_all is_ascii_digit digits) refl (cases_lt 0 (length digits))
+-- a word that gives no condition and ends in a tail is a bad number, or it isn't
+bad_before : (word tail : List ℕ) → IsTail tail → (Gives word → ⊥) → Decided ((digits : List ℕ) × IsBadNumeral digits × (word ≡ digits ++ tail))
+bad_before word tail ends gives = by (same_bytes word (digits ++ tail)) (list_all is_ascii_digit digits) refl (cases_lt 0 (length digits))
   where
     digits : List ℕ
     digits = take (length word - 8) word
 
-    is_front : (front : List ℕ) → word ≡ front ++ codes "-bounded" → digits ≡ front
+    is_front : (front : List ℕ) → word ≡ front ++ tail → digits ≡ front
     is_front front e =
-        let long : length word - 8 ≡ length front = omega (arith, ap length e, length-append front (codes "-bounded")) in
-        ap₂ take long e ∙ take-append_seam front (codes "-bounded")
+        let long : length word - 8 ≡ length front = omega (arith, ap length e, length-append front tail, tail_length tail ends) in
+        ap₂ take long e ∙ take-append_seam front tail
 
-    by : Decided (word ≡ digits ++ codes "-bounded") → (b : Bool) → list_all is_ascii_digit digits ≡ b → (0 < length digits) ⊎ (length digits ≤ 0) → Decided (IsBadBound word)
-    by (inl is) true all (inl some) = inl (record {
-      digits = digits;
-      some = some;
-      all = all;
-      spelled = is;
-      none = λ k positive few e. gives (Bounded k, inr (positive, few, is ∙ ap (λ d. d ++ codes "-bounded") e));
-    })
-    by (inl is) true all (inr empty) = inr (λ bad. omega (arith, bad.some, ap length (is_front bad.digits bad.spelled), empty))
-    by (inl is) false off size = inr (λ bad. true≢false (sym bad.all ∙ ap (list_all is_ascii_digit) (sym (is_front bad.digits bad.spelled)) ∙ off))
-    by (inr other) b e size = inr (λ bad. other (bad.spelled ∙ ap (λ d. d ++ codes "-bounded") (sym (is_front bad.digits bad.spelled))))
+    by : Decided (word ≡ digits ++ tail) → (b : Bool) → list_all is_ascii_digit digits ≡ b → (0 < length digits) ⊎ (length digits ≤ 0)
+        → Decided ((digits : List ℕ) × IsBadNumeral digits × (word ≡ digits ++ tail))
+    by (inl is) true all (inl some) = inl (
+      digits,
+      record {
+        some = some;
+        all = all;
+        none = λ k positive few e. gives (gives_numbered word tail k positive few ends (is ∙ ap (λ d. d ++ tail) e));
+      },
+      is,
+    )
+    by (inl is) true all (inr empty) = inr (λ (front, bad, spelled). omega (arith, bad.some, ap length (is_front front spelled), empty))
+    by (inl is) false off size = inr (λ (front, bad, spelled). true≢false (sym bad.all ∙ ap (list_all is_ascii_digit) (sym (is_front front spelled)) ∙ off))
+    by (inr other) b e size = inr (λ (front, bad, spelled). other (spelled ∙ ap (λ d. d ++ tail) (sym (is_front front spelled))))
+
+-- a word that gives no condition is a bad number, or it isn't
+bad_or_not : (word : List ℕ) → (Gives word → ⊥) → Decided (IsBadNumber word)
+bad_or_not word gives = by (bad_before word (codes "-bounded") (inl refl) gives) (bad_before word (codes "-marking") (inr refl) gives)
+  where
+    neither : ((digits : List ℕ) × IsBadNumeral digits × (word ≡ digits ++ codes "-bounded") → ⊥) → ((digits : List ℕ) × IsBadNumeral digits × (word ≡ digits ++ codes "-marking") → ⊥)
+        → (digits tail : List ℕ) → IsBadNumeral digits → IsTail tail → word ≡ digits ++ tail → ⊥
+    neither bound marking digits tail bad (inl e) is = bound (digits, bad, is ∙ ap (λ t. digits ++ t) e)
+    neither bound marking digits tail bad (inr e) is = marking (digits, bad, is ∙ ap (λ t. digits ++ t) e)
+
+    by : Decided ((digits : List ℕ) × IsBadNumeral digits × (word ≡ digits ++ codes "-bounded")) → Decided ((digits : List ℕ) × IsBadNumeral digits × (word ≡ digits ++ codes "-marking"))
+        → Decided (IsBadNumber word)
+    by (inl (digits, bad, is)) marking = inl (record { digits = digits; tail = codes "-bounded"; numeral = bad; ends = inl refl; spelled = is })
+    by (inr bound) (inl (digits, bad, is)) = inl (record { digits = digits; tail = codes "-marking"; numeral = bad; ends = inr refl; spelled = is })
+    by (inr bound) (inr marking) = inr (λ b. neither bound marking b.digits b.tail b.numeral b.ends b.spelled)
 
 -- no condition before is like this one
 abbrev IsNew : List Condition → Condition → Type 0
@@ -102,17 +86,17 @@ abbrev IsTold : List Condition → List ℕ → ℕ → Type 0
 IsTold before word i = ((c : Condition) × IsWordOf c word × IsNew before c) ⊎ ((fault : ClassFault) × IsRefusedWord before word i fault)
 
 word_told : (before : List Condition) (word : List ℕ) (i : ℕ) → IsTold before word i
-word_told before word i = by (gives_or_not word) (bad_or_not word)
+word_told before word i = by (condition_or_not word) (bad_or_not word)
   where
     given : (c : Condition) → IsWordOf c word → Any (λ b. is_like b c ≡ true) before ⊎ IsNew before c → IsTold before word i
     given c gives (inl again) = inr (Repeated i, (refl, record { condition = c; gives = gives; again = again }))
     given c gives (inr new) = inl (c, gives, new)
 
-    refused : (Gives word → ⊥) → Decided (IsBadBound word) → IsTold before word i
+    refused : (Gives word → ⊥) → Decided (IsBadNumber word) → IsTold before word i
     refused none (inl bad) = inr (BadNumber i, (refl, bad))
     refused none (inr fine) = inr (UnknownWord i, (refl, fine, λ c gives. none (c, gives)))
 
-    by : Decided (Gives word) → ((Gives word → ⊥) → Decided (IsBadBound word)) → IsTold before word i
+    by : Decided (Gives word) → ((Gives word → ⊥) → Decided (IsBadNumber word)) → IsTold before word i
     by (inl (c, gives)) bad = given c gives (like_or_new before c)
     by (inr none) bad = refused none (bad none)
 

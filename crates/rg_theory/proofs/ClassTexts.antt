@@ -1,16 +1,17 @@
 -- The words of classes.
-use Rattle.std.proofs.Common.{◌≡◌, ◌≢◌, ◌⊎◌, inl, inr, ⊎_elim, ℕ, zero, suc, ◌<◌, ◌≤◌, true, false, ◌&&◌, ◌==◌, List, [], ◌∷◌, ◌++◌, length, get_or, codes, decimal, Any, Result, Ok, Err, refl, sym, ap, subst, ◌∙◌, arith}
+use Rattle.std.proofs.Common.{◌≡◌, ◌≢◌, ◌⊎◌, inl, inr, ⊎_elim, ℕ, zero, suc, ◌<◌, ◌≤◌, true, false, ◌&&◌, ◌==◌, List, [], ◌∷◌, ◌++◌, length, get_or, codes, decimal, Any, Result, Ok, Err, refl, sym, ap, ap₂, subst, ◌∙◌, arith, length-append}
 use Rattle.std.specs.List.{list_all}
 use Rattle.std.specs.Char.{is_ascii_digit}
 use Rattle.std.specs.Str.{all_ascii_digits}
 use Rattle.std.specs.Str.Parse.{digits_value, ParsesUnsigned}
 use Rattle.std.proofs.lemmas.Str.Parse.{IsDigitsTest, IsNumeralModel, numerals_by_value, parse_digits, tells_all_ascii_digits}
 use Rattle.std.proofs.lemmas.Bool.Decides.{nat_tests}
-use Rattle.std.proofs.lemmas.List.{append_cancel_right}
 use Rattle.rg_theory.specs.declared.Class.{Class}
 use Rattle.rg_theory.specs.declared.class_words.Condition.{Condition}
-use Rattle.rg_theory.specs.declared.class_words.Condition.TheVariants.{Pure, Plain, Bounded, Nonbranching}
-use Rattle.rg_theory.specs.ClassWords.{IsNoBound, IsWordOf, is_like, no_condition, with_condition, with_conditions, asks_for, IsRepeated}
+use Rattle.rg_theory.specs.declared.class_words.Condition.TheVariants.{Pure, Plain, Bounded, Multiple, Nonbranching}
+use Rattle.rg_theory.specs.declared.class_words.ClassFault.{ClassFault}
+use Rattle.rg_theory.specs.declared.class_words.ClassFault.TheVariants.{UnknownWord, BadNumber}
+use Rattle.rg_theory.specs.ClassWords.{IsWordOf, is_like, no_condition, with_condition, with_conditions, asks_for, IsBadNumeral, IsTail, IsBadNumber, IsRepeated, IsRefusedWord}
 use Rattle.std.proofs.lemmas.Fmt.{first_decimal, decimal_digit, decimal_nonempty, digits_decimal, parse-decimal, decimal-digits_value}
 
 same_test : (ds : List ℕ) → list_all is_ascii_digit ds ≡ all_ascii_digits ds
@@ -49,55 +50,117 @@ small_unread bs e r err parses k some few is = let read = parse-decimal 8 k bs r
 pub begins_else : (bs : List ℕ) → get_or bs 0 0 ≡ 48 → (k : ℕ) → 0 < k → k ≤ 255 → bs ≢ decimal k
 begins_else bs zero_first k some few is = omega (arith, zero_first, ap (λ l. get_or l 0 0) is, first_decimal k some (omega arith))
 
-abbrev tail_text : List ℕ
-tail_text = codes "-bounded"
+-- ---- numbers with a tail
 
--- no bound stands before `-bounded`
-pub no_bound : (word digits : List ℕ) → word ≡ digits ++ codes "-bounded" → (0 < length digits → list_all is_ascii_digit digits ≡ true → ⊥) → IsNoBound word
-no_bound word digits is none = record {
-  bad = λ b. let same : b.digits ≡ digits = append_cancel_right b.digits digits tail_text (sym b.spelled ∙ is) in
-      none (subst (λ d. 0 < length d) same b.some) (subst (λ d. list_all is_ascii_digit d ≡ true) same b.all);
-  good = λ k some few e. let same : digits ≡ decimal k = append_cancel_right digits (decimal k) tail_text (sym is ∙ e) in
-      none (subst (λ d. 0 < length d) (sym same) (decimal_nonempty k (omega arith))) (ap (list_all is_ascii_digit) same ∙ digits_decimal numerals k (omega arith));
-}
+-- texts that end in texts of one length are the same in both parts
+same_ends : (xs ys s t : List ℕ) → length s ≡ length t → xs ++ s ≡ ys ++ t → (xs ≡ ys) × (s ≡ t)
+same_ends [] [] s t n e = (refl, e)
+same_ends [] (y ∷ ys) s t n e = absurd (omega (arith, n, ap length e, length-append ys t))
+same_ends (x ∷ xs) [] s t n e = absurd (omega (arith, n, ap length e, length-append xs s))
+same_ends (x ∷ xs) (y ∷ ys) s t n e =
+    let head : x ≡ y = cc in
+    let tail : xs ++ s ≡ ys ++ t = cc in
+    let rest = same_ends xs ys s t n tail in
+    (ap₂ ◌∷◌ head rest.0, rest.1)
+
+pub tail_length : (tail : List ℕ) → IsTail tail → length tail ≡ 8
+tail_length tail (inl e) = ap length e
+tail_length tail (inr e) = ap length e
+
+-- a word has one number and one tail
+pub same_tails : (ds es s t : List ℕ) → IsTail s → IsTail t → ds ++ s ≡ es ++ t → (ds ≡ es) × (s ≡ t)
+same_tails ds es s t x y e = same_ends ds es s t (tail_length s x ∙ sym (tail_length t y)) e
+
+-- what isn't digits spells no number
+not_numeral : (digits : List ℕ) → (0 < length digits → list_all is_ascii_digit digits ≡ true → ⊥) → (k : ℕ) → 0 < k → k ≤ 255 → digits ≢ decimal k
+not_numeral digits none k some few e =
+    none (subst (λ d. 0 < length d) (sym e) (decimal_nonempty k (omega arith))) (ap (list_all is_ascii_digit) e ∙ digits_decimal numerals k (omega arith))
 
 not_zero : (n : ℕ) → 0 < n → (n == 0) ≡ false
 not_zero n some = grind (arith, nat_tests)
 
-pub no_bound_empty : (word digits : List ℕ) → word ≡ digits ++ codes "-bounded" → true ≡ (length digits == 0) → IsNoBound word
-no_bound_empty word digits is empty = no_bound word digits is (none digits empty)
+pub none_empty : (digits : List ℕ) → true ≡ (length digits == 0) → 0 < length digits → list_all is_ascii_digit digits ≡ true → ⊥
+none_empty digits empty some all = let off : true ≡ false = empty ∙ not_zero (length digits) some in absurd cc
+
+pub none_other : (digits : List ℕ) → false ≡ list_all is_ascii_digit digits → 0 < length digits → list_all is_ascii_digit digits ≡ true → ⊥
+none_other digits other some all = let same = other ∙ all in absurd cc
+
+-- a word that gives none of the conditions without a number
+pub record IsOther (word : List ℕ) : Type 0 where
+  pub pure : word ≢ codes "pure"
+  pub plain : word ≢ codes "plain"
+  pub safe : word ≢ codes "safe"
+  pub nonbranching : word ≢ codes "output-nonbranching"
+
+-- such a word gives a condition only by a number and a tail
+only_numbered : (word : List ℕ) → IsOther word → (c : Condition) → IsWordOf c word → (k : ℕ) × (tail : List ℕ) × (0 < k) × (k ≤ 255) × IsTail tail × (word ≡ decimal k ++ tail)
+only_numbered word other Pure x = absurd (other.pure x)
+only_numbered word other Plain x = absurd (other.plain x)
+only_numbered word other (Bounded k) (inl (one, safe)) = absurd (other.safe safe)
+only_numbered word other (Bounded k) (inr (some, few, spelled)) = (k, codes "-bounded", some, few, inl refl, spelled)
+only_numbered word other (Multiple n) (some, few, spelled) = (n, codes "-marking", some, few, inr refl, spelled)
+only_numbered word other Nonbranching x = absurd (other.nonbranching x)
+
+-- digits that spell no number, before a tail
+pub refused_numeral : (word digits tail : List ℕ) (number : ℕ) (f : ClassFault) (before : List Condition) → IsOther word → IsTail tail → word ≡ digits ++ tail
+    → ((f ≡ UnknownWord number) × (0 < length digits → list_all is_ascii_digit digits ≡ true → ⊥)) ⊎ ((f ≡ BadNumber number) × IsBadNumeral digits) → IsRefusedWord before word number f
+refused_numeral word digits tail number f before other ends is (inl (e, none)) = subst (IsRefusedWord before word number) (sym e) (refl, no_bad, no_word)
   where
-    none : (ds : List ℕ) → true ≡ (length ds == 0) → 0 < length ds → list_all is_ascii_digit ds ≡ true → ⊥
-    none [] e some all = absurd (omega arith)
-    none (d ∷ ds) e some all = let off : true ≡ false = e ∙ not_zero (length (d ∷ ds)) some in absurd cc
+    no_bad : IsBadNumber word → ⊥
+    no_bad b =
+        let same = (same_tails b.digits digits b.tail tail b.ends ends (sym b.spelled ∙ is)).0 in
+        none (subst (λ d. 0 < length d) same b.numeral.some) (subst (λ d. list_all is_ascii_digit d ≡ true) same b.numeral.all)
 
-pub no_bound_other : (word digits : List ℕ) → word ≡ digits ++ codes "-bounded" → false ≡ list_all is_ascii_digit digits → IsNoBound word
-no_bound_other word digits is other = no_bound word digits is (λ some all. let same = other ∙ all in absurd cc)
+    no_word : (c : Condition) → IsWordOf c word → ⊥
+    no_word c gives =
+        let (k, t, some, few, ends', spelled) = only_numbered word other c gives in
+        not_numeral digits none k some few (same_tails digits (decimal k) tail t ends ends' (sym is ∙ spelled)).0
+refused_numeral word digits tail number f before other ends is (inr (e, bad)) =
+    subst (IsRefusedWord before word number) (sym e) (refl, record { digits = digits; tail = tail; numeral = bad; ends = ends; spelled = is })
 
--- `-bounded` doesn't end the word
-pub no_bound_at_all : (word : List ℕ) → ((front : List ℕ) → word ≢ front ++ codes "-bounded") → IsNoBound word
-no_bound_at_all word none = record {
-  bad = λ b. none b.digits b.spelled;
-  good = λ k some few e. none (decimal k) e;
-}
+-- neither tail ends the word
+pub refused_untailed : (word : List ℕ) (number : ℕ) (before : List Condition) → IsOther word → ((front : List ℕ) → word ≢ front ++ codes "-bounded") → ((front : List ℕ) → word ≢ front ++ codes "-marking")
+    → IsRefusedWord before word number (UnknownWord number)
+refused_untailed word number before other unbounded unmarked = (refl, no_bad, no_word)
+  where
+    none : (digits tail : List ℕ) → IsTail tail → word ≡ digits ++ tail → ⊥
+    none digits tail (inl e) is = unbounded digits (is ∙ ap (λ t. digits ++ t) e)
+    none digits tail (inr e) is = unmarked digits (is ∙ ap (λ t. digits ++ t) e)
+
+    no_bad : IsBadNumber word → ⊥
+    no_bad b = none b.digits b.tail b.ends b.spelled
+
+    no_word : (c : Condition) → IsWordOf c word → ⊥
+    no_word c gives =
+        let (k, t, some, few, ends, spelled) = only_numbered word other c gives in
+        none (decimal k) t ends spelled
 
 -- a condition that a class asks for after one more was added was there, or is like that one
 asked_more : (class : Class) (b c : Condition) → asks_for (with_condition class b) c ≡ true → (asks_for class c ≡ true) ⊎ (is_like b c ≡ true)
 asked_more class Pure Pure e = inr refl
 asked_more class Pure Plain e = inl e
 asked_more class Pure (Bounded k) e = inl e
+asked_more class Pure (Multiple n) e = inl e
 asked_more class Pure Nonbranching e = inl e
 asked_more class Plain Pure e = inl e
 asked_more class Plain Plain e = inr refl
 asked_more class Plain (Bounded k) e = inl e
+asked_more class Plain (Multiple n) e = inl e
 asked_more class Plain Nonbranching e = inl e
 asked_more class (Bounded j) Pure e = inl e
 asked_more class (Bounded j) Plain e = inl e
 asked_more class (Bounded j) (Bounded k) e = inr refl
+asked_more class (Bounded j) (Multiple n) e = inl e
 asked_more class (Bounded j) Nonbranching e = inl e
+asked_more class (Multiple m) Pure e = inl e
+asked_more class (Multiple m) Plain e = inl e
+asked_more class (Multiple m) (Bounded k) e = inl e
+asked_more class (Multiple m) (Multiple n) e = inr refl
+asked_more class (Multiple m) Nonbranching e = inl e
 asked_more class Nonbranching Pure e = inl e
 asked_more class Nonbranching Plain e = inl e
 asked_more class Nonbranching (Bounded k) e = inl e
+asked_more class Nonbranching (Multiple n) e = inl e
 asked_more class Nonbranching Nonbranching e = inr refl
 
 asked_among : (class : Class) (cs : List Condition) (c : Condition) → asks_for (with_conditions class cs) c ≡ true
@@ -116,6 +179,7 @@ none_asked : (c : Condition) → asks_for no_condition c ≡ true → ⊥
 none_asked Pure e = absurd cc
 none_asked Plain e = absurd cc
 none_asked (Bounded k) e = absurd cc
+none_asked (Multiple n) e = absurd cc
 none_asked Nonbranching e = absurd cc
 
 -- a condition that the class asks for was given before

@@ -7,51 +7,77 @@ use Rattle.std.specs.List.{list_all}
 use Rattle.std.specs.Char.{is_ascii_digit}
 use Rattle.std.proofs.lemmas.List.{append_cancel_right}
 use Rattle.rg_theory.specs.declared.Class.{Class}
+use Rattle.rg_theory.proofs.ClassTexts.{tail_length, same_tails}
 use Rattle.rg_theory.specs.declared.class_words.Condition.{Condition}
-use Rattle.rg_theory.specs.declared.class_words.Condition.TheVariants.{Pure, Plain, Bounded, Nonbranching}
+use Rattle.rg_theory.specs.declared.class_words.Condition.TheVariants.{Pure, Plain, Bounded, Multiple, Nonbranching}
 use Rattle.rg_theory.specs.declared.class_words.ClassFault.{ClassFault}
 use Rattle.rg_theory.specs.declared.class_words.ClassFault.TheVariants.{UnknownWord, BadNumber, Repeated}
-use Rattle.rg_theory.specs.ClassWords.{bounded_word, IsWordOf, AreWordsOf, is_like, AreUnlike, no_condition, with_conditions, class_words, IsMadeOf, NamesClass, IsBadBound, IsRefusedWord, FirstRefusedWord}
+use Rattle.rg_theory.specs.ClassWords.{IsWordOf, AreWordsOf, is_like, AreUnlike, no_condition, with_conditions, class_words, IsMadeOf, NamesClass, IsTail, IsBadNumber, IsRefusedWord, FirstRefusedWord}
 
--- a bound's word is longer than the short words and shorter than the long one
-bound_length : (k : ℕ) → 0 < k → k ≤ 255 → (9 ≤ length (bounded_word k)) × (length (bounded_word k) ≤ 11)
-bound_length k some few =
-    let all = length-append (decimal k) (codes "-bounded") in
-    (omega (arith, all, decimal_nonempty k (omega arith)), omega (arith, all, length-decimal-le 3 k (omega arith) (omega arith) (omega arith)))
+-- a word with a number is longer than the short words and shorter than the long one
+number_length : (k : ℕ) (tail : List ℕ) → 0 < k → k ≤ 255 → IsTail tail → (9 ≤ length (decimal k ++ tail)) × (length (decimal k ++ tail) ≤ 11)
+number_length k tail some few ends =
+    let all = length-append (decimal k) tail in
+    let long = tail_length tail ends in
+    (omega (arith, all, long, decimal_nonempty k (omega arith)), omega (arith, all, long, length-decimal-le 3 k (omega arith) (omega arith) (omega arith)))
 
-not_bound : (word : List ℕ) (k : ℕ) → 0 < k → k ≤ 255 → ((length word < 9) ⊎ (11 < length word)) → word ≢ bounded_word k
-not_bound word k some few (inl short) is = omega (arith, ap length is, (bound_length k some few).0)
-not_bound word k some few (inr long) is = omega (arith, ap length is, (bound_length k some few).1)
+not_number : (word : List ℕ) (k : ℕ) (tail : List ℕ) → 0 < k → k ≤ 255 → IsTail tail → ((length word < 9) ⊎ (11 < length word)) → word ≢ decimal k ++ tail
+not_number word k tail some few ends (inl short) is = omega (arith, ap length is, (number_length k tail some few ends).0)
+not_number word k tail some few ends (inr long) is = omega (arith, ap length is, (number_length k tail some few ends).1)
 
 -- what a word that isn't a bound's can't be
 fixed_bound : (word : List ℕ) (k : ℕ) (text : List ℕ) → word ≡ text → ((length text < 9) ⊎ (11 < length text)) → (text ≢ codes "safe") → IsWordOf (Bounded k) word → ⊥
 fixed_bound word k text is far other (inl (one, safe)) = other (sym is ∙ safe)
-fixed_bound word k text is far other (inr (some, few, spelled)) = not_bound text k some few far (sym is ∙ spelled)
+fixed_bound word k text is far other (inr (some, few, spelled)) = not_number text k (codes "-bounded") some few (inl refl) far (sym is ∙ spelled)
+
+-- nor one that isn't a marking's
+fixed_marking : (word : List ℕ) (n : ℕ) (text : List ℕ) → word ≡ text → ((length text < 9) ⊎ (11 < length text)) → IsWordOf (Multiple n) word → ⊥
+fixed_marking word n text is far (some, few, spelled) = not_number text n (codes "-marking") some few (inr refl) far (sym is ∙ spelled)
 
 one_bound : (word : List ℕ) (j k : ℕ) → IsWordOf (Bounded j) word → IsWordOf (Bounded k) word → j ≡ k
 one_bound word j k (inl (one, safe)) (inl (one', safe')) = one ∙ sym one'
-one_bound word j k (inl (one, safe)) (inr (some, few, spelled)) = absurd (not_bound (codes "safe") k some few (inl (omega arith)) (sym safe ∙ spelled))
-one_bound word j k (inr (some, few, spelled)) (inl (one, safe)) = absurd (not_bound (codes "safe") j some few (inl (omega arith)) (sym safe ∙ spelled))
+one_bound word j k (inl (one, safe)) (inr (some, few, spelled)) = absurd (not_number (codes "safe") k (codes "-bounded") some few (inl refl) (inl (omega arith)) (sym safe ∙ spelled))
+one_bound word j k (inr (some, few, spelled)) (inl (one, safe)) = absurd (not_number (codes "safe") j (codes "-bounded") some few (inl refl) (inl (omega arith)) (sym safe ∙ spelled))
 one_bound word j k (inr (some, few, spelled)) (inr (some', few', spelled')) =
     decimal_injective j k (omega arith) (omega arith) (append_cancel_right (decimal j) (decimal k) (codes "-bounded") (sym spelled ∙ spelled'))
+
+one_marking : (word : List ℕ) (m n : ℕ) → IsWordOf (Multiple m) word → IsWordOf (Multiple n) word → m ≡ n
+one_marking word m n (some, few, spelled) (some', few', spelled') =
+    decimal_injective m n (omega arith) (omega arith) (append_cancel_right (decimal m) (decimal n) (codes "-marking") (sym spelled ∙ spelled'))
+
+-- no bound is a marking
+bound_apart : (word : List ℕ) (k n : ℕ) → IsWordOf (Bounded k) word → IsWordOf (Multiple n) word → ⊥
+bound_apart word k n (inl (one, safe)) y = fixed_marking word n (codes "safe") safe (inl (omega arith)) y
+bound_apart word k n (inr (some, few, spelled)) (some', few', spelled') =
+    let tails : codes "-bounded" ≡ codes "-marking" = (same_tails (decimal k) (decimal n) (codes "-bounded") (codes "-marking") (inl refl) (inr refl) (sym spelled ∙ spelled')).1 in
+    omega (arith, ap (λ l. get_or l 1 0) tails)
 
 -- a word gives one condition
 pub one_condition : (a b : Condition) (word : List ℕ) → IsWordOf a word → IsWordOf b word → a ≡ b
 one_condition Pure Pure word x y = refl
 one_condition Pure Plain word x y = absurd (omega (arith, ap (λ l. get_or l 1 0) (sym x ∙ y)))
 one_condition Pure (Bounded k) word x y = absurd (fixed_bound word k (codes "pure") x (inl (omega arith)) (λ e. omega (arith, ap (λ l. get_or l 0 0) e)) y)
+one_condition Pure (Multiple n) word x y = absurd (fixed_marking word n (codes "pure") x (inl (omega arith)) y)
 one_condition Pure Nonbranching word x y = absurd (omega (arith, ap (λ l. get_or l 0 0) (sym x ∙ y)))
 one_condition Plain Pure word x y = absurd (omega (arith, ap (λ l. get_or l 1 0) (sym x ∙ y)))
 one_condition Plain Plain word x y = refl
 one_condition Plain (Bounded k) word x y = absurd (fixed_bound word k (codes "plain") x (inl (omega arith)) (λ e. omega (arith, ap (λ l. get_or l 0 0) e)) y)
+one_condition Plain (Multiple n) word x y = absurd (fixed_marking word n (codes "plain") x (inl (omega arith)) y)
 one_condition Plain Nonbranching word x y = absurd (omega (arith, ap (λ l. get_or l 0 0) (sym x ∙ y)))
 one_condition (Bounded j) Pure word x y = absurd (fixed_bound word j (codes "pure") y (inl (omega arith)) (λ e. omega (arith, ap (λ l. get_or l 0 0) e)) x)
 one_condition (Bounded j) Plain word x y = absurd (fixed_bound word j (codes "plain") y (inl (omega arith)) (λ e. omega (arith, ap (λ l. get_or l 0 0) e)) x)
 one_condition (Bounded j) (Bounded k) word x y = ap Bounded (one_bound word j k x y)
+one_condition (Bounded j) (Multiple n) word x y = absurd (bound_apart word j n x y)
 one_condition (Bounded j) Nonbranching word x y = absurd (fixed_bound word j (codes "output-nonbranching") y (inr (omega arith)) (λ e. omega (arith, ap (λ l. get_or l 0 0) e)) x)
+one_condition (Multiple m) Pure word x y = absurd (fixed_marking word m (codes "pure") y (inl (omega arith)) x)
+one_condition (Multiple m) Plain word x y = absurd (fixed_marking word m (codes "plain") y (inl (omega arith)) x)
+one_condition (Multiple m) (Bounded k) word x y = absurd (bound_apart word k m y x)
+one_condition (Multiple m) (Multiple n) word x y = ap Multiple (one_marking word m n x y)
+one_condition (Multiple m) Nonbranching word x y = absurd (fixed_marking word m (codes "output-nonbranching") y (inr (omega arith)) x)
 one_condition Nonbranching Pure word x y = absurd (omega (arith, ap (λ l. get_or l 0 0) (sym x ∙ y)))
 one_condition Nonbranching Plain word x y = absurd (omega (arith, ap (λ l. get_or l 0 0) (sym x ∙ y)))
 one_condition Nonbranching (Bounded k) word x y = absurd (fixed_bound word k (codes "output-nonbranching") x (inr (omega arith)) (λ e. omega (arith, ap (λ l. get_or l 0 0) e)) y)
+one_condition Nonbranching (Multiple n) word x y = absurd (fixed_marking word n (codes "output-nonbranching") x (inr (omega arith)) y)
 one_condition Nonbranching Nonbranching word x y = refl
 
 -- words give one list of conditions
@@ -70,6 +96,7 @@ none_gives : (c : Condition) (word : List ℕ) → word ≡ codes "none" → IsW
 none_gives Pure word is x = omega (arith, ap (λ l. get_or l 0 0) (sym is ∙ x))
 none_gives Plain word is x = omega (arith, ap (λ l. get_or l 0 0) (sym is ∙ x))
 none_gives (Bounded k) word is x = fixed_bound word k (codes "none") is (inl (omega arith)) (λ e. omega (arith, ap (λ l. get_or l 0 0) e)) x
+none_gives (Multiple n) word is x = fixed_marking word n (codes "none") is (inl (omega arith)) x
 none_gives Nonbranching word is x = omega (arith, ap (λ l. get_or l 0 0) (sym is ∙ x))
 
 none_alone : (text : List ℕ) (class : Class) → text ≡ codes "none" → IsMadeOf text class → ⊥
@@ -90,21 +117,27 @@ and_left : (a b : Bool) → (a && b) ≡ true → a ≡ true
 and_left true b e = refl
 and_left false b e = absurd cc
 
--- a bad bound begins with a digit
-begins_else : (word text : List ℕ) → IsBadBound word → word ≡ text → is_ascii_digit (get_or text 0 0) ≡ false → ⊥
-begins_else word text bad is off = by bad.digits bad.some bad.all (sym bad.spelled ∙ is)
+-- a bad number begins with a digit
+begins_else : (word text : List ℕ) → IsBadNumber word → word ≡ text → is_ascii_digit (get_or text 0 0) ≡ false → ⊥
+begins_else word text bad is off = by bad.digits bad.numeral.some bad.numeral.all (sym bad.spelled ∙ is)
   where
-    by : (ds : List ℕ) → 0 < length ds → list_all is_ascii_digit ds ≡ true → ds ++ codes "-bounded" ≡ text → ⊥
+    by : (ds : List ℕ) → 0 < length ds → list_all is_ascii_digit ds ≡ true → ds ++ bad.tail ≡ text → ⊥
     by [] some all e = omega arith
     by (d ∷ ds) some all e =
         let head : d ≡ get_or text 0 0 = ap (λ l. get_or l 0 0) e in
         let both : true ≡ false = sym (and_left (is_ascii_digit d) (list_all is_ascii_digit ds) all) ∙ ap is_ascii_digit head ∙ off in cc
 
-bad_gives : (c : Condition) (word : List ℕ) → IsBadBound word → IsWordOf c word → ⊥
+-- a bad number with the tail of a good one
+bad_number : (word : List ℕ) (k : ℕ) (tail : List ℕ) → IsBadNumber word → 0 < k → k ≤ 255 → IsTail tail → word ≡ decimal k ++ tail → ⊥
+bad_number word k tail bad some few ends spelled =
+    bad.numeral.none k some few (same_tails bad.digits (decimal k) bad.tail tail bad.ends ends (sym bad.spelled ∙ spelled)).0
+
+bad_gives : (c : Condition) (word : List ℕ) → IsBadNumber word → IsWordOf c word → ⊥
 bad_gives Pure word bad x = begins_else word (codes "pure") bad x refl
 bad_gives Plain word bad x = begins_else word (codes "plain") bad x refl
 bad_gives (Bounded k) word bad (inl x) = begins_else word (codes "safe") bad x.1 refl
-bad_gives (Bounded k) word bad (inr x) = bad.none k x.0 x.1 (append_cancel_right bad.digits (decimal k) (codes "-bounded") (sym bad.spelled ∙ x.2))
+bad_gives (Bounded k) word bad (inr x) = bad_number word k (codes "-bounded") bad x.0 x.1 (inl refl) x.2
+bad_gives (Multiple n) word bad x = bad_number word n (codes "-marking") bad x.0 x.1 (inr refl) x.2
 bad_gives Nonbranching word bad x = begins_else word (codes "output-nonbranching") bad x refl
 
 -- no condition before is like this one

@@ -13,8 +13,8 @@ use Rattle.std.proofs.lemmas.List.Splits.{slice_split_none, slice_split_at}
 use Rattle.rg_theory.proofs.ClassTexts.{numerals}
 use Rattle.rg_theory.specs.declared.Class.{Class}
 use Rattle.rg_theory.specs.declared.class_words.Condition.{Condition}
-use Rattle.rg_theory.specs.declared.class_words.Condition.TheVariants.{Pure, Plain, Bounded, Nonbranching}
-use Rattle.rg_theory.specs.ClassWords.{bounded_word, IsWordOf, AreWordsOf, is_like, AreUnlike, no_condition, with_conditions, class_words, NamesClass, if_asked, bound_of, conditions_of, word_of, comma_joined, class_text, HasBoundInRange}
+use Rattle.rg_theory.specs.declared.class_words.Condition.TheVariants.{Pure, Plain, Bounded, Multiple, Nonbranching}
+use Rattle.rg_theory.specs.ClassWords.{bounded_word, marking_word, IsWordOf, AreWordsOf, is_like, AreUnlike, no_condition, with_conditions, class_words, NamesClass, if_asked, bound_of, if_marking, conditions_of, word_of, comma_joined, class_text, HasNumbersInRange}
 
 -- no comma stands in the word
 abbrev LacksComma : List ℕ → Type 0
@@ -26,9 +26,10 @@ joined_words word (next ∷ more) lacks =
     slice_split_at (λ b. b == 44) word 44 (comma_joined (next ∷ more)) (All-head LacksComma word (next ∷ more) lacks) refl
     ∙ ap (λ l. word ∷ l) (joined_words next more (All-tail LacksComma word (next ∷ more) lacks))
 
--- the bounds among conditions are in range
+-- the numbers of conditions are in range
 abbrev InRange : Condition → Type 0
 InRange (Bounded k) = (0 < k) × (k ≤ 255)
+InRange (Multiple n) = (0 < n) × (n ≤ 255)
 InRange _ = Unit {0}
 
 word_gives : (c : Condition) → InRange c → IsWordOf c (word_of c)
@@ -39,6 +40,7 @@ word_gives (Bounded k) h = by (k == 1) refl
     by : (b : Bool) → (k == 1) ≡ b → IsWordOf (Bounded k) (cond b (codes "safe") (bounded_word k))
     by true e = inl (eqb-true k 1 e, refl)
     by false e = inr (h.0, h.1, refl)
+word_gives (Multiple n) h = (h.0, h.1, refl)
 word_gives Nonbranching h = refl
 
 words_give : (cs : List Condition) → All InRange cs → AreWordsOf cs (map word_of cs)
@@ -80,6 +82,8 @@ word_lacks (Bounded k) h = by (k == 1)
     by true = lacks (codes "safe") refl
     by false = lacks (bounded_word k) (list_all-append is_other (decimal k) (codes "-bounded")
         ∙ both (list_all is_other (decimal k)) true (digits_are_other (decimal k) (digits_decimal numerals k (omega arith))) refl)
+word_lacks (Multiple n) h = lacks (marking_word n) (list_all-append is_other (decimal n) (codes "-marking")
+    ∙ both (list_all is_other (decimal n)) true (digits_are_other (decimal n) (digits_decimal numerals n (omega arith))) refl)
 word_lacks Nonbranching h = lacks (codes "output-nonbranching") refl
 
 words_lack : (cs : List Condition) → All InRange cs → All LacksComma (map word_of cs)
@@ -100,13 +104,17 @@ all_bound : (P : Condition → Type 0) (b : Option ℕ) (cs : List Condition) �
 all_bound P None cs here rest = rest
 all_bound P (Some k) cs here rest = All-cons P (Bounded k) cs here rest
 
+all_marking : (P : Condition → Type 0) (m : Option ℕ) (cs : List Condition) → IfSome m (λ n. P (Multiple n)) → All P cs → All P (if_marking m ++ cs)
+all_marking P None cs here rest = rest
+all_marking P (Some n) cs here rest = All-cons P (Multiple n) cs here rest
+
 all_one : (P : Condition → Type 0) (t : Bool) (c : Condition) → P c → All P (if_asked t c)
 all_one P true c here = All-cons P c [] here (All-nil P)
 all_one P false c here = All-nil P
 
-any_bound : (P : Condition → Type 0) (b : Option ℕ) → ((k : ℕ) → P (Bounded k)) → IfSome b (λ k. P (Bounded k))
-any_bound P None h = tt
-any_bound P (Some k) h = h k
+any_number : (P : ℕ → Type 0) (o : Option ℕ) → ((k : ℕ) → P k) → IfSome o P
+any_number P None h = tt
+any_number P (Some k) h = h k
 
 unlike_if : (t : Bool) (c : Condition) (cs : List Condition) → All (λ d. is_like c d ≡ false) cs → AreUnlike cs → AreUnlike (if_asked t c ++ cs)
 unlike_if true c cs apart rest = AllPairs-cons (λ a b. is_like a b ≡ false) c cs apart rest
@@ -116,51 +124,79 @@ unlike_bound : (b : Option ℕ) (cs : List Condition) → ((k : ℕ) → All (λ
 unlike_bound None cs apart rest = rest
 unlike_bound (Some k) cs apart rest = AllPairs-cons (λ a b. is_like a b ≡ false) (Bounded k) cs (apart k) rest
 
+unlike_marking : (m : Option ℕ) (cs : List Condition) → ((n : ℕ) → All (λ d. is_like (Multiple n) d ≡ false) cs) → AreUnlike cs → AreUnlike (if_marking m ++ cs)
+unlike_marking None cs apart rest = rest
+unlike_marking (Some n) cs apart rest = AllPairs-cons (λ a b. is_like a b ≡ false) (Multiple n) cs (apart n) rest
+
 unlike_one : (t : Bool) (c : Condition) → AreUnlike (if_asked t c)
 unlike_one true c = AllPairs-cons (λ a b. is_like a b ≡ false) c [] (All-nil (λ d. is_like c d ≡ false)) (λ i j d less within. absurd (omega arith))
 unlike_one false c = λ i j d less within. absurd (omega arith)
 
-made_by : (p q : Bool) (b : Option ℕ) (n : Bool) → record { pure = p; plain = q; bound = b; nonbranching = n }
-    ≡ with_conditions no_condition (if_asked p Pure ++ (if_asked q Plain ++ (bound_of b ++ if_asked n Nonbranching)))
-made_by true true None true = refl
-made_by true true None false = refl
-made_by true true (Some k) true = refl
-made_by true true (Some k) false = refl
-made_by true false None true = refl
-made_by true false None false = refl
-made_by true false (Some k) true = refl
-made_by true false (Some k) false = refl
-made_by false true None true = refl
-made_by false true None false = refl
-made_by false true (Some k) true = refl
-made_by false true (Some k) false = refl
-made_by false false None true = refl
-made_by false false None false = refl
-made_by false false (Some k) true = refl
-made_by false false (Some k) false = refl
+made_by : (p q : Bool) (b m : Option ℕ) (n : Bool) → record { pure = p; plain = q; bound = b; marking = m; nonbranching = n }
+    ≡ with_conditions no_condition (if_asked p Pure ++ (if_asked q Plain ++ (bound_of b ++ (if_marking m ++ if_asked n Nonbranching))))
+made_by true true None None true = refl
+made_by true true None None false = refl
+made_by true true None (Some i) true = refl
+made_by true true None (Some i) false = refl
+made_by true true (Some k) None true = refl
+made_by true true (Some k) None false = refl
+made_by true true (Some k) (Some i) true = refl
+made_by true true (Some k) (Some i) false = refl
+made_by true false None None true = refl
+made_by true false None None false = refl
+made_by true false None (Some i) true = refl
+made_by true false None (Some i) false = refl
+made_by true false (Some k) None true = refl
+made_by true false (Some k) None false = refl
+made_by true false (Some k) (Some i) true = refl
+made_by true false (Some k) (Some i) false = refl
+made_by false true None None true = refl
+made_by false true None None false = refl
+made_by false true None (Some i) true = refl
+made_by false true None (Some i) false = refl
+made_by false true (Some k) None true = refl
+made_by false true (Some k) None false = refl
+made_by false true (Some k) (Some i) true = refl
+made_by false true (Some k) (Some i) false = refl
+made_by false false None None true = refl
+made_by false false None None false = refl
+made_by false false None (Some i) true = refl
+made_by false false None (Some i) false = refl
+made_by false false (Some k) None true = refl
+made_by false false (Some k) None false = refl
+made_by false false (Some k) (Some i) true = refl
+made_by false false (Some k) (Some i) false = refl
 
-lists : (class : Class) → HasBoundInRange class → Lists class (conditions_of class)
+lists : (class : Class) → HasNumbersInRange class → Lists class (conditions_of class)
 lists class h =
     let last = if_asked class.nonbranching Nonbranching in
-    let bounds = bound_of class.bound ++ last in
+    let markings = if_marking class.marking ++ last in
+    let bounds = bound_of class.bound ++ markings in
     let plains = if_asked class.plain Plain ++ bounds in
     record {
       in_range = all_if InRange class.pure Pure plains tt (all_if InRange class.plain Plain bounds tt
-          (all_bound InRange class.bound last h (all_one InRange class.nonbranching Nonbranching tt)));
-      unlike = unlike_if class.pure Pure plains (apart Pure class.plain class.bound class.nonbranching refl (λ k. refl) refl)
-          (unlike_if class.plain Plain bounds (after Plain class.bound class.nonbranching (λ k. refl) refl)
-          (unlike_bound class.bound last (λ k. all_one (λ d. is_like (Bounded k) d ≡ false) class.nonbranching Nonbranching refl) (unlike_one class.nonbranching Nonbranching)));
-      made = made_by class.pure class.plain class.bound class.nonbranching;
+          (all_bound InRange class.bound markings h.bound (all_marking InRange class.marking last h.marking (all_one InRange class.nonbranching Nonbranching tt))));
+      unlike = unlike_if class.pure Pure plains (apart Pure class.plain class.bound class.marking class.nonbranching refl (λ k. refl) (λ k. refl) refl)
+          (unlike_if class.plain Plain bounds (after Plain class.bound class.marking class.nonbranching (λ k. refl) (λ k. refl) refl)
+          (unlike_bound class.bound markings (λ k. behind (Bounded k) class.marking class.nonbranching (λ n. refl) refl)
+          (unlike_marking class.marking last (λ n. all_one (λ d. is_like (Multiple n) d ≡ false) class.nonbranching Nonbranching refl) (unlike_one class.nonbranching Nonbranching))));
+      made = made_by class.pure class.plain class.bound class.marking class.nonbranching;
     }
   where
-    after : (c : Condition) (b : Option ℕ) (n : Bool) → ((k : ℕ) → is_like c (Bounded k) ≡ false) → is_like c Nonbranching ≡ false
-        → All (λ d. is_like c d ≡ false) (bound_of b ++ if_asked n Nonbranching)
-    after c b n bounded branching =
-        all_bound (λ d. is_like c d ≡ false) b (if_asked n Nonbranching) (any_bound (λ d. is_like c d ≡ false) b bounded) (all_one (λ d. is_like c d ≡ false) n Nonbranching branching)
+    behind : (c : Condition) (m : Option ℕ) (n : Bool) → ((k : ℕ) → is_like c (Multiple k) ≡ false) → is_like c Nonbranching ≡ false
+        → All (λ d. is_like c d ≡ false) (if_marking m ++ if_asked n Nonbranching)
+    behind c m n marked branching =
+        all_marking (λ d. is_like c d ≡ false) m (if_asked n Nonbranching) (any_number (λ k. is_like c (Multiple k) ≡ false) m marked) (all_one (λ d. is_like c d ≡ false) n Nonbranching branching)
 
-    apart : (c : Condition) (q : Bool) (b : Option ℕ) (n : Bool) → is_like c Plain ≡ false → ((k : ℕ) → is_like c (Bounded k) ≡ false) → is_like c Nonbranching ≡ false
-        → All (λ d. is_like c d ≡ false) (if_asked q Plain ++ (bound_of b ++ if_asked n Nonbranching))
-    apart c q b n plain bounded branching = all_if (λ d. is_like c d ≡ false) q Plain (bound_of b ++ if_asked n Nonbranching) plain (after c b n bounded branching)
+    after : (c : Condition) (b m : Option ℕ) (n : Bool) → ((k : ℕ) → is_like c (Bounded k) ≡ false) → ((k : ℕ) → is_like c (Multiple k) ≡ false) → is_like c Nonbranching ≡ false
+        → All (λ d. is_like c d ≡ false) (bound_of b ++ (if_marking m ++ if_asked n Nonbranching))
+    after c b m n bounded marked branching =
+        all_bound (λ d. is_like c d ≡ false) b (if_marking m ++ if_asked n Nonbranching) (any_number (λ k. is_like c (Bounded k) ≡ false) b bounded) (behind c m n marked branching)
+
+    apart : (c : Condition) (q : Bool) (b m : Option ℕ) (n : Bool) → is_like c Plain ≡ false → ((k : ℕ) → is_like c (Bounded k) ≡ false) → ((k : ℕ) → is_like c (Multiple k) ≡ false) → is_like c Nonbranching ≡ false
+        → All (λ d. is_like c d ≡ false) (if_asked q Plain ++ (bound_of b ++ (if_marking m ++ if_asked n Nonbranching)))
+    apart c q b m n plain bounded marked branching =
+        all_if (λ d. is_like c d ≡ false) q Plain (bound_of b ++ (if_marking m ++ if_asked n Nonbranching)) plain (after c b m n bounded marked branching)
 
 -- words, or none of them
 named : (class : Class) (cs : List Condition) → Lists class cs → NamesClass (comma_joined (map word_of cs)) class
@@ -172,5 +208,5 @@ named class (c ∷ cs) l = inr (record {
   made = l.made;
 })
 
-pub written : (class : Class) → HasBoundInRange class → NamesClass (class_text class) class
+pub written : (class : Class) → HasNumbersInRange class → NamesClass (class_text class) class
 written class h = named class (conditions_of class) (lists class h)

@@ -4,19 +4,23 @@ use Rattle.std.specs.List.{slice_split, list_all}
 use Rattle.std.specs.Char.{is_ascii_digit}
 use Rattle.rg_theory.specs.declared.Class.{Class}
 use Rattle.rg_theory.specs.declared.class_words.Condition.{Condition}
-use Rattle.rg_theory.specs.declared.class_words.Condition.TheVariants.{Pure, Plain, Bounded, Nonbranching}
+use Rattle.rg_theory.specs.declared.class_words.Condition.TheVariants.{Pure, Plain, Bounded, Multiple, Nonbranching}
 use Rattle.rg_theory.specs.declared.class_words.ClassFault.{ClassFault}
 use Rattle.rg_theory.specs.declared.class_words.ClassFault.TheVariants.{UnknownWord, BadNumber, Repeated}
 
--- a number and `-bounded`
+-- a number and `-bounded`, or `-marking`
 abbrev pub bounded_word : ℕ → List ℕ
 bounded_word k = decimal k ++ codes "-bounded"
+
+abbrev pub marking_word : ℕ → List ℕ
+marking_word n = decimal n ++ codes "-marking"
 
 -- the word gives the condition; `safe` is the bound 1
 abbrev pub IsWordOf : Condition → List ℕ → Type 0
 IsWordOf Pure word = word ≡ codes "pure"
 IsWordOf Plain word = word ≡ codes "plain"
 IsWordOf (Bounded k) word = ((k ≡ 1) × (word ≡ codes "safe")) ⊎ ((0 < k) × (k ≤ 255) × (word ≡ bounded_word k))
+IsWordOf (Multiple n) word = (0 < n) × (n ≤ 255) × (word ≡ marking_word n)
 IsWordOf Nonbranching word = word ≡ codes "output-nonbranching"
 
 -- the words give the conditions, one each
@@ -24,11 +28,12 @@ abbrev pub AreWordsOf : List Condition → List (List ℕ) → Type 0
 AreWordsOf [] words = words ≡ []
 AreWordsOf (c ∷ conditions) words = (word : List ℕ) × (more : List (List ℕ)) × IsWordOf c word × AreWordsOf conditions more × (words ≡ word ∷ more)
 
--- the same condition; two bounds are the same, whatever their numbers
+-- the same condition; two bounds are the same, whatever their numbers, and so are two markings
 abbrev pub is_like : Condition → Condition → Bool
 is_like Pure Pure = true
 is_like Plain Plain = true
 is_like (Bounded j) (Bounded k) = true
+is_like (Multiple m) (Multiple n) = true
 is_like Nonbranching Nonbranching = true
 is_like _ _ = false
 
@@ -38,13 +43,14 @@ AreUnlike conditions = AllPairs (λ a b. is_like a b ≡ false) conditions
 
 -- the class of all nets
 abbrev pub no_condition : Class
-no_condition = record { pure = false; plain = false; bound = None; nonbranching = false }
+no_condition = record { pure = false; plain = false; bound = None; marking = None; nonbranching = false }
 
 -- the class with one more condition
 abbrev pub with_condition : Class → Condition → Class
 with_condition class Pure = record class { pure = true }
 with_condition class Plain = record class { plain = true }
 with_condition class (Bounded k) = record class { bound = Some k }
+with_condition class (Multiple n) = record class { marking = Some n }
 with_condition class Nonbranching = record class { nonbranching = true }
 
 abbrev pub with_conditions : Class → List Condition → Class
@@ -60,6 +66,7 @@ abbrev pub asks_for : Class → Condition → Bool
 asks_for class Pure = class.pure
 asks_for class Plain = class.plain
 asks_for class (Bounded k) = is_some class.bound
+asks_for class (Multiple n) = is_some class.marking
 asks_for class Nonbranching = class.nonbranching
 
 -- the words of conditions, none given twice, and the class that they make
@@ -73,18 +80,23 @@ pub record IsMadeOf (text : List ℕ) (class : Class) : Type 0 where
 abbrev pub NamesClass : List ℕ → Class → Type 0
 NamesClass text class = ((text ≡ codes "none") × (class ≡ no_condition)) ⊎ IsMadeOf text class
 
--- digits and `-bounded`, but no bound from 1 to 255 without a leading 0
-pub record IsBadBound (word : List ℕ) : Type 0 where
-  pub digits : List ℕ
+-- digits, but no number from 1 to 255 without a leading 0
+pub record IsBadNumeral (digits : List ℕ) : Type 0 where
   pub some : 0 < length digits
   pub all : list_all is_ascii_digit digits ≡ true
-  pub spelled : word ≡ digits ++ codes "-bounded"
   pub none : (k : ℕ) → 0 < k → k ≤ 255 → digits ≢ decimal k
 
--- no bound of either kind is spelled
-pub record IsNoBound (word : List ℕ) : Type 0 where
-  pub bad : ¬ IsBadBound word
-  pub good : (k : ℕ) → 0 < k → k ≤ 255 → word ≢ bounded_word k
+-- what stands behind the number of a word
+abbrev pub IsTail : List ℕ → Type 0
+IsTail tail = (tail ≡ codes "-bounded") ⊎ (tail ≡ codes "-marking")
+
+-- digits and `-bounded` or `-marking`, but no number from 1 to 255 without a leading 0
+pub record IsBadNumber (word : List ℕ) : Type 0 where
+  pub digits : List ℕ
+  pub tail : List ℕ
+  pub numeral : IsBadNumeral digits
+  pub ends : IsTail tail
+  pub spelled : word ≡ digits ++ tail
 
 -- a word that gives a condition which one of those before gave
 pub record IsRepeated (before : List Condition) (word : List ℕ) : Type 0 where
@@ -94,8 +106,8 @@ pub record IsRepeated (before : List Condition) (word : List ℕ) : Type 0 where
 
 -- word number i, after those that gave these conditions, is refused
 abbrev pub IsRefusedWord : List Condition → List ℕ → ℕ → ClassFault → Type 0
-IsRefusedWord before word i (UnknownWord at) = (at ≡ i) × (¬ IsBadBound word) × ((c : Condition) → ¬ IsWordOf c word)
-IsRefusedWord before word i (BadNumber at) = (at ≡ i) × IsBadBound word
+IsRefusedWord before word i (UnknownWord at) = (at ≡ i) × (¬ IsBadNumber word) × ((c : Condition) → ¬ IsWordOf c word)
+IsRefusedWord before word i (BadNumber at) = (at ≡ i) × IsBadNumber word
 IsRefusedWord before word i (Repeated at) = (at ≡ i) × IsRepeated before word
 
 -- the first word that is refused; `none` is refused beside another word
@@ -123,15 +135,21 @@ abbrev pub bound_of : Option ℕ → List Condition
 bound_of None = []
 bound_of (Some k) = Bounded k ∷ []
 
+abbrev pub if_marking : Option ℕ → List Condition
+if_marking None = []
+if_marking (Some n) = Multiple n ∷ []
+
 abbrev pub conditions_of : Class → List Condition
 conditions_of class =
-    if_asked class.pure Pure ++ (if_asked class.plain Plain ++ (bound_of class.bound ++ if_asked class.nonbranching Nonbranching))
+    if_asked class.pure Pure
+    ++ (if_asked class.plain Plain ++ (bound_of class.bound ++ (if_marking class.marking ++ if_asked class.nonbranching Nonbranching)))
 
 -- the word of a condition; the bound 1 is `safe`
 abbrev pub word_of : Condition → List ℕ
 word_of Pure = codes "pure"
 word_of Plain = codes "plain"
 word_of (Bounded k) = if k == 1 then codes "safe" else bounded_word k
+word_of (Multiple n) = marking_word n
 word_of Nonbranching = codes "output-nonbranching"
 
 -- words with commas between, and `none` for no word
@@ -144,6 +162,7 @@ comma_joined (word ∷ next ∷ more) = word ++ 44 ∷ comma_joined (next ∷ mo
 abbrev pub class_text : Class → List ℕ
 class_text class = comma_joined (map word_of (conditions_of class))
 
--- a bound of a class is from 1 to 255
-abbrev pub HasBoundInRange : Class → Type 0
-HasBoundInRange class = IfSome class.bound (λ k. (0 < k) × (k ≤ 255))
+-- a bound of a class and its marking are from 1 to 255
+pub record HasNumbersInRange (class : Class) : Type 0 where
+  pub bound : IfSome class.bound (λ k. (0 < k) × (k ≤ 255))
+  pub marking : IfSome class.marking (λ n. (0 < n) × (n ≤ 255))

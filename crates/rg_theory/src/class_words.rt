@@ -7,7 +7,7 @@ ghost use Rattle.rg_theory.specs.declared.class_words.ClassFault.{ClassFault};
 ghost use Rattle.rg_theory.specs.declared.class_words.Condition.{Condition};
 ghost use Rattle.rg_theory.specs.declared.class_words.Condition.TheVariants as condition;
 ghost use Rattle.rg_theory.specs.declared.class_words.ClassFault.TheVariants as fault;
-ghost use Rattle.rg_theory.specs.ClassWords.{bounded_word, IsWordOf, no_condition, with_condition, with_conditions, asks_for, NamesClass, IsBadBound, IsNoBound, IsRefusedWord, FirstRefusedWord, IsClassTold, class_text, HasBoundInRange};
+ghost use Rattle.rg_theory.specs.ClassWords.{IsWordOf, no_condition, with_condition, with_conditions, asks_for, NamesClass, IsBadNumeral, IsRefusedWord, FirstRefusedWord, IsClassTold, class_text, HasNumbersInRange};
 
 use crate::Class;
 
@@ -16,9 +16,9 @@ use crate::Class;
 pub enum ClassFault {
     /// No word of a class; also an empty word, and `none` beside another word.
     UnknownWord(u32),
-    /// Digits and `-bounded`, whose number isn't 1 to 255 or begins with 0.
+    /// Digits and `-bounded` or `-marking`, whose number isn't 1 to 255 or begins with 0.
     BadNumber(u32),
-    /// A condition that an earlier word gave; two bounds are such.
+    /// A condition that an earlier word gave; two bounds are such, and two markings.
     Repeated(u32),
 }
 
@@ -31,14 +31,16 @@ pub enum Condition {
     Plain,
     /// `N-bounded`, or `safe` for the bound 1: no reachable marking has more tokens on a place.
     Bounded(u8),
+    /// `N-marking`: the start number of each place is a multiple of N.
+    Multiple(u8),
     /// `output-nonbranching`: one label at most takes from a place.
     Nonbranching,
 }
 
 impl Class {
     /// The class that a text names: `none`, or words separated by commas, in any order, each once: `pure`,
-    /// `plain`, `safe` or `N-bounded` with N from 1 to 255, `output-nonbranching`. The words are this project's
-    /// own; the conditions are those of Best and Devillers, Petri Net Primer.
+    /// `plain`, `safe` or `N-bounded`, `N-marking`, each with N from 1 to 255, `output-nonbranching`. The words are this
+    /// project's own; the conditions are those of Best and Devillers, Petri Net Primer.
     ///
     /// Errors: the first word that is refused, as `ClassFault` says.
     pub fn read(text: &str) -> Result<Class, ClassFault>
@@ -65,6 +67,7 @@ impl Class {
             pure: false,
             plain: false,
             bound: None,
+            marking: None,
             nonbranching: false,
         }
     }
@@ -93,6 +96,7 @@ impl Class {
             Condition::Pure => self.pure,
             Condition::Plain => self.plain,
             Condition::Bounded(_) => self.bound.is_some(),
+            Condition::Multiple(_) => self.marking.is_some(),
             Condition::Nonbranching => self.nonbranching,
         }
     }
@@ -105,6 +109,7 @@ impl Class {
             Condition::Pure => self.pure = true,
             Condition::Plain => self.plain = true,
             Condition::Bounded(k) => self.bound = Some(k),
+            Condition::Multiple(n) => self.marking = Some(n),
             Condition::Nonbranching => self.nonbranching = true,
         }
     }
@@ -124,18 +129,39 @@ fn condition_of(word: &str, number: u32) -> Result<Condition, ClassFault>
     } else if word == "output-nonbranching" {
         Ok(Condition::Nonbranching)
     } else {
-        bound_of(word, number)
+        numbered(word, number)
     }
 }
 
-// The bound that word number i gives.
-fn bound_of(word: &str, number: u32) -> Result<Condition, ClassFault>
-    ensures ok { IfOk result (λ c. (k : ℕ) × (c ≡ condition.Bounded k) × (0 < k) × (k ≤ 255) × (word.now ≡ bounded_word k)) }
-    ensures fault { IfErr result (λ f. ((f ≡ fault.UnknownWord number) × IsNoBound word.now) ⊎ ((f ≡ fault.BadNumber number) × IsBadBound word.now)) }
+// The bound or the marking that word number i gives.
+fn numbered(word: &str, number: u32) -> Result<Condition, ClassFault>
+    requires pure { word.now ≢ codes "pure" }
+    requires plain { word.now ≢ codes "plain" }
+    requires safe { word.now ≢ codes "safe" }
+    requires nonbranching { word.now ≢ codes "output-nonbranching" }
+    ensures ok { IfOk result (λ c. IsWordOf c word.now) }
+    ensures fault { IfErr result (λ f. (before : List Condition) → IsRefusedWord before word.now number f) }
 {
-    let Some(digits) = before_bounded(word) else {
-        return Err(ClassFault::UnknownWord(number));
-    };
+    if let Some(digits) = before(word, "-bounded") {
+        return match numeral(digits, number) {
+            Ok(k) => Ok(Condition::Bounded(k)),
+            Err(fault) => Err(fault),
+        };
+    }
+    if let Some(digits) = before(word, "-marking") {
+        return match numeral(digits, number) {
+            Ok(n) => Ok(Condition::Multiple(n)),
+            Err(fault) => Err(fault),
+        };
+    }
+    Err(ClassFault::UnknownWord(number))
+}
+
+// The number that stands before the tail of word number i.
+fn numeral(digits: &str, number: u32) -> Result<u8, ClassFault>
+    ensures ok { IfOk result (λ k. (0 < k) × (k ≤ 255) × (digits.now ≡ decimal k)) }
+    ensures fault { IfErr result (λ f. ((f ≡ fault.UnknownWord number) × (0 < length digits.now → list_all is_ascii_digit digits.now ≡ true → ⊥)) ⊎ ((f ≡ fault.BadNumber number) × IsBadNumeral digits.now)) }
+{
     if digits.is_empty() {
         return Err(ClassFault::UnknownWord(number));
     }
@@ -143,17 +169,17 @@ fn bound_of(word: &str, number: u32) -> Result<Condition, ClassFault>
         return Err(ClassFault::UnknownWord(number));
     }
     match small_number(digits) {
-        Some(k) => Ok(Condition::Bounded(k)),
+        Some(k) => Ok(k),
         None => Err(ClassFault::BadNumber(number)),
     }
 }
 
-// What stands before `-bounded`.
-fn before_bounded<'a>(word: &'a str) -> Option<&'a str>
-    ensures some { IfSome result (λ front. word.entry.now ≡ front.now ++ codes "-bounded") }
-    ensures none { IfNone result ((front : List ℕ) → word.entry.now ≢ front ++ codes "-bounded") }
+// What stands before the tail.
+fn before<'a>(word: &'a str, tail: &str) -> Option<&'a str>
+    ensures some { IfSome result (λ front. word.entry.now ≡ front.now ++ tail.now) }
+    ensures none { IfNone result ((front : List ℕ) → word.entry.now ≢ front ++ tail.now) }
 {
-    word.strip_suffix("-bounded")
+    word.strip_suffix(tail)
 }
 
 // Whether each byte is a digit.
@@ -180,12 +206,12 @@ fn small_number(digits: &str) -> Option<u8>
 }
 
 /// Each text names one class or has one first refused word, never both, the text with which a class is written
-/// names that class, and a class that a text names has a bound from 1 to 255 or none.
+/// names that class, and a class that a text names has a bound from 1 to 255 or none, and a marking from 1 to 255 or none.
 pub fn class_is_told()
     ensures told { (text : List ℕ) → IsClassTold text }
     ensures one_class { (text : List ℕ) (a b : Class) → NamesClass text a → NamesClass text b → a ≡ b }
     ensures one_fault { (text : List ℕ) (f g : ClassFault) → FirstRefusedWord text f → FirstRefusedWord text g → f ≡ g }
     ensures not_both { (text : List ℕ) (class : Class) (fault : ClassFault) → NamesClass text class → ¬ FirstRefusedWord text fault }
-    ensures written { (class : Class) → HasBoundInRange class → NamesClass (class_text class) class }
-    ensures in_range { (text : List ℕ) (class : Class) → NamesClass text class → HasBoundInRange class }
+    ensures written { (class : Class) → HasNumbersInRange class → NamesClass (class_text class) class }
+    ensures in_range { (text : List ℕ) (class : Class) → NamesClass text class → HasNumbersInRange class }
 {}

@@ -11,7 +11,7 @@ use Rattle.rg_cert.specs.Spells.{Spells}
 use Rattle.rg_cert.specs.Faults.{FirstFault}
 use Rattle.rg_cert.proofs.OneClaim.{one_claim, not_both}
 use Rattle.rg_verify.specs.declared.verdict.Defect.{Defect}
-use Rattle.rg_verify.specs.declared.verdict.Defect.TheVariants.{WrongRow, NotPositive, LeftOver, NoContradiction, SumPasses, CaseMissing, NotSo}
+use Rattle.rg_verify.specs.declared.verdict.Defect.TheVariants.{WrongRow, NotPositive, LeftOver, NoContradiction, SumPasses, WrongForm, CaseMissing, NotSo}
 use Rattle.rg_verify.specs.declared.verdict.Verdict.TheVariants.{Refused}
 use Rattle.rg_verify.specs.Judged.{Holds, Judges}
 use Rattle.rg_verify.proofs.OneVerdict.{refused_fails, left_in_range}
@@ -35,6 +35,7 @@ has_name lts claim case node (LeftOver v) judged = left_in_range lts claim case 
 has_name lts claim case node WrongRow judged = tt
 has_name lts claim case node NotPositive judged = tt
 has_name lts claim case node SumPasses judged = tt
+has_name lts claim case node WrongForm judged = tt
 has_name lts claim case node NoContradiction judged = tt
 has_name lts claim case node CaseMissing judged = tt
 has_name lts claim case node NotSo judged = tt

@@ -2,7 +2,7 @@
 ghost use Rattle.std.specs.Prelude.{◌≡◌, ℕ, ◌≤◌, [], map, string_bytes, IfOk, IsErrOf};
 ghost use Rattle.rg_ports.specs.Count.{HasRisen};
 ghost use Rattle.rg_lts.specs.WellFormed.{IsWellFormed};
-ghost use Rattle.rg_commands.specs.Requests.{asked_by, second_files, HasBounds, HasClassBound};
+ghost use Rattle.rg_commands.specs.Requests.{asked_by, second_files, HasBounds, HasClassNumbers};
 ghost use Rattle.rg_lines.specs.Usages.{usage_line};
 ghost use Rattle.rg_lines.specs.Files.{file_line};
 ghost use Rattle.rg_lines.specs.Wides.{wide_line};
@@ -110,7 +110,7 @@ fn file_answer<R: Threads + Sync, H: Shelf, G: Gate + Sync>(
     shelf: &mut H,
     gate: &G,
 ) -> Result<Answer, Stop>
-    requires bounds { HasClassBound (work_of work) }
+    requires bounds { HasClassNumbers (work_of work) }
     requires jobs { HasWorkJobs work }
     ensures asked { AsksFiles (H.files shelf.old) (work_of work.entry) file.now form (H.asked shelf.old) (H.asked shelf.new) }
     ensures reads { ReadsFiles H.finds H.hands (H.files shelf.old) (work_of work.entry) file.now form shelf.old shelf.new }
@@ -134,7 +134,7 @@ fn system_answer<R: Threads + Sync, H: Shelf, G: Gate + Sync>(
     shelf: &mut H,
     gate: &G,
 ) -> Result<Answer, Stop>
-    requires bounds { HasClassBound (work_of work) }
+    requires bounds { HasClassNumbers (work_of work) }
     requires jobs { HasWorkJobs work }
     ensures formed { IsWellFormed lts.now }
     ensures asked { H.asked shelf.new ≡ asked_more (H.asked shelf.old) (second_files (work_of work.entry)) }

@@ -1,6 +1,6 @@
 //! The answer to a request for a net.
 ghost use Rattle.std.specs.Prelude.{◌≡◌, ◌≤◌, IfOk};
-ghost use Rattle.rg_theory.specs.ClassWords.{HasBoundInRange};
+ghost use Rattle.rg_theory.specs.ClassWords.{HasNumbersInRange};
 ghost use Rattle.rg_top.specs.Synthesize.{SynthesizeEnds};
 
 use crate::answer::{Answer, said, too_wide};
@@ -25,7 +25,7 @@ pub(crate) fn net_answer<R: Threads + Sync, G: Gate + Sync>(
     jobs: u8,
     gate: &G,
 ) -> Result<Answer, NoMemory>
-    requires bound { HasBoundInRange class }
+    requires bound { HasNumbersInRange class }
     requires some { 1 ≤ jobs }
     ensures { IfOk result (λ a. SynthesizeEnds class lts.now a.status a.out.items a.err.items) }
 {

@@ -1,6 +1,6 @@
 //! The answer to a request for a self test.
 ghost use Rattle.std.specs.Prelude.{◌≡◌, [], length, IfOk, IsErrOf};
-ghost use Rattle.rg_theory.specs.ClassWords.{HasBoundInRange};
+ghost use Rattle.rg_theory.specs.ClassWords.{HasNumbersInRange};
 ghost use Rattle.rg_families.specs.Families.{IsFamilyNumber};
 ghost use Rattle.rg_refuting.specs.Refutes.{Accepts};
 ghost use Rattle.rg_reasons.specs.Certificates.{reason_of, IsCertificateOf};
@@ -38,6 +38,7 @@ const NONE: Class = Class {
     pure: false,
     plain: false,
     bound: None,
+    marking: None,
     nonbranching: false,
 };
 
@@ -46,6 +47,7 @@ const PURE_PLAIN_SAFE: Class = Class {
     pure: true,
     plain: true,
     bound: Some(1),
+    marking: None,
     nonbranching: false,
 };
 
@@ -124,7 +126,7 @@ fn trial_line<R: Threads + Sync, G: Gate + Sync>(
     gate: &G,
 ) -> Result<Vec<u8>, TrialStop>
     requires number { IsFamilyNumber kind n }
-    requires bound { HasBoundInRange class }
+    requires bound { HasNumbersInRange class }
     ensures line { IfOk result (λ line. HasLine (trial kind n class) line.items) }
     ensures passes { (at : WideAt) → IsErrOf result (stop.TooWide at) → Passes (trial kind n class) (shown_of at) }
 {

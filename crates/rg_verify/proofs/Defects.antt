@@ -9,7 +9,7 @@ use Rattle.rg_refuting.specs.Row.{RowName}
 use Rattle.rg_refuting.specs.Refutes.{NamedRow, IsSmall, LeafRefutes}
 use Rattle.rg_reasons.specs.Certificates.{IsVariableOf, IsRowOf}
 use Rattle.rg_verify.specs.declared.verdict.Defect.{Defect}
-use Rattle.rg_verify.specs.declared.verdict.Defect.TheVariants.{WrongRow, NotPositive, LeftOver, NoContradiction, SumPasses, CaseMissing, NotSo}
+use Rattle.rg_verify.specs.declared.verdict.Defect.TheVariants.{WrongRow, NotPositive, LeftOver, NoContradiction, SumPasses, WrongForm, CaseMissing, NotSo}
 use Rattle.rg_verify.specs.declared.sums.Sums.{Sums}
 use Rattle.rg_verify.specs.Judged.{IsReached, IsRightRow, IsDefectOf}
 use Rattle.rg_reasons.specs.Sums.{variable_of}
@@ -61,5 +61,6 @@ leaf_judged lts stands expression rows sums (Some NoContradiction) right each ta
 leaf_judged lts stands expression rows sums (Some WrongRow) right each table are wrong = absurd wrong
 leaf_judged lts stands expression rows sums (Some NotPositive) right each table are wrong = absurd wrong
 leaf_judged lts stands expression rows sums (Some SumPasses) right each table are wrong = absurd wrong
+leaf_judged lts stands expression rows sums (Some WrongForm) right each table are wrong = absurd wrong
 leaf_judged lts stands expression rows sums (Some CaseMissing) right each table are wrong = absurd wrong
 leaf_judged lts stands expression rows sums (Some NotSo) right each table are wrong = absurd wrong

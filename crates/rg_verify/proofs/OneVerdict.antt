@@ -1,5 +1,5 @@
 -- A certificate has one verdict.
-use Rattle.std.proofs.Common.{◌≡◌, ◌⊎◌, ℕ, ◌<◌, ◌+◌, true, false, List, [], ◌∷◌, ◌++◌, Some, length, take, slice_get, All, inl, inr, refl, sym, subst, ap, ◌∙◌, arith}
+use Rattle.std.proofs.Common.{◌≡◌, ◌⊎◌, ℕ, ◌<◌, ◌+◌, true, false, List, [], ◌∷◌, ◌++◌, Some, take, slice_get, All, inl, inr, refl, sym, subst, ap, ◌∙◌, arith}
 use Rattle.std.proofs.lemmas.Bool.{cases_order}
 use Rattle.std.proofs.lemmas.List.{length-take, get_or-take}
 use Rattle.std.proofs.lemmas.List.Elements.{All-nil, All-cons, All-append}
@@ -12,14 +12,14 @@ use Rattle.rg_refuting.specs.Expression.{Expression}
 use Rattle.rg_refuting.specs.Row.{Side, RowName, RowStands, row_expression}
 use Rattle.rg_refuting.specs.Refutes.{NamedRow, LeafRefutes, Tree, Tree.leaf, Tree.split, TreeRefutes, IsSeparationProblem, IsRefuted, Accepts}
 use Rattle.rg_refuting.specs.Refutes as refutes
-use Rattle.rg_reasons.specs.Trees.{preorder}
+use Rattle.rg_reasons.specs.Trees.{TreeNode, leaf_node, split_node}
 use Rattle.rg_reasons.specs.Certificates.{Claim, IsVariableOf}
 use Rattle.rg_reasons.specs.declared.variable.Variable.{Variable}
 use Rattle.rg_verify.specs.declared.verdict.Defect.{Defect}
-use Rattle.rg_verify.specs.declared.verdict.Defect.TheVariants.{WrongRow, NotPositive, LeftOver, NoContradiction, SumPasses, CaseMissing, NotSo}
+use Rattle.rg_verify.specs.declared.verdict.Defect.TheVariants.{WrongRow, NotPositive, LeftOver, NoContradiction, SumPasses, WrongForm, CaseMissing, NotSo}
 use Rattle.rg_verify.specs.declared.verdict.Verdict.{Verdict}
 use Rattle.rg_verify.specs.declared.verdict.Verdict.TheVariants.{Accepted, Refused}
-use Rattle.rg_verify.specs.Judged.{IsReached, IsVariableBefore, IsRightRow, IsFirstLeft, IsDefectOf, PlacedLeaf, leaves_of, Refutes, IsDefectIn, HasAllCases, IsDefectAmong, IsDefectFor, IsFirstDefect, Holds, Judges}
+use Rattle.rg_verify.specs.Judged.{IsReached, IsVariableBefore, IsRightRow, IsFirstLeft, IsDefectOf, PlacedNode, placed_nodes, HoldsAt, NodeHolds, IsNodeDefect, IsDefectIn, HasAllCases, IsDefectAmong, IsDefectFor, IsFirstDefect, Holds, Judges}
 use Rattle.rg_reasons.specs.Sums.{variable_of}
 use Rattle.rg_verify.proofs.Variables.{same_variable_of, before_or_not}
 
@@ -40,6 +40,14 @@ reached_once P xs i j x y one not_x other not_y = by (cases_order i j)
     by (inr (inl l)) = absurd (not_x (before_holds P xs i j x other.before l one.here))
     by (inr (inr l)) = absurd (not_y (before_holds P xs j i y one.before l other.here))
 
+place_once : {X : Type 0} (P : X → Type 0) (xs : List X) (i j : ℕ) (x y : X) → IsReached P xs i x → (P x → ⊥) → IsReached P xs j y → (P y → ⊥) → i ≡ j
+place_once P xs i j x y one not_x other not_y = by (cases_order i j)
+  where
+    by : (i ≡ j) ⊎ ((i < j) ⊎ (j < i)) → i ≡ j
+    by (inl e) = e
+    by (inr (inl l)) = absurd (not_x (before_holds P xs i j x other.before l one.here))
+    by (inr (inr l)) = absurd (not_y (before_holds P xs j i y one.before l other.here))
+
 -- the fact doesn't hold of all items
 not_all : {X : Type 0} (P : X → Type 0) (xs : List X) (i : ℕ) (x : X) → IsReached P xs i x → (P x → ⊥) → All P xs → ⊥
 not_all P xs i x reached not each = not (subst P (get_or_from_slice_get xs i x x reached.here) (each i x (slice_get_within xs i x reached.here)))
@@ -53,6 +61,7 @@ no_defect lts stands expression rows NotPositive (i, r, reached, stand, not) goo
 no_defect lts stands expression rows SumPasses (right, not) good = not good.small
 no_defect lts stands expression rows (LeftOver v) (summed, left) good = left.left (good.cancels (variable_of v))
 no_defect lts stands expression rows NoContradiction (summed, cancels, not) good = not good.contradicts
+no_defect lts stands expression rows WrongForm wrong good = wrong
 no_defect lts stands expression rows CaseMissing wrong good = wrong
 no_defect lts stands expression rows NotSo wrong good = wrong
 
@@ -101,34 +110,44 @@ one_defect lts stands expression rows NoContradiction NotPositive h k = absurd (
 one_defect lts stands expression rows NoContradiction SumPasses h k = absurd (k.1 h.0.small)
 one_defect lts stands expression rows NoContradiction (LeftOver w) h k = absurd (k.1.left (h.1 (variable_of w)))
 one_defect lts stands expression rows NoContradiction NoContradiction h k = refl
+one_defect lts stands expression rows WrongForm e h k = absurd h
 one_defect lts stands expression rows CaseMissing e h k = absurd h
 one_defect lts stands expression rows NotSo e h k = absurd h
+one_defect lts stands expression rows d WrongForm h k = absurd k
 one_defect lts stands expression rows d CaseMissing h k = absurd k
 one_defect lts stands expression rows d NotSo h k = absurd k
 
 -- ---- trees
 
--- the leaves of a tree that refutes
-leaves_refute : (lts : System) (class : Class) (problem : Problem) (number node : ℕ) (above : List Side) (tree : Tree) → TreeRefutes lts class problem number above tree → All (Refutes lts class problem number) (leaves_of node above tree)
-leaves_refute lts class problem number node above (leaf rows) good = All-cons (Refutes lts class problem number) (record { node = node; above = above; rows = rows }) [] good (All-nil _)
-leaves_refute lts class problem number node above (split form at low high) (left, right) =
-    All-append (Refutes lts class problem number) (leaves_of (node + 1) (above ++ record { form = form; at = at; high = false } ∷ []) low) (leaves_of (node + 1 + length (preorder low)) (above ++ record { form = form; at = at; high = true } ∷ []) high)
-    (leaves_refute lts class problem number (node + 1) (above ++ record { form = form; at = at; high = false } ∷ []) low left)
-    (leaves_refute lts class problem number (node + 1 + length (preorder low)) (above ++ record { form = form; at = at; high = true } ∷ []) high right)
+-- the nodes of a tree that refutes
+nodes_hold : (lts : System) (class : Class) (problem : Problem) (number : ℕ) (above : List Side) (tree : Tree) → TreeRefutes lts class problem number above tree → All (NodeHolds lts class problem number) (placed_nodes above tree)
+nodes_hold lts class problem number above (leaf rows) good = All-cons (NodeHolds lts class problem number) (record { above = above; node = leaf_node rows }) [] good (All-nil _)
+nodes_hold lts class problem number above (split form at low high) (form_stands, left, right) =
+    All-cons (NodeHolds lts class problem number) (record { above = above; node = split_node form at })
+    (placed_nodes (above ++ record { form = form; at = at; high = false } ∷ []) low ++ placed_nodes (above ++ record { form = form; at = at; high = true } ∷ []) high) form_stands
+    (All-append (NodeHolds lts class problem number) (placed_nodes (above ++ record { form = form; at = at; high = false } ∷ []) low) (placed_nodes (above ++ record { form = form; at = at; high = true } ∷ []) high)
+    (nodes_hold lts class problem number (above ++ record { form = form; at = at; high = false } ∷ []) low left)
+    (nodes_hold lts class problem number (above ++ record { form = form; at = at; high = true } ∷ []) high right))
 
-not_refuting : (lts : System) (class : Class) (problem : Problem) (number : ℕ) (l : PlacedLeaf) (d : Defect) → IsDefectOf lts (RowStands lts class problem number l.above) (row_expression lts class problem number l.above) l.rows d → Refutes lts class problem number l → ⊥
-not_refuting lts class problem number l d wrong good = no_defect lts (RowStands lts class problem number l.above) (row_expression lts class problem number l.above) l.rows d wrong good
+not_holding : (lts : System) (class : Class) (problem : Problem) (number : ℕ) (above : List Side) (node : TreeNode) (d : Defect) → IsNodeDefect lts class problem number above node d → HoldsAt lts class problem number above node → ⊥
+not_holding lts class problem number above (leaf_node rows) d wrong good = no_defect lts (RowStands lts class problem number above) (row_expression lts class problem number above) rows d wrong good
+not_holding lts class problem number above (split_node form at) d (is, none) good = none good
 
 no_defect_in : (lts : System) (class : Class) (problem : Problem) (number : ℕ) (tree : Tree) (n : ℕ) (d : Defect) → IsDefectIn lts class problem number tree n d → TreeRefutes lts class problem number [] tree → ⊥
-no_defect_in lts class problem number tree n d (place, l, reached, is, wrong) good =
-    not_all (Refutes lts class problem number) (leaves_of 0 [] tree) place l reached (not_refuting lts class problem number l d wrong) (leaves_refute lts class problem number 0 [] tree good)
+no_defect_in lts class problem number tree n d (v, reached, wrong) good =
+    not_all (NodeHolds lts class problem number) (placed_nodes [] tree) n v reached (not_holding lts class problem number v.above v.node d wrong) (nodes_hold lts class problem number [] tree good)
+
+one_node_defect : (lts : System) (class : Class) (problem : Problem) (number : ℕ) (above : List Side) (node : TreeNode) (d e : Defect) → IsNodeDefect lts class problem number above node d → IsNodeDefect lts class problem number above node e → d ≡ e
+one_node_defect lts class problem number above (leaf_node rows) d e h k = one_defect lts (RowStands lts class problem number above) (row_expression lts class problem number above) rows d e h k
+one_node_defect lts class problem number above (split_node form at) d e (is, none) (is', none') = is ∙ sym is'
 
 one_in_tree : (lts : System) (class : Class) (problem : Problem) (number : ℕ) (tree : Tree) (n m : ℕ) (d e : Defect) → IsDefectIn lts class problem number tree n d → IsDefectIn lts class problem number tree m e → (n ≡ m) × (d ≡ e)
-one_in_tree lts class problem number tree n m d e (i, l, reached, is, wrong) (j, l', reached', is', wrong') =
-    let same = reached_once (Refutes lts class problem number) (leaves_of 0 [] tree) i j l l' reached (not_refuting lts class problem number l d wrong) reached' (not_refuting lts class problem number l' e wrong') in (
-      is ∙ ap (λ (x : PlacedLeaf). x.node) same ∙ sym is',
-      one_defect lts (RowStands lts class problem number l.above) (row_expression lts class problem number l.above) l.rows d e wrong
-          (subst (λ (x : PlacedLeaf). IsDefectOf lts (RowStands lts class problem number x.above) (row_expression lts class problem number x.above) x.rows e) (sym same) wrong'),
+one_in_tree lts class problem number tree n m d e (v, reached, wrong) (w, reached', wrong') =
+    let not_v = not_holding lts class problem number v.above v.node d wrong in
+    let not_w = not_holding lts class problem number w.above w.node e wrong' in
+    let same = reached_once (NodeHolds lts class problem number) (placed_nodes [] tree) n m v w reached not_v reached' not_w in (
+      place_once (NodeHolds lts class problem number) (placed_nodes [] tree) n m v w reached not_v reached' not_w,
+      one_node_defect lts class problem number v.above v.node d e wrong (subst (λ (x : PlacedNode). IsNodeDefect lts class problem number x.above x.node e) (sym same) wrong'),
     )
 
 -- ---- cases
@@ -160,6 +179,7 @@ kind_of lts class problem trees case node NotPositive h = inr (inr h)
 kind_of lts class problem trees case node (LeftOver v) h = inr (inr h)
 kind_of lts class problem trees case node NoContradiction h = inr (inr h)
 kind_of lts class problem trees case node SumPasses h = inr (inr h)
+kind_of lts class problem trees case node WrongForm h = inr (inr h)
 
 same_refusal : (c n b m : ℕ) (d e : Defect) → c ≡ b → n ≡ m → d ≡ e → Refused c n d ≡ Refused b m e
 same_refusal c n b m d e p q r = cc
@@ -206,7 +226,11 @@ refused_fails lts claim case node defect judged holds = no_first lts claim.class
 pub left_in_range : (lts : System) (claim : Claim) (case node : ℕ) (v : Variable) → Judges lts claim (Refused case node (LeftOver v)) → IsVariableOf lts (variable_of v)
 left_in_range lts claim case node v judged = by claim.reason judged
   where
+    left_of : (problem : Problem) (above : List Side) (n : TreeNode) → IsNodeDefect lts claim.class problem case above n (LeftOver v) → IsVariableOf lts (variable_of v)
+    left_of problem above (leaf_node rows) wrong = wrong.1.in_range
+    left_of problem above (split_node form at) (is, none) = absurd cc
+
     by : (reason : refutes.Reason) → IsFirstDefect lts claim.class reason case node (LeftOver v) → IsVariableOf lts (variable_of v)
     by (refutes.unreachable s) (c, n, is, not) = absurd cc
     by (refutes.fork s t s₁ s₂) (c, n, is, not) = absurd cc
-    by (refutes.refuted problem trees) among = let (place, l, reached, is, wrong) = among.found in wrong.1.in_range
+    by (refutes.refuted problem trees) among = let (v, reached, wrong) = among.found in left_of problem v.above v.node wrong

@@ -9,28 +9,39 @@ use Rattle.rg_theory.specs.declared.Class.{Class}
 use Rattle.rg_theory.specs.Class.{NoNet}
 use Rattle.rg_theory.specs.declared.Problem.{Problem}
 use Rattle.rg_theory.specs.declared.Problem.TheVariants.{Event, States}
-use Rattle.rg_refuting.specs.Row.{HasArcAt, cases_of}
+use Rattle.rg_refuting.specs.Row.{Side, HasArcAt, RowStands, row_expression, cases_of}
 use Rattle.rg_refuting.specs.Refutes.{Tree, TreeRefutes, IsSeparationProblem, IsRefuted}
 use Rattle.rg_refuting.proofs.Accepted.{accepted}
 use Rattle.rg_reasons.specs.declared.certificate.Case.{Case}
 use Rattle.rg_reasons.specs.declared.certificate.Certificate.{Certificate}
 use Rattle.rg_reasons.specs.declared.certificate.Reason.TheVariants as reason
+use Rattle.rg_reasons.specs.Trees.{TreeNode, leaf_node, split_node}
 use Rattle.rg_reasons.specs.Certificates.{claim_of, IsCertificateOf, IsTreeOf, case_tree, reason_of}
 use Rattle.rg_verify.specs.declared.verdict.Verdict.{Verdict}
 use Rattle.rg_verify.specs.declared.verdict.Verdict.TheVariants.{Accepted, Refused}
 use Rattle.rg_verify.specs.declared.verdict.Defect.{Defect}
-use Rattle.rg_verify.specs.declared.verdict.Defect.TheVariants.{WrongRow, NotPositive, LeftOver, NoContradiction, SumPasses, CaseMissing, NotSo}
-use Rattle.rg_verify.specs.Judged.{HasAllCases, IsDefectAmong, IsDefectFor, IsDefectIn, JudgesTrees, Judges}
+use Rattle.rg_verify.specs.declared.verdict.Defect.TheVariants.{WrongRow, NotPositive, LeftOver, NoContradiction, SumPasses, WrongForm, CaseMissing, NotSo}
+use Rattle.rg_verify.specs.Judged.{IsDefectOf, IsNodeDefect, HasAllCases, IsDefectAmong, IsDefectFor, IsDefectIn, JudgesTrees, Judges}
 
--- a leaf's defect is neither that the problem isn't asked nor that cases are missing
+-- no node has the defect that cases are missing, or that the problem isn't asked
+neither : (lts : System) (class : Class) (problem : Problem) (number : ℕ) (above : List Side) (node : TreeNode) (defect : Defect) → (defect ≡ CaseMissing) ⊎ (defect ≡ NotSo) → IsNodeDefect lts class problem number above node defect → ⊥
+neither lts class problem number above (leaf_node rows) defect (inl is) wrong =
+    subst (IsDefectOf lts (RowStands lts class problem number above) (row_expression lts class problem number above) rows) is wrong
+neither lts class problem number above (leaf_node rows) defect (inr is) wrong =
+    subst (IsDefectOf lts (RowStands lts class problem number above) (row_expression lts class problem number above) rows) is wrong
+neither lts class problem number above (split_node form at) defect (inl is) (form_is, none) = let both : CaseMissing ≡ WrongForm = sym is ∙ form_is in absurd cc
+neither lts class problem number above (split_node form at) defect (inr is) (form_is, none) = let both : NotSo ≡ WrongForm = sym is ∙ form_is in absurd cc
+
+-- a node's defect is neither that the problem isn't asked nor that cases are missing
 pub defect_for : (lts : System) (class : Class) (problem : Problem) (trees : List Tree) (case node : ℕ) (defect : Defect) → IsDefectAmong lts class problem trees case node defect → IsDefectFor lts class problem trees case node defect
 defect_for lts class problem trees case node WrongRow among = among
 defect_for lts class problem trees case node NotPositive among = among
 defect_for lts class problem trees case node (LeftOver v) among = among
 defect_for lts class problem trees case node NoContradiction among = among
 defect_for lts class problem trees case node SumPasses among = among
-defect_for lts class problem trees case node CaseMissing among = let (place, l, reached, is, wrong) = among.found in absurd wrong
-defect_for lts class problem trees case node NotSo among = let (place, l, reached, is, wrong) = among.found in absurd wrong
+defect_for lts class problem trees case node WrongForm among = among
+defect_for lts class problem trees case node CaseMissing among = let (v, reached, wrong) = among.found in absurd (neither lts class problem case v.above v.node CaseMissing (inl refl) wrong)
+defect_for lts class problem trees case node NotSo among = let (v, reached, wrong) = among.found in absurd (neither lts class problem case v.above v.node NotSo (inr refl) wrong)
 
 -- the image of the item at a place
 image_is : {X Y : Type 0} (f : X → Y) (xs : List X) (i : ℕ) (x : X) → i < length xs → x ≡ get_or xs i x → slice_get (map f xs) i ≡ Some (f x)

@@ -1,18 +1,18 @@
 -- What a verdict on a certificate says: that it holds, or its first defect.
-use Rattle.std.specs.Prelude.{◌≡◌, ◌≢◌, ℕ, ◌+◌, ◌<◌, true, false, List, [], ◌∷◌, ◌++◌, length, take, All, pos, ◌<ℤ◌, slice_get, Some}
+use Rattle.std.specs.Prelude.{◌≡◌, ◌≢◌, ℕ, ◌<◌, true, false, List, [], ◌∷◌, ◌++◌, length, take, All, pos, ◌<ℤ◌, slice_get, Some}
 use Rattle.rg_theory.specs.System.{System}
 use Rattle.rg_theory.specs.declared.Class.{Class}
 use Rattle.rg_theory.specs.declared.Problem.{Problem}
 use Rattle.rg_refuting.specs.Expression.{Variable.tokens_at, Variable.effect_of, Expression}
 use Rattle.rg_refuting.specs.Expression as linear
-use Rattle.rg_refuting.specs.Row.{Side, RowName, RowStands, row_expression, cases_of}
+use Rattle.rg_refuting.specs.Row.{Side, RowName, FormStands, RowStands, row_expression, cases_of}
 use Rattle.rg_refuting.specs.Refutes.{NamedRow, IsMultiplier, IsSmall, coefficient_sum, constant_sum, LeafRefutes, Tree, Tree.leaf, Tree.split, TreeRefutes, IsSeparationProblem, IsRefuted, Accepts}
 use Rattle.rg_refuting.specs.Refutes as refutes
-use Rattle.rg_reasons.specs.Trees.{preorder}
+use Rattle.rg_reasons.specs.Trees.{TreeNode, leaf_node, split_node}
 use Rattle.rg_reasons.specs.Certificates.{Claim, IsVariableOf}
 use Rattle.rg_reasons.specs.Sums.{variable_of}
 use Rattle.rg_verify.specs.declared.verdict.Defect.{Defect}
-use Rattle.rg_verify.specs.declared.verdict.Defect.TheVariants.{WrongRow, NotPositive, LeftOver, NoContradiction, SumPasses, CaseMissing, NotSo}
+use Rattle.rg_verify.specs.declared.verdict.Defect.TheVariants.{WrongRow, NotPositive, LeftOver, NoContradiction, SumPasses, WrongForm, CaseMissing, NotSo}
 use Rattle.rg_verify.specs.declared.verdict.Verdict.{Verdict}
 use Rattle.rg_verify.specs.declared.verdict.Verdict.TheVariants.{Accepted, Refused}
 
@@ -54,31 +54,39 @@ IsDefectOf lts stands expression rows NotPositive = (place : ℕ) × (r : NamedR
 IsDefectOf lts stands expression rows SumPasses = All (IsRightRow stands) rows × (¬ IsSmall expression rows)
 IsDefectOf lts stands expression rows (LeftOver v) = AreSummed stands expression rows × IsFirstLeft lts expression rows (variable_of v)
 IsDefectOf lts stands expression rows NoContradiction = AreSummed stands expression rows × ((v : linear.Variable) → coefficient_sum expression rows v ≡ pos 0) × (¬ (constant_sum expression rows <ℤ pos 0))
+IsDefectOf lts stands expression rows WrongForm = ⊥
 IsDefectOf lts stands expression rows CaseMissing = ⊥
 IsDefectOf lts stands expression rows NotSo = ⊥
 
--- a leaf of a tree: its place among the nodes in preorder, the sides above it, outermost first, and its rows
-pub record PlacedLeaf : Type 0 where
-  pub node : ℕ
+-- a node of a tree: the sides above it, outermost first, and what it is
+pub record PlacedNode : Type 0 where
   pub above : List Side
-  pub rows : List NamedRow
+  pub node : TreeNode
 
--- the leaves of a tree in preorder, where the tree's first node has the number and stands below the sides
-abbrev pub leaves_of : ℕ → List Side → Tree → List PlacedLeaf
-leaves_of node above (leaf rows) = record { node = node; above = above; rows = rows } ∷ []
-leaves_of node above (split form at low high) =
-    leaves_of (node + 1) (above ++ record { form = form; at = at; high = false } ∷ []) low
-    ++ leaves_of (node + 1 + length (preorder low)) (above ++ record { form = form; at = at; high = true } ∷ []) high
+-- the nodes of a tree in preorder, where the tree stands below the sides
+abbrev pub placed_nodes : List Side → Tree → List PlacedNode
+placed_nodes above (leaf rows) = record { above = above; node = leaf_node rows } ∷ []
+placed_nodes above (split form at low high) =
+    record { above = above; node = split_node form at }
+    ∷ (placed_nodes (above ++ record { form = form; at = at; high = false } ∷ []) low ++ placed_nodes (above ++ record { form = form; at = at; high = true } ∷ []) high)
 
--- the leaf refutes in one case of a problem
-abbrev pub Refutes : System → Class → Problem → ℕ → PlacedLeaf → Type 0
-Refutes lts class problem number l = LeafRefutes (RowStands lts class problem number l.above) (row_expression lts class problem number l.above) l.rows
+-- below the sides a leaf refutes in one case of a problem; a split may be on its form
+abbrev pub HoldsAt : System → Class → Problem → ℕ → List Side → TreeNode → Type 0
+HoldsAt lts class problem number above (leaf_node rows) = LeafRefutes (RowStands lts class problem number above) (row_expression lts class problem number above) rows
+HoldsAt lts class problem number above (split_node form at) = FormStands class form
 
--- the first leaf that doesn't refute is the node, and has the defect
+abbrev pub NodeHolds : System → Class → Problem → ℕ → PlacedNode → Type 0
+NodeHolds lts class problem number v = HoldsAt lts class problem number v.above v.node
+
+-- what is wrong with a node below the sides
+abbrev pub IsNodeDefect : System → Class → Problem → ℕ → List Side → TreeNode → Defect → Type 0
+IsNodeDefect lts class problem number above (leaf_node rows) defect = IsDefectOf lts (RowStands lts class problem number above) (row_expression lts class problem number above) rows defect
+IsNodeDefect lts class problem number above (split_node form at) defect = (defect ≡ WrongForm) × ¬ FormStands class form
+
+-- the first node that doesn't hold has the defect; its number is its place in preorder
 abbrev pub IsDefectIn : System → Class → Problem → ℕ → Tree → ℕ → Defect → Type 0
 IsDefectIn lts class problem number tree node defect =
-    (place : ℕ) × (l : PlacedLeaf) × IsReached (Refutes lts class problem number) (leaves_of 0 [] tree) place l × (node ≡ l.node)
-    × IsDefectOf lts (RowStands lts class problem number l.above) (row_expression lts class problem number l.above) l.rows defect
+    (v : PlacedNode) × IsReached (NodeHolds lts class problem number) (placed_nodes [] tree) node v × IsNodeDefect lts class problem number v.above v.node defect
 
 -- there is a tree for each case, and there is a case
 abbrev pub HasAllCases : System → Class → Problem → List Tree → Type 0

@@ -35,7 +35,8 @@ impl Found {
     }
 }
 
-/// The first leaf that doesn't refute, with its defect; None where all leaves refute.
+/// The first leaf that doesn't refute, or split that may not be on its form, with its defect; None where all leaves refute and all
+/// splits may be on their forms.
 pub(crate) fn case_defect(
     alloc: Global,
     sums: &mut Sums,
@@ -53,11 +54,19 @@ pub(crate) fn case_defect(
     let mut above = Vec::new(alloc);
     for (node, content) in case.nodes.iter().enumerate() {
         match content {
-            Node::Split(form, at) => above.push(Side {
-                form: *form,
-                at: *at,
-                high: false,
-            })?,
+            Node::Split(form, at) => {
+                if !form.stands(problem_case.class) {
+                    return Ok(Some(Found {
+                        node: node as u64,
+                        defect: Defect::WrongForm,
+                    }));
+                }
+                above.push(Side {
+                    form: *form,
+                    at: *at,
+                    high: false,
+                })?
+            }
             Node::Leaf(rows) => {
                 if let Some(defect) = leaf_defect(sums, lts, problem_case, &above, rows)? {
                     return Ok(Some(Found {

@@ -24,6 +24,7 @@ pub(crate) fn row_expression(
     requires name { IsRowNameOf lts.now (row_name_of name) }
     ensures { IsExpressionOf lts.now result (expression_in lts.now problem_case above.now (row_name_of name)) }
 {
+    lts.is_well_formed();
     without_opposites(expression(lts, problem_case, above, name))
 }
 

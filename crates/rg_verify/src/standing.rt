@@ -59,7 +59,10 @@ fn shared_stands(lts: &Lts, class: Class, consumer: u32, above: &[Side], name: R
         RowName::Cap(_) => class.bound.is_some(),
         RowName::Up(_) | RowName::Down(_) => class.plain,
         RowName::Makes(t) => class.nonbranching && t != consumer,
-        RowName::Above(depth) => above.get(depth as usize).is_some(),
+        RowName::Above(depth) => match above.get(depth as usize) {
+            Some(side) => side.form.stands(class),
+            None => false,
+        },
         _ => false,
     }
 }

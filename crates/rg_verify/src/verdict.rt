@@ -17,8 +17,8 @@ pub(crate) fn comes_before(one: Variable, other: Variable) -> bool
     }
 }
 
-/// What is wrong with a certificate. The first defect is told: `NotSo`, then `CaseMissing`, then by case and by leaf, in preorder,
-/// that of the first wrong row, `SumPasses`, `LeftOver` and `NoContradiction`.
+/// What is wrong with a certificate. The first defect is told: `NotSo`, then `CaseMissing`, then by case and by node, in preorder:
+/// `WrongForm` of a split, or of a leaf that of the first wrong row, `SumPasses`, `LeftOver` and `NoContradiction`.
 #[derive(Clone, Copy, Debug, PartialEq, Eq)]
 pub enum Defect {
     /// A row doesn't stand: the class, the problem or its case hasn't it, there is no such arc, or no split so deep above.
@@ -32,6 +32,8 @@ pub enum Defect {
     /// The absolute values of a variable's multiplied coefficients, or of the multiplied constants, add up to more than
     /// 2^127 - 1.
     SumPasses,
+    /// A split is on the start, and the class asks no marking.
+    WrongForm,
     /// The number of cases isn't that of the problem, or is 0.
     CaseMissing,
     /// The reason doesn't hold of the system: the state can be reached, the two arcs aren't a fork, the label has an arc

@@ -1,12 +1,13 @@
 use Rattle.std.proofs.Common.{arith}
 use Rattle.rg_reasons.specs.Trees.{nodes_of}
+use Rattle.rg_cert.specs.Text.{version_two}
 use Rattle.rg_cert.specs.Drafts.{nodes_lines, IsCase}
 use Rattle.rg_cert.proofs.Printed.{all_at, more_lines}
 use Rattle.rg_cert.proofs.printing.push_cases.Goals as goal
 
 pub push_case-requires : goal.push_case-requires
 push_case-requires c =
-    all_at (IsCase c.args.lts.now) nodes_of c.args.cases.now c.loop-case.case-index c.case-item.result c.requires (omega arith) c.case-item.is
+    all_at (IsCase c.args.lts.now version_two) nodes_of c.args.cases.now c.loop-case.case-index c.case-item.result c.requires (omega arith) c.case-item.is
 
 pub loop-case-preserved : goal.loop-case-preserved
 loop-case-preserved c =

@@ -1,10 +1,13 @@
 use Rattle.rg_order_of_work.proofs.Forms.{form_value}
 use Rattle.rg_order_of_work.proofs.FormBounds.{forms_bounded}
-use Rattle.rg_order_of_work.proofs.FormRows.{form_multiple, form_fits}
+use Rattle.rg_order_of_work.proofs.FormRows.{form_multiple, start_scale, form_fits}
 use Rattle.rg_order_of_work.proofs.meaning.forms_are_exact.Goals as goal
 
 pub returns-clause-value : goal.returns-clause-value
 returns-clause-value c = form_value
+
+pub returns-clause-start : goal.returns-clause-start
+returns-clause-start c = start_scale
 
 pub returns-clause-bounded : goal.returns-clause-bounded
 returns-clause-bounded c = forms_bounded

@@ -33,7 +33,7 @@ pub place_of-requires-clause-numbers : goal.place_of-requires-clause-numbers
 place_of-requires-clause-numbers c =
     let along = rw (c.arcs.ensures, c.deref.ensures.value) at c.in_ok-numbers.ensures.value in
     let before = before_length c.args.lts.now c.args.tree.now.arcs (cycle_of c.args.basis.now) c.args.class c.args.problem (point_start c.args.class c.args.point.now) (point_value c.args.lts.now (cycle_of c.args.basis.now) c.args.class c.args.point.now) (ratios_of c.in_ok-found.found.items) c.in_ok-found.ensures.value (ratios_of c.in_ok-numbers.numbers.items) along in
-    let count = sym (length-map c.in_ok-numbers-2.numbers.items ratio_of) ∙ shift_length c.args.class (ratios_of c.in_ok-numbers.numbers.items) (ratios_of c.in_ok-numbers-2.numbers.items) c.in_ok-numbers-2.ensures.value ∙ before in
+    let count = sym (length-map c.in_ok-numbers-2.numbers.items ratio_of) ∙ shift_length c.args.lts.now c.args.class c.args.problem (ratios_of c.in_ok-numbers.numbers.items) (ratios_of c.in_ok-numbers-2.numbers.items) c.in_ok-numbers-2.ensures.value ∙ before in
     rw c.deref-3.ensures.value count
 
 pub returns-clause-place : goal.returns-clause-place
@@ -53,7 +53,7 @@ pub returns-clause-tokens : goal.returns-clause-tokens
 returns-clause-tokens c =
     let along = rw (c.arcs.ensures, c.deref.ensures.value) at c.in_ok-numbers.ensures.value in
     let tokens = rw c.deref-3.ensures.value at c.place_of.ensures.tokens in
-    if_ok (λ (r : RegionPlace). r.tokens.items ≡ map (λ (n : Ratio). unsigned_abs n.top) (ratios_of c.in_ok-numbers-2.numbers.items)) (λ (r : RegionPlace). AreTokensMade c.args.lts.now c.args.tree.now.arcs (cycle_of c.args.basis.now) c.args.class (point_start c.args.class c.args.point.now) (point_value c.args.lts.now (cycle_of c.args.basis.now) c.args.class c.args.point.now) r.tokens.items) c.place_of.result
+    if_ok (λ (r : RegionPlace). r.tokens.items ≡ map (λ (n : Ratio). unsigned_abs n.top) (ratios_of c.in_ok-numbers-2.numbers.items)) (λ (r : RegionPlace). AreTokensMade c.args.lts.now c.args.tree.now.arcs (cycle_of c.args.basis.now) c.args.class c.args.problem (point_start c.args.class c.args.point.now) (point_value c.args.lts.now (cycle_of c.args.basis.now) c.args.class c.args.point.now) r.tokens.items) c.place_of.result
     (λ r h. record {
       numbers = ratios_of c.in_ok-numbers-2.numbers.items;
       made = numbers_made c.args.lts.now c.args.tree.now.arcs (cycle_of c.args.basis.now) c.args.class c.args.problem (point_start c.args.class c.args.point.now) (point_value c.args.lts.now (cycle_of c.args.basis.now) c.args.class c.args.point.now) (ratios_of c.in_ok-found.found.items) c.in_ok-found.ensures.value (ratios_of c.in_ok-numbers.numbers.items) along (ratios_of c.in_ok-numbers-2.numbers.items) c.in_ok-numbers-2.ensures.value;
@@ -65,8 +65,14 @@ returns-clause-region c =
     let along = rw (c.arcs.ensures, c.deref.ensures.value) at c.in_ok-numbers.ensures.value in
     let tokens = rw c.deref-3.ensures.value at c.place_of.ensures.tokens in
     let before = before_length c.args.lts.now c.args.tree.now.arcs (cycle_of c.args.basis.now) c.args.class c.args.problem (point_start c.args.class c.args.point.now) (point_value c.args.lts.now (cycle_of c.args.basis.now) c.args.class c.args.point.now) (ratios_of c.in_ok-found.found.items) c.in_ok-found.ensures.value (ratios_of c.in_ok-numbers.numbers.items) along in
-    let count = shift_length c.args.class (ratios_of c.in_ok-numbers.numbers.items) (ratios_of c.in_ok-numbers-2.numbers.items) c.in_ok-numbers-2.ensures.value ∙ before in
+    let count = shift_length c.args.lts.now c.args.class c.args.problem (ratios_of c.in_ok-numbers.numbers.items) (ratios_of c.in_ok-numbers-2.numbers.items) c.in_ok-numbers-2.ensures.value ∙ before in
     let made = numbers_made c.args.lts.now c.args.tree.now.arcs (cycle_of c.args.basis.now) c.args.class c.args.problem (point_start c.args.class c.args.point.now) (point_value c.args.lts.now (cycle_of c.args.basis.now) c.args.class c.args.point.now) (ratios_of c.in_ok-found.found.items) c.in_ok-found.ensures.value (ratios_of c.in_ok-numbers.numbers.items) along (ratios_of c.in_ok-numbers-2.numbers.items) c.in_ok-numbers-2.ensures.value in
     if_both (λ (r : RegionPlace). place_fold c.args.lts.now c.args.tree.now.arcs (cycle_of c.args.basis.now) c.args.class c.args.problem (point_start c.args.class c.args.point.now) (point_value c.args.lts.now (cycle_of c.args.basis.now) c.args.class c.args.point.now) (Ok (shown_place r.place))) (λ (r : RegionPlace). r.tokens.items ≡ map (λ (n : Ratio). unsigned_abs n.top) (ratios_of c.in_ok-numbers-2.numbers.items))
     (λ (r : RegionPlace). IsLive c.args.lts.now c.args.problem → SolvesCase c.args.lts.now c.args.tree.now.arcs (cycle_of c.args.basis.now) c.args.class c.args.problem c.args.point.now → IsRegionPlace c.args.lts.now c.args.class r × PlaceSeparates c.args.problem r) c.place_of.result
     (λ r h t live s. region_made c.args.lts.now c.args.tree.now.arcs (cycle_of c.args.basis.now) c.args.class c.args.problem c.args.point.now r (ratios_of c.in_ok-numbers-2.numbers.items) c.requires.columns live s made h t count) (returns-clause-place c) tokens
+
+pub shifted-requires : goal.shifted-requires
+shifted-requires c =
+    let along = rw (c.arcs.ensures, c.deref.ensures.value) at c.in_ok-numbers.ensures.value in
+    sym (length-map c.in_ok-numbers.numbers.items ratio_of)
+    ∙ before_length c.args.lts.now c.args.tree.now.arcs (cycle_of c.args.basis.now) c.args.class c.args.problem (point_start c.args.class c.args.point.now) (point_value c.args.lts.now (cycle_of c.args.basis.now) c.args.class c.args.point.now) (ratios_of c.in_ok-found.found.items) c.in_ok-found.ensures.value (ratios_of c.in_ok-numbers.numbers.items) along

@@ -4,6 +4,7 @@ use Rattle.std.proofs.lemmas.List.{length-map, map-append}
 use Rattle.std.proofs.lemmas.List.Elements.{All-nil, All-cons, All-append}
 use Rattle.rg_order_of_work.specs.Rewriting.{column_count, form_fold}
 use Rattle.rg_integers.specs.Range.{InRange}
+use Rattle.rg_integers.proofs.Casts.{back}
 use Rattle.std.specs.Prelude.{pos, ◌<ℤ◌}
 use Rattle.rg_fraction.specs.declared.fold_stop.FoldStop.TheVariants as stop
 use Rattle.rg_denominators.specs.View.{scaled_of}
@@ -51,7 +52,7 @@ loop-i-preserved c =
     let number = c.args.case.number in
     let columns = column_count lts basis class in
     let rows = map row_in c.args.rows.now in
-    let Made = IsMade class columns (map kept_row rows) c.args.places.now in
+    let Made = IsMade lts class columns (map kept_row rows) c.args.places.now in
     let below = subst (λ n. c.loop-i.i < n) (sym c.requires.one_each) c.loop-i-test.true in
     elim c.match-form_named.branch [
       | in-Some+in_ok-scaled+in_ok-named+in_ok-push w ↦
@@ -59,17 +60,18 @@ loop-i-preserved c =
           let scaled = w.in_ok-scaled.scaled in
           let pushed = w.in_ok-push.ensures.items in
           let row = w.row.result.now in
+          let scale = w.in_ok-named.ensures.numbers.0 ∙ back scaled.multiple scaled.multiple_in_range in
           let one = step_made lts tree basis class problem number c.args.names.now c.loop-i.i _ c.loop-i-test.true w.in-Some.form w.in-Some.ensures _ refl rows (simp length-map below) c.requires.rows row (held_is c.args.rows.now c.loop-i.i w.index-rows-i.result row below w.index-rows-i.is w.row.ensures) columns c.args.places.now f w.in_ok-named.ensures.form w.in_ok-named.ensures.row w.in_ok-named.ensures.bounds
           (ap length w.in_ok-named.ensures.numbers.1 ∙ w.in_ok-scaled.ensures.one_each)
-          (subst (λ z. pos 0 <ℤ z) (sym w.in_ok-named.ensures.numbers.0) scaled.positive)
-          (subst InRange (sym w.in_ok-named.ensures.numbers.0) scaled.multiple_in_range)
+          (λ bound. subst (λ z. pos 0 <ℤ z) (sym scale) scaled.positive)
+          (subst InRange (sym scale) scaled.multiple_in_range)
           (subst (All InRange) (sym w.in_ok-named.ensures.numbers.1) scaled.numbers_in_range)
           w.in_ok-named.ensures.in_range in
           subst (λ (v : Vec NamedForm Global). Keeps lts tree basis class c.args.names.now rows c.args.places.now (c.loop-i.i + 1) v.items) (sym w.forms-is)
           (subst (Keeps lts tree basis class c.args.names.now rows c.args.places.now (c.loop-i.i + 1)) (sym pushed)
           (record {
             so_far = subst (λ (xs : List Form). (r : Result (List Form) Wide) → each (form_fold lts tree basis class) (forms_in class (drop (c.loop-i.i + 1) (map row_name_of c.args.names.now))) r → each (form_fold lts tree basis class) (forms_in class (map row_name_of c.args.names.now)) (behind xs r)) (sym (map-append linear_form c.loop-i.forms.items (f ∷ [])))
-                (step_next lts tree basis class problem number c.args.names.now c.loop-i.i _ c.loop-i-test.true w.in-Some.form w.in-Some.ensures _ refl (map linear_form c.loop-i.forms.items) c.loop-i.invariant.so_far f (scaled_of scaled) w.in_ok-scaled.ensures.value w.in_ok-named.ensures.numbers.0 w.in_ok-named.ensures.numbers.1 w.in_ok-named.ensures.bounds.0 w.in_ok-named.ensures.bounds.1);
+                (step_next lts tree basis class problem number c.args.names.now c.loop-i.i _ c.loop-i-test.true w.in-Some.form w.in-Some.ensures _ refl (map linear_form c.loop-i.forms.items) c.loop-i.invariant.so_far f (scaled_of scaled) w.in_ok-scaled.ensures.value scale w.in_ok-named.ensures.numbers.1 w.in_ok-named.ensures.bounds.0 w.in_ok-named.ensures.bounds.1);
             splits = subst (λ (xs : List SplitForm). xs ++ forms_in class (drop (c.loop-i.i + 1) (map row_name_of c.args.names.now)) ≡ forms_in class (map row_name_of c.args.names.now)) (sym (map-append split_of c.loop-i.forms.items (f ∷ [])))
                 (step_named lts tree basis class problem number c.args.names.now c.loop-i.i _ c.loop-i-test.true w.in-Some.form w.in-Some.ensures _ refl (map split_of c.loop-i.forms.items) c.loop-i.invariant.splits f w.in_ok-named.ensures.form);
             made = All-append Made c.loop-i.forms.items (f ∷ []) c.loop-i.invariant.made (All-cons Made f [] one (All-nil Made));

@@ -1,10 +1,10 @@
-use Rattle.std.proofs.Common.{rules, ◌≡◌, ◌+◌, ◌*◌, ◌^◌, ◌<◌, ◌≤◌, [], All, List, map, length, Ok, Err, ap, refl, subst, sym, ◌∙◌, arith}
+use Rattle.std.proofs.Common.{rules, ◌≡◌, ◌+◌, ◌*◌, ◌^◌, ◌<◌, ◌≤◌, [], All, Contains, List, map, length, Ok, Err, ap, refl, subst, sym, ◌∙◌, arith}
 use Rattle.std.specs.Arc.{arc_slice_items}
 use Rattle.std.proofs.lemmas.List.{length-map}
 use Rattle.rg_theory.specs.System.{states, labels}
 use Rattle.rg_fraction.specs.declared.fold_stop.FoldStop.TheVariants as stop
 use Rattle.rg_linear.specs.Firsts.{KeepsFirsts}
-use Rattle.rg_refuting.specs.Row.{RowName, Form as SplitForm}
+use Rattle.rg_refuting.specs.Row.{RowName, RowName.tokens_row, Form as SplitForm}
 use Rattle.rg_order_of_work.specs.Fold.{each}
 use Rattle.rg_order_of_work.specs.Rewriting.{CaseSystem, IsIdle, KeptRow, column_count, names_of, form_fold, rows_of}
 use Rattle.rg_order_of_work.specs.Meaning.{IsCaseOver}
@@ -13,14 +13,14 @@ use Rattle.rg_reasons.specs.Trees.{row_name_of}
 use Rattle.rg_cycles.specs.View.{cycle_of}
 use Rattle.rg_rows.specs.declared.held_row.HeldRow.{HeldRow}
 use Rattle.rg_rows.specs.View.{kept_row, row_in, AreNamesWithin, ArePlaces, fold_of}
-use Rattle.rg_rows.specs.Forms.{linear_form, forms_in, StandsInRow, AreFormsOf}
+use Rattle.rg_rows.specs.Forms.{linear_form, case_forms, StandsInRow, AreFormsOf}
 use Rattle.rg_rows.specs.Making.{IsMade}
 use Rattle.rg_columns.proofs.Picking.{columns_few}
 use Rattle.rg_linear.proofs.Firsts.{kept_count}
 use Rattle.rg_rows.proofs.Terms.{names_within}
 use Rattle.rg_rows.proofs.Making.{case_made, forms_fail}
 use Rattle.rg_rows.proofs.Forming.{names_few, well_formed}
-use Rattle.rg_rows.proofs.FormNames.{forms_are}
+use Rattle.rg_rows.proofs.FormNames.{forms_are, has_start_name, code_name}
 use Rattle.rg_rows.proofs.Assembling.{all_stand, all_forms}
 use Rattle.rg_rows.proofs.named_system.system_with.Goals as goal
 
@@ -40,23 +40,29 @@ firsts-requires c =
     let high : labels lts ≤ 256 = c.is_well_formed.ensures.few_labels in
     omega arith
 
-pub forms-requires-clause-names : goal.forms-requires-clause-names
-forms-requires-clause-names c =
+pub case_forms-requires-clause-names : goal.case_forms-requires-clause-names
+case_forms-requires-clause-names c =
     let named = ap (map row_name_of) c.deref-3.ensures.value ∙ c.in_ok-names.ensures in
     subst (AreNamesWithin c.args.lts.now c.args.class c.args.problem c.args.case) (sym named) (names_within c.args.lts.now c.args.class c.args.problem c.args.case c.requires.asked)
 
-pub forms-requires-clause-rows : goal.forms-requires-clause-rows
-forms-requires-clause-rows c =
+pub case_forms-requires-clause-rows : goal.case_forms-requires-clause-rows
+case_forms-requires-clause-rows c =
     subst (λ (l : List RowName). each (fold_of c.args.lts.now c.args.tree.now.arcs (cycle_of c.args.basis.now) c.args.class c.args.problem c.args.case) l (Ok (map kept_row (map row_in c.deref-4.result.now)))) (ap (map row_name_of) (c.deref.ensures.value ∙ sym c.deref-3.ensures.value))
     (subst (λ (l : List HeldRow). each (fold_of c.args.lts.now c.args.tree.now.arcs (cycle_of c.args.basis.now) c.args.class c.args.problem c.args.case) (map row_name_of c.deref.result.now) (Ok (map kept_row (map row_in l)))) (sym c.deref-4.ensures.value) c.in_ok-all.ensures.value)
 
-pub forms-requires-clause-one_each : goal.forms-requires-clause-one_each
-forms-requires-clause-one_each c = ap length c.deref-4.ensures.value ∙ c.in_ok-all.ensures.few ∙ ap length (c.deref.ensures.value ∙ sym c.deref-3.ensures.value)
+pub case_forms-requires-clause-one_each : goal.case_forms-requires-clause-one_each
+case_forms-requires-clause-one_each c = ap length c.deref-4.ensures.value ∙ c.in_ok-all.ensures.few ∙ ap length (c.deref.ensures.value ∙ sym c.deref-3.ensures.value)
 
-pub forms-requires-clause-places : goal.forms-requires-clause-places
-forms-requires-clause-places c =
+pub case_forms-requires-clause-places : goal.case_forms-requires-clause-places
+case_forms-requires-clause-places c =
     let (kept, shows, firsts, places) = c.in_ok-kept.ensures in
     ap length c.deref-5.ensures.value ∙ places.one_each ∙ length-map (map row_in c.deref-2.result.now) kept_row ∙ length-map c.deref-2.result.now row_in ∙ ap length (c.deref-2.ensures.value ∙ sym c.deref-4.ensures.value)
+
+pub case_forms-requires-clause-start : goal.case_forms-requires-clause-start
+case_forms-requires-clause-start c = λ splits.
+    let named = ap (map row_name_of) c.deref-3.ensures.value ∙ c.in_ok-names.ensures in
+    code_name c.deref-3.result.now c.args.lts.now.initial (subst (λ (l : List RowName). Contains l (tokens_row c.args.lts.now.initial)) (sym named)
+    (has_start_name c.args.lts.now c.args.class c.args.problem c.args.case c.is_well_formed.ensures.in_range.initial splits))
 
 pub returns-in_err-forms-clause-wide : goal.returns-in_err-forms-clause-wide
 returns-in_err-forms-clause-wide c = λ w e.
@@ -71,7 +77,7 @@ returns-in_err-forms-clause-wide c = λ w e.
     let named = ap (map row_name_of) c.deref.ensures.value ∙ c.in_ok-names.ensures in
     let named_again = ap (map row_name_of) c.deref-3.ensures.value ∙ c.in_ok-names.ensures in
     forms_fail lts tree basis class problem number (map row_name_of c.deref.result.now) named (map kept_row (map row_in c.in_ok-all.all.items)) c.in_ok-all.ensures.value w
-    (subst (λ (l : List SplitForm). each (form_fold lts tree basis class) l (Err w)) (ap (forms_in class) named_again ∙ forms_are lts class problem number) (c.in_err-forms.ensures.wide w (ap (λ x. Err x) is)))
+    (subst (λ (l : List SplitForm). each (form_fold lts tree basis class) l (Err w)) (ap (case_forms class problem) named_again ∙ forms_are lts class problem number) (c.in_err-forms.ensures.wide w (ap (λ x. Err x) is)))
 
 pub new-requires : goal.new-requires
 new-requires c =
@@ -106,7 +112,7 @@ returns-clause-system c =
     let columns : c.count.result ≡ column_count lts basis class = c.count.ensures lts class (sym c.requires.labels) c.requires.common.columns in
     let shown : CaseSystem = record { columns = c.count.result; kept = kept; forms = map linear_form c.in_ok-forms.forms.items } in
     let kept_firsts = subst (λ l. KeepsFirsts (λ k. k.row) IsIdle [] (map kept_row (map row_in l)) kept) c.deref-2.ensures.value firsts in
-    let forms_made = subst (λ (l : List SplitForm). each (form_fold lts tree basis class) l (Ok shown.forms)) (ap (forms_in class) named_again ∙ forms_are lts class problem number) c.in_ok-forms.ensures.value in (
+    let forms_made = subst (λ (l : List SplitForm). each (form_fold lts tree basis class) l (Ok shown.forms)) (ap (case_forms class problem) named_again ∙ forms_are lts class problem number) c.in_ok-forms.ensures.value in (
       shown,
       case_made lts tree basis class problem number (map row_name_of c.deref.result.now) named (map kept_row all) c.in_ok-all.ensures.value shown.forms shown forms_made columns kept_firsts refl,
       record { system = c.new.ensures ∙ (λ i. record { columns = c.count.result; rows = shows.rows i }); names = shows.names; factors = shows.factors; forms = refl },
@@ -115,7 +121,7 @@ returns-clause-system c =
 pub returns-clause-named : goal.returns-clause-named
 returns-clause-named c =
     let named_again = ap (map row_name_of) c.deref-3.ensures.value ∙ c.in_ok-names.ensures in
-    c.in_ok-forms.ensures.forms ∙ ap (forms_in c.args.class) named_again ∙ forms_are c.args.lts.now c.args.class c.args.problem c.args.case
+    c.in_ok-forms.ensures.forms ∙ ap (case_forms c.args.class c.args.problem) named_again ∙ forms_are c.args.lts.now c.args.class c.args.problem c.args.case
 
 pub returns-clause-rows : goal.returns-clause-rows
 returns-clause-rows c =
@@ -133,7 +139,7 @@ returns-clause-rows c =
     let shown : CaseSystem = record { columns = c.count.result; kept = kept; forms = map linear_form c.in_ok-forms.forms.items } in
     let kept_firsts = subst (λ l. KeepsFirsts (λ k. k.row) IsIdle [] (map kept_row (map row_in l)) kept) c.deref-2.ensures.value firsts in
     let kept_places = subst (λ l. ArePlaces l kept c.in_ok-kept.places.items) (ap (λ l. map kept_row (map row_in l)) c.deref-2.ensures.value) places in
-    let made = subst (λ n. All (IsMade class n (map kept_row all) c.in_ok-kept.places.items) c.in_ok-forms.forms.items) (sym columns) (subst (λ l. All (IsMade class (column_count lts basis class) (map kept_row all) l) c.in_ok-forms.forms.items) c.deref-5.ensures.value (subst (λ (l : List HeldRow). All (IsMade class (column_count lts basis class) (map kept_row (map row_in l)) c.deref-5.result.now) c.in_ok-forms.forms.items) c.deref-4.ensures.value c.in_ok-forms.ensures.made)) in
+    let made = subst (λ n. All (IsMade lts class n (map kept_row all) c.in_ok-kept.places.items) c.in_ok-forms.forms.items) (sym columns) (subst (λ l. All (IsMade lts class (column_count lts basis class) (map kept_row all) l) c.in_ok-forms.forms.items) c.deref-5.ensures.value (subst (λ (l : List HeldRow). All (IsMade lts class (column_count lts basis class) (map kept_row (map row_in l)) c.deref-5.result.now) c.in_ok-forms.forms.items) c.deref-4.ensures.value c.in_ok-forms.ensures.made)) in
     let system_is = c.new.ensures ∙ (λ i. record { columns = c.count.result; rows = shows.rows i }) in
     subst (λ (s : LinearSystem). All (StandsInRow lts tree basis class problem number s) c.in_ok-forms.forms.items) (sym system_is)
     (all_stand lts tree basis class problem number (map row_name_of c.deref.result.now) shown (map kept_row all) c.in_ok-kept.places.items c.in_ok-all.ensures.value kept_places c.in_ok-forms.forms.items made)
@@ -154,18 +160,18 @@ returns-clause-forms c = λ reachable is_basis bound.
     let shown : CaseSystem = record { columns = c.count.result; kept = kept; forms = map linear_form c.in_ok-forms.forms.items } in
     let kept_firsts = subst (λ l. KeepsFirsts (λ k. k.row) IsIdle [] (map kept_row (map row_in l)) kept) c.deref-2.ensures.value firsts in
     let kept_places = subst (λ l. ArePlaces l kept c.in_ok-kept.places.items) (ap (λ l. map kept_row (map row_in l)) c.deref-2.ensures.value) places in
-    let made = subst (λ n. All (IsMade class n (map kept_row all) c.in_ok-kept.places.items) c.in_ok-forms.forms.items) (sym columns) (subst (λ l. All (IsMade class (column_count lts basis class) (map kept_row all) l) c.in_ok-forms.forms.items) c.deref-5.ensures.value (subst (λ (l : List HeldRow). All (IsMade class (column_count lts basis class) (map kept_row (map row_in l)) c.deref-5.result.now) c.in_ok-forms.forms.items) c.deref-4.ensures.value c.in_ok-forms.ensures.made)) in
+    let made = subst (λ n. All (IsMade lts class n (map kept_row all) c.in_ok-kept.places.items) c.in_ok-forms.forms.items) (sym columns) (subst (λ l. All (IsMade lts class (column_count lts basis class) (map kept_row all) l) c.in_ok-forms.forms.items) c.deref-5.ensures.value (subst (λ (l : List HeldRow). All (IsMade lts class (column_count lts basis class) (map kept_row (map row_in l)) c.deref-5.result.now) c.in_ok-forms.forms.items) c.deref-4.ensures.value c.in_ok-forms.ensures.made)) in
     let system_is = c.new.ensures ∙ (λ i. record { columns = c.count.result; rows = shows.rows i }) in
-    let forms_made = subst (λ (l : List SplitForm). each (form_fold lts tree basis class) l (Ok shown.forms)) (ap (forms_in class) named_again ∙ forms_are lts class problem number) c.in_ok-forms.ensures.value in
+    let forms_made = subst (λ (l : List SplitForm). each (form_fold lts tree basis class) l (Ok shown.forms)) (ap (case_forms class problem) named_again ∙ forms_are lts class problem number) c.in_ok-forms.ensures.value in
     let is_case = case_made lts tree basis class problem number (map row_name_of c.deref.result.now) named (map kept_row all) c.in_ok-all.ensures.value shown.forms shown forms_made columns kept_firsts refl in
-    let over : IsCaseOver lts tree basis class problem number shown = record { in_range = c.is_well_formed.ensures.in_range; reachable = reachable; is_tree = c.requires.tree.tree; is_basis = is_basis; asked = c.requires.asked; is_case = is_case } in
-    let splits = c.in_ok-forms.ensures.forms ∙ ap (forms_in class) named_again ∙ forms_are lts class problem number in
+    let over : IsCaseOver lts tree basis class problem number shown = record { in_range = c.is_well_formed.ensures.in_range; numbers = bound; reachable = reachable; is_tree = c.requires.tree.tree; is_basis = is_basis; asked = c.requires.asked; is_case = is_case } in
+    let splits = c.in_ok-forms.ensures.forms ∙ ap (case_forms class problem) named_again ∙ forms_are lts class problem number in
     let size : length all ≡ length (names_of lts class problem number) = length-map c.in_ok-all.all.items row_in ∙ c.in_ok-all.ensures.few ∙ sym (length-map c.deref.result.now row_name_of) ∙ ap length named in
     let some = names_few lts class problem number in
     let most : column_count lts basis class ≤ labels lts + 1 = columns_few lts basis class in
     let wide : states lts ≤ 4096 = c.is_well_formed.ensures.few_states in
     let high : labels lts ≤ 256 = c.is_well_formed.ensures.few_labels in
     let rows : length (rows_of shown).rows ≤ length all = (let h = kept_count (λ (k : KeptRow). k.row) IsIdle [] (map kept_row all) kept kept_firsts in let f = length-map kept (λ (k : KeptRow). k.row) in let g = length-map all kept_row in omega arith) in
-    let few : c.count.result + length (rows_of shown).rows + 255 * (states lts + labels lts) < 2 ^ 32 = omega arith in
+    let few : c.count.result + length (rows_of shown).rows + 4096 * (states lts + labels lts + 1) < 2 ^ 32 = omega arith in
     subst (λ (s : LinearSystem). AreFormsOf s c.in_ok-forms.forms.items) (sym system_is)
-    (all_forms lts tree basis class problem number (map row_name_of c.deref.result.now) shown (map kept_row all) c.in_ok-kept.places.items c.in_ok-all.ensures.value kept_places c.in_ok-forms.forms.items made refl splits over bound few)
+    (all_forms lts tree basis class problem number (map row_name_of c.deref.result.now) shown (map kept_row all) c.in_ok-kept.places.items c.in_ok-all.ensures.value kept_places c.in_ok-forms.forms.items made refl splits over wide bound few)

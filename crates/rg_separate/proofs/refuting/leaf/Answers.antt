@@ -1,4 +1,4 @@
-use Rattle.std.proofs.Common.{◌+◌, ◌<◌, List, All, Result, length, map, Ok, Err, inr, ap, sym, subst, ◌∙◌}
+use Rattle.std.proofs.Common.{rules, ◌≡◌, ◌+◌, ◌<◌, List, All, Result, length, map, Ok, Err, inl, inr, ap, sym, subst, ◌∙◌}
 use Rattle.std.specs.Result.{IfOk}
 use Rattle.std.proofs.lemmas.List.{length-map}
 use Rattle.rg_refuting.specs.Row.{Side, row_expression}
@@ -6,6 +6,7 @@ use Rattle.rg_linear.specs.Branching.{Weight}
 use Rattle.rg_order_of_work.specs.Shown.{named_sides}
 use Rattle.rg_cycles.specs.View.{cycle_of}
 use Rattle.rg_order_of_work.specs.Spreading.{leaf_fold}
+use Rattle.rg_fraction.specs.declared.fold_stop.FoldStop.TheVariants as stop
 use Rattle.rg_fraction.specs.declared.fraction.Fraction.{Fraction}
 use Rattle.rg_reasons.specs.declared.certificate.RowName.{RowName}
 use Rattle.rg_reasons.specs.Trees.{node_of as made_node_of}
@@ -16,7 +17,7 @@ use Rattle.rg_rows.specs.declared.named_form.NamedForm.{NamedForm}
 use Rattle.rg_rows.specs.Forms.{split_of}
 use Rattle.rg_farkas.specs.Leaves.{share_of, RefutesCase}
 use Rattle.rg_separate.specs.Casing.{sides_among, SharesFold}
-use Rattle.rg_separate.proofs.Leaves.{leaf_asked, leaf_made, leaf_rows, leaf_not_negative}
+use Rattle.rg_separate.proofs.Leaves.{leaf_asked, leaf_made, leaf_rows, leaf_not_negative, shares_named}
 use Rattle.rg_separate.proofs.refuting.leaf.Goals as goal
 
 -- what holds of a result
@@ -44,7 +45,7 @@ returns-clause-made c =
     let sides = sides_of c.args.above.now in
     let by_name = c.in_ok-above.ensures ∙ ap (λ (fs : List NamedForm). sides_among (map split_of fs) sides) c.deref.ensures.value ∙ ap (λ fs. sides_among fs sides) c.requires.system.by_name in
     let fold = subst (λ (shares : List (RowName × Fraction)). SharesFold c.args.named.now sides (map weight_of c.args.weights.now) (Ok (map share_of shares))) (sym c.deref-2.ensures.value) c.in_ok-shares.ensures.shares in
-    IfOk_both c.spread.result c.spread.ensures.leaf c.spread.ensures.refutes (λ node leaf is. leaf_made c.args.c c.args.named.now sides (map made_side_of c.deref-3.result.now) (map weight_of c.args.weights.now) (map share_of c.deref-2.result.now) (made_node_of node) (ap (map made_side_of) c.deref-3.ensures.value ∙ by_name) fold leaf is)
+    IfOk_both c.spread.result c.spread.ensures.leaf c.spread.ensures.refutes (λ node leaf is. leaf_made c.args.c c.args.named.now sides (map made_side_of c.deref-3.result.now) (map weight_of c.args.weights.now) (map share_of c.deref-2.result.now) (made_node_of node) c.requires.system (ap (map made_side_of) c.deref-3.ensures.value ∙ by_name) fold leaf is)
 
 pub returns-clause-wide : goal.returns-clause-wide
 returns-clause-wide c = λ w is case shows.
@@ -53,4 +54,10 @@ returns-clause-wide c = λ w is case shows.
     let sides = sides_of c.args.above.now in
     let by_name = c.in_ok-above.ensures ∙ ap (λ (fs : List NamedForm). sides_among (map split_of fs) sides) c.deref.ensures.value ∙ ap (λ fs. sides_among fs sides) c.requires.system.by_name in
     let Fails : List Side → List (RowName × Fraction) → Type 0 = λ above shares. leaf_fold lts c.args.c.setting.tree.now.arcs (cycle_of c.args.c.setting.basis.now) (row_expression lts class c.args.c.problem c.args.c.number above) (map share_of shares) (Err w) in
-    inr (map share_of c.in_ok-shares.shares.items, c.in_ok-shares.ensures.shares case shows, subst (λ shares. Fails (named_sides lts class sides) shares) c.deref-2.ensures.value (subst (λ above. Fails above c.deref-2.result.now) (ap (map made_side_of) c.deref-3.ensures.value ∙ by_name) (c.spread.ensures.wide w is)))
+    inr (map share_of c.in_ok-shares.shares.items, shares_named c.args.c c.args.named.now c.requires.system sides (map weight_of c.args.weights.now) (Ok (map share_of c.in_ok-shares.shares.items)) c.in_ok-shares.ensures.shares case shows, subst (λ shares. Fails (named_sides lts class c.args.c.problem sides) shares) c.deref-2.ensures.value (subst (λ above. Fails above c.deref-2.result.now) (ap (map made_side_of) c.deref-3.ensures.value ∙ by_name) (c.spread.ensures.wide w is)))
+
+pub returns-in_err-shares-clause-wide : goal.returns-in_err-shares-clause-wide
+returns-in_err-shares-clause-wide c = λ w is case shows.
+    let result : c.from_residual.result ≡ Err c.in_err-shares.field-0.0 = search rules in
+    let passes : c.in_err-shares.field-0.0 ≡ stop.Wide w = cc in
+    inl (shares_named c.args.c c.args.named.now c.requires.system (sides_of c.args.above.now) (map weight_of c.args.weights.now) (Err w) (c.in_err-shares.ensures.wide w (ap Err passes)) case shows)

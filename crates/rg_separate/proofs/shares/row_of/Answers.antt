@@ -1,4 +1,4 @@
-use Rattle.std.proofs.Common.{◌≡◌, ◌-◌, ◌<◌, length, get_or, false, ap, sym, subst, ◌∙◌, arith}
+use Rattle.std.proofs.Common.{◌≡◌, ◌-◌, ◌<◌, length, map, get_or, false, ap, sym, subst, ◌∙◌, arith}
 use Rattle.std.proofs.lemmas.List.{length-map, get_or-map}
 use Rattle.std.specs.Prelude.{ℤ, pos}
 use Rattle.rg_integers.specs.Range.{InRange}
@@ -11,8 +11,10 @@ use Rattle.rg_order_of_work.specs.Spreading.{side_at}
 use Rattle.rg_reasons.specs.Trees.{row_name_of}
 use Rattle.rg_branch.specs.View.{side_of, sides_of}
 use Rattle.rg_rows.specs.declared.named_form.NamedForm.{NamedForm}
+use Rattle.rg_rows.specs.Forms.{split_of}
+use Rattle.rg_separate.specs.Casing.{sides_among}
 use Rattle.rg_separate.proofs.Siding.{side_within}
-use Rattle.rg_separate.proofs.Factors.{own_name, own_factor, split_factor}
+use Rattle.rg_separate.proofs.Factors.{own_name, own_factor, factor_of_split}
 use Rattle.rg_separate.proofs.shares.row_of.Goals as goal
 
 pub returns-then-row-rows-clause-name : goal.returns-then-row-rows-clause-name
@@ -25,7 +27,7 @@ pub returns-then-row-rows-clause-factor : goal.returns-then-row-rows-clause-fact
 returns-then-row-rows-clause-factor c = λ case shows.
     let many : length c.rows-rows.result.now ≡ length c.args.named.now.system.rows = sym (length-map c.rows-rows.result.now linear_row) ∙ ap (length {A = LinearRow}) c.rows-rows.ensures.value in
     let lt : c.args.row < length c.args.named.now.system.rows = (let t = c.if-row-rows.true in omega arith) in
-    ap ratio_of c.index-then-row-rows.ensures ∙ own_factor c.args.named.now case shows (sides_of c.args.above.now) c.args.row c.index-then-row-rows.result.now lt
+    ap ratio_of c.index-then-row-rows.ensures ∙ own_factor c.args.named.now case shows (sides_of c.args.above.now) (sides_among (map split_of c.args.named.now.forms.items) (sides_of c.args.above.now)) c.args.row c.index-then-row-rows.result.now lt
 
 pub index-requires-2 : goal.index-requires-2
 index-requires-2 c =
@@ -34,12 +36,14 @@ index-requires-2 c =
     let e = c.args.named.now.forms.ok.0 in
     omega arith
 
-pub new-requires-clause-n_in_range : goal.new-requires-clause-n_in_range
-new-requires-clause-n_in_range c =
+pub split_factor-factor-requires : goal.split_factor-factor-requires
+split_factor-factor-requires c =
     let many : length c.rows-rows.result.now ≡ length c.args.named.now.system.rows = sym (length-map c.rows-rows.result.now linear_row) ∙ ap (length {A = LinearRow}) c.rows-rows.ensures.value in
     let within = side_within (length c.args.named.now.forms.items) c.args.above.now (c.args.row - length c.rows-rows.result.now) (0, pos 0, false) c.requires.sides (let r = c.requires.row in let t = c.if-row-rows.false in omega arith) in
-    let fits = subst (λ (f : NamedForm). InRange f.scale) (sym c.index-2.ensures) (c.requires.scales _ c.index-2.result.now within) in
-    subst InRange {x = c.index-2.result.now.scale} (sym (back c.index-2.result.now.scale fits)) fits
+    subst (λ (f : NamedForm). InRange f.scale) (sym c.index-2.ensures) (c.requires.scales _ c.index-2.result.now within)
+
+pub new-requires-clause-n_in_range : goal.new-requires-clause-n_in_range
+new-requires-clause-n_in_range c = subst InRange {x = c.split_factor-factor.result} (sym (back c.split_factor-factor.result c.split_factor-factor.ensures.in_range)) c.split_factor-factor.ensures.in_range
 
 pub returns-clause-factor : goal.returns-clause-factor
 returns-clause-factor c = λ case shows.
@@ -47,9 +51,8 @@ returns-clause-factor c = λ case shows.
     let many : length c.rows-rows.result.now ≡ length named.system.rows = sym (length-map c.rows-rows.result.now linear_row) ∙ ap (length {A = LinearRow}) c.rows-rows.ensures.value in
     let depth : c.args.row - length c.rows-rows.result.now < length c.args.above.now = (let r = c.requires.row in let t = c.if-row-rows.false in omega arith) in
     let within = side_within (length named.forms.items) c.args.above.now (c.args.row - length c.rows-rows.result.now) (0, pos 0, false) c.requires.sides depth in
-    let fits = subst (λ (f : NamedForm). InRange f.scale) (sym c.index-2.ensures) (c.requires.scales _ c.index-2.result.now within) in
-    let value = subst (λ (z : ℤ). IsValue c.new.result z (pos 1)) (back c.index-2.result.now.scale fits) c.new.ensures in
+    let value = subst (λ (z : ℤ). IsValue c.new.result z (pos 1)) (back c.split_factor-factor.result c.split_factor-factor.ensures.in_range) c.new.ensures in
     let side = side_of (get_or c.args.above.now (c.args.row - length c.rows-rows.result.now) (0, pos 0, false)) in
-    split_factor named case shows (sides_of c.args.above.now) c.args.row side c.index-2.result.now c.new.result (let t = c.if-row-rows.false in omega arith)
+    factor_of_split named case shows (sides_of c.args.above.now) c.args.row side c.index-2.result.now c.new.result c.split_factor-factor.result (let t = c.if-row-rows.false in omega arith) (let e = length-map c.args.above.now side_of in let d = depth in let t = c.if-row-rows.false in omega arith)
     (ap (λ n. side_at (sides_of c.args.above.now) (c.args.row - n)) (sym many) ∙ get_or-map side_of c.args.above.now (c.args.row - length c.rows-rows.result.now) (0, pos 0, false) (record { form = 0; at = pos 0; high = false }) depth)
-    within (sym c.index-2.ensures) value
+    within (sym c.index-2.ensures) value c.split_factor-factor.ensures.factor

@@ -11,10 +11,10 @@ use Rattle.rg_reasons.specs.Trees as cert
 use Rattle.rg_reasons.specs.declared.side.Side.{Side}
 use Rattle.rg_verify.specs.Sides.{sides_of}
 use Rattle.rg_reasons.specs.Sums.{side_of}
-use Rattle.rg_verify.proofs.Walking.{IsAtNode, at_first, node_in_range, after_split, after_leaf, found_at, at_last}
+use Rattle.rg_verify.proofs.Walking.{IsAtNode, at_first, node_in_range, after_split, after_leaf, found_at, found_split, at_last}
 use Rattle.rg_verify.proofs.Places.{drop_image}
 use Rattle.rg_verify.proofs.cases.case_defect.Goals as goal
-use Rattle.rg_verify.proofs.cases.case_defect.Goals.{in-Split+in_ok-push-in-Split, in-Leaf+in_ok-defect-in-Leaf+in_default}
+use Rattle.rg_verify.proofs.cases.case_defect.Goals.{in-Split+else-not-stands+in_ok-push-in-Split, in-Leaf+in_ok-defect-in-Leaf+in_default}
 
 pub loop-node-init : goal.loop-node-init
 loop-node-init c = record {
@@ -43,6 +43,16 @@ returns-in-Some-clause-judged c =
     found_at c.args.lts.now c.args.problem_case.class c.args.problem_case.problem c.args.problem_case.number (case_tree c.args.case.now) (nodes_of c.args.case.now) c.loop-node.node (sides_of c.loop-node.above.items) c.loop-node.invariant.at_node
     (map named_row c.deref-in-Leaf.result.now) c.in-Some.defect rest judged
 
+pub returns-then-not-stands-clause-judged : goal.returns-then-not-stands-clause-judged
+returns-then-not-stands-clause-judged c =
+    let items = c.loop-node.invariant.items in
+    let lt = subst (λ (xs : List Node). c.loop-node.node < length xs) items c.loop-node-test.true in
+    let at = c.content-item.is ∙ ap (λ (xs : List Node). get_or xs c.loop-node.node c.content-item.result) items in
+    let is = ap node_of c.in-Split.is in
+    let rest = drop_image node_of c.args.case.now.nodes.items c.loop-node.node c.content-item.result lt at ∙ ap (λ (n : TreeNode). n ∷ drop (c.loop-node.node + 1) (nodes_of c.args.case.now)) is in
+    found_split c.args.lts.now c.args.problem_case.class c.args.problem_case.problem c.args.problem_case.number (case_tree c.args.case.now) (nodes_of c.args.case.now) c.loop-node.node (sides_of c.loop-node.above.items) c.loop-node.invariant.at_node
+    (cert.form_of c.in-Split.form) c.in-Split.at rest (λ stands. (let e = c.stands.ensures.1 stands in let f = c.if-not-stands.true in cc))
+
 pub loop-node-preserved : goal.loop-node-preserved
 loop-node-preserved c =
     let items = c.loop-node.invariant.items in
@@ -52,7 +62,7 @@ loop-node-preserved c =
     let good = node_in_range c.args.lts.now c.args.case.now c.loop-node.node c.content-item.result c.requires.whole c.requires.in_range lt at in
     let at_next = λ (sides : List row.Side). IsAtNode c.args.lts.now c.args.problem_case.class c.args.problem_case.problem c.args.problem_case.number (case_tree c.args.case.now) (nodes_of c.args.case.now) (c.loop-node.node + 1) sides in
     elim c.match-content.branch [
-      | in-Split+in_ok-push-in-Split w ↦
+      | in-Split+else-not-stands+in_ok-push-in-Split w ↦
           let is = ap node_of w.in-Split.is in
           let range = subst (IsNodeOf c.args.lts.now) is good in
           let back = to_z-of_z w64 w.in-Split.at (fits_signed_from_abs w64 w.in-Split.at range.1) in
@@ -62,7 +72,7 @@ loop-node-preserved c =
             items = items;
             clear = c.loop-node.invariant.clear;
             at_node = subst at_next (sym sides) (after_split c.args.lts.now c.args.problem_case.class c.args.problem_case.problem c.args.problem_case.number (case_tree c.args.case.now) (nodes_of c.args.case.now) c.loop-node.node (sides_of c.loop-node.above.items)
-                c.loop-node.invariant.at_node (cert.form_of w.in-Split.form) w.in-Split.at (rest ∙ ap (λ (n : TreeNode). n ∷ drop (c.loop-node.node + 1) (nodes_of c.args.case.now)) is) range);
+                c.loop-node.invariant.at_node (cert.form_of w.in-Split.form) w.in-Split.at (rest ∙ ap (λ (n : TreeNode). n ∷ drop (c.loop-node.node + 1) (nodes_of c.args.case.now)) is) range (w.stands.ensures.0 w.if-not-stands.false));
           })
       | in-Leaf+in_ok-defect-in-Leaf+in_default w ↦
           let is = ap node_of w.in-Leaf.is ∙ ap (λ rows. leaf_node (map named_row rows)) (sym w.deref-in-Leaf.ensures.value) in

@@ -9,4 +9,4 @@ returns c =
     let case = c.args.problem_case in
     let lts = c.args.lts.now in
     reduced_row lts c.expression.result c.without_opposites.result _ c.expression.ensures c.without_opposites.ensures.terms c.without_opposites.ensures.constant
-    (row_within lts case.class (sides_of c.args.above.now) (all_forms lts (sides_of c.args.above.now) c.requires.sides) case.problem case.number c.requires.asked (row_name_of c.args.name) c.requires.name)
+    (row_within lts c.is_well_formed.ensures.in_range.initial case.class (sides_of c.args.above.now) (all_forms lts (sides_of c.args.above.now) c.requires.sides) case.problem case.number c.requires.asked (row_name_of c.args.name) c.requires.name)
