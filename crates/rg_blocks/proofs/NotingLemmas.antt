@@ -2,9 +2,9 @@
 use Rattle.std.proofs.Common.{List, ◌∷◌}
 use Rattle.rg_theory.specs.System.{System}
 use Rattle.rg_theory.specs.Net.{Place}
-use Rattle.rg_separated.specs.Separated.{AddsOne, SeparateSoMuch, AreSome}
-use Rattle.rg_separated.specs.declared.separated.Separated.{Separated}
-use Rattle.rg_separated.proofs.Members.{adds_front}
+use Rattle.rg_marks.specs.Separated.{AddsOne, SeparateSoMuch, AreSome}
+use Rattle.rg_marks.specs.declared.separated.Separated.{Separated}
+use Rattle.rg_marks.proofs.Members.{adds_front}
 
 -- one more place is noted
 pub one_noted : (lts : System) (p : Place) (before now : Separated) → AreSome lts before

@@ -9,7 +9,7 @@ use Rattle.rg_theory.specs.Net.{Place}
 use Rattle.rg_theory.specs.declared.Problem.{Problem}
 use Rattle.rg_theory.specs.Problem.{IsProblem}
 use Rattle.rg_phase.specs.Answers.{AreAnswers}
-use Rattle.rg_places.specs.declared.region_place.RegionPlace.{RegionPlace}
+use Rattle.rg_marks.specs.declared.region_place.RegionPlace.{RegionPlace}
 use Rattle.rg_outcome.specs.Solving.{Solved}
 use Rattle.rg_outcome.specs.Coming.{IsBehind}
 use Rattle.rg_outcome.specs.Blocks.{IsBlock, last_of}

@@ -44,7 +44,9 @@ module _ (lts : System) (comes : Problem → Solved → Type 0) where
       by_result ih lacks (refuted all) has d = inr (lacks, (refuted all, has, d))
 
       go : ((now : List Place) → TakenOver lts comes now done (refuted_one q trees) → TakenOver lts comes now (done ++ rest) (refuted_one q trees))
-          → (IsSeparated lts before p × TakenOver lts comes before done (refuted_one q trees)) ⊎ (¬ IsSeparated lts before p × ((r : Solved) × comes p r × GoesOn p r before (λ ks. TakenOver lts comes ks done (refuted_one q trees)) (refuted_one q trees))) → TakenOver lts comes before (p ∷ done ++ rest) (refuted_one q trees)
+          → (IsSeparated lts before p × TakenOver lts comes before done (refuted_one q trees))
+          ⊎ (¬ IsSeparated lts before p × ((r : Solved) × comes p r × GoesOn p r before (λ ks. TakenOver lts comes ks done (refuted_one q trees))
+          (refuted_one q trees))) → TakenOver lts comes before (p ∷ done ++ rest) (refuted_one q trees)
       go ih (inl (sep, d)) = inl (sep, ih before d)
       go ih (inr (lacks, (r, has, d))) = by_result ih lacks r has d
 

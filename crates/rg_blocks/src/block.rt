@@ -3,17 +3,17 @@ ghost use Rattle.std.specs.Prelude.{◌≡◌, ◌<◌, ◌≤◌, All, Some, If
 ghost use Rattle.rg_theory.specs.Problem.{IsProblem};
 ghost use Rattle.rg_outcome.specs.Blocks.{IsBlock, last_of};
 ghost use Rattle.rg_outcome.specs.Coming.{IsDone};
-ghost use Rattle.rg_separated.specs.Separated.{AreSome};
+ghost use Rattle.rg_marks.specs.Separated.{AreSome};
 ghost use Rattle.rg_blocks.specs.Taking.{IsSolvedBy, AreNotable, problems_of};
 
 use crate::keeping::Keeping;
 use crate::left::next_problem;
 use crate::solving::{ProblemOutcome, SolvedProblem, Solving};
 use rg_lts::Lts;
+use rg_marks::Separated;
 use rg_memory::NoMemory;
 use rg_phase::{Task, block};
 use rg_ports::Gate;
-use rg_separated::Separated;
 use rg_theory::Problem;
 use std::alloc::Global;
 use std::thread::Threads;

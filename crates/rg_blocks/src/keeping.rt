@@ -4,12 +4,12 @@ ghost use Rattle.rg_theory.specs.System.{System};
 ghost use Rattle.rg_theory.specs.Net.{Place};
 ghost use Rattle.rg_theory.specs.Problem.{IsProblem};
 ghost use Rattle.rg_net.specs.Shown.{shown_place};
-ghost use Rattle.rg_places.specs.declared.region_place.RegionPlace.{RegionPlace};
+ghost use Rattle.rg_marks.specs.declared.region_place.RegionPlace.{RegionPlace};
 ghost use Rattle.rg_outcome.specs.Coming.{IsSeparated};
 
 use rg_lts::Lts;
+use rg_marks::RegionPlace;
 use rg_memory::NoMemory;
-use rg_places::RegionPlace;
 use rg_theory::Problem;
 
 /// Places of a system that are kept, in the order in which they were made.

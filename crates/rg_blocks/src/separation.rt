@@ -1,5 +1,5 @@
 //! All problems.
-ghost use Rattle.std.specs.Prelude.{◌≡◌, ◌≤◌, [], All, IfOk, OnOk, None, length};
+ghost use Rattle.std.specs.Prelude.{◌≡◌, ◌≤◌, [], All, IfOk, IfSome, OnOk, None, length};
 ghost use Rattle.rg_theory.specs.System.{IsAllReachable};
 ghost use Rattle.rg_theory.specs.Problem.{IsProblem};
 ghost use Rattle.rg_outcome.specs.Coming.{IsSound};
@@ -40,6 +40,7 @@ fn take_block<R: Threads + Sync, K: Keeping + Sync, S: Solving + Sync, G: Gate +
     problems: &[Problem],
     jobs: u8,
     gate: &G,
+    proof: &mut Option<(Problem, S::Proof)>,
 ) -> Result<Option<Problem>, NoMemory>
     requires few { length problems.now ≤ 64 }
     requires some { 1 ≤ jobs }
@@ -48,13 +49,15 @@ fn take_block<R: Threads + Sync, K: Keeping + Sync, S: Solving + Sync, G: Gate +
     requires notable { AreNotable lts.now (S.makes solving.now) }
     requires problems { All (IsProblem lts.now) problems.now }
     requires asked { All (S.asks solving.now) problems.now }
+    requires proves { IfSome proof.old (λ p. S.proves solving.now p.0 p.1) }
     ensures kept { OnOk result (K.keeps_for kept.new lts.now) }
+    ensures proves { IfSome proof.new (λ p. S.proves solving.now p.0 p.1) }
     ensures taken { IfOk result (λ end. IsTakenOver lts.now (S.comes solving.now) (K.places kept.old) problems.now (K.places kept.new) end) }
 {
     if jobs == 1 {
-        return solve_in_turn(lts, kept, solving, problems, gate);
+        return solve_in_turn(lts, kept, solving, problems, gate, proof);
     }
-    match begin_in_turn(lts, kept, solving, problems)? {
+    match begin_in_turn(lts, kept, solving, problems, proof)? {
         Begun::Ended(end) => {
             pass_by(gate, 0, problems.len() as u32);
             Ok(end)
@@ -64,7 +67,7 @@ fn take_block<R: Threads + Sync, K: Keeping + Sync, S: Solving + Sync, G: Gate +
                 rt, alloc, lts, kept, solving, problems, taken, jobs, gate,
             )?;
             let others = solved.split_off(taken)?;
-            take_over(lts, kept, solving, others)
+            take_over(lts, kept, solving, others, proof)
         }
     }
 }
@@ -79,6 +82,7 @@ fn solve_all<R: Threads + Sync, K: Keeping + Sync, S: Solving + Sync, G: Gate + 
     solving: &S,
     jobs: u8,
     gate: &G,
+    proof: &mut Option<(Problem, S::Proof)>,
 ) -> Result<Option<Problem>, NoMemory>
     requires some { 1 ≤ jobs }
     requires asked { AsksAll lts.now (S.asks solving.now) }
@@ -88,7 +92,9 @@ fn solve_all<R: Threads + Sync, K: Keeping + Sync, S: Solving + Sync, G: Gate + 
     requires keepable { AreKeepable (S.makes solving.now) (K.may_keep lts.now) }
     requires notable { AreNotable lts.now (S.makes solving.now) }
     requires sound { IsSound lts.now (S.comes solving.now) None (K.places kept.old) }
+    requires proves { IfSome proof.old (λ p. S.proves solving.now p.0 p.1) }
     ensures kept { OnOk result (K.keeps_for kept.new lts.now) }
+    ensures proves { IfSome proof.new (λ p. S.proves solving.now p.0 p.1) }
     ensures ends { IfOk result (λ end. EndsAll lts.now (S.comes solving.now) (K.places kept.old) (K.places kept.new) end) }
 {
     let mut last = None;
@@ -98,7 +104,9 @@ fn solve_all<R: Threads + Sync, K: Keeping + Sync, S: Solving + Sync, G: Gate + 
             return Ok(None);
         }
         let end = block[block.len() - 1];
-        if let Some(refuted) = take_block(rt, alloc, lts, kept, solving, &block, jobs, gate)? {
+        if let Some(refuted) = take_block(
+            rt, alloc, lts, kept, solving, &block, jobs, gate, proof,
+        )? {
             return Ok(Some(refuted));
         }
         last = Some(end);
@@ -115,6 +123,7 @@ pub fn separate_all<R: Threads + Sync, K: Keeping + Sync, S: Solving + Sync, G: 
     solving: &S,
     jobs: u8,
     gate: &G,
+    proof: &mut Option<(Problem, S::Proof)>,
 ) -> Result<SeparationOutcome, NoMemory>
     requires some { 1 ≤ jobs }
     requires asked { AsksAll lts.now (S.asks solving.now) }
@@ -124,10 +133,12 @@ pub fn separate_all<R: Threads + Sync, K: Keeping + Sync, S: Solving + Sync, G: 
     requires keepable { AreKeepable (S.makes solving.now) (K.may_keep lts.now) }
     requires notable { AreNotable lts.now (S.makes solving.now) }
     requires empty { K.places kept.old ≡ [] }
+    requires proves { IfSome proof.old (λ p. S.proves solving.now p.0 p.1) }
     ensures kept { OnOk result (K.keeps_for kept.new lts.now) }
+    ensures proves { IfSome proof.new (λ p. S.proves solving.now p.0 p.1) }
     ensures comes { IfOk result (IsSeparationOutcome lts.now (S.comes solving.now) (K.places kept.new)) }
 {
-    let refuted = solve_all(rt, alloc, lts, kept, solving, jobs, gate)?;
+    let refuted = solve_all(rt, alloc, lts, kept, solving, jobs, gate, proof)?;
     match refuted {
         Some(problem) => Ok(SeparationOutcome::Unsolvable(problem)),
         None => match next_problem(lts, kept, None) {

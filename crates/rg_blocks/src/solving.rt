@@ -1,12 +1,12 @@
 //! How a problem is solved.
-ghost use Rattle.std.specs.Prelude.{IfOk};
+ghost use Rattle.std.specs.Prelude.{IfOk, IfSome};
 ghost use Rattle.rg_theory.specs.declared.Problem.{Problem};
-ghost use Rattle.rg_places.specs.declared.region_place.RegionPlace.{RegionPlace};
+ghost use Rattle.rg_marks.specs.declared.region_place.RegionPlace.{RegionPlace};
 ghost use Rattle.rg_outcome.specs.Solving.{Solved};
 ghost use Rattle.rg_blocks.specs.Taking.{IsOutcome};
 
+use rg_marks::RegionPlace;
 use rg_memory::NoMemory;
-use rg_places::RegionPlace;
 use rg_theory::Problem;
 
 /// What a problem comes to. It is small, so that many may wait for being taken over: of a refuted problem it has no trees, and of
@@ -32,6 +32,9 @@ pub struct SolvedProblem {
 
 /// How the problems of a system are solved, each by itself: what one comes to doesn't depend on the places that are kept.
 pub trait Solving {
+    /// What shows that a problem is refuted.
+    type Proof;
+
     /// What the solving of a problem asks for.
     ghost asks: { Self → Problem → Type 0 };
 
@@ -41,8 +44,22 @@ pub trait Solving {
     /// What is said of each place that is made.
     ghost makes: { Self → RegionPlace → Type 0 };
 
+    /// What is said of what shows that a problem is refuted.
+    ghost proves: { Self → Problem → Self.Proof → Type 0 };
+
     /// Solves a problem. `NoMemory` where there is none.
     fn solve(&self, problem: Problem) -> Result<ProblemOutcome, NoMemory>
         requires { asks self.now problem }
         ensures { IfOk result (IsOutcome (comes self.now) (makes self.now) problem) };
+
+    /// Solves a problem that is taken over at once, and keeps what shows that it is refuted, if it is. `NoMemory` where there is none.
+    fn solve_in_turn(
+        &self,
+        problem: Problem,
+        proof: &mut Option<(Problem, Self::Proof)>,
+    ) -> Result<ProblemOutcome, NoMemory>
+        requires asked { asks self.now problem }
+        requires proves { IfSome proof.old (λ p. proves self.now p.0 p.1) }
+        ensures outcome { IfOk result (IsOutcome (comes self.now) (makes self.now) problem) }
+        ensures proves { IfSome proof.new (λ p. proves self.now p.0 p.1) };
 }

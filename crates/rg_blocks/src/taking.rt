@@ -39,19 +39,23 @@ fn take<K: Keeping, S: Solving>(
 /// Takes over what the problems of a block come to, in their order: a place is kept, and a problem in which a number passes is passed over.
 /// What a problem comes to that a place kept meanwhile separates is dropped, whatever it is. Any other problem that isn't solved yet is
 /// solved now, on the calling thread. The first other one that is refuted ends it, and is given; None where there is no such problem.
+/// What shows that a problem is refuted is kept where it is solved here.
 /// `NoMemory` where there is none.
 pub fn take_over<K: Keeping, S: Solving>(
     lts: &Lts,
     kept: &mut K,
     solving: &S,
     solved: Vec<SolvedProblem>,
+    proof: &mut Option<(Problem, S::Proof)>,
 ) -> Result<Option<Problem>, NoMemory>
     requires kept { K.keeps_for kept.old lts.now }
     requires keepable { AreKeepable (S.makes solving.now) (K.may_keep lts.now) }
     requires problems { All (λ s. IsProblem lts.now s.problem) solved.items }
     requires asked { All (S.asks solving.now) (problems_of solved.items) }
     requires solved { All (IsSolvedBy (S.comes solving.now) (S.makes solving.now)) solved.items }
+    requires proves { IfSome proof.old (λ p. S.proves solving.now p.0 p.1) }
     ensures kept { OnOk result (K.keeps_for kept.new lts.now) }
+    ensures proves { IfSome proof.new (λ p. S.proves solving.now p.0 p.1) }
     ensures taken { IfOk result (λ end. IsTakenOver lts.now (S.comes solving.now) (K.places kept.old) (problems_of solved.items) (K.places kept.new) end) }
 {
     for s in solved {
@@ -59,15 +63,31 @@ pub fn take_over<K: Keeping, S: Solving>(
         if kept.separates(lts, problem) {
             continue;
         }
-        let outcome = match outcome {
-            Some(outcome) => outcome,
-            None => solving.solve(problem)?,
-        };
+        let outcome = outcome_of(solving, problem, outcome, proof)?;
         if let Some(refuted) = take(lts, kept, solving, problem, outcome)? {
             return Ok(Some(refuted));
         }
     }
     Ok(None)
+}
+
+// What the problem comes to; it is solved now where it isn't solved yet.
+fn outcome_of<S: Solving>(
+    solving: &S,
+    problem: Problem,
+    outcome: Option<ProblemOutcome>,
+    proof: &mut Option<(Problem, S::Proof)>,
+) -> Result<ProblemOutcome, NoMemory>
+    requires asked { S.asks solving.now problem }
+    requires solved { IfSome outcome (IsOutcome (S.comes solving.now) (S.makes solving.now) problem) }
+    requires proves { IfSome proof.old (λ p. S.proves solving.now p.0 p.1) }
+    ensures outcome { IfOk result (IsOutcome (S.comes solving.now) (S.makes solving.now) problem) }
+    ensures proves { IfSome proof.new (λ p. S.proves solving.now p.0 p.1) }
+{
+    match outcome {
+        Some(outcome) => Ok(outcome),
+        None => solving.solve_in_turn(problem, proof),
+    }
 }
 
 // What the problem comes to, unless a kept place separates it.
@@ -76,18 +96,21 @@ fn solve_left<K: Keeping, S: Solving>(
     kept: &K,
     solving: &S,
     problem: Problem,
+    proof: &mut Option<(Problem, S::Proof)>,
 ) -> Result<Option<ProblemOutcome>, NoMemory>
     requires kept { K.keeps_for kept.now lts.now }
     requires problem { IsProblem lts.now problem }
     requires asked { S.asks solving.now problem }
+    requires proves { IfSome proof.old (λ p. S.proves solving.now p.0 p.1) }
     ensures separated { IfOk result (λ o. IfNone o (IsSeparated lts.now (K.places kept.now) problem)) }
     ensures left { IfOk result (λ o. IfSome o (λ _. ¬ IsSeparated lts.now (K.places kept.now) problem)) }
     ensures solved { IfOk result (λ o. IfSome o (IsOutcome (S.comes solving.now) (S.makes solving.now) problem)) }
+    ensures proves { IfSome proof.new (λ p. S.proves solving.now p.0 p.1) }
 {
     if kept.separates(lts, problem) {
         return Ok(None);
     }
-    Ok(Some(solving.solve(problem)?))
+    Ok(Some(solving.solve_in_turn(problem, proof)?))
 }
 
 /// Enters and leaves the gate for the numbers from `from` on below `to`.
@@ -115,16 +138,19 @@ pub fn begin_in_turn<K: Keeping, S: Solving>(
     kept: &mut K,
     solving: &S,
     problems: &[Problem],
+    proof: &mut Option<(Problem, S::Proof)>,
 ) -> Result<Begun, NoMemory>
     requires kept { K.keeps_for kept.old lts.now }
     requires keepable { AreKeepable (S.makes solving.now) (K.may_keep lts.now) }
     requires problems { All (IsProblem lts.now) problems.now }
     requires asked { All (S.asks solving.now) problems.now }
+    requires proves { IfSome proof.old (λ p. S.proves solving.now p.0 p.1) }
     ensures kept { OnOk result (K.keeps_for kept.new lts.now) }
+    ensures proves { IfSome proof.new (λ p. S.proves solving.now p.0 p.1) }
     ensures begun { IfOk result (IsBegun lts.now (S.comes solving.now) (K.places kept.old) problems.now (K.places kept.new)) }
 {
     for (i, &problem) in problems.iter().enumerate() {
-        let Some(outcome) = solve_left(lts, kept, solving, problem)? else {
+        let Some(outcome) = solve_left(lts, kept, solving, problem, proof)? else {
             continue;
         };
         if let Some(refuted) = take(lts, kept, solving, problem, outcome)? {
@@ -157,18 +183,21 @@ pub fn solve_in_turn<K: Keeping, S: Solving, G: Gate>(
     solving: &S,
     problems: &[Problem],
     gate: &G,
+    proof: &mut Option<(Problem, S::Proof)>,
 ) -> Result<Option<Problem>, NoMemory>
     requires few { length problems.now ≤ 64 }
     requires kept { K.keeps_for kept.old lts.now }
     requires keepable { AreKeepable (S.makes solving.now) (K.may_keep lts.now) }
     requires problems { All (IsProblem lts.now) problems.now }
     requires asked { All (S.asks solving.now) problems.now }
+    requires proves { IfSome proof.old (λ p. S.proves solving.now p.0 p.1) }
     ensures kept { OnOk result (K.keeps_for kept.new lts.now) }
+    ensures proves { IfSome proof.new (λ p. S.proves solving.now p.0 p.1) }
     ensures taken { IfOk result (λ end. IsTakenOver lts.now (S.comes solving.now) (K.places kept.old) problems.now (K.places kept.new) end) }
 {
     for (i, &problem) in problems.iter().enumerate() {
         gate.enter(i as u32);
-        let solved = solve_left(lts, kept, solving, problem);
+        let solved = solve_left(lts, kept, solving, problem, proof);
         gate.leave(i as u32);
         let Some(outcome) = solved? else {
             continue;

@@ -8,10 +8,10 @@ use Rattle.rg_theory.specs.declared.Problem.{Problem}
 use Rattle.rg_theory.specs.declared.Problem.TheVariants.{Event, States}
 use Rattle.rg_theory.specs.Problem.{IsProblem, IsSeparatedBy}
 use Rattle.rg_net.specs.Shown.{shown_place}
-use Rattle.rg_places.specs.declared.region_place.RegionPlace.{RegionPlace}
+use Rattle.rg_marks.specs.declared.region_place.RegionPlace.{RegionPlace}
 use Rattle.rg_outcome.specs.Solving.{Solved.placed}
 use Rattle.rg_outcome.specs.Coming.{IsSeparated}
-use Rattle.rg_separated.specs.Tokens.{IsNarrow, AreTokens}
+use Rattle.rg_marks.specs.Tokens.{IsNarrow, AreTokens}
 use Rattle.rg_blocks.specs.Taking.{AreNotable}
 use Rattle.rg_blocks.specs.Separating.{AsksAll, EachPlaceSeparates}
 use Rattle.rg_blocks_tests.specs.Single.{IsSingle, Stops, RegionStops, HasNoToken, MayCome, AsksFor}

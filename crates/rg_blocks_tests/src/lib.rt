@@ -1,8 +1,12 @@
-//! Tests of the loop over all problems, with places and a solving of their own.
+//! Tests of blocks of tasks, and of the loop over all problems with places and a solving of their own.
 #![tactic(auto)]
 
 #[cfg(test)]
 mod answers;
+#[cfg(test)]
+mod meeting;
+#[cfg(test)]
+mod phases;
 #[cfg(test)]
 mod places;
 #[cfg(test)]

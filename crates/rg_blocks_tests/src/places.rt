@@ -6,8 +6,8 @@ ghost use Rattle.rg_blocks_tests.specs.Single.{IsSingle, RegionStops, HasNoToken
 
 use rg_blocks::{Keeping, NoMemory};
 use rg_lts::Lts;
+use rg_marks::RegionPlace;
 use rg_net::Place;
-use rg_places::RegionPlace;
 use rg_theory::Problem;
 use std::alloc::Global;
 

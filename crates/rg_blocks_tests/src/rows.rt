@@ -1,12 +1,12 @@
 //! What all problems come to, worked by hand, with any number of jobs.
 ghost use Rattle.std.specs.Prelude.{◌≤◌};
 
-use crate::answers::{Answers, Given};
+use crate::answers::{Answers, Counts, Given};
 use crate::places::{Places, is_single};
 use rg_apt::read_lts;
 use rg_blocks::{SeparationOutcome, separate_all};
 use rg_lts::Lts;
-use rg_places::RegionPlace;
+use rg_marks::RegionPlace;
 use rg_ports::Gate;
 use rg_text::MOST_BYTES;
 use rg_theory::Problem;
@@ -15,16 +15,18 @@ use std::sync::atomic::{AtomicU64, Ordering};
 use std::test::Fail;
 use std::thread::Threads;
 
-// The answers to the problems of labels, what all of them come to, the labels whose places are kept, and how many problems one job
-// solves, and two: the first labels are solved in turn, as long as the next one is stopped; then each of two jobs solves what is left in its
-// half of all labels, with the places kept so far and those of its half.
-const ROWS: [(&[Given], Option<SeparationOutcome>, &[usize], u64, u64); 16] = [
+// The answers to the problems of labels, what all of them come to, the labels whose places are kept, how many problems one job
+// solves, and two, and how many of two jobs' inside the gate: the first labels are solved in turn, before it is entered, as long as the next
+// one is stopped; then each of two jobs solves what is left in its half of all labels, with the places kept so far and those of its half; at
+// last those are solved that were left for a place that isn't kept. One job solves each inside.
+const ROWS: [(&[Given], Option<SeparationOutcome>, &[usize], u64, u64, u64); 16] = [
     (
         &[Given::Stops(1), Given::Stops(0), Given::Stops(2)],
         Some(SeparationOutcome::Separated),
         &[0, 2],
         2,
         2,
+        0,
     ),
     (
         &[Given::Stops(1), Given::TooWide, Given::Stops(0)],
@@ -32,6 +34,7 @@ const ROWS: [(&[Given], Option<SeparationOutcome>, &[usize], u64, u64); 16] = [
         &[0, 2],
         2,
         2,
+        0,
     ),
     (
         &[Given::Stops(1), Given::Refuted, Given::Stops(0)],
@@ -39,6 +42,7 @@ const ROWS: [(&[Given], Option<SeparationOutcome>, &[usize], u64, u64); 16] = [
         &[0, 2],
         2,
         2,
+        0,
     ),
     (
         &[Given::TooWide, Given::Stops(0)],
@@ -46,6 +50,7 @@ const ROWS: [(&[Given], Option<SeparationOutcome>, &[usize], u64, u64); 16] = [
         &[1],
         2,
         2,
+        1,
     ),
     (
         &[
@@ -58,6 +63,7 @@ const ROWS: [(&[Given], Option<SeparationOutcome>, &[usize], u64, u64); 16] = [
         &[2],
         4,
         4,
+        3,
     ),
     (
         &[
@@ -70,6 +76,7 @@ const ROWS: [(&[Given], Option<SeparationOutcome>, &[usize], u64, u64); 16] = [
         &[1],
         3,
         4,
+        3,
     ),
     (
         &[Given::Refuted, Given::Stops(1)],
@@ -77,15 +84,17 @@ const ROWS: [(&[Given], Option<SeparationOutcome>, &[usize], u64, u64); 16] = [
         &[],
         1,
         1,
+        0,
     ),
-    (&[Given::NoMemory], None, &[], 1, 1),
-    (&[Given::Stops(0), Given::NoMemory], None, &[], 2, 2),
+    (&[Given::NoMemory], None, &[], 1, 1, 0),
+    (&[Given::Stops(0), Given::NoMemory], None, &[], 2, 2, 1),
     (
         &[Given::Stops(0)],
         Some(SeparationOutcome::Separated),
         &[0],
         1,
         1,
+        0,
     ),
     // the first two places stop the labels behind them, so that all are solved in turn
     (
@@ -99,6 +108,7 @@ const ROWS: [(&[Given], Option<SeparationOutcome>, &[usize], u64, u64); 16] = [
         &[0, 2],
         2,
         2,
+        0,
     ),
     // the place of label 0 is kept before the halves begin, so that label 2 is left
     (
@@ -112,6 +122,7 @@ const ROWS: [(&[Given], Option<SeparationOutcome>, &[usize], u64, u64); 16] = [
         &[0, 1, 3],
         3,
         3,
+        2,
     ),
     // label 3 is left for the place of label 2, which is dropped for that of label 1: then label 3 is solved
     (
@@ -125,6 +136,7 @@ const ROWS: [(&[Given], Option<SeparationOutcome>, &[usize], u64, u64); 16] = [
         &[0, 1, 3],
         3,
         4,
+        2,
     ),
     (
         &[
@@ -137,6 +149,7 @@ const ROWS: [(&[Given], Option<SeparationOutcome>, &[usize], u64, u64); 16] = [
         &[0, 1],
         3,
         4,
+        2,
     ),
     (
         &[
@@ -149,6 +162,7 @@ const ROWS: [(&[Given], Option<SeparationOutcome>, &[usize], u64, u64); 16] = [
         &[0, 1],
         3,
         4,
+        2,
     ),
     (
         &[
@@ -161,34 +175,9 @@ const ROWS: [(&[Given], Option<SeparationOutcome>, &[usize], u64, u64); 16] = [
         &[],
         3,
         4,
+        2,
     ),
 ];
-
-// Counts how often it is entered and left.
-#[derive(Drop)]
-struct Counts {
-    entered: AtomicU64,
-    left: AtomicU64,
-}
-
-impl Gate for Counts {
-    fn enter(&self, _: u32) {
-        self.entered.fetch_add(1, Ordering::SeqCst);
-    }
-
-    fn leave(&self, _: u32) {
-        self.left.fetch_add(1, Ordering::SeqCst);
-    }
-}
-
-impl Counts {
-    fn new() -> Counts {
-        Counts {
-            entered: AtomicU64::new(0),
-            left: AtomicU64::new(0),
-        }
-    }
-}
 
 // The system with one state, so many labels and no arc.
 fn system(alloc: Global, labels: usize) -> Option<Lts> {
@@ -220,7 +209,8 @@ fn come<R: Threads + Sync, G: Gate + Sync>(
     let mut places = Places {
         kept: Vec::new(alloc),
     };
-    match separate_all(rt, alloc, lts, &mut places, answers, jobs, gate) {
+    let mut proof = None;
+    match separate_all(rt, alloc, lts, &mut places, answers, jobs, gate, &mut proof) {
         Ok(outcome) => Some((outcome, places.kept)),
         Err(_) => None,
     }
@@ -240,11 +230,12 @@ fn are_places_of(places: &[RegionPlace], labels: &[usize]) -> bool {
 }
 
 // What is seen of a search: what all problems come to and the places kept, unless there is no memory; how many problems were solved, and how
-// often the gate was entered and left.
+// many of them inside the gate; and how often it was entered and left.
 #[derive(Drop)]
 struct Seen {
     found: Option<(SeparationOutcome, Vec<RegionPlace>)>,
     solved: u64,
+    solved_inside: u64,
     entered: u64,
     left: u64,
 }
@@ -253,17 +244,20 @@ fn see<R: Threads + Sync>(rt: &R, alloc: Global, given: &[Given], jobs: u8) -> O
     requires { 1 ≤ jobs }
 {
     let lts = system(alloc, given.len())?;
+    let gate = Counts::new();
     let answers = Answers {
         alloc,
         labels: lts.labels(),
         given,
+        gate: &gate,
         solved: AtomicU64::new(0),
+        solved_inside: AtomicU64::new(0),
     };
-    let gate = Counts::new();
     let found = come(rt, alloc, &lts, &answers, jobs, &gate);
     Some(Seen {
         found,
         solved: answers.solved.load(Ordering::SeqCst),
+        solved_inside: answers.solved_inside.load(Ordering::SeqCst),
         entered: gate.entered.load(Ordering::SeqCst),
         left: gate.left.load(Ordering::SeqCst),
     })
@@ -271,12 +265,13 @@ fn see<R: Threads + Sync>(rt: &R, alloc: Global, given: &[Given], jobs: u8) -> O
 
 #[test]
 fn rows(rt: HostRuntime) -> Result<(), Fail> {
-    for (given, wanted, labels, by_one, by_two) in ROWS {
+    for (given, wanted, labels, by_one, by_two, inside) in ROWS {
         for jobs in [1u8, 2, 3, 7, 16] {
             let Some(
                 Seen {
                     found,
                     solved,
+                    solved_inside,
                     entered,
                     left,
                 },
@@ -287,10 +282,10 @@ fn rows(rt: HostRuntime) -> Result<(), Fail> {
             };
             assert_eq!(rt; left, entered);
             if jobs == 1 {
-                assert_eq!(rt; solved, by_one);
+                assert_eq!(rt; (solved, solved_inside), (by_one, by_one));
             }
             if jobs == 2 {
-                assert_eq!(rt; solved, by_two);
+                assert_eq!(rt; (solved, solved_inside), (by_two, inside));
             }
             match found {
                 Some((outcome, places)) => {
@@ -319,6 +314,7 @@ fn two_blocks(rt: HostRuntime) -> Result<(), Fail> {
             Seen {
                 found,
                 solved,
+                solved_inside: _,
                 entered,
                 left,
             },

@@ -10,7 +10,7 @@ use Rattle.rg_integers.proofs.Ring.{ring}
 use Rattle.rg_integers.proofs.Order.{mul_not_negative, mul-le}
 use Rattle.rg_integers.specs.Sum.{sum_below}
 use Rattle.rg_integers.proofs.Sums.{sum_below-same, sum_below-times}
-use Rattle.rg_linear.specs.declared.system.Row.{Row}
+use Rattle.rg_linear.specs.declared.row.Row.{Row}
 use Rattle.rg_linear.specs.View.{linear_row, IsWellFormed}
 use Rattle.rg_linear.proofs.KeptRows.{item_is, below_rows, row_length}
 use Rattle.rg_linear.specs.System.{LinearSystem, LinearRow, row_variable, row_at, entry}
@@ -104,7 +104,9 @@ all_known system forms sum known few_forms few = record {
   each = λ k b lt. (known.bounded k b lt lt).form;
   bounded = record {
     positive = λ f lt. (let w = below f lt in let b = some_form forms f w in subst (λ (form : Form). pos 0 <ℤ form.scale) (form_here forms f b w) (known.bounded f b w w).form.positive);
-    between = λ f scale x lt p meets. (let w = below f lt in let b = some_form forms f w in subst (λ (form : Form). ((form.low *ℤ (form.scale *ℤ scale)) ≤ℤ scaled_value system form x) × (scaled_value system form x ≤ℤ (form.high *ℤ (form.scale *ℤ scale)))) (form_here forms f b w) ((known.bounded f b w w).between scale x p meets));
+    between = λ f scale x lt p meets. (let w = below f lt in let b = some_form forms f w in subst
+        (λ (form : Form). ((form.low *ℤ (form.scale *ℤ scale)) ≤ℤ scaled_value system form x) × (scaled_value system form x ≤ℤ (form.high *ℤ (form.scale *ℤ scale))))
+        (form_here forms f b w) ((known.bounded f b w w).between scale x p meets));
   };
   few_forms = few_forms;
   few = (let s = known.sum_is in let e = ap (λ n. total n (gap (forms_of forms) [])) (length-map forms form_of) in omega arith);
@@ -120,7 +122,9 @@ all_known system forms sum known few_forms few = record {
 -- ---- what the code has tested
 
 module _ (system : LinearSystem) (b : Bounded) (rows : List Row) (item : Row) (are : map linear_row rows ≡ system.rows) where
-  pub form_asked : b.row < length rows → item ≡ slice_index_or rows b.row item → length (arc_slice_items b.coeffs) ≡ system.columns → pos 0 <ℤ b.scale → b.low ≤ℤ b.high → pos 0 ≤ℤ b.times → FitsSigned w128 b.scale → FitsSigned w128 b.times → InRange (b.scale *ℤ b.low) → InRange (b.scale *ℤ b.high) → All InRange (arc_slice_items b.coeffs) → AreTimes (arc_slice_items b.coeffs) b.times (linear_row item).coeffs → IsFormOf system b
+  pub form_asked : b.row < length rows → item ≡ slice_index_or rows b.row item → length (arc_slice_items b.coeffs) ≡ system.columns → pos 0 <ℤ b.scale → b.low ≤ℤ b.high
+      → pos 0 ≤ℤ b.times → FitsSigned w128 b.scale → FitsSigned w128 b.times → InRange (b.scale *ℤ b.low) → InRange (b.scale *ℤ b.high)
+      → All InRange (arc_slice_items b.coeffs) → AreTimes (arc_slice_items b.coeffs) b.times (linear_row item).coeffs → IsFormOf system b
   form_asked lt at size positive ordered not_negative scale times low high coeffs same = record {
     one_each = size;
     positive = positive;
@@ -148,7 +152,9 @@ module _ (system : LinearSystem) (b : Bounded) (rows : List Row) (item : Row) (a
         (subst (λ z. z ≤ℤ neg_ℤ (b.scale *ℤ b.low)) is_product (subst (λ z. product ≤ℤ neg_ℤ z) is_low least));
   }
 
-  pub top_asked : (row : ℕ) (times : ℤ) → row < length rows → item ≡ slice_index_or rows row item → IsWellFormed system → pos 0 <ℤ times → (high most : ℤ) → high ≡ b.scale *ℤ b.high → most ≡ times *ℤ high → item.constant ≤ℤ most → AreTimes (linear_row item).coeffs (neg_ℤ times) (arc_slice_items b.coeffs) → IsTop system b row times
+  pub top_asked : (row : ℕ) (times : ℤ) → row < length rows → item ≡ slice_index_or rows row item → IsWellFormed system → pos 0 <ℤ times → (high most : ℤ)
+      → high ≡ b.scale *ℤ b.high → most ≡ times *ℤ high → item.constant ≤ℤ most → AreTimes (linear_row item).coeffs (neg_ℤ times) (arc_slice_items b.coeffs)
+      → IsTop system b row times
   top_asked row times lt at well positive high most is_high is_most constant same = record {
     within = below_rows system rows row are lt;
     positive = positive;

@@ -1,6 +1,7 @@
 pub mod Paths
 pub mod Values
 pub mod Orders
+pub mod Related
 pub mod Points
 pub mod Nodes
 pub mod Sides

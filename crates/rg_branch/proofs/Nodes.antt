@@ -1,30 +1,27 @@
 -- One node: its system, its forms, and what its descent tells.
-use Rattle.std.proofs.Common.{◌≡◌, ◌≢◌, ⊎_elim, ℕ, zero, suc, ◌+◌, ◌-◌, ◌<◌, ◌≤◌, Bool, true, false, ◌==◌, if◌then◌else◌, List, [], ◌∷◌, ◌++◌, length, length-append, map, Contains, ap, subst, sym, ◌∙◌, arith}
-use Rattle.std.specs.Prelude.{ℤ, pos, negsuc, neg_ℤ, ◌-ℤ◌, ◌*ℤ◌, ◌≤ℤ◌, ◌<ℤ◌, slice_index_or, int_lt, ◌||◌}
+use Rattle.std.proofs.Common.{◌≡◌, ◌≢◌, ⊎_elim, ℕ, zero, suc, ◌+◌, ◌-◌, ◌<◌, ◌≤◌, Bool, true, false, if◌then◌else◌, List, [], ◌∷◌, ◌++◌, length, length-append, map, ap, subst, sym, ◌∙◌, arith}
+use Rattle.std.specs.Prelude.{ℤ, pos, negsuc, ◌-ℤ◌, ◌*ℤ◌, ◌≤ℤ◌, ◌<ℤ◌, slice_index_or, int_lt, ◌||◌}
 use Rattle.std.proofs.lemmas.Int.{ints, by_lt_z}
 use Rattle.std.proofs.Math.IntN.{zero-*ℤ}
 use Rattle.std.proofs.lemmas.Bool.{cases_lt}
 use Rattle.std.proofs.lemmas.List.{length-map, get_or-map, get_or_append_left}
 use Rattle.rg_fraction.specs.declared.fraction.Fraction.{Fraction}
-use Rattle.rg_linear.specs.System.{LinearSystem, LinearRow, variables, row_at, row_variable, entry}
-use Rattle.rg_linear.specs.declared.system.Row.{Row}
+use Rattle.rg_linear.specs.System.{LinearSystem, LinearRow, row_at, row_variable, entry}
+use Rattle.rg_linear.specs.declared.row.Row.{Row}
 use Rattle.rg_linear.specs.View.{linear_row}
 use Rattle.rg_linear.specs.Dictionary.{Relation, DictionaryRow}
-use Rattle.rg_linear.specs.Table.{ShowsRow}
 use Rattle.rg_linear.specs.Descent.{Outcome.point, Outcome.refuted, DescentFromStart, multiplier_of}
 use Rattle.rg_linear.specs.Branching.{Form, form_at, SplitSide, side_row, node_system, Weight, weights_from}
 use Rattle.rg_linear.proofs.Points.{point_is_sound}
-use Rattle.rg_linear.proofs.Refuting.{start_refuted}
 use Rattle.rg_linear.proofs.Splits.{node_point}
-use Rattle.rg_dictionary.specs.Contents.{Contents, row_of, IsDictionary}
-use Rattle.rg_feasible.specs.View.{DescentState}
-use Rattle.rg_feasible.specs.Settling.{with_rows, IsDictionaryOf, IsFeasibleAt, relation_of, multiplier_with}
-use Rattle.rg_feasible.proofs.Shown.{row_shows, relation_is}
+use Rattle.rg_feasible.specs.Settling.{with_rows, IsFeasibleAt}
 use Rattle.rg_branch.specs.declared.bounded.Bounded.{Bounded}
 use Rattle.rg_linear.specs.Room.{gap_of, gap, total, room}
 use Rattle.rg_branch.specs.View.{form_of, forms_of}
 use Rattle.rg_branch.specs.Asked.{IsFormOf, CanBranch}
 use Rattle.rg_branch.specs.Points.{IsBetween, AreWholeBelow, IsFirstFraction, AreFormsAt}
+use Rattle.rg_branch.specs.declared.relations.Relations.{Relations}
+use Rattle.rg_branch.specs.Relating.{AreRelationsOf}
 use Rattle.rg_branch.specs.Answer.{AreValuesAt, IsRefutedWith, IsWholePoint, IsFractionAt}
 
 -- ---- the forms at a node
@@ -79,18 +76,25 @@ node_form system further b is = record {
         zeros e = ap (λ z. z *ℤ entry system b.row j) e ∙ zero-*ℤ (entry system b.row j) ∙ sym (zero-*ℤ (entry (with_rows system further) b.row j)) ∙ ap (λ z. z *ℤ entry (with_rows system further) b.row j) (sym e)
 
 module _ (system : LinearSystem) (forms : List Bounded) (above : List SplitSide) (can : CanBranch system forms) where
-  pub forms_at : (d : DescentState) → IsDictionaryOf (node_system system (forms_of forms) above) d → DescentFromStart (node_system system (forms_of forms) above) (point d.table.members) → AreFormsAt system (map (side_row (forms_of forms)) above) d forms
-  forms_at d dictionary outcome k b lt = record {
-    dictionary = dictionary;
+  pub forms_at : (members : List ℕ) (relations : Relations) → AreRelationsOf (node_system system (forms_of forms) above) members relations
+      → DescentFromStart (node_system system (forms_of forms) above) (point members) → AreFormsAt system (map (side_row (forms_of forms)) above) members relations forms
+  forms_at members relations are outcome k b lt = record {
+    are = are;
     form = can.each k b lt;
     narrow = narrow_of (slice_index_or forms k b).high (slice_index_or forms k b).low (room (forms_of forms) []) (gap_here k b lt) (let f = can.few in omega arith);
-    between = subst (IsBetween (node_system system (forms_of forms) above) d.table.members) (sym (form_here forms k b lt)) (λ scale v basic. can.bounded.between k scale v (subst (λ n. k < n) (sym (length-map forms form_of)) lt) (node_point system (forms_of forms) above scale v basic.point) (λ i within. point_is_sound (node_system system (forms_of forms) above) d.table.members outcome scale v basic.point basic.zero i (first_length system (map (side_row (forms_of forms)) above) i within)));
+    between = subst (IsBetween (node_system system (forms_of forms) above) members) (sym (form_here forms k b lt))
+        (λ scale v basic. can.bounded.between k scale v (subst (λ n. k < n) (sym (length-map forms form_of)) lt)
+        (node_point system (forms_of forms) above scale v basic.point)
+        (λ i within. point_is_sound (node_system system (forms_of forms) above) members outcome scale v basic.point basic.zero i
+        (first_length system (map (side_row (forms_of forms)) above) i within)));
   }
     where
       gap_here : (k : ℕ) (b : Bounded) → k < length forms → gap_of ((slice_index_or forms k b).high -ℤ (slice_index_or forms k b).low) ≤ room (forms_of forms) []
       gap_here k b lt = subst (λ (form : Form). gap_of (form.high -ℤ form.low) ≤ room (forms_of forms) []) (sym (form_here forms k b lt)) (gap_at_most (length (forms_of forms)) k (gap (forms_of forms) []) (subst (λ n. k < n) (sym (length-map forms form_of)) lt))
 
-  pub fraction_told : (members : List ℕ) (f : ℕ) (u : ℤ) → DescentFromStart (node_system system (forms_of forms) above) (point members) → IsFeasibleAt (node_system system (forms_of forms) above) members → IsFirstFraction (node_system system (forms_of forms) above) members (forms_of forms) f u → IsFractionAt system (forms_of forms) above f u
+  pub fraction_told : (members : List ℕ) (f : ℕ) (u : ℤ) → DescentFromStart (node_system system (forms_of forms) above) (point members)
+      → IsFeasibleAt (node_system system (forms_of forms) above) members → IsFirstFraction (node_system system (forms_of forms) above) members (forms_of forms) f u
+      → IsFractionAt system (forms_of forms) above f u
   fraction_told members f u d at first = record {
     members = members;
     outcome = d;
@@ -107,7 +111,9 @@ module _ (system : LinearSystem) (forms : List Bounded) (above : List SplitSide)
     side = record { form = first.within; low = first.low; high = first.high };
   }
 
-  pub whole_told : (members : List ℕ) (values : List Fraction) → DescentFromStart (node_system system (forms_of forms) above) (point members) → IsFeasibleAt (node_system system (forms_of forms) above) members → AreWholeBelow (node_system system (forms_of forms) above) members (forms_of forms) (length forms) → AreValuesAt (node_system system (forms_of forms) above) members values → IsWholePoint system (forms_of forms) above values
+  pub whole_told : (members : List ℕ) (values : List Fraction) → DescentFromStart (node_system system (forms_of forms) above) (point members)
+      → IsFeasibleAt (node_system system (forms_of forms) above) members → AreWholeBelow (node_system system (forms_of forms) above) members (forms_of forms)
+      (length forms) → AreValuesAt (node_system system (forms_of forms) above) members values → IsWholePoint system (forms_of forms) above values
   whole_told members values d at all are = record {
     members = members;
     outcome = d;
@@ -138,31 +144,18 @@ row_count system further own split n are behind count =
 
 -- ---- a refuted node
 
-pub refuted_told : (node : LinearSystem) (d : Contents) (i : ℕ) (fixed : List ℕ) (weights : List Weight) (rows : ℕ) → IsDictionary node d → DescentFromStart node (refuted d.members i fixed) → rows ≡ length node.rows → weights ≡ weights_from (multiplier_with d i) 0 rows → IsRefutedWith node weights
-refuted_told node d i fixed weights rows whole outcome count are = record {
-  members = d.members;
+pub refuted_told : (node : LinearSystem) (members fixed : List ℕ) (i : ℕ) (k : Relation) (weights : List Weight) (rows : ℕ)
+    → DescentFromStart node (refuted members i fixed) → DictionaryRow node members (row_variable node i) k → rows ≡ length node.rows
+    → weights ≡ weights_from (multiplier_of node k i) 0 rows → IsRefutedWith node weights
+refuted_told node members fixed i k weights rows outcome row count are = record {
+  members = members;
   fixed = fixed;
   i = i;
-  k = shown.k;
+  k = k;
   outcome = outcome;
-  row = subst (λ w. DictionaryRow node d.members w shown.k) pivot_is shown.row;
-  weights_are = are ∙ ap (λ n. weights_from (multiplier_with d i) 0 n) count ∙ ap (λ (m : ℕ → ℤ). weights_from m 0 (length node.rows)) multipliers;
+  row = row;
+  weights_are = are ∙ ap (weights_from (multiplier_of node k i) 0) count;
 }
-  where
-    pivot_is : d.columns + i ≡ row_variable node i
-    pivot_is = ap (λ n. n + i) whole.columns
-
-    failing : (k : Relation) × DictionaryRow node d.members (row_variable node i) k
-    failing = let at = (start_refuted node d.members fixed i outcome).stuck in (at.k, at.row)
-
-    shown : ShowsRow node d.members (d.columns + i) (row_of d (d.columns + i))
-    shown = row_shows d node whole (d.columns + i) (subst (λ w. w < variables node) (sym pivot_is) failing.1.variable) (λ has. failing.1.outside (subst (Contains d.members) pivot_is has))
-
-    is_shown : relation_of d.members (row_of d (d.columns + i)) ≡ shown.k
-    is_shown = relation_is d.members shown.k (row_of d (d.columns + i)) shown.row.over shown.shown
-
-    multipliers : multiplier_with d i ≡ multiplier_of node shown.k i
-    multipliers = λ j row. if row == i then (is_shown j).d else neg_ℤ ((is_shown j).coefficient (whole.columns j + row))
 
 -- ---- the rows with a multiplier
 

@@ -59,7 +59,11 @@ module _ (node : LinearSystem) (members : List ℕ) (b : Bounded) (is : IsFormOf
   )
 
   pub reads_whole : (u : ℤ) → multiplied b.times value (row_at node b.row).constant ≡ u *ℤ unit_of b.scale value → IsWholeThere node members (form_of b)
-  reads_whole u e scale v basic = (u, equal (numerator_of value) (denominator_of value) (row_at node b.row).constant b.times b.scale scale (v (row_variable node b.row)) (scaled_value node (form_of b) v) value.positive basic.point.positive (reads scale v basic) (form_value node b is scale v basic.point lt) u e)
+  reads_whole u e scale v basic = (
+    u,
+    equal (numerator_of value) (denominator_of value) (row_at node b.row).constant b.times b.scale scale (v (row_variable node b.row))
+        (scaled_value node (form_of b) v) value.positive basic.point.positive (reads scale v basic) (form_value node b is scale v basic.point lt) u e,
+  )
 
 -- ---- the forms in order
 

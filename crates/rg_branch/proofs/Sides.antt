@@ -10,7 +10,7 @@ use Rattle.rg_integers.proofs.Ranges.{in_range-neg}
 use Rattle.rg_linear.specs.System.{LinearSystem, LinearRow, row_at}
 use Rattle.rg_linear.specs.Branching.{Form, form_at, SplitSide, side_row, node_system}
 use Rattle.rg_linear.proofs.Splits.{front_row, index-neg}
-use Rattle.rg_linear.specs.declared.system.Row.{Row}
+use Rattle.rg_linear.specs.declared.row.Row.{Row}
 use Rattle.rg_linear.specs.View.{linear_row, IsWellFormed}
 use Rattle.rg_branch.specs.declared.bounded.Bounded.{Bounded}
 use Rattle.rg_branch.specs.View.{form_of, forms_of, side_of, sides_of}
@@ -159,7 +159,9 @@ pub record TurnsTo (forms : List Form) (rows : List Row) (new : List (ℕ × ℤ
   pub asked : IsSideOf forms (side_of last)
   pub rows_are : map linear_row (take (length new - 1) rows) ++ side_row forms (side_of last) ∷ [] ≡ map (side_row forms) (sides_of new)
 
-module _ (forms : List Form) (above : List SplitSide) (rows : List Row) (new : List (ℕ × ℤ × Bool)) (last : ℕ × ℤ × Bool) (each : All (IsSideOf forms) above) (are : map linear_row rows ≡ map (side_row forms) above) (next : sides_of new ≡ turned above) (some : 0 < length new) (is_last : slice_index_or new (length new - 1) last ≡ last) where
+module _ (forms : List Form) (above : List SplitSide) (rows : List Row) (new : List (ℕ × ℤ × Bool)) (last : ℕ × ℤ × Bool) (each : All (IsSideOf forms) above)
+    (are : map linear_row rows ≡ map (side_row forms) above) (next : sides_of new ≡ turned above) (some : 0 < length new)
+    (is_last : slice_index_or new (length new - 1) last ≡ last) where
   turns_at : TurnsAt above → TurnsTo forms rows new last
   turns_at at = record {
     asked = subst (IsSideOf forms) (sym same) (record { form = before.form; low = before.low; high = before.high });
@@ -170,13 +172,17 @@ module _ (forms : List Form) (above : List SplitSide) (rows : List Row) (new : L
       count = sym (length-map new side_of) ∙ ap length (next ∙ at.turned_is) ∙ length-append at.outer (record at.side { high = true } ∷ [])
 
       same : side_of last ≡ record at.side { high = true }
-      same = ap side_of (sym is_last) ∙ sym (get_or-map side_of new (length new - 1) last (side_of last) (omega (arith, count))) ∙ ap (λ xs. slice_index_or xs (length new - 1) (side_of last)) (next ∙ at.turned_is) ∙ get_or_at at.outer (record at.side { high = true }) [] (side_of last) (length new - 1) (omega (arith, count))
+      same = ap side_of (sym is_last) ∙ sym (get_or-map side_of new (length new - 1) last (side_of last) (omega (arith, count)))
+          ∙ ap (λ xs. slice_index_or xs (length new - 1) (side_of last)) (next ∙ at.turned_is) ∙ get_or_at at.outer (record at.side { high = true }) [] (side_of last)
+          (length new - 1) (omega (arith, count))
 
       before : IsSideOf forms at.side
       before = subst (IsSideOf forms) (ap (λ xs. slice_index_or xs (length at.outer) at.side) at.is ∙ get_or_at at.outer at.side at.inner at.side (length at.outer) refl) (each (length at.outer) at.side (omega (arith, ap length at.is, length-append at.outer (at.side ∷ at.inner))))
 
       outer_rows : map linear_row (take (length new - 1) rows) ≡ map (side_row forms) at.outer
-      outer_rows = sym (take-map linear_row (length new - 1) rows) ∙ ap (take (length new - 1)) (are ∙ ap (map (side_row forms)) at.is) ∙ take-map (side_row forms) (length new - 1) (at.outer ++ at.side ∷ at.inner) ∙ ap (map (side_row forms)) (take_at at.outer (at.side ∷ at.inner) (length new - 1) (omega (arith, count)))
+      outer_rows = sym (take-map linear_row (length new - 1) rows) ∙ ap (take (length new - 1)) (are ∙ ap (map (side_row forms)) at.is)
+          ∙ take-map (side_row forms) (length new - 1) (at.outer ++ at.side ∷ at.inner)
+          ∙ ap (map (side_row forms)) (take_at at.outer (at.side ∷ at.inner) (length new - 1) (omega (arith, count)))
 
   pub turns_to : TurnsTo forms rows new last
   turns_to = ⊎_elim (λ none. absurd (omega (arith, sym (length-map new side_of) ∙ ap length (next ∙ none)))) turns_at (turns above)

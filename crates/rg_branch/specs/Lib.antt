@@ -3,5 +3,6 @@ pub mod Asked
 pub mod Numbers
 pub mod Turning
 pub mod Work
+pub mod Relating
 pub mod Points
 pub mod Answer

@@ -5,10 +5,9 @@ ghost use Rattle.rg_branch.specs.Asked.{CanBranch};
 ghost use Rattle.rg_branch.specs.Answer.{IsAnswer, IsSound, IsStop};
 
 use crate::bounded::Bounded;
-use crate::node::{NodeEnd, node_end};
+use crate::node::{NodeEnd, Solver, node_end};
 use crate::splits::Splits;
 use crate::whole::{BranchStop, RawNode, Whole};
-use rg_feasible::Dictionary;
 use rg_linear::System;
 use std::alloc::Global;
 
@@ -25,14 +24,14 @@ pub fn solve_whole(alloc: Global, system: &System, forms: &[Bounded]) -> Result<
     ensures sound { IfOk result (IsSound system.now (forms_of forms.now)) }
     ensures stop { IfErr result (IsStop system.now (forms_of forms.now)) }
 {
-    let mut dictionary = Dictionary::new(alloc, system)?;
+    let mut solver = Solver::new(alloc, system.columns())?;
     let mut splits = Splits {
         above: Vec::new(alloc),
         rows: Vec::new(alloc),
     };
     let mut nodes = Vec::new(alloc);
     loop {
-        match node_end(alloc, &mut dictionary, system, forms, &splits)? {
+        match node_end(alloc, &mut solver, system, forms, &splits)? {
             NodeEnd::Stopped(members, wide) => {
                 return Err(BranchStop::Wide {
                     above: splits.above,

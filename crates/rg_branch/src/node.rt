@@ -1,18 +1,23 @@
 //! One node of a branching.
-ghost use Rattle.std.specs.Prelude.{◌≡◌, ℕ, length, map, IfOk};
-ghost use Rattle.rg_linear.specs.Branching.{weights_from};
-ghost use Rattle.rg_feasible.specs.Settling.{IsRefutation, multiplier_with};
+ghost use Rattle.std.specs.Prelude.{◌≡◌, ◌+◌, ◌<◌, ◌^◌, ℕ, List, [], length, map, IfOk, IfSome, OnOk};
+ghost use Rattle.rg_linear.specs.System.{LinearSystem};
+ghost use Rattle.rg_linear.specs.Dictionary.{Relation};
+ghost use Rattle.rg_linear.specs.Descent.{multiplier_of};
+ghost use Rattle.rg_linear.specs.Branching.{SplitSide, node_system, weights_from};
 ghost use Rattle.rg_branch.specs.View.{forms_of, sides_of, weight_of};
 ghost use Rattle.rg_branch.specs.Asked.{CanBranch, AreSidesOf, HasRowsOf};
+ghost use Rattle.rg_branch.specs.Relating.{IsPointOf, IsRefutedBy};
 ghost use Rattle.rg_branch.specs.Answer.{NodeTells};
 
 use crate::bounded::Bounded;
 use crate::point::{first_fraction, values};
+use crate::relations::Relations;
 use crate::splits::Splits;
 use rg_feasible::{Dictionary, PivotWide, Settled};
 use rg_fraction::Fraction;
 use rg_linear::System;
 use rg_memory::NoMemory;
+use rg_revised::{Descent, Revised};
 use std::alloc::{AllocError, Global};
 
 // What a node comes to.
@@ -28,8 +33,103 @@ pub(crate) enum NodeEnd {
     Fraction(u32, i64),
 }
 
-// Settles the system below the splits. The dictionary may be any: it is filled again.
+// What nodes are settled with: the revised dictionary, and a full one, which is made where numbers are too large for it.
+#[derive(Drop)]
+pub(crate) struct Solver {
+    pub(crate) revised: Revised,
+    pub(crate) full: Option<Dictionary>,
+}
+
+impl Solver {
+    // One for systems of so many columns.
+    pub(crate) fn new(alloc: Global, columns: u32) -> Result<Solver, NoMemory>
+        ensures { IfOk result (λ solver. solver.revised.columns ≡ columns) }
+    {
+        let revised = Revised::new(alloc, columns)?;
+        Ok(Solver {
+            revised,
+            full: None,
+        })
+    }
+}
+
+// Settles the system below the splits. What the solver holds of another node doesn't matter.
 pub(crate) fn node_end(
+    alloc: Global,
+    solver: &mut Solver,
+    system: &System,
+    forms: &[Bounded],
+    splits: &Splits,
+) -> Result<NodeEnd, NoMemory>
+    requires can { CanBranch system.now forms.now }
+    requires sides { AreSidesOf (forms_of forms.now) (sides_of splits.now.above.items) }
+    requires rows { HasRowsOf (forms_of forms.now) splits.now }
+    requires columns { solver.old.revised.columns ≡ system.now.columns }
+    ensures node { IfOk result (NodeTells system.now (forms_of forms.now) (sides_of splits.now.above.items)) }
+    ensures columns { solver.new.revised.columns ≡ system.now.columns }
+{
+    match settled_small(alloc, &mut solver.revised, system, forms, splits)? {
+        Some(end) => Ok(end),
+        None => settled_full(alloc, &mut solver.full, system, forms, splits),
+    }
+}
+
+// Settles it with the revised dictionary. None where a number is too large for it.
+fn settled_small(
+    alloc: Global,
+    revised: &mut Revised,
+    system: &System,
+    forms: &[Bounded],
+    splits: &Splits,
+) -> Result<Option<NodeEnd>, NoMemory>
+    requires can { CanBranch system.now forms.now }
+    requires sides { AreSidesOf (forms_of forms.now) (sides_of splits.now.above.items) }
+    requires rows { HasRowsOf (forms_of forms.now) splits.now }
+    requires columns { revised.old.columns ≡ system.now.columns }
+    ensures node { IfOk result (λ end. IfSome end (NodeTells system.now (forms_of forms.now) (sides_of splits.now.above.items))) }
+    ensures columns { revised.new.columns ≡ system.now.columns }
+{
+    let count = system.rows().len() + splits.rows.len();
+    let ended = revised.settle(system, &splits.rows);
+    let relations = Relations::OfColumns(revised);
+    match ended {
+        Descent::Point => {
+            let end = point_end(alloc, relations, system, forms)?;
+            Ok(Some(end))
+        }
+        Descent::Refuted(_) => {
+            let weights = weights(alloc, relations, count as u32)?;
+            Ok(Some(NodeEnd::Refuted(weights)))
+        }
+        Descent::Large => Ok(None),
+    }
+}
+
+// Settles it with the full dictionary, which may be any: it is filled again.
+fn settled_full(
+    alloc: Global,
+    full: &mut Option<Dictionary>,
+    system: &System,
+    forms: &[Bounded],
+    splits: &Splits,
+) -> Result<NodeEnd, NoMemory>
+    requires can { CanBranch system.now forms.now }
+    requires sides { AreSidesOf (forms_of forms.now) (sides_of splits.now.above.items) }
+    requires rows { HasRowsOf (forms_of forms.now) splits.now }
+    ensures { IfOk result (NodeTells system.now (forms_of forms.now) (sides_of splits.now.above.items)) }
+{
+    let columns = system.columns();
+    if full.is_none() {
+        *full = Some(Dictionary::new(alloc, &System::new(columns, Vec::new(alloc)))?);
+    }
+    match full {
+        Some(dictionary) => filled_end(alloc, dictionary, system, forms, splits),
+        None => unreachable!(),
+    }
+}
+
+// Fills the dictionary with the rows of the node, and settles it.
+fn filled_end(
     alloc: Global,
     dictionary: &mut Dictionary,
     system: &System,
@@ -42,7 +142,7 @@ pub(crate) fn node_end(
     ensures { IfOk result (NodeTells system.now (forms_of forms.now) (sides_of splits.now.above.items)) }
 {
     let columns = system.columns();
-    let rows = system.rows().len() + splits.rows.len();
+    let count = system.rows().len() + splits.rows.len();
     dictionary.renew(alloc, system, &splits.rows)?;
     match dictionary.settle() {
         Settled::Wide(wide) => {
@@ -50,16 +150,33 @@ pub(crate) fn node_end(
             Ok(NodeEnd::Stopped(members, wide))
         }
         Settled::Refuted(_) => {
-            let weights = weights(alloc, dictionary, rows as u32)?;
+            let weights = weights(alloc, Relations::OfAll(dictionary), count as u32)?;
             Ok(NodeEnd::Refuted(weights))
         }
-        Settled::Point => match first_fraction(dictionary, system, forms) {
-            Some((form, floor)) => Ok(NodeEnd::Fraction(form, floor)),
-            None => {
-                let values = values(alloc, dictionary, columns)?;
-                Ok(NodeEnd::Whole(values))
-            }
-        },
+        Settled::Point => {
+            let end = point_end(alloc, Relations::OfAll(dictionary), system, forms)?;
+            Ok(end)
+        }
+    }
+}
+
+// What a node comes to at the point of its descent.
+fn point_end(
+    alloc: Global,
+    relations: Relations<'_>,
+    system: &System,
+    forms: &[Bounded],
+) -> Result<NodeEnd, AllocError>
+    requires can { CanBranch system.now forms.now }
+    requires point { (above : List SplitSide) × (members : List ℕ) × IsPointOf (node_system system.now (forms_of forms.now) above) members relations }
+    ensures { (above : List SplitSide) (members : List ℕ) → IsPointOf (node_system system.now (forms_of forms.now) above) members relations.entry → IfOk result (NodeTells system.now (forms_of forms.now) above) }
+{
+    match first_fraction(relations, system, forms) {
+        Some((form, floor)) => Ok(NodeEnd::Fraction(form, floor)),
+        None => {
+            let values = values(alloc, relations, system.columns())?;
+            Ok(NodeEnd::Whole(values))
+        }
     }
 }
 
@@ -78,16 +195,15 @@ fn members(alloc: Global, dictionary: &Dictionary, columns: u32) -> Result<Vec<u
 // The rows whose multiplier isn't 0, with it.
 fn weights(
     alloc: Global,
-    dictionary: &Dictionary,
+    relations: Relations<'_>,
     rows: u32,
 ) -> Result<Vec<(u32, i128)>, AllocError>
-    requires refuted { (i : ℕ) × IsRefutation dictionary.now i }
-    requires rows { rows ≡ dictionary.now.table.rows }
-    ensures { IfOk result (λ v. (i : ℕ) → IsRefutation dictionary.now i → map weight_of v.items ≡ weights_from (multiplier_with dictionary.now.table i) 0 rows) }
+    requires refuted { (node : LinearSystem) × (i : ℕ) × (k : Relation) × IsRefutedBy node i k relations × (rows ≡ length node.rows) × (node.columns + length node.rows < 2 ^ 32) }
+    ensures { (node : LinearSystem) (i : ℕ) (k : Relation) → IsRefutedBy node i k relations.entry → IfOk result (λ v. map weight_of v.items ≡ weights_from (multiplier_of node k i) 0 rows) }
 {
     let mut weights = Vec::new(alloc);
     for row in 0..rows {
-        let multiplier = dictionary.multiplier(row);
+        let multiplier = relations.multiplier(row);
         if multiplier == 0 {
             continue;
         }

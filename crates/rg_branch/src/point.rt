@@ -1,34 +1,35 @@
 //! The forms at the point of a descent.
-ghost use Rattle.std.specs.Prelude.{◌≡◌, ◌+◌, ◌<◌, ◌^◌, ◌≤ℤ◌, ◌<ℤ◌, List, length, IfOk, IfSome, IfNone};
+ghost use Rattle.std.specs.Prelude.{◌≡◌, ℕ, ◌+◌, ◌<◌, ◌^◌, ◌≤ℤ◌, ◌<ℤ◌, List, length, IfOk, IfSome, IfNone};
 ghost use Rattle.rg_integers.specs.Range.{InRange};
 ghost use Rattle.rg_linear.specs.System.{LinearSystem, LinearRow, row_at};
-ghost use Rattle.rg_feasible.specs.Settling.{with_rows, IsDictionaryOf, IsWhole};
+ghost use Rattle.rg_feasible.specs.Settling.{with_rows};
 ghost use Rattle.rg_branch.specs.View.{form_of, forms_of};
 ghost use Rattle.rg_branch.specs.Answer.{AreValuesAt};
+ghost use Rattle.rg_branch.specs.Relating.{AreRelationsOf};
 ghost use Rattle.rg_branch.specs.Points.{HasFloor, IsWholeThere, AreWholeBelow, IsFirstFraction, IsFormAt, AreFormsAt};
 
 use crate::bounded::Bounded;
 use crate::floor::{Multiple, floor_of_fraction};
-use rg_feasible::Dictionary;
+use crate::relations::Relations;
 use rg_fraction::Fraction;
 use rg_linear::System;
 use std::alloc::{AllocError, Global};
 
 // The first form without a whole value at the point, and its floor.
 pub(crate) fn first_fraction(
-    dictionary: &Dictionary,
+    relations: Relations<'_>,
     system: &System,
     forms: &[Bounded],
 ) -> Option<(u32, i64)>
-    requires forms { (further : List LinearRow) × AreFormsAt system.now further dictionary.now forms.now }
+    requires forms { (further : List LinearRow) × (members : List ℕ) × AreFormsAt system.now further members relations forms.now }
     requires few { length forms.now < 2 ^ 32 }
-    ensures first { (further : List LinearRow) → AreFormsAt system.now further dictionary.now forms.now
-        → IfSome result (λ s. IsFirstFraction (with_rows system.now further) dictionary.now.table.members (forms_of forms.now) s.0 s.1) }
-    ensures none { (further : List LinearRow) → AreFormsAt system.now further dictionary.now forms.now
-        → IfNone result (AreWholeBelow (with_rows system.now further) dictionary.now.table.members (forms_of forms.now) (length forms.now)) }
+    ensures first { (further : List LinearRow) (members : List ℕ) → AreFormsAt system.now further members relations.entry forms.now
+        → IfSome result (λ s. IsFirstFraction (with_rows system.now further) members (forms_of forms.now) s.0 s.1) }
+    ensures none { (further : List LinearRow) (members : List ℕ) → AreFormsAt system.now further members relations.entry forms.now
+        → IfNone result (AreWholeBelow (with_rows system.now further) members (forms_of forms.now) (length forms.now)) }
 {
     for (f, form) in forms.iter().enumerate() {
-        if let Some(floor) = fraction_floor(dictionary, system, form) {
+        if let Some(floor) = fraction_floor(relations, system, form) {
             return Some((f as u32, floor));
         }
     }
@@ -36,19 +37,19 @@ pub(crate) fn first_fraction(
 }
 
 // The floor of the form at the point, where it isn't whole.
-fn fraction_floor(dictionary: &Dictionary, system: &System, form: &Bounded) -> Option<i64>
-    requires form { (further : List LinearRow) × IsFormAt system.now further dictionary.now form.now }
-    ensures floor { (further : List LinearRow) → IsFormAt system.now further dictionary.now form.now
-        → IfSome result (HasFloor (with_rows system.now further) dictionary.now.table.members (form_of form.now)) }
+fn fraction_floor(relations: Relations<'_>, system: &System, form: &Bounded) -> Option<i64>
+    requires form { (further : List LinearRow) × (members : List ℕ) × IsFormAt system.now further members relations form.now }
+    ensures floor { (further : List LinearRow) (members : List ℕ) → IsFormAt system.now further members relations.entry form.now
+        → IfSome result (HasFloor (with_rows system.now further) members (form_of form.now)) }
     ensures low { IfSome result (λ u. form.now.low ≤ℤ u) }
     ensures high { IfSome result (λ u. u <ℤ form.now.high) }
-    ensures whole { (further : List LinearRow) → IsFormAt system.now further dictionary.now form.now
-        → IfNone result (IsWholeThere (with_rows system.now further) dictionary.now.table.members (form_of form.now)) }
+    ensures whole { (further : List LinearRow) (members : List ℕ) → IsFormAt system.now further members relations.entry form.now
+        → IfNone result (IsWholeThere (with_rows system.now further) members (form_of form.now)) }
 {
     if form.times == 0 {
         return None;
     }
-    let value = dictionary.point(system.columns() + form.row);
+    let value = relations.row_value(system, form.row);
     let constant = constant_at(system, form.row);
     floor_of_fraction(Multiple {
         value,
@@ -72,16 +73,15 @@ fn constant_at(system: &System, row: u32) -> i128
 // The values of the columns.
 pub(crate) fn values(
     alloc: Global,
-    dictionary: &Dictionary,
+    relations: Relations<'_>,
     columns: u32,
 ) -> Result<Vec<Fraction>, AllocError>
-    requires whole { IsWhole dictionary.now }
-    requires columns { columns ≡ dictionary.now.table.columns }
-    ensures { (node : LinearSystem) → IsDictionaryOf node dictionary.now → IfOk result (λ v. AreValuesAt node dictionary.now.table.members v.items) }
+    requires are { (node : LinearSystem) × (members : List ℕ) × AreRelationsOf node members relations × (columns ≡ node.columns) }
+    ensures { (node : LinearSystem) (members : List ℕ) → AreRelationsOf node members relations.entry → columns ≡ node.columns → IfOk result (λ v. AreValuesAt node members v.items) }
 {
     let mut values = Vec::new(alloc);
     for j in 0..columns {
-        values.push(dictionary.point(j))?;
+        values.push(relations.column_value(j))?;
     }
     Ok(values)
 }

@@ -3,7 +3,8 @@ use crate::systems::{Told, ToldForm, forms, system};
 use rg_bounded_forms::{Top, can_branch};
 use rg_branch::{BranchStop, RawNode, Whole, solve_whole};
 use rg_feasible::PivotWide;
-use rg_fraction::{Fraction, Wide};
+use rg_fraction::Fraction;
+use rg_integers::Wide;
 use std::alloc::{AllocError, Global};
 use std::process::Abort;
 use std::test::Fail;
@@ -73,11 +74,23 @@ fn result_of(alloc: Global, told: Answer) -> Result<Result<Whole, BranchStop>, A
     }
 }
 
-// Branching over these rows and forms has this answer.
+// Branching over these rows and forms, each the row that it names, has this answer.
 fn branches(
     rt: &(impl Abort + AllocGlobal),
     rows: &[Row],
     told: &[Form],
+    wanted: Answer,
+) -> Result<(), Fail> {
+    let (list, tops) = bounded(rt.alloc(), told)?;
+    branches_on(rt, rows, &list, &tops, wanted)
+}
+
+// Branching over these rows and forms has this answer.
+fn branches_on(
+    rt: &(impl Abort + AllocGlobal),
+    rows: &[Row],
+    told: &[ToldForm],
+    tops: &[Top],
     wanted: Answer,
 ) -> Result<(), Fail> {
     let mut list = Vec::new(rt.alloc());
@@ -89,9 +102,8 @@ fn branches(
     }
     assert!(rt; list.len() < 1000);
     let system = system(rt.alloc(), 2, &list)?;
-    let (list, tops) = bounded(rt.alloc(), told)?;
-    let forms = forms(rt.alloc(), &list)?;
-    assert!(rt; can_branch(&system, &forms, &tops), "{rows:?}");
+    let forms = forms(rt.alloc(), told)?;
+    assert!(rt; can_branch(&system, &forms, tops), "{rows:?}");
     let found = solve_whole(rt.alloc(), &system, &forms);
     assert_eq!(rt; found, result_of(rt.alloc(), wanted)?, "{rows:?}");
     Ok(())
@@ -274,4 +286,38 @@ fn no_split_is_due(rt: HostRuntime) -> Result<(), Fail> {
     branches(&rt, &point, &[], Answer::Point(&[(1, 1), (0, 1)], &[]))?;
     let refuted = [([1, 0], -1), ([-1, 0], 0)];
     branches(&rt, &refuted, &[], Answer::Tree(&[Ok(&[(0, 1), (1, 1)])]))
+}
+
+// 2*x - 1, 1 - 2*x, x and 2^60 - 2^60*x: the point 1/2 is split. The last row is so long that no number of the revised dictionary may pass
+// 3. At the root none does; below it the row of the split brings 2^60.
+const LONG: i128 = 1152921504606846976;
+
+const LONG_ROWS: [Row; 4] = [([2, 0], -1), ([-2, 0], 1), ([1, 0], 0), ([-LONG, 0], LONG)];
+
+// 2^60 times x, which is 2^60 times the third row
+const LONG_FORM: ToldForm = ToldForm {
+    scale: LONG,
+    coeffs: &[LONG, 0],
+    low: 0,
+    high: 1,
+    row: 2,
+    times: LONG,
+};
+
+const LONG_TREE: [Node; 3] = [
+    Err((0, 0)),
+    Ok(&[(0, LONG / 2), (4, 1)]),
+    Ok(&[(1, LONG / 2), (4, 1)]),
+];
+
+#[test]
+fn numbers_grow_below_the_root(rt: HostRuntime) -> Result<(), Fail> {
+    let top = Top { row: 3, times: 1 };
+    branches_on(
+        &rt,
+        &LONG_ROWS,
+        &[LONG_FORM],
+        &[top],
+        Answer::Tree(&LONG_TREE),
+    )
 }

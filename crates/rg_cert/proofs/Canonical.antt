@@ -19,7 +19,10 @@ use Rattle.rg_refuting.specs.Refutes.{NamedRow, Tree, Tree.leaf, Tree.split}
 use Rattle.rg_reasons.specs.Trees.{TreeNode, leaf_node, split_node, preorder}
 use Rattle.rg_reasons.specs.Certificates.{Claim, IsRowOf, IsNodeOf, IsTreeOf, IsReasonOf}
 use Rattle.rg_cert.specs.Text.{Version, version_one, version_two, heading, class_version, splits_start, reason_nodes, asks_two, state_name, label_name, named_fields, form_fields, node_lines, case_lines, reason_lines, spaced, cert_lines}
-use Rattle.rg_cert.specs.Lines.{HasFieldForm, AreAsked, LineForm, heading_line, class_line, unreachable_line, fork_line, event_line, states_line, case_line, split_tokens_line, split_effect_line, split_start_line, leaf_line, row_line, end_line, arc_form, tokens_form, cap_form, up_form, down_form, makes_form, stop_form, block_form, empty_form, full_form, keep_form, apart_form, above_form, fields_of, Count, one, several, Position, at_heading, at_class, at_reason, at_last, at_one_case, at_cases, at_node, at_row, at_end, Next, to, if_two, follows}
+use Rattle.rg_cert.specs.Lines.{HasFieldForm, AreAsked, LineForm, heading_line, class_line, unreachable_line, fork_line, event_line, states_line, case_line}
+use Rattle.rg_cert.specs.Lines.{split_tokens_line, split_effect_line, split_start_line, leaf_line, row_line, end_line, arc_form, tokens_form, cap_form, up_form}
+use Rattle.rg_cert.specs.Lines.{down_form, makes_form, stop_form, block_form, empty_form, full_form, keep_form, apart_form, above_form, fields_of, Count, one, several}
+use Rattle.rg_cert.specs.Lines.{Position, at_heading, at_class, at_reason, at_last, at_one_case, at_cases, at_node, at_row, at_end, Next, to, if_two, follows}
 use Rattle.rg_cert.specs.Faults.{IsRight, LineLeads, LinesLead}
 use Rattle.rg_cert.specs.Drafts.{Head, of_unreachable, of_fork, of_event, of_states, head_fields, IsHeadOf, after_head, IsClassIn, IsNodeIn}
 use Rattle.rg_cert.proofs.Decimal.{written_numeral}

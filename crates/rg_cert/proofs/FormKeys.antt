@@ -10,7 +10,11 @@ use Rattle.rg_theory.proofs.ClassTold.{one_class}
 use Rattle.rg_theory.proofs.ClassDecided.{Decided, class_of_text}
 use Rattle.rg_cert.specs.Text.{version_one, version_two, class_version}
 use Rattle.rg_cert.specs.Numerals.{IsPlain, IsNumeral}
-use Rattle.rg_cert.specs.Lines.{HasFieldForm, AreAsked, RowForm.arc_form, RowForm.tokens_form, RowForm.cap_form, RowForm.up_form, RowForm.down_form, RowForm.makes_form, RowForm.stop_form, RowForm.block_form, RowForm.empty_form, RowForm.full_form, RowForm.keep_form, RowForm.apart_form, RowForm.above_form, LineForm, LineForm.heading_line, LineForm.class_line, LineForm.unreachable_line, LineForm.fork_line, LineForm.event_line, LineForm.states_line, LineForm.case_line, LineForm.split_tokens_line, LineForm.split_effect_line, LineForm.split_start_line, LineForm.leaf_line, LineForm.row_line, LineForm.end_line, fields_of}
+use Rattle.rg_cert.specs.Lines.{HasFieldForm, AreAsked, RowForm.arc_form, RowForm.tokens_form, RowForm.cap_form, RowForm.up_form, RowForm.down_form, RowForm.makes_form}
+use Rattle.rg_cert.specs.Lines.{RowForm.stop_form, RowForm.block_form, RowForm.empty_form, RowForm.full_form, RowForm.keep_form, RowForm.apart_form, RowForm.above_form}
+use Rattle.rg_cert.specs.Lines.{LineForm, LineForm.heading_line, LineForm.class_line, LineForm.unreachable_line, LineForm.fork_line, LineForm.event_line}
+use Rattle.rg_cert.specs.Lines.{LineForm.states_line, LineForm.case_line, LineForm.split_tokens_line, LineForm.split_effect_line, LineForm.split_start_line}
+use Rattle.rg_cert.specs.Lines.{LineForm.leaf_line, LineForm.row_line, LineForm.end_line, fields_of}
 
 -- a word begins above the digits
 abbrev pub begins_word : List ℕ → Bool
@@ -39,11 +43,29 @@ class_formed text class (inl (other, named)) is = ap (λ c. Some (class_line (cl
 class_formed text class (inr none) is = absurd (none (class, is))
 
 abbrev word_key : List ℕ → List (List ℕ) → Option LineForm
-word_key w more = cond (bytes_eq w (codes "split")) (split_key more) (cond (bytes_eq w (codes "certificate")) (heading_key more) (cond (bytes_eq w (codes "class")) (class_key more) (cond (bytes_eq w (codes "unreachable")) (Some unreachable_line) (cond (bytes_eq w (codes "fork")) (Some fork_line) (cond (bytes_eq w (codes "event")) (Some event_line) (cond (bytes_eq w (codes "states")) (Some states_line) (cond (bytes_eq w (codes "case")) (Some case_line) (cond (bytes_eq w (codes "leaf")) (Some leaf_line) (cond (bytes_eq w (codes "end")) (Some end_line) (None))))))))))
+word_key w more = cond (bytes_eq w (codes "split")) (split_key more)
+    (cond (bytes_eq w (codes "certificate")) (heading_key more)
+    (cond (bytes_eq w (codes "class")) (class_key more)
+    (cond (bytes_eq w (codes "unreachable")) (Some unreachable_line)
+    (cond (bytes_eq w (codes "fork")) (Some fork_line)
+    (cond (bytes_eq w (codes "event")) (Some event_line)
+    (cond (bytes_eq w (codes "states")) (Some states_line)
+    (cond (bytes_eq w (codes "case")) (Some case_line) (cond (bytes_eq w (codes "leaf")) (Some leaf_line) (cond (bytes_eq w (codes "end")) (Some end_line) (None))))))))))
 
 abbrev row_key : List (List ℕ) → Option LineForm
 row_key [] = None
-row_key (w ∷ more) = cond (bytes_eq w (codes "arc")) (Some (row_line arc_form)) (cond (bytes_eq w (codes "tokens")) (Some (row_line tokens_form)) (cond (bytes_eq w (codes "cap")) (Some (row_line cap_form)) (cond (bytes_eq w (codes "up")) (Some (row_line up_form)) (cond (bytes_eq w (codes "down")) (Some (row_line down_form)) (cond (bytes_eq w (codes "makes")) (Some (row_line makes_form)) (cond (bytes_eq w (codes "stop")) (Some (row_line stop_form)) (cond (bytes_eq w (codes "block")) (Some (row_line block_form)) (cond (bytes_eq w (codes "empty")) (Some (row_line empty_form)) (cond (bytes_eq w (codes "full")) (Some (row_line full_form)) (cond (bytes_eq w (codes "keep")) (Some (row_line keep_form)) (cond (bytes_eq w (codes "apart")) (Some (row_line apart_form)) (cond (bytes_eq w (codes "above")) (Some (row_line above_form)) (None)))))))))))))
+row_key (w ∷ more) = cond (bytes_eq w (codes "arc")) (Some (row_line arc_form))
+    (cond (bytes_eq w (codes "tokens")) (Some (row_line tokens_form))
+    (cond (bytes_eq w (codes "cap")) (Some (row_line cap_form))
+    (cond (bytes_eq w (codes "up")) (Some (row_line up_form))
+    (cond (bytes_eq w (codes "down")) (Some (row_line down_form))
+    (cond (bytes_eq w (codes "makes")) (Some (row_line makes_form))
+    (cond (bytes_eq w (codes "stop")) (Some (row_line stop_form))
+    (cond (bytes_eq w (codes "block")) (Some (row_line block_form))
+    (cond (bytes_eq w (codes "empty")) (Some (row_line empty_form))
+    (cond (bytes_eq w (codes "full")) (Some (row_line full_form))
+    (cond (bytes_eq w (codes "keep")) (Some (row_line keep_form))
+    (cond (bytes_eq w (codes "apart")) (Some (row_line apart_form)) (cond (bytes_eq w (codes "above")) (Some (row_line above_form)) (None)))))))))))))
 
 -- the one form that fields may have
 abbrev pub form_key : List (List ℕ) → Option LineForm

@@ -8,7 +8,12 @@ use Rattle.std.proofs.lemmas.List.Sums.{AllPass-from_list_all}
 use Rattle.rg_text.specs.Line.{fields}
 use Rattle.rg_theory.proofs.ClassBytes.{is_shown, named_shown}
 use Rattle.rg_cert.specs.Text.{version_one, version_two, spaced}
-use Rattle.rg_cert.specs.Lines.{Field, Field.word, Field.class_words, Field.state, Field.label, Field.number, HasFieldForm, AreAsked, RowForm, RowForm.arc_form, RowForm.tokens_form, RowForm.cap_form, RowForm.up_form, RowForm.down_form, RowForm.makes_form, RowForm.stop_form, RowForm.block_form, RowForm.empty_form, RowForm.full_form, RowForm.keep_form, RowForm.apart_form, RowForm.above_form, LineForm, LineForm.heading_line, LineForm.class_line, LineForm.unreachable_line, LineForm.fork_line, LineForm.event_line, LineForm.states_line, LineForm.case_line, LineForm.split_tokens_line, LineForm.split_effect_line, LineForm.split_start_line, LineForm.leaf_line, LineForm.row_line, LineForm.end_line, fields_of, HasForm}
+use Rattle.rg_cert.specs.Lines.{Field, Field.word, Field.class_words, Field.state, Field.label, Field.number, HasFieldForm, AreAsked, RowForm, RowForm.arc_form}
+use Rattle.rg_cert.specs.Lines.{RowForm.tokens_form, RowForm.cap_form, RowForm.up_form, RowForm.down_form, RowForm.makes_form, RowForm.stop_form, RowForm.block_form}
+use Rattle.rg_cert.specs.Lines.{RowForm.empty_form, RowForm.full_form, RowForm.keep_form, RowForm.apart_form, RowForm.above_form, LineForm, LineForm.heading_line}
+use Rattle.rg_cert.specs.Lines.{LineForm.class_line, LineForm.unreachable_line, LineForm.fork_line, LineForm.event_line, LineForm.states_line, LineForm.case_line}
+use Rattle.rg_cert.specs.Lines.{LineForm.split_tokens_line, LineForm.split_effect_line, LineForm.split_start_line, LineForm.leaf_line, LineForm.row_line}
+use Rattle.rg_cert.specs.Lines.{LineForm.end_line, fields_of, HasForm}
 use Rattle.rg_cert.proofs.Cuts.{Lacks, spaced_fields, fields_spaced, name_above}
 use Rattle.rg_cert.proofs.Decimal.{numeral_shown}
 

@@ -14,7 +14,10 @@ use Rattle.rg_cert.specs.declared.position.Position.TheVariants as of_position
 use Rattle.rg_cert.specs.declared.position.Next.{Next as NextOfCode}
 use Rattle.rg_cert.specs.declared.position.Next.TheVariants as of_next
 use Rattle.rg_cert.specs.Text.{Version}
-use Rattle.rg_cert.specs.Lines.{HasFieldForm, AreAsked, LineForm, heading_line, class_line, unreachable_line, fork_line, event_line, states_line, case_line, split_tokens_line, split_effect_line, split_start_line, leaf_line, row_line, end_line, RowForm, arc_form, tokens_form, cap_form, up_form, down_form, makes_form, stop_form, block_form, empty_form, full_form, keep_form, apart_form, above_form, fields_of, HasForm, Position, at_heading, at_class, at_reason, at_last, at_one_case, at_cases, at_node, at_row, at_end, refused, follows}
+use Rattle.rg_cert.specs.Lines.{HasFieldForm, AreAsked, LineForm, heading_line, class_line, unreachable_line, fork_line, event_line, states_line, case_line}
+use Rattle.rg_cert.specs.Lines.{split_tokens_line, split_effect_line, split_start_line, leaf_line, row_line, end_line, RowForm, arc_form, tokens_form, cap_form, up_form}
+use Rattle.rg_cert.specs.Lines.{down_form, makes_form, stop_form, block_form, empty_form, full_form, keep_form, apart_form, above_form, fields_of, HasForm, Position}
+use Rattle.rg_cert.specs.Lines.{at_heading, at_class, at_reason, at_last, at_one_case, at_cases, at_node, at_row, at_end, refused, follows}
 use Rattle.rg_cert.specs.Faults.{BeginsWith, BreaksAt, IsFaultAt}
 use Rattle.rg_cert.specs.Drafts.{IsWrong}
 use Rattle.rg_cert.specs.View.{row_form_in, line_form_in, position_in, next_in}

@@ -4,7 +4,9 @@ use Rattle.rg_text.specs.Line.{fed}
 use Rattle.rg_theory.specs.System.{System}
 use Rattle.rg_cert.specs.declared.fault.CertFault.{CertFault}
 use Rattle.rg_cert.specs.declared.fault.CertFault.TheVariants.{Expected, UnknownName, NumberPasses, TreeShort, TreeLong, NoMemory}
-use Rattle.rg_cert.specs.Lines.{HasFieldForm, AreAsked, LineForm, heading_line, class_line, unreachable_line, fork_line, event_line, states_line, case_line, split_tokens_line, split_effect_line, split_start_line, leaf_line, row_line, end_line, fields_of, HasForm, Position, at_heading, at_class, at_reason, at_last, at_one_case, at_cases, at_node, at_row, at_end, to, short, long, refused, follows}
+use Rattle.rg_cert.specs.Lines.{HasFieldForm, AreAsked, LineForm, heading_line, class_line, unreachable_line, fork_line, event_line, states_line, case_line}
+use Rattle.rg_cert.specs.Lines.{split_tokens_line, split_effect_line, split_start_line, leaf_line, row_line, end_line, fields_of, HasForm, Position, at_heading, at_class}
+use Rattle.rg_cert.specs.Lines.{at_reason, at_last, at_one_case, at_cases, at_node, at_row, at_end, to, short, long, refused, follows}
 use Rattle.rg_cert.specs.Faults.{IsRight, LineLeads, LinesLead, TextGoesOn, BeginsWith, BreaksAt, HasNumberOut, HasUnknownName, IsFaultAt, FaultFrom}
 use Rattle.rg_cert.proofs.Cuts.{one_cut}
 use Rattle.rg_cert.proofs.LineTexts.{line_lacks, fields_are}

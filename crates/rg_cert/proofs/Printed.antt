@@ -61,7 +61,12 @@ more_rows g f xs i d t t' w less grown whole =
     ∙ ap (λ l. t ++ fed (map spaced (map f (map g l)))) (sym (drop_more xs i d less)) ∙ whole
 
 case_is : (lts : System) (case : Case) → IsWhole case → IsTreeOf lts (case_tree case) → IsCase lts version_two (nodes_of case)
-case_is lts case whole tree = record { tree = case_tree case; whole = whole; each = All-weaker (IsNodeOf lts) (IsNodeIn lts version_two) (λ n h. record { of_system = h; fits = λ e. let both : version_two ≡ version_one = e in absurd cc }) (nodes_of case) (subst (All (IsNodeOf lts)) (sym whole) tree) }
+case_is lts case whole tree = record {
+  tree = case_tree case;
+  whole = whole;
+  each = All-weaker (IsNodeOf lts) (IsNodeIn lts version_two)
+      (λ n h. record { of_system = h; fits = λ e. let both : version_two ≡ version_one = e in absurd cc }) (nodes_of case) (subst (All (IsNodeOf lts)) (sym whole) tree);
+}
 
 cases_are : (lts : System) (cases : List Case) → All IsWhole cases → All (IsTreeOf lts) (map case_tree cases) → All (IsCase lts version_two) (map nodes_of cases)
 cases_are lts [] whole trees = All-nil (IsCase lts version_two)

@@ -13,7 +13,9 @@ use Rattle.rg_cert.specs.Text.{Version, version_one, class_version, splits_start
 use Rattle.rg_cert.specs.declared.fault.CertFault.{CertFault}
 use Rattle.rg_cert.specs.declared.fault.CertFault.TheVariants.{NumberPasses, UnknownName}
 use Rattle.rg_cert.specs.Faults.{IsRight, HasNumberOut, HasUnknownName}
-use Rattle.rg_cert.specs.Lines.{Field, HasFieldForm, IsFieldInRange, IsFieldKnown, AreAsked, fields_of, HasForm, follows, to, LineForm, unreachable_line, fork_line, event_line, states_line, split_tokens_line, split_effect_line, split_start_line, leaf_line, case_line, end_line, row_line, Count, one, several, Position, at_last, at_one_case, at_cases, at_node, at_row, at_end}
+use Rattle.rg_cert.specs.Lines.{Field, HasFieldForm, IsFieldInRange, IsFieldKnown, AreAsked, fields_of, HasForm, follows, to, LineForm, unreachable_line, fork_line}
+use Rattle.rg_cert.specs.Lines.{event_line, states_line, split_tokens_line, split_effect_line, split_start_line, leaf_line, case_line, end_line, row_line, Count, one}
+use Rattle.rg_cert.specs.Lines.{several, Position, at_last, at_one_case, at_cases, at_node, at_row, at_end}
 
 -- the line of a reason
 pub data Head : Type 0 where

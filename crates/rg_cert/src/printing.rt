@@ -14,8 +14,8 @@ ghost use Rattle.rg_cert.specs.View.{reason_head, reason_cases};
 use itoa::Buffer;
 use rg_lts::Lts;
 use rg_memory::NoMemory;
-use rg_net::class_text;
 use rg_reasons::{Case, Certificate, Form, Node, Reason, RowName};
+use rg_theory::class_text;
 use std::alloc::Global;
 
 /// The text of a certificate for a system: the lines `certificate 1`, `class` with the class, the reason with the

@@ -1,6 +1,3 @@
 mod WordLemmas
-mod Taken
 mod Numbers
-mod Firsts
-mod OneThing
-mod SomeThing
+mod Telling

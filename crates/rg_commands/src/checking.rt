@@ -1,15 +1,18 @@
 //! The words of `check`.
-ghost use Rattle.std.specs.Prelude.{map, string_bytes, IfOk, IfErr, Ok, Err};
+ghost use Rattle.std.specs.Prelude.{◌≡◌, Result, Ok, codes, IfOk};
+ghost use Rattle.clap.specs.Words.{found_of, rows_of};
+ghost use Rattle.rg_theory.specs.declared.Class.{Class};
+ghost use Rattle.rg_theory.specs.declared.class_words.ClassFault.{ClassFault};
 ghost use Rattle.rg_theory.specs.ClassWords.{HasNumbersInRange};
+ghost use Rattle.rg_commands.specs.Values.{with_value, text_in, ClassSays};
 ghost use Rattle.rg_commands.specs.Requests.{of_system, verdict};
-ghost use Rattle.rg_commands.specs.Says.{CheckSays, IsStopOf};
+ghost use Rattle.rg_commands.specs.Says.{check_says};
 
-use crate::command::matches_of;
-use crate::forms::{Form, form_of};
-use crate::usage::{Usage, WordsStop};
-use crate::values::{option_of, text_of};
+use crate::forms::{Form, form_asked};
+use crate::usage::Usage;
+use crate::values::{class_of, text_of};
+use clap::ArgMatches;
 use rg_theory::Class;
-use std::alloc::Global;
 
 /// What the words of `check` ask for.
 #[derive(Clone, Copy, Debug, PartialEq, Eq)]
@@ -24,27 +27,18 @@ pub struct CheckWords<'a> {
     pub form: Form,
 }
 
-// What the words ask for, of which the first is `check`, or why they are refused.
-pub(crate) fn check_words<'a>(
-    alloc: Global,
-    words: &'a [String],
-) -> Result<CheckWords<'a>, WordsStop>
-    ensures asks { IfOk result (λ w. CheckSays (map string_bytes words.entry.now) (Ok (of_system (verdict w.class w.net.now) w.file.now w.form))) }
+// What the values ask for, or why they are refused.
+pub(crate) fn check_words<'a>(matches: &ArgMatches<'a>) -> Result<CheckWords<'a>, Usage>
+    ensures asks { let rows = rows_of (found_of matches.now) in (told : Result Class ClassFault) → ClassSays (text_in (codes "CLASS") rows) told
+        → with_value result (λ w. Ok (of_system (verdict w.class w.net.now) w.file.now w.form)) ≡ check_says told rows }
     ensures bounds { IfOk result (λ w. HasNumbersInRange w.class) }
-    ensures refused { IfErr result (IsStopOf (λ usage. CheckSays (map string_bytes words.entry.now) (Err usage))) }
 {
-    let matches = matches_of(alloc, "check", &["CLASS", "FILE", "NET"], &["from"], words)?;
-    let class = match Class::read(text_of(&matches, "CLASS")) {
-        Ok(class) => class,
-        Err(fault) => return Err(WordsStop::Refused(Usage::ClassWord(fault))),
-    };
-    let Some(form) = form_of(option_of(&matches, "from")) else {
-        return Err(WordsStop::Refused(Usage::FromWord));
-    };
+    let class = class_of(matches, "CLASS")?;
+    let form = form_asked(matches, "from")?;
     Ok(CheckWords {
         class,
-        file: text_of(&matches, "FILE"),
-        net: text_of(&matches, "NET"),
+        file: text_of(matches, "FILE"),
+        net: text_of(matches, "NET"),
         form,
     })
 }

@@ -1,13 +1,14 @@
 //! The words of `convert`.
-ghost use Rattle.std.specs.Prelude.{map, string_bytes, IfOk, IfErr, Ok, Err};
+ghost use Rattle.std.specs.Prelude.{◌≡◌, Ok};
+ghost use Rattle.clap.specs.Words.{found_of, rows_of};
+ghost use Rattle.rg_commands.specs.Values.{with_value};
 ghost use Rattle.rg_commands.specs.Requests.{of_system, conversion};
-ghost use Rattle.rg_commands.specs.Says.{ConvertSays, IsStopOf};
+ghost use Rattle.rg_commands.specs.Says.{convert_says};
 
-use crate::command::matches_of;
-use crate::forms::{Form, Target, form_of, target_of};
-use crate::usage::{Usage, WordsStop};
-use crate::values::{option_of, text_of};
-use std::alloc::Global;
+use crate::forms::{Form, Target, form_asked, target_of};
+use crate::usage::Usage;
+use crate::values::text_of;
+use clap::ArgMatches;
 
 /// What the words of `convert` ask for.
 #[derive(Clone, Copy, Debug, PartialEq, Eq)]
@@ -20,24 +21,15 @@ pub struct ConvertWords<'a> {
     pub form: Form,
 }
 
-// What the words ask for, of which the first is `convert`, or why they are refused.
-pub(crate) fn convert_words<'a>(
-    alloc: Global,
-    words: &'a [String],
-) -> Result<ConvertWords<'a>, WordsStop>
-    ensures asks { IfOk result (λ w. ConvertSays (map string_bytes words.entry.now) (Ok (of_system (conversion w.target) w.file.now w.form))) }
-    ensures refused { IfErr result (IsStopOf (λ usage. ConvertSays (map string_bytes words.entry.now) (Err usage))) }
+// What the values ask for, or why they are refused.
+pub(crate) fn convert_words<'a>(matches: &ArgMatches<'a>) -> Result<ConvertWords<'a>, Usage>
+    ensures { with_value result (λ w. Ok (of_system (conversion w.target) w.file.now w.form)) ≡ convert_says (rows_of (found_of matches.now)) }
 {
-    let matches = matches_of(alloc, "convert", &["FORM", "FILE"], &["from"], words)?;
-    let Some(target) = target_of(text_of(&matches, "FORM")) else {
-        return Err(WordsStop::Refused(Usage::FormWord));
-    };
-    let Some(form) = form_of(option_of(&matches, "from")) else {
-        return Err(WordsStop::Refused(Usage::FromWord));
-    };
+    let target = target_of(text_of(matches, "FORM")).ok_or(Usage::FormWord)?;
+    let form = form_asked(matches, "from")?;
     Ok(ConvertWords {
         target,
-        file: text_of(&matches, "FILE"),
+        file: text_of(matches, "FILE"),
         form,
     })
 }

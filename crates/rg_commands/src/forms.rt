@@ -1,6 +1,11 @@
 //! Forms of systems.
 ghost use Rattle.std.specs.Prelude.{◌≡◌, option_map};
-ghost use Rattle.rg_commands.specs.Values.{form_in, target_in};
+ghost use Rattle.clap.specs.Words.{found_of, rows_of};
+ghost use Rattle.rg_commands.specs.Values.{form_in, form_asked, target_in};
+
+use crate::usage::Usage;
+use crate::values::option_of;
+use clap::ArgMatches;
 
 /// The forms in which a system is read.
 #[derive(Clone, Copy, Debug, PartialEq, Eq)]
@@ -22,8 +27,15 @@ pub enum Target {
     Graph,
 }
 
+// The form to read that an option names.
+pub(crate) fn form_asked(matches: &ArgMatches<'_>, id: &str) -> Result<Form, Usage>
+    ensures { result ≡ form_asked id.now (rows_of (found_of matches.now)) }
+{
+    form_of(option_of(matches, id)).ok_or(Usage::FromWord)
+}
+
 // The form that a word names; without one that of APT.
-pub(crate) fn form_of(word: Option<&str>) -> Option<Form>
+fn form_of(word: Option<&str>) -> Option<Form>
     ensures { result ≡ form_in (option_map (λ s. s.now) word.entry) }
 {
     match word {

@@ -1,15 +1,15 @@
 //! The words of `generate`.
-ghost use Rattle.std.specs.Prelude.{◌≡◌, map, string_bytes, IfOk, IfErr, Ok, Err};
+ghost use Rattle.std.specs.Prelude.{◌≡◌, Ok, IfOk};
+ghost use Rattle.clap.specs.Words.{found_of, rows_of};
 ghost use Rattle.rg_families.specs.Families.{IsFamilyNumber};
-ghost use Rattle.rg_commands.specs.Values.{kind_in};
+ghost use Rattle.rg_commands.specs.Values.{with_value, kind_in};
 ghost use Rattle.rg_commands.specs.Requests.{generation};
-ghost use Rattle.rg_commands.specs.Says.{GenerateSays, IsStopOf};
+ghost use Rattle.rg_commands.specs.Says.{generate_says};
 
-use crate::command::matches_of;
-use crate::usage::{Usage, WordsStop};
-use crate::values::{number_up_to, text_of};
+use crate::usage::Usage;
+use crate::values::{number_of, text_of};
+use clap::ArgMatches;
 use rg_families::{Kind, greatest};
-use std::alloc::Global;
 
 /// What the words of `generate` ask for.
 #[derive(Clone, Copy, Debug, PartialEq, Eq)]
@@ -20,19 +20,13 @@ pub struct GenerateWords {
     pub number: u32,
 }
 
-// What the words ask for, of which the first is `generate`, or why they are refused.
-pub(crate) fn generate_words(alloc: Global, words: &[String]) -> Result<GenerateWords, WordsStop>
-    ensures asks { IfOk result (λ w. GenerateSays (map string_bytes words.entry.now) (Ok (generation w.kind w.number))) }
+// What the values ask for, or why they are refused.
+pub(crate) fn generate_words(matches: &ArgMatches<'_>) -> Result<GenerateWords, Usage>
+    ensures asks { with_value result (λ w. Ok (generation w.kind w.number)) ≡ generate_says (rows_of (found_of matches.now)) }
     ensures bounds { IfOk result (λ w. IsFamilyNumber w.kind w.number) }
-    ensures refused { IfErr result (IsStopOf (λ usage. GenerateSays (map string_bytes words.entry.now) (Err usage))) }
 {
-    let matches = matches_of(alloc, "generate", &["KIND", "N"], &[], words)?;
-    let Some(kind) = kind_of(text_of(&matches, "KIND")) else {
-        return Err(WordsStop::Refused(Usage::KindWord));
-    };
-    let Some(number) = number_up_to(text_of(&matches, "N"), greatest(kind)) else {
-        return Err(WordsStop::Refused(Usage::NumberWord));
-    };
+    let kind = kind_of(text_of(matches, "KIND")).ok_or(Usage::KindWord)?;
+    let number = number_of(matches, greatest(kind))?;
     Ok(GenerateWords { kind, number })
 }
 

@@ -1,15 +1,18 @@
 //! The words of `synthesize`.
-ghost use Rattle.std.specs.Prelude.{map, string_bytes, IfOk, IfErr, Ok, Err};
+ghost use Rattle.std.specs.Prelude.{◌≡◌, Result, Ok, codes, IfOk};
+ghost use Rattle.clap.specs.Words.{found_of, rows_of};
+ghost use Rattle.rg_theory.specs.declared.Class.{Class};
+ghost use Rattle.rg_theory.specs.declared.class_words.ClassFault.{ClassFault};
 ghost use Rattle.rg_theory.specs.ClassWords.{HasNumbersInRange};
+ghost use Rattle.rg_commands.specs.Values.{with_value, text_in, ClassSays, jobs_asked};
 ghost use Rattle.rg_commands.specs.Requests.{of_system, net};
-ghost use Rattle.rg_commands.specs.Says.{SynthesizeSays, IsStopOf, AreJobs};
+ghost use Rattle.rg_commands.specs.Says.{synthesize_says, AreSoMany};
 
-use crate::command::matches_of;
-use crate::forms::{Form, form_of};
-use crate::usage::{Usage, WordsStop};
-use crate::values::{jobs_of, option_of, text_of};
+use crate::forms::{Form, form_asked};
+use crate::usage::Usage;
+use crate::values::{class_of, jobs_of, text_of};
+use clap::ArgMatches;
 use rg_theory::Class;
-use std::alloc::Global;
 
 /// What the words of `synthesize` ask for.
 #[derive(Clone, Copy, Debug, PartialEq, Eq)]
@@ -24,36 +27,19 @@ pub struct SynthesizeWords<'a> {
     pub jobs: u8,
 }
 
-// What the words ask for, of which the first is `synthesize`, or why they are refused.
-pub(crate) fn synthesize_words<'a>(
-    alloc: Global,
-    words: &'a [String],
-) -> Result<SynthesizeWords<'a>, WordsStop>
-    ensures asks { IfOk result (λ w. SynthesizeSays (map string_bytes words.entry.now) (Ok (of_system (net w.class) w.file.now w.form))) }
+// What the values ask for, or why they are refused.
+pub(crate) fn synthesize_words<'a>(matches: &ArgMatches<'a>) -> Result<SynthesizeWords<'a>, Usage>
+    ensures asks { let rows = rows_of (found_of matches.now) in (told : Result Class ClassFault) → ClassSays (text_in (codes "CLASS") rows) told
+        → with_value result (λ w. Ok (of_system (net w.class) w.file.now w.form)) ≡ synthesize_says told rows }
     ensures bounds { IfOk result (λ w. HasNumbersInRange w.class) }
-    ensures jobs { IfOk result (λ w. AreJobs (map string_bytes words.entry.now) w.jobs) }
-    ensures refused { IfErr result (IsStopOf (λ usage. SynthesizeSays (map string_bytes words.entry.now) (Err usage))) }
+    ensures jobs { IfOk result (λ w. AreSoMany (jobs_asked (rows_of (found_of matches.now))) w.jobs) }
 {
-    let matches = matches_of(
-        alloc,
-        "synthesize",
-        &["CLASS", "FILE"],
-        &["from", "jobs"],
-        words,
-    )?;
-    let class = match Class::read(text_of(&matches, "CLASS")) {
-        Ok(class) => class,
-        Err(fault) => return Err(WordsStop::Refused(Usage::ClassWord(fault))),
-    };
-    let Some(form) = form_of(option_of(&matches, "from")) else {
-        return Err(WordsStop::Refused(Usage::FromWord));
-    };
-    let Some(jobs) = jobs_of(option_of(&matches, "jobs")) else {
-        return Err(WordsStop::Refused(Usage::JobsWord));
-    };
+    let class = class_of(matches, "CLASS")?;
+    let form = form_asked(matches, "from")?;
+    let jobs = jobs_of(matches)?;
     Ok(SynthesizeWords {
         class,
-        file: text_of(&matches, "FILE"),
+        file: text_of(matches, "FILE"),
         form,
         jobs,
     })

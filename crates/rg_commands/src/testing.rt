@@ -1,12 +1,13 @@
 //! The words of `selftest`.
-ghost use Rattle.std.specs.Prelude.{map, string_bytes, IfOk, IfErr, Ok, Err};
+ghost use Rattle.std.specs.Prelude.{◌≡◌, Ok, IfOk};
+ghost use Rattle.clap.specs.Words.{found_of, rows_of};
+ghost use Rattle.rg_commands.specs.Values.{with_value};
 ghost use Rattle.rg_commands.specs.Requests.{IsTestNumber, self_test};
-ghost use Rattle.rg_commands.specs.Says.{SelfTestSays, IsStopOf};
+ghost use Rattle.rg_commands.specs.Says.{selftest_says};
 
-use crate::command::matches_of;
-use crate::usage::{Usage, WordsStop};
-use crate::values::{number_up_to, text_of};
-use std::alloc::Global;
+use crate::usage::Usage;
+use crate::values::number_of;
+use clap::ArgMatches;
 
 /// The greatest number of a self test.
 pub const MOST_SELF_TEST: u32 = 40;
@@ -18,15 +19,11 @@ pub struct SelfTestWords {
     pub number: u32,
 }
 
-// What the words ask for, of which the first is `selftest`, or why they are refused.
-pub(crate) fn self_test_words(alloc: Global, words: &[String]) -> Result<SelfTestWords, WordsStop>
-    ensures asks { IfOk result (λ w. SelfTestSays (map string_bytes words.entry.now) (Ok (self_test w.number))) }
+// What the values ask for, or why they are refused.
+pub(crate) fn self_test_words(matches: &ArgMatches<'_>) -> Result<SelfTestWords, Usage>
+    ensures asks { with_value result (λ w. Ok (self_test w.number)) ≡ selftest_says (rows_of (found_of matches.now)) }
     ensures bounds { IfOk result (λ w. IsTestNumber w.number) }
-    ensures refused { IfErr result (IsStopOf (λ usage. SelfTestSays (map string_bytes words.entry.now) (Err usage))) }
 {
-    let matches = matches_of(alloc, "selftest", &["N"], &[], words)?;
-    let Some(number) = number_up_to(text_of(&matches, "N"), MOST_SELF_TEST) else {
-        return Err(WordsStop::Refused(Usage::NumberWord));
-    };
+    let number = number_of(matches, MOST_SELF_TEST)?;
     Ok(SelfTestWords { number })
 }

@@ -1,9 +1,9 @@
 //! Why words are refused.
 ghost use Rattle.std.specs.Prelude.{◌≡◌};
-ghost use Rattle.rg_commands.specs.Says.{stop_of};
+ghost use Rattle.rg_commands.specs.declared.usage.WordsStop.TheVariants as stop;
 
-use crate::command::WordsFault;
 use rg_theory::ClassFault;
+use std::alloc::AllocError;
 
 /// Why the words are refused: the first of these in order that holds.
 #[derive(Clone, Copy, Debug, PartialEq, Eq)]
@@ -12,8 +12,8 @@ pub enum Usage {
     NoCommand,
     /// The first word is no command.
     UnknownCommand,
-    /// `clap` refuses the words of the command: one is missing or there is one too many, or an option is none of the
-    /// command's, stands twice or has no value.
+    /// `clap` refuses the words of the command: one is missing or there is one too many, an option is none of the command's or
+    /// stands twice, it has no value, or it is a flag and has one.
     Words,
     /// The class word is refused.
     ClassWord(ClassFault),
@@ -21,7 +21,7 @@ pub enum Usage {
     FormWord,
     /// The family is neither `grid`, `doubling` nor `lock`.
     KindWord,
-    /// The form to read is neither `apt`, `graph` nor `words`.
+    /// The form to read, that of the one file or of the other, is neither `apt`, `graph` nor `words`.
     FromWord,
     /// The jobs are no number from 1 to 16 of at most nine digits.
     JobsWord,
@@ -38,13 +38,18 @@ pub enum WordsStop {
     NoMemory,
 }
 
-impl From<WordsFault> for WordsStop {
-    ghost from_gives = { λ e s. s ≡ stop_of e };
+impl From<Usage> for WordsStop {
+    ghost from_gives = { λ usage s. s ≡ stop.Refused usage };
 
-    fn from(e: WordsFault) -> WordsStop {
-        match e {
-            WordsFault::Refused => WordsStop::Refused(Usage::Words),
-            WordsFault::NoMemory => WordsStop::NoMemory,
-        }
+    fn from(usage: Usage) -> WordsStop {
+        WordsStop::Refused(usage)
+    }
+}
+
+impl From<AllocError> for WordsStop {
+    ghost from_gives = { λ _ s. s ≡ stop.NoMemory };
+
+    fn from(_: AllocError) -> WordsStop {
+        WordsStop::NoMemory
     }
 }

@@ -1,13 +1,14 @@
 //! The words of `verify`.
-ghost use Rattle.std.specs.Prelude.{map, string_bytes, IfOk, IfErr, Ok, Err};
+ghost use Rattle.std.specs.Prelude.{◌≡◌, Ok};
+ghost use Rattle.clap.specs.Words.{found_of, rows_of};
+ghost use Rattle.rg_commands.specs.Values.{with_value};
 ghost use Rattle.rg_commands.specs.Requests.{of_system, judgement};
-ghost use Rattle.rg_commands.specs.Says.{VerifySays, IsStopOf};
+ghost use Rattle.rg_commands.specs.Says.{verify_says};
 
-use crate::command::matches_of;
-use crate::forms::{Form, form_of};
-use crate::usage::{Usage, WordsStop};
-use crate::values::{option_of, text_of};
-use std::alloc::Global;
+use crate::forms::{Form, form_asked};
+use crate::usage::Usage;
+use crate::values::text_of;
+use clap::ArgMatches;
 
 /// What the words of `verify` ask for.
 #[derive(Clone, Copy, Debug, PartialEq, Eq)]
@@ -20,21 +21,14 @@ pub struct VerifyWords<'a> {
     pub form: Form,
 }
 
-// What the words ask for, of which the first is `verify`, or why they are refused.
-pub(crate) fn verify_words<'a>(
-    alloc: Global,
-    words: &'a [String],
-) -> Result<VerifyWords<'a>, WordsStop>
-    ensures asks { IfOk result (λ w. VerifySays (map string_bytes words.entry.now) (Ok (of_system (judgement w.cert.now) w.file.now w.form))) }
-    ensures refused { IfErr result (IsStopOf (λ usage. VerifySays (map string_bytes words.entry.now) (Err usage))) }
+// What the values ask for, or why they are refused.
+pub(crate) fn verify_words<'a>(matches: &ArgMatches<'a>) -> Result<VerifyWords<'a>, Usage>
+    ensures { with_value result (λ w. Ok (of_system (judgement w.cert.now) w.file.now w.form)) ≡ verify_says (rows_of (found_of matches.now)) }
 {
-    let matches = matches_of(alloc, "verify", &["FILE", "CERT"], &["from"], words)?;
-    let Some(form) = form_of(option_of(&matches, "from")) else {
-        return Err(WordsStop::Refused(Usage::FromWord));
-    };
+    let form = form_asked(matches, "from")?;
     Ok(VerifyWords {
-        file: text_of(&matches, "FILE"),
-        cert: text_of(&matches, "CERT"),
+        file: text_of(matches, "FILE"),
+        cert: text_of(matches, "CERT"),
         form,
     })
 }

@@ -1,27 +1,8 @@
 -- What clap's definitions say of words that are written out.
-use Rattle.std.proofs.Common.{◌≡◌, ◌≢◌, ℕ, List, [], ◌∷◌, Option, None, Some, true, codes, refl}
-use Rattle.clap.specs.Words.{App, fault_of, first_of, is_simple_and_free, matches_of}
+use Rattle.std.proofs.Common.{◌≡◌, ◌≢◌, ℕ, List, [], ◌∷◌, Option, None, Some, codes, refl}
+use Rattle.clap.specs.Words.{App, fault_of, first_of, matches_of}
 use Rattle.clap.proofs.OnLiterals.{clap_on_literals}
-use Rattle.rg_commands.specs.Table.{synthesize_app, verify_app, check_app, convert_app, generate_app, selftest_app}
-
--- each command is simple, and no argument has a rule on another
-simple_synthesize : is_simple_and_free synthesize_app ≡ true
-simple_synthesize = refl
-
-simple_verify : is_simple_and_free verify_app ≡ true
-simple_verify = refl
-
-simple_check : is_simple_and_free check_app ≡ true
-simple_check = refl
-
-simple_convert : is_simple_and_free convert_app ≡ true
-simple_convert = refl
-
-simple_generate : is_simple_and_free generate_app ≡ true
-simple_generate = refl
-
-simple_selftest : is_simple_and_free selftest_app ≡ true
-simple_selftest = refl
+use Rattle.rg_commands.specs.Table.{synthesize_app, verify_app, check_app, convert_app, factor_app, split_app, isomorphic_app, examine_app}
 
 -- no fault, and this value
 abbrev Gives : App → List (List ℕ) → List ℕ → Option (List ℕ) → Type 0
@@ -84,6 +65,33 @@ option_then_dashes : Gives convert_app (codes "convert" ∷ codes "--from" ∷ c
 unfolding clap_on_literals
 option_then_dashes = (refl, refl)
 
+-- a flag that is there has the value `true`, wherever it stands, and one that isn't has `false`
+flag_before : Gives split_app (codes "split" ∷ codes "--system" ∷ codes "f" ∷ []) (codes "system") (Some (codes "true"))
+unfolding clap_on_literals
+flag_before = (refl, refl)
+
+flag_behind : Gives examine_app (codes "examine" ∷ codes "f" ∷ codes "--from" ∷ codes "words" ∷ codes "--json" ∷ []) (codes "json") (Some (codes "true"))
+unfolding clap_on_literals
+flag_behind = (refl, refl)
+
+no_flag : Gives examine_app (codes "examine" ∷ codes "f" ∷ []) (codes "json") (Some (codes "false"))
+unfolding clap_on_literals
+no_flag = (refl, refl)
+
+flag_is_a_word : Gives split_app (codes "split" ∷ codes "--" ∷ codes "--system" ∷ []) (codes "system") (Some (codes "false"))
+unfolding clap_on_literals
+flag_is_a_word = (refl, refl)
+
+-- two options of which one's name begins with the other's
+second_alone : Gives isomorphic_app (codes "isomorphic" ∷ codes "f" ∷ codes "g" ∷ codes "--from2" ∷ codes "words" ∷ []) (codes "from") None
+unfolding clap_on_literals
+second_alone = (refl, refl)
+
+-- an empty class word is there
+empty_class : Gives factor_app (codes "factor" ∷ codes "f" ∷ codes "--class=" ∷ []) (codes "class") (Some [])
+unfolding clap_on_literals
+empty_class = (refl, refl)
+
 -- ---- refused
 
 abbrev Refuses : App → List (List ℕ) → Type 0
@@ -144,3 +152,11 @@ minus_word e = cc
 value_is_dashes : Refuses verify_app (codes "verify" ∷ codes "f" ∷ codes "--from" ∷ codes "--" ∷ codes "c" ∷ [])
 unfolding clap_on_literals
 value_is_dashes e = cc
+
+flag_with_value : Refuses examine_app (codes "examine" ∷ codes "f" ∷ codes "--json=true" ∷ [])
+unfolding clap_on_literals
+flag_with_value e = cc
+
+flag_twice : Refuses split_app (codes "split" ∷ codes "f" ∷ codes "--system" ∷ codes "--system" ∷ [])
+unfolding clap_on_literals
+flag_twice e = cc

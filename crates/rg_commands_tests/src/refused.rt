@@ -2,7 +2,7 @@
 use crate::words::owned;
 use rg_commands::{Usage, WordsStop, read_words};
 use rg_theory::ClassFault;
-use std::alloc::AllocError;
+use std::alloc::{AllocError, Global};
 
 // Words, and why they are refused.
 const REFUSED: [(&[&str], Usage); 71] = [
@@ -124,12 +124,116 @@ const REFUSED: [(&[&str], Usage); 71] = [
     (&["selftest", "1x"], Usage::NumberWord),
 ];
 
+// Words of `factor`, and why they are refused.
+const FACTORS: [(&[&str], Usage); 13] = [
+    (&["factor"], Usage::Words),
+    (&["factor", "f", "g"], Usage::Words),
+    (&["factor", "--class", "none"], Usage::Words),
+    (&["factor", "f", "--class"], Usage::Words),
+    (
+        &["factor", "f", "--class", "none", "--class", "none"],
+        Usage::Words,
+    ),
+    (
+        &["factor", "f", "--class", "x", "--from", "y", "--jobs", "0"],
+        Usage::ClassWord(ClassFault::UnknownWord(0)),
+    ),
+    (
+        &["factor", "f", "--class="],
+        Usage::ClassWord(ClassFault::UnknownWord(0)),
+    ),
+    (
+        &["factor", "f", "--class=safe,safe"],
+        Usage::ClassWord(ClassFault::Repeated(1)),
+    ),
+    (
+        &["factor", "f", "--class", "none", "--from", "y", "--jobs=0"],
+        Usage::FromWord,
+    ),
+    (&["factor", "f", "--from", "y", "--jobs=0"], Usage::FromWord),
+    (&["factor", "f", "--from="], Usage::FromWord),
+    (
+        &["factor", "f", "--class", "none", "--jobs", "0"],
+        Usage::JobsWord,
+    ),
+    (&["factor", "f", "--jobs", "17"], Usage::JobsWord),
+];
+
+// Words of `split`, and why they are refused.
+const SPLITS: [(&[&str], Usage); 8] = [
+    (&["split"], Usage::Words),
+    (&["split", "f", "g"], Usage::Words),
+    (&["split", "f", "--system", "--system"], Usage::Words),
+    (&["split", "f", "--system=true"], Usage::Words),
+    (&["split", "f", "--json"], Usage::Words),
+    (&["split", "f", "--class=none"], Usage::Words),
+    (&["split", "f", "--from=x", "--jobs=0"], Usage::FromWord),
+    (&["split", "f", "--system", "--jobs=0"], Usage::JobsWord),
+];
+
+// Words of `isomorphic`, and why they are refused.
+const COMPARISONS: [(&[&str], Usage); 7] = [
+    (&["isomorphic", "f"], Usage::Words),
+    (&["isomorphic", "f", "g", "h"], Usage::Words),
+    (&["isomorphic", "f", "g", "--jobs", "2"], Usage::Words),
+    (&["isomorphic", "f", "g", "--from2"], Usage::Words),
+    (&["isomorphic", "f", "g", "--from=x"], Usage::FromWord),
+    (&["isomorphic", "f", "g", "--from2", "net"], Usage::FromWord),
+    (
+        &["isomorphic", "f", "g", "--from", "x", "--from2", "y"],
+        Usage::FromWord,
+    ),
+];
+
+// Words of `examine`, and why they are refused.
+const REPORTS: [(&[&str], Usage); 7] = [
+    (&["examine"], Usage::Words),
+    (&["examine", "f", "g"], Usage::Words),
+    (&["examine", "f", "--json", "--json"], Usage::Words),
+    (&["examine", "f", "--json=true"], Usage::Words),
+    (&["examine", "f", "--jso"], Usage::Words),
+    (&["examine", "f", "--from2=apt"], Usage::Words),
+    (
+        &["examine", "f", "--from", "wordsx", "--json"],
+        Usage::FromWord,
+    ),
+];
+
+// Whether the words are refused for this reason.
+fn are_refused(alloc: Global, words: &[&str], wanted: Usage) -> Result<bool, AllocError> {
+    let words = owned(alloc, words)?;
+    Ok(read_words(alloc, &words).err() == Some(WordsStop::Refused(wanted)))
+}
+
 #[test]
 fn first_reasons(rt: HostRuntime) -> Result<(), AllocError> {
     let alloc = rt.alloc();
     for (words, wanted) in REFUSED {
-        let words = owned(alloc, words)?;
-        assert!(rt; read_words(alloc, &words).err() == Some(WordsStop::Refused(wanted)));
+        assert!(rt; are_refused(alloc, words, wanted)?);
+    }
+    Ok(())
+}
+
+#[test]
+fn first_reasons_of_one_system(rt: HostRuntime) -> Result<(), AllocError> {
+    let alloc = rt.alloc();
+    for (words, wanted) in FACTORS {
+        assert!(rt; are_refused(alloc, words, wanted)?);
+    }
+    for (words, wanted) in SPLITS {
+        assert!(rt; are_refused(alloc, words, wanted)?);
+    }
+    for (words, wanted) in REPORTS {
+        assert!(rt; are_refused(alloc, words, wanted)?);
+    }
+    Ok(())
+}
+
+#[test]
+fn first_reasons_of_two_systems(rt: HostRuntime) -> Result<(), AllocError> {
+    let alloc = rt.alloc();
+    for (words, wanted) in COMPARISONS {
+        assert!(rt; are_refused(alloc, words, wanted)?);
     }
     Ok(())
 }

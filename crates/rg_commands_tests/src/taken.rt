@@ -1,12 +1,13 @@
 //! Words that are taken, each with its request.
 use crate::words::owned;
 use rg_commands::{
-    CheckWords, ConvertWords, Form, GenerateWords, Request, SelfTestWords, SynthesizeWords, Target,
+    CheckWords, ConvertWords, ExamineOutput, ExamineWords, FactorWords, Form, GenerateWords,
+    IsomorphicWords, Request, SelfTestWords, SplitOutput, SplitWords, SynthesizeWords, Target,
     VerifyWords, read_words,
 };
 use rg_families::Kind;
 use rg_theory::Class;
-use std::alloc::AllocError;
+use std::alloc::{AllocError, Global};
 
 const NONE: Class = Class {
     pure: false,
@@ -231,12 +232,156 @@ const WITHOUT_FILES: [(&[&str], Request<'static>); 10] = [
     ),
 ];
 
+// The words of `factor`, and what they ask for.
+const FACTORS: [(&[&str], FactorWords<'static>); 4] = [
+    (
+        &["factor", "f"],
+        FactorWords {
+            class: None,
+            file: "f",
+            form: Form::Apt,
+            jobs: 1,
+        },
+    ),
+    (
+        &["factor", "f", "--class", "none"],
+        FactorWords {
+            class: Some(NONE),
+            file: "f",
+            form: Form::Apt,
+            jobs: 1,
+        },
+    ),
+    (
+        &["factor", "--class=pure", "f", "--from=words", "--jobs", "4"],
+        FactorWords {
+            class: Some(PURE),
+            file: "f",
+            form: Form::Words,
+            jobs: 4,
+        },
+    ),
+    (
+        &["factor", "--", "--class=none"],
+        FactorWords {
+            class: None,
+            file: "--class=none",
+            form: Form::Apt,
+            jobs: 1,
+        },
+    ),
+];
+
+// The words of `split`, and what they ask for.
+const SPLITS: [(&[&str], SplitWords<'static>); 3] = [
+    (
+        &["split", "f"],
+        SplitWords {
+            output: SplitOutput::Net,
+            file: "f",
+            form: Form::Apt,
+            jobs: 1,
+        },
+    ),
+    (
+        &["split", "--system", "f", "--from", "graph", "--jobs=2"],
+        SplitWords {
+            output: SplitOutput::System,
+            file: "f",
+            form: Form::Graph,
+            jobs: 2,
+        },
+    ),
+    (
+        &["split", "--", "--system"],
+        SplitWords {
+            output: SplitOutput::Net,
+            file: "--system",
+            form: Form::Apt,
+            jobs: 1,
+        },
+    ),
+];
+
+// The words of `isomorphic`, and what they ask for.
+const COMPARISONS: [(&[&str], IsomorphicWords<'static>); 4] = [
+    (
+        &["isomorphic", "f", "g"],
+        IsomorphicWords {
+            file: "f",
+            second: "g",
+            form: Form::Apt,
+            second_form: Form::Apt,
+        },
+    ),
+    (
+        &["isomorphic", "f", "g", "--from2", "words"],
+        IsomorphicWords {
+            file: "f",
+            second: "g",
+            form: Form::Apt,
+            second_form: Form::Words,
+        },
+    ),
+    (
+        &["isomorphic", "--from", "graph", "f", "g"],
+        IsomorphicWords {
+            file: "f",
+            second: "g",
+            form: Form::Graph,
+            second_form: Form::Apt,
+        },
+    ),
+    (
+        &["isomorphic", "f", "--from2=graph", "f", "--from=words"],
+        IsomorphicWords {
+            file: "f",
+            second: "f",
+            form: Form::Words,
+            second_form: Form::Graph,
+        },
+    ),
+];
+
+// The words of `examine`, and what they ask for.
+const REPORTS: [(&[&str], ExamineWords<'static>); 3] = [
+    (
+        &["examine", "f"],
+        ExamineWords {
+            output: ExamineOutput::Lines,
+            file: "f",
+            form: Form::Apt,
+        },
+    ),
+    (
+        &["examine", "--json", "f", "--from", "words"],
+        ExamineWords {
+            output: ExamineOutput::Json,
+            file: "f",
+            form: Form::Words,
+        },
+    ),
+    (
+        &["examine", "--", "--json"],
+        ExamineWords {
+            output: ExamineOutput::Lines,
+            file: "--json",
+            form: Form::Apt,
+        },
+    ),
+];
+
+// Whether the words ask for this.
+fn ask_for(alloc: Global, words: &[&str], wanted: Request<'_>) -> Result<bool, AllocError> {
+    let words = owned(alloc, words)?;
+    Ok(read_words(alloc, &words) == Ok(wanted))
+}
+
 #[test]
 fn nets(rt: HostRuntime) -> Result<(), AllocError> {
     let alloc = rt.alloc();
     for (words, wanted) in NETS {
-        let words = owned(alloc, words)?;
-        assert!(rt; read_words(alloc, &words) == Ok(Request::Synthesize(wanted)));
+        assert!(rt; ask_for(alloc, words, Request::Synthesize(wanted))?);
     }
     Ok(())
 }
@@ -245,8 +390,7 @@ fn nets(rt: HostRuntime) -> Result<(), AllocError> {
 fn others(rt: HostRuntime) -> Result<(), AllocError> {
     let alloc = rt.alloc();
     for (words, wanted) in OTHERS {
-        let words = owned(alloc, words)?;
-        assert!(rt; read_words(alloc, &words) == Ok(wanted));
+        assert!(rt; ask_for(alloc, words, wanted)?);
     }
     Ok(())
 }
@@ -255,8 +399,31 @@ fn others(rt: HostRuntime) -> Result<(), AllocError> {
 fn without_files(rt: HostRuntime) -> Result<(), AllocError> {
     let alloc = rt.alloc();
     for (words, wanted) in WITHOUT_FILES {
-        let words = owned(alloc, words)?;
-        assert!(rt; read_words(alloc, &words) == Ok(wanted));
+        assert!(rt; ask_for(alloc, words, wanted)?);
+    }
+    Ok(())
+}
+
+#[test]
+fn factors_and_splits(rt: HostRuntime) -> Result<(), AllocError> {
+    let alloc = rt.alloc();
+    for (words, wanted) in FACTORS {
+        assert!(rt; ask_for(alloc, words, Request::Factor(wanted))?);
+    }
+    for (words, wanted) in SPLITS {
+        assert!(rt; ask_for(alloc, words, Request::Split(wanted))?);
+    }
+    Ok(())
+}
+
+#[test]
+fn comparisons_and_reports(rt: HostRuntime) -> Result<(), AllocError> {
+    let alloc = rt.alloc();
+    for (words, wanted) in COMPARISONS {
+        assert!(rt; ask_for(alloc, words, Request::Isomorphic(wanted))?);
+    }
+    for (words, wanted) in REPORTS {
+        assert!(rt; ask_for(alloc, words, Request::Examine(wanted))?);
     }
     Ok(())
 }

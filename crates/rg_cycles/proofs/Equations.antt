@@ -53,7 +53,10 @@ module _ (labels : ℕ) (vectors : List (List ℤ)) (kept : List ℕ) (v : ℕ �
   row_of_point : (i : ℕ) → i < length kept → values_of (vector_system labels vectors kept) (pos 1) v (labels + i) ≡ vector_sum labels v (vector_at vectors (slice_index kept i))
   row_of_point i lt =
       (values_of-point (vector_system labels vectors kept) (pos 1) v one).rows i (let c = count_rows labels vectors kept in omega arith)
-      ∙ ap₂ ◌+ℤ◌ (sum_below-same labels (λ j. entry (vector_system labels vectors kept) i j *ℤ values_of (vector_system labels vectors kept) (pos 1) v j) (λ j. entry (vector_system labels vectors kept) i j *ℤ v j) (λ j below. ap (λ z. entry (vector_system labels vectors kept) i j *ℤ z) (values_of-column (vector_system labels vectors kept) (pos 1) v j below))) (ap (λ z. z *ℤ pos 1) (vectors_plain labels vectors kept i (let c = count_rows labels vectors kept in omega arith)))
+      ∙ ap₂ ◌+ℤ◌ (sum_below-same labels (λ j. entry (vector_system labels vectors kept) i j *ℤ values_of (vector_system labels vectors kept) (pos 1) v j)
+      (λ j. entry (vector_system labels vectors kept) i j *ℤ v j)
+      (λ j below. ap (λ z. entry (vector_system labels vectors kept) i j *ℤ z) (values_of-column (vector_system labels vectors kept) (pos 1) v j below)))
+      (ap (λ z. z *ℤ pos 1) (vectors_plain labels vectors kept i (let c = count_rows labels vectors kept in omega arith)))
       ∙ drop (sum_below labels (λ j. entry (vector_system labels vectors kept) i j *ℤ v j))
       ∙ ap (λ (r : LinearRow). vector_sum labels v r.coeffs) (get_or-map (λ c. row (vector_at vectors c)) kept i 0 (row []) lt)
     where
@@ -144,8 +147,14 @@ module _ (labels : ℕ) (members : List ℕ) (k : Relation) (over : (m : ℕ) �
               let b = both_true (is_in members m) (not (int_eq (k.coefficient m) (pos 0))) w.passes in
               filter_has (λ u. not (nat_lt u labels) && not (int_eq (k.coefficient u) (pos 0))) members m (has_member members m b.0) (join_true (not (nat_lt m labels)) (not (int_eq (k.coefficient m) (pos 0))) (ap not (past_test m labels w.least)) b.1)
 
-      all : sum_over (λ m. k.coefficient m *ℤ value (slice_index kept (m - labels))) (numbers_where (λ m. is_in members m && not (int_eq (k.coefficient m) (pos 0))) labels (length kept)) +ℤ sum_over (λ m. k.coefficient m *ℤ value (slice_index kept (m - labels))) (numbers_where (λ m. not (is_in members m && not (int_eq (k.coefficient m) (pos 0)))) labels (length kept)) ≡ sum_below (length kept) (λ i. k.coefficient (labels + i) *ℤ value (slice_index kept i))
-      all = both_sums (λ m. is_in members m && not (int_eq (k.coefficient m) (pos 0))) (λ m. k.coefficient m *ℤ value (slice_index kept (m - labels))) labels (length kept) ∙ sum_below-same (length kept) (λ i. k.coefficient (labels + i) *ℤ value (slice_index kept (labels + i - labels))) (λ i. k.coefficient (labels + i) *ℤ value (slice_index kept i)) (λ i lt. ap (λ n. k.coefficient (labels + i) *ℤ value (slice_index kept n)) (off i))
+      all : sum_over (λ m. k.coefficient m *ℤ value (slice_index kept (m - labels)))
+          (numbers_where (λ m. is_in members m && not (int_eq (k.coefficient m) (pos 0))) labels (length kept)) +ℤ sum_over
+          (λ m. k.coefficient m *ℤ value (slice_index kept (m - labels)))
+          (numbers_where (λ m. not (is_in members m && not (int_eq (k.coefficient m) (pos 0)))) labels (length kept)) ≡ sum_below (length kept)
+          (λ i. k.coefficient (labels + i) *ℤ value (slice_index kept i))
+      all = both_sums (λ m. is_in members m && not (int_eq (k.coefficient m) (pos 0))) (λ m. k.coefficient m *ℤ value (slice_index kept (m - labels))) labels
+          (length kept) ∙ sum_below-same (length kept) (λ i. k.coefficient (labels + i) *ℤ value (slice_index kept (labels + i - labels)))
+          (λ i. k.coefficient (labels + i) *ℤ value (slice_index kept i)) (λ i lt. ap (λ n. k.coefficient (labels + i) *ℤ value (slice_index kept n)) (off i))
         where
           off : (i : ℕ) → labels + i - labels ≡ i
           off i = omega arith
@@ -159,7 +168,10 @@ module _ (labels : ℕ) (members : List ℕ) (k : Relation) (over : (m : ℕ) �
           go true p false q r = absurd (false≢true r)
 
       others : sum_over (λ m. k.coefficient m *ℤ value (slice_index kept (m - labels))) (numbers_where (λ m. not (is_in members m && not (int_eq (k.coefficient m) (pos 0)))) labels (length kept)) ≡ pos 0
-      others = sum_over-zero (λ m. k.coefficient m *ℤ value (slice_index kept (m - labels))) (numbers_where (λ m. not (is_in members m && not (int_eq (k.coefficient m) (pos 0)))) labels (length kept)) (λ m has. zero_times (k.coefficient m) (value (slice_index kept (m - labels))) (uncounted m (where_from (λ u. not (is_in members u && not (int_eq (k.coefficient u) (pos 0)))) labels (length kept) m has).passes))
+      others = sum_over-zero (λ m. k.coefficient m *ℤ value (slice_index kept (m - labels)))
+          (numbers_where (λ m. not (is_in members m && not (int_eq (k.coefficient m) (pos 0)))) labels (length kept))
+          (λ m has. zero_times (k.coefficient m) (value (slice_index kept (m - labels)))
+          (uncounted m (where_from (λ u. not (is_in members u && not (int_eq (k.coefficient u) (pos 0)))) labels (length kept) m has).passes))
 
       close : (x y s : ℤ) → x +ℤ y ≡ s → y ≡ pos 0 → x ≡ s
       close x y s e z = omega (arith, ints)
@@ -182,7 +194,9 @@ module _ (labels : ℕ) (vectors : List (List ℤ)) (cycle : CycleBasis) (basis 
       ∙ sum_below-split labels (length cycle.kept) (λ m. (cycle.relation t).coefficient m *ℤ values_of (vector_system labels vectors cycle.kept) (pos 1) v m)
       ∙ ap₂ ◌+ℤ◌
       (sum_below-same labels _ _ (λ j lt. ap (λ z. (cycle.relation t).coefficient j *ℤ z) (values_of-column (vector_system labels vectors cycle.kept) (pos 1) v j lt)) ∙ sym (free_sum labels cycle.members (cycle.relation t) (row_for t dependent).over v))
-      (sum_below-same (length cycle.kept) _ _ (λ i lt. ap (λ z. (cycle.relation t).coefficient (labels + i) *ℤ z) (row_of_point labels vectors cycle.kept v i lt)) ∙ sym (vector_sums labels cycle.members (cycle.relation t) (row_for t dependent).over v cycle.kept (λ c. vector_sum labels v (vector_at vectors c)) (order_from_increasing cycle.members (row_for t dependent).free.ordered) within))
+      (sum_below-same (length cycle.kept) _ _ (λ i lt. ap (λ z. (cycle.relation t).coefficient (labels + i) *ℤ z) (row_of_point labels vectors cycle.kept v i lt))
+      ∙ sym (vector_sums labels cycle.members (cycle.relation t) (row_for t dependent).over v cycle.kept (λ c. vector_sum labels v (vector_at vectors c))
+      (order_from_increasing cycle.members (row_for t dependent).free.ordered) within))
     where
       drop : (c s : ℤ) → c ≡ pos 0 → (c *ℤ pos 1) +ℤ s ≡ s
       drop c s e = ap (λ z. (z *ℤ pos 1) +ℤ s) e ∙ zero s
@@ -198,7 +212,9 @@ module _ (labels : ℕ) (vectors : List (List ℤ)) (cycle : CycleBasis) (basis 
   follows_free v follows t dependent = follows t (cycle.relation t) dependent.0 (row_for t dependent) ∙ sym (free_sum labels cycle.members (cycle.relation t) (row_for t dependent).over v)
 
   free_follows : (v : ℕ → ℤ) → FollowsFree labels cycle v → FollowsRelations (vector_system labels vectors cycle.kept) cycle.members v
-  free_follows v follows t k lt k_row = subst (λ (l : Relation). l.d *ℤ v t ≡ sum_below labels (λ j. l.coefficient j *ℤ v j)) (same_relation (vector_system labels vectors cycle.kept) cycle.members t (cycle.relation t) k (row_for t (lt, k_row.outside)) k_row) (follows t (lt, k_row.outside) ∙ free_sum labels cycle.members (cycle.relation t) (row_for t (lt, k_row.outside)).over v)
+  free_follows v follows t k lt k_row = subst (λ (l : Relation). l.d *ℤ v t ≡ sum_below labels (λ j. l.coefficient j *ℤ v j))
+      (same_relation (vector_system labels vectors cycle.kept) cycle.members t (cycle.relation t) k (row_for t (lt, k_row.outside)) k_row)
+      (follows t (lt, k_row.outside) ∙ free_sum labels cycle.members (cycle.relation t) (row_for t (lt, k_row.outside)).over v)
 
   follows_same : (v u : ℕ → ℤ) → ((j : ℕ) → j < labels → v j ≡ u j) → FollowsRelations (vector_system labels vectors cycle.kept) cycle.members v → FollowsRelations (vector_system labels vectors cycle.kept) cycle.members u
   follows_same v u agree follows t k lt k_row = ap (λ z. k.d *ℤ z) (sym (agree t lt)) ∙ follows t k lt k_row ∙ sum_below-same labels (λ j. k.coefficient j *ℤ v j) (λ j. k.coefficient j *ℤ u j) (λ j below. ap (λ z. k.coefficient j *ℤ z) (agree j below))
@@ -212,7 +228,10 @@ module _ (labels : ℕ) (vectors : List (List ℤ)) (cycle : CycleBasis) (basis 
 
   -- no term of the walk passes
   pub basis_fits : (at : WideAt) → ¬ PassesAt labels vectors at
-  basis_fits at passes = differ (same_cycle (vector_system labels vectors cycle.kept) (numbers_from 0 labels) 0 (free_set cycle.members) (too_wide at) basis.cycle (subst (λ k. CycleWalk (vector_system labels vectors k) (too_wide at)) (same_kept (vector_at vectors) (λ i. IsZeroVector (vector_at vectors i)) [] (numbers_from 0 (length vectors)) passes.kept cycle.kept passes.keeps basis.kept) passes.walk))
+  basis_fits at passes = differ (same_cycle (vector_system labels vectors cycle.kept) (numbers_from 0 labels) 0 (free_set cycle.members) (too_wide at) basis.cycle
+      (subst (λ k. CycleWalk (vector_system labels vectors k) (too_wide at))
+      (same_kept (vector_at vectors) (λ i. IsZeroVector (vector_at vectors i)) [] (numbers_from 0 (length vectors)) passes.kept cycle.kept passes.keeps basis.kept)
+      passes.walk))
     where
       differ : free_set cycle.members ≡ too_wide at → ⊥
       differ e = cc

@@ -20,7 +20,9 @@ pub row_added : (labels : ℕ) (vectors : List (List ℤ)) (kept : List ℕ) (i 
 row_added labels vectors kept i lt coeffs is = λ j. record { columns = labels; rows = rows j }
   where
     rows : map {B = LinearRow} (λ c. record { coeffs = vector_at vectors c; constant = pos 0 }) (take i kept) ++ row coeffs ∷ [] ≡ map {B = LinearRow} (λ c. record { coeffs = vector_at vectors c; constant = pos 0 }) (take (i + 1) kept)
-    rows = ap (λ (xs : List ℤ). map {B = LinearRow} (λ c. record { coeffs = vector_at vectors c; constant = pos 0 }) (take i kept) ++ row xs ∷ []) (sym is) ∙ sym (ap (map {B = LinearRow} (λ c. record { coeffs = vector_at vectors c; constant = pos 0 })) (take_more kept i 0 lt) ∙ map-append {B = LinearRow} (λ c. record { coeffs = vector_at vectors c; constant = pos 0 }) (take i kept) (slice_index kept i ∷ []))
+    rows = ap (λ (xs : List ℤ). map {B = LinearRow} (λ c. record { coeffs = vector_at vectors c; constant = pos 0 }) (take i kept) ++ row xs ∷ []) (sym is)
+        ∙ sym (ap (map {B = LinearRow} (λ c. record { coeffs = vector_at vectors c; constant = pos 0 })) (take_more kept i 0 lt)
+        ∙ map-append {B = LinearRow} (λ c. record { coeffs = vector_at vectors c; constant = pos 0 }) (take i kept) (slice_index kept i ∷ []))
 
 -- a vector of code has a number for each label, in range
 module _ (labels : ℕ) (vectors : List (Vec ℤ Global)) (are : AreVectors labels (numbers_in vectors)) (c : ℕ) (lt : c < length vectors) (v : Vec ℤ Global) (at : v ≡ slice_index_or vectors c v) where

@@ -1,4 +1,4 @@
--- Finding the first places of the vectors that are not 0.
+-- Finding the first indices of the vectors that are not 0.
 use Rattle.std.proofs.lemmas.Bool.{false≢true}
 use Rattle.std.proofs.lemmas.List.{append-nil}
 use Rattle.std.proofs.Common.{◌≡◌, ◌⊎◌, ⊎_elim, ℕ, zero, suc, ◌+◌, ◌-◌, ◌<◌, ◌≤◌, Bool, true, false, cond, List, [], ◌∷◌, ◌++◌, length, Contains, ap, refl, subst, sym, ◌∙◌, inl, inr, arith, append_assoc, add-one, Bor, Vec, slice_index_or, not}
@@ -17,7 +17,7 @@ use Rattle.rg_linear.specs.Cycle.{vector_at, IsZeroVector, KeepsVectors}
 use Rattle.rg_linear.proofs.Members.{Contains-cons_cases}
 use Rattle.rg_cycles.specs.Vectors.{numbers_in}
 
--- the kept places of the vectors before i are known, and has tells which vectors stand there
+-- the kept indices of the vectors before i are known, and has tells which vectors stand there
 pub record KeptSoFar (vectors : List (List ℤ)) (has : List ℤ → Bool) (i : ℕ) (kept : List ℕ) : Type 0 where
   pub seen : List (List ℤ)
   pub tells : (q : List ℤ) → Decides (has q) (Contains seen q)
@@ -51,11 +51,15 @@ kept-drop vectors has has' i kept k lt drops same = subst (λ j. KeptSoFar vecto
 })
 
 -- vector i is kept
-pub kept-push : (vectors : List (List ℤ)) (has has' : List ℤ → Bool) (i : ℕ) (kept : List ℕ) → KeptSoFar vectors has i kept → i < length vectors → ¬ IsZeroVector (vector_at vectors i) → has (vector_at vectors i) ≡ false → ((q : List ℤ) → has' q ≡ cond (pointwise int_eq (vector_at vectors i) q) true (has q)) → KeptSoFar vectors has' (i + 1) (kept ++ i ∷ [])
+pub kept-push : (vectors : List (List ℤ)) (has has' : List ℤ → Bool) (i : ℕ) (kept : List ℕ) → KeptSoFar vectors has i kept → i < length vectors
+    → ¬ IsZeroVector (vector_at vectors i) → has (vector_at vectors i) ≡ false → ((q : List ℤ) → has' q ≡ cond (pointwise int_eq (vector_at vectors i) q) true (has q))
+    → KeptSoFar vectors has' (i + 1) (kept ++ i ∷ [])
 kept-push vectors has has' i kept k lt nonzero fresh same = subst (λ j. KeptSoFar vectors has' j (kept ++ i ∷ [])) (sym (add-one i)) (record {
   seen = vector_at vectors i ∷ k.seen;
   tells = λ q. (λ e. found q (pointwise int_eq (vector_at vectors i) q) refl (sym (same q) ∙ e), λ h. same q ∙ there q h);
-  rest = λ more h. subst (KeepsVectors vectors) (sym (append_assoc kept (i ∷ []) more)) (k.rest (i ∷ more) (subst (λ n. KeepsFirsts (vector_at vectors) (λ j. IsZeroVector (vector_at vectors j)) k.seen (numbers_from i n) (i ∷ more)) (sym (next (length vectors) i lt)) (inr (nonzero, (λ seen. false≢true (sym fresh ∙ ((k.tells (vector_at vectors i)).1 seen))), (more, refl, h)))));
+  rest = λ more h. subst (KeepsVectors vectors) (sym (append_assoc kept (i ∷ []) more))
+      (k.rest (i ∷ more) (subst (λ n. KeepsFirsts (vector_at vectors) (λ j. IsZeroVector (vector_at vectors j)) k.seen (numbers_from i n) (i ∷ more))
+      (sym (next (length vectors) i lt)) (inr (nonzero, (λ seen. false≢true (sym fresh ∙ ((k.tells (vector_at vectors i)).1 seen))), (more, refl, h)))));
 })
   where
     found : (q : List ℤ) (b : Bool) → pointwise int_eq (vector_at vectors i) q ≡ b → cond b true (has q) ≡ true → Contains (vector_at vectors i ∷ k.seen) q
@@ -76,7 +80,7 @@ kept-push vectors has has' i kept k lt nonzero fresh same = subst (λ j. KeptSoF
 abbrev pub has_numbers : List (Bor (List ℤ)) → List ℤ → Bool
 has_numbers keys q = list_any (λ k. pointwise int_eq q k.now) keys
 
--- a vector by its place
+-- a vector by its index
 pub vector_is : (vectors : List (Vec ℤ Global)) (i : ℕ) (v : Vec ℤ Global) → i < length vectors → v ≡ slice_index_or vectors i v → vector_at (numbers_in vectors) i ≡ v.items
 vector_is [] i v lt e = absurd (omega arith)
 vector_is (x ∷ vectors) zero v lt e = ap (λ w. w.items) (sym e)
@@ -88,8 +92,13 @@ below_in vectors i lt = simp length-map lt
 -- the set is asked for a vector, and then has it
 module _ (vectors : List (List ℤ)) (i : ℕ) (kept : List ℕ) (keys keys' : List (Bor (List ℤ))) (v : Bor (List ℤ)) (k : KeptSoFar vectors (has_numbers keys) i kept) (lt : i < length vectors) (is : vector_at vectors i ≡ v.now) (added : Bool)
     (says : added ≡ not (has_numbers keys v.now)) where
-  pub asked-new : (flag : Bool) (u : List ℤ) → flag ≡ false → (IsZeroVector u → IsTrue flag) → u ≡ v.now → added ≡ true → ((q : Bor (List ℤ)) → has_numbers keys' q.now ≡ cond (pointwise int_eq v.now q.now) true (has_numbers keys q.now)) → KeptSoFar vectors (has_numbers keys') (i + 1) (kept ++ i ∷ [])
-  asked-new flag u off zeros same was updates = kept-push vectors (has_numbers keys) (has_numbers keys') i kept k lt (subst (λ x. ¬ IsZeroVector x) (same ∙ sym is) (λ z. false≢true (sym off ∙ (zeros z)))) (subst (λ x. has_numbers keys x ≡ false) (sym is) (fresh added (has_numbers keys v.now) says was)) (λ q. subst (λ x. has_numbers keys' q ≡ cond (pointwise int_eq x q) true (has_numbers keys q)) (sym is) (updates (record v { now = q })))
+  pub asked-new : (flag : Bool) (u : List ℤ) → flag ≡ false → (IsZeroVector u → IsTrue flag) → u ≡ v.now → added ≡ true
+      → ((q : Bor (List ℤ)) → has_numbers keys' q.now ≡ cond (pointwise int_eq v.now q.now) true (has_numbers keys q.now))
+      → KeptSoFar vectors (has_numbers keys') (i + 1) (kept ++ i ∷ [])
+  asked-new flag u off zeros same was updates = kept-push vectors (has_numbers keys) (has_numbers keys') i kept k lt
+      (subst (λ x. ¬ IsZeroVector x) (same ∙ sym is) (λ z. false≢true (sym off ∙ (zeros z))))
+      (subst (λ x. has_numbers keys x ≡ false) (sym is) (fresh added (has_numbers keys v.now) says was))
+      (λ q. subst (λ x. has_numbers keys' q ≡ cond (pointwise int_eq x q) true (has_numbers keys q)) (sym is) (updates (record v { now = q })))
     where
       fresh : (a b : Bool) → a ≡ not b → a ≡ true → b ≡ false
       fresh a true p q = sym q ∙ p

@@ -7,7 +7,7 @@ use Rattle.std.proofs.lemmas.Int.{ints}
 use Rattle.std.proofs.lemmas.List.{length-map}
 use Rattle.std.proofs.Math.Nat.{one-dvd}
 use Rattle.std.proofs.Math.Seq.{drop-cons}
-use Rattle.rg_fraction.specs.declared.term.Wide.{Wide}
+use Rattle.rg_integers.specs.declared.term.Wide.{Wide}
 use Rattle.rg_fraction.specs.declared.fraction.Fraction.{Fraction}
 use Rattle.rg_fraction.specs.Fractions.{numerator_of, denominator_of, IsValue, IsProduct}
 use Rattle.rg_order_of_work.specs.Fold.{and_then, each, further, Ratio, whole, ratio_of, shown_result, IsRatio, quotient, add, mul}
@@ -18,22 +18,8 @@ use Rattle.rg_cycles.specs.declared.relation.Relation.{Relation}
 use Rattle.rg_cycles.specs.Basis.{ShowsRelation}
 use Rattle.std.proofs.lemmas.Bool.{false≢true}
 use Rattle.rg_cycles.proofs.Labels.{in_set, not_in_set, FromWhere, where_from}
-use Rattle.rg_order_of_work.proofs.FoldLemmas.{ratio_one, new_step, mul_step}
-
--- ---- fractions
-
-whole_ratio : (n : ℤ) → IsRatio (whole n) n (pos 1)
-whole_ratio n = record { nonzero = λ e. one_differs e; positive = omega (arith, ints); reduced = (one-dvd _, one-dvd _, λ d p q. q); value = refl }
-  where
-    one_differs : pos 1 ≡ pos 0 → ⊥
-    one_differs e = omega (arith, ints)
-
-one_differs : pos 1 ≢ pos 0
-one_differs e = omega (arith, ints)
-
--- the fraction of a whole number
-pub whole_is : (f : Fraction) (n : ℤ) → IsValue f n (pos 1) → ratio_of f ≡ whole n
-whole_is f n v = ratio_one (ratio_of f) (whole n) n (pos 1) (new_step f n (pos 1) one_differs v) (whole_ratio n)
+use Rattle.rg_order_of_work.proofs.FoldLemmas.{new_step, mul_step}
+use Rattle.rg_order_of_work.proofs.Folding.{whole_is, further_next, further_unmade, further_unjoined, behind, each_next, each_fails, each_ends}
 
 pub term_told : (n d count : ℤ) (share own : Fraction) (r : Result Fraction Wide) → d ≢ pos 0 → IsValue share n d → IsValue own count (pos 1) → IsProduct (numerator_of own) (denominator_of own) (numerator_of share) (denominator_of share) r
     → and_then (quotient n d) (mul (whole count)) (shown_result ratio_of r)
@@ -43,80 +29,18 @@ term_told n d count share own r ne v w p = go r (subst (λ f. mul f (ratio_of sh
     go (Ok h) m = (ratio_of share, new_step share n d ne v, m)
     go (Err w) m = inr (ratio_of share, new_step share n d ne v, m)
 
--- ---- one item more
-
-module _ {A X : Type 0} (join : X → X → Result X Wide → Type 0) (make : A → Result X Wide → Type 0) (a : A) (rest : List A) (sum : X) where
-  pub further_next : (x more : X) → make a (Ok x) → join sum x (Ok more) → (r : Result X Wide) → further join make more rest r → further join make sum (a ∷ rest) r
-  further_next x more made joins (Ok y) h = (x, made, (more, joins, h))
-  further_next x more made joins (Err w) h = inr (x, made, inr (more, joins, h))
-
-  pub further_unmade : (w : Wide) → make a (Err w) → further join make sum (a ∷ rest) (Err w)
-  further_unmade w made = inl made
-
-  pub further_unjoined : (x : X) (w : Wide) → make a (Ok x) → join sum x (Err w) → further join make sum (a ∷ rest) (Err w)
-  further_unjoined x w made joins = inr (x, made, inl joins)
-
--- what is made so far, before a result
-abbrev pub behind : {X : Type 0} → List X → Result (List X) Wide → Result (List X) Wide
-behind xs r = shown_result (λ ys. xs ++ ys) r
-
-module _ {A X : Type 0} (make : A → Result X Wide → Type 0) (all : List A) where
-  pub each_start : (r : Result (List X) Wide) → each make all r → each make all (behind [] r)
-  each_start (Ok ys) h = h
-  each_start (Err w) h = h
-
-  module _ (a : A) (rest : List A) (xs : List X) (so_far : (r : Result (List X) Wide) → each make (a ∷ rest) r → each make all (behind xs r)) where
-    pub each_next : (x : X) → make a (Ok x) → (r : Result (List X) Wide) → each make rest r → each make all (behind (xs ++ x ∷ []) r)
-    each_next x made (Ok ys) h = subst (λ l. each make all (Ok l)) (sym (append_assoc xs (x ∷ []) ys)) (so_far (Ok (x ∷ ys)) (x, made, (ys, h, refl)))
-    each_next x made (Err w) h = so_far (Err w) (inr (x, made, inl h))
-
-    pub each_fails : (w : Wide) → make a (Err w) → each make all (Err w)
-    each_fails w made = so_far (Err w) (inl made)
-
-  pub each_ends : (xs : List X) → ((r : Result (List X) Wide) → each make [] r → each make all (behind xs r)) → each make all (Ok xs)
-  each_ends xs so_far = subst (λ l. each make all (Ok l)) (append-nil xs) (so_far (Ok []) refl)
-
--- ---- the numbers that pass a test, from the next one on
-
-module _ (test : ℕ → Bool) (t n : ℕ) where
-  one_less : t < n → n - t ≡ suc (n - suc t)
-  one_less lt = omega arith
-
-  from_here : t < n → numbers_where test t (n - t) ≡ (if test t then (t ∷ numbers_where test (t + 1) (n - (t + 1))) else numbers_where test (t + 1) (n - (t + 1)))
-  from_here lt = rw (add-one t) (ap (numbers_where test t) (one_less lt))
-
-  pub where_taken : t < n → test t ≡ true → numbers_where test t (n - t) ≡ t ∷ numbers_where test (t + 1) (n - (t + 1))
-  where_taken lt e = from_here lt ∙ ap (λ b. if b then (t ∷ numbers_where test (t + 1) (n - (t + 1))) else numbers_where test (t + 1) (n - (t + 1))) e
-
-  pub where_left : t < n → test t ≡ false → numbers_where test t (n - t) ≡ numbers_where test (t + 1) (n - (t + 1))
-  where_left lt e = from_here lt ∙ ap (λ b. if b then (t ∷ numbers_where test (t + 1) (n - (t + 1))) else numbers_where test (t + 1) (n - (t + 1))) e
-
-  pub where_ends : n ≤ t → numbers_where test t (n - t) ≡ []
-  where_ends past = ap (numbers_where test t) (none past)
-    where
-      none : n ≤ t → n - t ≡ 0
-      none h = omega arith
-
--- what passes the test, behind what was found before
-module _ (test : ℕ → Bool) (n i : ℕ) (out whole : List ℕ) (so_far : out ++ numbers_where test i (n - i) ≡ whole) where
-  pub number_taken : i < n → test i ≡ true → (out ++ i ∷ []) ++ numbers_where test (i + 1) (n - (i + 1)) ≡ whole
-  number_taken lt e = append_assoc out (i ∷ []) (numbers_where test (i + 1) (n - (i + 1))) ∙ ap (λ l. out ++ l) (sym (where_taken test i n lt e)) ∙ so_far
-
-  pub number_left : i < n → test i ≡ false → out ++ numbers_where test (i + 1) (n - (i + 1)) ≡ whole
-  number_left lt e = ap (λ l. out ++ l) (sym (where_left test i n lt e)) ∙ so_far
-
 -- ---- labels
 
 -- what a label that is not free adds, by the numbers that its relation shows
-pub term_is : (labels : ℕ) (cycle : CycleBasis) (counts : List ℤ) (t place : ℕ) (r : Relation) (count : ℤ) (res : Result Ratio Wide) → ShowsRelation labels cycle t r → place < length (free_labels labels cycle) → count ≡ number_at counts t
-    → and_then (quotient (number_at r.free.items place) r.d) (mul (whole count)) res → dependent_term cycle (number_at counts) (slice_index (free_labels labels cycle) place) t res
-term_is labels cycle counts t place r count res shows lt same h =
-    subst (λ z. and_then (quotient ((cycle.relation t).coefficient (slice_index (free_labels labels cycle) place)) (cycle.relation t).d) (mul (whole z)) res) same
+pub term_is : (labels : ℕ) (cycle : CycleBasis) (counts : List ℤ) (t index : ℕ) (r : Relation) (count : ℤ) (res : Result Ratio Wide) → ShowsRelation labels cycle t r → index < length (free_labels labels cycle) → count ≡ number_at counts t
+    → and_then (quotient (number_at r.free.items index) r.d) (mul (whole count)) res → dependent_term cycle (number_at counts) (slice_index (free_labels labels cycle) index) t res
+term_is labels cycle counts t index r count res shows lt same h =
+    subst (λ z. and_then (quotient ((cycle.relation t).coefficient (slice_index (free_labels labels cycle) index)) (cycle.relation t).d) (mul (whole z)) res) same
     (subst (λ z. and_then (quotient z (cycle.relation t).d) (mul (whole count)) res) number
-    (subst (λ z. and_then (quotient (number_at r.free.items place) z) (mul (whole count)) res) shows.d h))
+    (subst (λ z. and_then (quotient (number_at r.free.items index) z) (mul (whole count)) res) shows.d h))
   where
-    number : number_at r.free.items place ≡ (cycle.relation t).coefficient (slice_index (free_labels labels cycle) place)
-    number = ap (λ l. number_at l place) shows.free ∙ get_or-map (cycle.relation t).coefficient (free_labels labels cycle) place 0 (pos 0) lt
+    number : number_at r.free.items index ≡ (cycle.relation t).coefficient (slice_index (free_labels labels cycle) index)
+    number = ap (λ l. number_at l index) shows.free ∙ get_or-map (cycle.relation t).coefficient (free_labels labels cycle) index 0 (pos 0) lt
 
 pub is_dependent : (cycle : CycleBasis) (t : ℕ) → ¬ Contains cycle.members t → not (is_in cycle.members t) ≡ true
 is_dependent cycle t lacks = ap not (not_in_set cycle.members t lacks)
@@ -125,11 +49,11 @@ pub is_free : (cycle : CycleBasis) (t : ℕ) → Contains cycle.members t → no
 is_free cycle t has = ap not (in_set cycle.members t has)
 
 -- a free label is a label
-pub free_below : (labels : ℕ) (cycle : CycleBasis) (place : ℕ) → place < length (free_labels labels cycle) → slice_index (free_labels labels cycle) place < labels
-free_below labels cycle place lt = let w = where_from (λ t. is_in cycle.members t) 0 labels (slice_index (free_labels labels cycle) place) (Contains-get_or (free_labels labels cycle) place 0 lt) in let b = w.below in omega arith
+pub free_below : (labels : ℕ) (cycle : CycleBasis) (index : ℕ) → index < length (free_labels labels cycle) → slice_index (free_labels labels cycle) index < labels
+free_below labels cycle index lt = let w = where_from (λ t. is_in cycle.members t) 0 labels (slice_index (free_labels labels cycle) index) (Contains-get_or (free_labels labels cycle) index 0 lt) in let b = w.below in omega arith
 
-pub shows_length : (labels : ℕ) (cycle : CycleBasis) (t place : ℕ) (r : Relation) → ShowsRelation labels cycle t r → place < length (free_labels labels cycle) → place < length r.free.items
-shows_length labels cycle t place r shows lt = subst (λ l. place < length l) (sym shows.free) (simp length-map lt)
+pub shows_length : (labels : ℕ) (cycle : CycleBasis) (t index : ℕ) (r : Relation) → ShowsRelation labels cycle t r → index < length (free_labels labels cycle) → index < length r.free.items
+shows_length labels cycle t index r shows lt = subst (λ l. index < length l) (sym shows.free) (simp length-map lt)
 
 -- ---- the coefficient of a free label, label by label
 
@@ -168,15 +92,15 @@ module _ (labels : ℕ) (cycle : CycleBasis) (others : List ℕ) (i : ℕ) (all 
   other_outside has = false≢true (sym (is_free cycle (slice_index others i) has) ∙ among.passes)
 
 -- what a label adds to a sum, by the numbers that its relation shows
-pub stepped : (labels : ℕ) (cycle : CycleBasis) (counts : List ℤ) (t place : ℕ) (rel : Relation) (count : ℤ) (sum : Ratio) (r : Result Ratio Wide)
-    → ShowsRelation labels cycle t rel → place < length (free_labels labels cycle) → count ≡ number_at counts t
-    → and_then (and_then (quotient (number_at rel.free.items place) rel.d) (mul (whole count))) (add sum) r
-    → and_then (dependent_term cycle (number_at counts) (slice_index (free_labels labels cycle) place) t) (add sum) r
-stepped labels cycle counts t place rel count sum (Ok y) shows lt same (x, made, joins) = (x, term_is labels cycle counts t place rel count (Ok x) shows lt same made, joins)
-stepped labels cycle counts t place rel count sum (Err w) shows lt same (inl made) = inl (term_is labels cycle counts t place rel count (Err w) shows lt same made)
-stepped labels cycle counts t place rel count sum (Err w) shows lt same (inr (x, made, joins)) = inr (x, term_is labels cycle counts t place rel count (Ok x) shows lt same made, joins)
+pub stepped : (labels : ℕ) (cycle : CycleBasis) (counts : List ℤ) (t index : ℕ) (rel : Relation) (count : ℤ) (sum : Ratio) (r : Result Ratio Wide)
+    → ShowsRelation labels cycle t rel → index < length (free_labels labels cycle) → count ≡ number_at counts t
+    → and_then (and_then (quotient (number_at rel.free.items index) rel.d) (mul (whole count))) (add sum) r
+    → and_then (dependent_term cycle (number_at counts) (slice_index (free_labels labels cycle) index) t) (add sum) r
+stepped labels cycle counts t index rel count sum (Ok y) shows lt same (x, made, joins) = (x, term_is labels cycle counts t index rel count (Ok x) shows lt same made, joins)
+stepped labels cycle counts t index rel count sum (Err w) shows lt same (inl made) = inl (term_is labels cycle counts t index rel count (Err w) shows lt same made)
+stepped labels cycle counts t index rel count sum (Err w) shows lt same (inr (x, made, joins)) = inr (x, term_is labels cycle counts t index rel count (Ok x) shows lt same made, joins)
 
--- ---- the coefficients, place by place
+-- ---- the coefficients, index by index
 
 module _ {X : Type 0} (make : ℕ → Result X Wide → Type 0) (all : List ℕ) (i : ℕ) (xs : List X) (so_far : (r : Result (List X) Wide) → each make (drop i all) r → each make all (behind xs r)) where
   at_place : i < length all → (r : Result (List X) Wide) → each make (slice_index all i ∷ drop (i + 1) all) r → each make all (behind xs r)

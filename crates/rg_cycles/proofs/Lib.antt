@@ -8,4 +8,3 @@ pub mod Filling
 pub mod Equations
 pub mod Folding
 pub mod AddsNothing
-pub mod Items

@@ -15,7 +15,8 @@ use Rattle.rg_linear.proofs.Columns.{below_test, past_test}
 -- one member more, which passes the test or doesn't
 module _ {Y : Type 0} (f : ℕ → Y) (p : ℕ → Bool) (members : List ℕ) (i : ℕ) (out : List Y) (lt : i < length members) (so_far : out ≡ map f (filter p (take i members))) where
   one_more : (b : Bool) → p (slice_index members i) ≡ b → map f (filter p (take (i + 1) members)) ≡ out ++ map f (cond b (slice_index members i ∷ []) [])
-  one_more b e = ap (map f) (filter_more p members i 0 lt ∙ ap (λ c. filter p (take i members) ++ cond c (slice_index members i ∷ []) []) e) ∙ map-append f (filter p (take i members)) (cond b (slice_index members i ∷ []) []) ∙ ap (λ l. l ++ map f (cond b (slice_index members i ∷ []) [])) (sym so_far)
+  one_more b e = ap (map f) (filter_more p members i 0 lt ∙ ap (λ c. filter p (take i members) ++ cond c (slice_index members i ∷ []) []) e)
+      ∙ map-append f (filter p (take i members)) (cond b (slice_index members i ∷ []) []) ∙ ap (λ l. l ++ map f (cond b (slice_index members i ∷ []) [])) (sym so_far)
 
   pub taken_more : p (slice_index members i) ≡ true → (y : Y) → y ≡ f (slice_index members i) → out ++ y ∷ [] ≡ map f (filter p (take (i + 1) members))
   taken_more e y is = ap (λ z. out ++ z ∷ []) is ∙ sym (one_more true e)
@@ -50,6 +51,6 @@ module _ (labels m : ℕ) (z : ℤ) where
       go true = refl
       go false = refl
 
--- the place of a chord's row is below the number of rows
+-- the index of a chord's row is below the number of rows
 pub chord_within : (members : List ℕ) (labels rows p : ℕ) → p < length members → ((m : ℕ) → Contains members m → m < labels + rows) → labels ≤ slice_index members p → slice_index members p - labels < rows
 chord_within members labels rows p lt all past = let h = all (slice_index members p) (Contains-get_or members p 0 lt) in omega arith

@@ -3,7 +3,9 @@ use Rattle.std.proofs.Common.{true≢false}
 use Rattle.std.proofs.lemmas.Bool.{false≢true}
 use Rattle.std.proofs.lemmas.List.Elements.{Contains-get_or}
 use Rattle.std.proofs.lemmas.List.{get_or_default}
-use Rattle.std.proofs.Common.{◌≡◌, ◌≢◌, ◌⊎◌, ⊎_elim, ℕ, zero, suc, ◌+◌, ◌-◌, ◌<◌, ◌≤◌, Bool, true, false, cond, nat_lt, not, ◌&&◌, ◌==◌, if◌then◌else◌, List, [], ◌∷◌, map, filter, length, slice_index_or, Contains, Option, None, Some, is_some, ap, ap₂, refl, subst, sym, ◌∙◌, inl, inr, arith, eqb-true, eq-eqb}
+use Rattle.std.proofs.Common.{◌≡◌, ◌≢◌, ◌⊎◌, ⊎_elim, ℕ, zero, suc, ◌+◌, ◌-◌, ◌<◌, ◌≤◌, Bool, true, false, cond, nat_lt, not, ◌&&◌, ◌==◌, if◌then◌else◌, List, [], ◌∷◌}
+use Rattle.std.proofs.Common.{map, filter, length, slice_index_or, Contains, Option, None, Some, is_some, ap, ap₂, refl, subst, sym, ◌∙◌, inl, inr, arith, eqb-true}
+use Rattle.std.proofs.Common.{eq-eqb}
 use Rattle.std.specs.Prelude.{ℤ, pos, slice_get, slice_index, ◌<ℤ◌}
 use Rattle.std.specs.Ordering.{int_eq}
 use Rattle.std.proofs.lemmas.List.{length-map, get_or_past}
@@ -32,9 +34,9 @@ use Rattle.rg_cycles.specs.Walk.{IsSolved}
 use Rattle.rg_dictionary.proofs.RowTerms.{shown_number}
 use Rattle.rg_cycles.proofs.Labels.{in_set, not_in_set, filter_has, filter_from, free_members}
 
--- ---- the kept places
+-- ---- the kept indices
 
--- they are in order, and each is the place of a vector
+-- they are in order, and each is the index of a vector
 pub kept_order : (key : ℕ → List ℤ) (Drops : ℕ → Type 0) (seen : List (List ℤ)) (a n : ℕ) (kept : List ℕ) → KeepsFirsts key Drops seen (numbers_from a n) kept → IsInOrder kept
 kept_order key Drops seen a zero kept is = subst IsInOrder (sym is) tt
 kept_order key Drops seen a (suc n) kept (inl (gone, k)) = kept_order key Drops seen (suc a) n kept k
@@ -43,7 +45,7 @@ kept_order key Drops seen a (suc n) kept (inr (stays, fresh, (rest, is, k))) = s
 pub kept_below : (vectors : List (List ℤ)) (kept : List ℕ) → KeepsVectors vectors kept → (c : ℕ) → Contains kept c → c < length vectors
 kept_below vectors kept k c has = let h = numbers_from-Contains 0 (length vectors) c (kept_is (vector_at vectors) (λ i. IsZeroVector (vector_at vectors i)) [] (numbers_from 0 (length vectors)) kept c k has) in omega arith
 
--- two places of a list in order with the same number are one
+-- two indices of a list in order with the same number are one
 pub same_place : (xs : List ℕ) (i j : ℕ) → IsInOrder xs → i < length xs → j < length xs → slice_index xs i ≡ slice_index xs j → i ≡ j
 same_place [] i j h lt lt' e = absurd (omega arith)
 same_place (x ∷ xs) zero zero h lt lt' e = refl
@@ -87,7 +89,9 @@ module _ (f : ℕ → ℤ) (labels : ℕ) (kept : List ℕ) (order : IsInOrder k
       others : w ≢ m → ¬ Contains ms m → f m ≡ pos 0
       others ne lacks = none (λ has. ⊎_elim ne lacks (Contains-cons_cases w m ms has))
 
-      at : labels ≤ w → (b : Bool) → (slice_index kept (w - labels) == slice_index kept (m - labels)) ≡ b → ((¬ Contains ms m → f m ≡ pos 0) → number_with (map (λ u. (slice_index kept (u - labels), f u)) (filter (λ u. not (nat_lt u labels) && not (int_eq (f u) (pos 0))) ms)) (slice_index kept (m - labels)) ≡ f m)
+      at : labels ≤ w → (b : Bool) → (slice_index kept (w - labels) == slice_index kept (m - labels)) ≡ b
+          → ((¬ Contains ms m → f m ≡ pos 0) → number_with
+          (map (λ u. (slice_index kept (u - labels), f u)) (filter (λ u. not (nat_lt u labels) && not (int_eq (f u) (pos 0))) ms)) (slice_index kept (m - labels)) ≡ f m)
           → (if b then f w else number_with (map (λ u. (slice_index kept (u - labels), f u)) (filter (λ u. not (nat_lt u labels) && not (int_eq (f u) (pos 0))) ms)) (slice_index kept (m - labels))) ≡ f m
       at above true e next = ap f (back (same_place kept (w - labels) (m - labels) order (within w (Contains-here w ms) above) lt (eqb-true _ _ e)))
         where
@@ -185,7 +189,10 @@ module _ (vectors : List (List ℤ)) (kept : List ℕ) (d : Contents) (solved : 
       positive = subst (λ z. pos 0 <ℤ z) (sym has.d) shows.row.positive;
       d = subst InRange (ap (λ l. number_at l 0) shows.shown ∙ sym has.d) (range 0);
       free = λ n. subst (λ l. InRange (number_at l n)) (sym has.free) (map_in_range shows.k.coefficient (filter (λ m. nat_lt m d.columns) d.members) (λ m h. each m (filter_from (λ u. nat_lt u d.columns) d.members m h).0) n);
-      chords = λ n. subst (λ l. InRange (slice_index_or {A = ℕ × ℤ} l n (0, pos 0)).1) (sym has.chords) (pairs_in_range (λ m. slice_index kept (m - d.columns)) shows.k.coefficient (filter (λ m. not (nat_lt m d.columns) && not (int_eq (shows.k.coefficient m) (pos 0))) d.members) (λ m h. each m (filter_from (λ u. not (nat_lt u d.columns) && not (int_eq (shows.k.coefficient u) (pos 0))) d.members m h).0) n);
+      chords = λ n. subst (λ l. InRange (slice_index_or {A = ℕ × ℤ} l n (0, pos 0)).1) (sym has.chords)
+          (pairs_in_range (λ m. slice_index kept (m - d.columns)) shows.k.coefficient
+          (filter (λ m. not (nat_lt m d.columns) && not (int_eq (shows.k.coefficient m) (pos 0))) d.members)
+          (λ m h. each m (filter_from (λ u. not (nat_lt u d.columns) && not (int_eq (shows.k.coefficient u) (pos 0))) d.members m h).0) n);
     };
   }
     where
@@ -263,7 +270,8 @@ pub record ReadWhole (labels : ℕ) (vectors : List (List ℤ)) (kept members fr
   pub are : AreRelations (length relations) (cycle_basis kept members free relations) relations
   pub basis : IsCycleBasis labels vectors (cycle_basis kept members free relations)
 
-pub read_whole : (vectors : List (List ℤ)) (kept : List ℕ) (d : Contents) (members free : List ℕ) (relations : List (Option Relation)) → IsSolved vectors kept d → members ≡ d.members → free ≡ filter (λ m. nat_lt m d.columns) members → AreRead d kept relations → ReadWhole d.columns vectors kept members free relations
+pub read_whole : (vectors : List (List ℤ)) (kept : List ℕ) (d : Contents) (members free : List ℕ) (relations : List (Option Relation)) → IsSolved vectors kept d
+    → members ≡ d.members → free ≡ filter (λ m. nat_lt m d.columns) members → AreRead d kept relations → ReadWhole d.columns vectors kept members free relations
 read_whole vectors kept d members free relations solved same listed read = subst (λ ms. ReadWhole d.columns vectors kept ms free relations) (sym same) (record {
   listed = read_free vectors kept d solved free listed' relations read.each read.one_each;
   are = read_are_relations vectors kept d solved free listed' relations read.each read.one_each;

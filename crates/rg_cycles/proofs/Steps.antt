@@ -5,7 +5,7 @@ use Rattle.std.specs.Prelude.{ℤ, pos, slice_index}
 use Rattle.std.proofs.lemmas.Bool.{cases_lt}
 use Rattle.std.proofs.lemmas.List.Kept.{AllPairs-from_increasing}
 use Rattle.rg_integers.specs.Sum.{number_at}
-use Rattle.rg_fraction.specs.declared.term.Wide.{Wide}
+use Rattle.rg_integers.specs.declared.term.Wide.{Wide}
 use Rattle.rg_linear.specs.System.{LinearSystem, row_variable}
 use Rattle.rg_linear.specs.Dictionary.{numbers_from}
 use Rattle.rg_linear.specs.Exchange.{exchanged, AllFit, FirstWide}
@@ -17,7 +17,7 @@ use Rattle.rg_dictionary.specs.Contents.{Contents, IsDictionary, IsOutside, Same
 use Rattle.rg_dictionary.proofs.RowTerms.{shown_number}
 use Rattle.rg_cycles.specs.Walk.{NamesLabel, IsWhole, RowsAhead}
 
--- ---- numbers by their places
+-- ---- numbers by their indices
 
 -- ---- which label the relation of a row names
 
@@ -93,13 +93,19 @@ module _ (d : Contents) (i : ℕ) (numbers : List ℤ) (row : i < d.rows) (syste
   picks : (p : ℕ) → NamesLabel d.columns d.members numbers p → ((q : ℕ) → q < p → ¬ NamesLabel d.columns d.members numbers q) → Picks system d.members i (slice_index d.members p)
   picks p names before = row_picks system d.members i numbers shown p (subst (λ n. NamesLabel n d.members numbers p) whole.columns names) (subst (λ n. (q : ℕ) → q < p → ¬ NamesLabel n d.members numbers q) whole.columns before)
 
-  pub step_exchanges : (p : ℕ) → NamesLabel d.columns d.members numbers p → ((q : ℕ) → q < p → ¬ NamesLabel d.columns d.members numbers q) → AllFit system d.members (d.columns + i) (slice_index d.members p) → (members : List ℕ) → members ≡ exchanged d.members (d.columns + i) (slice_index d.members p)
+  pub step_exchanges : (p : ℕ) → NamesLabel d.columns d.members numbers p → ((q : ℕ) → q < p → ¬ NamesLabel d.columns d.members numbers q)
+      → AllFit system d.members (d.columns + i) (slice_index d.members p) → (members : List ℕ) → members ≡ exchanged d.members (d.columns + i) (slice_index d.members p)
       → (o : CycleOutcome) → CycleWalkFrom system members (suc i) o → CycleWalkFrom system d.members i o
-  step_exchanges p names before fit members is o rest = exchanges (slice_index d.members p) below_rows (picks p names before) (subst (λ w. AllFit system d.members w (slice_index d.members p)) pivot_is fit) (subst (λ w. CycleWalkFrom system (exchanged d.members w (slice_index d.members p)) (suc i) o) pivot_is (subst (λ m. CycleWalkFrom system m (suc i) o) is rest))
+  step_exchanges p names before fit members is o rest = exchanges (slice_index d.members p) below_rows (picks p names before)
+      (subst (λ w. AllFit system d.members w (slice_index d.members p)) pivot_is fit)
+      (subst (λ w. CycleWalkFrom system (exchanged d.members w (slice_index d.members p)) (suc i) o) pivot_is (subst (λ m. CycleWalkFrom system m (suc i) o) is rest))
 
   pub step_passes : (p : ℕ) → NamesLabel d.columns d.members numbers p → ((q : ℕ) → q < p → ¬ NamesLabel d.columns d.members numbers q) → (w n : ℕ) (t : Wide) → FirstWide system d.members (d.columns + i) (slice_index d.members p) w n t
       → CycleWalkFrom system d.members i (too_wide (record { members = d.members; pivot = d.columns + i; leaves = slice_index d.members p; target = w; entry = n; term = t }))
-  step_passes p names before w n t first = subst (λ v. CycleWalkFrom system d.members i (too_wide (record { members = d.members; pivot = v; leaves = slice_index d.members p; target = w; entry = n; term = t }))) (sym pivot_is) (passes (slice_index d.members p) w n t below_rows (picks p names before) (subst (λ v. FirstWide system d.members v (slice_index d.members p) w n t) pivot_is first))
+  step_passes p names before w n t first = subst
+      (λ v. CycleWalkFrom system d.members i (too_wide (record { members = d.members; pivot = v; leaves = slice_index d.members p; target = w; entry = n; term = t })))
+      (sym pivot_is) (passes (slice_index d.members p) w n t below_rows (picks p names before)
+      (subst (λ v. FirstWide system d.members v (slice_index d.members p) w n t) pivot_is first))
 
 -- ---- the rows ahead
 

@@ -9,7 +9,7 @@ use Rattle.rg_linear.specs.Table.{number_beside}
 use Rattle.rg_cycles.specs.declared.relation.Relation.{Relation}
 use Rattle.rg_order_of_work.specs.Rewriting.{is_in, free_labels}
 
--- the vectors with a number other than 0 in the relation, in order, each by its place and with that number
+-- the vectors with a number other than 0 in the relation, in order, each by its index and with that number
 abbrev pub vector_numbers : ℕ → List ℕ → List ℕ → LinearRelation → List (ℕ × ℤ)
 vector_numbers labels kept members k = map (λ m. (slice_index kept (m - labels), k.coefficient m)) (filter (λ m. not (nat_lt m labels) && not (int_eq (k.coefficient m) (pos 0))) members)
 
@@ -28,7 +28,7 @@ pub record IsRelationInRange (r : Relation) : Type 0 where
 
 -- ---- from the numbers that code keeps
 
--- the number of the vector at this place, 0 where it is not listed
+-- the number of the vector at this index, 0 where it is not listed
 abbrev pub number_with : List (ℕ × ℤ) → ℕ → ℤ
 number_with [] c = pos 0
 number_with (p ∷ pairs) c = if p.0 == c then p.1 else number_with pairs c

@@ -5,11 +5,11 @@ use Rattle.rg_linear.specs.System.{LinearSystem}
 use Rattle.rg_linear.specs.Cycle.{CycleOutcome.free_set, CycleWalk, KeepsVectors, vector_system}
 use Rattle.rg_dictionary.specs.Contents.{Contents, IsDictionary}
 
--- the member at this place is a label that the relation with these numbers names
-pub record NamesLabel (labels : ℕ) (members : List ℕ) (numbers : List ℤ) (place : ℕ) : Type 0 where
-  pub within : place < length members
-  pub label : slice_index members place < labels
-  pub named : number_at numbers (place + 2) ≢ pos 0
+-- the member at this index is a label that the relation with these numbers names
+pub record NamesLabel (labels : ℕ) (members : List ℕ) (numbers : List ℤ) (index : ℕ) : Type 0 where
+  pub within : index < length members
+  pub label : slice_index members index < labels
+  pub named : number_at numbers (index + 2) ≢ pos 0
 
 -- it is the dictionary of some system
 abbrev pub IsWhole : Contents → Type 0

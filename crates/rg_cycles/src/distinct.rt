@@ -6,7 +6,7 @@ ghost use Rattle.rg_cycles.specs.Vectors.{numbers_in};
 use std::alloc::{AllocError, Global};
 use std::collections::HashSet;
 
-// The places of the vectors that aren't 0, each at its first place.
+// The indices of the vectors that aren't 0, each at its first index.
 pub(crate) fn first_places(alloc: Global, vectors: &[Vec<i128>]) -> Result<Vec<u32>, AllocError>
     requires { length vectors.now < 2 ^ 32 }
     ensures { IfOk result (λ kept. KeepsVectors (numbers_in vectors.now) kept.items) }

@@ -69,9 +69,9 @@ fn free_numbers(
     ensures { IfOk result (λ v. (k : LinearRelation) → numbers.now ≡ numbers_of members.now k → v.items ≡ map k.coefficient (filter (λ m. nat_lt m labels) members.now)) }
 {
     let mut free = Vec::new(alloc);
-    for (place, &member) in members.iter().enumerate() {
+    for (index, &member) in members.iter().enumerate() {
         if member < labels {
-            free.push(numbers[place + 2])?;
+            free.push(numbers[index + 2])?;
         }
     }
     Ok(free)
@@ -91,8 +91,8 @@ fn chord_numbers(
     ensures { IfOk result (λ v. (k : LinearRelation) → numbers.now ≡ numbers_of members.now k → v.items ≡ vector_numbers labels kept.now members.now k) }
 {
     let mut chords = Vec::new(alloc);
-    for (place, &member) in members.iter().enumerate() {
-        let number = numbers[place + 2];
+    for (index, &member) in members.iter().enumerate() {
+        let number = numbers[index + 2];
         if member >= labels && number != 0 {
             chords.push((kept[(member - labels) as usize], number))?;
         }

@@ -58,8 +58,8 @@ fn filled(
     ensures start { IfOk result (λ d. d.members ≡ numbers_from 0 d.columns) }
 {
     let mut dictionary = Dictionary::with_columns(alloc, labels, kept.len() as u32)?;
-    for &place in kept {
-        dictionary.push_row(&vectors[place as usize], 0);
+    for &index in kept {
+        dictionary.push_row(&vectors[index as usize], 0);
     }
     Ok(dictionary)
 }

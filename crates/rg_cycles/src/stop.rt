@@ -2,7 +2,7 @@
 ghost use Rattle.std.specs.Prelude.{◌≡◌};
 ghost use Rattle.rg_cycles.specs.declared.stop.Stop.TheVariants as stop;
 
-use rg_fraction::Wide;
+use rg_integers::Wide;
 use std::alloc::AllocError;
 
 /// The first term out of range on the walk over the chords. It stands at the free set `members`, in the

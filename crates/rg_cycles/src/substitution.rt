@@ -2,7 +2,7 @@
 ghost use Rattle.std.specs.Prelude.{◌≡◌, ℕ, ◌<◌, map, length, slice_index, Ok, Err, IfOk, IsErrOf};
 ghost use Rattle.rg_integers.specs.Range.{InRange};
 ghost use Rattle.rg_integers.specs.Sum.{number_at};
-ghost use Rattle.rg_fraction.specs.declared.term.Wide.{Wide};
+ghost use Rattle.rg_integers.specs.declared.term.Wide.{Wide};
 ghost use Rattle.rg_order_of_work.specs.Fold.{whole, ratio_of, shown_result, quotient, add, mul, and_then};
 ghost use Rattle.rg_order_of_work.specs.Rewriting.{is_in, free_labels, dependent_labels, coefficient_fold, substitute_fold};
 ghost use Rattle.rg_fraction.specs.declared.fold_stop.FoldStop.TheVariants as stop;
@@ -11,7 +11,8 @@ ghost use Rattle.rg_cycles.specs.View.{labels_of, cycle_of};
 
 use crate::basis::Basis;
 use crate::relation::Relation;
-use rg_fraction::{FoldStop, Fraction, Wide};
+use rg_fraction::{FoldStop, Fraction};
+use rg_integers::Wide;
 use std::alloc::{AllocError, Global};
 
 /// A sum over the free labels: one coefficient for each, in order.
@@ -36,8 +37,8 @@ pub fn substitute(alloc: Global, basis: &Basis, counts: &[i128]) -> Result<FreeR
 {
     let others = dependent(alloc, basis, counts.len() as u32)?;
     let mut coeffs = Vec::new(alloc);
-    for place in 0..basis.free().len() {
-        let sum = coefficient(basis, counts, &others, place)?;
+    for index in 0..basis.free().len() {
+        let sum = coefficient(basis, counts, &others, index)?;
         coeffs.push(sum)?;
     }
     Ok(FreeRow { coeffs })
@@ -68,59 +69,59 @@ fn is_free(basis: &Basis, t: u32) -> bool
     }
 }
 
-// The coefficient of the free label at this place; the others aren't free.
+// The coefficient of the free label at this index; the others aren't free.
 fn coefficient(
     basis: &Basis,
     counts: &[i128],
     others: &[u32],
-    place: usize,
+    index: usize,
 ) -> Result<Fraction, Wide>
     requires counts { length counts.now ≡ labels_of basis.now }
     requires in_range { (t : ℕ) → t < length counts.now → InRange (number_at counts.now t) }
     requires others { others.now ≡ dependent_labels (labels_of basis.now) (cycle_of basis.now) }
-    requires place { place < length (free_labels (labels_of basis.now) (cycle_of basis.now)) }
-    ensures { coefficient_fold (labels_of basis.now) (cycle_of basis.now) (number_at counts.now) (slice_index (free_labels (labels_of basis.now) (cycle_of basis.now)) place) (shown_result ratio_of result) }
+    requires index { index < length (free_labels (labels_of basis.now) (cycle_of basis.now)) }
+    ensures { coefficient_fold (labels_of basis.now) (cycle_of basis.now) (number_at counts.now) (slice_index (free_labels (labels_of basis.now) (cycle_of basis.now)) index) (shown_result ratio_of result) }
 {
-    let own = basis.free()[place];
+    let own = basis.free()[index];
     let mut sum = Fraction::new(counts[own as usize], 1);
     for &t in others {
         if let Some(relation) = basis.relation(t) {
-            sum = with_term(sum, relation, counts[t as usize], place)?;
+            sum = with_term(sum, relation, counts[t as usize], index)?;
         }
     }
     Ok(sum)
 }
 
-// The sum with what a label with this relation and this count adds to the coefficient of the free label at this place. A
+// The sum with what a label with this relation and this count adds to the coefficient of the free label at this index. A
 // count of 0 and a number of 0 add nothing.
 fn with_term(
     sum: Fraction,
     relation: &Relation,
     count: i128,
-    place: usize,
+    index: usize,
 ) -> Result<Fraction, Wide>
-    requires place { place < length relation.now.free.items }
+    requires index { index < length relation.now.free.items }
     requires count_in_range { InRange count }
     requires relation_in_range { IsRelationInRange relation.now }
-    ensures { and_then (and_then (quotient (number_at relation.now.free.items place) relation.now.d) (mul (whole count))) (add (ratio_of sum)) (shown_result ratio_of result) }
+    ensures { and_then (and_then (quotient (number_at relation.now.free.items index) relation.now.d) (mul (whole count))) (add (ratio_of sum)) (shown_result ratio_of result) }
 {
     if count == 0 {
         return Ok(sum);
     }
-    if relation.free[place] == 0 {
+    if relation.free[index] == 0 {
         return Ok(sum);
     }
-    let term = term_of(relation, count, place)?;
+    let term = term_of(relation, count, index)?;
     sum.add(term)
 }
 
-// What a label with this relation and this count adds to the coefficient of the free label at this place.
-fn term_of(relation: &Relation, count: i128, place: usize) -> Result<Fraction, Wide>
-    requires place { place < length relation.now.free.items }
+// What a label with this relation and this count adds to the coefficient of the free label at this index.
+fn term_of(relation: &Relation, count: i128, index: usize) -> Result<Fraction, Wide>
+    requires index { index < length relation.now.free.items }
     requires count_in_range { InRange count }
     requires relation_in_range { IsRelationInRange relation.now }
-    ensures { and_then (quotient (number_at relation.now.free.items place) relation.now.d) (mul (whole count)) (shown_result ratio_of result) }
+    ensures { and_then (quotient (number_at relation.now.free.items index) relation.now.d) (mul (whole count)) (shown_result ratio_of result) }
 {
-    let share = Fraction::new(relation.free[place], relation.d);
+    let share = Fraction::new(relation.free[index], relation.d);
     Fraction::new(count, 1).mul(share)
 }

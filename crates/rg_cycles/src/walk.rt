@@ -64,30 +64,39 @@ fn take_row(dictionary: &mut Dictionary, i: u32) -> Result<(), Refusal>
     ensures stays { OnOk result ((system : LinearSystem) → IsDictionary system dictionary.old → IsDictionary system dictionary.new) }
     ensures goes_on { OnOk result ((system : LinearSystem) (o : CycleOutcome) → IsDictionary system dictionary.old → CycleWalkFrom system dictionary.new.members (suc i) o → CycleWalkFrom system dictionary.old.members i o) }
     ensures members_stay { IfErr result (λ _. dictionary.new.members ≡ dictionary.old.members) }
-    ensures passes { IfErr result (λ e. (system : LinearSystem) → IsDictionary system dictionary.old → CycleWalkFrom system dictionary.old.members i (CycleOutcome.too_wide (record { members = dictionary.old.members; pivot = dictionary.old.columns + i; leaves = e.leaves; target = e.at.target; entry = e.at.entry; term = e.at.wide }))) }
+    ensures passes { IfErr result (λ e. (system : LinearSystem) → IsDictionary system dictionary.old
+        → CycleWalkFrom system dictionary.old.members i
+        (CycleOutcome.too_wide (record {
+          members = dictionary.old.members;
+          pivot = dictionary.old.columns + i;
+          leaves = e.leaves;
+          target = e.at.target;
+          entry = e.at.entry;
+          term = e.at.wide;
+        }))) }
 {
     let labels = dictionary.columns();
     let pivot = labels + i;
-    let Some(place) = least_label(labels, dictionary.members(), dictionary.numbers(pivot)) else {
+    let Some(index) = least_label(labels, dictionary.members(), dictionary.numbers(pivot)) else {
         return Ok(());
     };
-    let leaves = dictionary.members()[place];
-    match dictionary.exchange(pivot, place) {
+    let leaves = dictionary.members()[index];
+    match dictionary.exchange(pivot, index) {
         Ok(()) => Ok(()),
         Err(at) => Err(Refusal { leaves, at }),
     }
 }
 
-// The place of the first member that is a label and that the relation with these numbers names.
+// The index of the first member that is a label and that the relation with these numbers names.
 fn least_label(labels: u32, members: &[u32], numbers: &[i128]) -> Option<usize>
     requires { length numbers.now ≡ length members.now + 2 }
     ensures names { IfSome result (NamesLabel labels members.now numbers.now) }
     ensures least { IfSome result (λ p. (q : ℕ) → q < p → ¬ NamesLabel labels members.now numbers.now q) }
     ensures none { IfNone result ((q : ℕ) → ¬ NamesLabel labels members.now numbers.now q) }
 {
-    for (place, &member) in members.iter().enumerate() {
-        if member < labels && numbers[place + 2] != 0 {
-            return Some(place);
+    for (index, &member) in members.iter().enumerate() {
+        if member < labels && numbers[index + 2] != 0 {
+            return Some(index);
         }
     }
     None

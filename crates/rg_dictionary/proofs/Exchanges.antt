@@ -4,8 +4,8 @@ use Rattle.std.proofs.Math.ListN.{set}
 use Rattle.std.specs.Prelude.{ℤ, pos}
 use Rattle.rg_integers.specs.Sum.{number_at}
 use Rattle.rg_integers.proofs.Order.{is_zero_or_not}
-use Rattle.rg_fraction.specs.declared.term.Wide.{Wide}
-use Rattle.rg_fraction.specs.Terms.{FitsTerm}
+use Rattle.rg_integers.specs.declared.term.Wide.{Wide}
+use Rattle.rg_integers.specs.Term.{FitsTerm}
 use Rattle.rg_linear.specs.System.{LinearSystem, variables}
 use Rattle.rg_linear.specs.Dictionary.{Relation, IsFree, DictionaryRow}
 use Rattle.rg_linear.specs.Exchange.{without, exchanged, IsTerm, AllFit, FirstWide, renewed, turned}
@@ -20,7 +20,8 @@ use Rattle.rg_dictionary.proofs.TableRows.{length-row}
 use Rattle.rg_dictionary.proofs.RowTerms.{length-numbers, number_shown, term_is, is_term}
 use Rattle.rg_dictionary.proofs.RowNumbers.{ReducedTo, renewed_shows, turned_shows, kept_shows, reduced_shows, moved_numbers, exchanged-split, set_Contains}
 
-module _ (system : LinearSystem) (members : List ℕ) (i q : ℕ) (old : List ℤ) (free : IsFree system members) (table : IsTable system members old) (below : i < variables system) (outside : ¬ Contains members i) (lt : q < length members) (named : number_at (row_numbers system old i) (suc (suc q)) ≢ pos 0) where
+module _ (system : LinearSystem) (members : List ℕ) (i q : ℕ) (old : List ℤ) (free : IsFree system members) (table : IsTable system members old)
+    (below : i < variables system) (outside : ¬ Contains members i) (lt : q < length members) (named : number_at (row_numbers system old i) (suc (suc q)) ≢ pos 0) where
   j : ℕ
   j = get_or members q 0
 
@@ -162,7 +163,9 @@ module _ (system : LinearSystem) (members : List ℕ) (i q : ℕ) (old : List �
 
 -- ---- the same for a table with rows of so many numbers
 
-module _ (system : LinearSystem) (members : List ℕ) (i q width p n : ℕ) (old s : List ℤ) (free : IsFree system members) (table : IsTable system members old) (count : variables system ≡ n) (wide : width ≡ row_width system) (two : p ≡ suc (suc q)) (below : i < n) (outside : ¬ Contains members i) (lt : q < length members) (named : number_at (row_at width old i) p ≢ pos 0) where
+module _ (system : LinearSystem) (members : List ℕ) (i q width p n : ℕ) (old s : List ℤ) (free : IsFree system members) (table : IsTable system members old)
+    (count : variables system ≡ n) (wide : width ≡ row_width system) (two : p ≡ suc (suc q)) (below : i < n) (outside : ¬ Contains members i) (lt : q < length members)
+    (named : number_at (row_at width old i) p ≢ pos 0) where
   inner : i < variables system
   inner = omega (arith, count, below)
 

@@ -4,8 +4,8 @@ use Rattle.std.proofs.Math.ListN.{set, length-set}
 use Rattle.std.proofs.lemmas.Bool.{cases_lt}
 use Rattle.std.specs.Prelude.{ℤ, pos, neg_ℤ}
 use Rattle.rg_integers.specs.Sum.{number_at}
-use Rattle.rg_fraction.specs.declared.term.Wide.{Wide}
-use Rattle.rg_fraction.specs.Terms.{term_value, FitsTerm}
+use Rattle.rg_integers.specs.declared.term.Wide.{Wide}
+use Rattle.rg_integers.specs.Term.{term_value, FitsTerm}
 use Rattle.rg_linear.proofs.Members.{differs}
 use Rattle.rg_linear.proofs.Columns.{below_test, past_test}
 use Rattle.rg_dictionary.specs.Renewal.{place_term, RenewsBetween, FirstBetween, place_of, renewal_term, IsRenewed, FirstOfRow}

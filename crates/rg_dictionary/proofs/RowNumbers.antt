@@ -16,7 +16,7 @@ use Rattle.rg_integers.specs.Sum.{number_at}
 use Rattle.rg_integers.proofs.Ring.{ring}
 use Rattle.rg_integers.proofs.Order.{mul-cancel, positive_differs}
 use Rattle.rg_integers.proofs.Divisors.{exact}
-use Rattle.rg_fraction.specs.Terms.{term_value}
+use Rattle.rg_integers.specs.Term.{term_value}
 use Rattle.rg_fraction.specs.Rows.{IsPrimitivePart}
 use Rattle.rg_linear.specs.Dictionary.{Relation}
 use Rattle.rg_linear.specs.Exchange.{without, exchanged, renewed, turned, IsReduced}

@@ -10,7 +10,7 @@ use Rattle.std.proofs.lemmas.Option.{same_Some, slice_get_within}
 use Rattle.rg_integers.specs.Sign.{sign, size}
 use Rattle.rg_integers.specs.Sum.{number_at}
 use Rattle.rg_integers.proofs.Signs.{sign-times}
-use Rattle.rg_fraction.specs.declared.term.Wide.{Wide}
+use Rattle.rg_integers.specs.declared.term.Wide.{Wide}
 use Rattle.rg_linear.specs.Dictionary.{Relation}
 use Rattle.rg_linear.specs.Exchange.{terms}
 use Rattle.rg_linear.specs.Table.{numbers_of}

@@ -13,8 +13,8 @@ use Rattle.rg_integers.specs.Sum.{number_at}
 use Rattle.rg_integers.proofs.Order.{is_zero_or_not}
 use Rattle.rg_integers.proofs.Ranges.{zero_in_range}
 use Rattle.rg_integers.proofs.Ring.{mul-one}
-use Rattle.rg_fraction.specs.declared.term.Wide.{Wide}
-use Rattle.rg_fraction.specs.Terms.{term_value, FitsTerm}
+use Rattle.rg_integers.specs.declared.term.Wide.{Wide}
+use Rattle.rg_integers.specs.Term.{term_value, FitsTerm}
 use Rattle.rg_linear.proofs.Members.{Contains-nil, is_member}
 use Rattle.rg_dictionary.specs.Renewal.{RowInRange, AreNamedPlaces, place_term, place_of, renewal_term, FirstOfRow}
 use Rattle.rg_dictionary.proofs.Searching.{rising, not_falling, member_at}

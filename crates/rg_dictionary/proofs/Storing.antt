@@ -196,7 +196,9 @@ module _ (system : LinearSystem) (columns rows room room' : ℕ) (members : List
       past = ⊎_elim (λ less. absurd (lacks (subst (λ ms. Contains ms w) (sym columns_are) (Contains-numbers_from 0 system.columns w (omega arith) (omega arith))))) (λ le. le) (cases_lt w system.columns)
 
       row : (i : ℕ) → system.columns + i ≡ w → i < length (system.rows ++ record { coeffs = coeffs; constant = constant } ∷ []) → DictionaryRow (with_row system coeffs constant) members w (row_relation (with_row system coeffs constant) i)
-      row i e inside = subst (λ ms. DictionaryRow (with_row system coeffs constant) ms w (row_relation (with_row system coeffs constant) i)) (sym columns_are) (subst (λ x. DictionaryRow (with_row system coeffs constant) (column_set system) x (row_relation (with_row system coeffs constant) i)) e (columns_row (with_row system coeffs constant) i inside))
+      row i e inside = subst (λ ms. DictionaryRow (with_row system coeffs constant) ms w (row_relation (with_row system coeffs constant) i)) (sym columns_are)
+          (subst (λ x. DictionaryRow (with_row system coeffs constant) (column_set system) x (row_relation (with_row system coeffs constant) i)) e
+          (columns_row (with_row system coeffs constant) i inside))
 
       last : (i : ℕ) → system.columns + i ≡ w → length system.rows ≡ i → ShowsRow (with_row system coeffs constant) members w (row_numbers (with_row system coeffs constant) new w)
       last i e same = record {

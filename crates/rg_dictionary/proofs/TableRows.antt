@@ -9,7 +9,7 @@ use Rattle.std.proofs.Math.Nat.{mul-le-mul}
 use borrow.Rule.Slice.PartMut.{put_mid}
 use Rattle.rg_integers.specs.Range.{InRange}
 use Rattle.rg_integers.specs.Sum.{number_at}
-use Rattle.rg_fraction.specs.declared.term.Wide.{Wide}
+use Rattle.rg_integers.specs.declared.term.Wide.{Wide}
 use Rattle.rg_dictionary.specs.Renewal.{RowInRange, row_at, IsKept, IsExchangedRow, RowsExchanged, FirstOfRow, FirstOfRows}
 
 pub row_end : (w width : ℕ) → (w + 1) * width ≡ w * width + width

@@ -5,7 +5,7 @@ use Rattle.std.specs.Prelude.{ℤ, pos, neg_ℤ}
 use Rattle.rg_linear.proofs.Members.{equal_or_not}
 use Rattle.rg_integers.specs.Range.{InRange}
 use Rattle.rg_integers.specs.Sum.{number_at}
-use Rattle.rg_fraction.specs.Terms.{term_value, FitsTerm}
+use Rattle.rg_integers.specs.Term.{term_value, FitsTerm}
 use Rattle.rg_dictionary.specs.Renewal.{RowInRange, place_term, RenewsBetween, IsTurned}
 
 -- one more number is written, and has the property of its place

@@ -5,10 +5,11 @@ ghost use Rattle.std.specs.Int.{w64};
 ghost use Rattle.rg_integers.specs.Range.{InRange, Fits};
 ghost use Rattle.rg_integers.specs.Sign.{sign};
 ghost use Rattle.rg_integers.specs.Sum.{number_at};
-ghost use Rattle.rg_fraction.specs.Terms.{term_value, FitsTerm};
+ghost use Rattle.rg_integers.specs.Term.{term_value, FitsTerm};
 ghost use Rattle.rg_dictionary.specs.Renewal.{RowInRange, RowIsShort, ShortBetween, IsSigned, AreNamedPlaces, RenewsBetween, FirstBetween, renewal_term, IsRenewed, FirstOfRow, moved, IsExchangedRow, IsTurned};
 
-use rg_fraction::{Wide, reduce};
+use rg_fraction::reduce;
+use rg_integers::Wide;
 
 /// A place of a row whose term is out of range, or the term's number, and its four numbers.
 #[derive(Clone, Copy, PartialEq, Eq, Debug)]

@@ -10,7 +10,7 @@ ghost use Rattle.rg_linear.specs.Table.{IsTable, place_for};
 ghost use Rattle.rg_dictionary.specs.Renewal.{RowInRange, AreNamedPlaces, row_at, RowsExchanged, FirstOfRows};
 
 use crate::row::{copy_signed, exchange_row, is_short, list_places, write_leaving};
-use rg_fraction::Wide;
+use rg_integers::Wide;
 
 /// The first term of an exchange that is out of range: in the new relation of the variable `target`
 /// it is term number `entry`, counted from 0, and has the four numbers of `wide`.

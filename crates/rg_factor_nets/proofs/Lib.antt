@@ -1,2 +1,1 @@
-mod FewPlaces
-mod AllFactors
+mod Factors

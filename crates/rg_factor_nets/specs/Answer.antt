@@ -15,7 +15,7 @@ use Rattle.rg_outcome.specs.Outcome.{Out, Answer.net as of_net, Answer.unsolvabl
 use Rattle.rg_product.specs.Product.{Factor, IsFactorAt}
 use Rattle.rg_product.specs.Beside.{net_beside}
 use Rattle.rg_separate.specs.View.{shown_of}
-use Rattle.rg_separate.specs.declared.wide_at.WideAt.{WideAt}
+use Rattle.rg_reasons.specs.declared.wide_at.WideAt.{WideAt}
 use Rattle.rg_synth.specs.Answer.{IsOpen, IsSolvingNet, IsRightCertificate}
 use Rattle.rg_factor_nets.specs.declared.answer.FactorsAnswer.{FactorsAnswer}
 use Rattle.rg_factor_nets.specs.declared.answer.FactorsAnswer.TheVariants as answer

@@ -10,4 +10,4 @@ mod nets;
 pub use answer::FactorsAnswer;
 pub use nets::synthesize_factors;
 pub use rg_memory::NoMemory;
-pub use rg_separate::{Stage, WideAt};
+pub use rg_reasons::{Stage, WideAt};

@@ -47,6 +47,7 @@ pub fn synthesize_factors<R: Threads + Sync, G: Gate + Sync>(
         }
     }
     let net = side_by_side(alloc, lts, factors, &nets)?;
+    // the places are asked for because their contract says that the net's numbers are in range
     let _places = net.places();
     Ok(FactorsAnswer::Net(net))
 }

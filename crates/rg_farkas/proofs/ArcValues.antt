@@ -80,7 +80,10 @@ module _ (lts : System) (tree : List Arc) (basis : CycleBasis) (class : Class) (
   row_value name has = used_value lts x (numbers_along lts tree (x (tokens_at lts.initial)) own_effect) (row_expression lts class problem number [] name).terms same_used (names_used lts class problem number name c.asked live has) ∙ go (has_start class) refl
     where
       from_zero : has_start class ≡ false → value_over (pos 0) (numbers_along lts tree (pos 0) own_effect) (row_expression lts class problem number [] name) ≡ value_over (pos 0) (numbers_along lts tree (x (tokens_at lts.initial)) own_effect) (row_expression lts class problem number [] name)
-      from_zero e = same_value lts class problem number (pos 0) (x (tokens_at lts.initial)) (numbers_along lts tree (pos 0) own_effect) (numbers_along lts tree (x (tokens_at lts.initial)) own_effect) name e ((λ q. turn (x (tokens_at lts.initial)) (sum_below (labels lts) (λ t. pos (parikh tree q t) *ℤ own_effect t))), (λ t. refl)) (names_stand lts class problem number name has) (name_no_tokens lts class problem number name e has)
+      from_zero e = same_value lts class problem number (pos 0) (x (tokens_at lts.initial)) (numbers_along lts tree (pos 0) own_effect)
+          (numbers_along lts tree (x (tokens_at lts.initial)) own_effect) name e
+          ((λ q. turn (x (tokens_at lts.initial)) (sum_below (labels lts) (λ t. pos (parikh tree q t) *ℤ own_effect t))), (λ t. refl))
+          (names_stand lts class problem number name has) (name_no_tokens lts class problem number name e has)
         where
           turn : (s z : ℤ) → s +ℤ z ≡ (pos 0 +ℤ z) +ℤ s
           turn s z = omega (arith, ints)
@@ -88,15 +91,21 @@ module _ (lts : System) (tree : List Arc) (basis : CycleBasis) (class : Class) (
       close : (a b k : ℤ) → a +ℤ (k *ℤ pos 0) ≡ b +ℤ (k *ℤ pos 0) → b ≡ a
       close a b k e = omega (arith, ints)
 
-      go : (b : Bool) → has_start class ≡ b → value_in (numbers_along lts tree (x (tokens_at lts.initial)) own_effect) (row_expression lts class problem number [] name).terms ≡ value_in (numbers_along lts tree (if b then x (tokens_at lts.initial) else pos 0) own_effect) (row_expression lts class problem number [] name).terms
+      go : (b : Bool) → has_start class ≡ b → value_in (numbers_along lts tree (x (tokens_at lts.initial)) own_effect)
+          (row_expression lts class problem number [] name).terms ≡ value_in (numbers_along lts tree (if b then x (tokens_at lts.initial) else pos 0) own_effect)
+          (row_expression lts class problem number [] name).terms
       go true e = refl
-      go false e = close (value_in (numbers_along lts tree (pos 0) own_effect) (row_expression lts class problem number [] name).terms) (value_in (numbers_along lts tree (x (tokens_at lts.initial)) own_effect) (row_expression lts class problem number [] name).terms) (row_expression lts class problem number [] name).constant (from_zero e)
+      go false e = close (value_in (numbers_along lts tree (pos 0) own_effect) (row_expression lts class problem number [] name).terms)
+          (value_in (numbers_along lts tree (x (tokens_at lts.initial)) own_effect) (row_expression lts class problem number [] name).terms)
+          (row_expression lts class problem number [] name).constant (from_zero e)
 
   no_start : has_start class ≡ false → own_start ≡ pos 0
   no_start e = ap (λ b. if b then x (tokens_at lts.initial) else pos 0) e
 
   -- the value of a row of the system, times the factor's bottom
-  pub kept_value : (scale : ℤ) (k : KeptRow) → Contains case.kept k → k.factor.bottom *ℤ (dot k.row.coeffs (column_values lts basis class own_start own_effect) +ℤ (k.row.constant *ℤ scale)) ≡ k.factor.top *ℤ (value_in x (row_expression lts class problem number [] k.name).terms +ℤ ((row_expression lts class problem number [] k.name).constant *ℤ scale))
+  pub kept_value : (scale : ℤ) (k : KeptRow) → Contains case.kept k
+      → k.factor.bottom *ℤ (dot k.row.coeffs (column_values lts basis class own_start own_effect) +ℤ (k.row.constant *ℤ scale)) ≡ k.factor.top *ℤ
+      (value_in x (row_expression lts class problem number [] k.name).terms +ℤ ((row_expression lts class problem number [] k.name).constant *ℤ scale))
   kept_value scale k has =
       let row = kept_row lts tree basis class problem number case k c.is_case has in
       row_value_is lts tree basis class k.name (row_expression lts class problem number [] k.name) own_start own_effect scale k c.is_basis (names_labels lts class problem number k.name c.asked row.named) no_start follows unused row.fold

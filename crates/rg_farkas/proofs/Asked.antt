@@ -24,8 +24,12 @@ use Rattle.rg_farkas.proofs.LeafSteps.{not_zero_all}
 use Rattle.rg_farkas.proofs.TreeSums.{SaysArcs}
 
 module _ (lts : System) where
-  pub rows_within : lts.initial < states lts → (class : Class) (above : List Side) → All (λ s. IsFormOf lts s.form) above → (problem : Problem) (number : ℕ) → IsSeparationProblem lts problem → (shares : List Share) → All (λ s. IsRowNameOf lts s.name) shares → AreRowsWithin lts (row_expression lts class problem number above) shares
-  rows_within start class above sides problem number asked shares names = All-weaker (λ s. IsRowNameOf lts s.name) (λ s. All (IsTermWithin (states lts) (labels lts)) (row_expression lts class problem number above s.name).terms) (λ s p. row_within lts start class above sides problem number asked s.name p) shares names
+  pub rows_within : lts.initial < states lts → (class : Class) (above : List Side) → All (λ s. IsFormOf lts s.form) above → (problem : Problem) (number : ℕ)
+      → IsSeparationProblem lts problem → (shares : List Share) → All (λ s. IsRowNameOf lts s.name) shares
+      → AreRowsWithin lts (row_expression lts class problem number above) shares
+  rows_within start class above sides problem number asked shares names = All-weaker (λ s. IsRowNameOf lts s.name)
+      (λ s. All (IsTermWithin (states lts) (labels lts)) (row_expression lts class problem number above s.name).terms)
+      (λ s p. row_within lts start class above sides problem number asked s.name p) shares names
 
   -- ---- the arcs
 
@@ -46,12 +50,15 @@ module _ (lts : System) where
 
   arc_names : (f : Arc → ℤ) (arcs : List Arc) → All (IsArcInRange lts) arcs → All (λ (r : NamedRow). IsRowNameOf lts r.name) (map (λ a. record { multiplier = f a; name = arc_name a }) arcs)
   arc_names f [] all = All-nil (λ (r : NamedRow). IsRowNameOf lts r.name)
-  arc_names f (a ∷ arcs) all = All-cons (λ (r : NamedRow). IsRowNameOf lts r.name) (record { multiplier = f a; name = arc_name a }) (map (λ a. record { multiplier = f a; name = arc_name a }) arcs) (arc_range a (All-head (IsArcInRange lts) a arcs all)) (arc_names f arcs (All-tail (IsArcInRange lts) a arcs all))
+  arc_names f (a ∷ arcs) all = All-cons (λ (r : NamedRow). IsRowNameOf lts r.name) (record { multiplier = f a; name = arc_name a })
+      (map (λ a. record { multiplier = f a; name = arc_name a }) arcs) (arc_range a (All-head (IsArcInRange lts) a arcs all))
+      (arc_names f arcs (All-tail (IsArcInRange lts) a arcs all))
     where
       arc_range : (a : Arc) → IsArcInRange lts a → IsRowNameOf lts (arc_name a)
       arc_range a range = range
 
-  pub leaf_names : (tree : List Arc) (basis : CycleBasis) (expression : RowName → Expression) (shares : List Share) (rows : List NamedRow) → IsInRange lts → All (λ s. IsRowNameOf lts s.name) shares → leaf_fold lts tree basis expression shares (Ok rows) → All (λ (r : NamedRow). IsRowNameOf lts r.name) rows
+  pub leaf_names : (tree : List Arc) (basis : CycleBasis) (expression : RowName → Expression) (shares : List Share) (rows : List NamedRow) → IsInRange lts
+      → All (λ s. IsRowNameOf lts s.name) shares → leaf_fold lts tree basis expression shares (Ok rows) → All (λ (r : NamedRow). IsRowNameOf lts r.name) rows
   leaf_names tree basis expression shares rows fine names (xs, folds, (scaled, scales, (arcs, treed, (parts, parted, checked)))) =
       subst (All (λ (r : NamedRow). IsRowNameOf lts r.name)) (sym checked.2.2)
       (not_zero_all (λ r. IsRowNameOf lts r.name) (named_from (map (λ r. r.name) shares) parts ++ map (λ a. record { multiplier = multiplier_among (chord_arcs lts tree basis ++ map (λ x. x.arc) arcs) (drop (length shares) parts) a; name = arc_name a }) lts.arcs)

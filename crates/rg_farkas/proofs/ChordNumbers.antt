@@ -11,7 +11,7 @@ use Rattle.rg_linear.proofs.Columns.{below_test, past_test}
 use Rattle.rg_linear.proofs.Cycles.{cycle_set_knows}
 use Rattle.rg_integers.proofs.Order.{positive_differs}
 use Rattle.rg_integers.proofs.Divisors.{IsGcd-neg_first}
-use Rattle.rg_fraction.specs.declared.term.Wide.{Wide}
+use Rattle.rg_integers.specs.declared.term.Wide.{Wide}
 use Rattle.rg_fraction.specs.declared.fraction.Fraction.{Fraction}
 use Rattle.rg_fraction.specs.Fractions.{numerator_of, denominator_of, IsValue, IsProduct}
 use Rattle.rg_order_of_work.specs.Fold.{and_then, further, joined, Ratio, whole, ratio_of, shown_result, quotient, add, mul}
@@ -23,7 +23,7 @@ use Rattle.rg_cycles.proofs.Labels.{filter_has, filter_from}
 use Rattle.rg_farkas.specs.View.{LabelCount, counted_of, count_fold, counts_fold}
 use Rattle.rg_farkas.specs.declared.multiplied.Counted.{Counted}
 use Rattle.rg_farkas.proofs.Steps.{sum_next, sum_unmade, sum_unjoined, sum_ends}
-use Rattle.rg_cycles.proofs.Folding.{whole_is}
+use Rattle.rg_order_of_work.proofs.Folding.{whole_is}
 use Rattle.rg_cycles.proofs.AddsNothing.{times_none, number_adds_nothing}
 use Rattle.rg_order_of_work.proofs.Zeros.{count_adds_nothing}
 use Rattle.rg_integers.specs.Range.{InRange}
@@ -51,7 +51,9 @@ module _ (labels : ℕ) (kept : List ℕ) (k : LinearRelation) (c : ℕ) (rises 
       nothing (i, lt, e) = omega arith
   number_found (m ∷ ms) all has = ⊎_elim
       (λ same. ap (λ b. if b then k.coefficient m else number_with (map (λ u. (slice_index kept (u - labels), k.coefficient u)) ms) (slice_index kept c)) (eq-eqb (slice_index kept (m - labels)) (slice_index kept c) (ap (slice_index kept) (place same))) ∙ ap k.coefficient same)
-      (λ differ. ap (λ b. if b then k.coefficient m else number_with (map (λ u. (slice_index kept (u - labels), k.coefficient u)) ms) (slice_index kept c)) (other_place m (all m (0, omega arith, refl)).0 (all m (0, omega arith, refl)).1 differ) ∙ number_found ms (λ u (i, lt, e). all u (suc i, omega arith, e)) (⊎_elim (λ e. absurd (differ e)) (λ there. there) (Contains-cons_cases m (labels + c) ms has)))
+      (λ differ. ap (λ b. if b then k.coefficient m else number_with (map (λ u. (slice_index kept (u - labels), k.coefficient u)) ms) (slice_index kept c))
+      (other_place m (all m (0, omega arith, refl)).0 (all m (0, omega arith, refl)).1 differ) ∙ number_found ms (λ u (i, lt, e). all u (suc i, omega arith, e))
+      (⊎_elim (λ e. absurd (differ e)) (λ there. there) (Contains-cons_cases m (labels + c) ms has)))
       (cases_eq m (labels + c))
     where
       place : m ≡ labels + c → m - labels ≡ c
@@ -59,10 +61,14 @@ module _ (labels : ℕ) (kept : List ℕ) (k : LinearRelation) (c : ℕ) (rises 
 
   number_missing : (ms : List ℕ) → ((m : ℕ) → Contains ms m → (labels ≤ m) × (m - labels < length kept)) → ¬ Contains ms (labels + c) → number_with (map (λ m. (slice_index kept (m - labels), k.coefficient m)) ms) (slice_index kept c) ≡ pos 0
   number_missing [] all lacks = refl
-  number_missing (m ∷ ms) all lacks = ap (λ b. if b then k.coefficient m else number_with (map (λ u. (slice_index kept (u - labels), k.coefficient u)) ms) (slice_index kept c)) (other_place m (all m (0, omega arith, refl)).0 (all m (0, omega arith, refl)).1 (λ e. lacks (0, omega arith, e))) ∙ number_missing ms (λ u (i, lt, e). all u (suc i, omega arith, e)) (λ (i, lt, e). lacks (suc i, omega arith, e))
+  number_missing (m ∷ ms) all lacks = ap (λ b. if b then k.coefficient m else number_with (map (λ u. (slice_index kept (u - labels), k.coefficient u)) ms)
+      (slice_index kept c)) (other_place m (all m (0, omega arith, refl)).0 (all m (0, omega arith, refl)).1 (λ e. lacks (0, omega arith, e)))
+      ∙ number_missing ms (λ u (i, lt, e). all u (suc i, omega arith, e)) (λ (i, lt, e). lacks (suc i, omega arith, e))
 
 -- a chord that the basis uses has its number in the relation
-pub chord_number_is : (labels : ℕ) (vectors : List (List ℤ)) (cycle : CycleBasis) (t c : ℕ) (r : Relation) → IsCycleBasis labels vectors cycle → ShowsRelation labels cycle t r → c < length cycle.kept → Contains cycle.members (labels + c) → number_with r.chords.items (slice_index cycle.kept c) ≡ (cycle.relation t).coefficient (labels + c)
+pub chord_number_is : (labels : ℕ) (vectors : List (List ℤ)) (cycle : CycleBasis) (t c : ℕ) (r : Relation) → IsCycleBasis labels vectors cycle
+    → ShowsRelation labels cycle t r → c < length cycle.kept → Contains cycle.members (labels + c) → number_with r.chords.items (slice_index cycle.kept c) ≡
+    (cycle.relation t).coefficient (labels + c)
 chord_number_is labels vectors cycle t c r basis shows lt member =
     ap (λ l. number_with l (slice_index cycle.kept c)) shows.chords
     ∙ ⊎_elim
@@ -108,17 +114,24 @@ one_differs : pos 1 ≢ pos 0
 one_differs e = omega (arith, ints)
 
 -- the multiplier times the count
-product_made : (k : LabelCount) (multiplier count : Fraction) → k.multiplier ≡ ratio_of multiplier → ratio_of count ≡ whole k.count → (r : Result Fraction Wide) → IsProduct (numerator_of multiplier) (denominator_of multiplier) (numerator_of count) (denominator_of count) r → mul k.multiplier (whole k.count) (shown_result ratio_of r)
+product_made : (k : LabelCount) (multiplier count : Fraction) → k.multiplier ≡ ratio_of multiplier → ratio_of count ≡ whole k.count → (r : Result Fraction Wide)
+    → IsProduct (numerator_of multiplier) (denominator_of multiplier) (numerator_of count) (denominator_of count) r
+    → mul k.multiplier (whole k.count) (shown_result ratio_of r)
 product_made k multiplier count is whole_count r told = subst (λ f. mul f (whole k.count) (shown_result ratio_of r)) (sym is) (subst (λ f. mul (ratio_of multiplier) f (shown_result ratio_of r)) whole_count (mul_step multiplier count r told))
 
-pub count_first : (cycle : CycleBasis) (c : ℕ) (k : LabelCount) (multiplier count : Fraction) → k.multiplier ≡ ratio_of multiplier → ratio_of count ≡ whole k.count → (w : Wide) → IsProduct (numerator_of multiplier) (denominator_of multiplier) (numerator_of count) (denominator_of count) (Err w) → count_fold cycle c k (Err w)
+pub count_first : (cycle : CycleBasis) (c : ℕ) (k : LabelCount) (multiplier count : Fraction) → k.multiplier ≡ ratio_of multiplier → ratio_of count ≡ whole k.count
+    → (w : Wide) → IsProduct (numerator_of multiplier) (denominator_of multiplier) (numerator_of count) (denominator_of count) (Err w) → count_fold cycle c k (Err w)
 count_first cycle c k multiplier count is whole_count w told = inl (product_made k multiplier count is whole_count (Err w) told)
 
-module _ (cycle : CycleBasis) (c : ℕ) (k : LabelCount) (multiplier count number : Fraction) (n d : ℤ) (is : k.multiplier ≡ ratio_of multiplier) (whole_count : ratio_of count ≡ whole k.count) (value : IsValue number n d) (nonzero : d ≢ pos 0) (same_n : n ≡ (cycle.relation k.label).coefficient c) (same_d : d ≡ (cycle.relation k.label).d) where
+module _ (cycle : CycleBasis) (c : ℕ) (k : LabelCount) (multiplier count number : Fraction) (n d : ℤ) (is : k.multiplier ≡ ratio_of multiplier)
+    (whole_count : ratio_of count ≡ whole k.count) (value : IsValue number n d) (nonzero : d ≢ pos 0) (same_n : n ≡ (cycle.relation k.label).coefficient c)
+    (same_d : d ≡ (cycle.relation k.label).d) where
   second : quotient ((cycle.relation k.label).coefficient c) (cycle.relation k.label).d (Ok (ratio_of number))
   second = subst (λ z. quotient z (cycle.relation k.label).d (Ok (ratio_of number))) same_n (subst (λ z. quotient n z (Ok (ratio_of number))) same_d (new_step number n d nonzero value))
 
-  pub count_made : (f : Fraction) (r : Result Fraction Wide) → IsProduct (numerator_of multiplier) (denominator_of multiplier) (numerator_of count) (denominator_of count) (Ok f) → IsProduct (numerator_of f) (denominator_of f) (numerator_of number) (denominator_of number) r → count_fold cycle c k (shown_result ratio_of r)
+  pub count_made : (f : Fraction) (r : Result Fraction Wide) → IsProduct (numerator_of multiplier) (denominator_of multiplier) (numerator_of count)
+      (denominator_of count) (Ok f) → IsProduct (numerator_of f) (denominator_of f) (numerator_of number) (denominator_of number) r
+      → count_fold cycle c k (shown_result ratio_of r)
   count_made f (Ok g) told told' = (ratio_of f, product_made k multiplier count is whole_count (Ok f) told, (ratio_of number, second, mul_step f number (Ok g) told'))
   count_made f (Err w) told told' = inr (ratio_of f, product_made k multiplier count is whole_count (Ok f) told, inr (ratio_of number, second, mul_step f number (Err w) told'))
 
@@ -141,7 +154,9 @@ module _ (cycle : CycleBasis) (c : ℕ) (k : LabelCount) (multiplier none : Frac
 
 -- the opposite fraction is the negated one
 pub opposite_is : (f g : Fraction) → IsValue g (neg_ℤ (numerator_of f)) (denominator_of f) → ratio_of g ≡ negated (ratio_of f)
-opposite_is f g value = ratio_one (ratio_of g) (negated (ratio_of f)) (neg_ℤ (numerator_of f)) (denominator_of f) (new_step g (neg_ℤ (numerator_of f)) (denominator_of f) (positive_differs (denominator_of f) f.positive) value) (record { nonzero = positive_differs (denominator_of f) f.positive; positive = f.positive; reduced = IsGcd-neg_first (numerator_of f) _ 1 f.reduced; value = refl })
+opposite_is f g value = ratio_one (ratio_of g) (negated (ratio_of f)) (neg_ℤ (numerator_of f)) (denominator_of f)
+    (new_step g (neg_ℤ (numerator_of f)) (denominator_of f) (positive_differs (denominator_of f) f.positive) value)
+    (record { nonzero = positive_differs (denominator_of f) f.positive; positive = f.positive; reduced = IsGcd-neg_first (numerator_of f) _ 1 f.reduced; value = refl })
 
 -- ---- all counts
 

@@ -12,7 +12,7 @@ use Rattle.rg_integers.specs.Sum.{sum_over}
 use Rattle.rg_integers.proofs.Ring.{ring, mul-add, add-mul, mul-neg, mul_assoc, mul_left_comm}
 use Rattle.rg_integers.proofs.Order.{mul-cancel, mul-cancel_left, mul_positive, positive_differs}
 use Rattle.rg_integers.proofs.ListSums.{sum_over-same, sum_over-append, sum_over-map, sum_over-plus, sum_over-times, sum_over-swap}
-use Rattle.rg_fraction.specs.declared.term.Wide.{Wide}
+use Rattle.rg_integers.specs.declared.term.Wide.{Wide}
 use Rattle.rg_refuting.specs.Expression.{Variable, Expression, value_in}
 use Rattle.rg_refuting.specs.Row.{RowName}
 use Rattle.rg_refuting.specs.Refutes.{NamedRow}
@@ -76,7 +76,9 @@ pair_bottom tree basis expression c p k (x, first, (q, is, (_, _, r))) = r.posit
 pub chord_bottom : (lts : System) (tree : List Arc) (basis : CycleBasis) (expression : RowName → Expression) (shares : List Share) (c : ℕ) (x : Ratio) → chord_fold lts tree basis expression shares c (Ok x) → pos 0 <ℤ x.bottom
 chord_bottom lts tree basis expression shares c x (h, sum, e) = subst (λ (r : Ratio). pos 0 <ℤ r.bottom) (sym e) (joined_bottom (pair_fold tree basis expression (labels lts + c)) h (pairs_of shares (dependent_labels (labels lts) basis)) (pair_bottom tree basis expression (labels lts + c)) sum)
 
-module _ (lts : System) (tree : List Arc) (basis : CycleBasis) (expression : RowName → Expression) (shares : List Share) (m b : ℤ) (part : ℕ → ℤ) (divides : AllDivide (map (λ r. r.bottom) (map (λ s. s.multiplier) shares)) m) (exact : (t : ℕ) → Contains (dependent_labels (labels lts) basis) t → b ≡ (basis.relation t).d *ℤ part t) where
+module _ (lts : System) (tree : List Arc) (basis : CycleBasis) (expression : RowName → Expression) (shares : List Share) (m b : ℤ) (part : ℕ → ℤ)
+    (divides : AllDivide (map (λ r. r.bottom) (map (λ s. s.multiplier) shares)) m)
+    (exact : (t : ℕ) → Contains (dependent_labels (labels lts) basis) t → b ≡ (basis.relation t).d *ℤ part t) where
   -- what a pair gives the chord c, over m * b
   abbrev pub pair_value : ℕ → Pair → ℤ
   pair_value c p = (whole_in m p.share.multiplier *ℤ count_of tree (expression p.share.name).terms p.label) *ℤ ((basis.relation p.label).coefficient (labels lts + c) *ℤ part p.label)
@@ -88,7 +90,9 @@ module _ (lts : System) (tree : List Arc) (basis : CycleBasis) (expression : Row
   pair_over c p k has (x, first, (q, is, second)) =
       let (has_share, has_label) = in_pairs shares (dependent_labels (labels lts) basis) p has in
       product_over (m *ℤ pos 1) b x q k (whole_in m p.share.multiplier *ℤ count_of tree (expression p.share.name).terms p.label) ((basis.relation p.label).coefficient (labels lts + c) *ℤ part p.label) second
-      (product_over m (pos 1) p.share.multiplier (whole (count_of tree (expression p.share.name).terms p.label)) x (whole_in m p.share.multiplier) (count_of tree (expression p.share.name).terms p.label) first (whole_in_over m p.share.multiplier (divides_share m shares p.share divides has_share)) (whole_over_one (count_of tree (expression p.share.name).terms p.label)))
+      (product_over m (pos 1) p.share.multiplier (whole (count_of tree (expression p.share.name).terms p.label)) x (whole_in m p.share.multiplier)
+      (count_of tree (expression p.share.name).terms p.label) first (whole_in_over m p.share.multiplier (divides_share m shares p.share divides has_share))
+      (whole_over_one (count_of tree (expression p.share.name).terms p.label)))
       (subst (λ z. IsOver z q ((basis.relation p.label).coefficient (labels lts + c) *ℤ part p.label)) (sym (exact p.label has_label)) (quotient_over ((basis.relation p.label).coefficient (labels lts + c)) (basis.relation p.label).d (part p.label) q is))
 
   one_chord : (c : ℕ) (x : Ratio) → chord_fold lts tree basis expression shares c (Ok x) → Divides x.bottom m → whole_in m x *ℤ b ≡ neg_ℤ (chord_value c)
@@ -106,7 +110,10 @@ module _ (lts : System) (tree : List Arc) (basis : CycleBasis) (expression : Row
       go : chord_fold lts tree basis expression shares c (Ok x) → whole_in m x *ℤ b ≡ neg_ℤ (chord_value c)
       go (h, sum, e) =
           close x.top x.bottom m b (whole_in m x) (neg_ℤ (chord_value c)) (positive_differs x.bottom (chord_bottom lts tree basis expression shares c x fold))
-          (subst (λ (r : Ratio). IsOver ((m *ℤ pos 1) *ℤ b) r (neg_ℤ (chord_value c))) (sym e) (negated_over ((m *ℤ pos 1) *ℤ b) h (chord_value c) (joined_sum ((m *ℤ pos 1) *ℤ b) (pair_fold tree basis expression (labels lts + c)) (pair_value c) h (pairs_of shares (dependent_labels (labels lts) basis)) sum (pair_over c))))
+          (subst (λ (r : Ratio). IsOver ((m *ℤ pos 1) *ℤ b) r (neg_ℤ (chord_value c))) (sym e)
+          (negated_over ((m *ℤ pos 1) *ℤ b) h (chord_value c)
+          (joined_sum ((m *ℤ pos 1) *ℤ b) (pair_fold tree basis expression (labels lts + c)) (pair_value c) h
+          (pairs_of shares (dependent_labels (labels lts) basis)) sum (pair_over c))))
           (whole_in_over m x d)
 
   -- the chords with their multipliers, at what g says of each
@@ -116,7 +123,9 @@ module _ (lts : System) (tree : List Arc) (basis : CycleBasis) (expression : Row
     where
       none : (b : ℤ) → pos 0 *ℤ b ≡ neg_ℤ (pos 0)
       none b = omega (arith, ints)
-  chords_sum g (c ∷ cs) xs (x, fold, (rest, each_is, e)) d = subst (λ l. AllDivide (map (λ r. r.bottom) l) m → sum_over (λ r. r.multiplier *ℤ g r.arc) (arc_times (map (used_chord lts tree basis) (c ∷ cs)) (map (whole_in m) l)) *ℤ b ≡ neg_ℤ (sum_over (λ c. g (used_chord lts tree basis c) *ℤ chord_value c) (c ∷ cs))) (sym e) (λ d'. go d' (λ d''. chords_sum g cs rest each_is d'')) d
+  chords_sum g (c ∷ cs) xs (x, fold, (rest, each_is, e)) d = subst
+      (λ l. AllDivide (map (λ r. r.bottom) l) m → sum_over (λ r. r.multiplier *ℤ g r.arc) (arc_times (map (used_chord lts tree basis) (c ∷ cs)) (map (whole_in m) l)) *ℤ
+      b ≡ neg_ℤ (sum_over (λ c. g (used_chord lts tree basis c) *ℤ chord_value c) (c ∷ cs))) (sym e) (λ d'. go d' (λ d''. chords_sum g cs rest each_is d'')) d
     where
       close : (z g s b v t : ℤ) → z *ℤ b ≡ neg_ℤ v → s *ℤ b ≡ neg_ℤ t → ((z *ℤ g) +ℤ s) *ℤ b ≡ neg_ℤ ((g *ℤ v) +ℤ t)
       close z g s b v t p q = add-mul (z *ℤ g) s b ∙ ap₂ ◌+ℤ◌ (turn z g b ∙ ap (λ y. g *ℤ y) p) q ∙ shut g v t
@@ -127,7 +136,11 @@ module _ (lts : System) (tree : List Arc) (basis : CycleBasis) (expression : Row
           shut : (g v t : ℤ) → (g *ℤ neg_ℤ v) +ℤ neg_ℤ t ≡ neg_ℤ ((g *ℤ v) +ℤ t)
           shut g v t = rw mul-neg (omega (arith, ints))
 
-      go : AllDivide (map (λ r. r.bottom) (x ∷ rest)) m → (AllDivide (map (λ r. r.bottom) rest) m → sum_over (λ r. r.multiplier *ℤ g r.arc) (arc_times (map (used_chord lts tree basis) cs) (map (whole_in m) rest)) *ℤ b ≡ neg_ℤ (sum_over (λ c. g (used_chord lts tree basis c) *ℤ chord_value c) cs)) → sum_over (λ r. r.multiplier *ℤ g r.arc) (arc_times (map (used_chord lts tree basis) (c ∷ cs)) (map (whole_in m) (x ∷ rest))) *ℤ b ≡ neg_ℤ (sum_over (λ c. g (used_chord lts tree basis c) *ℤ chord_value c) (c ∷ cs))
+      go : AllDivide (map (λ r. r.bottom) (x ∷ rest)) m
+          → (AllDivide (map (λ r. r.bottom) rest) m → sum_over (λ r. r.multiplier *ℤ g r.arc) (arc_times (map (used_chord lts tree basis) cs) (map (whole_in m) rest)) *ℤ
+          b ≡ neg_ℤ (sum_over (λ c. g (used_chord lts tree basis c) *ℤ chord_value c) cs))
+          → sum_over (λ r. r.multiplier *ℤ g r.arc) (arc_times (map (used_chord lts tree basis) (c ∷ cs)) (map (whole_in m) (x ∷ rest))) *ℤ b ≡ neg_ℤ
+          (sum_over (λ c. g (used_chord lts tree basis c) *ℤ chord_value c) (c ∷ cs))
       go (here, d) ih = close (whole_in m x) (g (used_chord lts tree basis c)) _ b (chord_value c) _ (one_chord c x fold here) (ih d)
 
   -- ---- at all numbers along the tree
@@ -161,11 +174,15 @@ module _ (lts : System) (tree : List Arc) (basis : CycleBasis) (expression : Row
   -- the value of one named row, times the bottoms
   row_away : (is : IsBasis lts tree basis) (start : ℤ) (effect : ℕ → ℤ) (s : Share) → All (IsTermWithin (states lts) (labels lts)) (expression s.name).terms
       → (b *ℤ (taken lts tree basis is effect).times) *ℤ value_in (numbers_along lts tree start effect) (expression s.name).terms
-      ≡ (b *ℤ value_in (numbers_along lts tree ((taken lts tree basis is effect).times *ℤ start) (taken lts tree basis is effect).v) (expression s.name).terms) +ℤ ((taken lts tree basis is effect).times *ℤ sum_over (λ t. count_of tree (expression s.name).terms t *ℤ (part t *ℤ chords_at lts tree basis is effect t)) (dependent_labels (labels lts) basis))
+      ≡ (b *ℤ value_in (numbers_along lts tree ((taken lts tree basis is effect).times *ℤ start) (taken lts tree basis is effect).v) (expression s.name).terms) +ℤ
+      ((taken lts tree basis is effect).times *ℤ sum_over (λ t. count_of tree (expression s.name).terms t *ℤ (part t *ℤ chords_at lts tree basis is effect t))
+      (dependent_labels (labels lts) basis))
   row_away is start effect s within =
       ap (λ z. (b *ℤ (taken lts tree basis is effect).times) *ℤ z) (rewritten lts tree start effect (expression s.name).terms names)
       ∙ close b (taken lts tree basis is effect).times (start_of (expression s.name).terms) start _ _ _ (counts_away lts tree basis is effect (count_of tree (expression s.name).terms) part b exact)
-      ∙ ap (λ z. (b *ℤ z) +ℤ ((taken lts tree basis is effect).times *ℤ sum_over (λ t. count_of tree (expression s.name).terms t *ℤ (part t *ℤ chords_at lts tree basis is effect t)) (dependent_labels (labels lts) basis))) (sym (rewritten lts tree ((taken lts tree basis is effect).times *ℤ start) (taken lts tree basis is effect).v (expression s.name).terms names))
+      ∙ ap (λ z. (b *ℤ z) +ℤ ((taken lts tree basis is effect).times *ℤ sum_over
+      (λ t. count_of tree (expression s.name).terms t *ℤ (part t *ℤ chords_at lts tree basis is effect t)) (dependent_labels (labels lts) basis)))
+      (sym (rewritten lts tree ((taken lts tree basis is effect).times *ℤ start) (taken lts tree basis is effect).v (expression s.name).terms names))
     where
       names : NamesLabels (labels lts) (expression s.name).terms
       names = within_names (states lts) (labels lts) (expression s.name).terms within
@@ -180,7 +197,9 @@ module _ (lts : System) (tree : List Arc) (basis : CycleBasis) (expression : Row
           shut b x v a = simp ring (omega (arith, ints))
 
   -- the named rows and the chords cancel
-  pub rows_cancel : (fine : IsInRange lts) (g : IsTree lts tree) (is : IsBasis lts tree basis) → pos 0 <ℤ b → AreRowsWithin lts expression shares → RefuteOnArcs lts expression (weighted m shares) → (xs : List Ratio) → each (chord_fold lts tree basis expression shares) (used_chords lts basis) (Ok xs) → AllDivide (map (λ r. r.bottom) xs) m → (start : ℤ) (effect : ℕ → ℤ)
+  pub rows_cancel : (fine : IsInRange lts) (g : IsTree lts tree) (is : IsBasis lts tree basis) → pos 0 <ℤ b → AreRowsWithin lts expression shares
+      → RefuteOnArcs lts expression (weighted m shares) → (xs : List Ratio) → each (chord_fold lts tree basis expression shares) (used_chords lts basis) (Ok xs)
+      → AllDivide (map (λ r. r.bottom) xs) m → (start : ℤ) (effect : ℕ → ℤ)
       → terms_sum expression (weighted m shares) (numbers_along lts tree start effect) +ℤ sum_over (λ r. r.multiplier *ℤ chord_sum lts tree effect r.arc) (arc_times (map (used_chord lts tree basis) (used_chords lts basis)) (map (whole_in m) xs)) ≡ pos 0
   rows_cancel fine g is positive within refute xs folds d start effect =
       close b (taken lts tree basis is effect).times _ _ _ (positive_differs _ (mul_positive b (taken lts tree basis is effect).times positive (taken lts tree basis is effect).positive)) rows (chords_sum (chord_sum lts tree effect) (used_chords lts basis) xs folds d)
@@ -189,11 +208,24 @@ module _ (lts : System) (tree : List Arc) (basis : CycleBasis) (expression : Row
       rows =
           ap (λ z. (b *ℤ (taken lts tree basis is effect).times) *ℤ z) (named_sum (numbers_along lts tree start effect))
           ∙ sym (sum_over-times (b *ℤ (taken lts tree basis is effect).times) (λ s. whole_in m s.multiplier *ℤ value_in (numbers_along lts tree start effect) (expression s.name).terms) shares)
-          ∙ sum_over-same _ (λ s. (b *ℤ (whole_in m s.multiplier *ℤ value_in (numbers_along lts tree ((taken lts tree basis is effect).times *ℤ start) (taken lts tree basis is effect).v) (expression s.name).terms)) +ℤ ((taken lts tree basis is effect).times *ℤ (whole_in m s.multiplier *ℤ sum_over (λ t. count_of tree (expression s.name).terms t *ℤ (part t *ℤ chords_at lts tree basis is effect t)) (dependent_labels (labels lts) basis)))) shares (λ s has. one s has)
-          ∙ sum_over-plus (λ s. b *ℤ (whole_in m s.multiplier *ℤ value_in (numbers_along lts tree ((taken lts tree basis is effect).times *ℤ start) (taken lts tree basis is effect).v) (expression s.name).terms)) (λ s. (taken lts tree basis is effect).times *ℤ (whole_in m s.multiplier *ℤ sum_over (λ t. count_of tree (expression s.name).terms t *ℤ (part t *ℤ chords_at lts tree basis is effect t)) (dependent_labels (labels lts) basis))) shares
+          ∙ sum_over-same _ (λ s. (b *ℤ (whole_in m s.multiplier *ℤ value_in
+          (numbers_along lts tree ((taken lts tree basis is effect).times *ℤ start) (taken lts tree basis is effect).v) (expression s.name).terms)) +ℤ
+          ((taken lts tree basis is effect).times *ℤ
+          (whole_in m s.multiplier *ℤ sum_over (λ t. count_of tree (expression s.name).terms t *ℤ (part t *ℤ chords_at lts tree basis is effect t))
+          (dependent_labels (labels lts) basis)))) shares (λ s has. one s has)
+          ∙ sum_over-plus (λ s. b *ℤ (whole_in m s.multiplier *ℤ value_in
+          (numbers_along lts tree ((taken lts tree basis is effect).times *ℤ start) (taken lts tree basis is effect).v) (expression s.name).terms))
+          (λ s. (taken lts tree basis is effect).times *ℤ
+          (whole_in m s.multiplier *ℤ sum_over (λ t. count_of tree (expression s.name).terms t *ℤ (part t *ℤ chords_at lts tree basis is effect t))
+          (dependent_labels (labels lts) basis))) shares
           ∙ ap₂ ◌+ℤ◌
-          (sum_over-times b (λ s. whole_in m s.multiplier *ℤ value_in (numbers_along lts tree ((taken lts tree basis is effect).times *ℤ start) (taken lts tree basis is effect).v) (expression s.name).terms) shares ∙ ap (λ z. b *ℤ z) (sym (named_sum (numbers_along lts tree ((taken lts tree basis is effect).times *ℤ start) (taken lts tree basis is effect).v)) ∙ refute.cancel (numbers_along lts tree ((taken lts tree basis is effect).times *ℤ start) (taken lts tree basis is effect).v) kept) ∙ times_zero b)
-          (sum_over-times (taken lts tree basis is effect).times (λ s. whole_in m s.multiplier *ℤ sum_over (λ t. count_of tree (expression s.name).terms t *ℤ (part t *ℤ chords_at lts tree basis is effect t)) (dependent_labels (labels lts) basis)) shares ∙ ap (λ z. (taken lts tree basis is effect).times *ℤ z) (both_ways is effect))
+          (sum_over-times b (λ s. whole_in m s.multiplier *ℤ value_in
+          (numbers_along lts tree ((taken lts tree basis is effect).times *ℤ start) (taken lts tree basis is effect).v) (expression s.name).terms) shares
+          ∙ ap (λ z. b *ℤ z) (sym (named_sum (numbers_along lts tree ((taken lts tree basis is effect).times *ℤ start) (taken lts tree basis is effect).v))
+          ∙ refute.cancel (numbers_along lts tree ((taken lts tree basis is effect).times *ℤ start) (taken lts tree basis is effect).v) kept) ∙ times_zero b)
+          (sum_over-times (taken lts tree basis is effect).times
+          (λ s. whole_in m s.multiplier *ℤ sum_over (λ t. count_of tree (expression s.name).terms t *ℤ (part t *ℤ chords_at lts tree basis is effect t))
+          (dependent_labels (labels lts) basis)) shares ∙ ap (λ z. (taken lts tree basis is effect).times *ℤ z) (both_ways is effect))
           ∙ first _
         where
           times_zero : (z : ℤ) → z *ℤ pos 0 ≡ pos 0
@@ -205,8 +237,19 @@ module _ (lts : System) (tree : List Arc) (basis : CycleBasis) (expression : Row
           kept : KeepsEachArc lts (numbers_along lts tree ((taken lts tree basis is effect).times *ℤ start) (taken lts tree basis is effect).v)
           kept = (effects_exact lts tree basis ((taken lts tree basis is effect).times *ℤ start) (taken lts tree basis is effect).v fine g is).1 (taken_follows lts tree basis is effect)
 
-          one : (s : Share) → Contains shares s → (b *ℤ (taken lts tree basis is effect).times) *ℤ (whole_in m s.multiplier *ℤ value_in (numbers_along lts tree start effect) (expression s.name).terms) ≡ (b *ℤ (whole_in m s.multiplier *ℤ value_in (numbers_along lts tree ((taken lts tree basis is effect).times *ℤ start) (taken lts tree basis is effect).v) (expression s.name).terms)) +ℤ ((taken lts tree basis is effect).times *ℤ (whole_in m s.multiplier *ℤ sum_over (λ t. count_of tree (expression s.name).terms t *ℤ (part t *ℤ chords_at lts tree basis is effect t)) (dependent_labels (labels lts) basis)))
-          one s has = mul_left_comm (b *ℤ (taken lts tree basis is effect).times) (whole_in m s.multiplier) (value_in (numbers_along lts tree start effect) (expression s.name).terms) ∙ ap (λ z. whole_in m s.multiplier *ℤ z) (row_away is start effect s (All-contains (λ (u : Share). All (IsTermWithin (states lts) (labels lts)) (expression u.name).terms) shares s within has)) ∙ shut (whole_in m s.multiplier) b (value_in (numbers_along lts tree ((taken lts tree basis is effect).times *ℤ start) (taken lts tree basis is effect).v) (expression s.name).terms) (taken lts tree basis is effect).times (sum_over (λ t. count_of tree (expression s.name).terms t *ℤ (part t *ℤ chords_at lts tree basis is effect t)) (dependent_labels (labels lts) basis))
+          one : (s : Share) → Contains shares s → (b *ℤ (taken lts tree basis is effect).times) *ℤ
+              (whole_in m s.multiplier *ℤ value_in (numbers_along lts tree start effect) (expression s.name).terms) ≡
+              (b *ℤ (whole_in m s.multiplier *ℤ value_in (numbers_along lts tree ((taken lts tree basis is effect).times *ℤ start) (taken lts tree basis is effect).v)
+              (expression s.name).terms)) +ℤ ((taken lts tree basis is effect).times *ℤ
+              (whole_in m s.multiplier *ℤ sum_over (λ t. count_of tree (expression s.name).terms t *ℤ (part t *ℤ chords_at lts tree basis is effect t))
+              (dependent_labels (labels lts) basis)))
+          one s has = mul_left_comm (b *ℤ (taken lts tree basis is effect).times) (whole_in m s.multiplier)
+              (value_in (numbers_along lts tree start effect) (expression s.name).terms)
+              ∙ ap (λ z. whole_in m s.multiplier *ℤ z)
+              (row_away is start effect s (All-contains (λ (u : Share). All (IsTermWithin (states lts) (labels lts)) (expression u.name).terms) shares s within has))
+              ∙ shut (whole_in m s.multiplier) b (value_in (numbers_along lts tree ((taken lts tree basis is effect).times *ℤ start) (taken lts tree basis is effect).v)
+              (expression s.name).terms) (taken lts tree basis is effect).times
+              (sum_over (λ t. count_of tree (expression s.name).terms t *ℤ (part t *ℤ chords_at lts tree basis is effect t)) (dependent_labels (labels lts) basis))
             where
               shut : (z b v n a : ℤ) → z *ℤ ((b *ℤ v) +ℤ (n *ℤ a)) ≡ (b *ℤ (z *ℤ v)) +ℤ (n *ℤ (z *ℤ a))
               shut z b v n a = simp ring (omega (arith, ints))

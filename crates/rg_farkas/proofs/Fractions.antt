@@ -9,7 +9,7 @@ use Rattle.rg_integers.specs.Sum.{sum_over}
 use Rattle.rg_integers.proofs.Ring.{ring}
 use Rattle.rg_integers.proofs.Order.{mul-cancel}
 use Rattle.rg_integers.proofs.Divisors.{exact}
-use Rattle.rg_fraction.specs.declared.term.Wide.{Wide}
+use Rattle.rg_integers.specs.declared.term.Wide.{Wide}
 use Rattle.rg_order_of_work.specs.Fold.{each, further, joined, Ratio, whole, add, mul}
 use Rattle.rg_order_of_work.specs.Placing.{negated}
 use Rattle.rg_order_of_work.specs.Rewriting.{Scaled, scaled_fold}

@@ -11,7 +11,7 @@ use Rattle.rg_lts.specs.WellFormed.{IsWellFormed}
 use Rattle.rg_integers.specs.Range.{InRange}
 use Rattle.rg_order_of_work.proofs.Lists.{where_is}
 use Rattle.rg_linear.specs.Cycle.{CycleBasis}
-use Rattle.rg_fraction.specs.declared.term.Wide.{Wide}
+use Rattle.rg_integers.specs.declared.term.Wide.{Wide}
 use Rattle.rg_fraction.specs.declared.fraction.Fraction.{Fraction}
 use Rattle.rg_refuting.specs.Expression.{Expression}
 use Rattle.rg_refuting.specs.Row.{RowName}
@@ -30,7 +30,7 @@ use Rattle.rg_farkas.specs.View.{LabelCount, pair_count, count_fold, counts_fold
 use Rattle.rg_farkas.proofs.ChordSums.{in_pairs}
 use Rattle.rg_farkas.proofs.ChordNumbers.{IsDependent}
 use Rattle.rg_farkas.proofs.Listed.{zeros-append}
-use Rattle.rg_cycles.proofs.Items.{each_length}
+use Rattle.rg_order_of_work.proofs.Items.{each_length}
 use Rattle.rg_farkas.proofs.Steps.{joined-map}
 use Rattle.rg_farkas.proofs.Told.{each_told}
 
@@ -162,7 +162,10 @@ shared_names (r ∷ named) = ap (λ l. ratio_of r.1 ∷ l) (shared_names named)
 pub fractions_are : (named : List (CodeName × Fraction)) (seen shares fs seen' : List Fraction) → seen ≡ shares → fs ≡ map (λ r. r.1) named ++ seen → seen' ≡ fs → map ratio_of seen' ≡ map (λ s. s.multiplier) (map share_of named) ++ map ratio_of shares
 fractions_are named seen shares fs seen' e made e' = ap (map ratio_of) (e' ∙ made ∙ ap (λ l. map (λ r. r.1) named ++ l) e) ∙ map-append ratio_of (map (λ r. r.1) named) shares ∙ ap (λ l. l ++ map ratio_of shares) (shared_names named)
 
-pub numbered_length : (named : List (CodeName × Fraction)) (lts : System) (tree : List Arc) (basis : CycleBasis) (seen used : List ℕ) (shares seen' fs seen'' : List Fraction) (numbers numbers' : List ℤ) (chords chords' : List Arc) → length shares ≡ length seen → seen ≡ used → used ≡ used_chords lts basis → seen' ≡ shares → fs ≡ map (λ r. r.1) named ++ seen' → seen'' ≡ fs → length numbers ≡ length seen'' → numbers' ≡ numbers → chords ≡ chord_arcs lts tree basis → chords' ≡ chords → length numbers' ≡ length named + length chords'
+pub numbered_length : (named : List (CodeName × Fraction)) (lts : System) (tree : List Arc) (basis : CycleBasis) (seen used : List ℕ)
+    (shares seen' fs seen'' : List Fraction) (numbers numbers' : List ℤ) (chords chords' : List Arc) → length shares ≡ length seen → seen ≡ used
+    → used ≡ used_chords lts basis → seen' ≡ shares → fs ≡ map (λ r. r.1) named ++ seen' → seen'' ≡ fs → length numbers ≡ length seen'' → numbers' ≡ numbers
+    → chords ≡ chord_arcs lts tree basis → chords' ≡ chords → length numbers' ≡ length named + length chords'
 numbered_length named lts tree basis seen used shares seen' fs seen'' numbers numbers' chords chords' a b c d e f g h i j =
     ap length h ∙ g ∙ ap length (f ∙ e ∙ ap (λ l. map (λ r. r.1) named ++ l) d) ∙ simp (length-append, length-map) (ap (λ n. length named + n) (a ∙ ap length (b ∙ c) ∙ sym (ap length (j ∙ i) ∙ length-map (used_chords lts basis) (λ c. chord_at lts tree (slice_index_or basis.kept c 0)))))
 
@@ -173,13 +176,19 @@ module _ (lts : System) (tree : List Arc) (basis : CycleBasis) (named : List (Co
   abbrev names : List RowName
   names = map (λ s. s.name) (map share_of named)
 
-  pub listed_are : (chords chords' : List Arc) (numbers numbers' : List ℤ) (listed : List (CodeName × ℤ)) → chords' ≡ chords → chords ≡ chord_arcs lts tree basis → numbers' ≡ numbers → map named_row listed ≡ named_from (map (λ s. s.name) (map share_of named) ++ map arc_name chords') numbers' → map named_row listed ≡ named_from (map (λ s. s.name) (map share_of named) ++ map arc_name (chord_arcs lts tree basis)) numbers
+  pub listed_are : (chords chords' : List Arc) (numbers numbers' : List ℤ) (listed : List (CodeName × ℤ)) → chords' ≡ chords → chords ≡ chord_arcs lts tree basis
+      → numbers' ≡ numbers → map named_row listed ≡ named_from (map (λ s. s.name) (map share_of named) ++ map arc_name chords') numbers'
+      → map named_row listed ≡ named_from (map (λ s. s.name) (map share_of named) ++ map arc_name (chord_arcs lts tree basis)) numbers
   listed_are chords chords' numbers numbers' listed a b c d = d ∙ ap₂ (λ l n. named_from (names ++ map arc_name l) n) (a ∙ b) c
 
   pub listed_range : (numbers : List ℤ) (listed listed' : List (CodeName × ℤ)) → listed' ≡ listed → map named_row listed ≡ named_from (map (λ s. s.name) (map share_of named) ++ map arc_name (chord_arcs lts tree basis)) numbers → All InRange numbers → All (λ r. InRange r.1) listed'
   listed_range numbers listed listed' e is all = rows_range listed' (named_from (names ++ map arc_name (chord_arcs lts tree basis)) numbers) (ap (map named_row) e ∙ is) (named_range (names ++ map arc_name (chord_arcs lts tree basis)) numbers all)
 
-  pub tree_made : (expression : RowName → Expression) (listed listed' : List (CodeName × ℤ)) (rows rows' : List Row) (tree' : List Arc) (numbers : List ℤ) → listed' ≡ listed → map named_row listed ≡ named_from (map (λ s. s.name) (map share_of named) ++ map arc_name (chord_arcs lts tree basis)) numbers → map named_of rows ≡ map named_row listed' → All (Tells expression) rows → rows' ≡ rows → tree' ≡ tree → (r : Result (List ArcTimes) Wide) → ((e : RowName → Expression) → All (Tells e) rows' → tree_fold e (map named_of rows') [] (reverse tree') r) → tree_fold expression (named_from (map (λ s. s.name) (map share_of named) ++ map arc_name (chord_arcs lts tree basis)) numbers) [] (reverse tree) r
+  pub tree_made : (expression : RowName → Expression) (listed listed' : List (CodeName × ℤ)) (rows rows' : List Row) (tree' : List Arc) (numbers : List ℤ)
+      → listed' ≡ listed → map named_row listed ≡ named_from (map (λ s. s.name) (map share_of named) ++ map arc_name (chord_arcs lts tree basis)) numbers
+      → map named_of rows ≡ map named_row listed' → All (Tells expression) rows → rows' ≡ rows → tree' ≡ tree → (r : Result (List ArcTimes) Wide)
+      → ((e : RowName → Expression) → All (Tells e) rows' → tree_fold e (map named_of rows') [] (reverse tree') r)
+      → tree_fold expression (named_from (map (λ s. s.name) (map share_of named) ++ map arc_name (chord_arcs lts tree basis)) numbers) [] (reverse tree) r
   tree_made expression listed listed' rows rows' tree' numbers a b c told d e r h =
       subst (λ l. tree_fold expression (named_from (names ++ map arc_name (chord_arcs lts tree basis)) numbers) [] (reverse l) r) e
       (subst (λ l. tree_fold expression l [] (reverse tree') r) (ap (map named_of) d ∙ c ∙ ap (map named_row) a ∙ b) (h expression (subst (All (Tells expression)) (sym d) told)))
@@ -187,7 +196,8 @@ module _ (lts : System) (tree : List Arc) (basis : CycleBasis) (named : List (Co
   pub parted : (tree' : List Arc) (numbers numbers' ms ms' parts : List ℤ) → tree' ≡ tree → numbers' ≡ numbers → ms' ≡ ms → length ms ≡ length tree' → IsParts (numbers' ++ ms') parts → IsParts (numbers ++ map (λ x. x.multiplier) (arc_times tree ms)) parts
   parted tree' numbers numbers' ms ms' parts e a b same h = subst (λ l. IsParts (numbers ++ l) parts) (b ∙ sym (times_numbers tree ms (same ∙ ap length e))) (subst (λ l. IsParts (l ++ ms') parts) a h)
 
-  pub leaf_is : (tree' tree'' arcs arcs' cs cs' system : List Arc) (ms parts parts' parts'' : List ℤ) (leaf done : List (CodeName × ℤ)) → tree' ≡ tree → tree'' ≡ tree → length ms ≡ length tree' → cs' ≡ cs → cs ≡ chord_arcs lts tree basis → arcs ≡ cs' ++ tree'' → arcs' ≡ arcs → system ≡ lts.arcs → parts' ≡ parts → parts'' ≡ parts
+  pub leaf_is : (tree' tree'' arcs arcs' cs cs' system : List Arc) (ms parts parts' parts'' : List ℤ) (leaf done : List (CodeName × ℤ)) → tree' ≡ tree → tree'' ≡ tree
+      → length ms ≡ length tree' → cs' ≡ cs → cs ≡ chord_arcs lts tree basis → arcs ≡ cs' ++ tree'' → arcs' ≡ arcs → system ≡ lts.arcs → parts' ≡ parts → parts'' ≡ parts
       → map named_row leaf ≡ not_zero (named_from (map (λ s. s.name) (map share_of named)) parts')
       → map named_row done ≡ map named_row leaf ++ not_zero (map (λ a. record { multiplier = multiplier_among arcs' (take (length parts'' - length named) (drop (length named) parts'')) a; name = arc_name a }) system)
       → map named_row done ≡ not_zero (named_from (map (λ s. s.name) (map share_of named)) parts ++ map (λ a. record { multiplier = multiplier_among (chord_arcs lts tree basis ++ map (λ x. x.arc) (arc_times tree ms)) (drop (length (map share_of named)) parts) a; name = arc_name a }) lts.arcs)
@@ -202,19 +212,41 @@ module _ (lts : System) (tree : List Arc) (basis : CycleBasis) (named : List (Co
       all_parts : take (length parts'' - length named) (drop (length named) parts'') ≡ drop (length (map share_of named)) parts
       all_parts = take_all (length parts'' - length named) (drop (length named) parts'') (simp length-drop (omega arith)) ∙ ap (drop (length named)) p' ∙ ap (λ n. drop n parts) (sym (length-map named share_of))
 
-      last : map {B = NamedRow} (λ a. record { multiplier = multiplier_among arcs' (take (length parts'' - length named) (drop (length named) parts'')) a; name = arc_name a }) system ≡ map {B = NamedRow} (λ a. record { multiplier = multiplier_among (chord_arcs lts tree basis ++ map (λ x. x.arc) (arc_times tree ms)) (drop (length (map share_of named)) parts) a; name = arc_name a }) lts.arcs
-      last = ap₂ (λ x y. map {B = NamedRow} (λ a. record { multiplier = multiplier_among x y a; name = arc_name a }) system) all_arcs all_parts ∙ ap (map {B = NamedRow} (λ a. record { multiplier = multiplier_among (chord_arcs lts tree basis ++ map (λ x. x.arc) (arc_times tree ms)) (drop (length (map share_of named)) parts) a; name = arc_name a })) s
+      last : map {B = NamedRow} (λ a. record {
+        multiplier = multiplier_among arcs' (take (length parts'' - length named) (drop (length named) parts'')) a;
+        name = arc_name a;
+      }) system ≡ map {B = NamedRow}
+          (λ a. record {
+            multiplier = multiplier_among (chord_arcs lts tree basis ++ map (λ x. x.arc) (arc_times tree ms)) (drop (length (map share_of named)) parts) a;
+            name = arc_name a;
+          }) lts.arcs
+      last = ap₂ (λ x y. map {B = NamedRow} (λ a. record { multiplier = multiplier_among x y a; name = arc_name a }) system) all_arcs all_parts
+          ∙ ap (map {B = NamedRow} (λ a. record {
+            multiplier = multiplier_among (chord_arcs lts tree basis ++ map (λ x. x.arc) (arc_times tree ms))
+                (drop (length (map share_of named)) parts) a;
+            name = arc_name a;
+          })) s
 
-  pub leaf_range : (arcs : List Arc) (parts zs : List ℤ) (leaf : List (CodeName × ℤ)) → map named_row leaf ≡ not_zero (named_from (map (λ s. s.name) (map share_of named)) parts ++ map (λ a. record { multiplier = multiplier_among arcs (drop (length (map share_of named)) parts) a; name = arc_name a }) lts.arcs) → All InRange parts → All (λ r. InRange r.1) leaf
+  pub leaf_range : (arcs : List Arc) (parts zs : List ℤ) (leaf : List (CodeName × ℤ))
+      → map named_row leaf ≡ not_zero (named_from (map (λ s. s.name) (map share_of named)) parts ++ map
+      (λ a. record { multiplier = multiplier_among arcs (drop (length (map share_of named)) parts) a; name = arc_name a }) lts.arcs) → All InRange parts
+      → All (λ r. InRange r.1) leaf
   leaf_range arcs parts zs leaf is all = rows_range leaf (not_zero (named_from names parts ++ map (λ a. record { multiplier = multiplier_among arcs (drop (length (map share_of named)) parts) a; name = arc_name a }) lts.arcs)) is
       (not_zero_all (λ r. InRange r.multiplier) (named_from names parts ++ map (λ a. record { multiplier = multiplier_among arcs (drop (length (map share_of named)) parts) a; name = arc_name a }) lts.arcs)
-      (All-append (λ r. InRange r.multiplier) (named_from names parts) (map (λ a. record { multiplier = multiplier_among arcs (drop (length (map share_of named)) parts) a; name = arc_name a }) lts.arcs) (named_range names parts all) (arcs_range lts.arcs arcs (drop (length (map share_of named)) parts) (All-drop InRange (length (map share_of named)) parts all))))
+      (All-append (λ r. InRange r.multiplier) (named_from names parts)
+      (map (λ a. record { multiplier = multiplier_among arcs (drop (length (map share_of named)) parts) a; name = arc_name a }) lts.arcs)
+      (named_range names parts all) (arcs_range lts.arcs arcs (drop (length (map share_of named)) parts) (All-drop InRange (length (map share_of named)) parts all))))
 
-  pub checked_as : (expression : RowName → Expression) (done done' : List (CodeName × ℤ)) (rows rows' : List Row) (l : List NamedRow) → map named_row done ≡ l → done' ≡ done → map named_of rows ≡ map named_row done' → rows' ≡ rows → All (Tells expression) rows → (r : Result (List NamedRow) Wide) → ((e : RowName → Expression) → All (Tells e) rows' → checked_leaf lts e (map named_of rows') r) → checked_leaf lts expression l r
+  pub checked_as : (expression : RowName → Expression) (done done' : List (CodeName × ℤ)) (rows rows' : List Row) (l : List NamedRow) → map named_row done ≡ l
+      → done' ≡ done → map named_of rows ≡ map named_row done' → rows' ≡ rows → All (Tells expression) rows → (r : Result (List NamedRow) Wide)
+      → ((e : RowName → Expression) → All (Tells e) rows' → checked_leaf lts e (map named_of rows') r) → checked_leaf lts expression l r
   checked_as expression done done' rows rows' l is a b c told r h = subst (λ x. checked_leaf lts expression x r) (ap (map named_of) c ∙ b ∙ ap (map named_row) a ∙ is) (h expression (subst (All (Tells expression)) (sym c) told))
 
 -- the arcs' parts are enough
-pub enough_parts : (named : List (CodeName × Fraction)) (tree' tree'' arcs arcs' chords chords' chords'' : List Arc) (numbers numbers' numbers'' ms ms' parts parts' : List ℤ) → length numbers'' ≡ length named + length chords'' → numbers'' ≡ numbers → chords'' ≡ chords → numbers' ≡ numbers → ms' ≡ ms → length ms ≡ length tree' → tree' ≡ tree'' → IsParts (numbers' ++ ms') parts → chords' ≡ chords → arcs ≡ chords' ++ tree'' → arcs' ≡ arcs → parts' ≡ parts → length arcs' ≤ length (take (length parts' - length named) (drop (length named) parts'))
+pub enough_parts : (named : List (CodeName × Fraction)) (tree' tree'' arcs arcs' chords chords' chords'' : List Arc)
+    (numbers numbers' numbers'' ms ms' parts parts' : List ℤ) → length numbers'' ≡ length named + length chords'' → numbers'' ≡ numbers → chords'' ≡ chords
+    → numbers' ≡ numbers → ms' ≡ ms → length ms ≡ length tree' → tree' ≡ tree'' → IsParts (numbers' ++ ms') parts → chords' ≡ chords → arcs ≡ chords' ++ tree''
+    → arcs' ≡ arcs → parts' ≡ parts → length arcs' ≤ length (take (length parts' - length named) (drop (length named) parts'))
 enough_parts named tree' tree'' arcs arcs' chords chords' chords'' numbers numbers' numbers'' ms ms' parts parts' a b c d e f g h i j k l =
     let p = parts_length (numbers' ++ ms') parts h in
     let q : length (numbers' ++ ms') ≡ length numbers' + length ms' = simp length-append refl in

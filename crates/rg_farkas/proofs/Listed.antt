@@ -16,7 +16,7 @@ use Rattle.rg_refuting.specs.Refutes.{NamedRow}
 use Rattle.rg_order_of_work.specs.Spreading.{named_from, not_zero, multiplier_among, arc_name}
 use Rattle.rg_order_of_work.proofs.Potentials.{among_is}
 use Rattle.rg_farkas.specs.View.{arc_times}
-use Rattle.rg_cycles.proofs.Items.{from_place}
+use Rattle.rg_order_of_work.proofs.Items.{from_place}
 
 -- what g of the rows' names adds up to, each times its multiplier
 abbrev pub rows_sum : (RowName → ℤ) → List NamedRow → ℤ
@@ -141,7 +141,9 @@ arcs_sum g all (b ∷ arcs) (z ∷ zs) differ (lacks, differ') inside le =
   where
     split : (a : Arc) → (if same_arc b a then z else multiplier_among arcs zs a) *ℤ g a ≡ (if same_arc b a then z *ℤ g a else pos 0) +ℤ (multiplier_among arcs zs a *ℤ g a)
     split a = ⊎_elim
-        (λ is. ap (λ t. (if t then z else multiplier_among arcs zs a) *ℤ g a) is ∙ last (z *ℤ g a) ∙ sym (ap₂ (λ t y. (if t then z *ℤ g a else pos 0) +ℤ (y *ℤ g a)) is (none_among arcs zs a (λ has. lacks (subst (Contains arcs) (sym (arc_is b a is)) has))) ∙ ap (λ y. (z *ℤ g a) +ℤ y) (zero-*ℤ (g a))))
+        (λ is. ap (λ t. (if t then z else multiplier_among arcs zs a) *ℤ g a) is ∙ last (z *ℤ g a)
+        ∙ sym (ap₂ (λ t y. (if t then z *ℤ g a else pos 0) +ℤ (y *ℤ g a)) is (none_among arcs zs a (λ has. lacks (subst (Contains arcs) (sym (arc_is b a is)) has)))
+        ∙ ap (λ y. (z *ℤ g a) +ℤ y) (zero-*ℤ (g a))))
         (λ not_is. ap (λ t. (if t then z else multiplier_among arcs zs a) *ℤ g a) not_is ∙ first (multiplier_among arcs zs a *ℤ g a) ∙ sym (ap (λ t. (if t then z *ℤ g a else pos 0) +ℤ (multiplier_among arcs zs a *ℤ g a)) not_is))
         (cases_Bool (same_arc b a))
       where
@@ -165,7 +167,10 @@ pub leaf_sum : (g : RowName → ℤ) (names : List RowName) (all arcs : List Arc
 leaf_sum g names all arcs zs differ differ' inside le =
     without_zeros g _
     ∙ sum_over-append (λ r. r.multiplier *ℤ g r.name) (named_from names zs) _
-    ∙ ap (λ z. rows_sum g (named_from names zs) +ℤ z) (sum_over-map (λ r. r.multiplier *ℤ g r.name) (λ a. record { multiplier = multiplier_among arcs (drop (length names) zs) a; name = arc_name a }) all ∙ arcs_sum (λ a. g (arc_name a)) all arcs (drop (length names) zs) differ differ' inside (rest names zs (length arcs) le) ∙ sym (arcs_named g arcs (drop (length names) zs)))
+    ∙ ap (λ z. rows_sum g (named_from names zs) +ℤ z)
+    (sum_over-map (λ r. r.multiplier *ℤ g r.name) (λ a. record { multiplier = multiplier_among arcs (drop (length names) zs) a; name = arc_name a }) all
+    ∙ arcs_sum (λ a. g (arc_name a)) all arcs (drop (length names) zs) differ differ' inside (rest names zs (length arcs) le)
+    ∙ sym (arcs_named g arcs (drop (length names) zs)))
     ∙ sym (sum_over-append (λ r. r.multiplier *ℤ g r.name) (named_from names zs) (named_from (map arc_name arcs) (drop (length names) zs)))
     ∙ ap (rows_sum g) (sym (named-append names (map arc_name arcs) zs (omega arith)))
   where
@@ -176,6 +181,8 @@ leaf_sum g names all arcs zs differ differ' inside le =
 
 -- ---- the multiplier of an arc, found place by place
 
-pub among_next : (arcs : List Arc) (numbers : List ℤ) (k : ℕ) (d a : Arc) (z : ℤ) → k < length arcs → length arcs ≤ length numbers → false ≡ same_arc (slice_index_or arcs k d) a → multiplier_among (drop k arcs) (drop k numbers) a ≡ z → multiplier_among (drop (k + 1) arcs) (drop (k + 1) numbers) a ≡ z
+pub among_next : (arcs : List Arc) (numbers : List ℤ) (k : ℕ) (d a : Arc) (z : ℤ) → k < length arcs → length arcs ≤ length numbers
+    → false ≡ same_arc (slice_index_or arcs k d) a → multiplier_among (drop k arcs) (drop k numbers) a ≡ z
+    → multiplier_among (drop (k + 1) arcs) (drop (k + 1) numbers) a ≡ z
 among_next arcs numbers k d a z lt le other so_far =
     sym (ap₂ (λ l n. multiplier_among l n a) (from_place arcs k d lt) (from_place numbers k (pos 0) (omega arith)) ∙ ap (λ b. if b then slice_index_or numbers k (pos 0) else multiplier_among (drop (k + 1) arcs) (drop (k + 1) numbers) a) (sym other)) ∙ so_far

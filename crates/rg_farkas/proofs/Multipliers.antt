@@ -115,7 +115,9 @@ module _ (lts : System) (tree : List Arc) (basis : CycleBasis) (class : Class) (
     positive = (omega (arith, ints));
     bottom = refl;
     scale = start_scale lts tree basis class form c.is_tree made ∙ once (pos (step_of class on_start));
-    value = λ z y e. mul-cancel_left (pos (step_of class on_start)) z (pos 1 *ℤ y) (positive_differs (pos (step_of class on_start)) (above (step_of class on_start) (step_positive class on_start c.numbers))) (e ∙ ap (λ m. m *ℤ y) (start_scale lts tree basis class form c.is_tree made) ∙ ap (λ m. pos (step_of class on_start) *ℤ m) (once y));
+    value = λ z y e. mul-cancel_left (pos (step_of class on_start)) z (pos 1 *ℤ y)
+        (positive_differs (pos (step_of class on_start)) (above (step_of class on_start) (step_positive class on_start c.numbers)))
+        (e ∙ ap (λ m. m *ℤ y) (start_scale lts tree basis class form c.is_tree made) ∙ ap (λ m. pos (step_of class on_start) *ℤ m) (once y));
   }
     where
       once : (z : ℤ) → z ≡ pos 1 *ℤ z
@@ -132,10 +134,16 @@ module _ (lts : System) (tree : List Arc) (basis : CycleBasis) (class : Class) (
       (cases_lt i (length case.kept))
 
   pub node_names_stand : (multiplier : ℕ → ℤ) (shares : List Share) → each (share_fold case sides named) (weights_from multiplier 0 (length node.rows)) (Ok shares) → All (λ s. RowStands lts class problem number named s.name) shares
-  node_names_stand multiplier shares made = names_all case sides named (length case.kept + length sides) multiplier (RowStands lts class problem number named) (name_told (RowStands lts class problem number named) (λ i lt. stands_below lts class problem number named (kept_at case i).name (names_stand lts class problem number (kept_at case i).name (own_row i lt).named)) (λ d lt. above_stands lts class problem number named d (named_side lts class problem (side_at sides d)) (get-map (named_side lts class problem) sides d no_side lt) (side_used d lt).2)) 0 (length node.rows) (let e = rows_length in omega arith) shares made
+  node_names_stand multiplier shares made = names_all case sides named (length case.kept + length sides) multiplier (RowStands lts class problem number named)
+      (name_told (RowStands lts class problem number named)
+      (λ i lt. stands_below lts class problem number named (kept_at case i).name (names_stand lts class problem number (kept_at case i).name (own_row i lt).named))
+      (λ d lt. above_stands lts class problem number named d (named_side lts class problem (side_at sides d)) (get-map (named_side lts class problem) sides d no_side lt)
+      (side_used d lt).2)) 0 (length node.rows) (let e = rows_length in omega arith) shares made
 
   pub node_names_in_range : length sides ≤ 2 ^ 32 → (multiplier : ℕ → ℤ) (shares : List Share) → each (share_fold case sides named) (weights_from multiplier 0 (length node.rows)) (Ok shares) → All (λ s. IsRowNameOf lts s.name) shares
-  node_names_in_range few multiplier shares made = names_all case sides named (length case.kept + length sides) multiplier (IsRowNameOf lts) (name_told (IsRowNameOf lts) (λ i lt. names_in_range lts class problem number (kept_at case i).name (own_row i lt).named) (λ d lt. (omega arith))) 0 (length node.rows) (let e = rows_length in omega arith) shares made
+  node_names_in_range few multiplier shares made = names_all case sides named (length case.kept + length sides) multiplier (IsRowNameOf lts)
+      (name_told (IsRowNameOf lts) (λ i lt. names_in_range lts class problem number (kept_at case i).name (own_row i lt).named) (λ d lt. (omega arith))) 0
+      (length node.rows) (let e = rows_length in omega arith) shares made
 
   module _ (live : IsLive lts problem) where
     abbrev columns : (x : Variable → ℤ) → KeepsEachArc lts x → List ℤ
@@ -165,7 +173,10 @@ module _ (lts : System) (tree : List Arc) (basis : CycleBasis) (class : Class) (
             none v k = omega (arith, ints)
 
         link : (x : Variable → ℤ) (keeps : KeepsEachArc lts x) → (kept_at case i).factor.bottom *ℤ dot (kept_at case i).row.coeffs (columns x keeps) ≡ (kept_at case i).factor.top *ℤ value_in x (row_expression lts class problem number [] (kept_at case i).name).terms
-        link x keeps = drop (kept_at case i).factor.bottom (kept_at case i).factor.top (dot (kept_at case i).row.coeffs (columns x keeps)) (kept_at case i).row.constant (value_in x (row_expression lts class problem number [] (kept_at case i).name).terms) (row_expression lts class problem number [] (kept_at case i).name).constant (kept_value lts tree basis class problem number case c live x keeps (pos 0) (kept_at case i) (kept_has i lt))
+        link x keeps = drop (kept_at case i).factor.bottom (kept_at case i).factor.top (dot (kept_at case i).row.coeffs (columns x keeps)) (kept_at case i).row.constant
+            (value_in x (row_expression lts class problem number [] (kept_at case i).name).terms)
+            (row_expression lts class problem number [] (kept_at case i).name).constant
+            (kept_value lts tree basis class problem number case c live x keeps (pos 0) (kept_at case i) (kept_has i lt))
 
         close : (b t v k w m : ℤ) → b *ℤ v ≡ t *ℤ w → b *ℤ (v +ℤ (k *ℤ pos 1)) ≡ t *ℤ (w +ℤ (m *ℤ pos 1)) → b *ℤ k ≡ t *ℤ m
         close b t v k w m p e = less (b *ℤ v) (b *ℤ k) (t *ℤ w) (t *ℤ m) p (sym (spread b v k) ∙ e ∙ spread t w m)
@@ -180,7 +191,10 @@ module _ (lts : System) (tree : List Arc) (basis : CycleBasis) (class : Class) (
             less a b c d p q = omega (arith, ints)
 
         constant : (kept_at case i).factor.bottom *ℤ (kept_at case i).row.constant ≡ (kept_at case i).factor.top *ℤ (row_expression lts class problem number [] (kept_at case i).name).constant
-        constant = close (kept_at case i).factor.bottom (kept_at case i).factor.top (dot (kept_at case i).row.coeffs (columns (λ v. pos 0) zero_keeps)) (kept_at case i).row.constant (value_in (λ v. pos 0) (row_expression lts class problem number [] (kept_at case i).name).terms) (row_expression lts class problem number [] (kept_at case i).name).constant (link (λ v. pos 0) zero_keeps) (kept_value lts tree basis class problem number case c live (λ v. pos 0) zero_keeps (pos 1) (kept_at case i) (kept_has i lt))
+        constant = close (kept_at case i).factor.bottom (kept_at case i).factor.top (dot (kept_at case i).row.coeffs (columns (λ v. pos 0) zero_keeps))
+            (kept_at case i).row.constant (value_in (λ v. pos 0) (row_expression lts class problem number [] (kept_at case i).name).terms)
+            (row_expression lts class problem number [] (kept_at case i).name).constant (link (λ v. pos 0) zero_keeps)
+            (kept_value lts tree basis class problem number case c live (λ v. pos 0) zero_keeps (pos 1) (kept_at case i) (kept_has i lt))
 
     -- the row of a side
     module _ (d : ℕ) (lt : d < length sides) where
@@ -219,7 +233,10 @@ module _ (lts : System) (tree : List Arc) (basis : CycleBasis) (class : Class) (
 
       form_is : (x : Variable → ℤ) (keeps : KeepsEachArc lts x) → dot form.coeffs (columns x keeps) ≡ factor *ℤ x v
       form_is x keeps = is.value (dot form.coeffs (columns x keeps)) (x v)
-          (form_value lts tree basis class problem number case c split form (own_start lts tree basis class problem number case c live x keeps) (own_effect lts tree basis class problem number case c live x keeps) made (form_named lts tree basis class problem number case side.form c.is_case (side_there d lt)).0 (λ none. absurd (true≢false (sym (side_used d lt).1 ∙ none))) (own_given lts tree basis class problem number case c live x keeps)
+          (form_value lts tree basis class problem number case c split form (own_start lts tree basis class problem number case c live x keeps)
+          (own_effect lts tree basis class problem number case c live x keeps) made
+          (form_named lts tree basis class problem number case side.form c.is_case (side_there d lt)).0 (λ none. absurd (true≢false (sym (side_used d lt).1 ∙ none)))
+          (own_given lts tree basis class problem number case c live x keeps)
           ∙ ap (λ b. form.scale *ℤ numbers_along lts tree (if b then x (tokens_at lts.initial) else pos 0) (own_effect lts tree basis class problem number case c live x keeps) v) (side_used d lt).1
           ∙ ap (λ z. form.scale *ℤ z) (sym (same_used lts tree basis class problem number case c live x keeps v (side_used d lt).0)))
 
@@ -268,8 +285,16 @@ module _ (lts : System) (tree : List Arc) (basis : CycleBasis) (class : Class) (
 
     row_told : (i : ℕ) → i < length case.kept + length sides → Told (name_of case i) (factor_of case sides named i) (row_at node i)
     row_told i lt = ⊎_elim
-        (λ front. subst (λ b. Told (if b then (kept_at case i).name else above_row (i - length case.kept)) (if b then (kept_at case i).factor else split_factor (named_at named (i - length case.kept)).form (form_at case.forms (side_at sides (i - length case.kept)).form)) (row_at node i)) (sym (below_test i (length case.kept) front)) (subst (Told (kept_at case i).name (kept_at case i).factor) (sym (front_row i front)) (kept_told i front)))
-        (λ back. subst (λ b. Told (if b then (kept_at case i).name else above_row (i - length case.kept)) (if b then (kept_at case i).factor else split_factor (named_at named (i - length case.kept)).form (form_at case.forms (side_at sides (i - length case.kept)).form)) (row_at node i)) (sym (past_test i (length case.kept) back)) (subst (Told (above_row (i - length case.kept)) (split_factor (named_at named (i - length case.kept)).form (form_at case.forms (side_at sides (i - length case.kept)).form))) (sym (back_row i back lt)) (side_told (i - length case.kept) (omega arith))))
+        (λ front. subst (λ b. Told (if b then (kept_at case i).name else above_row (i - length case.kept))
+        (if b then (kept_at case i).factor else split_factor (named_at named (i - length case.kept)).form
+        (form_at case.forms (side_at sides (i - length case.kept)).form)) (row_at node i)) (sym (below_test i (length case.kept) front))
+        (subst (Told (kept_at case i).name (kept_at case i).factor) (sym (front_row i front)) (kept_told i front)))
+        (λ back. subst (λ b. Told (if b then (kept_at case i).name else above_row (i - length case.kept))
+        (if b then (kept_at case i).factor else split_factor (named_at named (i - length case.kept)).form
+        (form_at case.forms (side_at sides (i - length case.kept)).form)) (row_at node i)) (sym (past_test i (length case.kept) back))
+        (subst (Told (above_row (i - length case.kept))
+        (split_factor (named_at named (i - length case.kept)).form (form_at case.forms (side_at sides (i - length case.kept)).form))) (sym (back_row i back lt))
+        (side_told (i - length case.kept) (omega arith))))
         (cases_lt i (length case.kept))
 
     -- ---- the law
@@ -284,18 +309,29 @@ module _ (lts : System) (tree : List Arc) (basis : CycleBasis) (class : Class) (
 
         cancel : sum_below (length node.rows) (λ i. multiplier i *ℤ worth i) ≡ pos 0
         cancel =
-            sum_below-same (length node.rows) (λ i. multiplier i *ℤ worth i) (λ i. sum_below case.columns (λ j. multiplier i *ℤ (entry node i j *ℤ number_at (columns x keeps) j))) (λ i lt. ap (λ z. multiplier i *ℤ z) (value_is i) ∙ sym (sum_below-times case.columns (multiplier i) (λ j. entry node i j *ℤ number_at (columns x keeps) j)))
+            sum_below-same (length node.rows) (λ i. multiplier i *ℤ worth i)
+            (λ i. sum_below case.columns (λ j. multiplier i *ℤ (entry node i j *ℤ number_at (columns x keeps) j)))
+            (λ i lt. ap (λ z. multiplier i *ℤ z) (value_is i)
+            ∙ sym (sum_below-times case.columns (multiplier i) (λ j. entry node i j *ℤ number_at (columns x keeps) j)))
             ∙ sum_below-swap (length node.rows) case.columns (λ i j. multiplier i *ℤ (entry node i j *ℤ number_at (columns x keeps) j))
-            ∙ sum_below-zero case.columns (λ j. sum_below (length node.rows) (λ i. multiplier i *ℤ (entry node i j *ℤ number_at (columns x keeps) j))) (λ j lt. sum_below-same (length node.rows) (λ i. multiplier i *ℤ (entry node i j *ℤ number_at (columns x keeps) j)) (λ i. number_at (columns x keeps) j *ℤ (multiplier i *ℤ entry node i j)) (λ i lt'. turn (multiplier i) (entry node i j) (number_at (columns x keeps) j)) ∙ sum_below-times (length node.rows) (number_at (columns x keeps) j) (λ i. multiplier i *ℤ entry node i j) ∙ ap (λ z. number_at (columns x keeps) j *ℤ z) (farkas.cancels j lt) ∙ *ℤ-zero (number_at (columns x keeps) j))
+            ∙ sum_below-zero case.columns (λ j. sum_below (length node.rows) (λ i. multiplier i *ℤ (entry node i j *ℤ number_at (columns x keeps) j)))
+            (λ j lt. sum_below-same (length node.rows) (λ i. multiplier i *ℤ (entry node i j *ℤ number_at (columns x keeps) j))
+            (λ i. number_at (columns x keeps) j *ℤ (multiplier i *ℤ entry node i j)) (λ i lt'. turn (multiplier i) (entry node i j) (number_at (columns x keeps) j))
+            ∙ sum_below-times (length node.rows) (number_at (columns x keeps) j) (λ i. multiplier i *ℤ entry node i j)
+            ∙ ap (λ z. number_at (columns x keeps) j *ℤ z) (farkas.cancels j lt) ∙ *ℤ-zero (number_at (columns x keeps) j))
           where
             turn : (m e v : ℤ) → m *ℤ (e *ℤ v) ≡ v *ℤ (m *ℤ e)
             turn m e v = simp ring
 
       pub node_shares_refute : SharesRefute lts (row_expression lts class problem number named) shares
       node_shares_refute = record {
-        positive = shares_positive case sides named (length case.kept + length sides) multiplier (λ i lt. farkas.not_negative i (subst (λ n. i < n) (sym rows_length) lt)) (λ i lt. let (top, bottom, _, _) = row_told i lt in (top, bottom)) 0 (length node.rows) (let e = rows_length in omega arith) shares made;
+        positive = shares_positive case sides named (length case.kept + length sides) multiplier
+            (λ i lt. farkas.not_negative i (subst (λ n. i < n) (sym rows_length) lt)) (λ i lt. let (top, bottom, _, _) = row_told i lt in (top, bottom)) 0
+            (length node.rows) (let e = rows_length in omega arith) shares made;
         refute = λ scale rows positive are. record {
-          cancel = λ x keeps. shares_sum case sides named (length case.kept + length sides) multiplier scale (λ name. value_in x (row_expression lts class problem number named name).terms) (worth x keeps) (λ i lt. (row_told i lt).1) (λ i lt. (row_told i lt).2 x keeps) (length node.rows) rows_length shares rows made are ∙ ap (λ z. scale *ℤ z) (cancel x keeps) ∙ *ℤ-zero scale;
+          cancel = λ x keeps. shares_sum case sides named (length case.kept + length sides) multiplier scale
+              (λ name. value_in x (row_expression lts class problem number named name).terms) (worth x keeps) (λ i lt. (row_told i lt).1)
+              (λ i lt. (row_told i lt).2 x keeps) (length node.rows) rows_length shares rows made are ∙ ap (λ z. scale *ℤ z) (cancel x keeps) ∙ *ℤ-zero scale;
           contradict = negative scale rows positive are;
         };
       }
@@ -305,5 +341,8 @@ module _ (lts : System) (tree : List Arc) (basis : CycleBasis) (class : Class) (
 
           negative : (scale : ℤ) (rows : List NamedRow) → pos 0 <ℤ scale → AreShares scale shares rows → constant_sum (row_expression lts class problem number named) rows <ℤ pos 0
           negative scale rows positive are =
-              subst (λ z. z <ℤ pos 0) (sym (shares_sum case sides named (length case.kept + length sides) multiplier scale (λ name. (row_expression lts class problem number named name).constant) (λ i. (row_at node i).constant) (λ i lt. (row_told i lt).1) (λ i lt. (row_told i lt).3) (length node.rows) rows_length shares rows made are ∙ turn scale (sum_below (length node.rows) (λ i. multiplier i *ℤ (row_at node i).constant))))
+              subst (λ z. z <ℤ pos 0) (sym (shares_sum case sides named (length case.kept + length sides) multiplier scale
+              (λ name. (row_expression lts class problem number named name).constant) (λ i. (row_at node i).constant) (λ i lt. (row_told i lt).1)
+              (λ i lt. (row_told i lt).3) (length node.rows) rows_length shares rows made are
+              ∙ turn scale (sum_below (length node.rows) (λ i. multiplier i *ℤ (row_at node i).constant))))
               (mul_negative (sum_below (length node.rows) (λ i. multiplier i *ℤ (row_at node i).constant)) scale farkas.contradicts positive)

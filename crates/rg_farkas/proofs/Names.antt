@@ -28,11 +28,15 @@ NamesUsed lts terms = All (λ t. IsUsed lts t.variable) terms
 -- ---- in range
 
 pub names_in_range : (lts : System) (class : Class) (problem : Problem) (number : ℕ) (name : RowName) → Contains (names_of lts class problem number) name → IsRowNameOf lts name
-names_in_range lts class (Event s t) number name has = each_name lts class (Event s t) number (IsRowNameOf lts) (each_problem_name lts class s t (IsRowNameOf lts) (λ _. tt) (λ _ _. tt) (λ _ _ q has'. state q has') (λ _ _. tt) (λ _ _ q has'. state q has')) (λ _ q lt. lt) (λ _ q lt. lt) (λ _ u lt _. lt) (λ _ u lt _. lt) (λ _ u lt _ _. lt) name has
+names_in_range lts class (Event s t) number name has = each_name lts class (Event s t) number (IsRowNameOf lts)
+    (each_problem_name lts class s t (IsRowNameOf lts) (λ _. tt) (λ _ _. tt) (λ _ _ q has'. state q has') (λ _ _. tt) (λ _ _ q has'. state q has')) (λ _ q lt. lt)
+    (λ _ q lt. lt) (λ _ u lt _. lt) (λ _ u lt _. lt) (λ _ u lt _ _. lt) name has
   where
     state : (q : ℕ) → Contains (states_with lts t) q → q < states lts
     state q has' = let (_, _, lt) = where_is (λ q. has_label_at q t lts.arcs) 0 (states lts) q has' in omega arith
-names_in_range lts class (States s s') number name has = each_name lts class (States s s') number (IsRowNameOf lts) (λ n h. ⊎_elim (λ is. subst (IsRowNameOf lts) is tt) (λ there. absurd (nothing n there)) (Contains-cons_cases apart_row n [] h)) (λ _ q lt. lt) (λ _ q lt. lt) (λ _ u lt _. lt) (λ _ u lt _. lt) (λ _ u lt _ _. lt) name has
+names_in_range lts class (States s s') number name has = each_name lts class (States s s') number (IsRowNameOf lts)
+    (λ n h. ⊎_elim (λ is. subst (IsRowNameOf lts) is tt) (λ there. absurd (nothing n there)) (Contains-cons_cases apart_row n [] h)) (λ _ q lt. lt) (λ _ q lt. lt)
+    (λ _ u lt _. lt) (λ _ u lt _. lt) (λ _ u lt _ _. lt) name has
 
 -- ---- used
 

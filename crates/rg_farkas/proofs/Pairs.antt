@@ -20,7 +20,7 @@ use Rattle.rg_reasons.specs.declared.sum.Expression.{Expression as CodeExpressio
 use Rattle.rg_reasons.specs.Sums.{expression_of}
 use Rattle.rg_farkas.specs.View.{LabelCount, pair_count, label_count, AreRowsWithin}
 use Rattle.rg_reasons.specs.Certificates.{IsTermWithin}
-use Rattle.rg_cycles.proofs.Items.{from_place}
+use Rattle.rg_order_of_work.proofs.Items.{from_place}
 
 -- labels that aren't free are labels, and no members
 pub dependent_at : (n : ℕ) (basis : CycleBasis) (ts : List ℕ) (i : ℕ) → ts ≡ dependent_labels n basis → i < length ts → (not (is_in basis.members (slice_index_or ts i 0)) ≡ true) × (slice_index_or ts i 0 < n)
@@ -52,7 +52,10 @@ module _ (lts : System) (expression : RowName → Expression) (named : List (Cod
       pair_counts tree [] = refl
       pair_counts tree (t ∷ ts) = ap (λ l. label_count tree (expression (row_name_of d.0)).terms (ratio_of d.1) t ∷ l) (pair_counts tree ts)
 
-  pub counts_next : (tree : List Arc) (ts seen : List ℕ) (e : CodeExpression) (out out' whole : List LabelCount) → seen ≡ ts → expression_of e ≡ expression (row_name_of d.0) → out' ≡ out ++ map (label_count tree (expression_of e).terms (ratio_of d.1)) seen → out ++ map (pair_count tree expression) (pairs_of (map share_of (drop i named)) ts) ≡ whole → out' ++ map (pair_count tree expression) (pairs_of (map share_of (drop (i + 1) named)) ts) ≡ whole
+  pub counts_next : (tree : List Arc) (ts seen : List ℕ) (e : CodeExpression) (out out' whole : List LabelCount) → seen ≡ ts
+      → expression_of e ≡ expression (row_name_of d.0) → out' ≡ out ++ map (label_count tree (expression_of e).terms (ratio_of d.1)) seen
+      → out ++ map (pair_count tree expression) (pairs_of (map share_of (drop i named)) ts) ≡ whole
+      → out' ++ map (pair_count tree expression) (pairs_of (map share_of (drop (i + 1) named)) ts) ≡ whole
   counts_next tree ts seen e out out' whole same told pushed so_far =
       ap (λ l. l ++ map (pair_count tree expression) (pairs_of (map share_of (drop (i + 1) named)) ts)) (pushed ∙ ap (λ l. out ++ map (label_count tree (expression_of e).terms (ratio_of d.1)) l) same ∙ ap (λ (x : Expression). out ++ map (label_count tree x.terms (ratio_of d.1)) ts) told)
       ∙ append_assoc out (map (label_count tree (expression (row_name_of d.0)).terms (ratio_of d.1)) ts) (map (pair_count tree expression) (pairs_of (map share_of (drop (i + 1) named)) ts))

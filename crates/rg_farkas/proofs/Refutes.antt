@@ -47,7 +47,7 @@ use Rattle.rg_farkas.proofs.TreeSums.{SaysArcs, Runs, tree_runs, arc_at, arc_coe
 use Rattle.rg_farkas.proofs.Variables.{RowsWithin, by_variable, terms_split, outside_sum}
 use Rattle.rg_farkas.proofs.Distinct.{given_differ, given_inside}
 use Rattle.rg_farkas.proofs.Small.{is_small}
-use Rattle.rg_cycles.proofs.Items.{each_length}
+use Rattle.rg_order_of_work.proofs.Items.{each_length}
 
 -- ---- what holds of all rows of a leaf
 
@@ -93,7 +93,9 @@ at_least_one d z y positive e h = one z (factor_positive d z (weaker d positive)
     one z h = omega (arith, ints)
 
 -- the named rows keep positive multipliers
-positive_named : (d m : ℤ) (shares : List Share) (zs more : List ℤ) → pos 0 <ℤ d → ((s : Share) → Contains shares s → pos 0 <ℤ whole_in m s.multiplier) → map (whole_in m) (map (λ s. s.multiplier) shares) ++ more ≡ map (λ z. d *ℤ z) zs → All (λ r. IsMultiplier r.multiplier r.name) (named_from (map (λ s. s.name) shares) zs)
+positive_named : (d m : ℤ) (shares : List Share) (zs more : List ℤ) → pos 0 <ℤ d → ((s : Share) → Contains shares s → pos 0 <ℤ whole_in m s.multiplier)
+    → map (whole_in m) (map (λ s. s.multiplier) shares) ++ more ≡ map (λ z. d *ℤ z) zs
+    → All (λ r. IsMultiplier r.multiplier r.name) (named_from (map (λ s. s.name) shares) zs)
 positive_named d m [] zs more positive each e = All-nil (λ r. IsMultiplier r.multiplier r.name)
 positive_named d m (s ∷ shares) [] more positive each e = All-nil (λ r. IsMultiplier r.multiplier r.name)
 positive_named d m (s ∷ shares) (z ∷ zs) more positive each e =
@@ -166,7 +168,10 @@ in_arcs arcs x has = Contains-map (λ y. y.arc) arcs x has
 arc_within : (lts : System) (expression : RowName → Expression) → IsInRange lts → SaysArcs expression → (a : Arc) → Contains lts.arcs a → All (IsTermWithin (states lts) (labels lts)) (expression (arc_name a)).terms
 arc_within lts expression fine says a has =
     let ranges = arc_in_range lts fine a.from a.label a.to has in
-    subst (λ (e : Expression). All (IsTermWithin (states lts) (labels lts)) e.terms) (sym (says a)) (All-cons (IsTermWithin (states lts) (labels lts)) (plus (tokens_at a.from)) (plus (effect_of a.label) ∷ minus (tokens_at a.to) ∷ []) ranges.0 (All-cons (IsTermWithin (states lts) (labels lts)) (plus (effect_of a.label)) (minus (tokens_at a.to) ∷ []) ranges.1 (All-cons (IsTermWithin (states lts) (labels lts)) (minus (tokens_at a.to)) [] ranges.2 (All-nil (IsTermWithin (states lts) (labels lts))))))
+    subst (λ (e : Expression). All (IsTermWithin (states lts) (labels lts)) e.terms) (sym (says a))
+    (All-cons (IsTermWithin (states lts) (labels lts)) (plus (tokens_at a.from)) (plus (effect_of a.label) ∷ minus (tokens_at a.to) ∷ []) ranges.0
+    (All-cons (IsTermWithin (states lts) (labels lts)) (plus (effect_of a.label)) (minus (tokens_at a.to) ∷ []) ranges.1
+    (All-cons (IsTermWithin (states lts) (labels lts)) (minus (tokens_at a.to)) [] ranges.2 (All-nil (IsTermWithin (states lts) (labels lts))))))
 
 all_of : (arcs : List ArcTimes) (P : Arc → Type 0) → ((x : ArcTimes) → Contains arcs x → P x.arc) → All (λ x. P x.arc) arcs
 all_of [] P has = All-nil (λ x. P x.arc)
@@ -189,7 +194,9 @@ module _ (lts : System) (tree : List Arc) (basis : CycleBasis) (expression : Row
   parts_sum : (h : RowName → ℤ) → rows_sum h all_rows ≡ (rows_sum h (weighted m shares) +ℤ sum_over (λ r. r.multiplier *ℤ h (arc_name r.arc)) (arc_times (chord_arcs lts tree basis) (map (whole_in m) xs))) +ℤ sum_over (λ x. x.multiplier *ℤ h (arc_name x.arc)) arcs
   parts_sum h =
       sum_over-append (λ r. r.multiplier *ℤ h r.name) rows_before (tree_rows arcs)
-      ∙ ap₂ ◌+ℤ◌ (sum_over-append (λ r. r.multiplier *ℤ h r.name) (weighted m shares) (named_from (map arc_name (chord_arcs lts tree basis)) (map (whole_in m) xs)) ∙ ap (λ z. rows_sum h (weighted m shares) +ℤ z) (arcs_named h (chord_arcs lts tree basis) (map (whole_in m) xs))) (sum_over-map (λ r. r.multiplier *ℤ h r.name) (λ x. record { multiplier = x.multiplier; name = arc_name x.arc }) arcs)
+      ∙ ap₂ ◌+ℤ◌ (sum_over-append (λ r. r.multiplier *ℤ h r.name) (weighted m shares) (named_from (map arc_name (chord_arcs lts tree basis)) (map (whole_in m) xs))
+      ∙ ap (λ z. rows_sum h (weighted m shares) +ℤ z) (arcs_named h (chord_arcs lts tree basis) (map (whole_in m) xs)))
+      (sum_over-map (λ r. r.multiplier *ℤ h r.name) (λ x. record { multiplier = x.multiplier; name = arc_name x.arc }) arcs)
 
   label_of : (a : Arc) → Contains (chord_arcs lts tree basis ++ tree) a → a.label < labels lts
   label_of a has = arc_label lts a fine (inside a has)
@@ -201,7 +208,18 @@ module _ (lts : System) (tree : List Arc) (basis : CycleBasis) (expression : Row
   cancel_along : (start : ℤ) (effect : ℕ → ℤ) → terms_sum expression all_rows (numbers_along lts tree start effect) ≡ pos 0
   cancel_along start effect =
       parts_sum (λ name. value_in (numbers_along lts tree start effect) (expression name).terms)
-      ∙ close (terms_sum expression (weighted m shares) (numbers_along lts tree start effect)) (sum_over (λ x. x.multiplier *ℤ value_in (numbers_along lts tree start effect) (expression (arc_name x.arc)).terms) (arc_times (chord_arcs lts tree basis) (map (whole_in m) xs))) (sum_over (λ x. x.multiplier *ℤ value_in (numbers_along lts tree start effect) (expression (arc_name x.arc)).terms) arcs) (ap (λ z. terms_sum expression (weighted m shares) (numbers_along lts tree start effect) +ℤ z) (sum_over-same _ (λ r. r.multiplier *ℤ chord_sum lts tree effect r.arc) (arc_times (chord_arcs lts tree basis) (map (whole_in m) xs)) (λ r has. ap (λ z. r.multiplier *ℤ z) (arc_value lts tree expression says start effect r.arc (label_of r.arc (Contains-append_left (chord_arcs lts tree basis) tree r.arc (in_times (chord_arcs lts tree basis) (map (whole_in m) xs) r has)))))) ∙ named) (sum_over-zero (λ x. x.multiplier *ℤ value_in (numbers_along lts tree start effect) (expression (arc_name x.arc)).terms) arcs (λ x has. ap (λ z. x.multiplier *ℤ z) (arc_value lts tree expression says start effect x.arc (label_of x.arc (Contains-append_right (chord_arcs lts tree basis) tree x.arc (tree_has x has))) ∙ tree_sum lts tree effect x.arc g (tree_has x has)) ∙ *ℤ-zero x.multiplier))
+      ∙ close (terms_sum expression (weighted m shares) (numbers_along lts tree start effect))
+      (sum_over (λ x. x.multiplier *ℤ value_in (numbers_along lts tree start effect) (expression (arc_name x.arc)).terms)
+      (arc_times (chord_arcs lts tree basis) (map (whole_in m) xs)))
+      (sum_over (λ x. x.multiplier *ℤ value_in (numbers_along lts tree start effect) (expression (arc_name x.arc)).terms) arcs)
+      (ap (λ z. terms_sum expression (weighted m shares) (numbers_along lts tree start effect) +ℤ z)
+      (sum_over-same _ (λ r. r.multiplier *ℤ chord_sum lts tree effect r.arc) (arc_times (chord_arcs lts tree basis) (map (whole_in m) xs))
+      (λ r has. ap (λ z. r.multiplier *ℤ z) (arc_value lts tree expression says start effect r.arc
+      (label_of r.arc (Contains-append_left (chord_arcs lts tree basis) tree r.arc (in_times (chord_arcs lts tree basis) (map (whole_in m) xs) r has)))))) ∙ named)
+      (sum_over-zero (λ x. x.multiplier *ℤ value_in (numbers_along lts tree start effect) (expression (arc_name x.arc)).terms) arcs
+      (λ x has. ap (λ z. x.multiplier *ℤ z) (arc_value lts tree expression says start effect x.arc
+      (label_of x.arc (Contains-append_right (chord_arcs lts tree basis) tree x.arc (tree_has x has))) ∙ tree_sum lts tree effect x.arc g (tree_has x has))
+      ∙ *ℤ-zero x.multiplier))
     where
       close : (a b c : ℤ) → a +ℤ b ≡ pos 0 → c ≡ pos 0 → (a +ℤ b) +ℤ c ≡ pos 0
       close a b c p q = omega (arith, ints)
@@ -213,12 +231,21 @@ module _ (lts : System) (tree : List Arc) (basis : CycleBasis) (expression : Row
 
   -- the rows name states and labels of the system
   rows_within : RowsWithin (states lts) (labels lts) expression all_rows
-  rows_within = All-append (λ r. All (IsTermWithin (states lts) (labels lts)) (expression r.name).terms) rows_before (tree_rows arcs) (All-append (λ r. All (IsTermWithin (states lts) (labels lts)) (expression r.name).terms) (weighted m shares) (named_from (map arc_name (chord_arcs lts tree basis)) (map (whole_in m) xs)) (All-map (λ r. All (IsTermWithin (states lts) (labels lts)) (expression r.name).terms) (λ s. record { multiplier = whole_in m s.multiplier; name = s.name }) shares within) (chords (chord_arcs lts tree basis) (map (whole_in m) xs) (λ a has. Contains-append_left (chord_arcs lts tree basis) tree a has))) (All-map (λ r. All (IsTermWithin (states lts) (labels lts)) (expression r.name).terms) (λ x. record { multiplier = x.multiplier; name = arc_name x.arc }) arcs (all_of arcs (λ a. All (IsTermWithin (states lts) (labels lts)) (expression (arc_name a)).terms) (λ x has. arc_within lts expression fine says x.arc (inside x.arc (Contains-append_right (chord_arcs lts tree basis) tree x.arc (tree_has x has))))))
+  rows_within = All-append (λ r. All (IsTermWithin (states lts) (labels lts)) (expression r.name).terms) rows_before (tree_rows arcs)
+      (All-append (λ r. All (IsTermWithin (states lts) (labels lts)) (expression r.name).terms) (weighted m shares)
+      (named_from (map arc_name (chord_arcs lts tree basis)) (map (whole_in m) xs))
+      (All-map (λ r. All (IsTermWithin (states lts) (labels lts)) (expression r.name).terms) (λ s. record { multiplier = whole_in m s.multiplier; name = s.name }) shares
+      within) (chords (chord_arcs lts tree basis) (map (whole_in m) xs) (λ a has. Contains-append_left (chord_arcs lts tree basis) tree a has)))
+      (All-map (λ r. All (IsTermWithin (states lts) (labels lts)) (expression r.name).terms) (λ x. record { multiplier = x.multiplier; name = arc_name x.arc }) arcs
+      (all_of arcs (λ a. All (IsTermWithin (states lts) (labels lts)) (expression (arc_name a)).terms)
+      (λ x has. arc_within lts expression fine says x.arc (inside x.arc (Contains-append_right (chord_arcs lts tree basis) tree x.arc (tree_has x has))))))
     where
       chords : (cs : List Arc) (zs : List ℤ) → ((a : Arc) → Contains cs a → Contains (chord_arcs lts tree basis ++ tree) a) → All (λ r. All (IsTermWithin (states lts) (labels lts)) (expression r.name).terms) (named_from (map arc_name cs) zs)
       chords [] zs has = All-nil (λ r. All (IsTermWithin (states lts) (labels lts)) (expression r.name).terms)
       chords (a ∷ cs) [] has = All-nil (λ r. All (IsTermWithin (states lts) (labels lts)) (expression r.name).terms)
-      chords (a ∷ cs) (z ∷ zs) has = All-cons (λ r. All (IsTermWithin (states lts) (labels lts)) (expression r.name).terms) (record { multiplier = z; name = arc_name a }) (named_from (map arc_name cs) zs) (arc_within lts expression fine says a (inside a (has a (0, omega arith, refl)))) (chords cs zs (λ u (k, lt, e). has u (suc k, omega arith, e)))
+      chords (a ∷ cs) (z ∷ zs) has = All-cons (λ r. All (IsTermWithin (states lts) (labels lts)) (expression r.name).terms)
+          (record { multiplier = z; name = arc_name a }) (named_from (map arc_name cs) zs)
+          (arc_within lts expression fine says a (inside a (has a (0, omega arith, refl)))) (chords cs zs (λ u (k, lt, e). has u (suc k, omega arith, e)))
 
   -- ---- variable by variable
 
@@ -231,7 +258,10 @@ module _ (lts : System) (tree : List Arc) (basis : CycleBasis) (expression : Row
   other_state : (q : ℕ) → q < states lts → q ≢ lts.initial → left_over (tokens_at q) ≡ pos 0
   other_state q lt ne =
       sum_over-append (λ r. r.multiplier *ℤ coefficient_in (expression r.name).terms (tokens_at q)) rows_before (tree_rows arcs)
-      ∙ ap (λ z. coefficient_sum expression rows_before (tokens_at q) +ℤ z) (sum_over-map (λ r. r.multiplier *ℤ coefficient_in (expression r.name).terms (tokens_at q)) (λ x. record { multiplier = x.multiplier; name = arc_name x.arc }) arcs ∙ sum_over-same _ (λ x. x.multiplier *ℤ arc_at q x.arc) arcs (λ x has. ap (λ z. x.multiplier *ℤ z) (arc_coefficient expression says x.arc q)))
+      ∙ ap (λ z. coefficient_sum expression rows_before (tokens_at q) +ℤ z)
+      (sum_over-map (λ r. r.multiplier *ℤ coefficient_in (expression r.name).terms (tokens_at q))
+      (λ x. record { multiplier = x.multiplier; name = arc_name x.arc }) arcs ∙ sum_over-same _ (λ x. x.multiplier *ℤ arc_at q x.arc) arcs
+      (λ x has. ap (λ z. x.multiplier *ℤ z) (arc_coefficient expression says x.arc q)))
       ∙ state_sum lts expression rows_before (lts.initial ∷ []) q arcs (subst (Grows lts (lts.initial ∷ [])) (sym runs.arcs_are) g) runs.balanced lacks (subst (λ l. Contains (map (λ a. a.to) l) q) (sym runs.arcs_are) entered)
     where
       lacks : ¬ Contains (lts.initial ∷ []) q
@@ -265,7 +295,9 @@ module _ (lts : System) (tree : List Arc) (basis : CycleBasis) (expression : Row
   label_cancels u lt =
       sym (sum_one (labels lts) u (λ t. left_over (effect_of t)) lt)
       ∙ first _
-      ∙ ap (λ z. z +ℤ sum_below (labels lts) (λ t. left_over (effect_of t) *ℤ only u (pos 1) t)) (sym (sum_below-zero (states lts) (λ q. left_over (tokens_at q) *ℤ potential lts tree (pos 0) (only u (pos 1)) q) (λ q lt'. ap (λ z. z *ℤ potential lts tree (pos 0) (only u (pos 1)) q) (state_cancels q lt') ∙ zero-*ℤ (potential lts tree (pos 0) (only u (pos 1)) q))))
+      ∙ ap (λ z. z +ℤ sum_below (labels lts) (λ t. left_over (effect_of t) *ℤ only u (pos 1) t))
+      (sym (sum_below-zero (states lts) (λ q. left_over (tokens_at q) *ℤ potential lts tree (pos 0) (only u (pos 1)) q)
+      (λ q lt'. ap (λ z. z *ℤ potential lts tree (pos 0) (only u (pos 1)) q) (state_cancels q lt') ∙ zero-*ℤ (potential lts tree (pos 0) (only u (pos 1)) q))))
       ∙ along_split (pos 0) (only u (pos 1))
     where
       first : (z : ℤ) → z ≡ pos 0 +ℤ z
@@ -277,7 +309,11 @@ module _ (lts : System) (tree : List Arc) (basis : CycleBasis) (expression : Row
 
   -- the constants are those of the named rows
   pub constants_are : constant_sum expression all_rows ≡ constant_sum expression (weighted m shares)
-  constants_are = parts_sum (λ name. (expression name).constant) ∙ close (constant_sum expression (weighted m shares)) (sum_over (λ r. r.multiplier *ℤ (expression (arc_name r.arc)).constant) (arc_times (chord_arcs lts tree basis) (map (whole_in m) xs))) (sum_over (λ x. x.multiplier *ℤ (expression (arc_name x.arc)).constant) arcs) (sum_over-zero (λ r. r.multiplier *ℤ (expression (arc_name r.arc)).constant) (arc_times (chord_arcs lts tree basis) (map (whole_in m) xs)) (λ r has. none r.multiplier r.arc)) (sum_over-zero (λ x. x.multiplier *ℤ (expression (arc_name x.arc)).constant) arcs (λ x has. none x.multiplier x.arc))
+  constants_are = parts_sum (λ name. (expression name).constant) ∙ close (constant_sum expression (weighted m shares))
+      (sum_over (λ r. r.multiplier *ℤ (expression (arc_name r.arc)).constant) (arc_times (chord_arcs lts tree basis) (map (whole_in m) xs)))
+      (sum_over (λ x. x.multiplier *ℤ (expression (arc_name x.arc)).constant) arcs)
+      (sum_over-zero (λ r. r.multiplier *ℤ (expression (arc_name r.arc)).constant) (arc_times (chord_arcs lts tree basis) (map (whole_in m) xs))
+      (λ r has. none r.multiplier r.arc)) (sum_over-zero (λ x. x.multiplier *ℤ (expression (arc_name x.arc)).constant) arcs (λ x has. none x.multiplier x.arc))
     where
       none : (k : ℤ) (a : Arc) → k *ℤ (expression (arc_name a)).constant ≡ pos 0
       none k a = ap (λ (e : Expression). k *ℤ e.constant) (says a) ∙ *ℤ-zero k
@@ -311,9 +347,13 @@ scaled_negative d z y positive e n = ⊎_elim (λ lt. lt) (λ le. absurd (both (
     negative_or_not (negsuc n) = inl (omega (arith, ints))
 
 module _ (lts : System) (tree : List Arc) (basis : CycleBasis) (stands : RowName → Type 0) (expression : RowName → Expression) (shares : List Share)
-    (well : IsWellFormed lts) (reached : IsAllReachable lts) (g : IsTree lts tree) (is : IsBasis lts tree basis) (says : SaysArcs expression) (arcs_stand : (a : Arc) → Contains lts.arcs a → stands (arc_name a)) (stand : All (λ s. stands s.name) shares) (within : AreRowsWithin lts expression shares) (bottoms : All (λ s. pos 0 <ℤ s.multiplier.bottom) shares) (refute : SharesRefute lts expression shares)
+    (well : IsWellFormed lts) (reached : IsAllReachable lts) (g : IsTree lts tree) (is : IsBasis lts tree basis) (says : SaysArcs expression)
+    (arcs_stand : (a : Arc) → Contains lts.arcs a → stands (arc_name a)) (stand : All (λ s. stands s.name) shares) (within : AreRowsWithin lts expression shares)
+    (bottoms : All (λ s. pos 0 <ℤ s.multiplier.bottom) shares) (refute : SharesRefute lts expression shares)
     (xs : List Ratio) (folds : each (chord_fold lts tree basis expression shares) (used_chords lts basis) (Ok xs)) (m : ℤ) (positive : pos 0 <ℤ m) (divide : AllDivide (map (λ r. r.bottom) (map (λ s. s.multiplier) shares)) m) (divide_chords : AllDivide (map (λ r. r.bottom) xs) m)
-    (arcs : List ArcTimes) (runs : Runs expression (weighted m shares ++ named_from (map arc_name (chord_arcs lts tree basis)) (map (whole_in m) xs)) tree arcs) (d : ℤ) (d_positive : pos 0 <ℤ d) (parts : List ℤ) (numbers_are : map (whole_in m) (map (λ s. s.multiplier) shares ++ xs) ++ map (λ x. x.multiplier) arcs ≡ map (λ z. d *ℤ z) parts) where
+    (arcs : List ArcTimes) (runs : Runs expression (weighted m shares ++ named_from (map arc_name (chord_arcs lts tree basis)) (map (whole_in m) xs)) tree arcs) (d : ℤ)
+    (d_positive : pos 0 <ℤ d) (parts : List ℤ)
+    (numbers_are : map (whole_in m) (map (λ s. s.multiplier) shares ++ xs) ++ map (λ x. x.multiplier) arcs ≡ map (λ z. d *ℤ z) parts) where
   abbrev leaf_rows : List NamedRow
   leaf_rows = not_zero (named_from (map (λ s. s.name) shares) parts ++ map (λ a. record { multiplier = multiplier_among (chord_arcs lts tree basis ++ map (λ x. x.arc) arcs) (drop (length shares) parts) a; name = arc_name a }) lts.arcs)
 
@@ -354,15 +394,24 @@ module _ (lts : System) (tree : List Arc) (basis : CycleBasis) (stands : RowName
       ∙ ap (λ z. d *ℤ z) (leaf_sum h (map (λ s. s.name) shares) lts.arcs (chord_arcs lts tree basis ++ map (λ x. x.arc) arcs) parts (ordered_differ lts.arcs well.arc_order) differ (λ a has. inside a (subst (λ l. Contains (chord_arcs lts tree basis ++ l) a) runs.arcs_are has)) parts_length)
       ∙ sym (named-scaled h d (map (λ s. s.name) shares ++ map arc_name (chord_arcs lts tree basis ++ map (λ x. x.arc) arcs)) parts)
       ∙ ap (λ zs. rows_sum h (named_from (map (λ s. s.name) shares ++ map arc_name (chord_arcs lts tree basis ++ map (λ x. x.arc) arcs)) zs)) (sym numbers_are)
-      ∙ ap (λ ns. rows_sum h (named_from ns (map (whole_in m) (map (λ s. s.multiplier) shares ++ xs) ++ map (λ x. x.multiplier) arcs))) (ap (λ l. map (λ s. s.name) shares ++ l) (map-append arc_name (chord_arcs lts tree basis) (map (λ x. x.arc) arcs)) ∙ sym (append_assoc (map (λ s. s.name) shares) (map arc_name (chord_arcs lts tree basis)) (map arc_name (map (λ x. x.arc) arcs))))
-      ∙ ap (rows_sum h) (named_both (map (λ s. s.name) shares ++ map arc_name (chord_arcs lts tree basis)) (map arc_name (map (λ x. x.arc) arcs)) (map (whole_in m) (map (λ s. s.multiplier) shares ++ xs)) (map (λ x. x.multiplier) arcs) names_length ∙ ap₂ (λ l k. l ++ k) (named_shares m shares (map arc_name (chord_arcs lts tree basis)) xs) (named_tree arcs))
+      ∙ ap (λ ns. rows_sum h (named_from ns (map (whole_in m) (map (λ s. s.multiplier) shares ++ xs) ++ map (λ x. x.multiplier) arcs)))
+      (ap (λ l. map (λ s. s.name) shares ++ l) (map-append arc_name (chord_arcs lts tree basis) (map (λ x. x.arc) arcs))
+      ∙ sym (append_assoc (map (λ s. s.name) shares) (map arc_name (chord_arcs lts tree basis)) (map arc_name (map (λ x. x.arc) arcs))))
+      ∙ ap (rows_sum h) (named_both (map (λ s. s.name) shares ++ map arc_name (chord_arcs lts tree basis)) (map arc_name (map (λ x. x.arc) arcs))
+      (map (whole_in m) (map (λ s. s.multiplier) shares ++ xs)) (map (λ x. x.multiplier) arcs) names_length
+      ∙ ap₂ (λ l k. l ++ k) (named_shares m shares (map arc_name (chord_arcs lts tree basis)) xs) (named_tree arcs))
     where
       differ : Differ (chord_arcs lts tree basis ++ map (λ x. x.arc) arcs)
       differ = subst (λ l. Differ (chord_arcs lts tree basis ++ l)) (sym runs.arcs_are) (given_differ lts tree basis is (ordered_differ lts.arcs well.arc_order) g)
 
   -- what holds of named rows and of arcs holds of the leaf
   all_of_leaf : (P : NamedRow → Type 0) → All P (named_from (map (λ s. s.name) shares) parts) → ((a : Arc) → Contains lts.arcs a → P (record { multiplier = multiplier_among (chord_arcs lts tree basis ++ map (λ x. x.arc) arcs) (drop (length shares) parts) a; name = arc_name a })) → All P leaf_rows
-  all_of_leaf P named has = all_not_zero P (named_from (map (λ s. s.name) shares) parts ++ map (λ a. record { multiplier = multiplier_among (chord_arcs lts tree basis ++ map (λ x. x.arc) arcs) (drop (length shares) parts) a; name = arc_name a }) lts.arcs) (All-append P (named_from (map (λ s. s.name) shares) parts) (map (λ a. record { multiplier = multiplier_among (chord_arcs lts tree basis ++ map (λ x. x.arc) arcs) (drop (length shares) parts) a; name = arc_name a }) lts.arcs) named (all_arcs P (multiplier_among (chord_arcs lts tree basis ++ map (λ x. x.arc) arcs) (drop (length shares) parts)) lts.arcs has))
+  all_of_leaf P named has = all_not_zero P
+      (named_from (map (λ s. s.name) shares) parts ++ map
+      (λ a. record { multiplier = multiplier_among (chord_arcs lts tree basis ++ map (λ x. x.arc) arcs) (drop (length shares) parts) a; name = arc_name a }) lts.arcs)
+      (All-append P (named_from (map (λ s. s.name) shares) parts)
+      (map (λ a. record { multiplier = multiplier_among (chord_arcs lts tree basis ++ map (λ x. x.arc) arcs) (drop (length shares) parts) a; name = arc_name a })
+      lts.arcs) named (all_arcs P (multiplier_among (chord_arcs lts tree basis ++ map (λ x. x.arc) arcs) (drop (length shares) parts)) lts.arcs has))
 
   arc_is_within : (a : Arc) → Contains lts.arcs a → All (IsTermWithin (states lts) (labels lts)) (expression (arc_name a)).terms
   arc_is_within a has = arc_within lts expression well.in_range says a has
@@ -370,10 +419,15 @@ module _ (lts : System) (tree : List Arc) (basis : CycleBasis) (stands : RowName
   pub refutes_with : (rows : List NamedRow) → checked_leaf lts expression leaf_rows (Ok rows) → rows ≡ leaf_rows → All (λ r. InRange r.multiplier) leaf_rows → LeafRefutes stands expression leaf_rows
   refutes_with rows checked e range = record {
     stand = all_of_leaf (λ r. stands r.name) (all_named stands shares parts stand) (λ a has. arcs_stand a has);
-    positive = all_of_leaf (λ r. IsMultiplier r.multiplier r.name) (positive_named d m shares parts (map (whole_in m) xs ++ map (λ x. x.multiplier) arcs) d_positive (λ s has. whole_positive m s.multiplier positive (All-contains (λ u. pos 0 <ℤ u.multiplier.bottom) shares s bottoms has) (All-contains (λ u. pos 0 <ℤ u.multiplier.top) shares s refute.positive has) (divides_share m shares s divide has)) first_numbers) (λ a has. tt);
+    positive = all_of_leaf (λ r. IsMultiplier r.multiplier r.name)
+        (positive_named d m shares parts (map (whole_in m) xs ++ map (λ x. x.multiplier) arcs) d_positive
+        (λ s has. whole_positive m s.multiplier positive (All-contains (λ u. pos 0 <ℤ u.multiplier.bottom) shares s bottoms has)
+        (All-contains (λ u. pos 0 <ℤ u.multiplier.top) shares s refute.positive has) (divides_share m shares s divide has)) first_numbers) (λ a has. tt);
     small = is_small lts expression leaf_rows rows (all_of_leaf (λ r. All (IsTermWithin (states lts) (labels lts)) (expression r.name).terms) (all_named (λ name. All (IsTermWithin (states lts) (labels lts)) (expression name).terms) shares parts within) arc_is_within) range checked;
     cancels = λ v. scaled_zero d (coefficient_sum expression leaf_rows v) _ d_positive (leaf_scaled (λ name. coefficient_in (expression name).terms v)) (all_cancel lts tree basis expression shares m xs arcs well.in_range reached g is says inside within folds divide divide_chords runs refuted v);
-    contradicts = scaled_negative d (constant_sum expression leaf_rows) _ d_positive (leaf_scaled (λ name. (expression name).constant)) (subst (λ z. z <ℤ pos 0) (sym (constants_are lts tree basis expression shares m xs arcs well.in_range reached g is says inside within folds divide divide_chords runs refuted)) refuted.contradict);
+    contradicts = scaled_negative d (constant_sum expression leaf_rows) _ d_positive (leaf_scaled (λ name. (expression name).constant))
+        (subst (λ z. z <ℤ pos 0) (sym (constants_are lts tree basis expression shares m xs arcs well.in_range reached g is says inside within folds divide divide_chords
+        runs refuted)) refuted.contradict);
   }
     where
       first_numbers : map (whole_in m) (map (λ s. s.multiplier) shares) ++ (map (whole_in m) xs ++ map (λ x. x.multiplier) arcs) ≡ map (λ z. d *ℤ z) parts
@@ -381,16 +435,22 @@ module _ (lts : System) (tree : List Arc) (basis : CycleBasis) (stands : RowName
 
 -- the leaf of shares that stand and refute refutes
 pub leaf_refutes : (lts : System) (tree : List Arc) (basis : CycleBasis) (stands : RowName → Type 0) (expression : RowName → Expression) (shares : List Share) (rows : List NamedRow)
-    → IsWellFormed lts → IsAllReachable lts → IsTree lts tree → IsBasis lts tree basis → SaysArcs expression → ((a : Arc) → Contains lts.arcs a → stands (arc_name a)) → All (λ s. stands s.name) shares → AreRowsWithin lts expression shares → All (λ s. pos 0 <ℤ s.multiplier.bottom) shares → SharesRefute lts expression shares
+    → IsWellFormed lts → IsAllReachable lts → IsTree lts tree → IsBasis lts tree basis → SaysArcs expression → ((a : Arc) → Contains lts.arcs a → stands (arc_name a))
+    → All (λ s. stands s.name) shares → AreRowsWithin lts expression shares → All (λ s. pos 0 <ℤ s.multiplier.bottom) shares → SharesRefute lts expression shares
     → leaf_fold lts tree basis expression shares (Ok rows) → All (λ r. InRange r.multiplier) rows → LeafRefutes stands expression rows
 leaf_refutes lts tree basis stands expression shares rows well reached g is says arcs_stand stand within bottoms refute (xs, folds, (scaled, scales, (arcs, runs_fold, (parts, parts_are, checked)))) range =
     let divides = divide_both (map (λ s. s.multiplier) shares) xs scaled.multiple (scaled_divide (map (λ s. s.multiplier) shares ++ xs) scaled scales) in
     let numbers = scaled_are (map (λ s. s.multiplier) shares ++ xs) scaled scales in
     let positive = scaled_positive (map (λ s. s.multiplier) shares ++ xs) scaled (both_positive (map (λ s. s.multiplier) shares) xs (share_bottoms shares bottoms) (chord_bottoms lts tree basis expression shares (used_chords lts basis) xs folds)) scales in
-    let runs : Runs expression (weighted scaled.multiple shares ++ named_from (map arc_name (chord_arcs lts tree basis)) (map (whole_in scaled.multiple) xs)) tree arcs = tree_runs expression _ tree arcs (subst (λ l. tree_fold expression l [] (reverse tree) (Ok arcs)) (ap (named_from (map (λ s. s.name) shares ++ map arc_name (chord_arcs lts tree basis))) numbers ∙ named_shares scaled.multiple shares (map arc_name (chord_arcs lts tree basis)) xs) runs_fold) in
+    let runs : Runs expression (weighted scaled.multiple shares ++ named_from (map arc_name (chord_arcs lts tree basis)) (map (whole_in scaled.multiple) xs)) tree arcs =
+    tree_runs expression _ tree arcs (subst (λ l. tree_fold expression l [] (reverse tree) (Ok arcs))
+    (ap (named_from (map (λ s. s.name) shares ++ map arc_name (chord_arcs lts tree basis))) numbers
+    ∙ named_shares scaled.multiple shares (map arc_name (chord_arcs lts tree basis)) xs) runs_fold) in
     let e = checked.2.2 in
     subst (λ (l : List NamedRow). LeafRefutes stands expression l) (sym e)
-    (refutes_with lts tree basis stands expression shares well reached g is says arcs_stand stand within bottoms refute xs folds scaled.multiple positive divides.0 divides.1 arcs runs (pos (max parts_are.divisor 1)) (at_least (max parts_are.divisor 1) (omega arith)) parts (ap (λ l. l ++ map (λ x. x.multiplier) arcs) (sym numbers) ∙ parts_are.parts_are) rows checked e (subst (All (λ r. InRange r.multiplier)) e range))
+    (refutes_with lts tree basis stands expression shares well reached g is says arcs_stand stand within bottoms refute xs folds scaled.multiple positive divides.0
+    divides.1 arcs runs (pos (max parts_are.divisor 1)) (at_least (max parts_are.divisor 1) (omega arith)) parts
+    (ap (λ l. l ++ map (λ x. x.multiplier) arcs) (sym numbers) ∙ parts_are.parts_are) rows checked e (subst (All (λ r. InRange r.multiplier)) e range))
   where
     at_least : (n : ℕ) → 0 < n → pos 0 <ℤ pos n
     at_least n lt = omega (arith, ints)

@@ -85,10 +85,15 @@ module _ (lts : System) (tree : List Arc) (basis : CycleBasis) (is : IsBasis lts
   row_value : (effect : ℕ → ℤ) (i : ℕ) → i < length basis.kept → values_of (chord_system lts tree basis.kept) (pos 1) effect (labels lts + i) ≡ chord_sum lts tree effect (used_chord lts tree basis i)
   row_value effect i lt =
       (values_of-point (chord_system lts tree basis.kept) (pos 1) effect (omega (arith, ints))).rows i below
-      ∙ ap₂ ◌+ℤ◌ (sum_below-same (labels lts) (λ j. entry (chord_system lts tree basis.kept) i j *ℤ values_of (chord_system lts tree basis.kept) (pos 1) effect j) (λ j. entry (chord_system lts tree basis.kept) i j *ℤ effect j) (λ j lt'. ap (λ z. entry (chord_system lts tree basis.kept) i j *ℤ z) (values_of-column (chord_system lts tree basis.kept) (pos 1) effect j lt'))) (ap (λ z. z *ℤ pos 1) (plain i below))
+      ∙ ap₂ ◌+ℤ◌ (sum_below-same (labels lts) (λ j. entry (chord_system lts tree basis.kept) i j *ℤ values_of (chord_system lts tree basis.kept) (pos 1) effect j)
+      (λ j. entry (chord_system lts tree basis.kept) i j *ℤ effect j)
+      (λ j lt'. ap (λ z. entry (chord_system lts tree basis.kept) i j *ℤ z) (values_of-column (chord_system lts tree basis.kept) (pos 1) effect j lt')))
+      (ap (λ z. z *ℤ pos 1) (plain i below))
       ∙ drop (sum_below (labels lts) (λ j. entry (chord_system lts tree basis.kept) i j *ℤ effect j))
       ∙ ap (λ (r : LinearRow). sum_below (labels lts) (λ j. slice_index_or r.coeffs j (pos 0) *ℤ effect j)) (row_is i lt)
-      ∙ ap (λ c. sum_below (labels lts) (λ j. slice_index_or c j (pos 0) *ℤ effect j)) (get_or-map (chord_vector lts tree) (chords lts tree) (slice_index_or basis.kept i 0) (record { from = 0; label = 0; to = 0 }) [] (kept_place lts tree basis.kept (slice_index_or basis.kept i 0) is.kept (Contains-get_or basis.kept i 0 lt)))
+      ∙ ap (λ c. sum_below (labels lts) (λ j. slice_index_or c j (pos 0) *ℤ effect j))
+      (get_or-map (chord_vector lts tree) (chords lts tree) (slice_index_or basis.kept i 0) (record { from = 0; label = 0; to = 0 }) []
+      (kept_place lts tree basis.kept (slice_index_or basis.kept i 0) is.kept (Contains-get_or basis.kept i 0 lt)))
       ∙ vector_sum lts tree effect (used_chord lts tree basis i)
     where
       below : i < length (chord_system lts tree basis.kept).rows
@@ -118,11 +123,18 @@ module _ (lts : System) (tree : List Arc) (basis : CycleBasis) (is : IsBasis lts
   chord_part : (k : Relation) → ((m : ℕ) → ¬ Contains basis.members m → k.coefficient m ≡ pos 0) → (v : ℕ → ℤ) → sum_below (length basis.kept) (λ i. k.coefficient (labels lts + i) *ℤ v i) ≡ sum_over (λ c. k.coefficient (labels lts + c) *ℤ v c) (used_chords lts basis)
   chord_part k over v = close _ _ _ all others
     where
-      all : sum_over (λ c. k.coefficient (labels lts + c) *ℤ v c) (used_chords lts basis) +ℤ sum_over (λ c. k.coefficient (labels lts + c) *ℤ v c) (numbers_where (λ c. not (is_in basis.members (labels lts + c))) 0 (length basis.kept)) ≡ sum_below (length basis.kept) (λ i. k.coefficient (labels lts + i) *ℤ v i)
-      all = both_sums (λ c. is_in basis.members (labels lts + c)) (λ c. k.coefficient (labels lts + c) *ℤ v c) 0 (length basis.kept) ∙ sum_below-same (length basis.kept) (λ j. k.coefficient (labels lts + (0 + j)) *ℤ v (0 + j)) (λ j. k.coefficient (labels lts + j) *ℤ v j) (λ j lt. ap (λ m. k.coefficient (labels lts + m) *ℤ v m) (none_plus j))
+      all : sum_over (λ c. k.coefficient (labels lts + c) *ℤ v c) (used_chords lts basis) +ℤ sum_over (λ c. k.coefficient (labels lts + c) *ℤ v c)
+          (numbers_where (λ c. not (is_in basis.members (labels lts + c))) 0 (length basis.kept)) ≡ sum_below (length basis.kept)
+          (λ i. k.coefficient (labels lts + i) *ℤ v i)
+      all = both_sums (λ c. is_in basis.members (labels lts + c)) (λ c. k.coefficient (labels lts + c) *ℤ v c) 0 (length basis.kept)
+          ∙ sum_below-same (length basis.kept) (λ j. k.coefficient (labels lts + (0 + j)) *ℤ v (0 + j)) (λ j. k.coefficient (labels lts + j) *ℤ v j)
+          (λ j lt. ap (λ m. k.coefficient (labels lts + m) *ℤ v m) (none_plus j))
 
       others : sum_over (λ c. k.coefficient (labels lts + c) *ℤ v c) (numbers_where (λ c. not (is_in basis.members (labels lts + c))) 0 (length basis.kept)) ≡ pos 0
-      others = sum_over-zero (λ c. k.coefficient (labels lts + c) *ℤ v c) (numbers_where (λ c. not (is_in basis.members (labels lts + c))) 0 (length basis.kept)) (λ c has. zero_times (k.coefficient (labels lts + c)) (v c) (over (labels lts + c) (not_in basis.members (labels lts + c) (is_false (is_in basis.members (labels lts + c)) (where_contains (λ u. not (is_in basis.members (labels lts + u))) 0 (length basis.kept) c has).0))))
+      others = sum_over-zero (λ c. k.coefficient (labels lts + c) *ℤ v c) (numbers_where (λ c. not (is_in basis.members (labels lts + c))) 0 (length basis.kept))
+          (λ c has. zero_times (k.coefficient (labels lts + c)) (v c)
+          (over (labels lts + c) (not_in basis.members (labels lts + c)
+          (is_false (is_in basis.members (labels lts + c)) (where_contains (λ u. not (is_in basis.members (labels lts + u))) 0 (length basis.kept) c has).0))))
 
       close : (x y s : ℤ) → x +ℤ y ≡ s → y ≡ pos 0 → s ≡ x
       close x y s e z = omega (arith, ints)
@@ -137,8 +149,14 @@ module _ (lts : System) (tree : List Arc) (basis : CycleBasis) (is : IsBasis lts
       ∙ ap (λ n. sum_below (labels lts + n) (λ m. (basis.relation t).coefficient m *ℤ values_of (chord_system lts tree basis.kept) (pos 1) effect m)) count_rows
       ∙ sum_below-split (labels lts) (length basis.kept) (λ m. (basis.relation t).coefficient m *ℤ values_of (chord_system lts tree basis.kept) (pos 1) effect m)
       ∙ ap₂ ◌+ℤ◌
-      (sum_below-same (labels lts) (λ j. (basis.relation t).coefficient j *ℤ values_of (chord_system lts tree basis.kept) (pos 1) effect j) (λ j. (basis.relation t).coefficient j *ℤ effect j) (λ j lt. ap (λ z. (basis.relation t).coefficient j *ℤ z) (values_of-column (chord_system lts tree basis.kept) (pos 1) effect j lt)) ∙ free_part (basis.relation t) (relation_row t has).over effect)
-      (sum_below-same (length basis.kept) (λ i. (basis.relation t).coefficient (labels lts + i) *ℤ values_of (chord_system lts tree basis.kept) (pos 1) effect (labels lts + i)) (λ i. (basis.relation t).coefficient (labels lts + i) *ℤ chord_sum lts tree effect (used_chord lts tree basis i)) (λ i lt. ap (λ z. (basis.relation t).coefficient (labels lts + i) *ℤ z) (row_value effect i lt)) ∙ chord_part (basis.relation t) (relation_row t has).over (λ c. chord_sum lts tree effect (used_chord lts tree basis c)))
+      (sum_below-same (labels lts) (λ j. (basis.relation t).coefficient j *ℤ values_of (chord_system lts tree basis.kept) (pos 1) effect j)
+      (λ j. (basis.relation t).coefficient j *ℤ effect j)
+      (λ j lt. ap (λ z. (basis.relation t).coefficient j *ℤ z) (values_of-column (chord_system lts tree basis.kept) (pos 1) effect j lt))
+      ∙ free_part (basis.relation t) (relation_row t has).over effect)
+      (sum_below-same (length basis.kept) (λ i. (basis.relation t).coefficient (labels lts + i) *ℤ values_of (chord_system lts tree basis.kept) (pos 1) effect
+      (labels lts + i)) (λ i. (basis.relation t).coefficient (labels lts + i) *ℤ chord_sum lts tree effect (used_chord lts tree basis i))
+      (λ i lt. ap (λ z. (basis.relation t).coefficient (labels lts + i) *ℤ z) (row_value effect i lt)) ∙ chord_part (basis.relation t) (relation_row t has).over
+      (λ c. chord_sum lts tree effect (used_chord lts tree basis c)))
     where
       drop : (a b : ℤ) → a ≡ pos 0 → (a *ℤ pos 1) +ℤ b ≡ b
       drop a b e = omega (arith, ints)
@@ -159,7 +177,10 @@ module _ (lts : System) (tree : List Arc) (basis : CycleBasis) (is : IsBasis lts
       row.holds ((taken effect).times *ℤ pos 1) (taken effect).v (taken effect).point
       ∙ drop _ _ _ (no_constant (chord_system lts tree basis.kept) basis.members t k plain row)
       ∙ sum_below-split (labels lts) (length (chord_system lts tree basis.kept).rows) (λ m. k.coefficient m *ℤ (taken effect).v m)
-      ∙ alone _ _ (sum_below-zero (length (chord_system lts tree basis.kept).rows) (λ i. k.coefficient (labels lts + i) *ℤ (taken effect).v (labels lts + i)) (λ i below. ⊎_elim (λ has. ap (λ z. k.coefficient (labels lts + i) *ℤ z) (row_taken effect i has) ∙ *ℤ-zero (k.coefficient (labels lts + i))) (λ lacks. zero_times (k.coefficient (labels lts + i)) ((taken effect).v (labels lts + i)) (row.over (labels lts + i) lacks)) (is_member basis.members (labels lts + i))))
+      ∙ alone _ _ (sum_below-zero (length (chord_system lts tree basis.kept).rows) (λ i. k.coefficient (labels lts + i) *ℤ (taken effect).v (labels lts + i))
+      (λ i below. ⊎_elim (λ has. ap (λ z. k.coefficient (labels lts + i) *ℤ z) (row_taken effect i has) ∙ *ℤ-zero (k.coefficient (labels lts + i)))
+      (λ lacks. zero_times (k.coefficient (labels lts + i)) ((taken effect).v (labels lts + i)) (row.over (labels lts + i) lacks))
+      (is_member basis.members (labels lts + i))))
     where
       drop : (a s b : ℤ) → a ≡ pos 0 → (a *ℤ s) +ℤ b ≡ b
       drop a s b e = ap (λ z. (z *ℤ s) +ℤ b) e ∙ ap (λ z. z +ℤ b) (zero-*ℤ s) ∙ left b
@@ -204,10 +225,16 @@ module _ (lts : System) (tree : List Arc) (basis : CycleBasis) (is : IsBasis lts
       both v = both_sums (λ t. is_in basis.members t) (λ u. counts u *ℤ v u) 0 (labels lts) ∙ sum_below-same (labels lts) (λ i. counts (0 + i) *ℤ v (0 + i)) (λ i. counts i *ℤ v i) (λ i lt. ap (λ k. counts k *ℤ v k) (none_plus i))
 
       free : (taken effect).times *ℤ sum_over (λ u. counts u *ℤ effect u) (free_labels (labels lts) basis) ≡ sum_over (λ u. counts u *ℤ (taken effect).v u) (free_labels (labels lts) basis)
-      free = sym (sum_over-times (taken effect).times (λ u. counts u *ℤ effect u) (free_labels (labels lts) basis)) ∙ sum_over-same (λ u. (taken effect).times *ℤ (counts u *ℤ effect u)) (λ u. counts u *ℤ (taken effect).v u) (free_labels (labels lts) basis) (λ f has. (let w = where_contains (λ u. is_in basis.members u) 0 (labels lts) f has in mul_left_comm (taken effect).times (counts f) (effect f) ∙ ap (λ z. counts f *ℤ z) (sym (free_taken effect f (omega arith) (in_has basis.members f w.0)))))
+      free = sym (sum_over-times (taken effect).times (λ u. counts u *ℤ effect u) (free_labels (labels lts) basis))
+          ∙ sum_over-same (λ u. (taken effect).times *ℤ (counts u *ℤ effect u)) (λ u. counts u *ℤ (taken effect).v u) (free_labels (labels lts) basis)
+          (λ f has. (let w = where_contains (λ u. is_in basis.members u) 0 (labels lts) f has in mul_left_comm (taken effect).times (counts f) (effect f)
+          ∙ ap (λ z. counts f *ℤ z) (sym (free_taken effect f (omega arith) (in_has basis.members f w.0)))))
 
       one : (t : ℕ) → Contains (dependent_labels (labels lts) basis) t → b *ℤ ((taken effect).times *ℤ (counts t *ℤ effect t)) ≡ (b *ℤ (counts t *ℤ (taken effect).v t)) +ℤ ((taken effect).times *ℤ (counts t *ℤ (part t *ℤ chords_at effect t)))
-      one t has = ap (λ z. z *ℤ ((taken effect).times *ℤ (counts t *ℤ effect t))) (exact t has) ∙ left (basis.relation t).d (part t) (taken effect).times (counts t) (effect t) ∙ ap (λ z. (counts t *ℤ part t) *ℤ z) (away effect t has) ∙ right (basis.relation t).d (part t) (taken effect).times (counts t) ((taken effect).v t) (chords_at effect t) ∙ ap (λ z. (z *ℤ (counts t *ℤ (taken effect).v t)) +ℤ ((taken effect).times *ℤ (counts t *ℤ (part t *ℤ chords_at effect t)))) (sym (exact t has))
+      one t has = ap (λ z. z *ℤ ((taken effect).times *ℤ (counts t *ℤ effect t))) (exact t has) ∙ left (basis.relation t).d (part t) (taken effect).times (counts t)
+          (effect t) ∙ ap (λ z. (counts t *ℤ part t) *ℤ z) (away effect t has) ∙ right (basis.relation t).d (part t) (taken effect).times (counts t) ((taken effect).v t)
+          (chords_at effect t) ∙ ap (λ z. (z *ℤ (counts t *ℤ (taken effect).v t)) +ℤ ((taken effect).times *ℤ (counts t *ℤ (part t *ℤ chords_at effect t))))
+          (sym (exact t has))
         where
           left : (d p n c e : ℤ) → (d *ℤ p) *ℤ (n *ℤ (c *ℤ e)) ≡ (c *ℤ p) *ℤ (n *ℤ (d *ℤ e))
           left d p n c e = simp ring
@@ -215,7 +242,9 @@ module _ (lts : System) (tree : List Arc) (basis : CycleBasis) (is : IsBasis lts
           right : (d p n c v s : ℤ) → (c *ℤ p) *ℤ ((d *ℤ v) +ℤ (n *ℤ s)) ≡ ((d *ℤ p) *ℤ (c *ℤ v)) +ℤ (n *ℤ (c *ℤ (p *ℤ s)))
           right d p n c v s = simp ring (omega (arith, ints))
 
-      others : b *ℤ ((taken effect).times *ℤ sum_over (λ u. counts u *ℤ effect u) (dependent_labels (labels lts) basis)) ≡ (b *ℤ sum_over (λ u. counts u *ℤ (taken effect).v u) (dependent_labels (labels lts) basis)) +ℤ ((taken effect).times *ℤ sum_over (λ t. counts t *ℤ (part t *ℤ chords_at effect t)) (dependent_labels (labels lts) basis))
+      others : b *ℤ ((taken effect).times *ℤ sum_over (λ u. counts u *ℤ effect u) (dependent_labels (labels lts) basis)) ≡
+          (b *ℤ sum_over (λ u. counts u *ℤ (taken effect).v u) (dependent_labels (labels lts) basis)) +ℤ
+          ((taken effect).times *ℤ sum_over (λ t. counts t *ℤ (part t *ℤ chords_at effect t)) (dependent_labels (labels lts) basis))
       others =
           ap (λ z. b *ℤ z) (sym (sum_over-times (taken effect).times (λ u. counts u *ℤ effect u) (dependent_labels (labels lts) basis)))
           ∙ sym (sum_over-times b (λ u. (taken effect).times *ℤ (counts u *ℤ effect u)) (dependent_labels (labels lts) basis))

@@ -3,13 +3,13 @@ use Rattle.std.proofs.Common.{◌≡◌, ◌≢◌, ℕ, ◌+◌, ◌<◌, ◌�
 use Rattle.std.specs.Prelude.{ℤ, pos, slice_index_or}
 use Rattle.std.proofs.lemmas.List.{length-map, get_or-map, drop_all}
 use Rattle.rg_theory.specs.declared.Arc.{Arc}
-use Rattle.rg_fraction.specs.declared.term.Wide.{Wide}
+use Rattle.rg_integers.specs.declared.term.Wide.{Wide}
 use Rattle.rg_refuting.specs.Expression.{Variable.tokens_at}
 use Rattle.rg_order_of_work.specs.Fold.{further, whole_sum, whole_product}
 use Rattle.rg_order_of_work.specs.Spreading.{Addend.number, addend_fold, leaving}
 use Rattle.rg_farkas.specs.declared.multiplied.Row.{Row}
 use Rattle.rg_farkas.specs.View.{row_addend, size_fold, coefficient_at, arc_times}
-use Rattle.rg_cycles.proofs.Items.{from_place}
+use Rattle.rg_order_of_work.proofs.Items.{from_place}
 use Rattle.rg_farkas.proofs.Steps.{sum_next, sum_unmade, sum_unjoined, sum_ends}
 
 -- ---- absolute values
@@ -32,7 +32,9 @@ size_ends f rows i sum so_far past = sum_ends whole_sum (size_fold f) rows i sum
 
 -- ---- the tokens at a state
 
-module _ (s : ℕ) (rows : List Row) (i : ℕ) (r : Row) (lt : i < length rows) (is : r ≡ slice_index_or rows i r) (sum : ℤ) (so_far : (res : Result ℤ Wide) → further whole_sum addend_fold sum (drop i (map (row_addend s) rows)) res → further whole_sum addend_fold (pos 0) (map (row_addend s) rows) res) where
+module _ (s : ℕ) (rows : List Row) (i : ℕ) (r : Row) (lt : i < length rows) (is : r ≡ slice_index_or rows i r) (sum : ℤ)
+    (so_far : (res : Result ℤ Wide) → further whole_sum addend_fold sum (drop i (map (row_addend s) rows)) res
+    → further whole_sum addend_fold (pos 0) (map (row_addend s) rows) res) where
   item : slice_index_or (map (row_addend s) rows) i (row_addend s r) ≡ row_addend s r
   item = get_or-map (row_addend s) rows i r (row_addend s r) lt ∙ ap (row_addend s) (sym is)
 
@@ -48,10 +50,13 @@ module _ (s : ℕ) (rows : List Row) (i : ℕ) (r : Row) (lt : i < length rows) 
   pub row_unjoined : (z : ℤ) (w : Wide) → whole_product r.multiplier (coefficient_at (tokens_at s) r) (Ok z) → whole_sum sum z (Err w) → further whole_sum addend_fold (pos 0) (map (row_addend s) rows) (Err w)
   row_unjoined z w product joins = sum_unjoined whole_sum addend_fold (map (row_addend s) rows) i (row_addend s r) within sum (further whole_sum addend_fold (pos 0) (map (row_addend s) rows)) so_far z w (product_made (Ok z) product) joins
 
-  pub row_next : (z more : ℤ) → whole_product r.multiplier (coefficient_at (tokens_at s) r) (Ok z) → whole_sum sum z (Ok more) → (res : Result ℤ Wide) → further whole_sum addend_fold more (drop (i + 1) (map (row_addend s) rows)) res → further whole_sum addend_fold (pos 0) (map (row_addend s) rows) res
+  pub row_next : (z more : ℤ) → whole_product r.multiplier (coefficient_at (tokens_at s) r) (Ok z) → whole_sum sum z (Ok more) → (res : Result ℤ Wide)
+      → further whole_sum addend_fold more (drop (i + 1) (map (row_addend s) rows)) res → further whole_sum addend_fold (pos 0) (map (row_addend s) rows) res
   row_next z more product joins = sum_next whole_sum addend_fold (map (row_addend s) rows) i (row_addend s r) within sum (further whole_sum addend_fold (pos 0) (map (row_addend s) rows)) so_far z more (product_made (Ok z) product) joins
 
-pub row_ends : (s : ℕ) (rows : List Row) (i : ℕ) (sum : ℤ) → ((res : Result ℤ Wide) → further whole_sum addend_fold sum (drop i (map (row_addend s) rows)) res → further whole_sum addend_fold (pos 0) (map (row_addend s) rows) res) → length rows ≤ i → further whole_sum addend_fold (pos 0) (map (row_addend s) rows) (Ok sum)
+pub row_ends : (s : ℕ) (rows : List Row) (i : ℕ) (sum : ℤ)
+    → ((res : Result ℤ Wide) → further whole_sum addend_fold sum (drop i (map (row_addend s) rows)) res
+    → further whole_sum addend_fold (pos 0) (map (row_addend s) rows) res) → length rows ≤ i → further whole_sum addend_fold (pos 0) (map (row_addend s) rows) (Ok sum)
 row_ends s rows i sum so_far past = sum_ends whole_sum addend_fold (map (row_addend s) rows) i sum (further whole_sum addend_fold (pos 0) (map (row_addend s) rows)) so_far (subst (λ n. n ≤ i) (sym (length-map rows (row_addend s))) past)
 
 -- ---- the arcs that leave a state
@@ -59,11 +64,15 @@ row_ends s rows i sum so_far past = sum_ends whole_sum addend_fold (map (row_add
 times_here : (arcs : List Arc) (zs : List ℤ) (k : ℕ) (d : Arc) (e : ℤ) → k < length arcs → length zs ≡ length arcs → arc_times (drop k arcs) (drop k zs) ≡ record { arc = slice_index_or arcs k d; multiplier = slice_index_or zs k e } ∷ arc_times (drop (k + 1) arcs) (drop (k + 1) zs)
 times_here arcs zs k d e lt same = ap₂ arc_times (from_place arcs k d lt) (from_place zs k e (omega arith))
 
-module _ (s : ℕ) (arcs : List Arc) (zs : List ℤ) (k : ℕ) (d : Arc) (e : ℤ) (lt : k < length arcs) (same : length zs ≡ length arcs) (sum start : ℤ) (so_far : (res : Result ℤ Wide) → further whole_sum addend_fold sum (leaving s (arc_times (drop k arcs) (drop k zs))) res → further whole_sum addend_fold start (leaving s (arc_times arcs zs)) res) where
+module _ (s : ℕ) (arcs : List Arc) (zs : List ℤ) (k : ℕ) (d : Arc) (e : ℤ) (lt : k < length arcs) (same : length zs ≡ length arcs) (sum start : ℤ)
+    (so_far : (res : Result ℤ Wide) → further whole_sum addend_fold sum (leaving s (arc_times (drop k arcs) (drop k zs))) res
+    → further whole_sum addend_fold start (leaving s (arc_times arcs zs)) res) where
   leaving_here : (b : Bool) → ((slice_index_or arcs k d).from == s) ≡ b → leaving s (arc_times (drop k arcs) (drop k zs)) ≡ (if b then (number (slice_index_or zs k e) ∷ leaving s (arc_times (drop (k + 1) arcs) (drop (k + 1) zs))) else leaving s (arc_times (drop (k + 1) arcs) (drop (k + 1) zs)))
   leaving_here b is = ap (leaving s) (times_here arcs zs k d e lt same) ∙ ap (λ c. if c then (number (slice_index_or zs k e) ∷ leaving s (arc_times (drop (k + 1) arcs) (drop (k + 1) zs))) else leaving s (arc_times (drop (k + 1) arcs) (drop (k + 1) zs))) is
 
-  pub leaving_taken : (more : ℤ) → (slice_index_or arcs k d).from ≡ s → whole_sum sum (slice_index_or zs k e) (Ok more) → (res : Result ℤ Wide) → further whole_sum addend_fold more (leaving s (arc_times (drop (k + 1) arcs) (drop (k + 1) zs))) res → further whole_sum addend_fold start (leaving s (arc_times arcs zs)) res
+  pub leaving_taken : (more : ℤ) → (slice_index_or arcs k d).from ≡ s → whole_sum sum (slice_index_or zs k e) (Ok more) → (res : Result ℤ Wide)
+      → further whole_sum addend_fold more (leaving s (arc_times (drop (k + 1) arcs) (drop (k + 1) zs))) res
+      → further whole_sum addend_fold start (leaving s (arc_times arcs zs)) res
   leaving_taken more is joins (Ok y) h = so_far (Ok y) (subst (λ l. further whole_sum addend_fold sum l (Ok y)) (sym (leaving_here true (eq-eqb (slice_index_or arcs k d).from s is))) (slice_index_or zs k e, refl, (more, joins, h)))
   leaving_taken more is joins (Err w) h = so_far (Err w) (subst (λ l. further whole_sum addend_fold sum l (Err w)) (sym (leaving_here true (eq-eqb (slice_index_or arcs k d).from s is))) (inr (slice_index_or zs k e, refl, inr (more, joins, h))))
 
@@ -73,5 +82,8 @@ module _ (s : ℕ) (arcs : List Arc) (zs : List ℤ) (k : ℕ) (d : Arc) (e : �
   pub leaving_left : (slice_index_or arcs k d).from ≢ s → (res : Result ℤ Wide) → further whole_sum addend_fold sum (leaving s (arc_times (drop (k + 1) arcs) (drop (k + 1) zs))) res → further whole_sum addend_fold start (leaving s (arc_times arcs zs)) res
   leaving_left ne res h = so_far res (subst (λ l. further whole_sum addend_fold sum l res) (sym (leaving_here false (ne_eqb (slice_index_or arcs k d).from s ne))) h)
 
-pub leaving_ends : (s : ℕ) (arcs : List Arc) (zs : List ℤ) (k : ℕ) (sum start : ℤ) → ((res : Result ℤ Wide) → further whole_sum addend_fold sum (leaving s (arc_times (drop k arcs) (drop k zs))) res → further whole_sum addend_fold start (leaving s (arc_times arcs zs)) res) → length arcs ≤ k → further whole_sum addend_fold start (leaving s (arc_times arcs zs)) (Ok sum)
+pub leaving_ends : (s : ℕ) (arcs : List Arc) (zs : List ℤ) (k : ℕ) (sum start : ℤ)
+    → ((res : Result ℤ Wide) → further whole_sum addend_fold sum (leaving s (arc_times (drop k arcs) (drop k zs))) res
+    → further whole_sum addend_fold start (leaving s (arc_times arcs zs)) res) → length arcs ≤ k → further whole_sum addend_fold start (leaving s (arc_times arcs zs))
+    (Ok sum)
 leaving_ends s arcs zs k sum start so_far past = so_far (Ok sum) (subst (λ l. further whole_sum addend_fold sum (leaving s (arc_times l (drop k zs))) (Ok sum)) (sym (drop_all k arcs past)) refl)

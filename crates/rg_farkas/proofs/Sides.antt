@@ -9,7 +9,10 @@ use Rattle.rg_theory.specs.declared.Problem.TheVariants.{Event, States}
 use Rattle.rg_theory.specs.System.{System, states}
 use Rattle.rg_integers.specs.Sum.{dot}
 use Rattle.rg_integers.proofs.Ring.{ring}
-use Rattle.rg_refuting.specs.Row.{Form as SplitForm, Form.on_tokens, Form.on_effect, Form.on_start, form_variable, FormStands, SideStands, RowName, RowName.arc_row, RowName.tokens_row, RowName.cap_row, RowName.up_row, RowName.down_row, RowName.makes_row, RowName.stop_row, RowName.block_row, RowName.empty_row, RowName.full_row, RowName.keep_row, RowName.apart_row, RowName.above_row, Side, RowStands, row_expression, side_expression}
+use Rattle.rg_refuting.specs.Row.{Form as SplitForm, Form.on_tokens, Form.on_effect, Form.on_start, form_variable, FormStands, SideStands, RowName, RowName.arc_row}
+use Rattle.rg_refuting.specs.Row.{RowName.tokens_row, RowName.cap_row, RowName.up_row, RowName.down_row, RowName.makes_row, RowName.stop_row, RowName.block_row}
+use Rattle.rg_refuting.specs.Row.{RowName.empty_row, RowName.full_row, RowName.keep_row, RowName.apart_row, RowName.above_row, Side, RowStands, row_expression}
+use Rattle.rg_refuting.specs.Row.{side_expression}
 use Rattle.rg_order_of_work.specs.Rewriting.{has_start, split_forms}
 use Rattle.rg_order_of_work.proofs.Forms.{IsSplitOf, split_is, split_starts, start_split}
 use Rattle.rg_farkas.proofs.Names.{IsUsed}

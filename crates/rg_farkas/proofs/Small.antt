@@ -10,7 +10,7 @@ use Rattle.rg_theory.proofs.Lists.{Contains-cons_cases}
 use Rattle.rg_integers.specs.Range.{InRange, greatest}
 use Rattle.rg_integers.specs.Sign.{size}
 use Rattle.rg_integers.specs.Sum.{sum_over}
-use Rattle.rg_fraction.specs.declared.term.Wide.{Wide}
+use Rattle.rg_integers.specs.declared.term.Wide.{Wide}
 use Rattle.rg_refuting.specs.Expression.{Variable, Variable.tokens_at, Variable.effect_of, Expression, coefficient_in}
 use Rattle.rg_refuting.specs.Row.{RowName}
 use Rattle.rg_refuting.specs.Refutes.{NamedRow, IsSmall}
@@ -70,7 +70,9 @@ none_outside : (n l : ℕ) (expression : RowName → Expression) (rows : List Na
 none_outside n l expression [] v within out = refl
 none_outside n l expression (r ∷ rows) v within out =
     sum_by-cons (λ u. nat_abs (u.multiplier *ℤ coefficient_in (expression u.name).terms v)) r rows
-    ∙ ap₂ ◌+◌ (ap (λ z. nat_abs (r.multiplier *ℤ z)) (outside n l (expression r.name).terms v (All-head (λ u. All (IsTermWithin n l) (expression u.name).terms) r rows within) out) ∙ ap nat_abs (times_zero r.multiplier)) (none_outside n l expression rows v (All-tail (λ u. All (IsTermWithin n l) (expression u.name).terms) r rows within) out)
+    ∙ ap₂ ◌+◌ (ap (λ z. nat_abs (r.multiplier *ℤ z))
+    (outside n l (expression r.name).terms v (All-head (λ u. All (IsTermWithin n l) (expression u.name).terms) r rows within) out)
+    ∙ ap nat_abs (times_zero r.multiplier)) (none_outside n l expression rows v (All-tail (λ u. All (IsTermWithin n l) (expression u.name).terms) r rows within) out)
   where
     times_zero : (z : ℤ) → z *ℤ pos 0 ≡ pos 0
     times_zero z = omega (arith, ints)
@@ -85,7 +87,10 @@ within_or_not n l (effect_of u) = below_or_not u l
 pub is_small : (lts : System) (expression : RowName → Expression) (rows all : List NamedRow) → RowsWithin (states lts) (labels lts) expression rows → All (λ r. InRange r.multiplier) rows → checked_leaf lts expression rows (Ok all) → IsSmall expression rows
 is_small lts expression rows all within range (sums, each_is, (sum, constants, e)) = record {
   multipliers = All-weaker (λ r. InRange r.multiplier) (λ r. nat_abs r.multiplier ≤ greatest) (λ r h. below (nat_abs r.multiplier) h) rows range;
-  coefficients = λ v. ⊎_elim (λ lt. (let (h, fold) = each_made (λ u. sizes_fold (λ name. coefficient_in (expression name).terms u) rows) (variables_of lts) sums v each_is (has_variable lts v lt) in size_fits (λ name. coefficient_in (expression name).terms v) rows h fold)) (λ out. none (sum_by (λ r. nat_abs (r.multiplier *ℤ coefficient_in (expression r.name).terms v)) rows) (none_outside (states lts) (labels lts) expression rows v within out)) (within_or_not (states lts) (labels lts) v);
+  coefficients = λ v. ⊎_elim (λ lt. (let (h, fold) = each_made (λ u. sizes_fold (λ name. coefficient_in (expression name).terms u) rows)
+      (variables_of lts) sums v each_is (has_variable lts v lt) in size_fits (λ name. coefficient_in (expression name).terms v) rows h fold))
+      (λ out. none (sum_by (λ r. nat_abs (r.multiplier *ℤ coefficient_in (expression r.name).terms v)) rows)
+      (none_outside (states lts) (labels lts) expression rows v within out)) (within_or_not (states lts) (labels lts) v);
   constants = size_fits (λ name. (expression name).constant) rows sum constants;
 }
   where

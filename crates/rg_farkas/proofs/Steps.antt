@@ -2,11 +2,11 @@
 use Rattle.std.proofs.Common.{◌≡◌, ℕ, suc, ◌+◌, ◌-◌, ◌<◌, ◌≤◌, Bool, true, if◌then◌else◌, List, [], ◌∷◌, ◌++◌, map, drop, length, Result, Ok, Err, Contains, ap, refl, subst, sym, ◌∙◌, inl, inr, arith, add-one, append_assoc}
 use Rattle.std.specs.Prelude.{slice_index_or}
 use Rattle.std.proofs.lemmas.List.{drop_all, append-nil}
-use Rattle.rg_fraction.specs.declared.term.Wide.{Wide}
+use Rattle.rg_integers.specs.declared.term.Wide.{Wide}
 use Rattle.rg_order_of_work.specs.Fold.{further, joined}
 use Rattle.rg_order_of_work.specs.Rewriting.{numbers_where}
-use Rattle.rg_cycles.proofs.Folding.{further_next, further_unmade, further_unjoined}
-use Rattle.rg_cycles.proofs.Items.{from_place}
+use Rattle.rg_order_of_work.proofs.Folding.{further_next, further_unmade, further_unjoined}
+use Rattle.rg_order_of_work.proofs.Items.{from_place}
 
 -- ---- a sum, item by item
 
@@ -42,7 +42,9 @@ abbrev same_result : {X : Type 0} → Result X Wide → Result X Wide → Type 0
 same_result r r' = r ≡ r'
 
 -- a sum that begins with a neutral number is one that begins with its first term
-pub from_neutral : {A X : Type 0} (join : X → X → Result X Wide → Type 0) (make : A → Result X Wide → Type 0) (none : X) (items : List A) → ((a : A) (x : X) → Contains items a → make a (Ok x) → (r : Result X Wide) → join none x r → r ≡ Ok x) → (r : Result X Wide) → further join make none items r → joined join make none items r
+pub from_neutral : {A X : Type 0} (join : X → X → Result X Wide → Type 0) (make : A → Result X Wide → Type 0) (none : X) (items : List A)
+    → ((a : A) (x : X) → Contains items a → make a (Ok x) → (r : Result X Wide) → join none x r → r ≡ Ok x) → (r : Result X Wide) → further join make none items r
+    → joined join make none items r
 from_neutral join make none [] neutral r h = h
 from_neutral {X = X} join make none (a ∷ items) neutral (Ok y) (x, made, (more, joins, rest)) = (x, made, subst (λ z. further join make z items (Ok y)) (ok_same more x (neutral a x (0, omega arith, refl) made (Ok more) joins)) rest)
   where

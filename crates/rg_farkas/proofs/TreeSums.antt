@@ -12,7 +12,7 @@ use Rattle.rg_theory.proofs.Lists.{Contains-cons_cases}
 use Rattle.rg_theory.proofs.Trees.{source_met}
 use Rattle.rg_integers.specs.Sum.{sum_over}
 use Rattle.rg_integers.proofs.ListSums.{sum_over-append, sum_over-map}
-use Rattle.rg_fraction.specs.declared.term.Wide.{Wide}
+use Rattle.rg_integers.specs.declared.term.Wide.{Wide}
 use Rattle.rg_refuting.specs.Expression.{Variable.tokens_at, Variable.effect_of, Expression, plus, minus, sum_of, coefficient_in}
 use Rattle.rg_refuting.specs.Row.{RowName}
 use Rattle.rg_refuting.specs.Refutes.{NamedRow}
@@ -104,7 +104,9 @@ leaving_sum : (s : ℕ) (arcs : List ArcTimes) → sum_over addend_value (leavin
 leaving_sum s [] = refl
 leaving_sum s (x ∷ arcs) = go (x.arc.from == s) (leaving_sum s arcs)
   where
-    go : (b : Bool) → sum_over addend_value (leaving s arcs) ≡ sum_over (λ y. y.multiplier *ℤ (if y.arc.from == s then pos 1 else pos 0)) arcs → sum_over addend_value (if b then (number x.multiplier ∷ leaving s arcs) else leaving s arcs) ≡ (x.multiplier *ℤ (if b then pos 1 else pos 0)) +ℤ sum_over (λ y. y.multiplier *ℤ (if y.arc.from == s then pos 1 else pos 0)) arcs
+    go : (b : Bool) → sum_over addend_value (leaving s arcs) ≡ sum_over (λ y. y.multiplier *ℤ (if y.arc.from == s then pos 1 else pos 0)) arcs
+        → sum_over addend_value (if b then (number x.multiplier ∷ leaving s arcs) else leaving s arcs) ≡ (x.multiplier *ℤ (if b then pos 1 else pos 0)) +ℤ sum_over
+        (λ y. y.multiplier *ℤ (if y.arc.from == s then pos 1 else pos 0)) arcs
     go true ih = ap₂ ◌+ℤ◌ (times_one x.multiplier) ih
       where
         times_one : (z : ℤ) → z ≡ z *ℤ pos 1
@@ -117,7 +119,10 @@ leaving_sum s (x ∷ arcs) = go (x.arc.from == s) (leaving_sum s arcs)
 -- arcs that don't lead to a state that is met
 later_sum : (lts : System) (met : List ℕ) (s : ℕ) (arcs : List ArcTimes) → Grows lts met (map (λ x. x.arc) arcs) → Contains met s → sum_over (λ x. x.multiplier *ℤ arc_at s x.arc) arcs ≡ sum_over (λ x. x.multiplier *ℤ (if x.arc.from == s then pos 1 else pos 0)) arcs
 later_sum lts met s [] g has = refl
-later_sum lts met s (x ∷ arcs) (j, g) has = ap₂ ◌+ℤ◌ (ap (λ b. x.multiplier *ℤ ((if x.arc.from == s then pos 1 else pos 0) -ℤ (if b then pos 1 else pos 0))) (ne_eqb x.arc.to s not_met) ∙ ap (λ z. x.multiplier *ℤ z) (less_none (if x.arc.from == s then pos 1 else pos 0))) (later_sum lts (met ++ x.arc.to ∷ []) s arcs g (Contains-append_left met (x.arc.to ∷ []) s has))
+later_sum lts met s (x ∷ arcs) (j, g) has = ap₂ ◌+ℤ◌
+    (ap (λ b. x.multiplier *ℤ ((if x.arc.from == s then pos 1 else pos 0) -ℤ (if b then pos 1 else pos 0))) (ne_eqb x.arc.to s not_met)
+    ∙ ap (λ z. x.multiplier *ℤ z) (less_none (if x.arc.from == s then pos 1 else pos 0)))
+    (later_sum lts (met ++ x.arc.to ∷ []) s arcs g (Contains-append_left met (x.arc.to ∷ []) s has))
   where
     not_met : x.arc.to ≢ s
     not_met e = j.fresh (subst (Contains met) (sym e) has)
@@ -135,7 +140,8 @@ state_sum lts expression rows met s (x ∷ arcs) (j, g) (own, balanced) lacks ha
     from_differs e = lacks (subst (Contains met) e (source_met lts met x.arc j))
 
     here : x.arc.to ≡ s → sum_over (λ r. r.multiplier *ℤ coefficient_in (expression r.name).terms (tokens_at s)) rows +ℤ ((x.multiplier *ℤ arc_at s x.arc) +ℤ sum_over (λ y. y.multiplier *ℤ arc_at s y.arc) arcs) ≡ pos 0
-    here e = close _ _ _ _ _ own_sum (ap₂ (λ b c. x.multiplier *ℤ ((if b then pos 1 else pos 0) -ℤ (if c then pos 1 else pos 0))) (ne_eqb x.arc.from s from_differs) (eq-eqb x.arc.to s e)) (later_sum lts (met ++ x.arc.to ∷ []) s arcs g (subst (Contains (met ++ x.arc.to ∷ [])) e (Contains-push met x.arc.to)))
+    here e = close _ _ _ _ _ own_sum (ap₂ (λ b c. x.multiplier *ℤ ((if b then pos 1 else pos 0) -ℤ (if c then pos 1 else pos 0))) (ne_eqb x.arc.from s from_differs)
+        (eq-eqb x.arc.to s e)) (later_sum lts (met ++ x.arc.to ∷ []) s arcs g (subst (Contains (met ++ x.arc.to ∷ [])) e (Contains-push met x.arc.to)))
       where
         own_sum : x.multiplier ≡ sum_over (λ r. r.multiplier *ℤ coefficient_in (expression r.name).terms (tokens_at s)) rows +ℤ sum_over (λ y. y.multiplier *ℤ (if y.arc.from == s then pos 1 else pos 0)) arcs
         own_sum =
@@ -153,7 +159,9 @@ state_sum lts expression rows met s (x ∷ arcs) (j, g) (own, balanced) lacks ha
     has' : x.arc.to ≢ s → Contains (map (λ a. a.to) (map (λ y. y.arc) arcs)) s
     has' ne = ⊎_elim (λ e. absurd (ne e)) (λ h. h) (Contains-cons_cases x.arc.to s (map (λ a. a.to) (map (λ y. y.arc) arcs)) has)
 
-    other : x.arc.to ≢ s → sum_over (λ r. r.multiplier *ℤ coefficient_in (expression r.name).terms (tokens_at s)) rows +ℤ sum_over (λ y. y.multiplier *ℤ arc_at s y.arc) arcs ≡ pos 0 → sum_over (λ r. r.multiplier *ℤ coefficient_in (expression r.name).terms (tokens_at s)) rows +ℤ ((x.multiplier *ℤ arc_at s x.arc) +ℤ sum_over (λ y. y.multiplier *ℤ arc_at s y.arc) arcs) ≡ pos 0
+    other : x.arc.to ≢ s → sum_over (λ r. r.multiplier *ℤ coefficient_in (expression r.name).terms (tokens_at s)) rows +ℤ sum_over
+        (λ y. y.multiplier *ℤ arc_at s y.arc) arcs ≡ pos 0 → sum_over (λ r. r.multiplier *ℤ coefficient_in (expression r.name).terms (tokens_at s)) rows +ℤ
+        ((x.multiplier *ℤ arc_at s x.arc) +ℤ sum_over (λ y. y.multiplier *ℤ arc_at s y.arc) arcs) ≡ pos 0
     other ne ih = close _ _ _ (ap₂ (λ b c. x.multiplier *ℤ ((if b then pos 1 else pos 0) -ℤ (if c then pos 1 else pos 0))) (ne_eqb x.arc.from s from_differs) (ne_eqb x.arc.to s ne) ∙ none x.multiplier) ih
       where
         none : (z : ℤ) → z *ℤ (pos 0 -ℤ pos 0) ≡ pos 0

@@ -93,13 +93,17 @@ RowsWithin n l expression rows = All (λ r. All (IsTermWithin n l) (expression r
 pub terms_split : (n l : ℕ) (expression : RowName → Expression) (x : Variable → ℤ) (rows : List NamedRow) → RowsWithin n l expression rows → terms_sum expression rows x ≡ by_variable n l (coefficient_sum expression rows) x
 terms_split n l expression x [] within = sym (by_variable-zero n l x)
 terms_split n l expression x (r ∷ rows) within =
-    ap₂ ◌+ℤ◌ (ap (λ z. r.multiplier *ℤ z) (value_split n l x (expression r.name).terms (All-head (λ u. All (IsTermWithin n l) (expression u.name).terms) r rows within)) ∙ sym (by_variable-times n l r.multiplier (coefficient_in (expression r.name).terms) x)) (terms_split n l expression x rows (All-tail (λ u. All (IsTermWithin n l) (expression u.name).terms) r rows within))
+    ap₂ ◌+ℤ◌ (ap (λ z. r.multiplier *ℤ z) (value_split n l x (expression r.name).terms (All-head (λ u. All (IsTermWithin n l) (expression u.name).terms) r rows within))
+    ∙ sym (by_variable-times n l r.multiplier (coefficient_in (expression r.name).terms) x))
+    (terms_split n l expression x rows (All-tail (λ u. All (IsTermWithin n l) (expression u.name).terms) r rows within))
     ∙ sym (by_variable-plus n l (λ v. r.multiplier *ℤ coefficient_in (expression r.name).terms v) (coefficient_sum expression rows) x)
 
 -- a variable that is out of range cancels
 pub outside_sum : (n l : ℕ) (expression : RowName → Expression) (rows : List NamedRow) (v : Variable) → RowsWithin n l expression rows → ¬ IsVariableWithin n l v → coefficient_sum expression rows v ≡ pos 0
 outside_sum n l expression [] v within out = refl
-outside_sum n l expression (r ∷ rows) v within out = ap₂ ◌+ℤ◌ (ap (λ z. r.multiplier *ℤ z) (outside n l (expression r.name).terms v (All-head (λ u. All (IsTermWithin n l) (expression u.name).terms) r rows within) out) ∙ times_zero r.multiplier) (outside_sum n l expression rows v (All-tail (λ u. All (IsTermWithin n l) (expression u.name).terms) r rows within) out)
+outside_sum n l expression (r ∷ rows) v within out = ap₂ ◌+ℤ◌
+    (ap (λ z. r.multiplier *ℤ z) (outside n l (expression r.name).terms v (All-head (λ u. All (IsTermWithin n l) (expression u.name).terms) r rows within) out)
+    ∙ times_zero r.multiplier) (outside_sum n l expression rows v (All-tail (λ u. All (IsTermWithin n l) (expression u.name).terms) r rows within) out)
   where
     times_zero : (z : ℤ) → z *ℤ pos 0 ≡ pos 0
     times_zero z = omega (arith, ints)

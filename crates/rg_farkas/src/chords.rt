@@ -4,7 +4,7 @@ ghost use Rattle.rg_theory.specs.System.{labels};
 ghost use Rattle.rg_theory.specs.declared.Arc.{Arc};
 ghost use Rattle.rg_integers.specs.Range.{InRange};
 ghost use Rattle.rg_integers.specs.Sum.{number_at};
-ghost use Rattle.rg_fraction.specs.declared.term.Wide.{Wide};
+ghost use Rattle.rg_integers.specs.declared.term.Wide.{Wide};
 ghost use Rattle.rg_spanning.specs.Spanning.{IsTreeOf};
 ghost use Rattle.rg_linear.specs.Cycle.{IsCycleBasis};
 ghost use Rattle.rg_cycles.specs.Basis.{number_with, IsRelationInRange};
@@ -19,7 +19,8 @@ ghost use Rattle.rg_farkas.specs.View.{counted_of, counts_fold, count_fold};
 
 use crate::multiplied::Counted;
 use rg_cycles::{Basis, Relation};
-use rg_fraction::{FoldStop, Fraction, Wide};
+use rg_fraction::{FoldStop, Fraction};
+use rg_integers::Wide;
 use rg_lts::Lts;
 use rg_spanning::Tree;
 use rg_theory::Arc;

@@ -14,8 +14,8 @@ ghost use Rattle.rg_farkas.specs.View.{counted_of, pair_count, label_count, AreR
 ghost use Rattle.rg_reasons.specs.Certificates.{IsTermWithin};
 
 use crate::multiplied::Counted;
+use rg_case_parts::count;
 use rg_cycles::{Basis, dependent};
-use rg_expressions::count;
 use rg_fraction::Fraction;
 use rg_lts::Lts;
 use rg_reasons::{Expression, ProblemCase, RowName, Side, expression};

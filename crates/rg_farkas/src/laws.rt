@@ -19,7 +19,17 @@ use rg_theory::{Arc, Class, Problem};
 /// sides, name states and labels of the system and sides, and refute: each row whose multiplier isn't 0, times
 /// multiplier and factor.
 pub fn node_multipliers_refute()
-    ensures stand { (lts : System) (tree : List Arc) (basis : CycleBasis) (class : Class) (problem : Problem) (number : ℕ) (case : CaseSystem) (sides : List SplitSide) (multiplier : ℕ → ℤ) (shares : List Share) → IsCaseOver lts tree basis class problem number case → All (λ side. side.form < length case.forms) sides → each (share_fold case sides (named_sides lts class problem sides)) (weights_from multiplier 0 (length (node_system (rows_of case) case.forms sides).rows)) (Ok shares) → All (λ s. RowStands lts class problem number (named_sides lts class problem sides) s.name) shares }
-    ensures names { (lts : System) (tree : List Arc) (basis : CycleBasis) (class : Class) (problem : Problem) (number : ℕ) (case : CaseSystem) (sides : List SplitSide) (multiplier : ℕ → ℤ) (shares : List Share) → IsCaseOver lts tree basis class problem number case → All (λ side. side.form < length case.forms) sides → length sides ≤ 2 ^ 32 → each (share_fold case sides (named_sides lts class problem sides)) (weights_from multiplier 0 (length (node_system (rows_of case) case.forms sides).rows)) (Ok shares) → All (λ s. IsRowNameOf lts s.name) shares }
-    ensures refute { (lts : System) (tree : List Arc) (basis : CycleBasis) (class : Class) (problem : Problem) (number : ℕ) (case : CaseSystem) (sides : List SplitSide) (multiplier : ℕ → ℤ) (shares : List Share) → IsCaseOver lts tree basis class problem number case → All (λ side. side.form < length case.forms) sides → IsLive lts problem → AreFarkasMultipliers (node_system (rows_of case) case.forms sides) multiplier → each (share_fold case sides (named_sides lts class problem sides)) (weights_from multiplier 0 (length (node_system (rows_of case) case.forms sides).rows)) (Ok shares) → SharesRefute lts (row_expression lts class problem number (named_sides lts class problem sides)) shares }
+    ensures stand { (lts : System) (tree : List Arc) (basis : CycleBasis) (class : Class) (problem : Problem) (number : ℕ) (case : CaseSystem) (sides : List SplitSide)
+        (multiplier : ℕ → ℤ) (shares : List Share) → IsCaseOver lts tree basis class problem number case → All (λ side. side.form < length case.forms) sides
+        → each (share_fold case sides (named_sides lts class problem sides)) (weights_from multiplier 0 (length (node_system (rows_of case) case.forms sides).rows))
+        (Ok shares) → All (λ s. RowStands lts class problem number (named_sides lts class problem sides) s.name) shares }
+    ensures names { (lts : System) (tree : List Arc) (basis : CycleBasis) (class : Class) (problem : Problem) (number : ℕ) (case : CaseSystem) (sides : List SplitSide)
+        (multiplier : ℕ → ℤ) (shares : List Share) → IsCaseOver lts tree basis class problem number case → All (λ side. side.form < length case.forms) sides
+        → length sides ≤ 2 ^ 32 → each (share_fold case sides (named_sides lts class problem sides))
+        (weights_from multiplier 0 (length (node_system (rows_of case) case.forms sides).rows)) (Ok shares) → All (λ s. IsRowNameOf lts s.name) shares }
+    ensures refute { (lts : System) (tree : List Arc) (basis : CycleBasis) (class : Class) (problem : Problem) (number : ℕ) (case : CaseSystem) (sides : List SplitSide)
+        (multiplier : ℕ → ℤ) (shares : List Share) → IsCaseOver lts tree basis class problem number case → All (λ side. side.form < length case.forms) sides
+        → IsLive lts problem → AreFarkasMultipliers (node_system (rows_of case) case.forms sides) multiplier
+        → each (share_fold case sides (named_sides lts class problem sides)) (weights_from multiplier 0 (length (node_system (rows_of case) case.forms sides).rows))
+        (Ok shares) → SharesRefute lts (row_expression lts class problem number (named_sides lts class problem sides)) shares }
 {}

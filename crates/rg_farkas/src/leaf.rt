@@ -3,7 +3,7 @@ ghost use Rattle.std.specs.Prelude.{◌≡◌, ◌<◌, ◌^◌, ◌++◌, map, 
 ghost use Rattle.rg_theory.specs.System.{labels, IsAllReachable};
 ghost use Rattle.rg_refuting.specs.Row.{RowStands, row_expression, cases_of};
 ghost use Rattle.rg_refuting.specs.Refutes.{IsSeparationProblem, LeafRefutes};
-ghost use Rattle.rg_fraction.specs.declared.term.Wide.{Wide};
+ghost use Rattle.rg_integers.specs.declared.term.Wide.{Wide};
 ghost use Rattle.rg_spanning.specs.Spanning.{IsTreeOf};
 ghost use Rattle.rg_cycles.specs.View.{labels_of, cycle_of};
 ghost use Rattle.rg_fraction.specs.declared.fold_stop.FoldStop.TheVariants as stop;
@@ -24,8 +24,8 @@ use crate::parts::divided;
 use crate::rows::{numbered, with_expressions};
 use crate::sizes::check_sizes;
 use crate::sums::tree_multipliers;
+use rg_case_parts::without_denominators;
 use rg_cycles::Basis;
-use rg_denominators::without_denominators;
 use rg_fraction::{FoldStop, Fraction};
 use rg_lts::Lts;
 use rg_reasons::{Node, ProblemCase, RowName, Side};

@@ -1,6 +1,6 @@
 //! The sums of absolute values.
 ghost use Rattle.std.specs.Prelude.{◌≡◌, pos, map, All, Ok, Err, IfOk, IsErrOf};
-ghost use Rattle.rg_fraction.specs.declared.term.Wide.{Wide};
+ghost use Rattle.rg_integers.specs.declared.term.Wide.{Wide};
 ghost use Rattle.rg_refuting.specs.Expression.{Expression};
 ghost use Rattle.rg_refuting.specs.Row.{RowName};
 ghost use Rattle.rg_reasons.specs.Sums.{variable_of};
@@ -11,7 +11,8 @@ ghost use Rattle.rg_farkas.specs.View.{named_of, Tells, size_fold, coefficient_a
 
 use crate::multiplied::Row;
 use crate::sums::{coefficient, size_times};
-use rg_fraction::{FoldStop, Wide, whole_sum};
+use rg_fraction::{FoldStop, whole_sum};
+use rg_integers::Wide;
 use rg_lts::Lts;
 use rg_reasons::Variable;
 use std::alloc::{AllocError, Global};

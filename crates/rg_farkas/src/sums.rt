@@ -2,7 +2,7 @@
 ghost use Rattle.std.specs.Prelude.{◌≡◌, ◌≤◌, [], ◌++◌, ◌≤ℤ◌, neg_ℤ, if◌then◌else◌, pos, length, map, reverse, All, Ok, Err, IfOk, IsErrOf};
 ghost use Rattle.rg_integers.specs.Range.{InRange};
 ghost use Rattle.rg_integers.specs.Sign.{size};
-ghost use Rattle.rg_fraction.specs.declared.term.Wide.{Wide};
+ghost use Rattle.rg_integers.specs.declared.term.Wide.{Wide};
 ghost use Rattle.rg_refuting.specs.Expression.{Expression as Sum, same_variable, coefficient_in};
 ghost use Rattle.rg_refuting.specs.Row.{RowName};
 ghost use Rattle.rg_fraction.specs.declared.fold_stop.FoldStop.TheVariants as stop;
@@ -12,7 +12,8 @@ ghost use Rattle.rg_reasons.specs.Sums.{variable_of, term_of, expression_of};
 ghost use Rattle.rg_farkas.specs.View.{named_of, Tells, arc_times, row_addend};
 
 use crate::multiplied::Row;
-use rg_fraction::{FoldStop, Wide, whole_product, whole_sum};
+use rg_fraction::{FoldStop, whole_product, whole_sum};
+use rg_integers::Wide;
 use rg_reasons::Term::{self, Minus, Plus};
 use rg_reasons::{Expression, Variable};
 use rg_theory::Arc;

@@ -7,7 +7,7 @@ use Rattle.rg_integers.specs.Range.{InRange}
 use Rattle.rg_integers.specs.Sum.{number_at}
 use Rattle.rg_integers.proofs.Casts.{back}
 use Rattle.rg_linear.specs.System.{LinearSystem, LinearRow, row_at}
-use Rattle.rg_linear.specs.declared.system.Row.{Row}
+use Rattle.rg_linear.specs.declared.row.Row.{Row}
 use Rattle.rg_linear.specs.View.{linear_row, linear_system, IsWellFormed}
 use Rattle.rg_linear.proofs.KeptRows.{item_is, below_rows, constant_in_range}
 use Rattle.rg_dictionary.specs.Contents.{Contents, IsDictionary, columns_alone, with_row}
@@ -18,7 +18,12 @@ module _ (system : LinearSystem) (columns : ℕ) (rows : List Row) (i : ℕ) (it
   pub row_pushed : with_row (with_rows system (take i (map linear_row rows))) (linear_row item).coeffs (cast_signed w128 (cast_unsigned w128 item.constant)) ≡ with_rows system (take (i + 1) (map linear_row rows))
   row_pushed = ap (with_row (with_rows system (take i (map linear_row rows))) (linear_row item).coeffs) (back item.constant (constant_in_range (linear_system columns rows) well rows i item refl lt at))
       ∙ ap (λ (r : LinearRow). with_row (with_rows system (take i (map linear_row rows))) r.coeffs r.constant) (item_is (linear_system columns rows) rows i item refl lt at)
-      ∙ (λ j. record { columns = system.columns; rows = (append_assoc system.rows (take i (map linear_row rows)) (row_at (linear_system columns rows) i ∷ []) ∙ ap (λ xs. system.rows ++ xs) (sym (take_more (map linear_row rows) i (record { coeffs = []; constant = pos 0 }) (below_rows (linear_system columns rows) rows i refl lt)))) j })
+      ∙ (λ j. record {
+        columns = system.columns;
+        rows = (append_assoc system.rows (take i (map linear_row rows)) (row_at (linear_system columns rows) i ∷ [])
+            ∙ ap (λ xs. system.rows ++ xs) (sym (take_more (map linear_row rows) i (record { coeffs = []; constant = pos 0 })
+            (below_rows (linear_system columns rows) rows i refl lt)))) j;
+      })
 
 -- the rows of the system, over its columns alone
 pub all_rows : (system : LinearSystem) (columns : ℕ) (rows : List Row) (d : Contents) → columns ≡ system.columns → map linear_row rows ≡ system.rows → IsDictionary (with_rows (columns_alone columns) (map linear_row rows)) d → IsDictionary system d

@@ -118,7 +118,9 @@ multiplier_else d i row ne = ap (λ b. if b then (relation_of d.members (row_of 
 multiplier_none : (d : Contents) (i row : ℕ) → row ≢ i → ¬ Contains d.members (d.columns + row) → multiplier_with d i row ≡ pos 0
 multiplier_none d i row ne lacks = multiplier_else d i row ne ∙ ap neg_ℤ (beside_none d.members (drop 2 (row_of d (d.columns + i))) (d.columns + row) lacks)
 
-multiplier_at : (d : Contents) (i row p : ℕ) → row ≢ i → length (row_of d (d.columns + i)) ≡ length d.members + 2 → p < length d.members → slice_index d.members p ≡ d.columns + row → ((q : ℕ) → q < p → slice_index d.members q ≡ d.columns + row → ⊥) → multiplier_with d i row ≡ neg_ℤ (number_at (row_of d (d.columns + i)) (p + 2))
+multiplier_at : (d : Contents) (i row p : ℕ) → row ≢ i → length (row_of d (d.columns + i)) ≡ length d.members + 2 → p < length d.members
+    → slice_index d.members p ≡ d.columns + row → ((q : ℕ) → q < p → slice_index d.members q ≡ d.columns + row → ⊥)
+    → multiplier_with d i row ≡ neg_ℤ (number_at (row_of d (d.columns + i)) (p + 2))
 multiplier_at d i row p ne size lt is first = multiplier_else d i row ne ∙ ap neg_ℤ (behind (row_of d (d.columns + i)) size)
   where
     behind : (numbers : List ℤ) → length numbers ≡ length d.members + 2 → number_beside d.members (drop 2 numbers) (d.columns + row) ≡ number_at numbers (p + 2)
@@ -142,7 +144,8 @@ module _ (d : DescentState) (i failing row : ℕ) (is : IsRefutation d i) (e : d
   pub reads_none : row ≢ failing → ¬ Contains d.table.members (d.table.columns + row) → pos 0 ≡ multiplier_with d.table i row
   reads_none ne lacks = sym (multiplier_none d.table i row (other ne) lacks)
 
-  pub reads_at : (p : ℕ) → row ≢ failing → length numbers ≡ d.table.columns + 2 → p < length d.table.members → slice_index d.table.members p ≡ d.table.columns + row → ((q : ℕ) → q < p → slice_index d.table.members q ≡ d.table.columns + row → ⊥) → neg_ℤ (number_at numbers (p + 2)) ≡ multiplier_with d.table i row
+  pub reads_at : (p : ℕ) → row ≢ failing → length numbers ≡ d.table.columns + 2 → p < length d.table.members → slice_index d.table.members p ≡ d.table.columns + row
+      → ((q : ℕ) → q < p → slice_index d.table.members q ≡ d.table.columns + row → ⊥) → neg_ℤ (number_at numbers (p + 2)) ≡ multiplier_with d.table i row
   reads_at p ne size lt at first = ap (λ xs. neg_ℤ (number_at xs (p + 2))) back_to
       ∙ sym (multiplier_at d.table i row p (other ne) (sym (ap length back_to) ∙ size ∙ ap (λ n. n + 2) (sym (is.dictionary.free.count ∙ sym is.dictionary.columns))) lt at first)
 

@@ -1,6 +1,6 @@
 //! How a descent ends.
 
-use rg_fraction::Wide;
+use rg_integers::Wide;
 
 /// The first term out of range. It stands in the exchange of the row variable `pivot` with the member
 /// `leaves`, in the new relation of the variable `target`, as term number `entry`, counted from 0. Variables

@@ -11,7 +11,8 @@ use Rattle.rg_integers.proofs.Order.{mul_positive, positive_differs, quotient_po
 use Rattle.rg_integers.proofs.Divisors.{gcd_of-is, exact, parts_reduced, int_gcd_positive}
 use Rattle.rg_integers.proofs.Coprime.{coprime_factor, coprime_products}
 use Rattle.rg_integers.proofs.Values.{SameValue-parts, SameValue-neg}
-use Rattle.rg_fraction.specs.Terms.{term_value, product_term, sum_top, sum_bottom, product_top, product_bottom, ProductIsReduced}
+use Rattle.rg_fraction.specs.Terms.{product_term, sum_top, sum_bottom, product_top, product_bottom, ProductIsReduced}
+use Rattle.rg_integers.specs.Term.{term_value}
 
 -- ---- a term that is a product alone
 

@@ -5,9 +5,10 @@ use Rattle.std.specs.Int.{IsGcd}
 use Rattle.rg_integers.specs.Value.{SameValue}
 use Rattle.rg_integers.proofs.Order.{mul_positive, positive_differs}
 use Rattle.rg_integers.proofs.Values.{SameValue-trans, one_reduced_form}
-use Rattle.rg_fraction.specs.declared.term.Wide.{Wide}
+use Rattle.rg_integers.specs.declared.term.Wide.{Wide}
 use Rattle.rg_fraction.specs.declared.fraction.Fraction.{Fraction}
-use Rattle.rg_fraction.specs.Terms.{term_value, sum_top, sum_bottom, product_top, product_bottom}
+use Rattle.rg_fraction.specs.Terms.{sum_top, sum_bottom, product_top, product_bottom}
+use Rattle.rg_integers.specs.Term.{term_value}
 use Rattle.rg_fraction.specs.Fractions.{IsFormed, IsSum, IsProduct, ShowsProduct}
 use Rattle.rg_fraction.proofs.Forms.{sum-value, sum-positive, product-value, product-positive, product_form}
 

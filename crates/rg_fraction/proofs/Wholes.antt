@@ -5,7 +5,8 @@ use Rattle.std.proofs.lemmas.Int.{ints}
 use Rattle.rg_integers.specs.Range.{InRange}
 use Rattle.rg_integers.specs.Value.{SameValue}
 use Rattle.rg_fraction.specs.declared.fraction.Fraction.{Fraction}
-use Rattle.rg_fraction.specs.Terms.{FitsTerm, product_term, sum_top, sum_bottom, product_top, product_bottom}
+use Rattle.rg_fraction.specs.Terms.{product_term, sum_top, sum_bottom, product_top, product_bottom}
+use Rattle.rg_integers.specs.Term.{FitsTerm}
 use Rattle.rg_fraction.specs.Fractions.{Shows, IsSum, IsProduct}
 use Rattle.rg_fraction.proofs.Ones.{first_part, second_part}
 

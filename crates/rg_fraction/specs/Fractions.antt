@@ -1,9 +1,10 @@
 -- What a fraction shows, and what the calls that form one answer.
 use Rattle.std.specs.Prelude.{◌≡◌, Result, MatchResult, IfOk, ℤ, ◌+ℤ◌, ◌*ℤ◌}
 use Rattle.rg_integers.specs.Value.{SameValue}
-use Rattle.rg_fraction.specs.declared.term.Wide.{Wide}
+use Rattle.rg_integers.specs.declared.term.Wide.{Wide}
 use Rattle.rg_fraction.specs.declared.fraction.Fraction.{Fraction}
-use Rattle.rg_fraction.specs.Terms.{term_value, FitsTerm, FirstPasses, sum_top, sum_bottom, product_top, product_bottom}
+use Rattle.rg_fraction.specs.Terms.{FirstPasses, sum_top, sum_bottom, product_top, product_bottom}
+use Rattle.rg_integers.specs.Term.{term_value, FitsTerm}
 
 -- the numerator that a fraction shows
 abbrev pub numerator_of : Fraction → ℤ

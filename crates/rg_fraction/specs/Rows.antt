@@ -2,8 +2,8 @@
 use Rattle.std.specs.Prelude.{ℕ, ◌≡◌, ◌<◌, List, length, ℤ, pos, ◌*ℤ◌, unsigned_abs}
 use Rattle.rg_integers.specs.Divisor.{IsGcdBelow}
 use Rattle.rg_integers.specs.Sum.{number_at}
-use Rattle.rg_fraction.specs.declared.term.Wide.{Wide}
-use Rattle.rg_fraction.specs.Terms.{FitsTerm, term_value}
+use Rattle.rg_integers.specs.declared.term.Wide.{Wide}
+use Rattle.rg_integers.specs.Term.{FitsTerm, term_value}
 
 -- the term at place k of the elimination of q's entry at j by p
 abbrev pub row_term : List ℤ → List ℤ → ℕ → ℕ → Wide

@@ -3,15 +3,8 @@ use Rattle.std.specs.Prelude.{◌≡◌, ◌⊎◌, ℤ, pos, neg_ℤ, ◌*ℤ�
 use Rattle.rg_integers.specs.Range.{Fits}
 use Rattle.rg_integers.specs.Divisor.{int_gcd}
 use Rattle.rg_integers.specs.Value.{IsReducedForm}
-use Rattle.rg_fraction.specs.declared.term.Wide.{Wide}
-
--- the term a*b - c*d
-abbrev pub term_value : Wide → ℤ
-term_value t = (t.a *ℤ t.b) -ℤ (t.c *ℤ t.d)
-
--- both products and the difference are in range
-abbrev pub FitsTerm : Wide → Type 0
-FitsTerm t = Fits t.a t.b t.c t.d
+use Rattle.rg_integers.specs.declared.term.Wide.{Wide}
+use Rattle.rg_integers.specs.Term.{term_value, FitsTerm}
 
 -- the term that is a product alone
 abbrev pub product_term : ℤ → ℤ → Wide

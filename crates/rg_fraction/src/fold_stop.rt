@@ -3,7 +3,7 @@
 ghost use Rattle.std.specs.Prelude.{◌≡◌};
 ghost use Rattle.rg_fraction.specs.declared.fold_stop.FoldStop.TheVariants as stop;
 
-use crate::term::Wide;
+use rg_integers::Wide;
 use std::alloc::{AllocError, AllocFailed};
 
 /// Why steps on fractions or whole numbers, one after another, came to no result.

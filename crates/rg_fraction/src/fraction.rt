@@ -4,11 +4,12 @@ ghost use Rattle.std.specs.Prelude.{◌≡◌, ◌≢◌, pos, neg_ℤ, ◌+ℤ�
 ghost use Rattle.std.specs.Int.{IsGcd};
 ghost use Rattle.std.specs.Ordering.{int_cmp};
 ghost use Rattle.rg_integers.specs.Range.{InRange};
-ghost use Rattle.rg_fraction.specs.Terms.{term_value, ProductIsReduced};
+ghost use Rattle.rg_fraction.specs.Terms.{ProductIsReduced};
+ghost use Rattle.rg_integers.specs.Term.{term_value};
 
 use crate::divisor::{quotient, split};
 use crate::order::compare;
-use crate::term::{Wide, difference, product};
+use rg_integers::{Wide, difference, product};
 use std::cmp::Ordering;
 
 /// A rational number: a numerator and a denominator in range, without a common factor, the

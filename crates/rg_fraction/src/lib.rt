@@ -10,12 +10,10 @@ mod fold_stop;
 mod fraction;
 mod order;
 mod row;
-mod term;
 mod whole;
 
 pub use divisor::gcd;
 pub use fold_stop::FoldStop;
 pub use fraction::Fraction;
 pub use row::{eliminate, reduce, row_gcd};
-pub use term::Wide;
 pub use whole::{whole_product, whole_sum};

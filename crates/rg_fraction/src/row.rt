@@ -8,7 +8,7 @@ ghost use Rattle.rg_fraction.specs.Rows.{RowFits, IsFirstWide, IsCrossed, IsRowG
 
 use crate::divisor::gcd;
 use crate::exact::Divisor;
-use crate::term::{Wide, value};
+use rg_integers::{Wide, value};
 
 // Whether each term of the row fits; else the first that passes.
 fn check(p: &[i128], q: &[i128], b: i128, d: i128, j: usize) -> Result<(), Wide>

@@ -2,9 +2,10 @@
 
 ghost use Rattle.std.specs.Prelude.{◌≡◌, ◌+ℤ◌, ◌*ℤ◌, IfOk, MatchResult};
 ghost use Rattle.rg_integers.specs.Range.{InRange};
-ghost use Rattle.rg_fraction.specs.Terms.{FitsTerm, term_value, sum_term, product_term};
+ghost use Rattle.rg_fraction.specs.Terms.{sum_term, product_term};
+ghost use Rattle.rg_integers.specs.Term.{FitsTerm, term_value};
 
-use crate::term::Wide;
+use rg_integers::Wide;
 
 /// The sum of two whole numbers. Refused exactly where it is out of range, with the numbers `x`, 1, `-y` and 1 of
 /// the term `x*1 - -y*1`.

@@ -1,7 +1,7 @@
 //! Limits of word lists, each just met and just passed.
 use crate::samples::with_bytes;
 use rg_text::MOST_BYTES;
-use rg_words::{WordFault, read_words};
+use rg_words::{WordFault, read_word_list};
 use std::alloc::{AllocError, Global};
 use std::test::Fail;
 
@@ -21,7 +21,7 @@ fn fault(alloc: Global, text: &[u8]) -> Option<WordFault> {
     if text.len() > MOST_BYTES {
         return Some(WordFault::NoMemory);
     }
-    read_words(alloc, text).err()
+    read_word_list(alloc, text).err()
 }
 
 #[test]

@@ -1,7 +1,7 @@
 //! Word lists: the trees that they spell, and the first fault of others.
 use crate::samples::described;
 use rg_text::MOST_BYTES;
-use rg_words::{WordFault, one_answer, read_words};
+use rg_words::{WordFault, one_answer, read_word_list};
 use std::alloc::Global;
 use std::test::Fail;
 
@@ -49,7 +49,7 @@ fn spelled(alloc: Global, text: &[u8]) -> Option<String> {
     if text.len() > MOST_BYTES {
         return None;
     }
-    let lts = read_words(alloc, text).ok()?;
+    let lts = read_word_list(alloc, text).ok()?;
     described(alloc, &lts).ok()
 }
 
@@ -58,7 +58,7 @@ fn fault(alloc: Global, text: &[u8]) -> Option<WordFault> {
     if text.len() > MOST_BYTES {
         return Some(WordFault::NoMemory);
     }
-    read_words(alloc, text).err()
+    read_word_list(alloc, text).err()
 }
 
 #[test]

@@ -3,3 +3,4 @@ pub mod Sign
 pub mod Divisor
 pub mod Value
 pub mod Sum
+pub mod Term

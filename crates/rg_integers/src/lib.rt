@@ -1,13 +1,17 @@
-//! Integer arithmetic that the crates above share: the range of numbers, greatest common divisors,
+//! Integer arithmetic that the crates above share: the range of numbers, terms out of range, greatest common divisors,
 //! rational values as two whole numbers, and finite sums. The definitions stand in `specs/`, the
-//! lemmas in `proofs/`; the functions below are laws, and do nothing.
+//! lemmas in `proofs/`; the functions in this file are laws, and do nothing.
 #![tactic(auto)]
+
+mod term;
 
 ghost use Rattle.std.specs.Prelude.{◌≡◌, ◌≢◌, ℕ, ◌*◌, List, length, ℤ, pos, ◌*ℤ◌, ◌≤ℤ◌, unsigned_abs};
 ghost use Rattle.std.specs.Int.{IsGcd, ◌∣◌};
 ghost use Rattle.rg_integers.specs.Divisor.{gcd_of, int_gcd, IsGcdBelow};
 ghost use Rattle.rg_integers.specs.Value.{SameValue, IsReducedForm};
 ghost use Rattle.rg_integers.specs.Sum.{number_at, dot, sum_below};
+
+pub use term::{Wide, difference, product, value};
 
 /// The greatest number in range, `2^127 - 1`.
 pub const GREATEST: i128 = i128::MAX;

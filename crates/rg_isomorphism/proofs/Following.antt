@@ -26,7 +26,7 @@ passed_more a b p p' ways ways' i t in_i pairs words long (both u j s q name x y
     (subst (λ w. (w ≡ t ∷ way_at ways' i) ⊎ IsMetBefore w (t ∷ way_at ways' i)) (sym (words j in_j))
     (subst (λ w. (way_at ways j ≡ t ∷ w) ⊎ IsMetBefore (way_at ways j) (t ∷ w)) (sym (words i in_i)) way))
 
--- a place before the next is before this one or is this one
+-- an index before the next is before this one or is this one
 place_cases : (i u k t : ℕ) → IsPlaceBefore i u k (t + 1) → IsPlaceBefore i u k t ⊎ ((i ≡ k) × (u ≡ t))
 place_cases i u k t (inl l) = inl (inl l)
 place_cases i u k t (inr (e, l)) = go (cases_eq u t)

@@ -121,7 +121,7 @@ followed_as a b c order partners taken i j k order_is partners_is taken_is i_is 
 
 -- ---- the whole map
 
--- all places of all pairs are passed
+-- all indices of all pairs are passed
 pub record IsWhole (a b : System) (p : Pairs) (n : ℕ) : Type 0 where
   pub followed : IsFollowedTo a b p n 0
   pub all : length p.order ≤ n

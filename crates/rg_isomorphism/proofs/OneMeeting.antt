@@ -8,7 +8,7 @@ use Rattle.rg_isomorphism.specs.Isomorphic.{HaveOneName}
 use Rattle.rg_isomorphism.specs.Words.{Meets, at_first, then}
 use Rattle.rg_isomorphism.specs.Compared.{AreComparable}
 
--- what differs stands at one place
+-- what differs stands at one index
 pub one_place : {X : Type 0} (xs : List X) (i j : ℕ) (x : X) → AllPairs (λ y z. y ≢ z) xs → slice_get xs i ≡ Some x → slice_get xs j ≡ Some x → i ≡ j
 one_place xs i j x differ p q = go (cases_order i j)
   where

@@ -5,7 +5,9 @@ use Rattle.std.proofs.lemmas.Option.{slice_get_within, get_or_from_slice_get}
 use Rattle.rg_theory.specs.System.{System, HasArc, IsAllReachable}
 use Rattle.rg_isomorphism.specs.Isomorphic.{AreIsomorphic}
 use Rattle.rg_isomorphism.specs.Words.{IsMetBefore, Difference, Difference.step, Difference.target, DiffersBy, first_alone, second_alone, targets, IsFirstDifference}
-use Rattle.rg_isomorphism.specs.Compared.{AreComparable, IsFirstAlone, HasLabelsOf, Told, Told.map as as_map, Told.label as as_label, Told.differs as as_difference, Compares, Compares.same as by_map, Compares.first_label as by_first, Compares.second_label as by_second, Compares.difference as by_difference, IsMap}
+use Rattle.rg_isomorphism.specs.Compared.{AreComparable, IsFirstAlone, HasLabelsOf, Told, Told.map as as_map, Told.label as as_label, Told.differs as as_difference}
+use Rattle.rg_isomorphism.specs.Compared.{Compares, Compares.same as by_map, Compares.first_label as by_first, Compares.second_label as by_second}
+use Rattle.rg_isomorphism.specs.Compared.{Compares.difference as by_difference, IsMap}
 use Rattle.rg_isomorphism.proofs.WordOrder.{cases_words}
 use Rattle.rg_isomorphism.proofs.OneMeeting.{one_namesake, one_meeting}
 use Rattle.rg_isomorphism.proofs.Refuting.{one_isomorphism, label_refutes, label_refutes_back, difference_refutes}

@@ -11,12 +11,12 @@ use Rattle.rg_isomorphism.specs.Pairing.{Pair, pair_at, way_at, Pairs, ArePairs,
 use Rattle.rg_isomorphism.proofs.WordOrder.{before_itself, before_trans, before_longer, IsUpTo, up_to_before, up_to_trans, up_to_longer}
 use Rattle.rg_isomorphism.proofs.OneMeeting.{one_namesake, one_target, one_meeting}
 
--- the word of a place: the way to its pair, and its label
+-- the word of an index: the way to its pair, and its label
 abbrev pub word_at : List (List ℕ) → ℕ → ℕ → List ℕ
 word_at ways k t = t ∷ way_at ways k
 
 module _ (a b : System) (c : AreComparable a b) (p : Pairs) (ways : List (List ℕ)) (h : ArePairs a b p ways) where
-  -- ways that rise tell their places
+  -- ways that rise tell their indices
   pub earlier_way : (j k : ℕ) → j < length p.order → k < length p.order → IsMetBefore (way_at ways j) (way_at ways k) → j < k
   earlier_way j k in_j in_k l = go (cases_order j k)
     where
@@ -33,23 +33,23 @@ module _ (a b : System) (c : AreComparable a b) (p : Pairs) (ways : List (List �
       go (inr (inl l)) = absurd (before_itself (way_at ways k) (subst (λ w. IsMetBefore w (way_at ways k)) e (h.rises j k l in_k)))
       go (inr (inr l)) = absurd (before_itself (way_at ways j) (subst (λ w. IsMetBefore w (way_at ways j)) (sym e) (h.rises k j l in_j)))
 
-  -- a place whose word comes before that of another one comes before it
+  -- an index whose word comes before that of another one comes before it
   pub place_before : (j u k t : ℕ) (v : List ℕ) → j < length p.order → k < length p.order → IsUpTo (way_at ways j) v → IsMetBefore (u ∷ v) (word_at ways k t) → IsPlaceBefore j u k t
   place_before j u k t v in_j in_k up (inl l) = inl (earlier_way j k in_j in_k (up_to_before (way_at ways j) v (way_at ways k) up l))
   place_before j u k t v in_j in_k (inl e) (inr (f, l)) = inr (same_way j k in_j in_k (e ∙ f), l)
   place_before j u k t v in_j in_k (inr l') (inr (f, l)) = inl (earlier_way j k in_j in_k (subst (IsMetBefore (way_at ways j)) f l'))
 
-  -- of one pair one place
+  -- of one pair one index
   pub one_of_first : (i j : ℕ) → i < length p.order → j < length p.order → (pair_at p.order i).0 ≡ (pair_at p.order j).0 → (pair_at p.order i).1 ≡ (pair_at p.order j).1
   one_of_first i j in_i in_j e =
       same_Some (pair_at p.order i).1 (pair_at p.order j).1 (sym (h.partner i in_i) ∙ ap (λ s. slice_index_or p.partners s None) e ∙ h.partner j in_j)
 
   module _ (k t : ℕ) (in_k : k < length p.order) (passed : (i u : ℕ) → i < length p.order → u < labels a → IsPlaceBefore i u k t → IsPassed a b p ways i u) where
-    -- a pair to which a word leads that is met before this place
+    -- a pair to which a word leads that is met before this index
     abbrev pub IsHeld : List ℕ → ℕ → ℕ → Type 0
     IsHeld w s q = (j : ℕ) × (j < length p.order) × (pair_at p.order j ≡ (s, q)) × IsUpTo (way_at ways j) w
 
-    -- what comes behind a place that is passed
+    -- what comes behind an index that is passed
     leads_on : (ts : List ℕ) (j s q u v s' q' : ℕ) → j < length p.order → u < labels a → IsPlaceBefore j u k t → pair_at p.order j ≡ (s, q) → IsUpTo (way_at ways j) ts
         → HaveOneName a b u v → HasArc a s u s' → HasArc b q v q' → IsHeld (u ∷ ts) s' q'
     leads_on ts j s q u v s' q' in_j in_u before at up name x y = go (passed j u in_j in_u before)
@@ -75,7 +75,7 @@ module _ (a b : System) (c : AreComparable a b) (p : Pairs) (ways : List (List �
         let (j, in_j, at, up) = held ts s q m (before_trans ts (u ∷ ts) (word_at ways k t) (before_longer u ts) before) in
         leads_on ts j s q u v s' q' in_j (arc_in_range a c.first.in_range s u s' x).1 (place_before j u k t ts in_j in_k up before) at up name x y
 
-    -- the place of a word that comes before is passed
+    -- the index of a word that comes before is passed
     passed_behind : (ts : List ℕ) (s q u : ℕ) → Meets a b ts s q → u < labels a → IsMetBefore (u ∷ ts) (word_at ways k t)
         → (j : ℕ) × (pair_at p.order j ≡ (s, q)) × IsPassed a b p ways j u
     passed_behind ts s q u m in_u before =
@@ -117,7 +117,7 @@ module _ (a b : System) (c : AreComparable a b) (p : Pairs) (k t : ℕ) (f : IsF
   abbrev ways : List (List ℕ)
   ways = f.ways
 
-  -- each word comes before that of the place
+  -- each word comes before that of the index
   pub behind : (j : ℕ) → j < length p.order → IsMetBefore (way_at ways j) (word_at ways k t)
   behind j in_j = go (cases_eq j 0)
     where

@@ -43,7 +43,7 @@ pub record ArePairs (a b : System) (p : Pairs) (ways : List (List ℕ)) : Type 0
   pub one_taker : (i j : ℕ) → i < length p.order → j < length p.order → (pair_at p.order i).1 ≡ (pair_at p.order j).1 → i ≡ j
   pub count : count_by is_none p.partners + length p.order ≡ states a
 
--- the place of label u at pair number i comes before that of label t at pair number k
+-- the index of label u at pair number i comes before that of label t at pair number k
 abbrev pub IsPlaceBefore : ℕ → ℕ → ℕ → ℕ → Type 0
 IsPlaceBefore i u k t = (i < k) ⊎ ((i ≡ k) × (u < t))
 
@@ -54,7 +54,7 @@ pub data IsPassed (a b : System) (p : Pairs) (ways : List (List ℕ)) (i t : ℕ
   both : (u j s q : ℕ) → HaveOneName a b t u → HasArc a (pair_at p.order i).0 t s → HasArc b (pair_at p.order i).1 u q → j < length p.order
       → pair_at p.order j ≡ (s, q) → (way_at ways j ≡ t ∷ way_at ways i) ⊎ IsMetBefore (way_at ways j) (t ∷ way_at ways i) → IsPassed a b p ways i t
 
--- all places before that of label t at pair number k are passed, and each pair but the first was met at one of them
+-- all indices before that of label t at pair number k are passed, and each pair but the first was met at one of them
 pub record IsFollowedTo (a b : System) (p : Pairs) (k t : ℕ) : Type 0 where
   pub ways : List (List ℕ)
   pub pairs : ArePairs a b p ways

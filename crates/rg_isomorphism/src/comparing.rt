@@ -45,12 +45,12 @@ fn walk(alloc: Global, a: &Lts, b: &Lts, numbers: &[u32]) -> Result<Same, NoMemo
     ensures { IfOk result (λ same. Compares a.now b.now (told_of same)) }
 {
     let mut pairing = first_pair(alloc, a, b)?;
-    let mut place = 0;
-    while place < pairing.order.len() {
-        if let Some(difference) = follow(a, b, numbers, &mut pairing, place)? {
+    let mut index = 0;
+    while index < pairing.order.len() {
+        if let Some(difference) = follow(a, b, numbers, &mut pairing, index)? {
             return Ok(difference);
         }
-        place += 1;
+        index += 1;
     }
     Ok(Same::Map(mapped(alloc, &pairing.partners)?))
 }
@@ -61,18 +61,18 @@ fn follow(
     b: &Lts,
     numbers: &[u32],
     pairing: &mut Pairing,
-    place: usize,
+    index: usize,
 ) -> Result<Option<Same>, NoMemory>
     requires comparable { AreComparable a.now b.now }
     requires long { length numbers.now ≡ labels a.now }
     requires each { (t : ℕ) → t < labels a.now → HaveOneName a.now b.now t (slice_index numbers.now t) }
-    requires within { place < length pairing.old.order.items }
-    requires followed { IsFollowedTo a.now b.now (pairs_in pairing.old) place 0 }
+    requires within { index < length pairing.old.order.items }
+    requires followed { IsFollowedTo a.now b.now (pairs_in pairing.old) index 0 }
     ensures found { IfOk result (λ o. IfSome o (IsTold a.now b.now)) }
-    ensures none { IfOk result (λ o. IfNone o (IsFollowedTo a.now b.now (pairs_in pairing.new) (place + 1) 0)) }
+    ensures none { IfOk result (λ o. IfNone o (IsFollowedTo a.now b.now (pairs_in pairing.new) (index + 1) 0)) }
 {
     for t in 0..a.labels() {
-        if let Some(difference) = lead_on(a, b, pairing, place, t, numbers[t as usize])? {
+        if let Some(difference) = lead_on(a, b, pairing, index, t, numbers[t as usize])? {
             return Ok(Some(difference));
         }
     }
@@ -84,19 +84,19 @@ fn lead_on(
     a: &Lts,
     b: &Lts,
     pairing: &mut Pairing,
-    place: usize,
+    index: usize,
     t: u32,
     u: u32,
 ) -> Result<Option<Same>, NoMemory>
     requires comparable { AreComparable a.now b.now }
     requires name { HaveOneName a.now b.now t u }
-    requires within { place < length pairing.old.order.items }
-    requires followed { IsFollowedTo a.now b.now (pairs_in pairing.old) place t }
+    requires within { index < length pairing.old.order.items }
+    requires followed { IsFollowedTo a.now b.now (pairs_in pairing.old) index t }
     ensures found { IfOk result (λ o. IfSome o (IsTold a.now b.now)) }
-    ensures none { IfOk result (λ o. IfNone o (IsFollowedTo a.now b.now (pairs_in pairing.new) place (t + 1))) }
-    ensures within { OnOk result (place < length pairing.new.order.items) }
+    ensures none { IfOk result (λ o. IfNone o (IsFollowedTo a.now b.now (pairs_in pairing.new) index (t + 1))) }
+    ensures within { OnOk result (index < length pairing.new.order.items) }
 {
-    let (s, q) = pairing.order[place];
+    let (s, q) = pairing.order[index];
     match (a.arc_at(s, t), b.arc_at(q, u)) {
         (None, None) => Ok(None),
         (Some(_), None) => Ok(Some(Same::Step(1, s, t))),

@@ -1,6 +1,6 @@
 //! Verdicts on nets that were worked by hand.
 use crate::samples::{CYCLE, CYCLE_NET, LOOP_AND_STEP, NONE, STEP, net, system};
-use rg_fraction::Wide;
+use rg_integers::Wide;
 use rg_net::{Class, ClassBreak};
 use rg_net_verdict::{CheckStop, CheckWide, NetNo, NetVerdict, check_net};
 use std::alloc::Global;

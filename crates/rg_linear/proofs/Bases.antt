@@ -22,13 +22,18 @@ cycle_basis_is_one labels vectors b b' h h' = λ i. record { kept = kept i; memb
     kept = kept_is_one vectors b.kept b'.kept h.kept h'.kept
 
     members : b.members ≡ b'.members
-    members = same_members b.members b'.members (same_cycle (vector_system labels vectors b.kept) (column_set (vector_system labels vectors b.kept)) 0 (free_set b.members) (free_set b'.members) h.cycle (subst (λ k. CycleWalk (vector_system labels vectors k) (free_set b'.members)) (sym kept) h'.cycle))
+    members = same_members b.members b'.members
+        (same_cycle (vector_system labels vectors b.kept) (column_set (vector_system labels vectors b.kept)) 0 (free_set b.members) (free_set b'.members) h.cycle
+        (subst (λ k. CycleWalk (vector_system labels vectors k) (free_set b'.members)) (sym kept) h'.cycle))
 
     relation : (t : ℕ) → b.relation t ≡ b'.relation t
     relation t = ⊎_elim
         (λ lt. ⊎_elim
         (λ has. h.others t (inr has) ∙ sym (h'.others t (inr (subst (λ m. Contains m t) members has))))
-        (λ lacks. same_relation (vector_system labels vectors b.kept) b.members t (b.relation t) (b'.relation t) (h.relations t lt lacks) (subst (λ k. DictionaryRow (vector_system labels vectors k) b.members t (b'.relation t)) (sym kept) (subst (λ m. DictionaryRow (vector_system labels vectors b'.kept) m t (b'.relation t)) (sym members) (h'.relations t lt (λ has. lacks (subst (λ m. Contains m t) (sym members) has))))))
+        (λ lacks. same_relation (vector_system labels vectors b.kept) b.members t (b.relation t) (b'.relation t) (h.relations t lt lacks)
+        (subst (λ k. DictionaryRow (vector_system labels vectors k) b.members t (b'.relation t)) (sym kept)
+        (subst (λ m. DictionaryRow (vector_system labels vectors b'.kept) m t (b'.relation t)) (sym members)
+        (h'.relations t lt (λ has. lacks (subst (λ m. Contains m t) (sym members) has))))))
         (is_member b.members t))
         (λ past. h.others t (inl past) ∙ sym (h'.others t (inl past)))
         (cases_lt t labels)

@@ -6,7 +6,9 @@ use Rattle.std.proofs.lemmas.Bool.{cases_lt}
 use Rattle.rg_linear.specs.System.{LinearSystem, variables, row_variable, IsPoint}
 use Rattle.rg_linear.specs.Dictionary.{IsFree, Relation, DictionaryRow, column_set}
 use Rattle.rg_linear.specs.Descent.{WideAt, Outcome, Outcome.point, Outcome.refuted, Outcome.wide, DescentFromStart, IsAtZero, multiplier_of}
-use Rattle.rg_linear.specs.Branching.{Form, form_at, scaled_value, SplitSide, node_system, IsWholeAt, AllWhole, FirstFraction, SplitTree, SplitTree.leaf, SplitTree.split, weights_from, BranchOutcome, BranchOutcome.found, BranchOutcome.tree, BranchOutcome.stopped, IsEnd, low_side, high_side, BranchFrom, BranchFrom.passes, BranchFrom.refutes, BranchFrom.whole, BranchFrom.low_ends, BranchFrom.high_ends, BranchFrom.both_refuted}
+use Rattle.rg_linear.specs.Branching.{Form, form_at, scaled_value, SplitSide, node_system, IsWholeAt, AllWhole, FirstFraction, SplitTree, SplitTree.leaf, SplitTree.split}
+use Rattle.rg_linear.specs.Branching.{weights_from, BranchOutcome, BranchOutcome.found, BranchOutcome.tree, BranchOutcome.stopped, IsEnd, low_side, high_side, BranchFrom}
+use Rattle.rg_linear.specs.Branching.{BranchFrom.passes, BranchFrom.refutes, BranchFrom.whole, BranchFrom.low_ends, BranchFrom.high_ends, BranchFrom.both_refuted}
 use Rattle.rg_integers.proofs.Ring.{ring, mul_left_comm, mul-add, mul-neg}
 use Rattle.std.proofs.Math.IntN.{*ℤ_comm, *ℤ-zero}
 use Rattle.rg_integers.proofs.Order.{mul_positive, mul_not_negative, mul-cancel_left, positive_differs}
@@ -58,7 +60,9 @@ module _ (system : LinearSystem) (forms : List Form) (above : List SplitSide) (m
       turn : (s s' u f : ℤ) → s' *ℤ (u *ℤ (f *ℤ s)) ≡ s *ℤ (u *ℤ (f *ℤ s'))
       turn s s' u f = simp ring
 
-  low_moves : (form : Form) (s s' : ℤ) (v v' : ℕ → ℤ) (u : ℤ) → IsPoint (node_system system forms above) s v → IsAtZero members v → IsPoint (node_system system forms above) s' v' → IsAtZero members v' → (u *ℤ (form.scale *ℤ s)) <ℤ scaled_value system form v → (u *ℤ (form.scale *ℤ s')) <ℤ scaled_value system form v'
+  low_moves : (form : Form) (s s' : ℤ) (v v' : ℕ → ℤ) (u : ℤ) → IsPoint (node_system system forms above) s v → IsAtZero members v
+      → IsPoint (node_system system forms above) s' v' → IsAtZero members v' → (u *ℤ (form.scale *ℤ s)) <ℤ scaled_value system form v
+      → (u *ℤ (form.scale *ℤ s')) <ℤ scaled_value system form v'
   low_moves form s s' v v' u p z p' z' h = less_of_times s _ _ p.positive (finish _ _ _ _ (positive_times_less s' _ _ p'.positive h) (turn s s' u form.scale) (same_value form s s' v v' p z p' z'))
     where
       turn : (s s' u f : ℤ) → s' *ℤ (u *ℤ (f *ℤ s)) ≡ s *ℤ (u *ℤ (f *ℤ s'))
@@ -67,7 +71,9 @@ module _ (system : LinearSystem) (forms : List Form) (above : List SplitSide) (m
       finish : (a b c d : ℤ) → a <ℤ b → a ≡ c → b ≡ d → c <ℤ d
       finish a b c d h e f = omega (arith, ints)
 
-  high_moves : (form : Form) (s s' : ℤ) (v v' : ℕ → ℤ) (u : ℤ) → IsPoint (node_system system forms above) s v → IsAtZero members v → IsPoint (node_system system forms above) s' v' → IsAtZero members v' → scaled_value system form v <ℤ (u *ℤ (form.scale *ℤ s)) → scaled_value system form v' <ℤ (u *ℤ (form.scale *ℤ s'))
+  high_moves : (form : Form) (s s' : ℤ) (v v' : ℕ → ℤ) (u : ℤ) → IsPoint (node_system system forms above) s v → IsAtZero members v
+      → IsPoint (node_system system forms above) s' v' → IsAtZero members v' → scaled_value system form v <ℤ (u *ℤ (form.scale *ℤ s))
+      → scaled_value system form v' <ℤ (u *ℤ (form.scale *ℤ s'))
   high_moves form s s' v v' u p z p' z' h = less_of_times s _ _ p.positive (finish _ _ _ _ (positive_times_less s' _ _ p'.positive h) (same_value form s s' v v' p z p' z') (turn s s' u form.scale))
     where
       turn : (s s' u f : ℤ) → s' *ℤ (u *ℤ (f *ℤ s)) ≡ s *ℤ (u *ℤ (f *ℤ s'))
@@ -127,7 +133,9 @@ module _ (system : LinearSystem) (forms : List Form) (above : List SplitSide) (m
       go (inr ge) (inr le) = omega arith
 
   same_floor : (f : ℕ) (u u' : ℤ) → FirstFraction system forms above members f u → FirstFraction system forms above members f u' → u ≡ u'
-  same_floor f u u' a b = between u' u ((form_at forms f).scale *ℤ b.scale) (scaled_value system (form_at forms f) b.v) b.low b.high (weaken (low_moves (form_at forms f) a.scale b.scale a.v b.v u a.point a.zeros b.point b.zeros a.low)) (high_moves (form_at forms f) a.scale b.scale a.v b.v (u +ℤ pos 1) a.point a.zeros b.point b.zeros a.high)
+  same_floor f u u' a b = between u' u ((form_at forms f).scale *ℤ b.scale) (scaled_value system (form_at forms f) b.v) b.low b.high
+      (weaken (low_moves (form_at forms f) a.scale b.scale a.v b.v u a.point a.zeros b.point b.zeros a.low))
+      (high_moves (form_at forms f) a.scale b.scale a.v b.v (u +ℤ pos 1) a.point a.zeros b.point b.zeros a.high)
     where
       weaken : {a b : ℤ} → a <ℤ b → a ≤ℤ b
       weaken h = omega (arith, ints)
@@ -164,7 +172,9 @@ module _ (system : LinearSystem) (forms : List Form) (above : List SplitSide) wh
       let em : members ≡ members' = cc in
       let ei : i ≡ i' = cc in
       let ef : fixed ≡ fixed' = cc in
-      let ek : k ≡ k' = same_relation (node_system system forms above) members' (row_variable (node_system system forms above) i') k k' (subst (λ m. DictionaryRow (node_system system forms above) m (row_variable (node_system system forms above) i') k) em (subst (λ x. DictionaryRow (node_system system forms above) members (row_variable (node_system system forms above) x) k) ei row)) row' in
+      let ek : k ≡ k' = same_relation (node_system system forms above) members' (row_variable (node_system system forms above) i') k k'
+      (subst (λ m. DictionaryRow (node_system system forms above) m (row_variable (node_system system forms above) i') k) em
+      (subst (λ x. DictionaryRow (node_system system forms above) members (row_variable (node_system system forms above) x) k) ei row)) row' in
       cc
   same_node (is_refuted members fixed i k) (is_whole members') (d, row) (d', all) = let e = one _ _ d d' in cc
   same_node (is_refuted members fixed i k) (is_split members' f u) (d, row) (d', first) = let e = one _ _ d d' in cc
@@ -217,11 +227,15 @@ Unfolded system forms above o (is_split members f u) = LowEnds system forms abov
 
 unfolded : (system : LinearSystem) (forms : List Form) (above : List SplitSide) (o : BranchOutcome) (node : Node) → IsNode system forms above node → BranchFrom system forms above o → Unfolded system forms above o node
 unfolded system forms above o node is (passes w d) = subst (Unfolded system forms above (stopped above w)) (same_node system forms above (is_wide w) node d is) refl
-unfolded system forms above o node is (refutes members fixed i k d row) = subst (Unfolded system forms above (tree (leaf (weights_from (multiplier_of (node_system system forms above) k i) 0 (length (node_system system forms above).rows))))) (same_node system forms above (is_refuted members fixed i k) node (d, row) is) refl
+unfolded system forms above o node is (refutes members fixed i k d row) = subst
+    (Unfolded system forms above (tree (leaf (weights_from (multiplier_of (node_system system forms above) k i) 0 (length (node_system system forms above).rows)))))
+    (same_node system forms above (is_refuted members fixed i k) node (d, row) is) refl
 unfolded system forms above o node is (whole members d all) = subst (Unfolded system forms above (found members above)) (same_node system forms above (is_whole members) node (d, all) is) refl
 unfolded system forms above o node is (low_ends members f u d first low end) = subst (Unfolded system forms above o) (same_node system forms above (is_split members f u) node (d, first) is) (inl (record { low = low; end = end }))
 unfolded system forms above o node is (high_ends members f u t d first low high end) = subst (Unfolded system forms above o) (same_node system forms above (is_split members f u) node (d, first) is) (inr (inl (record { refuted_low = t; low = low; high = high; end = end })))
-unfolded system forms above o node is (both_refuted members f u t t' d first low high) = subst (Unfolded system forms above (tree (split f u t t'))) (same_node system forms above (is_split members f u) node (d, first) is) (inr (inr (record { refuted_low = t; refuted_high = t'; low = low; high = high; is = refl })))
+unfolded system forms above o node is (both_refuted members f u t t' d first low high) = subst (Unfolded system forms above (tree (split f u t t')))
+    (same_node system forms above (is_split members f u) node (d, first) is)
+    (inr (inr (record { refuted_low = t; refuted_high = t'; low = low; high = high; is = refl })))
 
 no_tree : (t : SplitTree) (o : BranchOutcome) → o ≡ tree t → IsEnd o → ⊥
 no_tree t (found members above) e end = cc
@@ -238,15 +252,21 @@ same_branch system forms above o o' (low_ends members f u d first low end) b = g
     go (inl l) ih = ih o' l.low
     go (inr (inl h)) ih = absurd (no_tree h.refuted_low o (ih (tree h.refuted_low) h.low) end)
     go (inr (inr r)) ih = absurd (no_tree r.refuted_low o (ih (tree r.refuted_low) r.low) end)
-same_branch system forms above o o' (high_ends members f u t d first low high end) b = go (unfolded system forms above o' (is_split members f u) (d, first) b) (λ x e. same_branch system forms (above ++ low_side f u ∷ []) (tree t) x low e) (λ x e. same_branch system forms (above ++ high_side f u ∷ []) o x high e)
+same_branch system forms above o o' (high_ends members f u t d first low high end) b = go (unfolded system forms above o' (is_split members f u) (d, first) b)
+    (λ x e. same_branch system forms (above ++ low_side f u ∷ []) (tree t) x low e) (λ x e. same_branch system forms (above ++ high_side f u ∷ []) o x high e)
   where
-    go : LowEnds system forms above f u o' ⊎ (HighEnds system forms above f u o' ⊎ BothRefuted system forms above f u o') → ((x : BranchOutcome) → BranchFrom system forms (above ++ low_side f u ∷ []) x → tree t ≡ x) → ((x : BranchOutcome) → BranchFrom system forms (above ++ high_side f u ∷ []) x → o ≡ x) → o ≡ o'
+    go : LowEnds system forms above f u o' ⊎ (HighEnds system forms above f u o' ⊎ BothRefuted system forms above f u o')
+        → ((x : BranchOutcome) → BranchFrom system forms (above ++ low_side f u ∷ []) x → tree t ≡ x)
+        → ((x : BranchOutcome) → BranchFrom system forms (above ++ high_side f u ∷ []) x → o ≡ x) → o ≡ o'
     go (inl l) ih ih' = absurd (no_tree t o' (sym (ih o' l.low)) l.end)
     go (inr (inl h)) ih ih' = ih' o' h.high
     go (inr (inr r)) ih ih' = absurd (no_tree r.refuted_high o (ih' (tree r.refuted_high) r.high) end)
-same_branch system forms above o o' (both_refuted members f u t t' d first low high) b = go (unfolded system forms above o' (is_split members f u) (d, first) b) (λ x e. same_branch system forms (above ++ low_side f u ∷ []) (tree t) x low e) (λ x e. same_branch system forms (above ++ high_side f u ∷ []) (tree t') x high e)
+same_branch system forms above o o' (both_refuted members f u t t' d first low high) b = go (unfolded system forms above o' (is_split members f u) (d, first) b)
+    (λ x e. same_branch system forms (above ++ low_side f u ∷ []) (tree t) x low e) (λ x e. same_branch system forms (above ++ high_side f u ∷ []) (tree t') x high e)
   where
-    go : LowEnds system forms above f u o' ⊎ (HighEnds system forms above f u o' ⊎ BothRefuted system forms above f u o') → ((x : BranchOutcome) → BranchFrom system forms (above ++ low_side f u ∷ []) x → tree t ≡ x) → ((x : BranchOutcome) → BranchFrom system forms (above ++ high_side f u ∷ []) x → tree t' ≡ x) → tree (split f u t t') ≡ o'
+    go : LowEnds system forms above f u o' ⊎ (HighEnds system forms above f u o' ⊎ BothRefuted system forms above f u o')
+        → ((x : BranchOutcome) → BranchFrom system forms (above ++ low_side f u ∷ []) x → tree t ≡ x)
+        → ((x : BranchOutcome) → BranchFrom system forms (above ++ high_side f u ∷ []) x → tree t' ≡ x) → tree (split f u t t') ≡ o'
     go (inl l) ih ih' = absurd (no_tree t o' (sym (ih o' l.low)) l.end)
     go (inr (inl h)) ih ih' = absurd (no_tree t' o' (sym (ih' o' h.high)) h.end)
     go (inr (inr r)) ih ih' = let e = ih (tree r.refuted_low) r.low in let e' = ih' (tree r.refuted_high) r.high in let is = r.is in cc

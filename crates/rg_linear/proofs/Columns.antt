@@ -111,5 +111,7 @@ columns_row system i lt = record {
 pub scaled_point : (system : LinearSystem) (scale times : ℤ) (v : ℕ → ℤ) → pos 0 <ℤ times → IsPoint system scale v → IsPoint system (times *ℤ scale) (λ w. times *ℤ v w)
 scaled_point system scale times v h p = record {
   positive = mul_positive times scale h p.positive;
-  rows = λ i lt. ap (λ z. times *ℤ z) (p.rows i lt) ∙ mul-add times _ _ ∙ ap₂ ◌+ℤ◌ (sym (sum_below-times system.columns times (λ j. entry system i j *ℤ v j)) ∙ sum_below-same system.columns _ _ (λ j below. mul_left_comm times (entry system i j) (v j))) (mul_left_comm times (row_at system i).constant scale);
+  rows = λ i lt. ap (λ z. times *ℤ z) (p.rows i lt) ∙ mul-add times _ _
+      ∙ ap₂ ◌+ℤ◌ (sym (sum_below-times system.columns times (λ j. entry system i j *ℤ v j))
+      ∙ sum_below-same system.columns _ _ (λ j below. mul_left_comm times (entry system i j) (v j))) (mul_left_comm times (row_at system i).constant scale);
 }

@@ -6,7 +6,7 @@ use Rattle.std.proofs.lemmas.Bool.{cases_lt}
 use Rattle.rg_linear.specs.System.{LinearSystem, variables, row_variable, entry, IsPoint}
 use Rattle.rg_integers.specs.Sum.{sum_below}
 use Rattle.rg_linear.specs.Dictionary.{Takes, Relation, DictionaryRow, column_set, HasDictionary}
-use Rattle.rg_fraction.specs.declared.term.Wide.{Wide}
+use Rattle.rg_integers.specs.declared.term.Wide.{Wide}
 use Rattle.rg_linear.specs.Exchange.{exchanged, AllFit, FirstWide}
 use Rattle.rg_linear.specs.Cycle.{IsHomogeneous, CycleOutcome, CycleOutcome.free_set, CycleOutcome.too_wide, IsSkipped, Picks, CycleWalkFrom, CycleWalkFrom.no_row_left, CycleWalkFrom.skipped, CycleWalkFrom.passes, CycleWalkFrom.exchanges, CycleWalk, RowsAreZero, FollowsRelations}
 use Rattle.rg_integers.proofs.Ring.{ring, mul_left_comm}
@@ -65,7 +65,10 @@ record GoesOn (system : LinearSystem) (members : List ℕ) (i j : ℕ) (o : Cycl
 after_pick : (system : LinearSystem) (members : List ℕ) (i j : ℕ) (o : CycleOutcome) → i < length system.rows → Picks system members i j → CycleWalkFrom system members i o → Stopped system members i j o ⊎ GoesOn system members i j o
 after_pick system members i j o lt p (no_row_left le) = absurd (omega arith)
 after_pick system members i j o lt p (skipped lt' s d) = absurd (skipped_or_picked system members i j s p)
-after_pick system members i j o lt p (passes j' w n t lt' p' f) = subst (λ x. Stopped system members i x (too_wide (record { members = members; pivot = row_variable system i; leaves = j'; target = w; entry = n; term = t })) ⊎ GoesOn system members i x (too_wide (record { members = members; pivot = row_variable system i; leaves = j'; target = w; entry = n; term = t }))) (same_pick system members i j' j p' p) (inl (record { w = w; n = n; t = t; first = f; is = refl }))
+after_pick system members i j o lt p (passes j' w n t lt' p' f) = subst
+    (λ x. Stopped system members i x (too_wide (record { members = members; pivot = row_variable system i; leaves = j'; target = w; entry = n; term = t }))
+    ⊎ GoesOn system members i x (too_wide (record { members = members; pivot = row_variable system i; leaves = j'; target = w; entry = n; term = t })))
+    (same_pick system members i j' j p' p) (inl (record { w = w; n = n; t = t; first = f; is = refl }))
 after_pick system members i j o lt p (exchanges j' lt' p' fit d) = subst (λ x. Stopped system members i x o ⊎ GoesOn system members i x o) (same_pick system members i j' j p' p) (inr (record { fit = fit; rest = d }))
 
 after_last : (system : LinearSystem) (members : List ℕ) (i : ℕ) (o : CycleOutcome) → length system.rows ≤ i → CycleWalkFrom system members i o → free_set members ≡ o
@@ -119,13 +122,17 @@ walk system (suc n) i members e has ahead = go (has.rows (row_variable system i)
     lt : i < length system.rows
     lt = omega arith
 
-    picks : (j : ℕ) → Picks system members i j → AllFit system members (row_variable system i) j ⊎ HasWide system members (row_variable system i) j → ((members' : List ℕ) → HasDictionary system members' → RowsAhead system members' (suc i) → (o : CycleOutcome) × CycleWalkFrom system members' (suc i) o) → (o : CycleOutcome) × CycleWalkFrom system members i o
+    picks : (j : ℕ) → Picks system members i j → AllFit system members (row_variable system i) j ⊎ HasWide system members (row_variable system i) j
+        → ((members' : List ℕ) → HasDictionary system members' → RowsAhead system members' (suc i) → (o : CycleOutcome) × CycleWalkFrom system members' (suc i) o)
+        → (o : CycleOutcome) × CycleWalkFrom system members i o
     picks j p (inr w) next = (_, passes j w.w w.n w.t lt p w.first)
     picks j p (inl fit) next =
         let (o, d) = next (exchanged members (row_variable system i) j) (exchanged_has system members (row_variable system i) j p.k has p.row (picked_member system members i j p) p.named) (ahead_next system members i j ahead) in
         (o, exchanges j lt p fit d)
 
-    at : (k : Relation) → DictionaryRow system members (row_variable system i) k → ((t : ℕ) → t < system.columns → k.coefficient t ≡ pos 0) ⊎ LeastColumn k system.columns → ((members' : List ℕ) → HasDictionary system members' → RowsAhead system members' (suc i) → (o : CycleOutcome) × CycleWalkFrom system members' (suc i) o) → (o : CycleOutcome) × CycleWalkFrom system members i o
+    at : (k : Relation) → DictionaryRow system members (row_variable system i) k → ((t : ℕ) → t < system.columns → k.coefficient t ≡ pos 0)
+        ⊎ LeastColumn k system.columns → ((members' : List ℕ) → HasDictionary system members' → RowsAhead system members' (suc i) → (o : CycleOutcome)
+        × CycleWalkFrom system members' (suc i) o) → (o : CycleOutcome) × CycleWalkFrom system members i o
     at k row (inl none) next =
         let (o, d) = next members has (λ m member. (let less = ahead m member in omega arith)) in
         (o, skipped lt (record { k = k; row = row; none = none }) d)
@@ -189,7 +196,8 @@ columns_alone system k v none = sum_below-split system.columns (length system.ro
     drop a b e = omega (arith, ints)
 
 pub rows_zero-follow : (system : LinearSystem) (members : List ℕ) → IsHomogeneous system → (scale : ℤ) (v : ℕ → ℤ) → IsPoint system scale v → RowsAreZero system v → FollowsRelations system members v
-rows_zero-follow system members plain scale v p zeros t k lt row = row.holds scale v p ∙ drop _ _ _ (no_constant system members t k plain row) ∙ columns_alone system k v (λ m below. ap (λ z. k.coefficient (row_variable system m) *ℤ z) (zeros m below) ∙ *ℤ-zero (k.coefficient (row_variable system m)))
+rows_zero-follow system members plain scale v p zeros t k lt row = row.holds scale v p ∙ drop _ _ _ (no_constant system members t k plain row)
+    ∙ columns_alone system k v (λ m below. ap (λ z. k.coefficient (row_variable system m) *ℤ z) (zeros m below) ∙ *ℤ-zero (k.coefficient (row_variable system m)))
   where
     drop : (c s a : ℤ) → c ≡ pos 0 → (c *ℤ s) +ℤ a ≡ a
     drop c s a e = rw e (simp ring (omega (arith, ints)))

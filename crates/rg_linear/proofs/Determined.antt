@@ -5,7 +5,7 @@ use Rattle.std.proofs.lemmas.Int.{ints}
 use Rattle.std.proofs.lemmas.Bool.{cases_lt}
 use Rattle.rg_linear.specs.System.{LinearSystem, row_variable}
 use Rattle.rg_linear.specs.Dictionary.{Relation, DictionaryRow}
-use Rattle.rg_fraction.specs.declared.term.Wide.{Wide}
+use Rattle.rg_integers.specs.declared.term.Wide.{Wide}
 use Rattle.rg_linear.specs.Exchange.{exchanged, AllFit, FirstWide}
 use Rattle.rg_linear.specs.Descent.{Outcome, Outcome.point, Outcome.refuted, Outcome.wide, IsStop, IsPassed, IsStuck, Chooses, DescentFrom, DescentFrom.after_last, DescentFrom.passed, DescentFrom.stuck, DescentFrom.passes, DescentFrom.stops_below, DescentFrom.goes_on}
 use Rattle.rg_linear.proofs.Unique.{same_relation}
@@ -87,7 +87,9 @@ pub unfolded : (system : LinearSystem) (members fixed : List ℕ) (r i : ℕ) (o
 unfolded system members fixed r i o kind lt is (after_last le) = absurd (omega arith)
 unfolded system members fixed r i o kind lt is (passed lt' p d) = subst (Unfolded system members fixed r i o) (same_kind system members fixed i is_passed kind p is) d
 unfolded system members fixed r i o kind lt is (stuck lt' s) = subst (Unfolded system members fixed r i (refuted members i fixed)) (same_kind system members fixed i is_stuck kind s is) refl
-unfolded system members fixed r i o kind lt is (passes j w n t lt' c f) = subst (Unfolded system members fixed r i (wide (record { members = members; pivot = row_variable system i; leaves = j; target = w; entry = n; term = t }))) (same_kind system members fixed i (is_chosen j) kind c is) (inl (record { w = w; n = n; t = t; first = f; is = refl }))
+unfolded system members fixed r i o kind lt is (passes j w n t lt' c f) = subst
+    (Unfolded system members fixed r i (wide (record { members = members; pivot = row_variable system i; leaves = j; target = w; entry = n; term = t })))
+    (same_kind system members fixed i (is_chosen j) kind c is) (inl (record { w = w; n = n; t = t; first = f; is = refl }))
 unfolded system members fixed r i o kind lt is (stops_below j lt' c fit d stop) = subst (Unfolded system members fixed r i o) (same_kind system members fixed i (is_chosen j) kind c is) (inr (inl (record { fit = fit; below = d; stop = stop })))
 unfolded system members fixed r i o kind lt is (goes_on j after lt' c fit d rest) = subst (Unfolded system members fixed r i o) (same_kind system members fixed i (is_chosen j) kind c is) (inr (inr (record { after = after; fit = fit; below = d; rest = rest })))
 
@@ -130,7 +132,9 @@ same_outcome system members fixed r i o o' (stops_below j lt c fit d stop) d' =
 same_outcome system members fixed r i o o' (goes_on j after lt c fit d rest) d' =
     go (unfolded system members fixed r i o' (is_chosen j) lt c d') (λ x e. same_outcome system (exchanged members (row_variable system i) j) (row_variable system i ∷ fixed) i 0 (point after) x d e) (λ e. same_outcome system after fixed r (suc i) o o' rest e)
   where
-    go : Stopped system members i j o' ⊎ (StopsBelow system members fixed i j o' ⊎ GoesOn system members fixed r i j o') → ((x : Outcome) → DescentFrom system (exchanged members (row_variable system i) j) (row_variable system i ∷ fixed) i 0 x → point after ≡ x) → (DescentFrom system after fixed r (suc i) o' → o ≡ o') → o ≡ o'
+    go : Stopped system members i j o' ⊎ (StopsBelow system members fixed i j o' ⊎ GoesOn system members fixed r i j o')
+        → ((x : Outcome) → DescentFrom system (exchanged members (row_variable system i) j) (row_variable system i ∷ fixed) i 0 x → point after ≡ x)
+        → (DescentFrom system after fixed r (suc i) o' → o ≡ o') → o ≡ o'
     go (inl s) ih next = absurd (wide_or_fit system members (row_variable system i) j s.w s.n s.t s.first fit)
     go (inr (inl b)) ih next = absurd (not_both after o' (ih o' b.below) b.stop)
     go (inr (inr g)) ih next = next (subst (λ x. DescentFrom system x fixed r (suc i) o') (sym (same_after after g.after (ih (point g.after) g.below))) g.rest)

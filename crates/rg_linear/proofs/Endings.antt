@@ -7,7 +7,10 @@ use Rattle.rg_linear.specs.System.{LinearRow, LinearSystem, row_variable, IsPoin
 use Rattle.rg_linear.specs.Dictionary.{Takes}
 use Rattle.rg_linear.specs.Descent.{Outcome, Outcome.point, Outcome.refuted, Outcome.wide, DescentFromStart, IsAtZero}
 use Rattle.rg_linear.specs.Room.{gap_of, gap, total}
-use Rattle.rg_linear.specs.Branching.{Form, form_at, scaled_value, SplitSide, side_row, node_system, IsWholeAt, FirstFraction, SplitTree, SplitTree.split, BranchOutcome, BranchOutcome.found, BranchOutcome.tree, BranchOutcome.stopped, IsEnd, low_side, high_side, BranchFrom, BranchFrom.passes, BranchFrom.refutes, BranchFrom.whole, BranchFrom.low_ends, BranchFrom.high_ends, BranchFrom.both_refuted, Branching, ArePositive, AreBounded, low_end, high_end, low_at, high_at, IsInInterval, SidesWithin, TreeWithin, SplitsWithin}
+use Rattle.rg_linear.specs.Branching.{Form, form_at, scaled_value, SplitSide, side_row, node_system, IsWholeAt, FirstFraction, SplitTree, SplitTree.split, BranchOutcome}
+use Rattle.rg_linear.specs.Branching.{BranchOutcome.found, BranchOutcome.tree, BranchOutcome.stopped, IsEnd, low_side, high_side, BranchFrom, BranchFrom.passes}
+use Rattle.rg_linear.specs.Branching.{BranchFrom.refutes, BranchFrom.whole, BranchFrom.low_ends, BranchFrom.high_ends, BranchFrom.both_refuted, Branching, ArePositive}
+use Rattle.rg_linear.specs.Branching.{AreBounded, low_end, high_end, low_at, high_at, IsInInterval, SidesWithin, TreeWithin, SplitsWithin}
 use Rattle.std.proofs.Math.IntN.{*ℤ-zero, *ℤ_comm}
 use Rattle.rg_integers.proofs.Ring.{neg-mul}
 use Rattle.rg_integers.proofs.Order.{mul_positive}
@@ -133,7 +136,12 @@ last_meets system row scale v p meets = subst (λ r. pos 0 ≤ℤ worth system.c
 module _ (system : LinearSystem) (forms : List Form) (above : List SplitSide) (within : Within system forms above) (g : ℕ) (u : ℤ) where
   pub within_low : Within system forms (above ++ low_side g u ∷ [])
   unfolding Within
-  within_low f scale v lt p meets = (subst (λ z. (z *ℤ ((form_at forms f).scale *ℤ scale)) ≤ℤ scaled_value system (form_at forms f) v) (sym (low_end-low (form_at forms f).low f g u above)) old.0, subst (λ z. scaled_value system (form_at forms f) v ≤ℤ (z *ℤ ((form_at forms f).scale *ℤ scale))) (sym (high_end-low (form_at forms f).high f g u above)) (at (equal_or_not g f)))
+  within_low f scale v lt p meets = (
+    subst (λ z. (z *ℤ ((form_at forms f).scale *ℤ scale)) ≤ℤ scaled_value system (form_at forms f) v)
+        (sym (low_end-low (form_at forms f).low f g u above)) old.0,
+    subst (λ z. scaled_value system (form_at forms f) v ≤ℤ (z *ℤ ((form_at forms f).scale *ℤ scale)))
+        (sym (high_end-low (form_at forms f).high f g u above)) (at (equal_or_not g f)),
+  )
     where
       p' : IsPoint (with_row (node_system system forms above) (side_row forms (low_side g u))) scale v
       p' = subst (λ s. IsPoint s scale v) (node_system-side system forms above (low_side g u)) p
@@ -156,7 +164,11 @@ module _ (system : LinearSystem) (forms : List Form) (above : List SplitSide) (w
 
   pub within_high : Within system forms (above ++ high_side g u ∷ [])
   unfolding Within
-  within_high f scale v lt p meets = (subst (λ z. (z *ℤ ((form_at forms f).scale *ℤ scale)) ≤ℤ scaled_value system (form_at forms f) v) (sym (low_end-high (form_at forms f).low f g u above)) (at (equal_or_not g f)), subst (λ z. scaled_value system (form_at forms f) v ≤ℤ (z *ℤ ((form_at forms f).scale *ℤ scale))) (sym (high_end-high (form_at forms f).high f g u above)) old.1)
+  within_high f scale v lt p meets = (
+    subst (λ z. (z *ℤ ((form_at forms f).scale *ℤ scale)) ≤ℤ scaled_value system (form_at forms f) v)
+        (sym (low_end-high (form_at forms f).low f g u above)) (at (equal_or_not g f)),
+    subst (λ z. scaled_value system (form_at forms f) v ≤ℤ (z *ℤ ((form_at forms f).scale *ℤ scale))) (sym (high_end-high (form_at forms f).high f g u above)) old.1,
+  )
     where
       p' : IsPoint (with_row (node_system system forms above) (side_row forms (high_side g u))) scale v
       p' = subst (λ s. IsPoint s scale v) (node_system-side system forms above (high_side g u)) p
@@ -236,7 +248,9 @@ gap-high forms above g u lt lo hi = total-less (length forms) g (gap forms above
 
 -- ---- a split lies in the interval
 
-pub split_within : (system : LinearSystem) (forms : List Form) (above : List SplitSide) (members : List ℕ) (f : ℕ) (u : ℤ) → ArePositive forms → Within system forms above → DescentFromStart (node_system system forms above) (point members) → FirstFraction system forms above members f u → (low_at forms above f ≤ℤ u) × (u <ℤ high_at forms above f)
+pub split_within : (system : LinearSystem) (forms : List Form) (above : List SplitSide) (members : List ℕ) (f : ℕ) (u : ℤ) → ArePositive forms
+    → Within system forms above → DescentFromStart (node_system system forms above) (point members) → FirstFraction system forms above members f u
+    → (low_at forms above f ≤ℤ u) × (u <ℤ high_at forms above f)
 unfolding Within
 split_within system forms above members f u positive within d first =
     let in_interval = within f first.scale first.v first.within first.point (point_is_sound (node_system system forms above) members d first.scale first.v first.point first.zeros) in
@@ -261,7 +275,9 @@ ends_by system forms positive (suc fuel) above lt within = at_descent (start_end
     smaller : (a b : ℕ) → a < b → b < suc fuel → a < fuel
     smaller a b h g = omega arith
 
-    at_split : (members : List ℕ) (f : ℕ) (u : ℤ) → DescentFromStart (node_system system forms above) (point members) → FirstFraction system forms above members f u → ((above' : List SplitSide) → total (length forms) (gap forms above') < fuel → Within system forms above' → (o : BranchOutcome) × BranchFrom system forms above' o) → (o : BranchOutcome) × BranchFrom system forms above o
+    at_split : (members : List ℕ) (f : ℕ) (u : ℤ) → DescentFromStart (node_system system forms above) (point members) → FirstFraction system forms above members f u
+        → ((above' : List SplitSide) → total (length forms) (gap forms above') < fuel → Within system forms above' → (o : BranchOutcome)
+        × BranchFrom system forms above' o) → (o : BranchOutcome) × BranchFrom system forms above o
     at_split members f u d first next = low (next (above ++ low_side f u ∷ []) (smaller _ _ (gap-low forms above f u first.within interval.0 interval.1) lt) (within_low system forms above within f u))
       where
         interval : (low_at forms above f ≤ℤ u) × (u <ℤ high_at forms above f)
@@ -277,7 +293,9 @@ ends_by system forms positive (suc fuel) above lt within = at_descent (start_end
         low (stopped a w, b) = (stopped a w, low_ends members f u d first b tt)
         low (tree t, b) = high t b (next (above ++ high_side f u ∷ []) (smaller _ _ (gap-high forms above f u first.within interval.0 interval.1) lt) (within_high system forms above within f u))
 
-    at_point : (members : List ℕ) → DescentFromStart (node_system system forms above) (point members) → ((above' : List SplitSide) → total (length forms) (gap forms above') < fuel → Within system forms above' → (o : BranchOutcome) × BranchFrom system forms above' o) → (o : BranchOutcome) × BranchFrom system forms above o
+    at_point : (members : List ℕ) → DescentFromStart (node_system system forms above) (point members)
+        → ((above' : List SplitSide) → total (length forms) (gap forms above') < fuel → Within system forms above' → (o : BranchOutcome)
+        × BranchFrom system forms above' o) → (o : BranchOutcome) × BranchFrom system forms above o
     at_point members d next = ⊎_elim
         (λ all. (found members above, whole members d (record { scale = t.times *ℤ pos 1; v = t.v; point = t.point; zeros = zeros; whole = all })))
         (λ r. at_split members r.f r.u d r.first next)
@@ -289,7 +307,9 @@ ends_by system forms positive (suc fuel) above lt within = at_descent (start_end
         zeros : IsAtZero members t.v
         zeros m has = t.values m has ∙ *ℤ-zero t.times
 
-    at_descent : (o : Outcome) × DescentFromStart (node_system system forms above) o → ((above' : List SplitSide) → total (length forms) (gap forms above') < fuel → Within system forms above' → (o : BranchOutcome) × BranchFrom system forms above' o) → (o : BranchOutcome) × BranchFrom system forms above o
+    at_descent : (o : Outcome) × DescentFromStart (node_system system forms above) o
+        → ((above' : List SplitSide) → total (length forms) (gap forms above') < fuel → Within system forms above' → (o : BranchOutcome)
+        × BranchFrom system forms above' o) → (o : BranchOutcome) × BranchFrom system forms above o
     at_descent (point members, d) next = at_point members d next
     at_descent (wide w, d) next = (stopped above w, passes w d)
     at_descent (refuted members i fixed, d) next = let s = (start_refuted (node_system system forms above) members fixed i d).stuck in (_, refutes members fixed i s.k d s.row)

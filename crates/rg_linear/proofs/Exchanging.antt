@@ -132,7 +132,9 @@ module _ (system : LinearSystem) (members : List ℕ) (i j : ℕ) (k : Relation)
 
     comes : before.v i ≡ (before.times *ℤ size (k.coefficient j)) *ℤ wanted i
     unfolding leaving
-    comes = mul-cancel_left k.d _ _ (positive_differs k.d row.positive) (finish before.times (size (k.coefficient j)) (sign (k.coefficient j)) (k.coefficient j) k.d (wanted i) (before.v i) k.constant scale _ _ _ (row.holds _ before.v before.point) (sum_at system members k wanted_before _ before row.over (variables system)) sum_before (times-sign (k.coefficient j)))
+    comes = mul-cancel_left k.d _ _ (positive_differs k.d row.positive)
+        (finish before.times (size (k.coefficient j)) (sign (k.coefficient j)) (k.coefficient j) k.d (wanted i) (before.v i) k.constant scale _ _ _
+        (row.holds _ before.v before.point) (sum_at system members k wanted_before _ before row.over (variables system)) sum_before (times-sign (k.coefficient j)))
       where
         finish : (t q h kj d x y c s sk total rest : ℤ) → d *ℤ y ≡ (c *ℤ (t *ℤ (q *ℤ s))) +ℤ sk → sk ≡ t *ℤ total → total ≡ (kj *ℤ (h *ℤ (((d *ℤ x) -ℤ (c *ℤ s)) -ℤ rest))) +ℤ (q *ℤ rest) → kj *ℤ h ≡ q → d *ℤ y ≡ d *ℤ ((t *ℤ q) *ℤ x)
         finish t q h kj d x y c s sk total rest e f g u = e ∙ rw (f, g, ← mul_assoc kj h (((d *ℤ x) -ℤ (c *ℤ s)) -ℤ rest), u) (simp ring (omega (arith, ints)))
@@ -178,8 +180,13 @@ module _ (system : LinearSystem) (members : List ℕ) (i j : ℕ) (k : Relation)
     pub renewed-holds : Holds system w (renewed k i j l)
     renewed-holds scale v p = finish (size (k.coefficient j)) (sign (k.coefficient j)) k.d k.constant (v i) l.d l.constant (v w) (l.coefficient j) scale _ _ _ (row.holds scale v p) (target.holds scale v p) sum
       where
-        sum : sum_below (variables system) (λ m. (renewed k i j l).coefficient m *ℤ v m) ≡ (((sign (k.coefficient j) *ℤ k.d) *ℤ l.coefficient j) *ℤ v i) +ℤ ((size (k.coefficient j) *ℤ sum_below (variables system) (λ m. l.coefficient m *ℤ v m)) +ℤ (neg_ℤ (sign (k.coefficient j) *ℤ l.coefficient j) *ℤ sum_below (variables system) (λ m. k.coefficient m *ℤ v m)))
-        sum = sum_below-same (variables system) _ _ (λ m lt. renewed_at v m) ∙ sum_below-plus (variables system) _ _ ∙ ap₂ ◌+ℤ◌ (sum_only (variables system) i _ row.variable) (sum_below-both (variables system) (size (k.coefficient j)) (neg_ℤ (sign (k.coefficient j) *ℤ l.coefficient j)) (λ m. l.coefficient m *ℤ v m) (λ m. k.coefficient m *ℤ v m))
+        sum : sum_below (variables system) (λ m. (renewed k i j l).coefficient m *ℤ v m) ≡ (((sign (k.coefficient j) *ℤ k.d) *ℤ l.coefficient j) *ℤ v i) +ℤ
+            ((size (k.coefficient j) *ℤ sum_below (variables system) (λ m. l.coefficient m *ℤ v m)) +ℤ
+            (neg_ℤ (sign (k.coefficient j) *ℤ l.coefficient j) *ℤ sum_below (variables system) (λ m. k.coefficient m *ℤ v m)))
+        sum = sum_below-same (variables system) _ _ (λ m lt. renewed_at v m) ∙ sum_below-plus (variables system) _ _
+            ∙ ap₂ ◌+ℤ◌ (sum_only (variables system) i _ row.variable)
+            (sum_below-both (variables system) (size (k.coefficient j)) (neg_ℤ (sign (k.coefficient j) *ℤ l.coefficient j)) (λ m. l.coefficient m *ℤ v m)
+            (λ m. k.coefficient m *ℤ v m))
 
         finish : (q h d c x e f y lj s sk sl total : ℤ) → d *ℤ x ≡ (c *ℤ s) +ℤ sk → e *ℤ y ≡ (f *ℤ s) +ℤ sl → total ≡ (((h *ℤ d) *ℤ lj) *ℤ x) +ℤ ((q *ℤ sl) +ℤ (neg_ℤ (h *ℤ lj) *ℤ sk)) → (e *ℤ q) *ℤ y ≡ (((f *ℤ q) -ℤ ((h *ℤ c) *ℤ lj)) *ℤ s) +ℤ total
         finish q h d c x e f y lj s sk sl total hk hl t =

@@ -6,8 +6,8 @@ use Rattle.std.proofs.lemmas.Int.{ints}
 use Rattle.std.proofs.lemmas.Nat.Gcd.{dvd-zero}
 use Rattle.rg_linear.specs.System.{LinearSystem}
 use Rattle.rg_linear.specs.Dictionary.{Relation, IsPrimitive, DictionaryRow}
-use Rattle.rg_fraction.specs.declared.term.Wide.{Wide}
-use Rattle.rg_fraction.specs.Terms.{term_value}
+use Rattle.rg_integers.specs.declared.term.Wide.{Wide}
+use Rattle.rg_integers.specs.Term.{term_value}
 use Rattle.rg_integers.specs.Sign.{sign, size}
 use Rattle.rg_linear.specs.Exchange.{without, terms, renewed, turned, IsReduced}
 use Rattle.rg_integers.proofs.Ring.{ring, one-mul}

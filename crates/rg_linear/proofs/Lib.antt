@@ -23,3 +23,4 @@ pub mod Ranges
 pub mod SampleLemmas
 pub mod TableLemmas
 pub mod KeptRows
+pub mod Norms

@@ -4,8 +4,8 @@ use Rattle.std.specs.Prelude.{ℤ, pos}
 use Rattle.std.proofs.lemmas.Option.{same_Some, none-some}
 use Rattle.rg_linear.specs.System.{LinearSystem, variables}
 use Rattle.rg_linear.specs.Dictionary.{Relation, DictionaryRow, HasDictionary}
-use Rattle.rg_fraction.specs.declared.term.Wide.{Wide}
-use Rattle.rg_fraction.specs.Terms.{term_value, FitsTerm}
+use Rattle.rg_integers.specs.declared.term.Wide.{Wide}
+use Rattle.rg_integers.specs.Term.{term_value, FitsTerm}
 use Rattle.rg_integers.specs.Range.{InRange}
 use Rattle.rg_linear.specs.Exchange.{without, exchanged, terms, AllFit, renewed, turned, IsReduced, FitsRelation, SetFits}
 use Rattle.rg_integers.proofs.Order.{is_zero_or_not}

@@ -59,9 +59,14 @@ abbrev pub RowsMet : LinearSystem → ℕ → (ℕ → ℤ) → Type 0
 RowsMet system b v = (m : ℕ) → m < b → pos 0 ≤ℤ v (row_variable system m)
 
 -- coefficients of fixed rows alone, whose sum is positive wherever the rows below b are met, are negative
-pub signs : (system : LinearSystem) (fixed : List ℕ) (k : ℕ → ℤ) (b : ℕ) → Witnessed system fixed → ((m : ℕ) → ¬ Contains fixed m → k m ≡ pos 0) → ((y : ℕ) → Contains fixed y → row_variable system b ≤ y) → ((scale : ℤ) (v : ℕ → ℤ) → IsPoint system scale v → RowsMet system b v → pos 0 <ℤ sum_below (variables system) (λ m. k m *ℤ v m)) → (y : ℕ) → Contains fixed y → k y <ℤ pos 0
+pub signs : (system : LinearSystem) (fixed : List ℕ) (k : ℕ → ℤ) (b : ℕ) → Witnessed system fixed → ((m : ℕ) → ¬ Contains fixed m → k m ≡ pos 0)
+    → ((y : ℕ) → Contains fixed y → row_variable system b ≤ y)
+    → ((scale : ℤ) (v : ℕ → ℤ) → IsPoint system scale v → RowsMet system b v → pos 0 <ℤ sum_below (variables system) (λ m. k m *ℤ v m)) → (y : ℕ) → Contains fixed y
+    → k y <ℤ pos 0
 signs system [] k b witnessed over above positive y has = absurd (Contains-nil y has)
-signs system (z ∷ fixed) k b (w, witnessed) over above positive y has = ⊎_elim (λ e. subst (λ x. k x <ℤ pos 0) e first) (λ there. subst (λ x. x <ℤ pos 0) (kept y there) (signs system fixed (λ m. if m == z then pos 0 else k m) (suc w.i) witnessed over_others next_above still_positive y there)) (Contains-cons_cases z y fixed has)
+signs system (z ∷ fixed) k b (w, witnessed) over above positive y has = ⊎_elim (λ e. subst (λ x. k x <ℤ pos 0) e first)
+    (λ there. subst (λ x. x <ℤ pos 0) (kept y there)
+    (signs system fixed (λ m. if m == z then pos 0 else k m) (suc w.i) witnessed over_others next_above still_positive y there)) (Contains-cons_cases z y fixed has)
   where
     b_below : row_variable system b ≤ row_variable system w.i → b ≤ w.i
     b_below h = omega arith
@@ -141,7 +146,9 @@ RefutedWell system (refuted members i fixed) = IsRefutedAt system members i fixe
 RefutedWell system (wide w) = Unit {0}
 
 -- the point of the set at which row i fails
-witness_of : (system : LinearSystem) (members fixed : List ℕ) (i : ℕ) (k : Relation) → i < length system.rows → DictionaryRow system members (row_variable system i) k → k.constant <ℤ pos 0 → MetBelow system members i → AllIn fixed members → ((y : ℕ) → Contains fixed y → row_variable system (suc i) ≤ y) → Witness system (row_variable system i) fixed
+witness_of : (system : LinearSystem) (members fixed : List ℕ) (i : ℕ) (k : Relation) → i < length system.rows → DictionaryRow system members (row_variable system i) k
+    → k.constant <ℤ pos 0 → MetBelow system members i → AllIn fixed members → ((y : ℕ) → Contains fixed y → row_variable system (suc i) ≤ y)
+    → Witness system (row_variable system i) fixed
 witness_of system members fixed i k lt row negative met all above =
     let t = row.free.takes (λ m. pos 0) (pos 1) (omega (arith, ints)) in
     let zeros : IsAtZero members t.v = λ m has. t.values m has ∙ *ℤ-zero t.times in
@@ -169,7 +176,8 @@ witness_of system members fixed i k lt row negative met all above =
         let q = factor_positive d (neg_ℤ x) weak p in
         omega (arith, ints)
 
-pub refuted_well : (system : LinearSystem) (members fixed : List ℕ) (r i : ℕ) (o : Outcome) → DescentFrom system members fixed r i o → r ≤ length system.rows → MetBelow system members i → AllIn fixed members → Witnessed system fixed → ((y : ℕ) → Contains fixed y → row_variable system r ≤ y) → RefutedWell system o
+pub refuted_well : (system : LinearSystem) (members fixed : List ℕ) (r i : ℕ) (o : Outcome) → DescentFrom system members fixed r i o → r ≤ length system.rows
+    → MetBelow system members i → AllIn fixed members → Witnessed system fixed → ((y : ℕ) → Contains fixed y → row_variable system r ≤ y) → RefutedWell system o
 refuted_well system members fixed r i o (after_last le) within met all witnessed above = tt
 refuted_well system members fixed r i o (passed lt p d) within met all witnessed above = refuted_well system members fixed r (suc i) o d within (one_more system members i met p) all witnessed above
 refuted_well system members fixed r i o (stuck lt s) within met all witnessed above = record { within = omega arith; stuck = s; all = all; witnessed = witnessed; above = λ y has. (let h = above y has in omega arith) }
@@ -184,7 +192,9 @@ refuted_well system members fixed r i o (goes_on j after lt c fit d rest) within
 
 -- ---- the multipliers
 
-pub fixed_negative : (system : LinearSystem) (members fixed : List ℕ) (i : ℕ) (k : Relation) → IsRefutedAt system members i fixed → DictionaryRow system members (row_variable system i) k → k.constant <ℤ pos 0 → ((m : ℕ) → ¬ Contains fixed m → k.coefficient m ≡ pos 0) → (y : ℕ) → Contains fixed y → k.coefficient y <ℤ pos 0
+pub fixed_negative : (system : LinearSystem) (members fixed : List ℕ) (i : ℕ) (k : Relation) → IsRefutedAt system members i fixed
+    → DictionaryRow system members (row_variable system i) k → k.constant <ℤ pos 0 → ((m : ℕ) → ¬ Contains fixed m → k.coefficient m ≡ pos 0) → (y : ℕ)
+    → Contains fixed y → k.coefficient y <ℤ pos 0
 fixed_negative system members fixed i k at row negative over = signs system fixed k.coefficient (suc i) at.witnessed over at.above positive
   where
     more : (d x c s total : ℤ) → d *ℤ x ≡ (c *ℤ s) +ℤ total → pos 0 <ℤ d → pos 0 ≤ℤ x → pos 0 <ℤ s → c <ℤ pos 0 → pos 0 <ℤ total
@@ -258,7 +268,10 @@ module _ (system : LinearSystem) (members fixed : List ℕ) (i : ℕ) (k : Relat
 
   columns : (j : ℕ) → j < system.columns → sum_below (length system.rows) (λ m. multiplier_of system k i m *ℤ entry system m j) ≡ pos 0
   unfolding row_value
-  columns j lt = difference _ _ _ (sym (sum_below-plus (length system.rows) (λ m. multiplier_of system k i m *ℤ entry system m j) (λ m. multiplier_of system k i m *ℤ (row_at system m).constant)) ∙ sum_below-same (length system.rows) _ _ (λ m below. sym (mul-add (multiplier_of system k i m) (entry system m j) (row_at system m).constant) ∙ ap (λ z. multiplier_of system k i m *ℤ z) (one m)) ∙ summed_at (only j (pos 1))) constants
+  columns j lt = difference _ _ _ (sym (sum_below-plus (length system.rows) (λ m. multiplier_of system k i m *ℤ entry system m j)
+      (λ m. multiplier_of system k i m *ℤ (row_at system m).constant))
+      ∙ sum_below-same (length system.rows) _ _ (λ m below. sym (mul-add (multiplier_of system k i m) (entry system m j) (row_at system m).constant)
+      ∙ ap (λ z. multiplier_of system k i m *ℤ z) (one m)) ∙ summed_at (only j (pos 1))) constants
     where
       difference : (a b c : ℤ) → a +ℤ b ≡ c → b ≡ c → a ≡ pos 0
       difference a b c e f = omega (arith, ints)
@@ -297,7 +310,9 @@ refutes_is_sound system multiplier r scale v p meets =
     columns_part =
         sum_below-same (length system.rows) _ _ (λ i lt. sym (sum_below-times system.columns (multiplier i) (λ j. entry system i j *ℤ v j)))
         ∙ sum_below-swap (length system.rows) system.columns (λ i j. multiplier i *ℤ (entry system i j *ℤ v j))
-        ∙ sum_below-zero system.columns _ (λ j lt. sum_below-same (length system.rows) _ (λ i. v j *ℤ (multiplier i *ℤ entry system i j)) (λ i below. regroup (multiplier i) (entry system i j) (v j)) ∙ sum_below-times (length system.rows) (v j) (λ i. multiplier i *ℤ entry system i j) ∙ ap (λ z. v j *ℤ z) (r.cancels j lt) ∙ *ℤ-zero (v j))
+        ∙ sum_below-zero system.columns _ (λ j lt. sum_below-same (length system.rows) _ (λ i. v j *ℤ (multiplier i *ℤ entry system i j))
+        (λ i below. regroup (multiplier i) (entry system i j) (v j)) ∙ sum_below-times (length system.rows) (v j) (λ i. multiplier i *ℤ entry system i j)
+        ∙ ap (λ z. v j *ℤ z) (r.cancels j lt) ∙ *ℤ-zero (v j))
       where
         regroup : (a b c : ℤ) → a *ℤ (b *ℤ c) ≡ c *ℤ (a *ℤ b)
         regroup a b c = simp ring
@@ -331,7 +346,8 @@ start_refuted system members fixed i d = refuted_well system (column_set system)
 pub refuted_is_sound : (system : LinearSystem) (members fixed : List ℕ) (i : ℕ) (k : Relation) → DescentFromStart system (refuted members i fixed) → DictionaryRow system members (row_variable system i) k → AreFarkasMultipliers system (multiplier_of system k i)
 refuted_is_sound system members fixed i k d row = multipliers_refute system members fixed i k (start_refuted system members fixed i d) row
 
-pub multiplier_positive : (system : LinearSystem) (members fixed : List ℕ) (i : ℕ) (k : Relation) → DescentFromStart system (refuted members i fixed) → DictionaryRow system members (row_variable system i) k → (m : ℕ) → (m ≡ i) ⊎ Contains fixed (row_variable system m) → pos 0 <ℤ multiplier_of system k i m
+pub multiplier_positive : (system : LinearSystem) (members fixed : List ℕ) (i : ℕ) (k : Relation) → DescentFromStart system (refuted members i fixed)
+    → DictionaryRow system members (row_variable system i) k → (m : ℕ) → (m ≡ i) ⊎ Contains fixed (row_variable system m) → pos 0 <ℤ multiplier_of system k i m
 multiplier_positive system members fixed i k d row m which = go which (equal_or_not m i)
   where
     at : IsRefutedAt system members i fixed
@@ -345,5 +361,6 @@ multiplier_positive system members fixed i k d row m which = go which (equal_or_
     go (inl e) (inr ne) = absurd (ne e)
     go (inr has) (inr ne) = rw (differs m i ne) (turned _ (fixed_negative system members fixed i k at row (stuck_negative system members fixed i k at.stuck row) (over_fixed system members fixed i k at.stuck row) _ has))
 
-pub multiplier_other : (system : LinearSystem) (members fixed : List ℕ) (i : ℕ) (k : Relation) → DescentFromStart system (refuted members i fixed) → DictionaryRow system members (row_variable system i) k → (m : ℕ) → m ≢ i → ¬ Contains fixed (row_variable system m) → multiplier_of system k i m ≡ pos 0
+pub multiplier_other : (system : LinearSystem) (members fixed : List ℕ) (i : ℕ) (k : Relation) → DescentFromStart system (refuted members i fixed)
+    → DictionaryRow system members (row_variable system i) k → (m : ℕ) → m ≢ i → ¬ Contains fixed (row_variable system m) → multiplier_of system k i m ≡ pos 0
 multiplier_other system members fixed i k d row m ne free = rw (differs m i ne, over_fixed system members fixed i k (start_refuted system members fixed i d).stuck row (row_variable system m) free) refl

@@ -5,8 +5,8 @@ use Rattle.std.proofs.lemmas.Int.{ints}
 use Rattle.std.proofs.lemmas.Option.{same_Some, none-some}
 use Rattle.std.proofs.Math.Nat.{dvd-sub, eq-one_of_dvd-one}
 use Rattle.rg_linear.specs.Dictionary.{Relation, DictionaryRow, row_relation}
-use Rattle.rg_fraction.specs.declared.term.Wide.{Wide}
-use Rattle.rg_fraction.specs.Terms.{FitsTerm}
+use Rattle.rg_integers.specs.declared.term.Wide.{Wide}
+use Rattle.rg_integers.specs.Term.{FitsTerm}
 use Rattle.rg_linear.specs.Exchange.{terms, AllFit, FirstWide, renewed, turned, IsReduced}
 use Rattle.rg_linear.specs.Descent.{Outcome.refuted, Outcome.wide, Chooses, DescentFrom.after_last, DescentFrom.stuck, DescentFrom.passes, DescentFrom.goes_on, DescentFromStart}
 use Rattle.rg_linear.specs.Samples.{passing, passing_term, empty}

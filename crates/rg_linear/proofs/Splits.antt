@@ -6,7 +6,10 @@ use Rattle.std.proofs.lemmas.Bool.{cases_lt}
 use Rattle.rg_linear.specs.System.{LinearRow, LinearSystem, row_variable, row_at, entry, IsPoint, MeetsRows, AreFarkasMultipliers}
 use Rattle.rg_integers.specs.Sum.{sum_below}
 use Rattle.rg_linear.specs.Descent.{Outcome.point, DescentFromStart, IsAtZero, multiplier_of}
-use Rattle.rg_linear.specs.Branching.{Form, form_at, scaled_value, SplitSide, side_row, node_system, AllWhole, SplitTree, SplitTree.leaf, SplitTree.split, weights_from, BranchOutcome, BranchOutcome.found, BranchOutcome.tree, BranchOutcome.stopped, IsEnd, low_side, high_side, BranchFrom, BranchFrom.passes, BranchFrom.refutes, BranchFrom.whole, BranchFrom.low_ends, BranchFrom.high_ends, BranchFrom.both_refuted, multiplier_in, SplitTreeRefutes, ArePositive, SplitsForms, FormsWhole}
+use Rattle.rg_linear.specs.Branching.{Form, form_at, scaled_value, SplitSide, side_row, node_system, AllWhole, SplitTree, SplitTree.leaf, SplitTree.split, weights_from}
+use Rattle.rg_linear.specs.Branching.{BranchOutcome, BranchOutcome.found, BranchOutcome.tree, BranchOutcome.stopped, IsEnd, low_side, high_side, BranchFrom}
+use Rattle.rg_linear.specs.Branching.{BranchFrom.passes, BranchFrom.refutes, BranchFrom.whole, BranchFrom.low_ends, BranchFrom.high_ends, BranchFrom.both_refuted}
+use Rattle.rg_linear.specs.Branching.{multiplier_in, SplitTreeRefutes, ArePositive, SplitsForms, FormsWhole}
 use Rattle.rg_integers.proofs.Ring.{ring, neg-mul}
 use Rattle.std.proofs.Math.IntN.{*ℤ_comm}
 use Rattle.rg_integers.proofs.Order.{mul_positive}
@@ -67,7 +70,10 @@ meets_with system row scale x meets here i lt = ⊎_elim
 -- ---- the rows of the sides
 
 pub low_worth : (system : LinearSystem) (forms : List Form) (f : ℕ) (u scale : ℤ) (x : ℕ → ℤ) → worth system.columns (side_row forms (low_side f u)) scale x ≡ (u *ℤ ((form_at forms f).scale *ℤ scale)) -ℤ scaled_value system (form_at forms f) x
-low_worth system forms f u scale x = finish _ (scaled_value system (form_at forms f) x) (form_at forms f).scale u scale (sum_below-same system.columns _ (λ j. negsuc 0 *ℤ (slice_index_or (form_at forms f).coeffs j (pos 0) *ℤ x j)) (λ j lt. ap (λ z. z *ℤ x j) (index-neg (form_at forms f).coeffs j) ∙ turn (slice_index_or (form_at forms f).coeffs j (pos 0)) (x j)) ∙ sum_below-times system.columns (negsuc 0) (λ j. slice_index_or (form_at forms f).coeffs j (pos 0) *ℤ x j))
+low_worth system forms f u scale x = finish _ (scaled_value system (form_at forms f) x) (form_at forms f).scale u scale
+    (sum_below-same system.columns _ (λ j. negsuc 0 *ℤ (slice_index_or (form_at forms f).coeffs j (pos 0) *ℤ x j))
+    (λ j lt. ap (λ z. z *ℤ x j) (index-neg (form_at forms f).coeffs j) ∙ turn (slice_index_or (form_at forms f).coeffs j (pos 0)) (x j))
+    ∙ sum_below-times system.columns (negsuc 0) (λ j. slice_index_or (form_at forms f).coeffs j (pos 0) *ℤ x j))
   where
     minus : (z : ℤ) → negsuc 0 *ℤ z ≡ neg_ℤ z
     minus z = omega (arith, ints)
@@ -91,10 +97,14 @@ none_meets : (system : LinearSystem) (multiplier : ℕ → ℤ) → AreFarkasMul
 unfolding row_value
 none_meets system multiplier r scale x h meets = refutes_is_sound system multiplier r scale (values_of system scale x) (values_of-point system scale x h) (λ i lt. subst (λ z. pos 0 ≤ℤ z) (sym (values_of-row system scale x i)) (meets i lt))
 
-one_side : (system : LinearSystem) (forms : List Form) (above : List SplitSide) (side : SplitSide) (scale : ℤ) (x : ℕ → ℤ) → MeetsAt (node_system system forms above) scale x → pos 0 ≤ℤ worth system.columns (side_row forms side) scale x → MeetsAt (node_system system forms (above ++ side ∷ [])) scale x
+one_side : (system : LinearSystem) (forms : List Form) (above : List SplitSide) (side : SplitSide) (scale : ℤ) (x : ℕ → ℤ)
+    → MeetsAt (node_system system forms above) scale x → pos 0 ≤ℤ worth system.columns (side_row forms side) scale x
+    → MeetsAt (node_system system forms (above ++ side ∷ [])) scale x
 one_side system forms above side scale x meets here = subst (λ s. MeetsAt s scale x) (sym (node_system-side system forms above side)) (meets_with (node_system system forms above) (side_row forms side) scale x meets here)
 
-pub tree_leaves_none : (system : LinearSystem) (forms : List Form) (above : List SplitSide) (t : SplitTree) → ArePositive forms → SplitsForms forms t → SplitTreeRefutes system forms above t → (scale : ℤ) (x : ℕ → ℤ) → pos 0 <ℤ scale → MeetsAt (node_system system forms above) scale x → FormsWhole system forms scale x → ⊥
+pub tree_leaves_none : (system : LinearSystem) (forms : List Form) (above : List SplitSide) (t : SplitTree) → ArePositive forms → SplitsForms forms t
+    → SplitTreeRefutes system forms above t → (scale : ℤ) (x : ℕ → ℤ) → pos 0 <ℤ scale → MeetsAt (node_system system forms above) scale x
+    → FormsWhole system forms scale x → ⊥
 tree_leaves_none system forms above (leaf weights) positive within shown scale x h meets wholes = none_meets (node_system system forms above) (multiplier_in weights) shown scale x h meets
 tree_leaves_none system forms above (split f u low high) positive (lt, in_low, in_high) (refutes_low, refutes_high) scale x h meets wholes =
     by_lt_z u (wholes f lt).0
@@ -132,9 +142,14 @@ multiplier_in-past multiplier first (suc n) row lt = go (int_lt (multiplier firs
 
 pub multiplier_in-weights : (multiplier : ℕ → ℤ) (first n row : ℕ) → first ≤ row → row < first + n → multiplier_in (weights_from multiplier first n) row ≡ multiplier row
 multiplier_in-weights multiplier first zero row lo hi = absurd (omega arith)
-multiplier_in-weights multiplier first (suc n) row lo hi = go (int_lt (multiplier first) (pos 0) || int_lt (pos 0) (multiplier first)) refl (equal_or_not first row) (λ next. multiplier_in-weights multiplier (suc first) n row next (omega arith)) (λ past. multiplier_in-past multiplier (suc first) n row past)
+multiplier_in-weights multiplier first (suc n) row lo hi = go (int_lt (multiplier first) (pos 0) || int_lt (pos 0) (multiplier first)) refl (equal_or_not first row)
+    (λ next. multiplier_in-weights multiplier (suc first) n row next (omega arith)) (λ past. multiplier_in-past multiplier (suc first) n row past)
   where
-    go : (b : Bool) → (int_lt (multiplier first) (pos 0) || int_lt (pos 0) (multiplier first)) ≡ b → (first ≡ row) ⊎ (first ≢ row) → (suc first ≤ row → multiplier_in (weights_from multiplier (suc first) n) row ≡ multiplier row) → (row < suc first → multiplier_in (weights_from multiplier (suc first) n) row ≡ pos 0) → multiplier_in (if b then (record { row = first; multiplier = multiplier first } ∷ weights_from multiplier (suc first) n) else weights_from multiplier (suc first) n) row ≡ multiplier row
+    go : (b : Bool) → (int_lt (multiplier first) (pos 0) || int_lt (pos 0) (multiplier first)) ≡ b → (first ≡ row) ⊎ (first ≢ row)
+        → (suc first ≤ row → multiplier_in (weights_from multiplier (suc first) n) row ≡ multiplier row)
+        → (row < suc first → multiplier_in (weights_from multiplier (suc first) n) row ≡ pos 0)
+        → multiplier_in (if b then (record { row = first; multiplier = multiplier first } ∷ weights_from multiplier (suc first) n) else weights_from multiplier
+        (suc first) n) row ≡ multiplier row
     go true e (inl is) ih past = rw (is, same row) refl
     go true e (inr ne) ih past = rw (differs first row ne) (ih (omega arith))
     go false e (inl is) ih past = past (omega arith) ∙ sym (nonzero_test (multiplier first) e) ∙ ap multiplier is
@@ -160,7 +175,12 @@ end_well system forms above (stopped at w) end = tt
 
 pub tree_well : (system : LinearSystem) (forms : List Form) (above : List SplitSide) (o : BranchOutcome) → BranchFrom system forms above o → TreeWell system forms above o
 tree_well system forms above o (passes w d) = tt
-tree_well system forms above o (refutes members fixed i k d row) = (same_multipliers (node_system system forms above) _ (multiplier_of (node_system system forms above) k i) (λ m lt. multiplier_in-weights (multiplier_of (node_system system forms above) k i) 0 (length (node_system system forms above).rows) m (omega arith) (omega arith)) (refuted_is_sound (node_system system forms above) members fixed i k d row), tt)
+tree_well system forms above o (refutes members fixed i k d row) = (
+  same_multipliers (node_system system forms above) _ (multiplier_of (node_system system forms above) k i)
+      (λ m lt. multiplier_in-weights (multiplier_of (node_system system forms above) k i) 0 (length (node_system system forms above).rows) m (omega arith) (omega arith))
+      (refuted_is_sound (node_system system forms above) members fixed i k d row),
+  tt,
+)
 tree_well system forms above o (whole members d all) = tt
 tree_well system forms above o (low_ends members f u d first low end) = end_well system forms above o end
 tree_well system forms above o (high_ends members f u t d first low high end) = end_well system forms above o end
@@ -201,7 +221,9 @@ found_well system forms above o (high_ends members f u t d first low high end) =
 found_well system forms above o (both_refuted members f u t t' d first low high) = tt
 
 -- at the point of the set
-pub found_is_sound : (system : LinearSystem) (forms : List Form) (start above : List SplitSide) (members : List ℕ) → BranchFrom system forms start (found members above) → (scale : ℤ) (v : ℕ → ℤ) → IsPoint (node_system system forms above) scale v → IsAtZero members v → IsPoint system scale v × MeetsRows system v × FormsWhole system forms scale v
+pub found_is_sound : (system : LinearSystem) (forms : List Form) (start above : List SplitSide) (members : List ℕ) → BranchFrom system forms start (found members above)
+    → (scale : ℤ) (v : ℕ → ℤ) → IsPoint (node_system system forms above) scale v → IsAtZero members v → IsPoint system scale v × MeetsRows system v
+    × FormsWhole system forms scale v
 found_is_sound system forms start above members b scale v p zeros =
     let w = found_well system forms start (found members above) b in (
       node_point system forms above scale v p,

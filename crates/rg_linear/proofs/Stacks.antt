@@ -1,7 +1,7 @@
 -- The steps of a descent with an explicit stack.
 use Rattle.std.proofs.Common.{◌≡◌, ◌⊎◌, ⊎_elim, ℕ, zero, suc, ◌+◌, ◌-◌, ◌*◌, ◌^◌, ◌<◌, ◌≤◌, List, [], ◌∷◌, Contains, length, ap, refl, subst, inl, inr, arith}
 use Rattle.rg_linear.specs.System.{LinearSystem, row_variable}
-use Rattle.rg_fraction.specs.declared.term.Wide.{Wide}
+use Rattle.rg_integers.specs.declared.term.Wide.{Wide}
 use Rattle.rg_linear.specs.Exchange.{without, exchanged, AllFit, FirstWide}
 use Rattle.rg_linear.specs.Descent.{Outcome, Outcome.point, Outcome.refuted, Outcome.wide, IsStop, IsPassed, IsStuck, Chooses, DescentFrom, DescentFrom.after_last, DescentFrom.passed, DescentFrom.stuck, DescentFrom.passes, DescentFrom.stops_below, DescentFrom.goes_on}
 use Rattle.rg_linear.specs.Stack.{fixed_of, limit, Resumes, Resumes.last, Resumes.returns, Resumes.ends, work_left, IsFalling, IsStackOf}
@@ -9,7 +9,9 @@ use Rattle.rg_linear.proofs.Members.{Contains-nil, Contains-here, Contains-there
 use Rattle.rg_linear.proofs.Points.{fixed_stay}
 
 -- any first part of a descent at row i may be put before what is left
-pub before : (system : LinearSystem) (stack members members' : List ℕ) (i i' : ℕ) (o : Outcome) → ((o' : Outcome) → DescentFrom system members' (fixed_of system stack) (limit system stack) i' o' → DescentFrom system members (fixed_of system stack) (limit system stack) i o') → Resumes system stack members' i' o → Resumes system stack members i o
+pub before : (system : LinearSystem) (stack members members' : List ℕ) (i i' : ℕ) (o : Outcome)
+    → ((o' : Outcome) → DescentFrom system members' (fixed_of system stack) (limit system stack) i' o' → DescentFrom system members (fixed_of system stack)
+    (limit system stack) i o') → Resumes system stack members' i' o → Resumes system stack members i o
 before system [] members members' i i' o step (last d) = last (step o d)
 before system (s ∷ stack) members members' i i' o step (returns after d rest) = returns after (step (point after) d) rest
 before system (s ∷ stack) members members' i i' o step (ends d stop) = ends (step o d) stop
@@ -28,11 +30,15 @@ pub step_stuck : (system : LinearSystem) (stack members : List ℕ) (i : ℕ) �
 step_stuck system stack members i lt s = stop_here system stack members i (refuted members i (fixed_of system stack)) (stuck lt s) tt
 
 -- a term out of range
-pub step_wide : (system : LinearSystem) (stack members : List ℕ) (i j w n : ℕ) (t : Wide) → i < limit system stack → Chooses system members (fixed_of system stack) i j → FirstWide system members (row_variable system i) j w n t → Resumes system stack members i (wide (record { members = members; pivot = row_variable system i; leaves = j; target = w; entry = n; term = t }))
+pub step_wide : (system : LinearSystem) (stack members : List ℕ) (i j w n : ℕ) (t : Wide) → i < limit system stack → Chooses system members (fixed_of system stack) i j
+    → FirstWide system members (row_variable system i) j w n t
+    → Resumes system stack members i (wide (record { members = members; pivot = row_variable system i; leaves = j; target = w; entry = n; term = t }))
 step_wide system stack members i j w n t lt c f = stop_here system stack members i _ (passes j w n t lt c f) tt
 
 -- an exchange: the row goes onto the stack
-pub step_exchange : (system : LinearSystem) (stack members : List ℕ) (i j : ℕ) (o : Outcome) → i < limit system stack → Chooses system members (fixed_of system stack) i j → AllFit system members (row_variable system i) j → Resumes system (i ∷ stack) (exchanged members (row_variable system i) j) 0 o → Resumes system stack members i o
+pub step_exchange : (system : LinearSystem) (stack members : List ℕ) (i j : ℕ) (o : Outcome) → i < limit system stack
+    → Chooses system members (fixed_of system stack) i j → AllFit system members (row_variable system i) j
+    → Resumes system (i ∷ stack) (exchanged members (row_variable system i) j) 0 o → Resumes system stack members i o
 step_exchange system stack members i j o lt c fit (returns after d rest) = before system stack members after i (suc i) o (λ o' d'. goes_on j after lt c fit d d') rest
 step_exchange system stack members i j o lt c fit (ends d stop) = stop_here system stack members i o (stops_below j lt c fit d stop) stop
 

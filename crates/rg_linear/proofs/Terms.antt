@@ -5,8 +5,8 @@ use Rattle.std.proofs.lemmas.Bool.{cases_lt}
 use Rattle.std.proofs.lemmas.Option.{same_Some, none-some}
 use Rattle.rg_linear.specs.System.{LinearSystem, variables}
 use Rattle.rg_linear.specs.Dictionary.{Relation, DictionaryRow, HasDictionary}
-use Rattle.rg_fraction.specs.declared.term.Wide.{Wide}
-use Rattle.rg_fraction.specs.Terms.{FitsTerm}
+use Rattle.rg_integers.specs.declared.term.Wide.{Wide}
+use Rattle.rg_integers.specs.Term.{FitsTerm}
 use Rattle.rg_linear.specs.Exchange.{terms, IsTerm, AllFit, IsBefore, FirstWide}
 use Rattle.rg_integers.proofs.Order.{is_zero_or_not}
 use Rattle.rg_integers.proofs.Ranges.{fits_or_not}
@@ -55,7 +55,9 @@ pub record FirstAt (system : LinearSystem) (members : List ℕ) (i j w : ℕ) : 
 search_at : (system : LinearSystem) (members : List ℕ) (i j w : ℕ) (k : Relation) → HasDictionary system members → DictionaryRow system members i k → ((n : ℕ) (t : Wide) → IsTerm system members i j w n t → FitsTerm t) ⊎ FirstAt system members i j w
 search_at system members i j w k has row = go (cases_lt w (variables system)) (is_member members w) (equal_or_not w i)
   where
-    listed : (l : Relation) → DictionaryRow system members w l → l.coefficient j ≢ pos 0 → w ≢ i → ((n : ℕ) (t : Wide) → slice_get (terms members k j l) n ≡ Some t → FitsTerm t) ⊎ FirstIn (terms members k j l) → ((n : ℕ) (t : Wide) → IsTerm system members i j w n t → FitsTerm t) ⊎ FirstAt system members i j w
+    listed : (l : Relation) → DictionaryRow system members w l → l.coefficient j ≢ pos 0 → w ≢ i
+        → ((n : ℕ) (t : Wide) → slice_get (terms members k j l) n ≡ Some t → FitsTerm t) ⊎ FirstIn (terms members k j l)
+        → ((n : ℕ) (t : Wide) → IsTerm system members i j w n t → FitsTerm t) ⊎ FirstAt system members i j w
     listed l target named other (inl all) = inl (λ n t is. all n t (term_in system members i j w n t k l row target is))
     listed l target named other (inr r) = inr (record {
       n = r.n;
@@ -89,7 +91,9 @@ search_below system members i j k has row (suc b) = go (search_below system memb
     before all r w' n' t' (inl lt) is = all w' n' t' lt is
     before all r w' n' t' (inr (e, lt)) is = r.before n' t' lt (subst (λ x. IsTerm system members i j x n' t') e is)
 
-    go : ((w n : ℕ) (t : Wide) → w < b → IsTerm system members i j w n t → FitsTerm t) ⊎ HasWide system members i j → ((n : ℕ) (t : Wide) → IsTerm system members i j b n t → FitsTerm t) ⊎ FirstAt system members i j b → ((w n : ℕ) (t : Wide) → w < suc b → IsTerm system members i j w n t → FitsTerm t) ⊎ HasWide system members i j
+    go : ((w n : ℕ) (t : Wide) → w < b → IsTerm system members i j w n t → FitsTerm t) ⊎ HasWide system members i j
+        → ((n : ℕ) (t : Wide) → IsTerm system members i j b n t → FitsTerm t) ⊎ FirstAt system members i j b
+        → ((w n : ℕ) (t : Wide) → w < suc b → IsTerm system members i j w n t → FitsTerm t) ⊎ HasWide system members i j
     go (inr wide) _ = inr wide
     go (inl all) (inr r) = inr (record { w = b; n = r.n; t = r.t; first = record { term = r.term; passes = r.passes; first = before all r } })
     go (inl all) (inl here) = inl (λ w n t lt is. ⊎_elim (λ e. here n t (subst (λ x. IsTerm system members i j x n t) e is)) (λ ne. all w n t (omega arith) is) (equal_or_not w b))

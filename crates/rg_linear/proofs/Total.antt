@@ -31,7 +31,9 @@ least_below members fixed k (suc b) = go (least_below members fixed k b) (is_mem
     more : ((m : ℕ) → m < b → Contains members m → ¬ Contains fixed m → k.coefficient m ≡ pos 0) → (Contains members b → ¬ Contains fixed b → k.coefficient b ≡ pos 0) → (m : ℕ) → m < suc b → Contains members m → ¬ Contains fixed m → k.coefficient m ≡ pos 0
     more all here m lt has free = ⊎_elim (λ e. subst (λ x. k.coefficient x ≡ pos 0) (sym e) (here (subst (Contains members) e has) (λ z. free (subst (Contains fixed) (sym e) z)))) (λ ne. all m (omega arith) has free) (equal_or_not m b)
 
-    go : ((m : ℕ) → m < b → Contains members m → ¬ Contains fixed m → k.coefficient m ≡ pos 0) ⊎ LeastBelow members fixed k b → Contains members b ⊎ ¬ Contains members b → Contains fixed b ⊎ ¬ Contains fixed b → (k.coefficient b ≡ pos 0) ⊎ (k.coefficient b ≢ pos 0) → ((m : ℕ) → m < suc b → Contains members m → ¬ Contains fixed m → k.coefficient m ≡ pos 0) ⊎ LeastBelow members fixed k (suc b)
+    go : ((m : ℕ) → m < b → Contains members m → ¬ Contains fixed m → k.coefficient m ≡ pos 0) ⊎ LeastBelow members fixed k b → Contains members b ⊎ ¬ Contains members b
+        → Contains fixed b ⊎ ¬ Contains fixed b → (k.coefficient b ≡ pos 0) ⊎ (k.coefficient b ≢ pos 0)
+        → ((m : ℕ) → m < suc b → Contains members m → ¬ Contains fixed m → k.coefficient m ≡ pos 0) ⊎ LeastBelow members fixed k (suc b)
     go (inr r) _ _ _ = let lt = r.below in inr (record { j = r.j; below = omega arith; is = r.is; least = r.least })
     go (inl all) (inr lacks) _ _ = inl (more all (λ has free. absurd (lacks has)))
     go (inl all) (inl has) (inl in_fixed) _ = inl (more all (λ has free. absurd (free in_fixed)))
@@ -60,7 +62,9 @@ module _ (system : LinearSystem) (fuel : ℕ) (below : (members fixed : List ℕ
       pass : IsPassed system members i → ((after : List ℕ) → HasDictionary system after → Ends system after fixed r (suc i)) → Ends system members fixed r i
       pass p next = let rest = next members has in record { o = rest.o; descent = passed lt p rest.descent; has = rest.has }
 
-      joined : (j : ℕ) → Chooses system members fixed i j → AllFit system members (row_variable system i) j → (o : Outcome) → DescentFrom system (exchanged members (row_variable system i) j) (row_variable system i ∷ fixed) i 0 o → PointHas system o → ((after : List ℕ) → HasDictionary system after → Ends system after fixed r (suc i)) → Ends system members fixed r i
+      joined : (j : ℕ) → Chooses system members fixed i j → AllFit system members (row_variable system i) j → (o : Outcome)
+          → DescentFrom system (exchanged members (row_variable system i) j) (row_variable system i ∷ fixed) i 0 o → PointHas system o
+          → ((after : List ℕ) → HasDictionary system after → Ends system after fixed r (suc i)) → Ends system members fixed r i
       joined j c fit (point after) d has' next = let rest = next after has' in record { o = rest.o; descent = goes_on j after lt c fit d rest.descent; has = rest.has }
       joined j c fit (refuted after k z) d has' next = record { o = refuted after k z; descent = stops_below j lt c fit d tt; has = tt }
       joined j c fit (wide w) d has' next = record { o = wide w; descent = stops_below j lt c fit d tt; has = tt }
@@ -71,7 +75,9 @@ module _ (system : LinearSystem) (fuel : ℕ) (below : (members fixed : List ℕ
           let d = below (exchanged members (row_variable system i) j) (row_variable system i ∷ fixed) i (omega arith) (omega arith) (exchanged_has system members (row_variable system i) j c.k has c.row c.member c.named) in
           joined j c fit d.o d.descent d.has next
 
-      fails : (k : Relation) → DictionaryRow system members (row_variable system i) k → k.constant <ℤ pos 0 → ((m : ℕ) → m < variables system → Contains members m → ¬ Contains fixed m → k.coefficient m ≡ pos 0) ⊎ LeastBelow members fixed k (variables system) → ((after : List ℕ) → HasDictionary system after → Ends system after fixed r (suc i)) → Ends system members fixed r i
+      fails : (k : Relation) → DictionaryRow system members (row_variable system i) k → k.constant <ℤ pos 0
+          → ((m : ℕ) → m < variables system → Contains members m → ¬ Contains fixed m → k.coefficient m ≡ pos 0) ⊎ LeastBelow members fixed k (variables system)
+          → ((after : List ℕ) → HasDictionary system after → Ends system after fixed r (suc i)) → Ends system members fixed r i
       fails k row negative (inl none) next = record { o = _; descent = stuck lt (record { k = k; row = row; negative = negative; none = λ m has' free. none m (has.free.within m has') has' free }); has = tt }
       fails k row negative (inr l) next =
           let c : Chooses system members fixed i l.j = record { k = k; row = row; negative = negative; member = l.is.member; not_fixed = l.is.not_fixed; named = l.is.named; least = λ m has' free less. l.least m less has' free } in

@@ -25,7 +25,9 @@ sum_at system members k wanted scale t over n = sum_below-same n _ (λ m. t.time
     at m (inr lacks) = rw (over m lacks) (simp ring)
 
 -- two relations of one variable are proportional, at any values of the members
-proportional_at : (system : LinearSystem) (members : List ℕ) (w : ℕ) (k l : Relation) → IsFree system members → IsOver members k → IsOver members l → Holds system w k → Holds system w l → (wanted : ℕ → ℤ) → l.d *ℤ (k.constant +ℤ sum_below (variables system) (λ m. k.coefficient m *ℤ wanted m)) ≡ k.d *ℤ (l.constant +ℤ sum_below (variables system) (λ m. l.coefficient m *ℤ wanted m))
+proportional_at : (system : LinearSystem) (members : List ℕ) (w : ℕ) (k l : Relation) → IsFree system members → IsOver members k → IsOver members l → Holds system w k
+    → Holds system w l → (wanted : ℕ → ℤ) → l.d *ℤ (k.constant +ℤ sum_below (variables system) (λ m. k.coefficient m *ℤ wanted m)) ≡ k.d *ℤ
+    (l.constant +ℤ sum_below (variables system) (λ m. l.coefficient m *ℤ wanted m))
 proportional_at system members w k l free over_k over_l holds_k holds_l wanted =
     let t = free.takes wanted (pos 1) (omega (arith, ints)) in
     let s = t.times *ℤ pos 1 in

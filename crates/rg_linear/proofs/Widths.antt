@@ -7,8 +7,8 @@ use Rattle.std.proofs.lemmas.Option.{same_Some, none-some}
 use Rattle.std.proofs.Math.Nat.{mul-le-mul, mul-le-mul_left}
 use Rattle.rg_linear.specs.System.{LinearSystem, variables, row_variable, row_at, entry, IsPoint}
 use Rattle.rg_linear.specs.Dictionary.{Takes, Relation, DictionaryRow, column_set, row_relation, HasDictionary}
-use Rattle.rg_fraction.specs.declared.term.Wide.{Wide}
-use Rattle.rg_fraction.specs.Terms.{term_value, FitsTerm}
+use Rattle.rg_integers.specs.declared.term.Wide.{Wide}
+use Rattle.rg_integers.specs.Term.{term_value, FitsTerm}
 use Rattle.rg_integers.specs.Range.{InRange}
 use Rattle.rg_integers.specs.Sign.{sign, size}
 use Rattle.rg_linear.specs.Exchange.{without, exchanged, terms, AllFit, renewed, turned, IsReduced}
@@ -90,7 +90,9 @@ Bounded-renewed b k l i j g h = record {
 }
   where
     difference : (x z : ℤ) → unsigned_abs x ≤ b → unsigned_abs z ≤ b → unsigned_abs ((x *ℤ size (k.coefficient j)) -ℤ ((sign (k.coefficient j) *ℤ z) *ℤ l.coefficient j)) ≤ b * b + b * b
-    difference x z hx hz = abs-minus (x *ℤ size (k.coefficient j)) ((sign (k.coefficient j) *ℤ z) *ℤ l.coefficient j) (b * b) (b * b) (abs-times x (size (k.coefficient j)) b b hx (abs-size (k.coefficient j) b (g.coefficients j))) (abs-times (sign (k.coefficient j) *ℤ z) (l.coefficient j) b b (abs-signed (k.coefficient j) z b hz) (h.coefficients j))
+    difference x z hx hz = abs-minus (x *ℤ size (k.coefficient j)) ((sign (k.coefficient j) *ℤ z) *ℤ l.coefficient j) (b * b) (b * b)
+        (abs-times x (size (k.coefficient j)) b b hx (abs-size (k.coefficient j) b (g.coefficients j)))
+        (abs-times (sign (k.coefficient j) *ℤ z) (l.coefficient j) b b (abs-signed (k.coefficient j) z b hz) (h.coefficients j))
 
     at : (m : ℕ) → (m ≡ i) ⊎ (m ≢ i) → unsigned_abs ((renewed k i j l).coefficient m) ≤ squared b
     at m (inl e) = rw (e, same i) (raise _ _ _ (square-le b) (abs-times (sign (k.coefficient j) *ℤ k.d) (l.coefficient j) b b (abs-signed (k.coefficient j) k.d b g.d) (h.coefficients j)))
@@ -224,7 +226,9 @@ names_below system members p has (suc b) le = go (names_below system members p h
     more : ((t : ℕ) (k : Relation) → t < b → DictionaryRow system members t k → k.coefficient p ≡ pos 0) → ((k : Relation) → DictionaryRow system members b k → k.coefficient p ≡ pos 0) → (t : ℕ) (k : Relation) → t < suc b → DictionaryRow system members t k → k.coefficient p ≡ pos 0
     more all here t k lt row = ⊎_elim (λ e. here k (subst (λ x. DictionaryRow system members x k) e row)) (λ ne. all t k (omega arith) row) (equal_or_not t b)
 
-    at : ((t : ℕ) (k : Relation) → t < b → DictionaryRow system members t k → k.coefficient p ≡ pos 0) → (k : Relation) → DictionaryRow system members b k → (k.coefficient p ≡ pos 0) ⊎ (k.coefficient p ≢ pos 0) → ((t : ℕ) (k : Relation) → t < suc b → DictionaryRow system members t k → k.coefficient p ≡ pos 0) ⊎ Names system members p
+    at : ((t : ℕ) (k : Relation) → t < b → DictionaryRow system members t k → k.coefficient p ≡ pos 0) → (k : Relation) → DictionaryRow system members b k
+        → (k.coefficient p ≡ pos 0) ⊎ (k.coefficient p ≢ pos 0) → ((t : ℕ) (k : Relation) → t < suc b → DictionaryRow system members t k → k.coefficient p ≡ pos 0)
+        ⊎ Names system members p
     at all k row (inl e) = inl (more all (λ l row'. subst (λ x. x.coefficient p ≡ pos 0) (same_relation system members b k l row row') e))
     at all k row (inr ne) = inr (record { t = b; below = omega arith; k = k; row = row; named = ne })
 
@@ -246,7 +250,9 @@ SetBounded-exchanged system members i j b k has row member named one bounded w l
     same_bound l' row' g = subst (Bounded (squared b)) (same_relation system (exchanged members i j) w l' l row' target) g
 
     leaving : w ≡ j → Bounded (squared b) l
-    leaving e = same_bound (turned k i j) (subst (λ x. DictionaryRow system (exchanged members i j) x (turned k i j)) (sym e) (turned_row system members i j k row member named (turned k i j) (turned_reduced system members i j k row member))) (Bounded-raised b (squared b) _ (le-squared b one) (Bounded-turned b k i j (bounded i k row)))
+    leaving e = same_bound (turned k i j) (subst (λ x. DictionaryRow system (exchanged members i j) x (turned k i j)) (sym e)
+        (turned_row system members i j k row member named (turned k i j) (turned_reduced system members i j k row member)))
+        (Bounded-raised b (squared b) _ (le-squared b one) (Bounded-turned b k i j (bounded i k row)))
 
     old : w ≢ i → (l₀ : Relation) → DictionaryRow system members w l₀ → (l₀.coefficient j ≡ pos 0) ⊎ (l₀.coefficient j ≢ pos 0) → Bounded (squared b) l
     old other l₀ row₀ (inl e) = same_bound l₀ (kept_row system members i j k row member named w l₀ row₀ other e) (Bounded-raised b (squared b) l₀ (le-squared b one) (bounded w l₀ row₀))
@@ -448,7 +454,9 @@ descent_has system members fixed r i o (passed lt p d) has = descent_has system 
 descent_has system members fixed r i o (stuck lt s) has = tt
 descent_has system members fixed r i o (passes j w n t lt c f) has = tt
 descent_has system members fixed r i o (stops_below j lt c fit d stop) has = descent_has system (exchanged members (row_variable system i) j) (row_variable system i ∷ fixed) i 0 o d (exchanged_has system members (row_variable system i) j c.k has c.row c.member c.named)
-descent_has system members fixed r i o (goes_on j after lt c fit d rest) has = descent_has system after fixed r (suc i) o rest (descent_has system (exchanged members (row_variable system i) j) (row_variable system i ∷ fixed) i 0 (point after) d (exchanged_has system members (row_variable system i) j c.k has c.row c.member c.named))
+descent_has system members fixed r i o (goes_on j after lt c fit d rest) has = descent_has system after fixed r (suc i) o rest
+    (descent_has system (exchanged members (row_variable system i) j) (row_variable system i ∷ fixed) i 0 (point after) d
+    (exchanged_has system members (row_variable system i) j c.k has c.row c.member c.named))
 
 never_wide : (system : LinearSystem) → ((members : List ℕ) (i j : ℕ) → HasDictionary system members → AllFit system members i j) → (members fixed : List ℕ) (r i : ℕ) (o : Outcome) → DescentFrom system members fixed r i o → HasDictionary system members → IsNotWide o
 never_wide system fits members fixed r i o (after_last le) has = tt
@@ -456,7 +464,9 @@ never_wide system fits members fixed r i o (passed lt p d) has = never_wide syst
 never_wide system fits members fixed r i o (stuck lt s) has = tt
 never_wide system fits members fixed r i o (passes j w n t lt c f) has = f.passes (fits members (row_variable system i) j has w n t f.term)
 never_wide system fits members fixed r i o (stops_below j lt c fit d stop) has = never_wide system fits (exchanged members (row_variable system i) j) (row_variable system i ∷ fixed) i 0 o d (exchanged_has system members (row_variable system i) j c.k has c.row c.member c.named)
-never_wide system fits members fixed r i o (goes_on j after lt c fit d rest) has = never_wide system fits after fixed r (suc i) o rest (descent_has system (exchanged members (row_variable system i) j) (row_variable system i ∷ fixed) i 0 (point after) d (exchanged_has system members (row_variable system i) j c.k has c.row c.member c.named))
+never_wide system fits members fixed r i o (goes_on j after lt c fit d rest) has = never_wide system fits after fixed r (suc i) o rest
+    (descent_has system (exchanged members (row_variable system i) j) (row_variable system i ∷ fixed) i 0 (point after) d
+    (exchanged_has system members (row_variable system i) j c.k has c.row c.member c.named))
 
 room : (c : ℕ) → c ≤ 5 → 2 ≤ 2 ^ (2 ^ (6 - c) - 1)
 room zero h = omega arith

@@ -3,7 +3,7 @@ use Rattle.std.specs.Prelude.{◌≡◌, ◌≢◌, ◌⊎◌, ℕ, suc, ◌<◌
 use Rattle.rg_linear.specs.System.{LinearSystem, row_variable, row_at}
 use Rattle.rg_integers.specs.Sum.{sum_below}
 use Rattle.rg_linear.specs.Dictionary.{Relation, DictionaryRow, column_set, numbers_from}
-use Rattle.rg_fraction.specs.declared.term.Wide.{Wide}
+use Rattle.rg_integers.specs.declared.term.Wide.{Wide}
 use Rattle.rg_linear.specs.Exchange.{exchanged, AllFit, FirstWide}
 use Rattle.rg_linear.specs.Descent.{WideAt}
 use Rattle.rg_linear.specs.Firsts.{KeepsFirsts}

@@ -2,7 +2,7 @@
 use Rattle.std.specs.Prelude.{◌≡◌, ◌≢◌, ℕ, suc, ◌<◌, ◌≤◌, ◌⊎◌, List, [], ◌∷◌, length, Contains, ◌==◌, if◌then◌else◌, ℤ, pos, neg_ℤ, ◌≤ℤ◌, ◌<ℤ◌}
 use Rattle.rg_linear.specs.System.{LinearSystem, row_variable}
 use Rattle.rg_linear.specs.Dictionary.{Relation, DictionaryRow, column_set}
-use Rattle.rg_fraction.specs.declared.term.Wide.{Wide}
+use Rattle.rg_integers.specs.declared.term.Wide.{Wide}
 use Rattle.rg_linear.specs.Exchange.{exchanged, AllFit, FirstWide}
 
 -- where a term out of range stands: at the set, in the exchange of the variable pivot of a row with the member that leaves,

@@ -8,6 +8,7 @@ pub mod Cycle
 pub mod Branching
 pub mod Room
 pub mod Width
+pub mod Norm
 pub mod Stack
 pub mod Table
 pub mod Samples

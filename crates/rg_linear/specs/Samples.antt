@@ -1,7 +1,7 @@
 -- Small systems whose outcomes are known.
 use Rattle.std.specs.Prelude.{ℕ, ◌-◌, ◌^◌, List, [], ◌∷◌, ℤ, pos, negsuc, neg_ℤ}
 use Rattle.rg_linear.specs.System.{LinearRow, LinearSystem}
-use Rattle.rg_fraction.specs.declared.term.Wide.{Wide}
+use Rattle.rg_integers.specs.declared.term.Wide.{Wide}
 
 abbrev pub row : List ℤ → ℤ → LinearRow
 row coeffs constant = record { coeffs = coeffs; constant = constant }

@@ -3,7 +3,8 @@ use Rattle.std.specs.Prelude.{◌≡◌, ℕ, ◌+◌, ◌^◌, ◌<◌, List, l
 use Rattle.std.specs.Arc.{arc_slice_items}
 use Rattle.rg_integers.specs.Range.{InRange}
 use Rattle.rg_linear.specs.System.{LinearSystem, LinearRow, row_at, entry}
-use Rattle.rg_linear.specs.declared.system.Row.{Row}
+use Rattle.rg_linear.specs.Norm.{greatest_norm, kept_norm}
+use Rattle.rg_linear.specs.declared.row.Row.{Row}
 
 -- the row that code keeps
 abbrev pub linear_row : Row → LinearRow
@@ -19,3 +20,8 @@ pub record IsWellFormed (system : LinearSystem) : Type 0 where
   pub one_each : (i : ℕ) → i < length system.rows → length (row_at system i).coeffs ≡ system.columns
   pub coeffs : (i j : ℕ) → i < length system.rows → j < system.columns → InRange (entry system i j)
   pub constants : (i : ℕ) → i < length system.rows → InRange (row_at system i).constant
+
+-- a system that code keeps, beside the greatest norm of a row
+pub record IsStored (system : LinearSystem) (norm : ℕ) : Type 0 where
+  pub well_formed : IsWellFormed system
+  pub norm_is : norm ≡ kept_norm (greatest_norm system.rows)

@@ -16,7 +16,9 @@ pub fn branching_is_one()
 /// The point that a branching finds meets the rows and has whole forms. The leaves of its tree refute,
 /// and then no point with whole forms meets the rows.
 pub fn branching_is_sound()
-    ensures found { (system : LinearSystem) (forms : List Form) (above : List SplitSide) (members : List ℕ) → Branching system forms (BranchOutcome.found members above) → (scale : ℤ) (v : ℕ → ℤ) → IsPoint (node_system system forms above) scale v → IsAtZero members v → IsPoint system scale v × MeetsRows system v × FormsWhole system forms scale v }
+    ensures found { (system : LinearSystem) (forms : List Form) (above : List SplitSide) (members : List ℕ) → Branching system forms (BranchOutcome.found members above)
+        → (scale : ℤ) (v : ℕ → ℤ) → IsPoint (node_system system forms above) scale v → IsAtZero members v → IsPoint system scale v × MeetsRows system v
+        × FormsWhole system forms scale v }
     ensures leaves { (system : LinearSystem) (forms : List Form) (t : SplitTree) → Branching system forms (BranchOutcome.tree t) → SplitTreeRefutes system forms [] t }
     ensures none { (system : LinearSystem) (forms : List Form) (t : SplitTree) → ArePositive forms → Branching system forms (BranchOutcome.tree t) → (scale : ℤ) (v : ℕ → ℤ) → IsPoint system scale v → MeetsRows system v → ¬ FormsWhole system forms scale v }
 {}

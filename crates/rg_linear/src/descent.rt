@@ -22,8 +22,10 @@ pub fn point_is_sound()
 /// positive, the others 0. Then no point meets all rows.
 pub fn refuted_is_sound()
     ensures refutes { (system : LinearSystem) (members fixed : List ℕ) (i : ℕ) (k : Relation) → DescentFromStart system (Outcome.refuted members i fixed) → DictionaryRow system members (row_variable system i) k → AreFarkasMultipliers system (multiplier_of system k i) }
-    ensures positive { (system : LinearSystem) (members fixed : List ℕ) (i : ℕ) (k : Relation) → DescentFromStart system (Outcome.refuted members i fixed) → DictionaryRow system members (row_variable system i) k → (m : ℕ) → (m ≡ i) ⊎ Contains fixed (row_variable system m) → pos 0 <ℤ multiplier_of system k i m }
-    ensures others { (system : LinearSystem) (members fixed : List ℕ) (i : ℕ) (k : Relation) → DescentFromStart system (Outcome.refuted members i fixed) → DictionaryRow system members (row_variable system i) k → (m : ℕ) → m ≢ i → ¬ Contains fixed (row_variable system m) → multiplier_of system k i m ≡ pos 0 }
+    ensures positive { (system : LinearSystem) (members fixed : List ℕ) (i : ℕ) (k : Relation) → DescentFromStart system (Outcome.refuted members i fixed)
+        → DictionaryRow system members (row_variable system i) k → (m : ℕ) → (m ≡ i) ⊎ Contains fixed (row_variable system m) → pos 0 <ℤ multiplier_of system k i m }
+    ensures others { (system : LinearSystem) (members fixed : List ℕ) (i : ℕ) (k : Relation) → DescentFromStart system (Outcome.refuted members i fixed)
+        → DictionaryRow system members (row_variable system i) k → (m : ℕ) → m ≢ i → ¬ Contains fixed (row_variable system m) → multiplier_of system k i m ≡ pos 0 }
     ensures no_point { (system : LinearSystem) (multiplier : ℕ → ℤ) → AreFarkasMultipliers system multiplier → (scale : ℤ) (v : ℕ → ℤ) → IsPoint system scale v → ¬ MeetsRows system v }
 {}
 

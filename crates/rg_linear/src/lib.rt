@@ -12,6 +12,7 @@
 pub mod branching;
 pub mod cycle;
 pub mod descent;
+mod row;
 pub mod samples;
 pub mod stack;
 mod system;
@@ -20,12 +21,13 @@ pub mod table;
 ghost use Rattle.std.specs.Prelude.{◌≡◌, ◌≢◌, ℕ, ◌<◌, List, [], ◌∷◌, ◌++◌, length, map, Contains, ℤ, pos, ◌*ℤ◌};
 ghost use Rattle.rg_linear.specs.System.{LinearSystem, row_variable, IsPoint};
 ghost use Rattle.rg_linear.specs.Dictionary.{Relation, IsFree, DictionaryRow, HasDictionary, column_set, row_relation};
-ghost use Rattle.rg_fraction.specs.declared.term.Wide.{Wide};
-ghost use Rattle.rg_fraction.specs.Terms.{term_value};
+ghost use Rattle.rg_integers.specs.declared.term.Wide.{Wide};
+ghost use Rattle.rg_integers.specs.Term.{term_value};
 ghost use Rattle.rg_linear.specs.Exchange.{without, exchanged, terms, AllFit, FirstWide, renewed, turned, IsReduced, SetFits};
 ghost use Rattle.rg_linear.specs.Descent.{IsAtZero};
 
-pub use system::{Row, System};
+pub use row::{Row, norm};
+pub use system::{System, largest_norm};
 
 /// A variable has one relation over a free set.
 pub fn relation_is_one()
@@ -50,8 +52,11 @@ pub fn zero_is_a_point()
 pub fn exchange_is_exact()
     ensures set { (system : LinearSystem) (members : List ℕ) (i j : ℕ) (k : Relation) → DictionaryRow system members i k → Contains members j → k.coefficient j ≢ pos 0 → IsFree system (exchanged members i j) }
     ensures leaves { (system : LinearSystem) (members : List ℕ) (i j : ℕ) (k : Relation) → DictionaryRow system members i k → Contains members j → k.coefficient j ≢ pos 0 → DictionaryRow system (exchanged members i j) j (turned k i j) }
-    ensures stays { (system : LinearSystem) (members : List ℕ) (i j : ℕ) (k : Relation) → DictionaryRow system members i k → Contains members j → k.coefficient j ≢ pos 0 → (w : ℕ) (l : Relation) → DictionaryRow system members w l → w ≢ i → l.coefficient j ≡ pos 0 → DictionaryRow system (exchanged members i j) w l }
-    ensures changes { (system : LinearSystem) (members : List ℕ) (i j : ℕ) (k : Relation) → DictionaryRow system members i k → Contains members j → k.coefficient j ≢ pos 0 → (w : ℕ) (l : Relation) → DictionaryRow system members w l → w ≢ i → (l' : Relation) → IsReduced (renewed k i j l) l' → DictionaryRow system (exchanged members i j) w l' }
+    ensures stays { (system : LinearSystem) (members : List ℕ) (i j : ℕ) (k : Relation) → DictionaryRow system members i k → Contains members j → k.coefficient j ≢ pos 0
+        → (w : ℕ) (l : Relation) → DictionaryRow system members w l → w ≢ i → l.coefficient j ≡ pos 0 → DictionaryRow system (exchanged members i j) w l }
+    ensures changes { (system : LinearSystem) (members : List ℕ) (i j : ℕ) (k : Relation) → DictionaryRow system members i k → Contains members j
+        → k.coefficient j ≢ pos 0 → (w : ℕ) (l : Relation) → DictionaryRow system members w l → w ≢ i → (l' : Relation) → IsReduced (renewed k i j l) l'
+        → DictionaryRow system (exchanged members i j) w l' }
     ensures values { (members : List ℕ) (k : Relation) (i j : ℕ) (l : Relation) → ¬ Contains members i → map term_value (terms members k j l) ≡ (renewed k i j l).d ∷ (renewed k i j l).constant ∷ map (renewed k i j l).coefficient (without j members) ++ (renewed k i j l).coefficient i ∷ [] }
     ensures all { (system : LinearSystem) (members : List ℕ) (i j : ℕ) (k : Relation) → HasDictionary system members → DictionaryRow system members i k → Contains members j → k.coefficient j ≢ pos 0 → HasDictionary system (exchanged members i j) }
     ensures fit { (system : LinearSystem) (members : List ℕ) (i j : ℕ) (k : Relation) → HasDictionary system members → DictionaryRow system members i k → Contains members j → k.coefficient j ≢ pos 0 → AllFit system members i j → SetFits system members → SetFits system (exchanged members i j) }

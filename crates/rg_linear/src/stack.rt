@@ -3,7 +3,7 @@
 
 ghost use Rattle.std.specs.Prelude.{ℕ, suc, ◌<◌, ◌≤◌, List, [], ◌∷◌, length};
 ghost use Rattle.rg_linear.specs.System.{LinearSystem, row_variable};
-ghost use Rattle.rg_fraction.specs.declared.term.Wide.{Wide};
+ghost use Rattle.rg_integers.specs.declared.term.Wide.{Wide};
 ghost use Rattle.rg_linear.specs.Exchange.{exchanged, AllFit, FirstWide};
 ghost use Rattle.rg_linear.specs.Descent.{Outcome, IsPassed, IsStuck, Chooses};
 ghost use Rattle.rg_linear.specs.Stack.{fixed_of, limit, Resumes, work_left, IsStackOf};
@@ -12,8 +12,12 @@ ghost use Rattle.rg_linear.specs.Stack.{fixed_of, limit, Resumes, work_left, IsS
 pub fn steps_resume()
     ensures passed { (system : LinearSystem) (stack members : List ℕ) (i : ℕ) (o : Outcome) → i < limit system stack → IsPassed system members i → Resumes system stack members (suc i) o → Resumes system stack members i o }
     ensures stuck { (system : LinearSystem) (stack members : List ℕ) (i : ℕ) → i < limit system stack → IsStuck system members (fixed_of system stack) i → Resumes system stack members i (Outcome.refuted members i (fixed_of system stack)) }
-    ensures wide { (system : LinearSystem) (stack members : List ℕ) (i j w n : ℕ) (t : Wide) → i < limit system stack → Chooses system members (fixed_of system stack) i j → FirstWide system members (row_variable system i) j w n t → Resumes system stack members i (Outcome.wide (record { members = members; pivot = row_variable system i; leaves = j; target = w; entry = n; term = t })) }
-    ensures exchanges { (system : LinearSystem) (stack members : List ℕ) (i j : ℕ) (o : Outcome) → i < limit system stack → Chooses system members (fixed_of system stack) i j → AllFit system members (row_variable system i) j → Resumes system (i ∷ stack) (exchanged members (row_variable system i) j) 0 o → Resumes system stack members i o }
+    ensures wide { (system : LinearSystem) (stack members : List ℕ) (i j w n : ℕ) (t : Wide) → i < limit system stack
+        → Chooses system members (fixed_of system stack) i j → FirstWide system members (row_variable system i) j w n t
+        → Resumes system stack members i (Outcome.wide (record { members = members; pivot = row_variable system i; leaves = j; target = w; entry = n; term = t })) }
+    ensures exchanges { (system : LinearSystem) (stack members : List ℕ) (i j : ℕ) (o : Outcome) → i < limit system stack
+        → Chooses system members (fixed_of system stack) i j → AllFit system members (row_variable system i) j
+        → Resumes system (i ∷ stack) (exchanged members (row_variable system i) j) 0 o → Resumes system stack members i o }
     ensures returns { (system : LinearSystem) (s : ℕ) (stack members : List ℕ) (i : ℕ) (o : Outcome) → s ≤ i → Resumes system stack members (suc s) o → Resumes system (s ∷ stack) members i o }
     ensures ends { (system : LinearSystem) (members : List ℕ) (i : ℕ) → length system.rows ≤ i → Resumes system [] members i (Outcome.point members) }
 {}

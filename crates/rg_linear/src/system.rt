@@ -1,28 +1,53 @@
 //! Systems of linear rows.
 
-ghost use Rattle.std.specs.Prelude.{◌≡◌, map, IfOk};
+ghost use Rattle.std.specs.Prelude.{◌≡◌, length, map, IfOk};
+ghost use Rattle.rg_linear.specs.Norm.{greatest_norm, kept_norm};
 ghost use Rattle.rg_linear.specs.View.{linear_row, linear_system, IsWellFormed};
 
+use crate::row::{Row, norm};
 use std::alloc::AllocError;
 use std::marker::Model;
 use std::sync::ArcSlice;
-
-/// A row: the sum of the columns, each times its coefficient, and the constant is at least 0. There is one
-/// coefficient for each column. Clones of a row share its coefficients.
-#[derive(Clone, PartialEq, Eq, Debug, Drop)]
-pub struct Row {
-    pub coeffs: ArcSlice<i128>,
-    pub constant: i128,
-}
 
 impl Row {
     /// The row of these coefficients and this constant. `AllocError` where there is no memory.
     pub fn new(coeffs: Vec<i128>, constant: i128) -> Result<Row, AllocError>
         ensures { IfOk result (λ row. linear_row row ≡ record { coeffs = coeffs.items; constant = constant }) }
     {
+        let norm = norm(&coeffs, constant);
         let coeffs = ArcSlice::from_vec(coeffs)?;
-        Ok(Row { coeffs, constant })
+        Ok(Row {
+            coeffs,
+            constant,
+            norm,
+        })
     }
+}
+
+impl Clone for Row {
+    ghost is_clone = { λ row copy. linear_row copy ≡ linear_row row };
+
+    fn clone(&self) -> Result<Row, AllocError> {
+        let coeffs = self.coeffs.clone()?;
+        Ok(Row {
+            coeffs,
+            constant: self.constant,
+            norm: self.norm,
+        })
+    }
+}
+
+/// The greatest norm of a row, `u64::MAX` where that passes, 0 where there is no row.
+pub fn largest_norm(rows: &[Row]) -> u64
+    ensures { result ≡ kept_norm (greatest_norm (map linear_row rows.now)) }
+{
+    let mut largest = 0;
+    for row in rows {
+        if row.norm > largest {
+            largest = row.norm;
+        }
+    }
+    largest
 }
 
 /// A number of columns and rows over them. Columns and rows together are fewer than 2^32, and every number
@@ -31,17 +56,18 @@ impl Row {
 pub struct System {
     columns: u32,
     rows: Vec<Row>,
+    norm: u64,
 }
 
 impl Model for System {
     ghost use Rattle.rg_linear.specs.System.{LinearSystem};
-    ghost use Rattle.rg_linear.specs.View.{linear_system, IsWellFormed};
+    ghost use Rattle.rg_linear.specs.View.{linear_system, IsStored};
 
     ghost Value = { LinearSystem };
 
     ghost view = { λ a. linear_system a.columns a.rows.items };
 
-    ghost invariant = { λ a. IsWellFormed (linear_system a.columns a.rows.items) };
+    ghost invariant = { λ a. IsStored (linear_system a.columns a.rows.items) a.norm };
 }
 
 impl System {
@@ -50,7 +76,12 @@ impl System {
         requires { IsWellFormed (linear_system columns rows.items) }
         ensures { result ≡ linear_system columns rows.items }
     {
-        System { columns, rows }
+        let norm = largest_norm(&rows);
+        System {
+            columns,
+            rows,
+            norm,
+        }
     }
 
     /// How many columns there are.
@@ -67,5 +98,13 @@ impl System {
         ensures well_formed { IsWellFormed self.now }
     {
         &self.rows
+    }
+
+    /// The greatest norm of a row, `u64::MAX` where that passes, 0 where there is no row.
+    pub fn norm(&self) -> u64
+        ensures value { result ≡ kept_norm (greatest_norm self.now.rows) }
+        ensures well_formed { IsWellFormed self.now }
+    {
+        self.norm
     }
 }

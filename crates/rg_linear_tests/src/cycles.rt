@@ -3,7 +3,8 @@ ghost use Rattle.std.specs.Prelude.{◌≡◌, ◌<◌, IfSome};
 ghost use Rattle.rg_cycles.specs.View.{labels_of};
 
 use rg_cycles::{Basis, CycleWide, Stop, dependent, substitute};
-use rg_fraction::{FoldStop, Fraction, Wide};
+use rg_fraction::{FoldStop, Fraction};
+use rg_integers::Wide;
 use rg_test_bases::solved;
 use std::alloc::{AllocError, Global};
 use std::test::Fail;

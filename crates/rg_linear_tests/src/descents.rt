@@ -10,8 +10,8 @@ use rg_test_bases::is_in_range;
 use std::alloc::{AllocError, Global};
 use std::process::Abort;
 
-// Whether the system of so many columns and these rows is well formed.
-fn is_well_formed(columns: u32, rows: &[Row]) -> bool
+/// Whether the system of so many columns and these rows is well formed.
+pub(crate) fn is_well_formed(columns: u32, rows: &[Row]) -> bool
     ensures { IsTrue result → IsWellFormed (linear_system columns rows.now) }
 {
     if rows.len() > (u32::MAX - columns) as usize {
@@ -43,8 +43,8 @@ pub(crate) struct Case {
     pub multipliers: &'static [i128],
 }
 
-// The rows that are told.
-fn listed(alloc: Global, told: &[Told]) -> Result<Vec<Row>, AllocError> {
+/// The rows that are told.
+pub(crate) fn listed(alloc: Global, told: &[Told]) -> Result<Vec<Row>, AllocError> {
     let mut rows = Vec::new(alloc);
     for (coeffs, constant) in told {
         let coeffs = Vec::from_slice(alloc, coeffs)?;
@@ -53,13 +53,13 @@ fn listed(alloc: Global, told: &[Told]) -> Result<Vec<Row>, AllocError> {
     Ok(rows)
 }
 
-// What a dictionary shows once it is settled.
+/// What a dictionary shows once it is settled.
 #[derive(Drop)]
-struct Shown {
-    settled: Settled,
-    members: Vec<u32>,
-    values: Vec<(i128, i128)>,
-    multipliers: Vec<i128>,
+pub(crate) struct Shown {
+    pub(crate) settled: Settled,
+    pub(crate) members: Vec<u32>,
+    pub(crate) values: Vec<(i128, i128)>,
+    pub(crate) multipliers: Vec<i128>,
 }
 
 fn members(alloc: Global, dictionary: &Dictionary, columns: u32) -> Result<Vec<u32>, AllocError>
@@ -123,13 +123,18 @@ fn show(alloc: Global, system: &System) -> Option<Shown> {
     })
 }
 
-// What the dictionary of these rows shows once it is settled.
-fn outcome(alloc: Global, columns: u32, told: &[Told]) -> Option<Shown> {
-    let rows = listed(alloc, told).ok()?;
+/// What the dictionary of these rows shows once it is settled.
+pub(crate) fn shown_of(alloc: Global, columns: u32, rows: Vec<Row>) -> Option<Shown> {
     if !is_well_formed(columns, &rows) {
         return None;
     }
     show(alloc, &System::new(columns, rows))
+}
+
+/// What that of the rows that are told shows.
+pub(crate) fn outcome(alloc: Global, columns: u32, told: &[Told]) -> Option<Shown> {
+    let rows = listed(alloc, told).ok()?;
+    shown_of(alloc, columns, rows)
 }
 
 // Whether the descent of a case comes to what is told of it.
@@ -158,7 +163,7 @@ pub(crate) fn are_settled(rt: &(impl Abort + AllocGlobal), cases: &[Case]) {
 }
 
 // x - 1 and 3 - x; x - 1 and -x
-const ONE_COLUMN: [Case; 2] = [
+pub(crate) const ONE_COLUMN: [Case; 2] = [
     Case {
         columns: 1,
         rows: &[(&[1], -1), (&[-1], 3)],
@@ -182,7 +187,7 @@ fn one_column(rt: HostRuntime) {
     are_settled(&rt, &ONE_COLUMN);
 }
 
-const NO_COLUMN: [Case; 2] = [
+pub(crate) const NO_COLUMN: [Case; 2] = [
     Case {
         columns: 0,
         rows: &[(&[], 0)],
@@ -207,7 +212,7 @@ fn no_column(rt: HostRuntime) {
 }
 
 // x0 - x2, -x1, 2*x2 - 1: the exchange of the last row makes the first one fail
-const TAKEN_AGAIN: [Case; 1] = [Case {
+pub(crate) const TAKEN_AGAIN: [Case; 1] = [Case {
     columns: 3,
     rows: &[(&[1, 0, -1], 0), (&[0, -1, 0], 0), (&[0, 0, 2], -1)],
     settled: Settled::Point,
@@ -245,7 +250,7 @@ fn agrees(alloc: Global, told: &[Told], refuted: Option<u32>) -> bool {
 }
 
 // Rows of three columns, and the row at which their descent is refuted.
-const AGREED: [([Told; 4], Option<u32>); 4] = [
+pub(crate) const AGREED: [([Told; 4], Option<u32>); 4] = [
     (
         [
             (&[-2, 2, 1], -2),

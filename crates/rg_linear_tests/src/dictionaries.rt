@@ -1,6 +1,6 @@
 //! Exchanges in a dictionary.
 use rg_dictionary::{Dictionary, ExchangeWide};
-use rg_fraction::Wide;
+use rg_integers::Wide;
 use std::alloc::{AllocError, Global};
 use std::test::Fail;
 

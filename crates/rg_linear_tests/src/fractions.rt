@@ -1,6 +1,7 @@
 //! Fractions, rows of numbers and denominators.
-use rg_denominators::{common_denominator, products, without_denominators};
-use rg_fraction::{Fraction, Wide, eliminate, gcd, row_gcd, whole_product, whole_sum};
+use rg_case_parts::{common_denominator, products, without_denominators};
+use rg_fraction::{Fraction, eliminate, gcd, row_gcd, whole_product, whole_sum};
+use rg_integers::Wide;
 use std::alloc::Global;
 use std::cmp::Ordering;
 

@@ -15,3 +15,5 @@ mod laws;
 mod narrow;
 #[cfg(test)]
 mod plain;
+#[cfg(test)]
+mod revised;

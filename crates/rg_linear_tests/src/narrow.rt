@@ -2,7 +2,7 @@
 //! greater numbers, which is refused.
 use crate::descents::{Case, are_settled};
 use rg_feasible::{PivotWide, Settled};
-use rg_fraction::Wide;
+use rg_integers::Wide;
 
 // The numbers that stand in the rows, by the number of columns.
 const OF_NONE: i128 = 9223372036854775807;

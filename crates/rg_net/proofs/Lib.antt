@@ -3,7 +3,6 @@ mod Members
 mod Lines
 mod Told
 mod Free
-mod ClassTexts
 mod Multiples
 pub mod Placing
 mod Moving

@@ -2,14 +2,12 @@
 #![tactic(auto)]
 
 mod class_break;
-mod class_words;
 mod firing;
 mod laws;
 mod net;
 mod weights;
 
 pub use class_break::{ClassBreak, in_class};
-pub use class_words::class_text;
 pub use firing::{FireStop, enabled, fire};
 pub use laws::{net_is_told, prefix_is_free};
 pub use net::{Net, Place};

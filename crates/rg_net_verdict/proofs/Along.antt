@@ -133,9 +133,13 @@ module _ (lts : System) (net : Net) (tree : List Arc) (ms : List Marking) (i : �
         within = λ s has. ⊎_elim (λ before. so_far.within s before) (λ is_to. subst (λ k. k < states lts) is_to target_in_range) (Contains-push_cases so_far.met a.to s has);
         one_each = length-set ms a.to after ∙ so_far.one_each;
         fire = fire;
-        each = λ s has. ⊎_elim (λ before. subst (IsMarkingOf net tree s) (sym (kept s before)) (so_far.each s before)) (λ is_to. subst (λ k. IsMarkingOf net tree k (marking_of (set ms a.to after) k)) is_to (subst (IsMarkingOf net tree a.to) (sym new) reached)) (Contains-push_cases so_far.met a.to s has);
+        each = λ s has. ⊎_elim (λ before. subst (IsMarkingOf net tree s) (sym (kept s before)) (so_far.each s before))
+            (λ is_to. subst (λ k. IsMarkingOf net tree k (marking_of (set ms a.to after) k)) is_to (subst (IsMarkingOf net tree a.to) (sym new) reached))
+            (Contains-push_cases so_far.met a.to s has);
         places = λ s has. ⊎_elim (λ before. ap length (kept s before) ∙ so_far.places s before) (λ is_to. subst (λ k. length (marking_of (set ms a.to after) k) ≡ length net.places) is_to (ap length new ∙ fires.places)) (Contains-push_cases so_far.met a.to s has);
-        in_range = λ s has. ⊎_elim (λ before. subst (All (λ n. n ≤ greatest)) (sym (kept s before)) (so_far.in_range s before)) (λ is_to. subst (λ k. All (λ n. n ≤ greatest) (marking_of (set ms a.to after) k)) is_to (subst (All (λ n. n ≤ greatest)) (sym new) range)) (Contains-push_cases so_far.met a.to s has);
+        in_range = λ s has. ⊎_elim (λ before. subst (All (λ n. n ≤ greatest)) (sym (kept s before)) (so_far.in_range s before))
+            (λ is_to. subst (λ k. All (λ n. n ≤ greatest) (marking_of (set ms a.to after) k)) is_to (subst (All (λ n. n ≤ greatest)) (sym new) range))
+            (Contains-push_cases so_far.met a.to s has);
       }
     where
       kept : (s : ℕ) → Contains so_far.met s → marking_of (set ms a.to after) s ≡ marking_of ms s

@@ -11,7 +11,7 @@ use Rattle.rg_theory.specs.Tree.{IsTree, way_to}
 use Rattle.rg_theory.proofs.Arcs.{arc_in_range}
 use Rattle.rg_theory.proofs.Firing.{fires_once}
 use Rattle.rg_theory.proofs.Trees.{same_tree}
-use Rattle.rg_fraction.specs.declared.term.Wide.{Wide}
+use Rattle.rg_integers.specs.declared.term.Wide.{Wide}
 use Rattle.std.proofs.lemmas.List.FromFn.{length-map-range_with_len, get_or-map-range_with_len}
 use Rattle.rg_net.specs.Firing.{left_on, StaysInRange}
 use Rattle.rg_net.specs.declared.class_break.ClassBreak.{ClassBreak}
@@ -310,7 +310,9 @@ module _ (lts : System) (net : Net) (tree : List Arc) (class : Class) (fine : Is
   no_difference : (h k : ℕ → Marking) (s t : ℕ) (d : Difference) → AreTold lts net tree h → AreTold lts net tree k → s < states lts → t < labels lts → IsDifference lts net h s t d → AreRightBefore lts net k (states lts) 0 → ⊥
   no_difference h k s t d x y lt lt' wrong right = wrong_is_not_right lts net k one s t d (moved lts net h k fine (same_at h k x.have y.have) s t d lt wrong) (right s t (inl lt) lt lt')
 
-  differ_same : (h k : ℕ → Marking) (s t r u : ℕ) (d e : Difference) → AreTold lts net tree h → AreTold lts net tree k → s < states lts → t < labels lts → r < states lts → u < labels lts → AreRightBefore lts net h s t → AreRightBefore lts net k r u → IsDifference lts net h s t d → IsDifference lts net k r u e → verdict_of d s t ≡ verdict_of e r u
+  differ_same : (h k : ℕ → Marking) (s t r u : ℕ) (d e : Difference) → AreTold lts net tree h → AreTold lts net tree k → s < states lts → t < labels lts → r < states lts
+      → u < labels lts → AreRightBefore lts net h s t → AreRightBefore lts net k r u → IsDifference lts net h s t d → IsDifference lts net k r u e
+      → verdict_of d s t ≡ verdict_of e r u
   differ_same h k s t r u d e x y lt lt' below below' right right' a b =
       let same = same_at h k x.have y.have in
       let (p, q) = difference_once lts net h k fine same one s t r u d e lt lt' below below' right right' a b in

@@ -47,7 +47,9 @@ grown_fires m is a s t to has e_to e_from e_label =
     (tree_fires m.lts.now m.net.now m.tree.now.arcs (marking_of (shown_markings m.rows.now)) is.system is.tree.tree is.have a has)))
 
 -- the list of the label and the row of the state that were read
-module _ (m : Marked) (is : IsMarked m) (s t : ℕ) (state : s < states m.lts.now) (label : t < labels m.lts.now) (v : Vec Flow Global) (x : Vec ℕ Global) (at_s : x ≡ get_or m.rows.now s x) (flow : List Flow) (e_flow : flow ≡ (get_or m.flows.now t v).items) (row : Marking) (e_row : row ≡ (get_or m.rows.now s x).items) where
+module _ (m : Marked) (is : IsMarked m) (s t : ℕ) (state : s < states m.lts.now) (label : t < labels m.lts.now) (v : Vec Flow Global) (x : Vec ℕ Global)
+    (at_s : x ≡ get_or m.rows.now s x) (flow : List Flow) (e_flow : flow ≡ (get_or m.flows.now t v).items) (row : Marking)
+    (e_row : row ≡ (get_or m.rows.now s x).items) where
   in_net : t < m.net.now.labels
   in_net = subst (λ n. t < n) (sym is.labels) label
 

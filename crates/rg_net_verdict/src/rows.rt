@@ -21,7 +21,7 @@ use crate::check::Halt;
 use crate::flow::Flow;
 use crate::moves::{allows, moved};
 use crate::verdict::{CheckStop, CheckWide, NetNo};
-use rg_fraction::Wide;
+use rg_integers::Wide;
 use rg_lts::Lts;
 use rg_net::{Class, FireStop, Net, Place};
 use rg_theory::Arc;

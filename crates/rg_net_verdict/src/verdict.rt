@@ -1,5 +1,5 @@
 //! What is told of a net.
-use rg_fraction::Wide;
+use rg_integers::Wide;
 use rg_net::ClassBreak;
 
 /// Whether a net solves a system and is of a class.

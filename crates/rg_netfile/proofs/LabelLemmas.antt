@@ -3,7 +3,7 @@ use Rattle.std.proofs.Common.{ℕ, List, Result, Err}
 use Rattle.std.specs.Str.{IsUtf8}
 use Rattle.std.proofs.lemmas.Bool.{false≢true}
 use Rattle.rg_text.specs.Byte.{IsName}
-use Rattle.rg_items.proofs.Names.{read_as_name}
+use Rattle.rg_text.proofs.Names.{read_as_name}
 
 -- bytes that aren't UTF-8 are no name
 pub no_name : {E : Type 0} (text : List ℕ) (e : E) (Q : Type 0) → (IsUtf8 text → ⊥) × Q → IsName text → ⊥

@@ -1,3 +1,4 @@
 pub mod Contents
+pub mod LabelledTexts
 pub mod Spells
 pub mod Built

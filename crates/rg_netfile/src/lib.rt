@@ -5,6 +5,7 @@ mod building;
 mod fault;
 mod filling;
 mod known;
+mod labelled;
 mod labels;
 mod laws;
 mod names;
@@ -17,6 +18,7 @@ mod sums;
 mod whole;
 
 pub use fault::NetFault;
+pub use labelled::print_labelled;
 pub use laws::{one_answer, printed_is_spelled};
 pub use print::print_net;
 pub use rg_memory::NoMemory;

@@ -33,7 +33,7 @@ pub fn print_net(alloc: Global, net: &Net, lts: &Lts) -> Result<Vec<u8>, NoMemor
 }
 
 // A line for each of so many places, with its name.
-fn push_places(text: &mut Vec<u8>, prefix: &[u8], count: usize) -> Result<(), NoMemory>
+pub(crate) fn push_places(text: &mut Vec<u8>, prefix: &[u8], count: usize) -> Result<(), NoMemory>
     ensures { OnOk result (text.new.items ≡ text.old.items ++ fed (map (place_name prefix.now) (range_with_len 0 count))) }
 {
     for i in 0..count {
@@ -55,7 +55,7 @@ fn push_transitions(text: &mut Vec<u8>, lts: &Lts) -> Result<(), NoMemory>
 }
 
 // A line for each label, with its flow.
-fn push_flows(
+pub(crate) fn push_flows(
     alloc: Global,
     text: &mut Vec<u8>,
     prefix: &[u8],
@@ -95,7 +95,12 @@ fn push_flow(
 }
 
 // The line with the initial marking.
-fn push_marking(alloc: Global, text: &mut Vec<u8>, prefix: &[u8], net: &Net) -> Result<(), NoMemory>
+pub(crate) fn push_marking(
+    alloc: Global,
+    text: &mut Vec<u8>,
+    prefix: &[u8],
+    net: &Net,
+) -> Result<(), NoMemory>
     ensures { OnOk result (text.new.items ≡ text.old.items ++ (codes ".initial_marking " ++ set_text prefix.now (starts net.now) ++ 10 ∷ [])) }
 {
     let weights = starts(alloc, net)?;

@@ -14,7 +14,9 @@ use Rattle.rg_items.proofs.Complete.{Tail, tail_of_more, tail_more, Things, Some
 use Rattle.rg_items.proofs.Complete as complete
 use Rattle.rg_netitems.specs.Item.{Member, Flow, Item, IsNumber, IsMember, IsFlow, AreItems, IsOtherWord, IsTypeName}
 use Rattle.rg_netitems.specs.Item as item
-use Rattle.rg_netitems.specs.Table.{places, transitions, Side, pre, post, marking, SetPosition, first_member, next_member, after_name, after_star, after_member, Position, section, type_name, passed_text, in_section, after_entry, in_list, in_flows, after_flow_name, before_set, in_set, after_pre, is_digits, after_set, set_leads_by, leads_by, after_word, is_type_name, may_end}
+use Rattle.rg_netitems.specs.Table.{places, transitions, Side, pre, post, marking, SetPosition, first_member, next_member, after_name, after_star, after_member, Position}
+use Rattle.rg_netitems.specs.Table.{section, type_name, passed_text, in_section, after_entry, in_list, in_flows, after_flow_name, before_set, in_set, after_pre}
+use Rattle.rg_netitems.specs.Table.{is_digits, after_set, set_leads_by, leads_by, after_word, is_type_name, may_end}
 use Rattle.rg_netitems.specs.Reading.{net_grammar}
 
 -- items, to the end

@@ -28,18 +28,26 @@ abbrev pub MeetsNames : System → List Arc → Class → Problem → ℕ → �
 MeetsNames lts tree class problem number start effect scale = (name : RowName) → Contains (names_of lts class problem number) name → NameIsMet lts tree start effect scale (row_expression lts class problem number [] name)
 
 -- the system is met exactly where its names are
-system_names : (lts : System) (tree : List Arc) (basis : CycleBasis) (class : Class) (problem : Problem) (number : ℕ) (case : CaseSystem) (start : ℤ) (effect : ℕ → ℤ) (scale : ℤ) → IsCaseOver lts tree basis class problem number case → AreEffects lts tree basis effect → pos 0 <ℤ scale → (has_start class ≡ false → start ≡ pos 0) → MeetsCase lts basis class case start effect scale ↔ MeetsNames lts tree class problem number start effect scale
+system_names : (lts : System) (tree : List Arc) (basis : CycleBasis) (class : Class) (problem : Problem) (number : ℕ) (case : CaseSystem) (start : ℤ) (effect : ℕ → ℤ)
+    (scale : ℤ) → IsCaseOver lts tree basis class problem number case → AreEffects lts tree basis effect → pos 0 <ℤ scale → (has_start class ≡ false → start ≡ pos 0)
+    → MeetsCase lts basis class case start effect scale ↔ MeetsNames lts tree class problem number start effect scale
 system_names lts tree basis class problem number case start effect scale c e positive no_start = system_is_met lts tree basis class problem number start effect scale case c.is_basis (λ name has. names_labels lts class problem number name c.asked has) positive no_start e.follows e.unused c.is_case
 
 -- a number that is not a state has as many tokens as the initial state
-tokens_past : (lts : System) (tree : List Arc) (basis : CycleBasis) (class : Class) (problem : Problem) (number : ℕ) (case : CaseSystem) (start : ℤ) (effect : ℕ → ℤ) (q : ℕ) → IsCaseOver lts tree basis class problem number case → states lts ≤ q → potential lts tree start effect q ≡ potential lts tree start effect lts.initial
+tokens_past : (lts : System) (tree : List Arc) (basis : CycleBasis) (class : Class) (problem : Problem) (number : ℕ) (case : CaseSystem) (start : ℤ) (effect : ℕ → ℤ)
+    (q : ℕ) → IsCaseOver lts tree basis class problem number case → states lts ≤ q → potential lts tree start effect q ≡ potential lts tree start effect lts.initial
 tokens_past lts tree basis class problem number case start effect q c le = number_past lts tree start effect q c.in_range c.is_tree le ∙ sym (number_at_first lts tree start effect c.is_tree)
 
 -- ---- Start is a column
 
-all_rows : (lts : System) (tree : List Arc) (basis : CycleBasis) (class : Class) (problem : Problem) (number : ℕ) (case : CaseSystem) (start : ℤ) (effect : ℕ → ℤ) (scale : ℤ) → IsCaseOver lts tree basis class problem number case → AreEffects lts tree basis effect → pos 0 <ℤ scale → has_start class ≡ true → MeetsNames lts tree class problem number start effect scale → KeepsRowsOver lts class problem number scale (numbers_along lts tree start effect)
+all_rows : (lts : System) (tree : List Arc) (basis : CycleBasis) (class : Class) (problem : Problem) (number : ℕ) (case : CaseSystem) (start : ℤ) (effect : ℕ → ℤ)
+    (scale : ℤ) → IsCaseOver lts tree basis class problem number case → AreEffects lts tree basis effect → pos 0 <ℤ scale → has_start class ≡ true
+    → MeetsNames lts tree class problem number start effect scale → KeepsRowsOver lts class problem number scale (numbers_along lts tree start effect)
 all_rows lts tree basis class problem number case start effect scale c e positive starts met =
-    each_kind (λ name. RowStands lts class problem number [] name → RowHolds lts class problem number scale (numbers_along lts tree start effect) name) of_arc of_tokens (λ name no_arc no_tokens stands. ⊎_elim (λ has. named name has) (λ out. effect_holds lts tree class problem number start effect scale name e.unused positive stands out no_arc no_tokens) (left_out lts class problem number name c.in_range stands))
+    each_kind (λ name. RowStands lts class problem number [] name → RowHolds lts class problem number scale (numbers_along lts tree start effect) name) of_arc of_tokens
+    (λ name no_arc no_tokens stands. ⊎_elim (λ has. named name has)
+    (λ out. effect_holds lts tree class problem number start effect scale name e.unused positive stands out no_arc no_tokens)
+    (left_out lts class problem number name c.in_range stands))
   where
     named : (name : RowName) → Contains (names_of lts class problem number) name → RowHolds lts class problem number scale (numbers_along lts tree start effect) name
     named name has = says name (value_over scale (numbers_along lts tree start effect) (row_expression lts class problem number [] name)) (name_no_arc lts class problem number name has) (met name has)
@@ -49,7 +57,9 @@ all_rows lts tree basis class problem number case start effect scale c e positiv
     of_arc name is stands = absurd is
 
     at_state : (q : ℕ) → q < states lts → pos 0 ≤ℤ potential lts tree start effect q
-    at_state q lt = (tokens_row_holds lts class problem number scale (numbers_along lts tree start effect) q).1 (⊎_elim (λ has. named (tokens_row q) has) (λ out. absurd (⊎_elim (λ none. true≢false (sym starts ∙ none)) (λ le. too_far lt le) out)) (left_out lts class problem number (tokens_row q) c.in_range (tokens_stand problem)))
+    at_state q lt = (tokens_row_holds lts class problem number scale (numbers_along lts tree start effect) q).1
+        (⊎_elim (λ has. named (tokens_row q) has) (λ out. absurd (⊎_elim (λ none. true≢false (sym starts ∙ none)) (λ le. too_far lt le) out))
+        (left_out lts class problem number (tokens_row q) c.in_range (tokens_stand problem)))
       where
         tokens_stand : (p : Problem) → RowStands lts class p number [] (tokens_row q)
         tokens_stand (Event s t) = tt
@@ -59,10 +69,14 @@ all_rows lts tree basis class problem number case start effect scale c e positiv
         too_far lt le = omega arith
 
     of_tokens : (name : RowName) → IsTokensRow name → RowStands lts class problem number [] name → RowHolds lts class problem number scale (numbers_along lts tree start effect) name
-    of_tokens (tokens_row q) is stands = (tokens_row_holds lts class problem number scale (numbers_along lts tree start effect) q).0 (⊎_elim (λ lt. at_state q lt) (λ le. subst (λ z. pos 0 ≤ℤ z) (sym (tokens_past lts tree basis class problem number case start effect q c le)) (at_state lts.initial c.in_range.initial)) (cases_lt q (states lts)))
+    of_tokens (tokens_row q) is stands = (tokens_row_holds lts class problem number scale (numbers_along lts tree start effect) q).0
+        (⊎_elim (λ lt. at_state q lt) (λ le. subst (λ z. pos 0 ≤ℤ z) (sym (tokens_past lts tree basis class problem number case start effect q c le))
+        (at_state lts.initial c.in_range.initial)) (cases_lt q (states lts)))
     of_tokens name is stands = absurd is
 
-pub start_means : (lts : System) (tree : List Arc) (basis : CycleBasis) (class : Class) (problem : Problem) (number : ℕ) (case : CaseSystem) (start : ℤ) (effect : ℕ → ℤ) (scale : ℤ) → IsCaseOver lts tree basis class problem number case → AreEffects lts tree basis effect → pos 0 <ℤ scale → has_start class ≡ true → MeetsCase lts basis class case start effect scale ↔ KeepsRowsOver lts class problem number scale (numbers_along lts tree start effect)
+pub start_means : (lts : System) (tree : List Arc) (basis : CycleBasis) (class : Class) (problem : Problem) (number : ℕ) (case : CaseSystem) (start : ℤ) (effect : ℕ → ℤ)
+    (scale : ℤ) → IsCaseOver lts tree basis class problem number case → AreEffects lts tree basis effect → pos 0 <ℤ scale → has_start class ≡ true
+    → MeetsCase lts basis class case start effect scale ↔ KeepsRowsOver lts class problem number scale (numbers_along lts tree start effect)
 start_means lts tree basis class problem number case start effect scale c e positive starts =
     let names = system_names lts tree basis class problem number case start effect scale c e positive (λ none. absurd (true≢false (sym starts ∙ none))) in (
       (λ met. all_rows lts tree basis class problem number case start effect scale c e positive starts (names.0 met)),
@@ -79,9 +93,12 @@ from_zero lts tree start effect = ((λ q. close start (sum_below (labels lts) (�
     close z s = omega (arith, ints)
 
 same_columns : (lts : System) (basis : CycleBasis) (class : Class) (start : ℤ) (effect : ℕ → ℤ) → has_start class ≡ false → column_values lts basis class start effect ≡ column_values lts basis class (pos 0) effect
-same_columns lts basis class start effect none = ap (λ b. (if b then (start ∷ []) else []) ++ picked (λ t. has_label t lts.arcs) (free_labels (labels lts) basis) effect) none ∙ sym (ap (λ b. (if b then (pos 0 ∷ []) else []) ++ picked (λ t. has_label t lts.arcs) (free_labels (labels lts) basis) effect) none)
+same_columns lts basis class start effect none = ap (λ b. (if b then (start ∷ []) else []) ++ picked (λ t. has_label t lts.arcs) (free_labels (labels lts) basis) effect)
+    none ∙ sym (ap (λ b. (if b then (pos 0 ∷ []) else []) ++ picked (λ t. has_label t lts.arcs) (free_labels (labels lts) basis) effect) none)
 
-no_start_rows : (lts : System) (tree : List Arc) (basis : CycleBasis) (class : Class) (problem : Problem) (number : ℕ) (case : CaseSystem) (start : ℤ) (effect : ℕ → ℤ) (scale : ℤ) → IsCaseOver lts tree basis class problem number case → AreEffects lts tree basis effect → pos 0 <ℤ scale → has_start class ≡ false → MeetsNames lts tree class problem number (pos 0) effect scale → KeepsAllButTokens lts class problem number scale (numbers_along lts tree start effect)
+no_start_rows : (lts : System) (tree : List Arc) (basis : CycleBasis) (class : Class) (problem : Problem) (number : ℕ) (case : CaseSystem) (start : ℤ) (effect : ℕ → ℤ)
+    (scale : ℤ) → IsCaseOver lts tree basis class problem number case → AreEffects lts tree basis effect → pos 0 <ℤ scale → has_start class ≡ false
+    → MeetsNames lts tree class problem number (pos 0) effect scale → KeepsAllButTokens lts class problem number scale (numbers_along lts tree start effect)
 no_start_rows lts tree basis class problem number case start effect scale c e positive none met =
     each_kind (λ name. RowStands lts class problem number [] name → ¬ IsTokensRow name → RowHolds lts class problem number scale (numbers_along lts tree start effect) name)
     of_arc
@@ -89,13 +106,18 @@ no_start_rows lts tree basis class problem number case start effect scale c e po
     (λ name no_arc no_tokens stands other. ⊎_elim (λ has. named name has stands other) (λ out. effect_holds lts tree class problem number start effect scale name e.unused positive stands out no_arc no_tokens) (left_out lts class problem number name c.in_range stands))
   where
     named : (name : RowName) → Contains (names_of lts class problem number) name → RowStands lts class problem number [] name → ¬ IsTokensRow name → RowHolds lts class problem number scale (numbers_along lts tree start effect) name
-    named name has stands other = says name (value_over scale (numbers_along lts tree start effect) (row_expression lts class problem number [] name)) (name_no_arc lts class problem number name has) (subst (λ z. pos 0 ≤ℤ z) (same_value lts class problem number scale start (numbers_along lts tree (pos 0) effect) (numbers_along lts tree start effect) name none (from_zero lts tree start effect) stands other) (met name has))
+    named name has stands other = says name (value_over scale (numbers_along lts tree start effect) (row_expression lts class problem number [] name))
+        (name_no_arc lts class problem number name has)
+        (subst (λ z. pos 0 ≤ℤ z) (same_value lts class problem number scale start (numbers_along lts tree (pos 0) effect) (numbers_along lts tree start effect) name none
+        (from_zero lts tree start effect) stands other) (met name has))
 
     of_arc : (name : RowName) → IsArcRow name → RowStands lts class problem number [] name → ¬ IsTokensRow name → RowHolds lts class problem number scale (numbers_along lts tree start effect) name
     of_arc (arc_row q t q') is stands other = arcs_hold lts tree basis class problem number case start effect scale q t q' c e (arc_stands lts class problem number q t q' stands)
     of_arc name is stands other = absurd is
 
-pub no_start_means : (lts : System) (tree : List Arc) (basis : CycleBasis) (class : Class) (problem : Problem) (number : ℕ) (case : CaseSystem) (start : ℤ) (effect : ℕ → ℤ) (scale : ℤ) → IsCaseOver lts tree basis class problem number case → AreEffects lts tree basis effect → pos 0 <ℤ scale → has_start class ≡ false → MeetsCase lts basis class case start effect scale ↔ KeepsAllButTokens lts class problem number scale (numbers_along lts tree start effect)
+pub no_start_means : (lts : System) (tree : List Arc) (basis : CycleBasis) (class : Class) (problem : Problem) (number : ℕ) (case : CaseSystem) (start : ℤ)
+    (effect : ℕ → ℤ) (scale : ℤ) → IsCaseOver lts tree basis class problem number case → AreEffects lts tree basis effect → pos 0 <ℤ scale → has_start class ≡ false
+    → MeetsCase lts basis class case start effect scale ↔ KeepsAllButTokens lts class problem number scale (numbers_along lts tree start effect)
 no_start_means lts tree basis class problem number case start effect scale c e positive none =
     let names = system_names lts tree basis class problem number case (pos 0) effect scale c e positive (λ _. refl) in (
       (λ met. no_start_rows lts tree basis class problem number case start effect scale c e positive none (names.0 (λ k has. subst (λ vs. RowIsMet vs scale k) (same_columns lts basis class start effect none) (met k has)))),
@@ -106,10 +128,15 @@ no_start_means lts tree basis class problem number case start effect scale c e p
     back keeps name has =
         let stands = names_stand lts class problem number name has in
         let other = name_no_tokens lts class problem number name none has in
-        subst (λ z. pos 0 ≤ℤ z) (sym (same_value lts class problem number scale start (numbers_along lts tree (pos 0) effect) (numbers_along lts tree start effect) name none (from_zero lts tree start effect) stands other)) (said name (value_over scale (numbers_along lts tree start effect) (row_expression lts class problem number [] name)) (keeps name stands other))
+        subst (λ z. pos 0 ≤ℤ z) (sym (same_value lts class problem number scale start (numbers_along lts tree (pos 0) effect)
+        (numbers_along lts tree start effect) name none (from_zero lts tree start effect) stands other))
+        (said name (value_over scale (numbers_along lts tree start effect) (row_expression lts class problem number [] name)) (keeps name stands other))
 
 -- a shift that leaves no state below 0 keeps the rows of tokens too
-pub shift_means : (lts : System) (tree : List Arc) (basis : CycleBasis) (class : Class) (problem : Problem) (number : ℕ) (case : CaseSystem) (start : ℤ) (effect : ℕ → ℤ) (scale by : ℤ) → IsCaseOver lts tree basis class problem number case → has_start class ≡ false → KeepsAllButTokens lts class problem number scale (numbers_along lts tree start effect) → ((q : ℕ) → q < states lts → pos 0 ≤ℤ shifted by (numbers_along lts tree start effect) (tokens_at q)) → KeepsRowsOver lts class problem number scale (shifted by (numbers_along lts tree start effect))
+pub shift_means : (lts : System) (tree : List Arc) (basis : CycleBasis) (class : Class) (problem : Problem) (number : ℕ) (case : CaseSystem) (start : ℤ) (effect : ℕ → ℤ)
+    (scale by : ℤ) → IsCaseOver lts tree basis class problem number case → has_start class ≡ false → KeepsAllButTokens lts class problem number scale
+    (numbers_along lts tree start effect) → ((q : ℕ) → q < states lts → pos 0 ≤ℤ shifted by (numbers_along lts tree start effect) (tokens_at q))
+    → KeepsRowsOver lts class problem number scale (shifted by (numbers_along lts tree start effect))
 shift_means lts tree basis class problem number case start effect scale by c none keeps above =
     each_kind (λ name. RowStands lts class problem number [] name → RowHolds lts class problem number scale (shifted by (numbers_along lts tree start effect)) name)
     (λ name is stands. moved name stands (no_tokens name is))
@@ -124,7 +151,9 @@ shift_means lts tree basis class problem number case start effect scale by c non
     moved name stands other = subst (Says name) (same_value lts class problem number scale by (numbers_along lts tree start effect) (shifted by (numbers_along lts tree start effect)) name none (shifted_is_shift by (numbers_along lts tree start effect)) stands other) (keeps name stands other)
 
     of_tokens : (name : RowName) → IsTokensRow name → RowStands lts class problem number [] name → RowHolds lts class problem number scale (shifted by (numbers_along lts tree start effect)) name
-    of_tokens (tokens_row q) is stands = (tokens_row_holds lts class problem number scale (shifted by (numbers_along lts tree start effect)) q).0 (⊎_elim (λ lt. above q lt) (λ le. subst (λ z. pos 0 ≤ℤ (z +ℤ by)) (sym (tokens_past lts tree basis class problem number case start effect q c le)) (above lts.initial c.in_range.initial)) (cases_lt q (states lts)))
+    of_tokens (tokens_row q) is stands = (tokens_row_holds lts class problem number scale (shifted by (numbers_along lts tree start effect)) q).0
+        (⊎_elim (λ lt. above q lt) (λ le. subst (λ z. pos 0 ≤ℤ (z +ℤ by)) (sym (tokens_past lts tree basis class problem number case start effect q c le))
+        (above lts.initial c.in_range.initial)) (cases_lt q (states lts)))
     of_tokens name is stands = absurd is
 
 -- ---- whole numbers

@@ -57,7 +57,9 @@ pub arc_stands : (lts : System) (class : Class) (problem : Problem) (number q t 
 arc_stands lts class (Event s u) number q t q' h = h
 arc_stands lts class (States s s') number q t q' h = h
 
-pub arcs_hold : (lts : System) (tree : List Arc) (basis : CycleBasis) (class : Class) (problem : Problem) (number : ℕ) (case : CaseSystem) (start : ℤ) (effect : ℕ → ℤ) (scale : ℤ) (q t q' : ℕ) → IsCaseOver lts tree basis class problem number case → AreEffects lts tree basis effect → HasArc lts q t q' → RowHolds lts class problem number scale (numbers_along lts tree start effect) (arc_row q t q')
+pub arcs_hold : (lts : System) (tree : List Arc) (basis : CycleBasis) (class : Class) (problem : Problem) (number : ℕ) (case : CaseSystem) (start : ℤ) (effect : ℕ → ℤ)
+    (scale : ℤ) (q t q' : ℕ) → IsCaseOver lts tree basis class problem number case → AreEffects lts tree basis effect → HasArc lts q t q'
+    → RowHolds lts class problem number scale (numbers_along lts tree start effect) (arc_row q t q')
 arcs_hold lts tree basis class problem number case start effect scale q t q' c e has = by problem
   where
     kept : potential lts tree start effect q +ℤ effect t ≡ potential lts tree start effect q'
@@ -73,7 +75,9 @@ arcs_hold lts tree basis class problem number case start effect scale q t q' c e
 -- ---- rows that are left out
 
 -- rows of effects of labels without an arc hold
-pub effect_holds : (lts : System) (tree : List Arc) (class : Class) (problem : Problem) (number : ℕ) (start : ℤ) (effect : ℕ → ℤ) (scale : ℤ) (name : RowName) → UnusedAreZero lts effect → pos 0 <ℤ scale → RowStands lts class problem number [] name → IsLeftOut lts class name → ¬ IsArcRow name → ¬ IsTokensRow name → RowHolds lts class problem number scale (numbers_along lts tree start effect) name
+pub effect_holds : (lts : System) (tree : List Arc) (class : Class) (problem : Problem) (number : ℕ) (start : ℤ) (effect : ℕ → ℤ) (scale : ℤ) (name : RowName)
+    → UnusedAreZero lts effect → pos 0 <ℤ scale → RowStands lts class problem number [] name → IsLeftOut lts class name → ¬ IsArcRow name → ¬ IsTokensRow name
+    → RowHolds lts class problem number scale (numbers_along lts tree start effect) name
 effect_holds lts tree class (Event s u) number start effect scale (up_row t) unused positive stands out no_arc no_tokens = let e = unused t out in omega (arith, ints)
 effect_holds lts tree class (Event s u) number start effect scale (down_row t) unused positive stands out no_arc no_tokens = let e = unused t out in omega (arith, ints)
 effect_holds lts tree class (Event s u) number start effect scale (makes_row t) unused positive stands out no_arc no_tokens = let e = unused t out in omega (arith, ints)

@@ -89,7 +89,10 @@ row_of_point : (lts : System) (tree : List Arc) (kept : List ℕ) (effect : ℕ 
 row_of_point lts tree kept effect i lt =
     let p = values_of-point (chord_system lts tree kept) (pos 1) effect one in
     p.rows i lt
-    ∙ ap₂ ◌+ℤ◌ (sum_below-same (labels lts) (λ j. entry (chord_system lts tree kept) i j *ℤ values_of (chord_system lts tree kept) (pos 1) effect j) (λ j. entry (chord_system lts tree kept) i j *ℤ effect j) (λ j lt'. ap (λ z. entry (chord_system lts tree kept) i j *ℤ z) (values_of-column (chord_system lts tree kept) (pos 1) effect j lt'))) (ap (λ z. z *ℤ pos 1) (no_constants lts tree kept i lt))
+    ∙ ap₂ ◌+ℤ◌ (sum_below-same (labels lts) (λ j. entry (chord_system lts tree kept) i j *ℤ values_of (chord_system lts tree kept) (pos 1) effect j)
+    (λ j. entry (chord_system lts tree kept) i j *ℤ effect j)
+    (λ j lt'. ap (λ z. entry (chord_system lts tree kept) i j *ℤ z) (values_of-column (chord_system lts tree kept) (pos 1) effect j lt')))
+    (ap (λ z. z *ℤ pos 1) (no_constants lts tree kept i lt))
     ∙ drop (sum_below (labels lts) (λ j. entry (chord_system lts tree kept) i j *ℤ effect j))
     ∙ ap (λ (r : LinearRow). coeffs_sum (labels lts) r.coeffs effect) (row_is lts tree kept i lt).1
   where
@@ -117,7 +120,11 @@ rows_zero lts tree kept effect is = (rows, sums)
         ∙ sym (row_of_point lts tree kept effect i below)
         ∙ zeros i below
 
-    stays : RowsAreZero (chord_system lts tree kept) (values_of (chord_system lts tree kept) (pos 1) effect) → (p : ℕ) → IsZeroVector (vector_at (chord_vectors lts tree) p) ⊎ (Contains [] (vector_at (chord_vectors lts tree) p) ⊎ ((q : ℕ) × Contains kept q × (vector_at (chord_vectors lts tree) q ≡ vector_at (chord_vectors lts tree) p))) → coeffs_sum (labels lts) (vector_at (chord_vectors lts tree) p) effect ≡ pos 0
+    stays : RowsAreZero (chord_system lts tree kept) (values_of (chord_system lts tree kept) (pos 1) effect) → (p : ℕ)
+        → IsZeroVector (vector_at (chord_vectors lts tree) p)
+        ⊎ (Contains [] (vector_at (chord_vectors lts tree) p)
+        ⊎ ((q : ℕ) × Contains kept q × (vector_at (chord_vectors lts tree) q ≡ vector_at (chord_vectors lts tree) p)))
+        → coeffs_sum (labels lts) (vector_at (chord_vectors lts tree) p) effect ≡ pos 0
     stays zeros p (inl zero_vector) = zero_sum (labels lts) (vector_at (chord_vectors lts tree) p) effect zero_vector
     stays zeros p (inr (inl (k, lt, e))) = absurd (omega arith)
     stays zeros p (inr (inr (q, has, e))) = ap (λ c. coeffs_sum (labels lts) c effect) (sym e) ∙ kept_zero zeros q has

@@ -19,11 +19,15 @@ picked_is : (test test' : ℕ → Bool) (a n : ℕ) (x : ℕ → ℤ) → picked
 picked_is test test' a zero x = refl
 picked_is test test' a (suc n) x = go (test a) (picked_is test test' (suc a) n x)
   where
-    inner : (c : Bool) → picked test' (numbers_where test (suc a) n) x ≡ map x (numbers_where (λ t. test t && test' t) (suc a) n) → (if c then (x a ∷ picked test' (numbers_where test (suc a) n) x) else picked test' (numbers_where test (suc a) n) x) ≡ map x (if c then (a ∷ numbers_where (λ t. test t && test' t) (suc a) n) else numbers_where (λ t. test t && test' t) (suc a) n)
+    inner : (c : Bool) → picked test' (numbers_where test (suc a) n) x ≡ map x (numbers_where (λ t. test t && test' t) (suc a) n)
+        → (if c then (x a ∷ picked test' (numbers_where test (suc a) n) x) else picked test' (numbers_where test (suc a) n) x) ≡ map x
+        (if c then (a ∷ numbers_where (λ t. test t && test' t) (suc a) n) else numbers_where (λ t. test t && test' t) (suc a) n)
     inner true ih = ap (λ l. x a ∷ l) ih
     inner false ih = ih
 
-    go : (b : Bool) → picked test' (numbers_where test (suc a) n) x ≡ map x (numbers_where (λ t. test t && test' t) (suc a) n) → picked test' (if b then (a ∷ numbers_where test (suc a) n) else numbers_where test (suc a) n) x ≡ map x (if b && test' a then (a ∷ numbers_where (λ t. test t && test' t) (suc a) n) else numbers_where (λ t. test t && test' t) (suc a) n)
+    go : (b : Bool) → picked test' (numbers_where test (suc a) n) x ≡ map x (numbers_where (λ t. test t && test' t) (suc a) n)
+        → picked test' (if b then (a ∷ numbers_where test (suc a) n) else numbers_where test (suc a) n) x ≡ map x
+        (if b && test' a then (a ∷ numbers_where (λ t. test t && test' t) (suc a) n) else numbers_where (λ t. test t && test' t) (suc a) n)
     go true ih = inner (test' a) ih
     go false ih = ih
 
@@ -41,7 +45,8 @@ columns_counted lts basis class start effect = ap length (columns_split lts basi
 pub columns_of_case : (lts : System) (tree : List Arc) (basis : CycleBasis) (class : Class) (problem : Problem) (number : ℕ) (case : CaseSystem) → system_fold lts tree basis class problem number (Ok case) → case.columns ≡ column_count lts basis class
 columns_of_case lts tree basis class problem number case (all, made, (forms, forms_made, (columns, keeps, form_list))) = columns
 
-pub values_counted : (lts : System) (tree : List Arc) (basis : CycleBasis) (class : Class) (problem : Problem) (number : ℕ) (case : CaseSystem) (start : ℤ) (effect : ℕ → ℤ) → system_fold lts tree basis class problem number (Ok case) → length (column_values lts basis class start effect) ≡ case.columns
+pub values_counted : (lts : System) (tree : List Arc) (basis : CycleBasis) (class : Class) (problem : Problem) (number : ℕ) (case : CaseSystem) (start : ℤ)
+    (effect : ℕ → ℤ) → system_fold lts tree basis class problem number (Ok case) → length (column_values lts basis class start effect) ≡ case.columns
 values_counted lts tree basis class problem number case start effect fold = columns_counted lts basis class start effect ∙ sym (columns_of_case lts tree basis class problem number case fold)
 
 pub first_value : (lts : System) (basis : CycleBasis) (class : Class) (start : ℤ) (effect : ℕ → ℤ) → has_start class ≡ true → number_at (column_values lts basis class start effect) 0 ≡ start
@@ -64,8 +69,12 @@ free_value lts basis class start effect i lt = ap (λ l. number_at l (first_colu
 dot_over : (xs ys : List ℤ) → dot xs ys ≡ sum_below (length ys) (λ j. number_at xs j *ℤ number_at ys j)
 dot_over xs ys = dot_comm xs ys ∙ dot-sum_below ys xs ∙ sum_below-same (length ys) (λ j. number_at ys j *ℤ number_at xs j) (λ j. number_at xs j *ℤ number_at ys j) (λ j lt. *ℤ_comm (number_at ys j) (number_at xs j))
 
-pub row_sum : (lts : System) (tree : List Arc) (basis : CycleBasis) (class : Class) (problem : Problem) (number : ℕ) (case : CaseSystem) (start : ℤ) (effect : ℕ → ℤ) (coeffs : List ℤ) → system_fold lts tree basis class problem number (Ok case) → dot coeffs (column_values lts basis class start effect) ≡ sum_below case.columns (λ j. number_at coeffs j *ℤ number_at (column_values lts basis class start effect) j)
-row_sum lts tree basis class problem number case start effect coeffs fold = dot_over coeffs (column_values lts basis class start effect) ∙ ap (λ n. sum_below n (λ j. number_at coeffs j *ℤ number_at (column_values lts basis class start effect) j)) (values_counted lts tree basis class problem number case start effect fold)
+pub row_sum : (lts : System) (tree : List Arc) (basis : CycleBasis) (class : Class) (problem : Problem) (number : ℕ) (case : CaseSystem) (start : ℤ) (effect : ℕ → ℤ)
+    (coeffs : List ℤ) → system_fold lts tree basis class problem number (Ok case) → dot coeffs (column_values lts basis class start effect) ≡ sum_below case.columns
+    (λ j. number_at coeffs j *ℤ number_at (column_values lts basis class start effect) j)
+row_sum lts tree basis class problem number case start effect coeffs fold = dot_over coeffs (column_values lts basis class start effect)
+    ∙ ap (λ n. sum_below n (λ j. number_at coeffs j *ℤ number_at (column_values lts basis class start effect) j))
+    (values_counted lts tree basis class problem number case start effect fold)
 
 -- Start and the free labels with an arc have columns
 pub start_below : (lts : System) (tree : List Arc) (basis : CycleBasis) (class : Class) (problem : Problem) (number : ℕ) (case : CaseSystem) → system_fold lts tree basis class problem number (Ok case) → has_start class ≡ true → 0 < case.columns
@@ -79,3 +88,12 @@ free_below lts tree basis class problem number case i fold lt = go (has_start cl
     go : (b : Bool) (n : ℕ) → n ≡ length ((if b then (pos 0 ∷ []) else []) ++ map pos (free_columns lts basis)) → length (map pos (free_columns lts basis)) ≡ length (free_columns lts basis) → (if b then 1 else 0) + i < n
     go true n is same = omega arith
     go false n is same = omega arith
+
+-- ---- how many columns there are
+
+pub count_is : (lts : System) (basis : CycleBasis) (class : Class) → column_count lts basis class ≡ first_column class + length (free_columns lts basis)
+count_is lts basis class = go (has_start class)
+  where
+    go : (b : Bool) → length ((if b then (pos 0 ∷ []) else []) ++ map pos (free_columns lts basis)) ≡ (if b then 1 else 0) + length (free_columns lts basis)
+    go true = let e = length-map (free_columns lts basis) pos in omega arith
+    go false = let e = length-map (free_columns lts basis) pos in omega arith

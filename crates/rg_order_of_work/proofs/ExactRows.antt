@@ -86,7 +86,9 @@ part_exact d b (q, e) = sym (exact b d (subst (λ n. unsigned_abs d ∣ n) (sym 
 
 -- ---- the free labels' coefficients
 
-picked_over : (lts : System) (basis : CycleBasis) (counts : ℕ → ℤ) (b : ℤ) (x : ℕ → ℤ) (test : ℕ → Bool) (fs : List ℕ) (rs : List Ratio) → ((f : ℕ) (h : Ratio) → coefficient_fold (labels lts) basis counts f (Ok h) → IsOver b h (x f)) → each (coefficient_fold (labels lts) basis counts) fs (Ok rs) → AllOver b (pick test fs rs) (picked test fs x)
+picked_over : (lts : System) (basis : CycleBasis) (counts : ℕ → ℤ) (b : ℤ) (x : ℕ → ℤ) (test : ℕ → Bool) (fs : List ℕ) (rs : List Ratio)
+    → ((f : ℕ) (h : Ratio) → coefficient_fold (labels lts) basis counts f (Ok h) → IsOver b h (x f)) → each (coefficient_fold (labels lts) basis counts) fs (Ok rs)
+    → AllOver b (pick test fs rs) (picked test fs x)
 picked_over lts basis counts b x test [] rs over e = tt
 picked_over lts basis counts b x test (f ∷ fs) rs over (h, is, (rest, each_is, e)) = subst (λ (l : List Ratio). AllOver b (pick test (f ∷ fs) l) (picked test (f ∷ fs) x)) (sym e) (go (test f) (over f h is) (picked_over lts basis counts b x test fs rest over each_is))
   where
@@ -98,7 +100,9 @@ dot_picked : (test : ℕ → Bool) (x effect : ℕ → ℤ) (fs : List ℕ) → 
 dot_picked test x effect [] unused = refl
 dot_picked test x effect (f ∷ fs) unused = go (test f) refl (dot_picked test x effect fs unused)
   where
-    go : (t : Bool) → test f ≡ t → dot (picked test fs x) (picked test fs effect) ≡ sum_over (λ u. x u *ℤ effect u) fs → dot (if t then (x f ∷ picked test fs x) else picked test fs x) (if t then (effect f ∷ picked test fs effect) else picked test fs effect) ≡ (x f *ℤ effect f) +ℤ sum_over (λ u. x u *ℤ effect u) fs
+    go : (t : Bool) → test f ≡ t → dot (picked test fs x) (picked test fs effect) ≡ sum_over (λ u. x u *ℤ effect u) fs
+        → dot (if t then (x f ∷ picked test fs x) else picked test fs x) (if t then (effect f ∷ picked test fs effect) else picked test fs effect) ≡
+        (x f *ℤ effect f) +ℤ sum_over (λ u. x u *ℤ effect u) fs
     go true e ih = ap (λ z. (x f *ℤ effect f) +ℤ z) ih
     go false e ih = ih ∙ none (x f) (effect f) (sum_over (λ u. x u *ℤ effect u) fs) (unused f e)
       where
@@ -109,14 +113,22 @@ dot_picked test x effect (f ∷ fs) unused = go (test f) refl (dot_picked test x
             zero_times x s = omega (arith, ints)
 
 -- what the free labels' coefficients are worth together
-free_sum : (lts : System) (tree : List Arc) (basis : CycleBasis) (counts effect part : ℕ → ℤ) (b : ℤ) → IsBasis lts tree basis → FollowsRelations (chord_system lts tree basis.kept) basis.members effect → ((t : ℕ) → Contains (dependent_labels (labels lts) basis) t → b ≡ (basis.relation t).d *ℤ part t)
+free_sum : (lts : System) (tree : List Arc) (basis : CycleBasis) (counts effect part : ℕ → ℤ) (b : ℤ) → IsBasis lts tree basis
+    → FollowsRelations (chord_system lts tree basis.kept) basis.members effect
+    → ((t : ℕ) → Contains (dependent_labels (labels lts) basis) t → b ≡ (basis.relation t).d *ℤ part t)
     → sum_over (λ f. ((counts f *ℤ b) +ℤ sum_over (λ t. counts t *ℤ ((basis.relation t).coefficient f *ℤ part t)) (dependent_labels (labels lts) basis)) *ℤ effect f) (free_labels (labels lts) basis) ≡ b *ℤ sum_below (labels lts) (λ t. counts t *ℤ effect t)
 free_sum lts tree basis counts effect part b is follows divides =
     let fs = free_labels (labels lts) basis in
     let ts = dependent_labels (labels lts) basis in
-    sum_over-same (λ f. ((counts f *ℤ b) +ℤ sum_over (λ t. counts t *ℤ ((basis.relation t).coefficient f *ℤ part t)) (dependent_labels (labels lts) basis)) *ℤ effect f) (λ f. (b *ℤ (counts f *ℤ effect f)) +ℤ sum_over (λ t. (counts t *ℤ part t) *ℤ ((basis.relation t).coefficient f *ℤ effect f)) (dependent_labels (labels lts) basis)) (free_labels (labels lts) basis) (λ f has. one_label f)
+    sum_over-same (λ f. ((counts f *ℤ b) +ℤ sum_over (λ t. counts t *ℤ ((basis.relation t).coefficient f *ℤ part t)) (dependent_labels (labels lts) basis)) *ℤ effect f)
+    (λ f. (b *ℤ (counts f *ℤ effect f)) +ℤ sum_over (λ t. (counts t *ℤ part t) *ℤ ((basis.relation t).coefficient f *ℤ effect f))
+    (dependent_labels (labels lts) basis)) (free_labels (labels lts) basis) (λ f has. one_label f)
     ∙ sum_over-plus (λ f. b *ℤ (counts f *ℤ effect f)) (λ f. sum_over (λ t. (counts t *ℤ part t) *ℤ ((basis.relation t).coefficient f *ℤ effect f)) (dependent_labels (labels lts) basis)) (free_labels (labels lts) basis)
-    ∙ ap₂ ◌+ℤ◌ (sum_over-times b (λ f. counts f *ℤ effect f) (free_labels (labels lts) basis)) (sum_over-swap (λ f t. (counts t *ℤ part t) *ℤ ((basis.relation t).coefficient f *ℤ effect f)) (free_labels (labels lts) basis) (dependent_labels (labels lts) basis) ∙ sum_over-same (λ t. sum_over (λ f. (counts t *ℤ part t) *ℤ ((basis.relation t).coefficient f *ℤ effect f)) (free_labels (labels lts) basis)) (λ t. b *ℤ (counts t *ℤ effect t)) (dependent_labels (labels lts) basis) one_relation ∙ sum_over-times b (λ t. counts t *ℤ effect t) (dependent_labels (labels lts) basis))
+    ∙ ap₂ ◌+ℤ◌ (sum_over-times b (λ f. counts f *ℤ effect f) (free_labels (labels lts) basis))
+    (sum_over-swap (λ f t. (counts t *ℤ part t) *ℤ ((basis.relation t).coefficient f *ℤ effect f)) (free_labels (labels lts) basis)
+    (dependent_labels (labels lts) basis) ∙ sum_over-same
+    (λ t. sum_over (λ f. (counts t *ℤ part t) *ℤ ((basis.relation t).coefficient f *ℤ effect f)) (free_labels (labels lts) basis)) (λ t. b *ℤ (counts t *ℤ effect t))
+    (dependent_labels (labels lts) basis) one_relation ∙ sum_over-times b (λ t. counts t *ℤ effect t) (dependent_labels (labels lts) basis))
     ∙ sym (mul-add b (sum_over (λ f. counts f *ℤ effect f) (free_labels (labels lts) basis)) (sum_over (λ t. counts t *ℤ effect t) (dependent_labels (labels lts) basis)))
     ∙ ap (λ z. b *ℤ z) (both_sums (λ t. is_in basis.members t) (λ t. counts t *ℤ effect t) 0 (labels lts) ∙ sum_below-same (labels lts) (λ i. counts (0 + i) *ℤ effect (0 + i)) (λ i. counts i *ℤ effect i) (λ i lt. ap (λ k. counts k *ℤ effect k) (none i)))
   where
@@ -132,7 +144,8 @@ free_sum lts tree basis counts effect part b is follows divides =
         turn : (e c k p : ℤ) → e *ℤ (c *ℤ (k *ℤ p)) ≡ (c *ℤ p) *ℤ (k *ℤ e)
         turn e c k p = simp ring
 
-    one_label : (f : ℕ) → ((counts f *ℤ b) +ℤ sum_over (λ t. counts t *ℤ ((basis.relation t).coefficient f *ℤ part t)) (dependent_labels (labels lts) basis)) *ℤ effect f ≡ (b *ℤ (counts f *ℤ effect f)) +ℤ sum_over (λ t. (counts t *ℤ part t) *ℤ ((basis.relation t).coefficient f *ℤ effect f)) (dependent_labels (labels lts) basis)
+    one_label : (f : ℕ) → ((counts f *ℤ b) +ℤ sum_over (λ t. counts t *ℤ ((basis.relation t).coefficient f *ℤ part t)) (dependent_labels (labels lts) basis)) *ℤ effect f
+        ≡ (b *ℤ (counts f *ℤ effect f)) +ℤ sum_over (λ t. (counts t *ℤ part t) *ℤ ((basis.relation t).coefficient f *ℤ effect f)) (dependent_labels (labels lts) basis)
     one_label f = add-mul (counts f *ℤ b) (sum_over (λ t. counts t *ℤ ((basis.relation t).coefficient f *ℤ part t)) (dependent_labels (labels lts) basis)) (effect f) ∙ ap₂ ◌+ℤ◌ (turn (counts f) b (effect f)) (inner f (dependent_labels (labels lts) basis))
       where
         turn : (c b e : ℤ) → (c *ℤ b) *ℤ e ≡ b *ℤ (c *ℤ e)
@@ -143,9 +156,15 @@ free_sum lts tree basis counts effect part b is follows divides =
     relation_sum t has =
         let (lt, lacks) = dependent lts basis t has in
         let row = is.relations t lt lacks in
-        let all = both_sums (λ u. is_in basis.members u) (λ f. (basis.relation t).coefficient f *ℤ effect f) 0 (labels lts) ∙ sum_below-same (labels lts) (λ i. (basis.relation t).coefficient (0 + i) *ℤ effect (0 + i)) (λ i. (basis.relation t).coefficient i *ℤ effect i) (λ i lt'. ap (λ k. (basis.relation t).coefficient k *ℤ effect k) (none i)) in
-        let others : sum_over (λ f. (basis.relation t).coefficient f *ℤ effect f) (dependent_labels (labels lts) basis) ≡ pos 0 = sum_over-zero (λ f. (basis.relation t).coefficient f *ℤ effect f) (dependent_labels (labels lts) basis) (λ u has'. ap (λ z. z *ℤ effect u) (row.over u (dependent lts basis u has').1) ∙ zero_times (effect u)) in
-        close (sum_over (λ f. (basis.relation t).coefficient f *ℤ effect f) (free_labels (labels lts) basis)) (sum_over (λ f. (basis.relation t).coefficient f *ℤ effect f) (dependent_labels (labels lts) basis)) (sum_below (labels lts) (λ i. (basis.relation t).coefficient i *ℤ effect i)) all others ∙ sym (follows t (basis.relation t) lt row)
+        let all = both_sums (λ u. is_in basis.members u) (λ f. (basis.relation t).coefficient f *ℤ effect f) 0 (labels lts)
+        ∙ sum_below-same (labels lts) (λ i. (basis.relation t).coefficient (0 + i) *ℤ effect (0 + i)) (λ i. (basis.relation t).coefficient i *ℤ effect i)
+        (λ i lt'. ap (λ k. (basis.relation t).coefficient k *ℤ effect k) (none i)) in
+        let others : sum_over (λ f. (basis.relation t).coefficient f *ℤ effect f) (dependent_labels (labels lts) basis) ≡ pos 0 = sum_over-zero
+        (λ f. (basis.relation t).coefficient f *ℤ effect f) (dependent_labels (labels lts) basis)
+        (λ u has'. ap (λ z. z *ℤ effect u) (row.over u (dependent lts basis u has').1) ∙ zero_times (effect u)) in
+        close (sum_over (λ f. (basis.relation t).coefficient f *ℤ effect f) (free_labels (labels lts) basis))
+        (sum_over (λ f. (basis.relation t).coefficient f *ℤ effect f) (dependent_labels (labels lts) basis))
+        (sum_below (labels lts) (λ i. (basis.relation t).coefficient i *ℤ effect i)) all others ∙ sym (follows t (basis.relation t) lt row)
       where
         zero_times : (z : ℤ) → pos 0 *ℤ z ≡ pos 0
         zero_times z = omega (arith, ints)
@@ -166,7 +185,10 @@ free_sum lts tree basis counts effect part b is follows divides =
 -- ---- the row
 
 -- the numbers of the expression over the columns are worth the expression, times the multiple
-pub terms_value : (lts : System) (tree : List Arc) (basis : CycleBasis) (class : Class) (terms : List Term) (start : ℤ) (effect : ℕ → ℤ) (scaled : Scaled) → IsBasis lts tree basis → NamesLabels (labels lts) terms → (has_start class ≡ false → start ≡ pos 0) → FollowsRelations (chord_system lts tree basis.kept) basis.members effect → UnusedAreZero lts effect → terms_fold lts tree basis class terms (Ok scaled) → dot scaled.numbers (column_values lts basis class start effect) ≡ scaled.multiple *ℤ value_in (numbers_along lts tree start effect) terms
+pub terms_value : (lts : System) (tree : List Arc) (basis : CycleBasis) (class : Class) (terms : List Term) (start : ℤ) (effect : ℕ → ℤ) (scaled : Scaled)
+    → IsBasis lts tree basis → NamesLabels (labels lts) terms → (has_start class ≡ false → start ≡ pos 0)
+    → FollowsRelations (chord_system lts tree basis.kept) basis.members effect → UnusedAreZero lts effect → terms_fold lts tree basis class terms (Ok scaled)
+    → dot scaled.numbers (column_values lts basis class start effect) ≡ scaled.multiple *ℤ value_in (numbers_along lts tree start effect) terms
 terms_value lts tree basis class terms start effect scaled is names no_start follows unused (free, substituted, scales) =
     let (b, positive, divides) = common_bottom (λ t. (basis.relation t).d) (dependent_labels (labels lts) basis) (λ t has. (is.relations t (dependent lts basis t has).0 (dependent lts basis t has).1).positive) in
     let part : ℕ → ℤ = λ t. int_div b (basis.relation t).d in
@@ -178,7 +200,10 @@ terms_value lts tree basis class terms start effect scaled is names no_start fol
     mul-cancel (dot scaled.numbers (column_values lts basis class start effect)) (scaled.multiple *ℤ value_in (numbers_along lts tree start effect) terms) b (positive_differs b positive)
     (columns (has_start class) refl b x (pick (λ t. has_label t lts.arcs) (free_labels (labels lts) basis) free) over free_value scales ∙ ap (λ z. (scaled.multiple *ℤ z) *ℤ b) (sym (rewritten lts tree start effect terms names)))
   where
-    columns : (s : Bool) → has_start class ≡ s → (b : ℤ) (x : ℕ → ℤ) (rs : List Ratio) → AllOver b rs (picked (λ t. has_label t lts.arcs) (free_labels (labels lts) basis) x) → dot (picked (λ t. has_label t lts.arcs) (free_labels (labels lts) basis) x) (picked (λ t. has_label t lts.arcs) (free_labels (labels lts) basis) effect) ≡ b *ℤ sum_below (labels lts) (λ t. count_of tree terms t *ℤ effect t)
+    columns : (s : Bool) → has_start class ≡ s → (b : ℤ) (x : ℕ → ℤ) (rs : List Ratio)
+        → AllOver b rs (picked (λ t. has_label t lts.arcs) (free_labels (labels lts) basis) x)
+        → dot (picked (λ t. has_label t lts.arcs) (free_labels (labels lts) basis) x) (picked (λ t. has_label t lts.arcs) (free_labels (labels lts) basis) effect) ≡ b *ℤ
+        sum_below (labels lts) (λ t. count_of tree terms t *ℤ effect t)
         → scaled_fold ((if s then (whole (start_of terms) ∷ []) else []) ++ rs) (Ok scaled)
         → dot scaled.numbers ((if s then (start ∷ []) else []) ++ picked (λ t. has_label t lts.arcs) (free_labels (labels lts) basis) effect) *ℤ b ≡ (scaled.multiple *ℤ ((start_of terms *ℤ start) +ℤ sum_below (labels lts) (λ t. count_of tree terms t *ℤ effect t))) *ℤ b
     columns true e b x rs over value scales =
@@ -198,11 +223,17 @@ terms_value lts tree basis class terms start effect scaled is names no_start fol
         close c b s m = simp ring (omega (arith, ints))
 
 -- the value of a row, times the factor's bottom, is that of its named row, times the factor's top
-pub row_value_is : (lts : System) (tree : List Arc) (basis : CycleBasis) (class : Class) (name : RowName) (e : Expression) (start : ℤ) (effect : ℕ → ℤ) (scale : ℤ) (out : KeptRow) → IsBasis lts tree basis → NamesLabels (labels lts) e.terms → (has_start class ≡ false → start ≡ pos 0) → FollowsRelations (chord_system lts tree basis.kept) basis.members effect → UnusedAreZero lts effect → row_fold lts tree basis class name e (Ok out) → out.factor.bottom *ℤ (dot out.row.coeffs (column_values lts basis class start effect) +ℤ (out.row.constant *ℤ scale)) ≡ out.factor.top *ℤ (value_in (numbers_along lts tree start effect) e.terms +ℤ (e.constant *ℤ scale))
+pub row_value_is : (lts : System) (tree : List Arc) (basis : CycleBasis) (class : Class) (name : RowName) (e : Expression) (start : ℤ) (effect : ℕ → ℤ) (scale : ℤ)
+    (out : KeptRow) → IsBasis lts tree basis → NamesLabels (labels lts) e.terms → (has_start class ≡ false → start ≡ pos 0)
+    → FollowsRelations (chord_system lts tree basis.kept) basis.members effect → UnusedAreZero lts effect → row_fold lts tree basis class name e (Ok out)
+    → out.factor.bottom *ℤ (dot out.row.coeffs (column_values lts basis class start effect) +ℤ (out.row.constant *ℤ scale)) ≡ out.factor.top *ℤ
+    (value_in (numbers_along lts tree start effect) e.terms +ℤ (e.constant *ℤ scale))
 row_value_is lts tree basis class name e start effect scale out is names no_start follows unused (scaled, terms, (constant, product, (named, d))) =
     let g = pos (max d.divisor 1) in
     let value = terms_value lts tree basis class e.terms start effect scaled is names no_start follows unused terms in
-    let numbers : pos (max d.divisor 1) *ℤ dot out.row.coeffs (column_values lts basis class start effect) ≡ scaled.multiple *ℤ value_in (numbers_along lts tree start effect) e.terms = sym (dot-times (pos (max d.divisor 1)) out.row.coeffs (column_values lts basis class start effect)) ∙ ap (λ l. dot l (column_values lts basis class start effect)) (sym d.coeffs) ∙ value in
+    let numbers : pos (max d.divisor 1) *ℤ dot out.row.coeffs (column_values lts basis class start effect) ≡ scaled.multiple *ℤ value_in
+    (numbers_along lts tree start effect) e.terms = sym (dot-times (pos (max d.divisor 1)) out.row.coeffs (column_values lts basis class start effect))
+    ∙ ap (λ l. dot l (column_values lts basis class start effect)) (sym d.coeffs) ∙ value in
     let constants : pos (max d.divisor 1) *ℤ out.row.constant ≡ e.constant *ℤ scaled.multiple = sym d.constant ∙ whole_product_is e.constant scaled.multiple constant product in
     close (pos (max d.divisor 1)) scaled.multiple out.factor.top out.factor.bottom (dot out.row.coeffs (column_values lts basis class start effect)) out.row.constant (value_in (numbers_along lts tree start effect) e.terms) e.constant scale d.factor.nonzero numbers constants d.factor.value
   where

@@ -1,9 +1,10 @@
 -- A fold has one result.
 use Rattle.std.proofs.Common.{◌≡◌, ◌≢◌, List, [], ◌∷◌, Result, Ok, Err, inl, inr, ap, subst, sym, ◌∙◌}
 use Rattle.std.specs.Prelude.{ℤ, pos, ◌+ℤ◌, ◌*ℤ◌, MatchResult}
-use Rattle.rg_fraction.specs.declared.term.Wide.{Wide}
+use Rattle.rg_integers.specs.declared.term.Wide.{Wide}
 use Rattle.rg_fraction.specs.declared.fraction.Fraction.{Fraction}
-use Rattle.rg_fraction.specs.Terms.{FitsTerm, FirstPasses, sum_top, sum_bottom, product_top, product_bottom}
+use Rattle.rg_fraction.specs.Terms.{FirstPasses, sum_top, sum_bottom, product_top, product_bottom}
+use Rattle.rg_integers.specs.Term.{FitsTerm}
 use Rattle.rg_fraction.specs.Fractions.{IsValue}
 use Rattle.rg_integers.specs.Value.{IsReducedForm}
 use Rattle.rg_integers.proofs.Values.{one_reduced_form}
@@ -126,8 +127,22 @@ step s t n d (Err w) ne p = p
 bottoms : (f g : Fraction) → (ratio_of f).bottom *ℤ (ratio_of g).bottom ≢ pos 0
 bottoms f g = positive_differs ((ratio_of f).bottom *ℤ (ratio_of g).bottom) (mul_positive (ratio_of f).bottom (ratio_of g).bottom f.positive g.positive)
 
-pub add_step : (f g : Fraction) (r : Result Fraction Wide) → MatchResult r (λ h. FitsTerm (sum_top (ratio_of f).top (ratio_of f).bottom (ratio_of g).top (ratio_of g).bottom) × FitsTerm (sum_bottom (ratio_of f).top (ratio_of f).bottom (ratio_of g).top (ratio_of g).bottom) × IsValue h (((ratio_of f).top *ℤ (ratio_of g).bottom) +ℤ ((ratio_of g).top *ℤ (ratio_of f).bottom)) ((ratio_of f).bottom *ℤ (ratio_of g).bottom)) (λ w. FirstPasses (sum_top (ratio_of f).top (ratio_of f).bottom (ratio_of g).top (ratio_of g).bottom) (sum_bottom (ratio_of f).top (ratio_of f).bottom (ratio_of g).top (ratio_of g).bottom) w) → add (ratio_of f) (ratio_of g) (shown_result ratio_of r)
-add_step f g r h = step (sum_top (ratio_of f).top (ratio_of f).bottom (ratio_of g).top (ratio_of g).bottom) (sum_bottom (ratio_of f).top (ratio_of f).bottom (ratio_of g).top (ratio_of g).bottom) (((ratio_of f).top *ℤ (ratio_of g).bottom) +ℤ ((ratio_of g).top *ℤ (ratio_of f).bottom)) ((ratio_of f).bottom *ℤ (ratio_of g).bottom) r (bottoms f g) h
+pub add_step : (f g : Fraction) (r : Result Fraction Wide)
+    → MatchResult r (λ h. FitsTerm (sum_top (ratio_of f).top (ratio_of f).bottom (ratio_of g).top (ratio_of g).bottom)
+    × FitsTerm (sum_bottom (ratio_of f).top (ratio_of f).bottom (ratio_of g).top (ratio_of g).bottom)
+    × IsValue h (((ratio_of f).top *ℤ (ratio_of g).bottom) +ℤ ((ratio_of g).top *ℤ (ratio_of f).bottom)) ((ratio_of f).bottom *ℤ (ratio_of g).bottom))
+    (λ w. FirstPasses (sum_top (ratio_of f).top (ratio_of f).bottom (ratio_of g).top (ratio_of g).bottom)
+    (sum_bottom (ratio_of f).top (ratio_of f).bottom (ratio_of g).top (ratio_of g).bottom) w) → add (ratio_of f) (ratio_of g) (shown_result ratio_of r)
+add_step f g r h = step (sum_top (ratio_of f).top (ratio_of f).bottom (ratio_of g).top (ratio_of g).bottom)
+    (sum_bottom (ratio_of f).top (ratio_of f).bottom (ratio_of g).top (ratio_of g).bottom)
+    (((ratio_of f).top *ℤ (ratio_of g).bottom) +ℤ ((ratio_of g).top *ℤ (ratio_of f).bottom)) ((ratio_of f).bottom *ℤ (ratio_of g).bottom) r (bottoms f g) h
 
-pub mul_step : (f g : Fraction) (r : Result Fraction Wide) → MatchResult r (λ h. FitsTerm (product_top (ratio_of f).top (ratio_of f).bottom (ratio_of g).top (ratio_of g).bottom) × FitsTerm (product_bottom (ratio_of f).top (ratio_of f).bottom (ratio_of g).top (ratio_of g).bottom) × IsValue h ((ratio_of f).top *ℤ (ratio_of g).top) ((ratio_of f).bottom *ℤ (ratio_of g).bottom)) (λ w. FirstPasses (product_top (ratio_of f).top (ratio_of f).bottom (ratio_of g).top (ratio_of g).bottom) (product_bottom (ratio_of f).top (ratio_of f).bottom (ratio_of g).top (ratio_of g).bottom) w) → mul (ratio_of f) (ratio_of g) (shown_result ratio_of r)
-mul_step f g r h = step (product_top (ratio_of f).top (ratio_of f).bottom (ratio_of g).top (ratio_of g).bottom) (product_bottom (ratio_of f).top (ratio_of f).bottom (ratio_of g).top (ratio_of g).bottom) ((ratio_of f).top *ℤ (ratio_of g).top) ((ratio_of f).bottom *ℤ (ratio_of g).bottom) r (bottoms f g) h
+pub mul_step : (f g : Fraction) (r : Result Fraction Wide)
+    → MatchResult r (λ h. FitsTerm (product_top (ratio_of f).top (ratio_of f).bottom (ratio_of g).top (ratio_of g).bottom)
+    × FitsTerm (product_bottom (ratio_of f).top (ratio_of f).bottom (ratio_of g).top (ratio_of g).bottom) × IsValue h ((ratio_of f).top *ℤ (ratio_of g).top)
+    ((ratio_of f).bottom *ℤ (ratio_of g).bottom))
+    (λ w. FirstPasses (product_top (ratio_of f).top (ratio_of f).bottom (ratio_of g).top (ratio_of g).bottom)
+    (product_bottom (ratio_of f).top (ratio_of f).bottom (ratio_of g).top (ratio_of g).bottom) w) → mul (ratio_of f) (ratio_of g) (shown_result ratio_of r)
+mul_step f g r h = step (product_top (ratio_of f).top (ratio_of f).bottom (ratio_of g).top (ratio_of g).bottom)
+    (product_bottom (ratio_of f).top (ratio_of f).bottom (ratio_of g).top (ratio_of g).bottom) ((ratio_of f).top *ℤ (ratio_of g).top)
+    ((ratio_of f).bottom *ℤ (ratio_of g).bottom) r (bottoms f g) h

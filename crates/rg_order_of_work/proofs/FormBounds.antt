@@ -88,7 +88,9 @@ start_bounds n t s f z v high some ht hf e below above = (from_zero (f *ℤ s) v
 
 module _ (lts : System) (tree : List Arc) (basis : CycleBasis) (class : Class) (problem : Problem) (n : ℕ) (case : CaseSystem) (c : IsCaseOver lts tree basis class problem n case) where
   -- the rows bound a variable that has a form
-  variable_bounds : (k start : ℤ) (effect : ℕ → ℤ) (split : SplitForm) → pos 0 ≤ℤ k → KeepsRowsOver lts class problem n k (numbers_along lts tree start effect) → IsSplitOf lts class problem split → ((form_low split *ℤ k) ≤ℤ numbers_along lts tree start effect (form_variable lts.initial split)) × (numbers_along lts tree start effect (form_variable lts.initial split) ≤ℤ (form_high lts class split *ℤ k))
+  variable_bounds : (k start : ℤ) (effect : ℕ → ℤ) (split : SplitForm) → pos 0 ≤ℤ k → KeepsRowsOver lts class problem n k (numbers_along lts tree start effect)
+      → IsSplitOf lts class problem split → ((form_low split *ℤ k) ≤ℤ numbers_along lts tree start effect (form_variable lts.initial split))
+      × (numbers_along lts tree start effect (form_variable lts.initial split) ≤ℤ (form_high lts class split *ℤ k))
   variable_bounds k start effect split scale keeps is = by split is
     where
       x : Variable → ℤ
@@ -175,7 +177,9 @@ module _ (lts : System) (tree : List Arc) (basis : CycleBasis) (class : Class) (
     between = λ f scale x lt p meets. between f scale x lt p meets (form_there lts tree basis class problem n case f c.is_case lt);
   }
     where
-      between : (f : ℕ) (scale : ℤ) (x : ℕ → ℤ) → f < length case.forms → IsPoint (rows_of case) scale x → MeetsRows (rows_of case) x → (split : SplitForm) × NamesLabels (labels lts) (plus (form_variable lts.initial split) ∷ []) × Contains (split_forms lts class problem) split × form_fold lts tree basis class split (Ok (form_at case.forms f))
+      between : (f : ℕ) (scale : ℤ) (x : ℕ → ℤ) → f < length case.forms → IsPoint (rows_of case) scale x → MeetsRows (rows_of case) x → (split : SplitForm)
+          × NamesLabels (labels lts) (plus (form_variable lts.initial split) ∷ []) × Contains (split_forms lts class problem) split
+          × form_fold lts tree basis class split (Ok (form_at case.forms f))
           → (((form_at case.forms f).low *ℤ ((form_at case.forms f).scale *ℤ scale)) ≤ℤ scaled_value (rows_of case) (form_at case.forms f) x) × (scaled_value (rows_of case) (form_at case.forms f) x ≤ℤ ((form_at case.forms f).high *ℤ ((form_at case.forms f).scale *ℤ scale)))
       between f scale x lt p meets (split, names, has, made) =
           let (times, start, effect, g) = point_gives lts tree basis class problem n case x c in
@@ -187,7 +191,9 @@ module _ (lts : System) (tree : List Arc) (basis : CycleBasis) (class : Class) (
           let form = form_at case.forms f in
           let value = form_value lts tree basis class problem n case c split form start effect made names (λ none. absurd (true≢false (sym s ∙ none))) g.effects in
           let over = point_form lts tree basis class problem n case c x times start effect form g in
-          let both = form_bounds split times scale form.scale (numbers_along lts tree start effect (form_variable lts.initial split)) (scaled_value (rows_of case) form x) (form_high lts class split) g.positive (form_positive lts tree basis class problem n case c split form made) (sym value ∙ ap (λ z. pos (step_of class split) *ℤ z) (sym over)) low high in
+          let both = form_bounds split times scale form.scale (numbers_along lts tree start effect (form_variable lts.initial split))
+          (scaled_value (rows_of case) form x) (form_high lts class split) g.positive (form_positive lts tree basis class problem n case c split form made)
+          (sym value ∙ ap (λ z. pos (step_of class split) *ℤ z) (sym over)) low high in
           subst (λ (e : ℤ). ((e *ℤ (form.scale *ℤ scale)) ≤ℤ scaled_value (rows_of case) form x) × (scaled_value (rows_of case) form x ≤ℤ (form.high *ℤ (form.scale *ℤ scale)))) (low_is split form made)
           (subst (λ (e : ℤ). ((form_low split *ℤ (form.scale *ℤ scale)) ≤ℤ scaled_value (rows_of case) form x) × (scaled_value (rows_of case) form x ≤ℤ (e *ℤ (form.scale *ℤ scale)))) (high_is split form made) both)
         where

@@ -10,6 +10,7 @@ use Rattle.rg_theory.specs.declared.Arc.{Arc}
 use Rattle.rg_theory.specs.declared.Class.{Class}
 use Rattle.rg_theory.specs.declared.Problem.{Problem}
 use Rattle.rg_theory.specs.declared.Problem.TheVariants.{Event, States}
+use Rattle.rg_theory.specs.Limits.{most_states}
 use Rattle.rg_theory.specs.System.{System, IsInRange, states, labels}
 use Rattle.rg_theory.specs.Tree.{IsTree}
 use Rattle.rg_integers.proofs.Ring.{ring}
@@ -46,7 +47,9 @@ same_terms lts class (States s s') n (on_effect u) = refl
 same_terms lts class (States s s') n on_start = refl
 
 -- the form is the row, times what the row was divided by
-pub form_over_row : (lts : System) (tree : List Arc) (basis : CycleBasis) (class : Class) (problem : Problem) (n : ℕ) (split : SplitForm) (form : Form) (k : KeptRow) → form_fold lts tree basis class split (Ok form) → row_fold lts tree basis class (form_row lts.initial split) (row_expression lts class problem n [] (form_row lts.initial split)) (Ok k) → (divisor : ℕ) × (form.coeffs ≡ map (λ z. pos (max divisor 1) *ℤ z) k.row.coeffs)
+pub form_over_row : (lts : System) (tree : List Arc) (basis : CycleBasis) (class : Class) (problem : Problem) (n : ℕ) (split : SplitForm) (form : Form) (k : KeptRow)
+    → form_fold lts tree basis class split (Ok form) → row_fold lts tree basis class (form_row lts.initial split)
+    (row_expression lts class problem n [] (form_row lts.initial split)) (Ok k) → (divisor : ℕ) × (form.coeffs ≡ map (λ z. pos (max divisor 1) *ℤ z) k.row.coeffs)
 form_over_row lts tree basis class problem n split form k (scaled, fold, e) (scaled', fold', (constant, product, (named, d))) =
     let one = (terms_one lts tree basis class (plus (form_variable lts.initial split) ∷ [])).one (Ok scaled) (Ok scaled') fold (subst (λ (ts : List Term). terms_fold lts tree basis class ts (Ok scaled')) (same_terms lts class problem n split) fold') in
     let same : scaled ≡ scaled' = cc in
@@ -83,11 +86,14 @@ number_zero (x ∷ xs) zero all = All-head (λ z. z ≡ pos 0) x xs all
 number_zero (x ∷ xs) (suc j) all = number_zero xs j (All-tail (λ z. z ≡ pos 0) x xs all)
 
 -- a multiple of a row that is kept under an equal one
-pub multiple_of_kept : (case : CaseSystem) (form : Form) (k : KeptRow) (i divisor : ℕ) → form.coeffs ≡ map (λ z. pos (max divisor 1) *ℤ z) k.row.coeffs → i < length case.kept → slice_index_or (map (λ (x : KeptRow). x.row) case.kept) i k.row ≡ k.row → IsMultipleOfRow (rows_of case) form i (pos (max divisor 1))
+pub multiple_of_kept : (case : CaseSystem) (form : Form) (k : KeptRow) (i divisor : ℕ) → form.coeffs ≡ map (λ z. pos (max divisor 1) *ℤ z) k.row.coeffs
+    → i < length case.kept → slice_index_or (map (λ (x : KeptRow). x.row) case.kept) i k.row ≡ k.row → IsMultipleOfRow (rows_of case) form i (pos (max divisor 1))
 multiple_of_kept case form k i divisor e lt at = record {
   within = λ some. within;
   not_negative = (omega (arith, ints));
-  multiple = λ j below. ap (λ xs. number_at xs j) e ∙ number_times (pos (max divisor 1)) k.row.coeffs j ∙ ap (λ (r : LinearRow). pos (max divisor 1) *ℤ number_at r.coeffs j) (sym (get_or_default (map (λ (x : KeptRow). x.row) case.kept) i (record { coeffs = []; constant = pos 0 }) k.row within ∙ at));
+  multiple = λ j below. ap (λ xs. number_at xs j) e ∙ number_times (pos (max divisor 1)) k.row.coeffs j
+      ∙ ap (λ (r : LinearRow). pos (max divisor 1) *ℤ number_at r.coeffs j)
+      (sym (get_or_default (map (λ (x : KeptRow). x.row) case.kept) i (record { coeffs = []; constant = pos 0 }) k.row within ∙ at));
 }
   where
     within : i < length (map (λ (x : KeptRow). x.row) case.kept)
@@ -104,7 +110,9 @@ multiple_of_none case form k divisor e zeros = record {
     none : (z : ℤ) → pos 0 *ℤ z ≡ pos 0
     none z = omega (arith, ints)
 
-pub form_multiple : (lts : System) (tree : List Arc) (basis : CycleBasis) (class : Class) (problem : Problem) (n : ℕ) (case : CaseSystem) → IsCaseOver lts tree basis class problem n case → (f : ℕ) → f < length case.forms → (row : ℕ) × (times : ℤ) × IsMultipleOfRow (rows_of case) (form_at case.forms f) row times
+pub form_multiple : (lts : System) (tree : List Arc) (basis : CycleBasis) (class : Class) (problem : Problem) (n : ℕ) (case : CaseSystem)
+    → IsCaseOver lts tree basis class problem n case → (f : ℕ) → f < length case.forms → (row : ℕ) × (times : ℤ)
+    × IsMultipleOfRow (rows_of case) (form_at case.forms f) row times
 form_multiple lts tree basis class problem n case c f lt = from c.is_case
   where
     from : system_fold lts tree basis class problem n (Ok case) → (row : ℕ) × (times : ℤ) × IsMultipleOfRow (rows_of case) (form_at case.forms f) row times
@@ -115,7 +123,9 @@ form_multiple lts tree basis class problem n case c f lt = from c.is_case
         let (divisor, e) = form_over_row lts tree basis class problem n split (form_at case.forms f) k fold row in
         found k divisor e (item_stays (λ x. x.row) IsIdle [] all case.kept k keeps in_all)
       where
-        found : (k : KeptRow) (divisor : ℕ) → (form_at case.forms f).coeffs ≡ map (λ z. pos (max divisor 1) *ℤ z) k.row.coeffs → IsIdle k ⊎ (Contains [] k.row ⊎ ((y : KeptRow) × Contains case.kept y × (y.row ≡ k.row))) → (row : ℕ) × (times : ℤ) × IsMultipleOfRow (rows_of case) (form_at case.forms f) row times
+        found : (k : KeptRow) (divisor : ℕ) → (form_at case.forms f).coeffs ≡ map (λ z. pos (max divisor 1) *ℤ z) k.row.coeffs → IsIdle k
+            ⊎ (Contains [] k.row ⊎ ((y : KeptRow) × Contains case.kept y × (y.row ≡ k.row))) → (row : ℕ) × (times : ℤ)
+            × IsMultipleOfRow (rows_of case) (form_at case.forms f) row times
         found k divisor e (inl (zeros, weak)) = (0, pos 0, multiple_of_none case (form_at case.forms f) k divisor e zeros)
         found k divisor e (inr (inl (i, below, at))) = absurd (omega arith)
         found k divisor e (inr (inr (y, has, same))) = from_place (subst (λ (r : LinearRow). Contains (map (λ (x : KeptRow). x.row) case.kept) r) same (Contains-map (λ (x : KeptRow). x.row) case.kept y has))
@@ -136,16 +146,22 @@ by_one n m e = subst (λ k. m ≡ pos k *ℤ m) (sym e) (one m)
     one m = omega (arith, ints)
 
 -- the scale times the constant of a row with the terms of the form, where a step is 1
-fits_one : (lts : System) (tree : List Arc) (basis : CycleBasis) (class : Class) (split : SplitForm) (form : Form) (name : RowName) (e : Expression) (k : KeptRow) → step_of class split ≡ 1 → form_fold lts tree basis class split (Ok form) → e.terms ≡ plus (form_variable lts.initial split) ∷ [] → row_fold lts tree basis class name e (Ok k) → InRange (e.constant *ℤ form.scale)
+fits_one : (lts : System) (tree : List Arc) (basis : CycleBasis) (class : Class) (split : SplitForm) (form : Form) (name : RowName) (e : Expression) (k : KeptRow)
+    → step_of class split ≡ 1 → form_fold lts tree basis class split (Ok form) → e.terms ≡ plus (form_variable lts.initial split) ∷ []
+    → row_fold lts tree basis class name e (Ok k) → InRange (e.constant *ℤ form.scale)
 fits_one lts tree basis class split form name e k step (scaled, fold, is) same (scaled', fold', (constant, product, divided)) =
     let one = (terms_one lts tree basis class (plus (form_variable lts.initial split) ∷ [])).one (Ok scaled) (Ok scaled') fold (subst (λ (ts : List Term). terms_fold lts tree basis class ts (Ok scaled')) same fold') in
     let equal : scaled ≡ scaled' = cc in
     subst (λ z. InRange (e.constant *ℤ z)) (ap (λ (s : Scaled). s.multiple) (sym equal) ∙ by_one (step_of class split) scaled.multiple step ∙ ap (λ (f : Form). f.scale) (sym is)) (product_in_range e.constant scaled'.multiple constant product)
 
 -- or with their opposites
-fits_opposite : (lts : System) (tree : List Arc) (basis : CycleBasis) (class : Class) (split : SplitForm) (form : Form) (name : RowName) (e : Expression) (k : KeptRow) → step_of class split ≡ 1 → form_fold lts tree basis class split (Ok form) → e.terms ≡ minus (form_variable lts.initial split) ∷ [] → row_fold lts tree basis class name e (Ok k) → InRange (e.constant *ℤ form.scale)
+fits_opposite : (lts : System) (tree : List Arc) (basis : CycleBasis) (class : Class) (split : SplitForm) (form : Form) (name : RowName) (e : Expression) (k : KeptRow)
+    → step_of class split ≡ 1 → form_fold lts tree basis class split (Ok form) → e.terms ≡ minus (form_variable lts.initial split) ∷ []
+    → row_fold lts tree basis class name e (Ok k) → InRange (e.constant *ℤ form.scale)
 fits_opposite lts tree basis class split form name e k step (scaled, fold, is) opposite (scaled', fold', (constant, product, divided)) =
-    subst (λ z. InRange (e.constant *ℤ z)) (same_multiple lts tree basis class (form_variable lts.initial split) scaled scaled' fold (subst (λ (ts : List Term). terms_fold lts tree basis class ts (Ok scaled')) opposite fold') ∙ by_one (step_of class split) scaled.multiple step ∙ ap (λ (f : Form). f.scale) (sym is)) (product_in_range e.constant scaled'.multiple constant product)
+    subst (λ z. InRange (e.constant *ℤ z)) (same_multiple lts tree basis class (form_variable lts.initial split) scaled scaled' fold
+    (subst (λ (ts : List Term). terms_fold lts tree basis class ts (Ok scaled')) opposite fold') ∙ by_one (step_of class split) scaled.multiple step
+    ∙ ap (λ (f : Form). f.scale) (sym is)) (product_in_range e.constant scaled'.multiple constant product)
 
 pub start_scale : (lts : System) (tree : List Arc) (basis : CycleBasis) (class : Class) (form : Form) → IsTree lts tree → form_fold lts tree basis class on_start (Ok form) → form.scale ≡ pos (step_of class on_start)
 start_scale lts tree basis class form g (scaled, fold, e) = ap (λ (f : Form). f.scale) e ∙ ap (λ m. pos (step_of class on_start) *ℤ m) (start_alone lts tree basis class scaled g fold) ∙ once (pos (step_of class on_start))
@@ -153,7 +169,9 @@ start_scale lts tree basis class form g (scaled, fold, e) = ap (λ (f : Form). f
     once : (z : ℤ) → z *ℤ pos 1 ≡ z
     once z = omega (arith, ints)
 
-pub form_fits : (lts : System) (tree : List Arc) (basis : CycleBasis) (class : Class) (problem : Problem) (n : ℕ) (case : CaseSystem) → IsCaseOver lts tree basis class problem n case → states lts ≤ 4096 → (f : ℕ) → f < length case.forms → InRange ((form_at case.forms f).scale *ℤ (form_at case.forms f).low) × InRange ((form_at case.forms f).scale *ℤ (form_at case.forms f).high)
+pub form_fits : (lts : System) (tree : List Arc) (basis : CycleBasis) (class : Class) (problem : Problem) (n : ℕ) (case : CaseSystem)
+    → IsCaseOver lts tree basis class problem n case → states lts ≤ most_states → (f : ℕ) → f < length case.forms
+    → InRange ((form_at case.forms f).scale *ℤ (form_at case.forms f).low) × InRange ((form_at case.forms f).scale *ℤ (form_at case.forms f).high)
 form_fits lts tree basis class problem n case c few f lt = from c.is_case
   where
     turn : (a b : ℤ) → a *ℤ b ≡ b *ℤ a
@@ -171,7 +189,8 @@ form_fits lts tree basis class problem n case c few f lt = from c.is_case
     -- of the start a step is at most 255, and there are at most 4,096 states
     start_fits : (form : Form) → form_fold lts tree basis class on_start (Ok form) → InRange (form.scale *ℤ form_high lts class on_start)
     start_fits form (scaled, fold, e) = subst (λ (x : Form). InRange (x.scale *ℤ form_high lts class on_start)) (sym e)
-        (subst (λ m. InRange ((pos (step_of class on_start) *ℤ m) *ℤ form_high lts class on_start)) (sym (start_alone lts tree basis class scaled c.is_tree fold)) (by_numbers (step_of class on_start) (unwrap_or class.bound (states lts)) (step_few class.marking c.numbers.marking) (high_few class.bound c.numbers.bound)))
+        (subst (λ m. InRange ((pos (step_of class on_start) *ℤ m) *ℤ form_high lts class on_start)) (sym (start_alone lts tree basis class scaled c.is_tree fold))
+        (by_numbers (step_of class on_start) (unwrap_or class.bound (states lts)) (step_few class.marking c.numbers.marking) (high_few class.bound c.numbers.bound)))
       where
         by_numbers : (n h : ℕ) → n ≤ 255 → h ≤ 4096 → InRange ((pos n *ℤ pos 1) *ℤ pos h)
         by_numbers n h few low = let most = abs-times (pos n *ℤ pos 1) (pos h) 255 4096 (omega (arith, ints)) (omega (arith, ints)) in omega (arith, most)

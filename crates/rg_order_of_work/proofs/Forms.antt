@@ -16,7 +16,7 @@ use Rattle.rg_integers.specs.Sum.{dot, number_at}
 use Rattle.rg_integers.proofs.Ring.{ring}
 use Rattle.rg_integers.proofs.Order.{mul-cancel_left, positive_differs, mul_positive}
 use Rattle.rg_integers.proofs.Sums.{sum_below-same, sum_below-times}
-use Rattle.rg_fraction.specs.declared.term.Wide.{Wide}
+use Rattle.rg_integers.specs.declared.term.Wide.{Wide}
 use Rattle.rg_linear.specs.Branching.{Form, form_at, scaled_value, FormsWhole}
 use Rattle.rg_linear.specs.Cycle.{CycleBasis}
 use Rattle.rg_refuting.specs.Expression.{plus}
@@ -47,11 +47,15 @@ pub record FormOf (lts : System) (tree : List Arc) (basis : CycleBasis) (class :
   pub within : number < length case.forms
   pub made : form_fold lts tree basis class split (Ok (form_at case.forms number))
 
-pub form_of_variable : (lts : System) (tree : List Arc) (basis : CycleBasis) (class : Class) (problem : Problem) (n : ℕ) (case : CaseSystem) (split : SplitForm) → system_fold lts tree basis class problem n (Ok case) → Contains (split_forms lts class problem) split → FormOf lts tree basis class case split
+pub form_of_variable : (lts : System) (tree : List Arc) (basis : CycleBasis) (class : Class) (problem : Problem) (n : ℕ) (case : CaseSystem) (split : SplitForm)
+    → system_fold lts tree basis class problem n (Ok case) → Contains (split_forms lts class problem) split → FormOf lts tree basis class case split
 form_of_variable lts tree basis class problem n case split (all, made, (forms, forms_made, (columns, keeps, form_list))) (f, lt, e) = record {
   number = f;
   within = subst (λ k. f < k) (sym (ap length form_list ∙ each_length (form_fold lts tree basis class) (split_forms lts class problem) forms forms_made)) lt;
-  made = subst (λ (w : SplitForm). form_fold lts tree basis class w (Ok (form_at case.forms f))) e (subst (λ (fs : List Form). form_fold lts tree basis class (slice_index_or (split_forms lts class problem) f split) (Ok (form_at fs f))) (sym form_list) (each_at (form_fold lts tree basis class) (split_forms lts class problem) forms f split (record { scale = pos 1; coeffs = []; low = pos 0; high = pos 0 }) forms_made lt));
+  made = subst (λ (w : SplitForm). form_fold lts tree basis class w (Ok (form_at case.forms f))) e
+      (subst (λ (fs : List Form). form_fold lts tree basis class (slice_index_or (split_forms lts class problem) f split) (Ok (form_at fs f))) (sym form_list)
+      (each_at (form_fold lts tree basis class) (split_forms lts class problem) forms f split
+      (record { scale = pos 1; coeffs = []; low = pos 0; high = pos 0 }) forms_made lt));
 }
 
 -- ---- its value
@@ -67,9 +71,14 @@ step_positive class on_start numbers = by class.marking numbers.marking
 
 module _ (lts : System) (tree : List Arc) (basis : CycleBasis) (class : Class) (problem : Problem) (n : ℕ) (case : CaseSystem) (c : IsCaseOver lts tree basis class problem n case) where
   pub form_positive : (split : SplitForm) → (form : Form) → form_fold lts tree basis class split (Ok form) → pos 0 <ℤ form.scale
-  form_positive split form (scaled, fold, e) = subst (λ (f : Form). pos 0 <ℤ f.scale) (sym e) (mul_positive (pos (step_of class split)) scaled.multiple (let some = step_positive class split c.numbers in omega (arith, ints)) (terms_positive lts tree basis class (plus (form_variable lts.initial split) ∷ []) scaled fold))
+  form_positive split form (scaled, fold, e) = subst (λ (f : Form). pos 0 <ℤ f.scale) (sym e)
+      (mul_positive (pos (step_of class split)) scaled.multiple (let some = step_positive class split c.numbers in omega (arith, ints))
+      (terms_positive lts tree basis class (plus (form_variable lts.initial split) ∷ []) scaled fold))
 
-  pub form_value : (split : SplitForm) (form : Form) (start : ℤ) (effect : ℕ → ℤ) → form_fold lts tree basis class split (Ok form) → NamesLabels (labels lts) (plus (form_variable lts.initial split) ∷ []) → (has_start class ≡ false → start ≡ pos 0) → AreEffects lts tree basis effect → pos (step_of class split) *ℤ dot form.coeffs (column_values lts basis class start effect) ≡ form.scale *ℤ numbers_along lts tree start effect (form_variable lts.initial split)
+  pub form_value : (split : SplitForm) (form : Form) (start : ℤ) (effect : ℕ → ℤ) → form_fold lts tree basis class split (Ok form)
+      → NamesLabels (labels lts) (plus (form_variable lts.initial split) ∷ []) → (has_start class ≡ false → start ≡ pos 0) → AreEffects lts tree basis effect
+      → pos (step_of class split) *ℤ dot form.coeffs (column_values lts basis class start effect) ≡ form.scale *ℤ numbers_along lts tree start effect
+      (form_variable lts.initial split)
   form_value split form start effect (scaled, fold, e) names no_start given =
       ap (λ (f : Form). pos (step_of class split) *ℤ dot f.coeffs (column_values lts basis class start effect)) e
       ∙ ap (λ z. pos (step_of class split) *ℤ z) (terms_value lts tree basis class (plus (form_variable lts.initial split) ∷ []) start effect scaled c.is_basis names no_start given.follows given.unused fold
@@ -94,24 +103,39 @@ module _ (lts : System) (tree : List Arc) (basis : CycleBasis) (class : Class) (
       turn a b d = simp ring
 
   -- a variable with a whole form is a multiple of the scale, by its steps
-  pub variable_multiple : (v : ℕ → ℤ) (scale times start : ℤ) (effect : ℕ → ℤ) (split : SplitForm) → has_start class ≡ true → FormsWhole (rows_of case) case.forms scale v → AreGivenBy lts tree basis class case v times start effect → NamesLabels (labels lts) (plus (form_variable lts.initial split) ∷ []) → Contains (split_forms lts class problem) split → (u : ℤ) × (numbers_along lts tree start effect (form_variable lts.initial split) ≡ (times *ℤ scale) *ℤ (pos (step_of class split) *ℤ u))
+  pub variable_multiple : (v : ℕ → ℤ) (scale times start : ℤ) (effect : ℕ → ℤ) (split : SplitForm) → has_start class ≡ true
+      → FormsWhole (rows_of case) case.forms scale v → AreGivenBy lts tree basis class case v times start effect
+      → NamesLabels (labels lts) (plus (form_variable lts.initial split) ∷ []) → Contains (split_forms lts class problem) split → (u : ℤ)
+      × (numbers_along lts tree start effect (form_variable lts.initial split) ≡ (times *ℤ scale) *ℤ (pos (step_of class split) *ℤ u))
   variable_multiple v scale times start effect split starts whole g names has =
       let f = form_of_variable lts tree basis class problem n case split c.is_case has in
       let (u, e) = whole f.number f.within in
       let value = form_value split (form_at case.forms f.number) start effect f.made names (λ none. absurd (true≢false (sym starts ∙ none))) g.effects in
-      let over = point_form v times start effect (form_at case.forms f.number) g in
-      (u, mul-cancel_left (form_at case.forms f.number).scale _ _ (positive_differs (form_at case.forms f.number).scale (form_positive split (form_at case.forms f.number) f.made)) (sym value ∙ ap (λ z. pos (step_of class split) *ℤ z) (sym over ∙ ap (λ z. times *ℤ z) e) ∙ turn (pos (step_of class split)) times u (form_at case.forms f.number).scale scale))
+      let over = point_form v times start effect (form_at case.forms f.number) g in (
+        u,
+        mul-cancel_left (form_at case.forms f.number).scale _ _
+            (positive_differs (form_at case.forms f.number).scale (form_positive split (form_at case.forms f.number) f.made))
+            (sym value ∙ ap (λ z. pos (step_of class split) *ℤ z) (sym over ∙ ap (λ z. times *ℤ z) e)
+            ∙ turn (pos (step_of class split)) times u (form_at case.forms f.number).scale scale),
+      )
     where
       turn : (n t u f s : ℤ) → n *ℤ (t *ℤ (u *ℤ (f *ℤ s))) ≡ f *ℤ ((t *ℤ s) *ℤ (n *ℤ u))
       turn n t u f s = simp ring
 
   -- and Start and effects that are whole make every form whole where its variable is so many steps
-  pub whole_forms : (v : ℕ → ℤ) (start : ℤ) (effect : ℕ → ℤ) (f : ℕ) (split : SplitForm) (w : ℤ) → has_start class ≡ true → AreGivenBy lts tree basis class case v (pos 1) start effect → NamesLabels (labels lts) (plus (form_variable lts.initial split) ∷ []) → form_fold lts tree basis class split (Ok (form_at case.forms f)) → numbers_along lts tree start effect (form_variable lts.initial split) ≡ pos (step_of class split) *ℤ w → (u : ℤ) × (scaled_value (rows_of case) (form_at case.forms f) v ≡ u *ℤ ((form_at case.forms f).scale *ℤ pos 1))
+  pub whole_forms : (v : ℕ → ℤ) (start : ℤ) (effect : ℕ → ℤ) (f : ℕ) (split : SplitForm) (w : ℤ) → has_start class ≡ true
+      → AreGivenBy lts tree basis class case v (pos 1) start effect → NamesLabels (labels lts) (plus (form_variable lts.initial split) ∷ [])
+      → form_fold lts tree basis class split (Ok (form_at case.forms f)) → numbers_along lts tree start effect (form_variable lts.initial split) ≡ pos
+      (step_of class split) *ℤ w → (u : ℤ) × (scaled_value (rows_of case) (form_at case.forms f) v ≡ u *ℤ ((form_at case.forms f).scale *ℤ pos 1))
   whole_forms v start effect f split w starts g names made is =
       let value = form_value split (form_at case.forms f) start effect made names (λ none. absurd (true≢false (sym starts ∙ none))) g.effects in
       let over = point_form v (pos 1) start effect (form_at case.forms f) g in
-      let some : pos 0 <ℤ pos (step_of class split) = (let h = step_positive class split c.numbers in omega (arith, ints)) in
-      (w, mul-cancel_left (pos (step_of class split)) _ _ (positive_differs (pos (step_of class split)) some) (ap (λ z. pos (step_of class split) *ℤ z) (one (scaled_value (rows_of case) (form_at case.forms f) v) ∙ over) ∙ value ∙ ap (λ z. (form_at case.forms f).scale *ℤ z) is ∙ turn (form_at case.forms f).scale (pos (step_of class split)) w))
+      let some : pos 0 <ℤ pos (step_of class split) = (let h = step_positive class split c.numbers in omega (arith, ints)) in (
+        w,
+        mul-cancel_left (pos (step_of class split)) _ _ (positive_differs (pos (step_of class split)) some)
+            (ap (λ z. pos (step_of class split) *ℤ z) (one (scaled_value (rows_of case) (form_at case.forms f) v) ∙ over) ∙ value
+            ∙ ap (λ z. (form_at case.forms f).scale *ℤ z) is ∙ turn (form_at case.forms f).scale (pos (step_of class split)) w),
+      )
     where
       one : (z : ℤ) → z ≡ pos 1 *ℤ z
       one z = omega (arith, ints)
@@ -144,7 +168,9 @@ bounded_has lts class problem q bound lt = Contains-append_left (if is_some clas
 
 pub plain_has : (lts : System) (class : Class) (problem : Problem) (t : ℕ) → is_some class.bound ≡ false → class.plain ≡ true → t < labels lts → has_label t lts.arcs ≡ true → Contains (split_forms lts class problem) (on_effect t)
 plain_has lts class problem t bound plain lt used = Contains-append_left (if is_some class.bound then map on_tokens (all_numbers (states lts)) else (if class.plain then map on_effect (used_labels lts) else [])) (if splits_start class problem then (on_start ∷ []) else []) (on_effect t)
-    (if_false (is_some class.bound) (map on_tokens (all_numbers (states lts))) (if class.plain then map on_effect (used_labels lts) else []) (on_effect t) bound (if_true class.plain (map on_effect (used_labels lts)) [] (on_effect t) plain (Contains-map on_effect (used_labels lts) t (where_has (λ t. has_label t lts.arcs) 0 (labels lts) t used (omega arith) (omega arith)))))
+    (if_false (is_some class.bound) (map on_tokens (all_numbers (states lts))) (if class.plain then map on_effect (used_labels lts) else []) (on_effect t) bound
+    (if_true class.plain (map on_effect (used_labels lts)) [] (on_effect t) plain
+    (Contains-map on_effect (used_labels lts) t (where_has (λ t. has_label t lts.arcs) 0 (labels lts) t used (omega arith) (omega arith)))))
 
 pub start_has : (lts : System) (class : Class) (problem : Problem) → splits_start class problem ≡ true → Contains (split_forms lts class problem) on_start
 start_has lts class problem splits = Contains-append_right (if is_some class.bound then map on_tokens (all_numbers (states lts)) else (if class.plain then map on_effect (used_labels lts) else [])) (if splits_start class problem then (on_start ∷ []) else []) on_start
@@ -202,15 +228,27 @@ form_names lts class problem split has = by split (split_is lts class problem sp
     by on_start h = tt
 
 -- the variable that names form f
-pub form_named : (lts : System) (tree : List Arc) (basis : CycleBasis) (class : Class) (problem : Problem) (n : ℕ) (case : CaseSystem) (f : ℕ) → system_fold lts tree basis class problem n (Ok case) → f < length case.forms → NamesLabels (labels lts) (plus (form_variable lts.initial (slice_index_or (split_forms lts class problem) f (on_tokens 0))) ∷ []) × Contains (split_forms lts class problem) (slice_index_or (split_forms lts class problem) f (on_tokens 0)) × form_fold lts tree basis class (slice_index_or (split_forms lts class problem) f (on_tokens 0)) (Ok (form_at case.forms f))
+pub form_named : (lts : System) (tree : List Arc) (basis : CycleBasis) (class : Class) (problem : Problem) (n : ℕ) (case : CaseSystem) (f : ℕ)
+    → system_fold lts tree basis class problem n (Ok case) → f < length case.forms
+    → NamesLabels (labels lts) (plus (form_variable lts.initial (slice_index_or (split_forms lts class problem) f (on_tokens 0))) ∷ [])
+    × Contains (split_forms lts class problem) (slice_index_or (split_forms lts class problem) f (on_tokens 0))
+    × form_fold lts tree basis class (slice_index_or (split_forms lts class problem) f (on_tokens 0)) (Ok (form_at case.forms f))
 form_named lts tree basis class problem n case f (all, made, (forms, forms_made, (columns, keeps, form_list))) lt =
     let within : f < length (split_forms lts class problem) = subst (λ k. f < k) (ap length form_list ∙ each_length (form_fold lts tree basis class) (split_forms lts class problem) forms forms_made) lt in
     let split = slice_index_or (split_forms lts class problem) f (on_tokens 0) in
-    let has : Contains (split_forms lts class problem) split = (f, within, get_or_default (split_forms lts class problem) f split (on_tokens 0) within) in
-    (form_names lts class problem split has, has, subst (λ (fs : List Form). form_fold lts tree basis class split (Ok (form_at fs f))) (sym form_list) (each_at (form_fold lts tree basis class) (split_forms lts class problem) forms f (on_tokens 0) (record { scale = pos 1; coeffs = []; low = pos 0; high = pos 0 }) forms_made within))
+    let has : Contains (split_forms lts class problem) split = (f, within, get_or_default (split_forms lts class problem) f split (on_tokens 0) within) in (
+      form_names lts class problem split has,
+      has,
+      subst (λ (fs : List Form). form_fold lts tree basis class split (Ok (form_at fs f))) (sym form_list)
+          (each_at (form_fold lts tree basis class) (split_forms lts class problem) forms f (on_tokens 0)
+          (record { scale = pos 1; coeffs = []; low = pos 0; high = pos 0 }) forms_made within),
+    )
 
 -- the variable of form f
-pub form_there : (lts : System) (tree : List Arc) (basis : CycleBasis) (class : Class) (problem : Problem) (n : ℕ) (case : CaseSystem) (f : ℕ) → system_fold lts tree basis class problem n (Ok case) → f < length case.forms → (split : SplitForm) × NamesLabels (labels lts) (plus (form_variable lts.initial split) ∷ []) × Contains (split_forms lts class problem) split × form_fold lts tree basis class split (Ok (form_at case.forms f))
+pub form_there : (lts : System) (tree : List Arc) (basis : CycleBasis) (class : Class) (problem : Problem) (n : ℕ) (case : CaseSystem) (f : ℕ)
+    → system_fold lts tree basis class problem n (Ok case) → f < length case.forms → (split : SplitForm)
+    × NamesLabels (labels lts) (plus (form_variable lts.initial split) ∷ []) × Contains (split_forms lts class problem) split
+    × form_fold lts tree basis class split (Ok (form_at case.forms f))
 form_there lts tree basis class problem n case f made lt = let (names, has, fold) = form_named lts tree basis class problem n case f made lt in (slice_index_or (split_forms lts class problem) f (on_tokens 0), names, has, fold)
 
 -- as many forms as variables

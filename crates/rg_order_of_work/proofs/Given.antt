@@ -46,7 +46,9 @@ one_follows lts tree basis u fine reached g is unused = own_effects lts tree bas
     kept a has = ap (λ b. pos 0 +ℤ (if b then pos 1 else pos 0)) (ne_eqb a.label u (differs a has))
 
 -- what a relation says of it
-relation_at : (lts : System) (tree : List Arc) (basis : CycleBasis) (t u : ℕ) → IsInRange lts → IsAllReachable lts → IsTree lts tree → IsBasis lts tree basis → t < labels lts → ¬ Contains basis.members t → u < labels lts → has_label u lts.arcs ≡ false → (basis.relation t).d *ℤ only u (pos 1) t ≡ (basis.relation t).coefficient u
+relation_at : (lts : System) (tree : List Arc) (basis : CycleBasis) (t u : ℕ) → IsInRange lts → IsAllReachable lts → IsTree lts tree → IsBasis lts tree basis
+    → t < labels lts → ¬ Contains basis.members t → u < labels lts → has_label u lts.arcs ≡ false
+    → (basis.relation t).d *ℤ only u (pos 1) t ≡ (basis.relation t).coefficient u
 relation_at lts tree basis t u fine reached g is lt outside lt' unused = one_follows lts tree basis u fine reached g is unused t (basis.relation t) lt (is.relations t lt outside) ∙ sum_one (labels lts) u (basis.relation t).coefficient lt'
 
 pub unused_is_free : (lts : System) (tree : List Arc) (basis : CycleBasis) (t : ℕ) → IsInRange lts → IsAllReachable lts → IsTree lts tree → IsBasis lts tree basis → t < labels lts → has_label t lts.arcs ≡ false → Contains basis.members t

@@ -11,7 +11,9 @@ use Rattle.rg_theory.specs.System.{System, IsInRange, states, HasArc}
 use Rattle.rg_theory.specs.Tree.{KeepsArcs}
 use Rattle.rg_theory.proofs.Arcs.{arc_in_range}
 use Rattle.rg_refuting.specs.Expression.{Variable, Variable.tokens_at, Variable.effect_of}
-use Rattle.rg_refuting.specs.Row.{RowName, RowName.arc_row, RowName.tokens_row, RowName.cap_row, RowName.up_row, RowName.down_row, RowName.makes_row, RowName.stop_row, RowName.block_row, RowName.empty_row, RowName.full_row, RowName.keep_row, RowName.apart_row, RowName.above_row, SharedStands, RowStands, shared_expression, apart_expression, order_of, consumer_of, Says}
+use Rattle.rg_refuting.specs.Row.{RowName, RowName.arc_row, RowName.tokens_row, RowName.cap_row, RowName.up_row, RowName.down_row, RowName.makes_row, RowName.stop_row}
+use Rattle.rg_refuting.specs.Row.{RowName.block_row, RowName.empty_row, RowName.full_row, RowName.keep_row, RowName.apart_row, RowName.above_row, SharedStands, RowStands}
+use Rattle.rg_refuting.specs.Row.{shared_expression, apart_expression, order_of, consumer_of, Says}
 use Rattle.rg_refuting.specs.Refutes.{IsSeparationProblem}
 use Rattle.rg_linear.specs.Cycle.{FollowsRelations, CycleBasis}
 use Rattle.rg_order_of_work.specs.Potentials.{potential}
@@ -40,16 +42,21 @@ arc_value lts class problem number scale x q t q' keeps has = close (x (tokens_a
 keeps_arcs : (lts : System) (class : Class) (problem : Problem) (number : ℕ) (scale : ℤ) (x : Variable → ℤ) (effect : ℕ → ℤ) → KeepsRowsOver lts class problem number scale x → AgreeOnUsed lts x effect → KeepsArcs lts (λ q. x (tokens_at q)) effect
 keeps_arcs lts class problem number scale x effect keeps agree a has = ap (λ z. x (tokens_at a.from) +ℤ z) (agree a.label (finds_label a lts.arcs has)) ∙ arc_value lts class problem number scale x a.from a.label a.to keeps has
 
-pub follow_given : (lts : System) (tree : List Arc) (basis : CycleBasis) (class : Class) (problem : Problem) (number : ℕ) (case : CaseSystem) (x : Variable → ℤ) (effect : ℕ → ℤ) (scale : ℤ) → IsCaseOver lts tree basis class problem number case → KeepsRowsOver lts class problem number scale x → AgreeOnUsed lts x effect → FollowsRelations (chord_system lts tree basis.kept) basis.members effect
+pub follow_given : (lts : System) (tree : List Arc) (basis : CycleBasis) (class : Class) (problem : Problem) (number : ℕ) (case : CaseSystem) (x : Variable → ℤ)
+    (effect : ℕ → ℤ) (scale : ℤ) → IsCaseOver lts tree basis class problem number case → KeepsRowsOver lts class problem number scale x → AgreeOnUsed lts x effect
+    → FollowsRelations (chord_system lts tree basis.kept) basis.members effect
 follow_given lts tree basis class problem number case x effect scale c keeps agree = own_effects lts tree basis (λ q. x (tokens_at q)) effect c.in_range c.reachable c.is_tree c.is_basis (keeps_arcs lts class problem number scale x effect keeps agree)
 
-pub numbers_given : (lts : System) (tree : List Arc) (basis : CycleBasis) (class : Class) (problem : Problem) (number : ℕ) (case : CaseSystem) (x : Variable → ℤ) (effect : ℕ → ℤ) (scale : ℤ) (q : ℕ) → IsCaseOver lts tree basis class problem number case → KeepsRowsOver lts class problem number scale x → AgreeOnUsed lts x effect → q < states lts → x (tokens_at q) ≡ potential lts tree (x (tokens_at lts.initial)) effect q
+pub numbers_given : (lts : System) (tree : List Arc) (basis : CycleBasis) (class : Class) (problem : Problem) (number : ℕ) (case : CaseSystem) (x : Variable → ℤ)
+    (effect : ℕ → ℤ) (scale : ℤ) (q : ℕ) → IsCaseOver lts tree basis class problem number case → KeepsRowsOver lts class problem number scale x
+    → AgreeOnUsed lts x effect → q < states lts → x (tokens_at q) ≡ potential lts tree (x (tokens_at lts.initial)) effect q
 numbers_given lts tree basis class problem number case x effect scale q c keeps agree lt = own_number lts tree (λ q. x (tokens_at q)) effect q c.in_range c.reachable c.is_tree (keeps_arcs lts class problem number scale x effect keeps agree) lt
 
 pub used_agrees : (lts : System) (x : Variable → ℤ) → AgreeOnUsed lts x (used_effect lts x)
 used_agrees lts x t e = ap (λ b. if b then x (effect_of t) else pos 0) e
 
-pub effects_given : (lts : System) (tree : List Arc) (basis : CycleBasis) (class : Class) (problem : Problem) (number : ℕ) (case : CaseSystem) (x : Variable → ℤ) (scale : ℤ) → IsCaseOver lts tree basis class problem number case → KeepsRowsOver lts class problem number scale x → AreEffects lts tree basis (used_effect lts x)
+pub effects_given : (lts : System) (tree : List Arc) (basis : CycleBasis) (class : Class) (problem : Problem) (number : ℕ) (case : CaseSystem) (x : Variable → ℤ)
+    (scale : ℤ) → IsCaseOver lts tree basis class problem number case → KeepsRowsOver lts class problem number scale x → AreEffects lts tree basis (used_effect lts x)
 effects_given lts tree basis class problem number case x scale c keeps =
     record {
       follows = follow_given lts tree basis class problem number case x (used_effect lts x) scale c keeps (used_agrees lts x);
@@ -98,7 +105,9 @@ effect_stays lts c k x y t same weak h = ⊎_elim (λ e. one_term c k (x (effect
     none : (c k : ℤ) → pos 0 ≤ℤ k → pos 0 ≤ℤ (((c *ℤ pos 0) +ℤ pos 0) +ℤ k)
     none c k h = omega (arith, ints)
 
-shared_stays : (lts : System) (class : Class) (consumer : ℕ) (scale : ℤ) (x y : Variable → ℤ) (name : RowName) → IsInRange lts → SameUsed lts x y → pos 0 <ℤ scale → ((q : ℕ) → pos 0 ≤ℤ y (tokens_at q)) → SharedStands lts class consumer [] name → Says name (value_over scale x (shared_expression lts class [] name)) → Says name (value_over scale y (shared_expression lts class [] name))
+shared_stays : (lts : System) (class : Class) (consumer : ℕ) (scale : ℤ) (x y : Variable → ℤ) (name : RowName) → IsInRange lts → SameUsed lts x y → pos 0 <ℤ scale
+    → ((q : ℕ) → pos 0 ≤ℤ y (tokens_at q)) → SharedStands lts class consumer [] name → Says name (value_over scale x (shared_expression lts class [] name))
+    → Says name (value_over scale y (shared_expression lts class [] name))
 shared_stays lts class consumer scale x y (arc_row q t q') fine same positive tokens has h =
     let ranges = arc_in_range lts fine q t q' has in
     arc_terms (pos 0 *ℤ scale) (x (tokens_at q)) (y (tokens_at q)) (x (effect_of t)) (y (effect_of t)) (x (tokens_at q')) (y (tokens_at q')) (same.tokens q ranges.0) (same.used t (finds_label (record { from = q; label = t; to = q' }) lts.arcs has)) (same.tokens q' ranges.2) h
@@ -115,8 +124,11 @@ shared_stays lts class consumer scale x y (full_row q) fine same positive tokens
 shared_stays lts class consumer scale x y keep_row fine same positive tokens stands h = absurd stands
 shared_stays lts class consumer scale x y apart_row fine same positive tokens stands h = absurd stands
 
-event_stays : (lts : System) (class : Class) (s t number : ℕ) (scale : ℤ) (x y : Variable → ℤ) (name : RowName) → IsInRange lts → s < states lts → has_label t lts.arcs ≡ true → SameUsed lts x y → pos 0 <ℤ scale → ((q : ℕ) → pos 0 ≤ℤ y (tokens_at q)) → RowStands lts class (Event s t) number [] name → RowHolds lts class (Event s t) number scale x name → RowHolds lts class (Event s t) number scale y name
-event_stays lts class s t number scale x y (stop_row q) fine lt live same positive tokens (pure, plain, (q', has)) h = two_terms (pos 1) (negsuc 0) (negsuc 0 *ℤ scale) (x (tokens_at q)) (y (tokens_at q)) (x (tokens_at s)) (y (tokens_at s)) (same.tokens q (arc_in_range lts fine q t q' has).0) (same.tokens s lt) h
+event_stays : (lts : System) (class : Class) (s t number : ℕ) (scale : ℤ) (x y : Variable → ℤ) (name : RowName) → IsInRange lts → s < states lts
+    → has_label t lts.arcs ≡ true → SameUsed lts x y → pos 0 <ℤ scale → ((q : ℕ) → pos 0 ≤ℤ y (tokens_at q)) → RowStands lts class (Event s t) number [] name
+    → RowHolds lts class (Event s t) number scale x name → RowHolds lts class (Event s t) number scale y name
+event_stays lts class s t number scale x y (stop_row q) fine lt live same positive tokens (pure, plain, (q', has)) h = two_terms (pos 1) (negsuc 0) (negsuc 0 *ℤ scale)
+    (x (tokens_at q)) (y (tokens_at q)) (x (tokens_at s)) (y (tokens_at s)) (same.tokens q (arc_in_range lts fine q t q' has).0) (same.tokens s lt) h
 event_stays lts class s t number scale x y block_row fine lt live same positive tokens stands h = two_terms (negsuc 0) (negsuc 0) (negsuc 0 *ℤ scale) (x (tokens_at s)) (y (tokens_at s)) (x (effect_of t)) (y (effect_of t)) (same.tokens s lt) (same.used t live) h
 event_stays lts class s t number scale x y empty_row fine lt live same positive tokens stands h = one_term (negsuc 0) (pos 0 *ℤ scale) (x (tokens_at s)) (y (tokens_at s)) (same.tokens s lt) h
 event_stays lts class s t number scale x y (full_row q) fine lt live same positive tokens (plain, pure, (q', has)) h = one_term (pos 1) (negsuc 0 *ℤ scale) (x (tokens_at q)) (y (tokens_at q)) (same.tokens q (arc_in_range lts fine q t q' has).0) h
@@ -127,15 +139,21 @@ apart_stays : (lts : System) (s s' order : ℕ) (scale : ℤ) (x y : Variable �
 apart_stays lts s s' zero scale x y lt lt' same h = two_terms (pos 1) (negsuc 0) (negsuc 0 *ℤ scale) (x (tokens_at s')) (y (tokens_at s')) (x (tokens_at s)) (y (tokens_at s)) (same.tokens s' lt') (same.tokens s lt) h
 apart_stays lts s s' (suc order) scale x y lt lt' same h = two_terms (pos 1) (negsuc 0) (negsuc 0 *ℤ scale) (x (tokens_at s)) (y (tokens_at s)) (x (tokens_at s')) (y (tokens_at s')) (same.tokens s lt) (same.tokens s' lt') h
 
-state_stays : (lts : System) (class : Class) (s s' number : ℕ) (scale : ℤ) (x y : Variable → ℤ) (name : RowName) → IsInRange lts → s < states lts → s' < states lts → SameUsed lts x y → pos 0 <ℤ scale → ((q : ℕ) → pos 0 ≤ℤ y (tokens_at q)) → RowStands lts class (States s s') number [] name → RowHolds lts class (States s s') number scale x name → RowHolds lts class (States s s') number scale y name
+state_stays : (lts : System) (class : Class) (s s' number : ℕ) (scale : ℤ) (x y : Variable → ℤ) (name : RowName) → IsInRange lts → s < states lts → s' < states lts
+    → SameUsed lts x y → pos 0 <ℤ scale → ((q : ℕ) → pos 0 ≤ℤ y (tokens_at q)) → RowStands lts class (States s s') number [] name
+    → RowHolds lts class (States s s') number scale x name → RowHolds lts class (States s s') number scale y name
 state_stays lts class s s' number scale x y apart_row fine lt lt' same positive tokens stands h = apart_stays lts s s' (order_of lts class number) scale x y lt lt' same h
 state_stays lts class s s' number scale x y name fine lt lt' same positive tokens stands h = shared_stays lts class (consumer_of lts number) scale x y name fine same positive tokens stands h
 
-rows_stay : (lts : System) (class : Class) (problem : Problem) (number : ℕ) (scale : ℤ) (x y : Variable → ℤ) → IsInRange lts → IsSeparationProblem lts problem → IsLive lts problem → SameUsed lts x y → pos 0 <ℤ scale → KeepsRowsOver lts class problem number scale x → KeepsRowsOver lts class problem number scale y
-rows_stay lts class (Event s t) number scale x y fine (lt, _, _) live same positive keeps name stands = event_stays lts class s t number scale x y name fine lt (live_label lts t live) same positive (λ q. tokens_stay lts class (Event s t) number scale x y q fine.initial same keeps) stands (keeps name stands)
+rows_stay : (lts : System) (class : Class) (problem : Problem) (number : ℕ) (scale : ℤ) (x y : Variable → ℤ) → IsInRange lts → IsSeparationProblem lts problem
+    → IsLive lts problem → SameUsed lts x y → pos 0 <ℤ scale → KeepsRowsOver lts class problem number scale x → KeepsRowsOver lts class problem number scale y
+rows_stay lts class (Event s t) number scale x y fine (lt, _, _) live same positive keeps name stands = event_stays lts class s t number scale x y name fine lt
+    (live_label lts t live) same positive (λ q. tokens_stay lts class (Event s t) number scale x y q fine.initial same keeps) stands (keeps name stands)
 rows_stay lts class (States s s') number scale x y fine (lt, lt', _) live same positive keeps name stands = state_stays lts class s s' number scale x y name fine lt lt' same positive (λ q. tokens_stay lts class (States s s') number scale x y q fine.initial same keeps) stands (keeps name stands)
 
-pub rows_given : (lts : System) (tree : List Arc) (basis : CycleBasis) (class : Class) (problem : Problem) (number : ℕ) (case : CaseSystem) (x : Variable → ℤ) (scale : ℤ) → IsCaseOver lts tree basis class problem number case → IsLive lts problem → pos 0 <ℤ scale → KeepsRowsOver lts class problem number scale x → KeepsRowsOver lts class problem number scale (numbers_along lts tree (x (tokens_at lts.initial)) (used_effect lts x))
+pub rows_given : (lts : System) (tree : List Arc) (basis : CycleBasis) (class : Class) (problem : Problem) (number : ℕ) (case : CaseSystem) (x : Variable → ℤ)
+    (scale : ℤ) → IsCaseOver lts tree basis class problem number case → IsLive lts problem → pos 0 <ℤ scale → KeepsRowsOver lts class problem number scale x
+    → KeepsRowsOver lts class problem number scale (numbers_along lts tree (x (tokens_at lts.initial)) (used_effect lts x))
 rows_given lts tree basis class problem number case x scale c live positive keeps =
     rows_stay lts class problem number scale x (numbers_along lts tree (x (tokens_at lts.initial)) (used_effect lts x)) c.in_range c.asked live
     (record {
@@ -146,7 +164,9 @@ rows_given lts tree basis class problem number case x scale c live positive keep
     })
     positive keeps
 
-pub meets_given : (lts : System) (tree : List Arc) (basis : CycleBasis) (class : Class) (problem : Problem) (number : ℕ) (case : CaseSystem) (x : Variable → ℤ) (scale : ℤ) → IsCaseOver lts tree basis class problem number case → IsLive lts problem → pos 0 <ℤ scale → KeepsRowsOver lts class problem number scale x → MeetsCase lts basis class case (x (tokens_at lts.initial)) (used_effect lts x) scale
+pub meets_given : (lts : System) (tree : List Arc) (basis : CycleBasis) (class : Class) (problem : Problem) (number : ℕ) (case : CaseSystem) (x : Variable → ℤ)
+    (scale : ℤ) → IsCaseOver lts tree basis class problem number case → IsLive lts problem → pos 0 <ℤ scale → KeepsRowsOver lts class problem number scale x
+    → MeetsCase lts basis class case (x (tokens_at lts.initial)) (used_effect lts x) scale
 meets_given lts tree basis class problem number case x scale c live positive keeps =
     let e = effects_given lts tree basis class problem number case x scale c keeps in
     let rows = rows_given lts tree basis class problem number case x scale c live positive keeps in

@@ -9,7 +9,9 @@ use Rattle.rg_theory.specs.declared.Problem.TheVariants.{Event, States}
 use Rattle.rg_theory.specs.System.{System, IsInRange, states, labels}
 use Rattle.rg_theory.proofs.Arcs.{arc_in_range}
 use Rattle.rg_theory.proofs.Lists.{Contains-cons_cases}
-use Rattle.rg_refuting.specs.Row.{RowName, RowName.arc_row, RowName.tokens_row, RowName.cap_row, RowName.up_row, RowName.down_row, RowName.makes_row, RowName.stop_row, RowName.block_row, RowName.empty_row, RowName.full_row, RowName.keep_row, RowName.apart_row, RowName.above_row, HasArcAt, SharedStands, RowStands, case_consumer}
+use Rattle.rg_refuting.specs.Row.{RowName, RowName.arc_row, RowName.tokens_row, RowName.cap_row, RowName.up_row, RowName.down_row, RowName.makes_row, RowName.stop_row}
+use Rattle.rg_refuting.specs.Row.{RowName.block_row, RowName.empty_row, RowName.full_row, RowName.keep_row, RowName.apart_row, RowName.above_row, HasArcAt, SharedStands}
+use Rattle.rg_refuting.specs.Row.{RowStands, case_consumer}
 use Rattle.rg_order_of_work.specs.Rewriting.{numbers_where, has_label, has_label_at, used_labels, has_start, all_numbers, states_with, problem_rows, names_of}
 use Rattle.rg_order_of_work.specs.Meaning.{IsLeftOut}
 use Rattle.rg_order_of_work.proofs.Lists.{nothing, first, behind, Contains-map, where_has, if_true, if_false, from_one_of}
@@ -59,15 +61,32 @@ shared_part : (lts : System) (class : Class) (problem : Problem) (number : ℕ) 
 shared_part lts class problem number (arc_row q t q') stands = inr tt
 shared_part lts class problem number (tokens_row q) stands =
     ⊎_elim
-    (λ c. ⊎_elim (λ lt. inl (inr (inl (if_true (has_start class) (map tokens_row (all_numbers (states lts))) [] (tokens_row q) c (Contains-map tokens_row (all_numbers (states lts)) q (where_has (λ q. true) 0 (states lts) q refl (omega arith) (omega arith))))))) (λ le. inr (inr le)) (cases_lt q (states lts)))
+    (λ c. ⊎_elim (λ lt. inl (inr (inl (if_true (has_start class) (map tokens_row (all_numbers (states lts))) [] (tokens_row q) c
+    (Contains-map tokens_row (all_numbers (states lts)) q (where_has (λ q. true) 0 (states lts) q refl (omega arith) (omega arith))))))) (λ le. inr (inr le))
+    (cases_lt q (states lts)))
     (λ c. inr (inl c))
     (cases_Bool (has_start class))
-shared_part lts class problem number (cap_row q) (lt, some) = inl (inr (inr (inl (if_true (is_some class.bound) (map cap_row (all_numbers (states lts))) [] (cap_row q) some (Contains-map cap_row (all_numbers (states lts)) q (where_has (λ q. true) 0 (states lts) q refl (omega arith) (omega arith)))))))
-shared_part lts class problem number (up_row t) (lt, plain) = ⊎_elim (λ e. inl (inr (inr (inr (inl (if_true class.plain (map up_row (used_labels lts) ++ map down_row (used_labels lts)) [] (up_row t) plain (Contains-append_left (map up_row (used_labels lts)) (map down_row (used_labels lts)) (up_row t) (Contains-map up_row (used_labels lts) t (where_has (λ t. has_label t lts.arcs) 0 (labels lts) t e (omega arith) (omega arith)))))))))) (λ e. inr e) (cases_Bool (has_label t lts.arcs))
-shared_part lts class problem number (down_row t) (lt, plain) = ⊎_elim (λ e. inl (inr (inr (inr (inl (if_true class.plain (map up_row (used_labels lts) ++ map down_row (used_labels lts)) [] (down_row t) plain (Contains-append_right (map up_row (used_labels lts)) (map down_row (used_labels lts)) (down_row t) (Contains-map down_row (used_labels lts) t (where_has (λ t. has_label t lts.arcs) 0 (labels lts) t e (omega arith) (omega arith)))))))))) (λ e. inr e) (cases_Bool (has_label t lts.arcs))
+shared_part lts class problem number (cap_row q) (lt, some) = inl
+    (inr (inr (inl (if_true (is_some class.bound) (map cap_row (all_numbers (states lts))) [] (cap_row q) some
+    (Contains-map cap_row (all_numbers (states lts)) q (where_has (λ q. true) 0 (states lts) q refl (omega arith) (omega arith)))))))
+shared_part lts class problem number (up_row t) (lt, plain) = ⊎_elim
+    (λ e. inl (inr (inr (inr (inl (if_true class.plain (map up_row (used_labels lts) ++ map down_row (used_labels lts)) [] (up_row t) plain
+    (Contains-append_left (map up_row (used_labels lts)) (map down_row (used_labels lts)) (up_row t)
+    (Contains-map up_row (used_labels lts) t (where_has (λ t. has_label t lts.arcs) 0 (labels lts) t e (omega arith) (omega arith)))))))))) (λ e. inr e)
+    (cases_Bool (has_label t lts.arcs))
+shared_part lts class problem number (down_row t) (lt, plain) = ⊎_elim
+    (λ e. inl (inr (inr (inr (inl (if_true class.plain (map up_row (used_labels lts) ++ map down_row (used_labels lts)) [] (down_row t) plain
+    (Contains-append_right (map up_row (used_labels lts)) (map down_row (used_labels lts)) (down_row t)
+    (Contains-map down_row (used_labels lts) t (where_has (λ t. has_label t lts.arcs) 0 (labels lts) t e (omega arith) (omega arith)))))))))) (λ e. inr e)
+    (cases_Bool (has_label t lts.arcs))
 shared_part lts class problem number (makes_row t) (lt, nonbranching, differ) =
     ⊎_elim
-    (λ e. inl (inr (inr (inr (inr (if_true class.nonbranching (map makes_row (numbers_where (λ u. has_label u lts.arcs && not (u == case_consumer lts problem number)) 0 (labels lts))) [] (makes_row t) nonbranching (Contains-map makes_row (numbers_where (λ u. has_label u lts.arcs && not (u == case_consumer lts problem number)) 0 (labels lts)) t (where_has (λ u. has_label u lts.arcs && not (u == case_consumer lts problem number)) 0 (labels lts) t (and_from (has_label t lts.arcs) (not (t == case_consumer lts problem number)) e (not_from_false (t == case_consumer lts problem number) (ne_eqb t (case_consumer lts problem number) differ))) (omega arith) (omega arith)))))))))
+    (λ e. inl (inr (inr (inr (inr (if_true class.nonbranching
+    (map makes_row (numbers_where (λ u. has_label u lts.arcs && not (u == case_consumer lts problem number)) 0 (labels lts))) [] (makes_row t) nonbranching
+    (Contains-map makes_row (numbers_where (λ u. has_label u lts.arcs && not (u == case_consumer lts problem number)) 0 (labels lts)) t
+    (where_has (λ u. has_label u lts.arcs && not (u == case_consumer lts problem number)) 0 (labels lts) t
+    (and_from (has_label t lts.arcs) (not (t == case_consumer lts problem number)) e
+    (not_from_false (t == case_consumer lts problem number) (ne_eqb t (case_consumer lts problem number) differ))) (omega arith) (omega arith)))))))))
     (λ e. inr e)
     (cases_Bool (has_label t lts.arcs))
 shared_part lts class problem number (above_row d) stands = absurd stands
@@ -92,8 +111,14 @@ event_part lts class s t number (stop_row q) fine (pure, plain, at) =
     (if_false class.plain (empty_row ∷ map full_row (states_with lts t) ++ keep_row ∷ []) (map stop_row (states_with lts t)) (stop_row q) plain (Contains-map stop_row (states_with lts t) q (with_arc lts q t fine at)))))
 event_part lts class s t number block_row fine pure = inl (inl (if_true class.pure (block_row ∷ []) (if class.plain then (empty_row ∷ map full_row (states_with lts t) ++ keep_row ∷ []) else map stop_row (states_with lts t)) block_row pure (first block_row [])))
 event_part lts class s t number empty_row fine (plain, pure) = inl (inl (plain_rows lts class s t empty_row plain pure (first empty_row (map full_row (states_with lts t) ++ keep_row ∷ []))))
-event_part lts class s t number (full_row q) fine (plain, pure, at) = inl (inl (plain_rows lts class s t (full_row q) plain pure (behind empty_row (full_row q) (map full_row (states_with lts t) ++ keep_row ∷ []) (Contains-append_left (map full_row (states_with lts t)) (keep_row ∷ []) (full_row q) (Contains-map full_row (states_with lts t) q (with_arc lts q t fine at))))))
-event_part lts class s t number keep_row fine (plain, pure) = inl (inl (plain_rows lts class s t keep_row plain pure (behind empty_row keep_row (map full_row (states_with lts t) ++ keep_row ∷ []) (Contains-append_right (map full_row (states_with lts t)) (keep_row ∷ []) keep_row (first keep_row [])))))
+event_part lts class s t number (full_row q) fine (plain, pure, at) = inl
+    (inl (plain_rows lts class s t (full_row q) plain pure
+    (behind empty_row (full_row q) (map full_row (states_with lts t) ++ keep_row ∷ [])
+    (Contains-append_left (map full_row (states_with lts t)) (keep_row ∷ []) (full_row q) (Contains-map full_row (states_with lts t) q (with_arc lts q t fine at))))))
+event_part lts class s t number keep_row fine (plain, pure) = inl
+    (inl (plain_rows lts class s t keep_row plain pure
+    (behind empty_row keep_row (map full_row (states_with lts t) ++ keep_row ∷ [])
+    (Contains-append_right (map full_row (states_with lts t)) (keep_row ∷ []) keep_row (first keep_row [])))))
 event_part lts class s t number name fine stands = shared_part lts class (Event s t) number name stands
 
 state_part : (lts : System) (class : Class) (s s' number : ℕ) (name : RowName) → RowStands lts class (States s s') number [] name → IsPart lts class (States s s') number name ⊎ IsLeftOut lts class name

@@ -34,3 +34,17 @@ pub mod Missing
 pub mod Times
 pub mod Lifts
 pub mod StartAlone
+pub mod Folding
+pub mod Items
+pub mod Wholes
+pub mod EffectValues
+pub mod Found
+pub mod Moved
+pub mod Overs
+pub mod Reduced
+pub mod Lowered
+pub mod PlaceKept
+pub mod WholeKept
+pub mod PlaceWeights
+pub mod Made
+pub mod PlacePoints

@@ -7,7 +7,9 @@ use Rattle.rg_theory.specs.declared.Class.{Class}
 use Rattle.rg_theory.specs.declared.Problem.TheVariants.{States}
 use Rattle.rg_theory.specs.System.{System}
 use Rattle.rg_refuting.specs.Expression.{Variable, Variable.tokens_at, Variable.effect_of}
-use Rattle.rg_refuting.specs.Row.{RowName, RowName.arc_row, RowName.tokens_row, RowName.cap_row, RowName.up_row, RowName.down_row, RowName.makes_row, RowName.stop_row, RowName.block_row, RowName.empty_row, RowName.full_row, RowName.keep_row, RowName.apart_row, RowName.above_row, SharedStands, RowStands, shared_expression, row_expression, apart_expression, order_of, consumer_of, Says}
+use Rattle.rg_refuting.specs.Row.{RowName, RowName.arc_row, RowName.tokens_row, RowName.cap_row, RowName.up_row, RowName.down_row, RowName.makes_row, RowName.stop_row}
+use Rattle.rg_refuting.specs.Row.{RowName.block_row, RowName.empty_row, RowName.full_row, RowName.keep_row, RowName.apart_row, RowName.above_row, SharedStands, RowStands}
+use Rattle.rg_refuting.specs.Row.{shared_expression, row_expression, apart_expression, order_of, consumer_of, Says}
 use Rattle.rg_order_of_work.specs.Meaning.{value_over, KeepsRowsOver, shifted}
 
 one_higher : (a by k : ℤ) → pos 0 ≤ℤ by → pos 0 ≤ℤ (((pos 1 *ℤ a) +ℤ pos 0) +ℤ k) → pos 0 ≤ℤ (((pos 1 *ℤ (a +ℤ by)) +ℤ pos 0) +ℤ k)

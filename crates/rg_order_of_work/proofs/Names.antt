@@ -7,7 +7,9 @@ use Rattle.rg_theory.specs.declared.Problem.{Problem}
 use Rattle.rg_theory.specs.declared.Problem.TheVariants.{Event, States}
 use Rattle.rg_theory.specs.System.{System, states, labels}
 use Rattle.rg_theory.proofs.Lists.{Contains-cons_cases}
-use Rattle.rg_refuting.specs.Row.{RowName, RowName.tokens_row, RowName.cap_row, RowName.up_row, RowName.down_row, RowName.makes_row, RowName.stop_row, RowName.block_row, RowName.empty_row, RowName.full_row, RowName.keep_row, RowName.apart_row, HasArcAt, RowStands, row_expression, apart_expression, order_of, case_consumer}
+use Rattle.rg_refuting.specs.Row.{RowName, RowName.tokens_row, RowName.cap_row, RowName.up_row, RowName.down_row, RowName.makes_row, RowName.stop_row, RowName.block_row}
+use Rattle.rg_refuting.specs.Row.{RowName.empty_row, RowName.full_row, RowName.keep_row, RowName.apart_row, HasArcAt, RowStands, row_expression, apart_expression}
+use Rattle.rg_refuting.specs.Row.{order_of, case_consumer}
 use Rattle.rg_refuting.specs.Refutes.{IsSeparationProblem}
 use Rattle.rg_order_of_work.specs.Rewriting.{numbers_where, has_label, has_label_at, used_labels, has_start, all_numbers, states_with, problem_rows, names_of}
 use Rattle.rg_order_of_work.specs.Values.{NamesLabels}
@@ -93,7 +95,12 @@ each_name lts class problem number P of_problem tokens cap up down makes name ha
     differs : (u v : ℕ) (b : Bool) → b && not (u == v) ≡ true → u ≢ v
     differs u v b e same = let (_, not_equal) = and_parts b (not (u == v)) e in absurd (true≢false (sym not_equal ∙ ap not (eq-eqb u v same)))
 
-    parts : Contains (problem_rows lts class problem) name ⊎ (Contains (if has_start class then map tokens_row (all_numbers (states lts)) else []) name ⊎ (Contains (if is_some class.bound then map cap_row (all_numbers (states lts)) else []) name ⊎ (Contains (if class.plain then (map up_row (used_labels lts) ++ map down_row (used_labels lts)) else []) name ⊎ Contains (if class.nonbranching then map makes_row (numbers_where (λ u. has_label u lts.arcs && not (u == case_consumer lts problem number)) 0 (labels lts)) else []) name))) → P name
+    parts : Contains (problem_rows lts class problem) name
+        ⊎ (Contains (if has_start class then map tokens_row (all_numbers (states lts)) else []) name
+        ⊎ (Contains (if is_some class.bound then map cap_row (all_numbers (states lts)) else []) name
+        ⊎ (Contains (if class.plain then (map up_row (used_labels lts) ++ map down_row (used_labels lts)) else []) name
+        ⊎ Contains (if class.nonbranching then map makes_row (numbers_where (λ u. has_label u lts.arcs && not (u == case_consumer lts problem number)) 0 (labels lts))
+        else []) name))) → P name
     parts (inl h) = of_problem name h
     parts (inr (inl h)) = let (c, h') = of_optional (has_start class) (map tokens_row (all_numbers (states lts))) name h in of_states tokens_row (tokens c) h'
     parts (inr (inr (inl h))) = let (c, h') = of_optional (is_some class.bound) (map cap_row (all_numbers (states lts))) name h in of_states cap_row (cap c) h'

@@ -20,10 +20,15 @@ use Rattle.rg_order_of_work.proofs.Lists.{where_has}
 use Rattle.rg_order_of_work.proofs.ColumnValues.{first_value, free_value, start_below, free_below}
 use Rattle.rg_order_of_work.proofs.PointEffects.{has_in}
 
-same_column : (lts : System) (tree : List Arc) (basis : CycleBasis) (class : Class) (case : CaseSystem) (v : ℕ → ℤ) (times start start' : ℤ) (effect effect' : ℕ → ℤ) (j : ℕ) → AreGivenBy lts tree basis class case v times start effect → AreGivenBy lts tree basis class case v times start' effect' → j < case.columns → number_at (column_values lts basis class start effect) j ≡ number_at (column_values lts basis class start' effect') j
+same_column : (lts : System) (tree : List Arc) (basis : CycleBasis) (class : Class) (case : CaseSystem) (v : ℕ → ℤ) (times start start' : ℤ) (effect effect' : ℕ → ℤ)
+    (j : ℕ) → AreGivenBy lts tree basis class case v times start effect → AreGivenBy lts tree basis class case v times start' effect' → j < case.columns
+    → number_at (column_values lts basis class start effect) j ≡ number_at (column_values lts basis class start' effect') j
 same_column lts tree basis class case v times start start' effect effect' j g g' lt = sym (g.columns j lt) ∙ g'.columns j lt
 
-same_free : (lts : System) (tree : List Arc) (basis : CycleBasis) (class : Class) (problem : Problem) (number : ℕ) (case : CaseSystem) (v : ℕ → ℤ) (times start start' : ℤ) (effect effect' : ℕ → ℤ) (t : ℕ) → IsCaseOver lts tree basis class problem number case → AreGivenBy lts tree basis class case v times start effect → AreGivenBy lts tree basis class case v times start' effect' → t < labels lts → Contains basis.members t → effect t ≡ effect' t
+same_free : (lts : System) (tree : List Arc) (basis : CycleBasis) (class : Class) (problem : Problem) (number : ℕ) (case : CaseSystem) (v : ℕ → ℤ)
+    (times start start' : ℤ) (effect effect' : ℕ → ℤ) (t : ℕ)
+    → IsCaseOver lts tree basis class problem number case → AreGivenBy lts tree basis class case v times start effect
+    → AreGivenBy lts tree basis class case v times start' effect' → t < labels lts → Contains basis.members t → effect t ≡ effect' t
 same_free lts tree basis class problem number case v times start start' effect effect' t c g g' lt has =
     ⊎_elim
     (λ used. at_column (where_has (λ t. is_in basis.members t && has_label t lts.arcs) 0 (labels lts) t (and_from (is_in basis.members t) (has_label t lts.arcs) (has_in basis.members t has) used) (omega arith) (omega arith)))
@@ -39,7 +44,9 @@ same_free lts tree basis class problem number case v times start start' effect e
         ∙ free_value lts basis class start' effect' i below
         ∙ ap effect' there
 
-pub one_choice : (lts : System) (tree : List Arc) (basis : CycleBasis) (class : Class) (problem : Problem) (number : ℕ) (case : CaseSystem) (v : ℕ → ℤ) (times start start' : ℤ) (effect effect' : ℕ → ℤ) → IsCaseOver lts tree basis class problem number case → AreGivenBy lts tree basis class case v times start effect → AreGivenBy lts tree basis class case v times start' effect' → (has_start class ≡ true → start ≡ start') × ((t : ℕ) → t < labels lts → effect t ≡ effect' t)
+pub one_choice : (lts : System) (tree : List Arc) (basis : CycleBasis) (class : Class) (problem : Problem) (number : ℕ) (case : CaseSystem) (v : ℕ → ℤ)
+    (times start start' : ℤ) (effect effect' : ℕ → ℤ) → IsCaseOver lts tree basis class problem number case → AreGivenBy lts tree basis class case v times start effect
+    → AreGivenBy lts tree basis class case v times start' effect' → (has_start class ≡ true → start ≡ start') × ((t : ℕ) → t < labels lts → effect t ≡ effect' t)
 one_choice lts tree basis class problem number case v times start start' effect effect' c g g' = (
   λ starts. sym (first_value lts basis class start effect starts) ∙ same_column lts tree basis class case v times start start' effect effect' 0 g g' (start_below lts tree basis class problem number case c.is_case starts) ∙ first_value lts basis class start' effect' starts,
   λ t lt. ⊎_elim (λ has. same_free lts tree basis class problem number case v times start start' effect effect' t c g g' lt has) (λ outside. dependent t lt outside) (is_member basis.members t),
@@ -50,7 +57,10 @@ one_choice lts tree basis class problem number case v times start start' effect 
         let row = c.is_basis.relations t lt outside in
         mul-cancel_left (basis.relation t).d (effect t) (effect' t) (positive_differs (basis.relation t).d row.positive)
         (g.effects.follows t (basis.relation t) lt row
-        ∙ sum_below-same (labels lts) (λ j. (basis.relation t).coefficient j *ℤ effect j) (λ j. (basis.relation t).coefficient j *ℤ effect' j) (λ j below. ⊎_elim (λ has. ap (λ z. (basis.relation t).coefficient j *ℤ z) (same_free lts tree basis class problem number case v times start start' effect effect' j c g g' below has)) (λ out. none (basis.relation t).coefficient j (row.over j out)) (is_member basis.members j))
+        ∙ sum_below-same (labels lts) (λ j. (basis.relation t).coefficient j *ℤ effect j) (λ j. (basis.relation t).coefficient j *ℤ effect' j)
+        (λ j below. ⊎_elim (λ has. ap (λ z. (basis.relation t).coefficient j *ℤ z)
+        (same_free lts tree basis class problem number case v times start start' effect effect' j c g g' below has))
+        (λ out. none (basis.relation t).coefficient j (row.over j out)) (is_member basis.members j))
         ∙ sym (g'.effects.follows t (basis.relation t) lt row))
       where
         none : (k : ℕ → ℤ) (j : ℕ) → k j ≡ pos 0 → k j *ℤ effect j ≡ k j *ℤ effect' j

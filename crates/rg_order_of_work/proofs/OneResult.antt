@@ -13,7 +13,7 @@ use Rattle.rg_refuting.specs.Refutes.{NamedRow}
 use Rattle.rg_linear.specs.System.{LinearRow}
 use Rattle.rg_linear.specs.Branching.{Form, Weight, SplitSide}
 use Rattle.rg_integers.proofs.Order.{mul-cancel_left}
-use Rattle.rg_fraction.specs.declared.term.Wide.{Wide}
+use Rattle.rg_integers.specs.declared.term.Wide.{Wide}
 use Rattle.rg_fraction.specs.Rows.{IsRowGcd}
 use Rattle.rg_order_of_work.specs.Fold.{either, IsOne, Ratio, whole, IsRatio, add, mul, whole_sum}
 use Rattle.rg_linear.specs.Cycle.{CycleBasis}
@@ -106,7 +106,9 @@ pub kept_one : (lts : System) (basis : CycleBasis) (class : Class) (all : List K
 kept_one lts basis class all forms = record { one = kept_same lts basis class all forms }
 
 pub system_one : (lts : System) (tree : List Arc) (basis : CycleBasis) (class : Class) (problem : Problem) (number : ℕ) → IsOne (system_fold lts tree basis class problem number)
-system_one lts tree basis class problem n = and_then_one _ _ (each_one _ (λ name. row_one lts tree basis class name (row_expression lts class problem n [] name)) (names_of lts class problem n)) (λ all. and_then_one _ _ (each_one _ (form_one lts tree basis class) (split_forms lts class problem)) (λ forms. kept_one lts basis class all forms))
+system_one lts tree basis class problem n = and_then_one _ _
+    (each_one _ (λ name. row_one lts tree basis class name (row_expression lts class problem n [] name)) (names_of lts class problem n))
+    (λ all. and_then_one _ _ (each_one _ (form_one lts tree basis class) (split_forms lts class problem)) (λ forms. kept_one lts basis class all forms))
 
 -- ---- places
 

@@ -8,7 +8,7 @@ use Rattle.rg_theory.specs.declared.Arc.{Arc}
 use Rattle.rg_theory.specs.declared.Class.{Class}
 use Rattle.rg_theory.specs.System.{System, labels}
 use Rattle.rg_integers.proofs.Ring.{ring}
-use Rattle.rg_fraction.specs.declared.term.Wide.{Wide}
+use Rattle.rg_integers.specs.declared.term.Wide.{Wide}
 use Rattle.rg_linear.specs.Cycle.{CycleBasis}
 use Rattle.rg_refuting.specs.Expression.{Variable, Term, plus, minus}
 use Rattle.rg_order_of_work.specs.Fold.{each, further, Ratio, whole, IsRatio, quotient, add, mul, multiple_of_all}
@@ -42,7 +42,9 @@ negated_product c k p p' (_, _, is) (_, _, is') = ratio_one p' (negated p) (neg_
     turn c t = simp ring
 
 negated_sum : (f g s s' : Ratio) → add f g (Ok s) → add (negated f) (negated g) (Ok s') → s' ≡ negated s
-negated_sum f g s s' (_, _, is) (_, _, is') = ratio_one s' (negated s) ((neg_ℤ f.top *ℤ g.bottom) +ℤ (neg_ℤ g.top *ℤ f.bottom)) (f.bottom *ℤ g.bottom) is' (subst (λ n. IsRatio (negated s) n (f.bottom *ℤ g.bottom)) (turn f.top g.bottom g.top f.bottom) (negated_ratio s ((f.top *ℤ g.bottom) +ℤ (g.top *ℤ f.bottom)) (f.bottom *ℤ g.bottom) is))
+negated_sum f g s s' (_, _, is) (_, _, is') = ratio_one s' (negated s) ((neg_ℤ f.top *ℤ g.bottom) +ℤ (neg_ℤ g.top *ℤ f.bottom)) (f.bottom *ℤ g.bottom) is'
+    (subst (λ n. IsRatio (negated s) n (f.bottom *ℤ g.bottom)) (turn f.top g.bottom g.top f.bottom)
+    (negated_ratio s ((f.top *ℤ g.bottom) +ℤ (g.top *ℤ f.bottom)) (f.bottom *ℤ g.bottom) is))
   where
     turn : (a b c d : ℤ) → neg_ℤ ((a *ℤ b) +ℤ (c *ℤ d)) ≡ (neg_ℤ a *ℤ b) +ℤ (neg_ℤ c *ℤ d)
     turn a b c d = outer (a *ℤ b) (c *ℤ d) ∙ ap₂ ◌+ℤ◌ (inner a b) (inner c d)
@@ -81,14 +83,18 @@ bottoms_picked test [] rs = refl
 bottoms_picked test (f ∷ fs) [] = refl
 bottoms_picked test (f ∷ fs) (r ∷ rs) = go (test f) (bottoms_picked test fs rs)
   where
-    go : (b : Bool) → map (λ (r : Ratio). r.bottom) (pick test fs (map negated rs)) ≡ map (λ (r : Ratio). r.bottom) (pick test fs rs) → map (λ (r : Ratio). r.bottom) (if b then (negated r ∷ pick test fs (map negated rs)) else pick test fs (map negated rs)) ≡ map (λ (r : Ratio). r.bottom) (if b then (r ∷ pick test fs rs) else pick test fs rs)
+    go : (b : Bool) → map (λ (r : Ratio). r.bottom) (pick test fs (map negated rs)) ≡ map (λ (r : Ratio). r.bottom) (pick test fs rs)
+        → map (λ (r : Ratio). r.bottom) (if b then (negated r ∷ pick test fs (map negated rs)) else pick test fs (map negated rs)) ≡ map (λ (r : Ratio). r.bottom)
+        (if b then (r ∷ pick test fs rs) else pick test fs rs)
     go true e = ap (λ l. r.bottom ∷ l) e
     go false e = e
 
 bottoms_same : (lts : System) (basis : CycleBasis) (class : Class) (start start' : ℤ) (rs : List Ratio) → map (λ (r : Ratio). r.bottom) (columns_of lts basis class start' (map negated rs)) ≡ map (λ (r : Ratio). r.bottom) (columns_of lts basis class start rs)
 bottoms_same lts basis class start start' rs = go (has_start class)
   where
-    go : (b : Bool) → map (λ (r : Ratio). r.bottom) ((if b then (whole start' ∷ []) else []) ++ pick (λ t. has_label t lts.arcs) (free_labels (labels lts) basis) (map negated rs)) ≡ map (λ (r : Ratio). r.bottom) ((if b then (whole start ∷ []) else []) ++ pick (λ t. has_label t lts.arcs) (free_labels (labels lts) basis) rs)
+    go : (b : Bool) → map (λ (r : Ratio). r.bottom)
+        ((if b then (whole start' ∷ []) else []) ++ pick (λ t. has_label t lts.arcs) (free_labels (labels lts) basis) (map negated rs)) ≡ map (λ (r : Ratio). r.bottom)
+        ((if b then (whole start ∷ []) else []) ++ pick (λ t. has_label t lts.arcs) (free_labels (labels lts) basis) rs)
     go true = ap (λ l. pos 1 ∷ l) (bottoms_picked (λ t. has_label t lts.arcs) (free_labels (labels lts) basis) rs)
     go false = bottoms_picked (λ t. has_label t lts.arcs) (free_labels (labels lts) basis) rs
 

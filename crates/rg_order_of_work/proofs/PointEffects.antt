@@ -112,7 +112,8 @@ free_effect lts basis b part w t used member =
     ap (λ c. if c then (if is_in basis.members t then b *ℤ w t else sum_below (labels lts) (λ j. (basis.relation t).coefficient j *ℤ (if has_label j lts.arcs then w j else pos 0)) *ℤ part t) else pos 0) used
     ∙ ap (λ c. if c then b *ℤ w t else sum_below (labels lts) (λ j. (basis.relation t).coefficient j *ℤ (if has_label j lts.arcs then w j else pos 0)) *ℤ part t) member
 
-dependent_effect : (lts : System) (basis : CycleBasis) (b : ℤ) (part w : ℕ → ℤ) (t : ℕ) → has_label t lts.arcs ≡ true → is_in basis.members t ≡ false → given_effect lts basis b part w t ≡ sum_below (labels lts) (λ j. (basis.relation t).coefficient j *ℤ (if has_label j lts.arcs then w j else pos 0)) *ℤ part t
+dependent_effect : (lts : System) (basis : CycleBasis) (b : ℤ) (part w : ℕ → ℤ) (t : ℕ) → has_label t lts.arcs ≡ true → is_in basis.members t ≡ false
+    → given_effect lts basis b part w t ≡ sum_below (labels lts) (λ j. (basis.relation t).coefficient j *ℤ (if has_label j lts.arcs then w j else pos 0)) *ℤ part t
 dependent_effect lts basis b part w t used member =
     ap (λ c. if c then (if is_in basis.members t then b *ℤ w t else sum_below (labels lts) (λ j. (basis.relation t).coefficient j *ℤ (if has_label j lts.arcs then w j else pos 0)) *ℤ part t) else pos 0) used
     ∙ ap (λ c. if c then b *ℤ w t else sum_below (labels lts) (λ j. (basis.relation t).coefficient j *ℤ (if has_label j lts.arcs then w j else pos 0)) *ℤ part t) member
@@ -148,7 +149,9 @@ term_value lts basis b part w k j over =
         zero : (b e z : ℤ) → pos 0 *ℤ e ≡ b *ℤ (pos 0 *ℤ z)
         zero b e z = zero-*ℤ e ∙ sym (ap (λ y. b *ℤ y) (zero-*ℤ z) ∙ times_zero b)
 
-given_follow : (lts : System) (tree : List Arc) (basis : CycleBasis) (b : ℤ) (part w : ℕ → ℤ) → IsInRange lts → IsAllReachable lts → IsTree lts tree → IsBasis lts tree basis → ((t : ℕ) → t < labels lts → b ≡ (basis.relation t).d *ℤ part t) → FollowsRelations (chord_system lts tree basis.kept) basis.members (given_effect lts basis b part w)
+given_follow : (lts : System) (tree : List Arc) (basis : CycleBasis) (b : ℤ) (part w : ℕ → ℤ) → IsInRange lts → IsAllReachable lts → IsTree lts tree
+    → IsBasis lts tree basis → ((t : ℕ) → t < labels lts → b ≡ (basis.relation t).d *ℤ part t) → FollowsRelations (chord_system lts tree basis.kept) basis.members
+    (given_effect lts basis b part w)
 given_follow lts tree basis b part w fine reached g is exact t k lt row =
     let same = same_relation (chord_system lts tree basis.kept) basis.members t k (basis.relation t) row (is.relations t lt row.outside) in
     subst (λ (l : Relation). l.d *ℤ given_effect lts basis b part w t ≡ sum_below (labels lts) (λ j. l.coefficient j *ℤ given_effect lts basis b part w j)) (sym same) (own row.outside)
@@ -168,14 +171,17 @@ given_follow lts tree basis b part w fine reached g is exact t k lt row =
         ∙ turn (basis.relation t).d (sum_below (labels lts) (λ j. (basis.relation t).coefficient j *ℤ (if has_label j lts.arcs then w j else pos 0))) (part t)
         ∙ ap (λ z. z *ℤ sum_below (labels lts) (λ j. (basis.relation t).coefficient j *ℤ (if has_label j lts.arcs then w j else pos 0))) (sym (exact t lt))
         ∙ sym (sum_below-times (labels lts) b (λ j. (basis.relation t).coefficient j *ℤ (if has_label j lts.arcs then w j else pos 0)))
-        ∙ sym (sum_below-same (labels lts) (λ j. (basis.relation t).coefficient j *ℤ given_effect lts basis b part w j) (λ j. b *ℤ ((basis.relation t).coefficient j *ℤ (if has_label j lts.arcs then w j else pos 0))) (λ j lt'. term_value lts basis b part w (basis.relation t) j ((is.relations t lt outside).over j)))
+        ∙ sym (sum_below-same (labels lts) (λ j. (basis.relation t).coefficient j *ℤ given_effect lts basis b part w j)
+        (λ j. b *ℤ ((basis.relation t).coefficient j *ℤ (if has_label j lts.arcs then w j else pos 0)))
+        (λ j lt'. term_value lts basis b part w (basis.relation t) j ((is.relations t lt outside).over j)))
 
 -- ---- the point gives them
 
 positive_d : (lts : System) (tree : List Arc) (basis : CycleBasis) → IsBasis lts tree basis → (t : ℕ) → t < labels lts → pos 0 <ℤ (basis.relation t).d
 positive_d lts tree basis is t lt = ⊎_elim (λ has. subst (λ (k : Relation). pos 0 <ℤ k.d) (sym (is.others t (inr has))) (omega (arith, ints))) (λ outside. (is.relations t lt outside).positive) (is_member basis.members t)
 
-pub point_gives : (lts : System) (tree : List Arc) (basis : CycleBasis) (class : Class) (problem : Problem) (number : ℕ) (case : CaseSystem) (v : ℕ → ℤ) → IsCaseOver lts tree basis class problem number case → (times : ℤ) × (start : ℤ) × (effect : ℕ → ℤ) × AreGivenBy lts tree basis class case v times start effect
+pub point_gives : (lts : System) (tree : List Arc) (basis : CycleBasis) (class : Class) (problem : Problem) (number : ℕ) (case : CaseSystem) (v : ℕ → ℤ)
+    → IsCaseOver lts tree basis class problem number case → (times : ℤ) × (start : ℤ) × (effect : ℕ → ℤ) × AreGivenBy lts tree basis class case v times start effect
 point_gives lts tree basis class problem number case v c =
     let (b, part, positive, exact) = multiple_below (labels lts) (λ t. (basis.relation t).d) (positive_d lts tree basis c.is_basis) in
     let (w, at) = assigned (λ t. is_in basis.members t && has_label t lts.arcs) 0 (labels lts) (λ j. v (first_column class + j)) in (
@@ -193,7 +199,9 @@ point_gives lts tree basis class problem number case v c =
     )
   where
     free_times : (b : ℤ) (part w : ℕ → ℤ) → map (given_effect lts basis b part w) (free_columns lts basis) ≡ map (λ t. b *ℤ w t) (free_columns lts basis)
-    free_times b part w = map_same (given_effect lts basis b part w) (λ t. b *ℤ w t) (free_columns lts basis) (λ t has. (let (e, _, _) = where_is (λ t. is_in basis.members t && has_label t lts.arcs) 0 (labels lts) t has in let (member, used) = and_parts (is_in basis.members t) (has_label t lts.arcs) e in free_effect lts basis b part w t used member))
+    free_times b part w = map_same (given_effect lts basis b part w) (λ t. b *ℤ w t) (free_columns lts basis)
+        (λ t has. (let (e, _, _) = where_is (λ t. is_in basis.members t && has_label t lts.arcs) 0 (labels lts) t has in let (member, used) = and_parts
+        (is_in basis.members t) (has_label t lts.arcs) e in free_effect lts basis b part w t used member))
 
     number_times : (b : ℤ) (w : ℕ → ℤ) (xs : List ℕ) (j : ℕ) → number_at (map (λ t. b *ℤ w t) xs) j ≡ b *ℤ number_at (map w xs) j
     number_times b w [] j = none b
@@ -203,7 +211,9 @@ point_gives lts tree basis class problem number case v c =
     number_times b w (x ∷ xs) zero = refl
     number_times b w (x ∷ xs) (suc j) = number_times b w xs j
 
-    by : (s : Bool) (b : ℤ) (w : ℕ → ℤ) → ((j : ℕ) → j < length (free_columns lts basis) → v ((if s then 1 else 0) + j) ≡ number_at (map w (free_columns lts basis)) j) → (j : ℕ) → j < length ((if s then ((b *ℤ v 0) ∷ []) else []) ++ map (λ t. b *ℤ w t) (free_columns lts basis)) → b *ℤ v j ≡ number_at ((if s then ((b *ℤ v 0) ∷ []) else []) ++ map (λ t. b *ℤ w t) (free_columns lts basis)) j
+    by : (s : Bool) (b : ℤ) (w : ℕ → ℤ) → ((j : ℕ) → j < length (free_columns lts basis) → v ((if s then 1 else 0) + j) ≡ number_at (map w (free_columns lts basis)) j)
+        → (j : ℕ) → j < length ((if s then ((b *ℤ v 0) ∷ []) else []) ++ map (λ t. b *ℤ w t) (free_columns lts basis))
+        → b *ℤ v j ≡ number_at ((if s then ((b *ℤ v 0) ∷ []) else []) ++ map (λ t. b *ℤ w t) (free_columns lts basis)) j
     by true b w at zero lt = refl
     by true b w at (suc j) lt = ap (λ k. b *ℤ v k) (next j) ∙ ap (λ z. b *ℤ z) (at j (let same = length-map (free_columns lts basis) (λ t. b *ℤ w t) in omega arith)) ∙ sym (number_times b w (free_columns lts basis) j)
       where

@@ -29,7 +29,9 @@ use Rattle.rg_order_of_work.proofs.ColumnValues.{row_sum}
 use Rattle.rg_order_of_work.proofs.PointEffects.{point_gives}
 
 -- a row's value at the point is its value at the columns
-row_value_at : (lts : System) (tree : List Arc) (basis : CycleBasis) (class : Class) (problem : Problem) (number : ℕ) (case : CaseSystem) (v : ℕ → ℤ) (scale times start : ℤ) (effect : ℕ → ℤ) (i : ℕ) → IsCaseOver lts tree basis class problem number case → IsPoint (rows_of case) scale v → AreGivenBy lts tree basis class case v times start effect → i < length (map (λ k. k.row) case.kept)
+row_value_at : (lts : System) (tree : List Arc) (basis : CycleBasis) (class : Class) (problem : Problem) (number : ℕ) (case : CaseSystem) (v : ℕ → ℤ)
+    (scale times start : ℤ) (effect : ℕ → ℤ) (i : ℕ) → IsCaseOver lts tree basis class problem number case → IsPoint (rows_of case) scale v
+    → AreGivenBy lts tree basis class case v times start effect → i < length (map (λ k. k.row) case.kept)
     → times *ℤ v (row_variable (rows_of case) i) ≡ dot (row_at (rows_of case) i).coeffs (column_values lts basis class start effect) +ℤ ((row_at (rows_of case) i).constant *ℤ (times *ℤ scale))
 row_value_at lts tree basis class problem number case v scale times start effect i c p g lt =
     (scaled_point (rows_of case) scale times v g.positive p).rows i lt
@@ -41,10 +43,15 @@ row_value_at lts tree basis class problem number case v scale times start effect
 row_there : (case : CaseSystem) (i : ℕ) (k : KeptRow) → i < length case.kept → row_at (rows_of case) i ≡ (slice_index_or case.kept i k).row
 row_there case i k lt = get_or-map (λ (k : KeptRow). k.row) case.kept i k (record { coeffs = []; constant = pos 0 }) lt
 
-pub point_meets : (lts : System) (tree : List Arc) (basis : CycleBasis) (class : Class) (problem : Problem) (number : ℕ) (case : CaseSystem) (v : ℕ → ℤ) (scale times start : ℤ) (effect : ℕ → ℤ) → IsCaseOver lts tree basis class problem number case → IsPoint (rows_of case) scale v → AreGivenBy lts tree basis class case v times start effect → MeetsRows (rows_of case) v ↔ MeetsCase lts basis class case start effect (times *ℤ scale)
+pub point_meets : (lts : System) (tree : List Arc) (basis : CycleBasis) (class : Class) (problem : Problem) (number : ℕ) (case : CaseSystem) (v : ℕ → ℤ)
+    (scale times start : ℤ) (effect : ℕ → ℤ) → IsCaseOver lts tree basis class problem number case → IsPoint (rows_of case) scale v
+    → AreGivenBy lts tree basis class case v times start effect → MeetsRows (rows_of case) v ↔ MeetsCase lts basis class case start effect (times *ℤ scale)
 point_meets lts tree basis class problem number case v scale times start effect c p g = (
   (λ meets k (i, lt, e). met k (row_at (rows_of case) i) (row_there case i k lt ∙ ap (λ (k : KeptRow). k.row) e) (subst (λ z. pos 0 ≤ℤ z) (value i (counted i lt)) (mul_not_negative times (v (row_variable (rows_of case) i)) (weak times g.positive) (meets i (counted i lt))))),
-  (λ meets i lt. factor_not_negative times (v (row_variable (rows_of case) i)) g.positive (subst (λ z. pos 0 ≤ℤ z) (sym (value i lt)) (back (slice_index_or case.kept i none) (row_at (rows_of case) i) (row_there case i none (counted' i lt)) (meets (slice_index_or case.kept i none) (Contains-get_or case.kept i none (counted' i lt)))))),
+  (λ meets i lt. factor_not_negative times (v (row_variable (rows_of case) i)) g.positive
+      (subst (λ z. pos 0 ≤ℤ z) (sym (value i lt))
+      (back (slice_index_or case.kept i none) (row_at (rows_of case) i) (row_there case i none (counted' i lt))
+      (meets (slice_index_or case.kept i none) (Contains-get_or case.kept i none (counted' i lt)))))),
 )
   where
     none : KeptRow
@@ -69,7 +76,9 @@ point_meets lts tree basis class problem number case v scale times start effect 
     back k r e h = subst (λ (r : LinearRow). pos 0 ≤ℤ (dot r.coeffs (column_values lts basis class start effect) +ℤ (r.constant *ℤ (times *ℤ scale)))) (sym e) h
 
 -- Start and effects are those of a point
-pub given_point : (lts : System) (tree : List Arc) (basis : CycleBasis) (class : Class) (problem : Problem) (number : ℕ) (case : CaseSystem) (start : ℤ) (effect : ℕ → ℤ) (scale : ℤ) → IsCaseOver lts tree basis class problem number case → AreEffects lts tree basis effect → pos 0 <ℤ scale → (v : ℕ → ℤ) × IsPoint (rows_of case) scale v × AreGivenBy lts tree basis class case v (pos 1) start effect
+pub given_point : (lts : System) (tree : List Arc) (basis : CycleBasis) (class : Class) (problem : Problem) (number : ℕ) (case : CaseSystem) (start : ℤ) (effect : ℕ → ℤ)
+    (scale : ℤ) → IsCaseOver lts tree basis class problem number case → AreEffects lts tree basis effect → pos 0 <ℤ scale → (v : ℕ → ℤ) × IsPoint (rows_of case) scale v
+    × AreGivenBy lts tree basis class case v (pos 1) start effect
 given_point lts tree basis class problem number case start effect scale c e positive = (
   values_of (rows_of case) scale (λ j. number_at (column_values lts basis class start effect) j),
   values_of-point (rows_of case) scale (λ j. number_at (column_values lts basis class start effect) j) positive,
@@ -84,11 +93,19 @@ given_point lts tree basis class problem number case start effect scale c e posi
     one z = omega (arith, ints)
 
 -- numbers that keep all rows, of Start and effects that meet the system
-solved : (lts : System) (tree : List Arc) (basis : CycleBasis) (class : Class) (problem : Problem) (number : ℕ) (case : CaseSystem) (start : ℤ) (effect : ℕ → ℤ) (scale : ℤ) → IsCaseOver lts tree basis class problem number case → AreEffects lts tree basis effect → pos 0 <ℤ scale → MeetsCase lts basis class case start effect scale → HasSolution lts class problem number
+solved : (lts : System) (tree : List Arc) (basis : CycleBasis) (class : Class) (problem : Problem) (number : ℕ) (case : CaseSystem) (start : ℤ) (effect : ℕ → ℤ)
+    (scale : ℤ) → IsCaseOver lts tree basis class problem number case → AreEffects lts tree basis effect → pos 0 <ℤ scale
+    → MeetsCase lts basis class case start effect scale → HasSolution lts class problem number
 solved lts tree basis class problem number case start effect scale c e positive meets =
     ⊎_elim
     (λ starts. (scale, numbers_along lts tree start effect, positive, (start_means lts tree basis class problem number case start effect scale c e positive starts).0 meets))
-    (λ none. (let keeps = (no_start_means lts tree basis class problem number case start effect scale c e positive none).0 meets in let (by, above) = some_shift lts (numbers_along lts tree start effect) in (scale, shifted by (numbers_along lts tree start effect), positive, shift_means lts tree basis class problem number case start effect scale by c none keeps above)))
+    (λ none. (let keeps = (no_start_means lts tree basis class problem number case start effect scale c e positive none).0 meets in let (by, above) = some_shift lts
+    (numbers_along lts tree start effect) in (
+      scale,
+      shifted by (numbers_along lts tree start effect),
+      positive,
+      shift_means lts tree basis class problem number case start effect scale by c none keeps above,
+    )))
     (cases_Bool (has_start class))
 
 pub points_exact : (lts : System) (tree : List Arc) (basis : CycleBasis) (class : Class) (problem : Problem) (number : ℕ) (case : CaseSystem) → IsCaseOver lts tree basis class problem number case → IsLive lts problem → HasPoint case ↔ HasSolution lts class problem number
@@ -96,8 +113,14 @@ points_exact lts tree basis class problem number case c live = (
   (λ (scale, v, p, meets). (let (times, start, effect, g) = point_gives lts tree basis class problem number case v c in
       solved lts tree basis class problem number case start effect (times *ℤ scale) c g.effects (mul_positive times scale g.positive p.positive) ((point_meets lts tree basis class problem number case v scale times start effect c p g).0 meets))),
   (λ (scale, x, positive, keeps). (let e = effects_given lts tree basis class problem number case x scale c keeps in
-      let (v, p, g) = given_point lts tree basis class problem number case (x (tokens_at lts.initial)) (used_effect lts x) scale c e positive in
-      (scale, v, p, (point_meets lts tree basis class problem number case v scale (pos 1) (x (tokens_at lts.initial)) (used_effect lts x) c p g).1 (subst (λ z. MeetsCase lts basis class case (x (tokens_at lts.initial)) (used_effect lts x) z) (sym (one scale)) (meets_given lts tree basis class problem number case x scale c live positive keeps))))),
+      let (v, p, g) = given_point lts tree basis class problem number case (x (tokens_at lts.initial)) (used_effect lts x) scale c e positive in (
+        scale,
+        v,
+        p,
+        (point_meets lts tree basis class problem number case v scale (pos 1) (x (tokens_at lts.initial)) (used_effect lts x) c p g).1
+            (subst (λ z. MeetsCase lts basis class case (x (tokens_at lts.initial)) (used_effect lts x) z) (sym (one scale))
+            (meets_given lts tree basis class problem number case x scale c live positive keeps)),
+      ))),
 )
   where
     one : (z : ℤ) → pos 1 *ℤ z ≡ z

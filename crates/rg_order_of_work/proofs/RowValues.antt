@@ -9,7 +9,7 @@ use Rattle.rg_integers.specs.Sum.{sum_below, sum_over}
 use Rattle.rg_integers.proofs.Ring.{ring, add-mul, mul_assoc, one-mul}
 use Rattle.rg_integers.proofs.Order.{mul-cancel}
 use Rattle.rg_integers.proofs.Sums.{sum_below-same, sum_below-zero, sum_below-plus, sum_below-times, sum_below-at}
-use Rattle.rg_fraction.specs.declared.term.Wide.{Wide}
+use Rattle.rg_integers.specs.declared.term.Wide.{Wide}
 use Rattle.rg_order_of_work.specs.Fold.{further, Ratio, whole, quotient, add, mul}
 use Rattle.rg_theory.specs.Tree.{parikh}
 use Rattle.rg_linear.specs.Cycle.{CycleBasis}
@@ -19,7 +19,9 @@ use Rattle.rg_order_of_work.specs.Values.{NamesLabels, numbers_along}
 -- ---- the expression over Start and all labels
 
 -- what one variable is worth
-variable_value : (lts : System) (tree : List Arc) (start : ℤ) (effect : ℕ → ℤ) (c : ℤ) (v : Variable) (rest : List Term) → NamesLabels (labels lts) (record { coefficient = c; variable = v } ∷ rest) → numbers_along lts tree start effect v ≡ (variable_start v *ℤ start) +ℤ sum_below (labels lts) (λ t. variable_count tree v t *ℤ effect t)
+variable_value : (lts : System) (tree : List Arc) (start : ℤ) (effect : ℕ → ℤ) (c : ℤ) (v : Variable) (rest : List Term)
+    → NamesLabels (labels lts) (record { coefficient = c; variable = v } ∷ rest) → numbers_along lts tree start effect v ≡ (variable_start v *ℤ start) +ℤ sum_below
+    (labels lts) (λ t. variable_count tree v t *ℤ effect t)
 variable_value lts tree start effect c (tokens_at q) rest names = close start (sum_below (labels lts) (λ t. pos (parikh tree q t) *ℤ effect t))
   where
     close : (z s : ℤ) → z +ℤ s ≡ (pos 1 *ℤ z) +ℤ s
@@ -50,7 +52,9 @@ rewritten lts tree start effect (t ∷ terms) names =
     let here = variable_value lts tree start effect t.coefficient t.variable terms names in
     let rest = rewritten lts tree start effect terms (names_rest (labels lts) t terms names) in
     let sums : sum_below (labels lts) (λ u. ((t.coefficient *ℤ variable_count tree t.variable u) +ℤ count_of tree terms u) *ℤ effect u) ≡ (t.coefficient *ℤ sum_below (labels lts) (λ u. variable_count tree t.variable u *ℤ effect u)) +ℤ sum_below (labels lts) (λ u. count_of tree terms u *ℤ effect u) =
-    sum_below-same (labels lts) (λ u. ((t.coefficient *ℤ variable_count tree t.variable u) +ℤ count_of tree terms u) *ℤ effect u) (λ u. (t.coefficient *ℤ (variable_count tree t.variable u *ℤ effect u)) +ℤ (count_of tree terms u *ℤ effect u)) (λ u lt. spread t.coefficient (variable_count tree t.variable u) (count_of tree terms u) (effect u))
+    sum_below-same (labels lts) (λ u. ((t.coefficient *ℤ variable_count tree t.variable u) +ℤ count_of tree terms u) *ℤ effect u)
+    (λ u. (t.coefficient *ℤ (variable_count tree t.variable u *ℤ effect u)) +ℤ (count_of tree terms u *ℤ effect u))
+    (λ u lt. spread t.coefficient (variable_count tree t.variable u) (count_of tree terms u) (effect u))
     ∙ sum_below-plus (labels lts) (λ u. t.coefficient *ℤ (variable_count tree t.variable u *ℤ effect u)) (λ u. count_of tree terms u *ℤ effect u)
     ∙ ap (λ z. z +ℤ sum_below (labels lts) (λ u. count_of tree terms u *ℤ effect u)) (sum_below-times (labels lts) t.coefficient (λ u. variable_count tree t.variable u *ℤ effect u)) in
     ap₂ (λ a b. (t.coefficient *ℤ a) +ℤ b) here rest
@@ -129,7 +133,9 @@ further_over b make y f h x (t ∷ ts) (k, made, (g, added, rest)) p each_over =
     assoc x y z = omega (arith, ints)
 
 -- the coefficient of the free label f is worth its own count, and what the dependent labels add; b is a multiple of each d
-pub coefficient_over : (lts : System) (basis : CycleBasis) (counts : ℕ → ℤ) (f : ℕ) (h : Ratio) (b : ℤ) (part : ℕ → ℤ) → ((t : ℕ) → Contains (dependent_labels (labels lts) basis) t → b ≡ (basis.relation t).d *ℤ part t) → coefficient_fold (labels lts) basis counts f (Ok h) → IsOver b h ((counts f *ℤ b) +ℤ sum_over (λ t. counts t *ℤ ((basis.relation t).coefficient f *ℤ part t)) (dependent_labels (labels lts) basis))
+pub coefficient_over : (lts : System) (basis : CycleBasis) (counts : ℕ → ℤ) (f : ℕ) (h : Ratio) (b : ℤ) (part : ℕ → ℤ)
+    → ((t : ℕ) → Contains (dependent_labels (labels lts) basis) t → b ≡ (basis.relation t).d *ℤ part t) → coefficient_fold (labels lts) basis counts f (Ok h)
+    → IsOver b h ((counts f *ℤ b) +ℤ sum_over (λ t. counts t *ℤ ((basis.relation t).coefficient f *ℤ part t)) (dependent_labels (labels lts) basis))
 coefficient_over lts basis counts f h b part divides fold = further_over b (dependent_term basis counts f) (λ t. counts t *ℤ ((basis.relation t).coefficient f *ℤ part t)) (whole (counts f)) h (counts f *ℤ b) (dependent_labels (labels lts) basis) fold (whole_over b (counts f)) made
   where
     made : (t : ℕ) (k : Ratio) → Contains (dependent_labels (labels lts) basis) t → dependent_term basis counts f t (Ok k) → IsOver b k (counts t *ℤ ((basis.relation t).coefficient f *ℤ part t))

@@ -138,7 +138,9 @@ both_sums test g a (suc n) = go (test a) (both_sums test g (suc a) n)
         none : (x y : ℤ) → (pos 0 +ℤ x) +ℤ y ≡ x +ℤ y
         none x y = omega (arith, ints)
 
-    go : (b : Bool) → sum_over g (numbers_where test (suc a) n) +ℤ sum_over g (numbers_where (λ t. not (test t)) (suc a) n) ≡ sum_below n (λ i. g (suc a + i)) → sum_over g (if b then (a ∷ numbers_where test (suc a) n) else numbers_where test (suc a) n) +ℤ sum_over g (if not b then (a ∷ numbers_where (λ t. not (test t)) (suc a) n) else numbers_where (λ t. not (test t)) (suc a) n) ≡ sum_below (suc n) (λ i. g (a + i))
+    go : (b : Bool) → sum_over g (numbers_where test (suc a) n) +ℤ sum_over g (numbers_where (λ t. not (test t)) (suc a) n) ≡ sum_below n (λ i. g (suc a + i))
+        → sum_over g (if b then (a ∷ numbers_where test (suc a) n) else numbers_where test (suc a) n) +ℤ sum_over g
+        (if not b then (a ∷ numbers_where (λ t. not (test t)) (suc a) n) else numbers_where (λ t. not (test t)) (suc a) n) ≡ sum_below (suc n) (λ i. g (a + i))
     go true ih = close (g a) (sum_over g (numbers_where test (suc a) n)) (sum_over g (numbers_where (λ t. not (test t)) (suc a) n)) (sum_below n (λ i. g (suc a + i))) ih ∙ sym front
       where
         close : (x y z s : ℤ) → y +ℤ z ≡ s → (x +ℤ y) +ℤ z ≡ x +ℤ s

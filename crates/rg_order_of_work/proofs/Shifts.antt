@@ -8,7 +8,9 @@ use Rattle.rg_theory.specs.declared.Problem.{Problem}
 use Rattle.rg_theory.specs.declared.Problem.TheVariants.{Event, States}
 use Rattle.rg_theory.specs.System.{System, states}
 use Rattle.rg_refuting.specs.Expression.{Variable, Variable.tokens_at, Variable.effect_of}
-use Rattle.rg_refuting.specs.Row.{RowName, RowName.arc_row, RowName.tokens_row, RowName.cap_row, RowName.up_row, RowName.down_row, RowName.makes_row, RowName.stop_row, RowName.block_row, RowName.empty_row, RowName.full_row, RowName.keep_row, RowName.apart_row, RowName.above_row, SharedStands, RowStands, shared_expression, row_expression, apart_expression, order_of, consumer_of}
+use Rattle.rg_refuting.specs.Row.{RowName, RowName.arc_row, RowName.tokens_row, RowName.cap_row, RowName.up_row, RowName.down_row, RowName.makes_row, RowName.stop_row}
+use Rattle.rg_refuting.specs.Row.{RowName.block_row, RowName.empty_row, RowName.full_row, RowName.keep_row, RowName.apart_row, RowName.above_row, SharedStands, RowStands}
+use Rattle.rg_refuting.specs.Row.{shared_expression, row_expression, apart_expression, order_of, consumer_of}
 use Rattle.rg_order_of_work.specs.Rewriting.{has_start}
 use Rattle.rg_order_of_work.specs.Meaning.{value_over, IsTokensRow, shifted}
 
@@ -38,7 +40,9 @@ three k by a e b x f y p r q = omega (arith, ints)
 one_effect : (k e f : ℤ) → f ≡ e → ((pos 1 *ℤ e) +ℤ pos 0) +ℤ k ≡ ((pos 1 *ℤ f) +ℤ pos 0) +ℤ k
 one_effect k e f p = omega (arith, ints)
 
-shared_value : (lts : System) (class : Class) (consumer : ℕ) (scale by : ℤ) (x y : Variable → ℤ) (name : RowName) → has_start class ≡ false → IsShift by x y → SharedStands lts class consumer [] name → ¬ IsTokensRow name → value_over scale x (shared_expression lts class [] name) ≡ value_over scale y (shared_expression lts class [] name)
+shared_value : (lts : System) (class : Class) (consumer : ℕ) (scale by : ℤ) (x y : Variable → ℤ) (name : RowName) → has_start class ≡ false → IsShift by x y
+    → SharedStands lts class consumer [] name → ¬ IsTokensRow name → value_over scale x (shared_expression lts class [] name) ≡ value_over scale y
+    (shared_expression lts class [] name)
 shared_value lts class consumer scale by x y (arc_row q t q') none (tokens, effects) stands other = three (pos 0 *ℤ scale) by (x (tokens_at q)) (x (effect_of t)) (x (tokens_at q')) (y (tokens_at q)) (y (effect_of t)) (y (tokens_at q')) (tokens q) (effects t) (tokens q')
 shared_value lts class consumer scale by x y (tokens_row q) none shift stands other = absurd (other tt)
 shared_value lts class consumer scale by x y (cap_row q) none shift (lt, some) other = both (is_some class.bound) (no_words class none).2 some
@@ -57,7 +61,9 @@ apart_value : (s s' order : ℕ) (scale by : ℤ) (x y : Variable → ℤ) → I
 apart_value s s' zero scale by x y (tokens, effects) = two (negsuc 0 *ℤ scale) by (x (tokens_at s')) (x (tokens_at s)) (y (tokens_at s')) (y (tokens_at s)) (tokens s') (tokens s)
 apart_value s s' (suc order) scale by x y (tokens, effects) = two (negsuc 0 *ℤ scale) by (x (tokens_at s)) (x (tokens_at s')) (y (tokens_at s)) (y (tokens_at s')) (tokens s) (tokens s')
 
-event_value : (lts : System) (class : Class) (s t number : ℕ) (scale by : ℤ) (x y : Variable → ℤ) (name : RowName) → has_start class ≡ false → IsShift by x y → RowStands lts class (Event s t) number [] name → ¬ IsTokensRow name → value_over scale x (row_expression lts class (Event s t) number [] name) ≡ value_over scale y (row_expression lts class (Event s t) number [] name)
+event_value : (lts : System) (class : Class) (s t number : ℕ) (scale by : ℤ) (x y : Variable → ℤ) (name : RowName) → has_start class ≡ false → IsShift by x y
+    → RowStands lts class (Event s t) number [] name → ¬ IsTokensRow name → value_over scale x (row_expression lts class (Event s t) number [] name) ≡ value_over scale y
+    (row_expression lts class (Event s t) number [] name)
 event_value lts class s t number scale by x y (stop_row q) none (tokens, effects) stands other = two (negsuc 0 *ℤ scale) by (x (tokens_at q)) (x (tokens_at s)) (y (tokens_at q)) (y (tokens_at s)) (tokens q) (tokens s)
 event_value lts class s t number scale by x y block_row none shift pure other = both class.pure (no_words class none).0 pure
 event_value lts class s t number scale by x y empty_row none shift (plain, pure) other = both class.plain (no_words class none).1 plain
@@ -65,12 +71,16 @@ event_value lts class s t number scale by x y (full_row q) none shift (plain, pu
 event_value lts class s t number scale by x y keep_row none shift (plain, pure) other = both class.plain (no_words class none).1 plain
 event_value lts class s t number scale by x y name none shift stands other = shared_value lts class t scale by x y name none shift stands other
 
-state_value : (lts : System) (class : Class) (s s' number : ℕ) (scale by : ℤ) (x y : Variable → ℤ) (name : RowName) → has_start class ≡ false → IsShift by x y → RowStands lts class (States s s') number [] name → ¬ IsTokensRow name → value_over scale x (row_expression lts class (States s s') number [] name) ≡ value_over scale y (row_expression lts class (States s s') number [] name)
+state_value : (lts : System) (class : Class) (s s' number : ℕ) (scale by : ℤ) (x y : Variable → ℤ) (name : RowName) → has_start class ≡ false → IsShift by x y
+    → RowStands lts class (States s s') number [] name → ¬ IsTokensRow name
+    → value_over scale x (row_expression lts class (States s s') number [] name) ≡ value_over scale y (row_expression lts class (States s s') number [] name)
 state_value lts class s s' number scale by x y apart_row none shift stands other = apart_value s s' (order_of lts class number) scale by x y shift
 state_value lts class s s' number scale by x y name none shift stands other = shared_value lts class (consumer_of lts number) scale by x y name none shift stands other
 
 -- a shift changes no value of such a row
-pub same_value : (lts : System) (class : Class) (problem : Problem) (number : ℕ) (scale by : ℤ) (x y : Variable → ℤ) (name : RowName) → has_start class ≡ false → IsShift by x y → RowStands lts class problem number [] name → ¬ IsTokensRow name → value_over scale x (row_expression lts class problem number [] name) ≡ value_over scale y (row_expression lts class problem number [] name)
+pub same_value : (lts : System) (class : Class) (problem : Problem) (number : ℕ) (scale by : ℤ) (x y : Variable → ℤ) (name : RowName) → has_start class ≡ false
+    → IsShift by x y → RowStands lts class problem number [] name → ¬ IsTokensRow name
+    → value_over scale x (row_expression lts class problem number [] name) ≡ value_over scale y (row_expression lts class problem number [] name)
 same_value lts class (Event s t) number scale by x y name none shift stands other = event_value lts class s t number scale by x y name none shift stands other
 same_value lts class (States s s') number scale by x y name none shift stands other = state_value lts class s s' number scale by x y name none shift stands other
 

@@ -12,7 +12,7 @@ use Rattle.std.proofs.Math.IntN.{*ℤ_comm}
 use Rattle.rg_integers.proofs.Order.{mul_positive, factor_positive, quotient_positive, same_sign}
 use Rattle.rg_integers.specs.Divisor.{int_gcd, gcd_of}
 use Rattle.rg_integers.proofs.Divisors.{gcd_of-is, exact}
-use Rattle.rg_fraction.specs.declared.term.Wide.{Wide}
+use Rattle.rg_integers.specs.declared.term.Wide.{Wide}
 use Rattle.rg_order_of_work.specs.Fold.{gives, each, further, Ratio, whole, add, common_multiple, multiple_of_all}
 use Rattle.rg_order_of_work.specs.Chords.{chord_system, IsBasis}
 use Rattle.rg_order_of_work.specs.Rewriting.{has_label, free_labels, dependent_labels, start_of, count_of, dependent_term, coefficient_fold, has_start, pick, columns_of, Scaled, terms_fold, KeptRow, row_fold}
@@ -50,7 +50,9 @@ further_positive make f h (t ∷ ts) p (k, made, (g, (_, _, added), rest)) = fur
 
 picked_positive : (lts : System) (basis : CycleBasis) (counts : ℕ → ℤ) (test : ℕ → Bool) (fs : List ℕ) (rs : List Ratio) → each (coefficient_fold (labels lts) basis counts) fs (Ok rs) → AllPositive (map (λ r. r.bottom) (pick test fs rs))
 picked_positive lts basis counts test [] rs e = tt
-picked_positive lts basis counts test (f ∷ fs) rs (h, is, (rest, each_is, e)) = subst (λ (l : List Ratio). AllPositive (map (λ r. r.bottom) (pick test (f ∷ fs) l))) (sym e) (go (test f) (further_positive (dependent_term basis counts f) (whole (counts f)) h (dependent_labels (labels lts) basis) (omega (arith, ints)) is) (picked_positive lts basis counts test fs rest each_is))
+picked_positive lts basis counts test (f ∷ fs) rs (h, is, (rest, each_is, e)) = subst (λ (l : List Ratio). AllPositive (map (λ r. r.bottom) (pick test (f ∷ fs) l)))
+    (sym e) (go (test f) (further_positive (dependent_term basis counts f) (whole (counts f)) h (dependent_labels (labels lts) basis) (omega (arith, ints)) is)
+    (picked_positive lts basis counts test fs rest each_is))
   where
     go : (t : Bool) → pos 0 <ℤ h.bottom → AllPositive (map (λ r. r.bottom) (pick test fs rest)) → AllPositive (map (λ r. r.bottom) (if t then (h ∷ pick test fs rest) else pick test fs rest))
     go true p q = (p, q)
@@ -73,7 +75,13 @@ factor_is_positive lts tree basis class name e out (scaled, terms, (constant, pr
     not_negative n = omega (arith, ints)
 
 -- the row is met exactly where its named row is
-pub row_is_met : (lts : System) (tree : List Arc) (basis : CycleBasis) (class : Class) (name : RowName) (e : Expression) (start : ℤ) (effect : ℕ → ℤ) (scale : ℤ) (out : KeptRow) → IsBasis lts tree basis → NamesLabels (labels lts) e.terms → (has_start class ≡ false → start ≡ pos 0) → FollowsRelations (chord_system lts tree basis.kept) basis.members effect → UnusedAreZero lts effect → row_fold lts tree basis class name e (Ok out) → (pos 0 ≤ℤ (dot out.row.coeffs (column_values lts basis class start effect) +ℤ (out.row.constant *ℤ scale))) ↔ (pos 0 ≤ℤ (value_in (numbers_along lts tree start effect) e.terms +ℤ (e.constant *ℤ scale)))
+pub row_is_met : (lts : System) (tree : List Arc) (basis : CycleBasis) (class : Class) (name : RowName) (e : Expression) (start : ℤ) (effect : ℕ → ℤ) (scale : ℤ)
+    (out : KeptRow) → IsBasis lts tree basis → NamesLabels (labels lts) e.terms → (has_start class ≡ false → start ≡ pos 0)
+    → FollowsRelations (chord_system lts tree basis.kept) basis.members effect → UnusedAreZero lts effect → row_fold lts tree basis class name e (Ok out)
+    → (pos 0 ≤ℤ (dot out.row.coeffs (column_values lts basis class start effect) +ℤ (out.row.constant *ℤ scale))) ↔
+    (pos 0 ≤ℤ (value_in (numbers_along lts tree start effect) e.terms +ℤ (e.constant *ℤ scale)))
 row_is_met lts tree basis class name e start effect scale out is names no_start follows unused fold =
     let (t, u) = factor_is_positive lts tree basis class name e out fold in
-    same_sign out.factor.top out.factor.bottom (dot out.row.coeffs (column_values lts basis class start effect) +ℤ (out.row.constant *ℤ scale)) (value_in (numbers_along lts tree start effect) e.terms +ℤ (e.constant *ℤ scale)) t u (row_value_is lts tree basis class name e start effect scale out is names no_start follows unused fold)
+    same_sign out.factor.top out.factor.bottom (dot out.row.coeffs (column_values lts basis class start effect) +ℤ (out.row.constant *ℤ scale))
+    (value_in (numbers_along lts tree start effect) e.terms +ℤ (e.constant *ℤ scale)) t u
+    (row_value_is lts tree basis class name e start effect scale out is names no_start follows unused fold)

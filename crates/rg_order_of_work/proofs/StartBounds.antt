@@ -62,7 +62,8 @@ tree_short lts tree fine g =
     let start : List ℕ = lts.initial ∷ [] in
     let alone : IsDistinct start = ((λ has. (let lt = has.1 in omega arith)), tt) in
     let within : (s : ℕ) → Contains (met_after start tree) s → s < states lts = met_below lts start tree fine g (λ s has. ⊎_elim (λ e. subst (λ x. x < states lts) e fine.initial) (λ none. absurd (let lt = none.1 in omega arith)) (Contains-cons_cases lts.initial s [] has)) in
-    let few = no_more (met_after start tree) (numbers_from 0 (states lts)) (order_from_increasing (numbers_from 0 (states lts)) (numbers_from-ordered 0 (states lts))) (met_distinct lts start tree g alone) (λ m has. Contains-numbers_from 0 (states lts) m (omega arith) (omega (arith, within m has))) in
+    let few = no_more (met_after start tree) (numbers_from 0 (states lts)) (order_from_increasing (numbers_from 0 (states lts)) (numbers_from-ordered 0 (states lts)))
+    (met_distinct lts start tree g alone) (λ m has. Contains-numbers_from 0 (states lts) m (omega arith) (omega (arith, within m has))) in
     omega (arith, few, met_long start tree, length-numbers_from 0 (states lts))
 
 pub way_below : (lts : System) (tree : List Arc) (s : ℕ) → IsInRange lts → IsTree lts tree → length (way_to tree s) < states lts
@@ -83,7 +84,9 @@ times_most zero (suc b) k le h = omega (arith, ints, times_more b k, times_most 
 times_most (suc a) zero k le h = absurd (omega arith)
 times_most (suc a) (suc b) k le h = omega (arith, ints, times_more a k, times_more b k, times_most a b k (omega arith) h)
 
-module _ (lts : System) (tree : List Arc) (class : Class) (s t n : ℕ) (k start : ℤ) (effect : ℕ → ℤ) (fine : IsInRange lts) (g : IsTree lts tree) (reach : IsReachable lts s) (in_range : t < labels lts) (plain : class.plain ≡ true) (scale : pos 0 ≤ℤ k) (keeps : KeepsRowsOver lts class (Event s t) n k (numbers_along lts tree start effect)) where
+module _ (lts : System) (tree : List Arc) (class : Class) (s t n : ℕ) (k start : ℤ) (effect : ℕ → ℤ) (fine : IsInRange lts) (g : IsTree lts tree)
+    (reach : IsReachable lts s) (in_range : t < labels lts) (plain : class.plain ≡ true) (scale : pos 0 ≤ℤ k)
+    (keeps : KeepsRowsOver lts class (Event s t) n k (numbers_along lts tree start effect)) where
   down : (u : ℕ) → u < labels lts → pos 0 ≤ℤ (effect u +ℤ k)
   down u lt = close (effect u) (keeps (down_row u) (lt, plain))
     where

@@ -12,7 +12,7 @@ use Rattle.rg_refuting.specs.Row.{RowName, row_expression}
 use Rattle.rg_linear.specs.System.{LinearRow}
 use Rattle.rg_linear.specs.Cycle.{FollowsRelations, CycleBasis}
 use Rattle.rg_integers.proofs.Order.{mul_not_negative}
-use Rattle.rg_fraction.specs.declared.term.Wide.{Wide}
+use Rattle.rg_integers.specs.declared.term.Wide.{Wide}
 use Rattle.rg_order_of_work.specs.Fold.{each}
 use Rattle.rg_order_of_work.specs.Chords.{chord_system, IsBasis}
 use Rattle.rg_order_of_work.specs.Rewriting.{has_start, names_of, KeptRow, IsIdle, row_fold, CaseSystem, system_fold}
@@ -64,7 +64,11 @@ idle_is_met k values scale h (zeros, constant) =
     close : (d p : ℤ) → d ≡ pos 0 → pos 0 ≤ℤ p → pos 0 ≤ℤ (d +ℤ p)
     close d p e h = omega (arith, ints)
 
-pub system_is_met : (lts : System) (tree : List Arc) (basis : CycleBasis) (class : Class) (problem : Problem) (number : ℕ) (start : ℤ) (effect : ℕ → ℤ) (scale : ℤ) (case : CaseSystem) → IsBasis lts tree basis → ((name : RowName) → Contains (names_of lts class problem number) name → NamesLabels (labels lts) (row_expression lts class problem number [] name).terms) → pos 0 <ℤ scale → (has_start class ≡ false → start ≡ pos 0) → FollowsRelations (chord_system lts tree basis.kept) basis.members effect → UnusedAreZero lts effect → system_fold lts tree basis class problem number (Ok case)
+pub system_is_met : (lts : System) (tree : List Arc) (basis : CycleBasis) (class : Class) (problem : Problem) (number : ℕ) (start : ℤ) (effect : ℕ → ℤ) (scale : ℤ)
+    (case : CaseSystem) → IsBasis lts tree basis
+    → ((name : RowName) → Contains (names_of lts class problem number) name → NamesLabels (labels lts) (row_expression lts class problem number [] name).terms)
+    → pos 0 <ℤ scale → (has_start class ≡ false → start ≡ pos 0) → FollowsRelations (chord_system lts tree basis.kept) basis.members effect → UnusedAreZero lts effect
+    → system_fold lts tree basis class problem number (Ok case)
     → ((k : KeptRow) → Contains case.kept k → RowIsMet (column_values lts basis class start effect) scale k) ↔ ((name : RowName) → Contains (names_of lts class problem number) name → NameIsMet lts tree start effect scale (row_expression lts class problem number [] name))
 system_is_met lts tree basis class problem number start effect scale case is names positive no_start follows unused (all, made, (forms, forms_made, (columns, keeps, form_list))) = (
   (λ met name has. (let (k, has', fold) = made_of (λ n. row_fold lts tree basis class n (row_expression lts class problem number [] n)) (names_of lts class problem number) all name made has in

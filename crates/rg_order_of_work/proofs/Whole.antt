@@ -8,7 +8,9 @@ use Rattle.rg_theory.specs.declared.Problem.{Problem}
 use Rattle.rg_theory.specs.declared.Problem.TheVariants.{Event, States}
 use Rattle.rg_theory.specs.System.{System}
 use Rattle.rg_refuting.specs.Expression.{Variable, Term, value_in, numbers_by}
-use Rattle.rg_refuting.specs.Row.{RowName, RowName.arc_row, RowName.tokens_row, RowName.cap_row, RowName.up_row, RowName.down_row, RowName.makes_row, RowName.stop_row, RowName.block_row, RowName.empty_row, RowName.full_row, RowName.keep_row, RowName.apart_row, RowName.above_row, SharedStands, RowStands, shared_expression, row_expression, apart_expression, order_of, consumer_of, Says}
+use Rattle.rg_refuting.specs.Row.{RowName, RowName.arc_row, RowName.tokens_row, RowName.cap_row, RowName.up_row, RowName.down_row, RowName.makes_row, RowName.stop_row}
+use Rattle.rg_refuting.specs.Row.{RowName.block_row, RowName.empty_row, RowName.full_row, RowName.keep_row, RowName.apart_row, RowName.above_row, SharedStands, RowStands}
+use Rattle.rg_refuting.specs.Row.{shared_expression, row_expression, apart_expression, order_of, consumer_of, Says}
 use Rattle.rg_integers.proofs.ListSums.{sum_over-same}
 use Rattle.rg_order_of_work.specs.Meaning.{value_over, RowHolds, KeepsRowsOver, HasSolution, HasWholeSolutionIn}
 use Rattle.rg_order_of_work.proofs.CaseRows.{IsArcRow, says, said}
@@ -75,10 +77,13 @@ arc_at_one lts class (States s s') number scale x q t q' h = close (value_in x (
     close : (v k : ℤ) → v +ℤ (pos 0 *ℤ k) ≡ pos 0 → v +ℤ (pos 0 *ℤ pos 1) ≡ pos 0
     close v k h = omega (arith, ints)
 
-other_at_one : (lts : System) (class : Class) (problem : Problem) (number : ℕ) (scale : ℤ) (x : Variable → ℤ) (name : RowName) → ¬ IsArcRow name → class.plain ≡ false → IsNone class.bound → pos 0 <ℤ scale → RowStands lts class problem number [] name → RowHolds lts class problem number scale x name → RowHolds lts class problem number (pos 1) x name
+other_at_one : (lts : System) (class : Class) (problem : Problem) (number : ℕ) (scale : ℤ) (x : Variable → ℤ) (name : RowName) → ¬ IsArcRow name → class.plain ≡ false
+    → IsNone class.bound → pos 0 <ℤ scale → RowStands lts class problem number [] name → RowHolds lts class problem number scale x name
+    → RowHolds lts class problem number (pos 1) x name
 other_at_one lts class problem number scale x name not_arc plain bound positive stands h =
     says name (value_over (pos 1) x (row_expression lts class problem number [] name)) not_arc
-    (not_negative_row (value_in x (row_expression lts class problem number [] name).terms) (row_expression lts class problem number [] name).constant scale (low lts class problem number name plain bound stands) positive (said name (value_over scale x (row_expression lts class problem number [] name)) h))
+    (not_negative_row (value_in x (row_expression lts class problem number [] name).terms) (row_expression lts class problem number [] name).constant scale
+    (low lts class problem number name plain bound stands) positive (said name (value_over scale x (row_expression lts class problem number [] name)) h))
 
 pub at_one : (lts : System) (class : Class) (problem : Problem) (number : ℕ) (scale : ℤ) (x : Variable → ℤ) → class.plain ≡ false → IsNone class.bound → pos 0 <ℤ scale → KeepsRowsOver lts class problem number scale x → KeepsRowsOver lts class problem number (pos 1) x
 at_one lts class problem number scale x plain bound positive keeps (arc_row q t q') stands = arc_at_one lts class problem number scale x q t q' (keeps (arc_row q t q') stands)
@@ -87,7 +92,10 @@ at_one lts class problem number scale x plain bound positive keeps name stands =
 -- ---- tokens that are not negative
 
 pub same_numbers : (lts : System) (class : Class) (problem : Problem) (number : ℕ) (x y : Variable → ℤ) → ((v : Variable) → x v ≡ y v) → KeepsRowsOver lts class problem number (pos 1) x → KeepsRowsOver lts class problem number (pos 1) y
-same_numbers lts class problem number x y same keeps name stands = subst (Says name) (ap (λ z. z +ℤ ((row_expression lts class problem number [] name).constant *ℤ pos 1)) (sum_over-same (λ (t : Term). t.coefficient *ℤ x t.variable) (λ (t : Term). t.coefficient *ℤ y t.variable) (row_expression lts class problem number [] name).terms (λ t has. ap (λ z. t.coefficient *ℤ z) (same t.variable)))) (keeps name stands)
+same_numbers lts class problem number x y same keeps name stands = subst (Says name)
+    (ap (λ z. z +ℤ ((row_expression lts class problem number [] name).constant *ℤ pos 1))
+    (sum_over-same (λ (t : Term). t.coefficient *ℤ x t.variable) (λ (t : Term). t.coefficient *ℤ y t.variable) (row_expression lts class problem number [] name).terms
+    (λ t has. ap (λ z. t.coefficient *ℤ z) (same t.variable)))) (keeps name stands)
 
 pub tokens_stand : (lts : System) (class : Class) (problem : Problem) (number q : ℕ) → RowStands lts class problem number [] (tokens_row q)
 tokens_stand lts class (Event s t) number q = tt

@@ -12,7 +12,9 @@ use Rattle.rg_integers.proofs.Ring.{ring}
 use Rattle.rg_integers.proofs.Order.{mul-cancel_left, positive_differs}
 use Rattle.rg_linear.proofs.Branches.{positive_times_most}
 use Rattle.rg_refuting.specs.Expression.{Variable, Variable.tokens_at, Variable.effect_of}
-use Rattle.rg_refuting.specs.Row.{RowName, RowName.arc_row, RowName.tokens_row, RowName.cap_row, RowName.up_row, RowName.down_row, RowName.makes_row, RowName.stop_row, RowName.block_row, RowName.empty_row, RowName.full_row, RowName.keep_row, RowName.apart_row, RowName.above_row, SharedStands, RowStands, shared_expression, apart_expression, order_of, consumer_of, Says}
+use Rattle.rg_refuting.specs.Row.{RowName, RowName.arc_row, RowName.tokens_row, RowName.cap_row, RowName.up_row, RowName.down_row, RowName.makes_row, RowName.stop_row}
+use Rattle.rg_refuting.specs.Row.{RowName.block_row, RowName.empty_row, RowName.full_row, RowName.keep_row, RowName.apart_row, RowName.above_row, SharedStands, RowStands}
+use Rattle.rg_refuting.specs.Row.{shared_expression, apart_expression, order_of, consumer_of, Says}
 use Rattle.rg_refuting.specs.Refutes.{IsSeparationProblem}
 use Rattle.rg_order_of_work.specs.Rewriting.{has_label}
 use Rattle.rg_order_of_work.specs.Shown.{IsLive}
@@ -107,7 +109,9 @@ effect_down lts scale x y t c parts weak h = ⊎_elim
     none : (c : ℤ) → pos 0 ≤ℤ c → pos 0 ≤ℤ (((negsuc 0 *ℤ pos 0) +ℤ pos 0) +ℤ (c *ℤ pos 1))
     none c h = let one : c *ℤ pos 1 ≡ c = simp ring in omega (arith, ints)
 
-shared_parts : (lts : System) (class : Class) (consumer : ℕ) (scale : ℤ) (x y : Variable → ℤ) (name : RowName) → IsInRange lts → AreWholeParts lts scale x y → ((q : ℕ) → pos 0 ≤ℤ y (tokens_at q)) → SharedStands lts class consumer [] name → Says name (value_over scale x (shared_expression lts class [] name)) → Says name (value_over (pos 1) y (shared_expression lts class [] name))
+shared_parts : (lts : System) (class : Class) (consumer : ℕ) (scale : ℤ) (x y : Variable → ℤ) (name : RowName) → IsInRange lts → AreWholeParts lts scale x y
+    → ((q : ℕ) → pos 0 ≤ℤ y (tokens_at q)) → SharedStands lts class consumer [] name → Says name (value_over scale x (shared_expression lts class [] name))
+    → Says name (value_over (pos 1) y (shared_expression lts class [] name))
 shared_parts lts class consumer scale x y (arc_row q t q') fine parts tokens has h =
     let ranges = arc_in_range lts fine q t q' has in
     along scale (x (tokens_at q)) (x (effect_of t)) (x (tokens_at q')) (y (tokens_at q)) (y (effect_of t)) (y (tokens_at q')) parts.rest parts.positive (parts.tokens q ranges.0) (parts.effects t (finds_label (record { from = q; label = t; to = q' }) lts.arcs has)) (parts.tokens q' ranges.2) h
@@ -124,7 +128,9 @@ shared_parts lts class consumer scale x y (full_row q) fine parts tokens stands 
 shared_parts lts class consumer scale x y keep_row fine parts tokens stands h = absurd stands
 shared_parts lts class consumer scale x y apart_row fine parts tokens stands h = absurd stands
 
-event_parts : (lts : System) (class : Class) (s t number : ℕ) (scale : ℤ) (x y : Variable → ℤ) (name : RowName) → IsInRange lts → s < states lts → has_label t lts.arcs ≡ true → AreWholeParts lts scale x y → ((q : ℕ) → pos 0 ≤ℤ y (tokens_at q)) → RowStands lts class (Event s t) number [] name → RowHolds lts class (Event s t) number scale x name → RowHolds lts class (Event s t) number (pos 1) y name
+event_parts : (lts : System) (class : Class) (s t number : ℕ) (scale : ℤ) (x y : Variable → ℤ) (name : RowName) → IsInRange lts → s < states lts
+    → has_label t lts.arcs ≡ true → AreWholeParts lts scale x y → ((q : ℕ) → pos 0 ≤ℤ y (tokens_at q)) → RowStands lts class (Event s t) number [] name
+    → RowHolds lts class (Event s t) number scale x name → RowHolds lts class (Event s t) number (pos 1) y name
 event_parts lts class s t number scale x y (stop_row q) fine lt live parts tokens (pure, plain, (q', has)) h = one_less scale (x (tokens_at q)) (x (tokens_at s)) (y (tokens_at q)) (y (tokens_at s)) parts.rest parts.positive (parts.tokens q (arc_in_range lts fine q t q' has).0) (parts.tokens s lt) h
 event_parts lts class s t number scale x y block_row fine lt live parts tokens stands h = both_down scale (x (tokens_at s)) (x (effect_of t)) (y (tokens_at s)) (y (effect_of t)) parts.rest parts.positive parts.not_negative (parts.tokens s lt) (parts.effects t live) h
 event_parts lts class s t number scale x y empty_row fine lt live parts tokens stands h = one_down scale (x (tokens_at s)) (y (tokens_at s)) parts.rest (pos 0) parts.positive parts.not_negative (parts.tokens s lt) h
@@ -136,10 +142,13 @@ apart_parts : (lts : System) (s s' order : ℕ) (scale : ℤ) (x y : Variable �
 apart_parts lts s s' zero scale x y lt lt' parts h = one_less scale (x (tokens_at s')) (x (tokens_at s)) (y (tokens_at s')) (y (tokens_at s)) parts.rest parts.positive (parts.tokens s' lt') (parts.tokens s lt) h
 apart_parts lts s s' (suc order) scale x y lt lt' parts h = one_less scale (x (tokens_at s)) (x (tokens_at s')) (y (tokens_at s)) (y (tokens_at s')) parts.rest parts.positive (parts.tokens s lt) (parts.tokens s' lt') h
 
-state_parts : (lts : System) (class : Class) (s s' number : ℕ) (scale : ℤ) (x y : Variable → ℤ) (name : RowName) → IsInRange lts → s < states lts → s' < states lts → AreWholeParts lts scale x y → ((q : ℕ) → pos 0 ≤ℤ y (tokens_at q)) → RowStands lts class (States s s') number [] name → RowHolds lts class (States s s') number scale x name → RowHolds lts class (States s s') number (pos 1) y name
+state_parts : (lts : System) (class : Class) (s s' number : ℕ) (scale : ℤ) (x y : Variable → ℤ) (name : RowName) → IsInRange lts → s < states lts → s' < states lts
+    → AreWholeParts lts scale x y → ((q : ℕ) → pos 0 ≤ℤ y (tokens_at q)) → RowStands lts class (States s s') number [] name
+    → RowHolds lts class (States s s') number scale x name → RowHolds lts class (States s s') number (pos 1) y name
 state_parts lts class s s' number scale x y apart_row fine lt lt' parts tokens stands h = apart_parts lts s s' (order_of lts class number) scale x y lt lt' parts h
 state_parts lts class s s' number scale x y name fine lt lt' parts tokens stands h = shared_parts lts class (consumer_of lts number) scale x y name fine parts tokens stands h
 
-pub whole_rows : (lts : System) (class : Class) (problem : Problem) (number : ℕ) (scale : ℤ) (x y : Variable → ℤ) → IsInRange lts → IsSeparationProblem lts problem → IsLive lts problem → AreWholeParts lts scale x y → KeepsRowsOver lts class problem number scale x → KeepsRowsOver lts class problem number (pos 1) y
+pub whole_rows : (lts : System) (class : Class) (problem : Problem) (number : ℕ) (scale : ℤ) (x y : Variable → ℤ) → IsInRange lts → IsSeparationProblem lts problem
+    → IsLive lts problem → AreWholeParts lts scale x y → KeepsRowsOver lts class problem number scale x → KeepsRowsOver lts class problem number (pos 1) y
 whole_rows lts class (Event s t) number scale x y fine (lt, _, _) live parts keeps name stands = event_parts lts class s t number scale x y name fine lt (live_label lts t live) parts (λ q. whole_tokens lts class (Event s t) number scale x y q parts keeps) stands (keeps name stands)
 whole_rows lts class (States s s') number scale x y fine (lt, lt', _) live parts keeps name stands = state_parts lts class s s' number scale x y name fine lt lt' parts (λ q. whole_tokens lts class (States s s') number scale x y q parts keeps) stands (keeps name stands)

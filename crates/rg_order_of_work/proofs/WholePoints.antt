@@ -95,54 +95,56 @@ label_found t (a ∷ arcs) e = go (a.label == t) refl e (label_found t arcs)
 
 -- ---- whole numbers, chosen
 
-module _ (lts : System) (k : ℤ) (positive : pos 0 <ℤ k) (x : Variable → ℤ) (rest : ℤ) (not_negative : pos 0 ≤ℤ rest) (below : rest <ℤ k) (tokens : (q : ℕ) → q < states lts → (u : ℤ) × (x (tokens_at q) ≡ (k *ℤ u) +ℤ rest)) (effects : (t : ℕ) → has_label t lts.arcs ≡ true → IsTimes k (x (effect_of t))) where
-  choose_tokens : (q : ℕ) → (q < states lts) ⊎ (states lts ≤ q) → ℤ
-  choose_tokens q (inl lt) = (tokens q lt).0
-  choose_tokens q (inr le) = pos 0
+module _ (lts : System) (k : ℤ) (positive : pos 0 <ℤ k) (x : Variable → ℤ) (rest : ℤ) (not_negative : pos 0 ≤ℤ rest) (below : rest <ℤ k)
+    (tokens : (q : ℕ) → q < states lts → (u : ℤ) × (x (tokens_at q) ≡ (k *ℤ u) +ℤ rest)) (effects : (t : ℕ) → has_label t lts.arcs ≡ true → IsTimes k (x (effect_of t)))
+  where
+    choose_tokens : (q : ℕ) → (q < states lts) ⊎ (states lts ≤ q) → ℤ
+    choose_tokens q (inl lt) = (tokens q lt).0
+    choose_tokens q (inr le) = pos 0
 
-  choose_effect : (t : ℕ) → (has_label t lts.arcs ≡ true) ⊎ (has_label t lts.arcs ≡ false) → ℤ
-  choose_effect t (inl e) = (effects t e).0
-  choose_effect t (inr e) = pos 0
+    choose_effect : (t : ℕ) → (has_label t lts.arcs ≡ true) ⊎ (has_label t lts.arcs ≡ false) → ℤ
+    choose_effect t (inl e) = (effects t e).0
+    choose_effect t (inr e) = pos 0
 
-  chosen : Variable → ℤ
-  chosen (tokens_at q) = choose_tokens q (cases_lt q (states lts))
-  chosen (effect_of t) = choose_effect t (cases_Bool (has_label t lts.arcs))
+    chosen : Variable → ℤ
+    chosen (tokens_at q) = choose_tokens q (cases_lt q (states lts))
+    chosen (effect_of t) = choose_effect t (cases_Bool (has_label t lts.arcs))
 
-  chosen_tokens : (q : ℕ) → q < states lts → x (tokens_at q) ≡ (k *ℤ chosen (tokens_at q)) +ℤ rest
-  unfolding chosen choose_tokens
-  chosen_tokens q lt = at (cases_lt q (states lts))
-    where
-      at : (d : (q < states lts) ⊎ (states lts ≤ q)) → x (tokens_at q) ≡ (k *ℤ choose_tokens q d) +ℤ rest
-      at (inl h) = (tokens q h).1
-      at (inr h) = absurd (omega arith)
+    chosen_tokens : (q : ℕ) → q < states lts → x (tokens_at q) ≡ (k *ℤ chosen (tokens_at q)) +ℤ rest
+    unfolding chosen choose_tokens
+    chosen_tokens q lt = at (cases_lt q (states lts))
+      where
+        at : (d : (q < states lts) ⊎ (states lts ≤ q)) → x (tokens_at q) ≡ (k *ℤ choose_tokens q d) +ℤ rest
+        at (inl h) = (tokens q h).1
+        at (inr h) = absurd (omega arith)
 
-  chosen_parts : AreWholeParts lts k x chosen
-  unfolding chosen choose_tokens choose_effect
-  chosen_parts = record {
-    positive = positive;
-    rest = rest;
-    not_negative = not_negative;
-    below = below;
-    tokens = chosen_tokens;
-    others = λ q le. past_tokens q le (cases_lt q (states lts));
-    effects = λ t e. at_effect t e (cases_Bool (has_label t lts.arcs));
-    unused = λ t e. past_effect t e (cases_Bool (has_label t lts.arcs));
-  }
-    where
-      past_tokens : (q : ℕ) → states lts ≤ q → (d : (q < states lts) ⊎ (states lts ≤ q)) → pos 0 ≤ℤ choose_tokens q d
-      past_tokens q le (inl h) = absurd (omega arith)
-      past_tokens q le (inr h) = omega (arith, ints)
+    chosen_parts : AreWholeParts lts k x chosen
+    unfolding chosen choose_tokens choose_effect
+    chosen_parts = record {
+      positive = positive;
+      rest = rest;
+      not_negative = not_negative;
+      below = below;
+      tokens = chosen_tokens;
+      others = λ q le. past_tokens q le (cases_lt q (states lts));
+      effects = λ t e. at_effect t e (cases_Bool (has_label t lts.arcs));
+      unused = λ t e. past_effect t e (cases_Bool (has_label t lts.arcs));
+    }
+      where
+        past_tokens : (q : ℕ) → states lts ≤ q → (d : (q < states lts) ⊎ (states lts ≤ q)) → pos 0 ≤ℤ choose_tokens q d
+        past_tokens q le (inl h) = absurd (omega arith)
+        past_tokens q le (inr h) = omega (arith, ints)
 
-      at_effect : (t : ℕ) → has_label t lts.arcs ≡ true → (d : (has_label t lts.arcs ≡ true) ⊎ (has_label t lts.arcs ≡ false)) → x (effect_of t) ≡ k *ℤ choose_effect t d
-      at_effect t e (inl h) = (effects t h).1
-      at_effect t e (inr h) = absurd (true≢false (sym e ∙ h))
+        at_effect : (t : ℕ) → has_label t lts.arcs ≡ true → (d : (has_label t lts.arcs ≡ true) ⊎ (has_label t lts.arcs ≡ false)) → x (effect_of t) ≡ k *ℤ choose_effect t d
+        at_effect t e (inl h) = (effects t h).1
+        at_effect t e (inr h) = absurd (true≢false (sym e ∙ h))
 
-      past_effect : (t : ℕ) → has_label t lts.arcs ≡ false → (d : (has_label t lts.arcs ≡ true) ⊎ (has_label t lts.arcs ≡ false)) → choose_effect t d ≡ pos 0
-      past_effect t e (inl h) = absurd (true≢false (sym h ∙ e))
-      past_effect t e (inr h) = refl
+        past_effect : (t : ℕ) → has_label t lts.arcs ≡ false → (d : (has_label t lts.arcs ≡ true) ⊎ (has_label t lts.arcs ≡ false)) → choose_effect t d ≡ pos 0
+        past_effect t e (inl h) = absurd (true≢false (sym h ∙ e))
+        past_effect t e (inr h) = refl
 
-  pub some_parts : (y : Variable → ℤ) × AreWholeParts lts k x y × ((q : ℕ) → q < states lts → x (tokens_at q) ≡ (k *ℤ y (tokens_at q)) +ℤ rest)
-  some_parts = (chosen, chosen_parts, chosen_tokens)
+    pub some_parts : (y : Variable → ℤ) × AreWholeParts lts k x y × ((q : ℕ) → q < states lts → x (tokens_at q) ≡ (k *ℤ y (tokens_at q)) +ℤ rest)
+    some_parts = (chosen, chosen_parts, chosen_tokens)
 
 -- whole numbers that keep the rows are a solution where the class allows their start
 solve_kept : (lts : System) (class : Class) (problem : Problem) (number : ℕ) (y : Variable → ℤ) → AllowsStart class (unsigned_abs (y (tokens_at lts.initial))) → KeepsRowsOver lts class problem number (pos 1) y → HasWholeSolutionIn lts class problem number
@@ -159,7 +161,9 @@ solve_kept lts class problem number y allows keeps = (
     same (effect_of t) = refl
 
 -- whole parts do
-solve_parts : (lts : System) (class : Class) (problem : Problem) (number : ℕ) (k : ℤ) (x y : Variable → ℤ) → IsInRange lts → IsSeparationProblem lts problem → IsLive lts problem → AllowsStart class (unsigned_abs (y (tokens_at lts.initial))) → AreWholeParts lts k x y → KeepsRowsOver lts class problem number k x → HasWholeSolutionIn lts class problem number
+solve_parts : (lts : System) (class : Class) (problem : Problem) (number : ℕ) (k : ℤ) (x y : Variable → ℤ) → IsInRange lts → IsSeparationProblem lts problem
+    → IsLive lts problem → AllowsStart class (unsigned_abs (y (tokens_at lts.initial))) → AreWholeParts lts k x y → KeepsRowsOver lts class problem number k x
+    → HasWholeSolutionIn lts class problem number
 solve_parts lts class problem number k x y fine asked live allows parts keeps = solve_kept lts class problem number y allows (whole_rows lts class problem number k x y fine asked live parts keeps)
 
 -- in a problem of two states and a class without bound the class allows their start after a lift
@@ -213,52 +217,69 @@ allowed class m some = by class.marking some
     by None h = tt
     by (Some n) h = h refl
 
-module _ (lts : System) (tree : List Arc) (basis : CycleBasis) (class : Class) (problem : Problem) (number : ℕ) (fine : IsInRange lts) (g : IsTree lts tree) (k : ℤ) (positive : pos 0 <ℤ k) (start : ℤ) (effect : ℕ → ℤ) (e : AreEffects lts tree basis effect) (keeps : KeepsRowsOver lts class problem number k (numbers_along lts tree start effect)) (whole : (split : SplitForm) → Contains (split_forms lts class problem) split → IsTimes k (numbers_along lts tree start effect (form_variable lts.initial split))) (starts : splits_start class problem ≡ true → (u : ℤ) × (numbers_along lts tree start effect (tokens_at lts.initial) ≡ k *ℤ (pos (unwrap_or class.marking 1) *ℤ u))) where
-  -- where all tokens are whole
-  pub bounded_parts : is_some class.bound ≡ true → (y : Variable → ℤ) × AreWholeParts lts k (numbers_along lts tree start effect) y × AllowsStart class (unsigned_abs (y (tokens_at lts.initial)))
-  bounded_parts bound =
-      let tokens : (q : ℕ) → q < states lts → (u : ℤ) × (numbers_along lts tree start effect (tokens_at q) ≡ (k *ℤ u) +ℤ pos 0) = λ q lt. (let (u, h) = whole (on_tokens q) (bounded_has lts class problem q bound lt) in (u, more _ _ h)) in
-      let effects : (t : ℕ) → has_label t lts.arcs ≡ true → IsTimes k (effect t) = λ t h. of_arc t (label_found t lts.arcs h) in
-      let (y, parts, exact) = some_parts lts k positive (numbers_along lts tree start effect) (pos 0) (omega (arith, ints)) positive tokens effects in
-      (y, parts, allowed class (unsigned_abs (y (tokens_at lts.initial))) (λ some. (let (u, h) = starts (bounded_splits class problem some bound) in allows_by class (y (tokens_at lts.initial)) u (start_steps (unwrap_or class.marking 1) k (numbers_along lts tree start effect (tokens_at lts.initial)) (y (tokens_at lts.initial)) (pos 0) u (omega (arith, ints)) positive (exact lts.initial fine.initial) h))))
-    where
-      more : (z y : ℤ) → z ≡ y → z ≡ y +ℤ pos 0
-      more z y e = omega (arith, ints)
+module _ (lts : System) (tree : List Arc) (basis : CycleBasis) (class : Class) (problem : Problem) (number : ℕ) (fine : IsInRange lts) (g : IsTree lts tree) (k : ℤ)
+    (positive : pos 0 <ℤ k) (start : ℤ) (effect : ℕ → ℤ) (e : AreEffects lts tree basis effect)
+    (keeps : KeepsRowsOver lts class problem number k (numbers_along lts tree start effect))
+    (whole : (split : SplitForm) → Contains (split_forms lts class problem) split → IsTimes k (numbers_along lts tree start effect (form_variable lts.initial split)))
+    (starts : splits_start class problem ≡ true → (u : ℤ) × (numbers_along lts tree start effect (tokens_at lts.initial) ≡ k *ℤ (pos (unwrap_or class.marking 1) *ℤ u)))
+  where
+    -- where all tokens are whole
+    pub bounded_parts : is_some class.bound ≡ true → (y : Variable → ℤ) × AreWholeParts lts k (numbers_along lts tree start effect) y × AllowsStart class (unsigned_abs (y (tokens_at lts.initial)))
+    bounded_parts bound =
+        let tokens : (q : ℕ) → q < states lts → (u : ℤ) × (numbers_along lts tree start effect (tokens_at q) ≡ (k *ℤ u) +ℤ pos 0) = λ q lt. (let (u, h) = whole (on_tokens q) (bounded_has lts class problem q bound lt) in (u, more _ _ h)) in
+        let effects : (t : ℕ) → has_label t lts.arcs ≡ true → IsTimes k (effect t) = λ t h. of_arc t (label_found t lts.arcs h) in
+        let (y, parts, exact) = some_parts lts k positive (numbers_along lts tree start effect) (pos 0) (omega (arith, ints)) positive tokens effects in (
+          y,
+          parts,
+          allowed class (unsigned_abs (y (tokens_at lts.initial)))
+              (λ some. (let (u, h) = starts (bounded_splits class problem some bound) in allows_by class (y (tokens_at lts.initial)) u
+              (start_steps (unwrap_or class.marking 1) k (numbers_along lts tree start effect (tokens_at lts.initial)) (y (tokens_at lts.initial)) (pos 0) u
+              (omega (arith, ints)) positive (exact lts.initial fine.initial) h))),
+        )
+      where
+        more : (z y : ℤ) → z ≡ y → z ≡ y +ℤ pos 0
+        more z y e = omega (arith, ints)
 
-      less : (k a e b u w : ℤ) → a ≡ k *ℤ u → b ≡ k *ℤ w → a +ℤ e ≡ b → e ≡ k *ℤ (w -ℤ u)
-      less k a e b u w h g m = let d : k *ℤ (w -ℤ u) ≡ (k *ℤ w) -ℤ (k *ℤ u) = simp ring (omega (arith, ints)) in omega (arith, ints)
+        less : (k a e b u w : ℤ) → a ≡ k *ℤ u → b ≡ k *ℤ w → a +ℤ e ≡ b → e ≡ k *ℤ (w -ℤ u)
+        less k a e b u w h g m = let d : k *ℤ (w -ℤ u) ≡ (k *ℤ w) -ℤ (k *ℤ u) = simp ring (omega (arith, ints)) in omega (arith, ints)
 
-      of_arc : (t : ℕ) → (a : Arc) × Contains lts.arcs a × (a.label ≡ t) → IsTimes k (effect t)
-      of_arc t (a, has, is) =
-          let ranges = arc_in_range lts fine a.from a.label a.to has in
-          let (u, h) = whole (on_tokens a.from) (bounded_has lts class problem a.from bound ranges.0) in
-          let (w, h') = whole (on_tokens a.to) (bounded_has lts class problem a.to bound ranges.2) in
-          let m = arc_value lts class problem number k (numbers_along lts tree start effect) a.from a.label a.to keeps has in
-          (w -ℤ u, subst (λ n. effect n ≡ k *ℤ (w -ℤ u)) is (less k _ _ _ u w h h' m))
+        of_arc : (t : ℕ) → (a : Arc) × Contains lts.arcs a × (a.label ≡ t) → IsTimes k (effect t)
+        of_arc t (a, has, is) =
+            let ranges = arc_in_range lts fine a.from a.label a.to has in
+            let (u, h) = whole (on_tokens a.from) (bounded_has lts class problem a.from bound ranges.0) in
+            let (w, h') = whole (on_tokens a.to) (bounded_has lts class problem a.to bound ranges.2) in
+            let m = arc_value lts class problem number k (numbers_along lts tree start effect) a.from a.label a.to keeps has in
+            (w -ℤ u, subst (λ n. effect n ≡ k *ℤ (w -ℤ u)) is (less k _ _ _ u w h h' m))
 
-  -- where all effects of labels with an arc are whole
-  pub plain_parts : is_some class.bound ≡ false → class.plain ≡ true → (y : Variable → ℤ) × AreWholeParts lts k (numbers_along lts tree start effect) y × (splits_start class problem ≡ true → (u : ℤ) × (y (tokens_at lts.initial) ≡ pos (unwrap_or class.marking 1) *ℤ u))
-  plain_parts bound plain =
-      let effects : (t : ℕ) → has_label t lts.arcs ≡ true → IsTimes k (effect t) = λ t h. (let (a, has, is) = label_found t lts.arcs h in
-      let lt : t < labels lts = subst (λ n. n < labels lts) is (arc_in_range lts fine a.from a.label a.to has).1 in
-      whole (on_effect t) (plain_has lts class problem t bound plain lt h)) in
-      let parts = parts_by start k positive in
-      let tokens : (q : ℕ) → q < states lts → (u : ℤ) × (numbers_along lts tree start effect (tokens_at q) ≡ (k *ℤ u) +ℤ parts.rest) = λ q lt. (let (u, h) = sum_times k (labels lts) (λ t. pos (parikh tree q t) *ℤ effect t) (λ t below. scaled k (pos (parikh tree q t)) (effect t) (⊎_elim (λ used. effects t used) (λ none. (pos 0, e.unused t none ∙ sym (*ℤ-zero k))) (cases_Bool (has_label t lts.arcs)))) in
-      (parts.part +ℤ u, joined k start _ parts.part parts.rest u parts.is h)) in
-      let (y, are, exact) = some_parts lts k positive (numbers_along lts tree start effect) parts.rest parts.not_negative parts.below tokens effects in
-      (y, are, λ splits. (let (u, h) = starts splits in (u, start_steps (unwrap_or class.marking 1) k (numbers_along lts tree start effect (tokens_at lts.initial)) (y (tokens_at lts.initial)) parts.rest u parts.not_negative parts.below (exact lts.initial fine.initial) h)))
-    where
-      scaled : (k n z : ℤ) → IsTimes k z → IsTimes k (n *ℤ z)
-      scaled k n z (u, e) = (n *ℤ u, ap (λ y. n *ℤ y) e ∙ turn n k u)
-        where
-          turn : (n k u : ℤ) → n *ℤ (k *ℤ u) ≡ k *ℤ (n *ℤ u)
-          turn n k u = simp ring
+    -- where all effects of labels with an arc are whole
+    pub plain_parts : is_some class.bound ≡ false → class.plain ≡ true → (y : Variable → ℤ) × AreWholeParts lts k (numbers_along lts tree start effect) y × (splits_start class problem ≡ true → (u : ℤ) × (y (tokens_at lts.initial) ≡ pos (unwrap_or class.marking 1) *ℤ u))
+    plain_parts bound plain =
+        let effects : (t : ℕ) → has_label t lts.arcs ≡ true → IsTimes k (effect t) = λ t h. (let (a, has, is) = label_found t lts.arcs h in
+        let lt : t < labels lts = subst (λ n. n < labels lts) is (arc_in_range lts fine a.from a.label a.to has).1 in
+        whole (on_effect t) (plain_has lts class problem t bound plain lt h)) in
+        let parts = parts_by start k positive in
+        let tokens : (q : ℕ) → q < states lts → (u : ℤ) × (numbers_along lts tree start effect (tokens_at q) ≡ (k *ℤ u) +ℤ parts.rest) = λ q lt.
+        (let (u, h) = sum_times k (labels lts) (λ t. pos (parikh tree q t) *ℤ effect t)
+        (λ t below. scaled k (pos (parikh tree q t)) (effect t)
+        (⊎_elim (λ used. effects t used) (λ none. (pos 0, e.unused t none ∙ sym (*ℤ-zero k))) (cases_Bool (has_label t lts.arcs)))) in
+        (parts.part +ℤ u, joined k start _ parts.part parts.rest u parts.is h)) in
+        let (y, are, exact) = some_parts lts k positive (numbers_along lts tree start effect) parts.rest parts.not_negative parts.below tokens effects in
+        (y, are, λ splits. (let (u, h) = starts splits in (u, start_steps (unwrap_or class.marking 1) k (numbers_along lts tree start effect (tokens_at lts.initial)) (y (tokens_at lts.initial)) parts.rest u parts.not_negative parts.below (exact lts.initial fine.initial) h)))
+      where
+        scaled : (k n z : ℤ) → IsTimes k z → IsTimes k (n *ℤ z)
+        scaled k n z (u, e) = (n *ℤ u, ap (λ y. n *ℤ y) e ∙ turn n k u)
+          where
+            turn : (n k u : ℤ) → n *ℤ (k *ℤ u) ≡ k *ℤ (n *ℤ u)
+            turn n k u = simp ring
 
-      joined : (k s m a r u : ℤ) → s ≡ (k *ℤ a) +ℤ r → m ≡ k *ℤ u → s +ℤ m ≡ (k *ℤ (a +ℤ u)) +ℤ r
-      joined k s m a r u e h = let d : k *ℤ (a +ℤ u) ≡ (k *ℤ a) +ℤ (k *ℤ u) = simp ring (omega (arith, ints)) in omega (arith, ints)
+        joined : (k s m a r u : ℤ) → s ≡ (k *ℤ a) +ℤ r → m ≡ k *ℤ u → s +ℤ m ≡ (k *ℤ (a +ℤ u)) +ℤ r
+        joined k s m a r u e h = let d : k *ℤ (a +ℤ u) ≡ (k *ℤ a) +ℤ (k *ℤ u) = simp ring (omega (arith, ints)) in omega (arith, ints)
 
 -- of an event by the form of the start, of two states by a lift
-by_problem : (lts : System) (class : Class) (problem : Problem) (number : ℕ) (k : ℤ) (x y : Variable → ℤ) → IsInRange lts → IsSeparationProblem lts problem → IsLive lts problem → HasNumbersInRange class → is_some class.bound ≡ false → class.plain ≡ true → AreWholeParts lts k x y → KeepsRowsOver lts class problem number k x → (splits_start class problem ≡ true → (u : ℤ) × (y (tokens_at lts.initial) ≡ pos (unwrap_or class.marking 1) *ℤ u)) → HasWholeSolutionIn lts class problem number
+by_problem : (lts : System) (class : Class) (problem : Problem) (number : ℕ) (k : ℤ) (x y : Variable → ℤ) → IsInRange lts → IsSeparationProblem lts problem
+    → IsLive lts problem → HasNumbersInRange class → is_some class.bound ≡ false → class.plain ≡ true → AreWholeParts lts k x y
+    → KeepsRowsOver lts class problem number k x → (splits_start class problem ≡ true → (u : ℤ) × (y (tokens_at lts.initial) ≡ pos (unwrap_or class.marking 1) *ℤ u))
+    → HasWholeSolutionIn lts class problem number
 by_problem lts class (Event s t) number k x y fine asked live numbers bound plain are keeps starts =
     solve_parts lts class (Event s t) number k x y fine asked live (allowed class (unsigned_abs (y (tokens_at lts.initial))) (λ some. (let (u, h) = starts (plain_splits class s t some plain) in allows_by class (y (tokens_at lts.initial)) u h))) are keeps
 by_problem lts class (States s s') number k x y fine asked live numbers bound plain are keeps starts =
@@ -268,15 +289,21 @@ by_problem lts class (States s s') number k x y fine asked live numbers bound pl
 
 module _ (lts : System) (tree : List Arc) (basis : CycleBasis) (class : Class) (problem : Problem) (number : ℕ) (case : CaseSystem) (c : IsCaseOver lts tree basis class problem number case) (live : IsLive lts problem) where
   abbrev WholeAt : ℤ → ℤ → (ℕ → ℤ) → Type 0
-  WholeAt k start effect = ((split : SplitForm) → Contains (split_forms lts class problem) split → IsTimes k (numbers_along lts tree start effect (form_variable lts.initial split))) × (splits_start class problem ≡ true → (u : ℤ) × (numbers_along lts tree start effect (tokens_at lts.initial) ≡ k *ℤ (pos (unwrap_or class.marking 1) *ℤ u)))
+  WholeAt k start effect = ((split : SplitForm) → Contains (split_forms lts class problem) split
+      → IsTimes k (numbers_along lts tree start effect (form_variable lts.initial split)))
+      × (splits_start class problem ≡ true → (u : ℤ) × (numbers_along lts tree start effect (tokens_at lts.initial) ≡ k *ℤ (pos (unwrap_or class.marking 1) *ℤ u)))
 
   -- the point gives numbers along the tree with whole forms
-  point_solution : has_start class ≡ true → ((k : ℤ) (start : ℤ) (effect : ℕ → ℤ) → pos 0 <ℤ k → AreEffects lts tree basis effect → KeepsRowsOver lts class problem number k (numbers_along lts tree start effect) → WholeAt k start effect → HasWholeSolutionIn lts class problem number) → HasWholePoint case → HasWholeSolutionIn lts class problem number
+  point_solution : has_start class ≡ true → ((k : ℤ) (start : ℤ) (effect : ℕ → ℤ) → pos 0 <ℤ k → AreEffects lts tree basis effect
+      → KeepsRowsOver lts class problem number k (numbers_along lts tree start effect) → WholeAt k start effect → HasWholeSolutionIn lts class problem number)
+      → HasWholePoint case → HasWholeSolutionIn lts class problem number
   point_solution starts solve (scale, v, p, meets, whole) =
       let (times, start, effect, g) = point_gives lts tree basis class problem number case v c in
       let k : pos 0 <ℤ (times *ℤ scale) = mul_positive times scale g.positive p.positive in
       let keeps = (start_means lts tree basis class problem number case start effect (times *ℤ scale) c g.effects k starts).0 ((point_meets lts tree basis class problem number case v scale times start effect c p g).0 meets) in
-      let steps : (split : SplitForm) → Contains (split_forms lts class problem) split → (u : ℤ) × (numbers_along lts tree start effect (form_variable lts.initial split) ≡ (times *ℤ scale) *ℤ (pos (step_of class split) *ℤ u)) = λ split has. variable_multiple lts tree basis class problem number case c v scale times start effect split starts whole g (form_names lts class problem split has) has in
+      let steps : (split : SplitForm) → Contains (split_forms lts class problem) split → (u : ℤ)
+      × (numbers_along lts tree start effect (form_variable lts.initial split) ≡ (times *ℤ scale) *ℤ (pos (step_of class split) *ℤ u)) = λ split has.
+      variable_multiple lts tree basis class problem number case c v scale times start effect split starts whole g (form_names lts class problem split has) has in
       solve (times *ℤ scale) start effect k g.effects keeps
       ((λ split has. (let (u, h) = steps split has in (pos (step_of class split) *ℤ u, h))), (λ splits. steps on_start (start_has lts class problem splits)))
 
@@ -296,8 +323,16 @@ module _ (lts : System) (tree : List Arc) (basis : CycleBasis) (class : Class) (
       let x = numbers_by tokens effect in
       let keeps' = (whole_means lts class problem number x).1 keeps in
       let e = effects_given lts tree basis class problem number case x (pos 1) c keeps' in
-      let (v, p, g) = given_point lts tree basis class problem number case (x (tokens_at lts.initial)) (used_effect lts x) (pos 1) c e (omega (arith, ints)) in
-      (pos 1, v, p, (point_meets lts tree basis class problem number case v (pos 1) (pos 1) (x (tokens_at lts.initial)) (used_effect lts x) c p g).1 (meets_given lts tree basis class problem number case x (pos 1) c live (omega (arith, ints)) keeps'), λ f lt. (let (var, names, has, made) = form_there lts tree basis class problem number case f c.is_case lt in let (w, is) = steps_of tokens allows (used_effect lts x) var in whole_forms lts tree basis class problem number case c v (x (tokens_at lts.initial)) (used_effect lts x) f var w starts g names made is))
+      let (v, p, g) = given_point lts tree basis class problem number case (x (tokens_at lts.initial)) (used_effect lts x) (pos 1) c e (omega (arith, ints)) in (
+        pos 1,
+        v,
+        p,
+        (point_meets lts tree basis class problem number case v (pos 1) (pos 1) (x (tokens_at lts.initial)) (used_effect lts x) c p g).1
+            (meets_given lts tree basis class problem number case x (pos 1) c live (omega (arith, ints)) keeps'),
+        λ f lt. (let (var, names, has, made) = form_there lts tree basis class problem number case f c.is_case lt in let (w, is) = steps_of tokens allows
+            (used_effect lts x) var in whole_forms lts tree basis class problem number case c v (x (tokens_at lts.initial))
+            (used_effect lts x) f var w starts g names made is),
+      )
     where
       one : (z : ℤ) → z ≡ pos 1 *ℤ z
       one z = omega (arith, ints)
@@ -350,7 +385,9 @@ module _ (lts : System) (tree : List Arc) (basis : CycleBasis) (class : Class) (
       (λ bound. ⊎_elim (λ plain. (plain_solution bound plain, whole_point (start_of_plain class plain))) (λ plain. formless bound plain) (cases_Bool class.plain))
       (cases_Bool (is_some class.bound))
 
-pub whole_point_separates : (lts : System) (tree : List Arc) (basis : CycleBasis) (class : Class) (problem : Problem) (case : ℕ → CaseSystem) → IsLive lts problem → 0 < cases_of lts class problem → ((number : ℕ) → number < cases_of lts class problem → IsCaseOver lts tree basis class problem number (case number)) → SomeCaseHasWholePoint lts class problem case ↔ IsSeparable lts class problem
+pub whole_point_separates : (lts : System) (tree : List Arc) (basis : CycleBasis) (class : Class) (problem : Problem) (case : ℕ → CaseSystem) → IsLive lts problem
+    → 0 < cases_of lts class problem → ((number : ℕ) → number < cases_of lts class problem → IsCaseOver lts tree basis class problem number (case number))
+    → SomeCaseHasWholePoint lts class problem case ↔ IsSeparable lts class problem
 whole_point_separates lts tree basis class problem case live some c =
     let exact = rows_exact lts class problem (c 0 some).in_range (c 0 some).asked some in (
       (λ (number, lt, point). (let (tokens, effect, allows, keeps) = (whole_points_exact lts tree basis class problem number (case number) (c number lt) live).0 point in exact.1 (number, lt, tokens, effect, allows, keeps))),

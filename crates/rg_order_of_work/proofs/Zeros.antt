@@ -8,9 +8,10 @@ use Rattle.rg_integers.specs.Divisor.{gcd_of, int_gcd}
 use Rattle.rg_integers.specs.Value.{SameValue}
 use Rattle.rg_integers.proofs.Order.{positive_differs}
 use Rattle.rg_integers.proofs.Values.{SameValue-parts, SameValue-neg}
-use Rattle.rg_fraction.specs.declared.term.Wide.{Wide}
+use Rattle.rg_integers.specs.declared.term.Wide.{Wide}
 use Rattle.rg_fraction.specs.declared.fraction.Fraction.{Fraction}
-use Rattle.rg_fraction.specs.Terms.{FitsTerm, product_term, sum_top, sum_bottom, product_top, product_bottom}
+use Rattle.rg_fraction.specs.Terms.{product_term, sum_top, sum_bottom, product_top, product_bottom}
+use Rattle.rg_integers.specs.Term.{FitsTerm}
 use Rattle.rg_fraction.proofs.Ones.{one_is_reduced, first_part, second_part}
 use Rattle.rg_fraction.proofs.Forms.{left_exact, right_exact, right_positive, quotients_reduced}
 use Rattle.rg_order_of_work.specs.Fold.{and_then, further, Ratio, whole, ratio_of, IsRatio, quotient, add, mul, IsWithin}

@@ -1,11 +1,12 @@
 -- Computations that stop at their first step out of range, told by the results that they have.
 use Rattle.std.specs.Prelude.{◌≡◌, ◌≢◌, ◌⊎◌, Bool, true, false, List, [], ◌∷◌, ℤ, pos, ◌+ℤ◌, ◌*ℤ◌, ◌<ℤ◌, unsigned_abs, int_div, Result, Ok, Err}
 use Rattle.std.specs.Int.{IsGcd}
-use Rattle.rg_fraction.specs.declared.term.Wide.{Wide}
+use Rattle.rg_integers.specs.declared.term.Wide.{Wide}
 use Rattle.rg_fraction.specs.declared.fraction.Fraction.{Fraction}
 use Rattle.rg_integers.specs.Range.{InRange}
 use Rattle.rg_integers.specs.Value.{SameValue}
-use Rattle.rg_fraction.specs.Terms.{FitsTerm, term_value, sum_term, product_term, FirstPasses, sum_top, sum_bottom, product_top, product_bottom}
+use Rattle.rg_fraction.specs.Terms.{sum_term, product_term, FirstPasses, sum_top, sum_bottom, product_top, product_bottom}
+use Rattle.rg_integers.specs.Term.{FitsTerm, term_value}
 use Rattle.rg_integers.specs.Divisor.{int_gcd}
 use Rattle.rg_fraction.specs.Fractions.{numerator_of, denominator_of}
 

@@ -9,3 +9,4 @@ pub mod Shown
 pub mod Meaning
 pub mod WholeParts
 pub mod FormRows
+pub mod Places

@@ -6,7 +6,7 @@ use Rattle.rg_theory.specs.Net.{Place}
 use Rattle.rg_theory.specs.declared.Class.{Class}
 use Rattle.rg_theory.specs.declared.Problem.{Problem}
 use Rattle.rg_theory.specs.declared.Problem.TheVariants.{Event, States}
-use Rattle.rg_fraction.specs.declared.term.Wide.{Wide}
+use Rattle.rg_integers.specs.declared.term.Wide.{Wide}
 use Rattle.rg_order_of_work.specs.Fold.{gives, and_then, either, each, joined, Ratio, whole, quotient, add, mul, whole_sum, multiple_of_all}
 use Rattle.rg_linear.specs.Cycle.{CycleBasis}
 use Rattle.rg_order_of_work.specs.Rewriting.{is_in, has_label, free_columns, all_numbers, states_with}

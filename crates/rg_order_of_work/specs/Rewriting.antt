@@ -6,10 +6,12 @@ use Rattle.rg_theory.specs.declared.Class.{Class}
 use Rattle.rg_theory.specs.declared.Problem.{Problem}
 use Rattle.rg_theory.specs.declared.Problem.TheVariants.{Event, States}
 use Rattle.rg_refuting.specs.Expression.{Variable, Variable.tokens_at, Variable.effect_of, Term, Expression, plus}
-use Rattle.rg_refuting.specs.Row.{RowName, RowName.tokens_row, RowName.cap_row, RowName.up_row, RowName.down_row, RowName.makes_row, RowName.stop_row, RowName.block_row, RowName.empty_row, RowName.full_row, RowName.keep_row, RowName.apart_row, row_expression, case_consumer, Form as SplitForm, Form.on_tokens, Form.on_effect, Form.on_start, form_variable, step_of}
+use Rattle.rg_refuting.specs.Row.{RowName, RowName.tokens_row, RowName.cap_row, RowName.up_row, RowName.down_row, RowName.makes_row, RowName.stop_row, RowName.block_row}
+use Rattle.rg_refuting.specs.Row.{RowName.empty_row, RowName.full_row, RowName.keep_row, RowName.apart_row, row_expression, case_consumer, Form as SplitForm}
+use Rattle.rg_refuting.specs.Row.{Form.on_tokens, Form.on_effect, Form.on_start, form_variable, step_of}
 use Rattle.rg_linear.specs.System.{LinearRow, LinearSystem}
 use Rattle.rg_linear.specs.Branching.{Form}
-use Rattle.rg_fraction.specs.declared.term.Wide.{Wide}
+use Rattle.rg_integers.specs.declared.term.Wide.{Wide}
 use Rattle.rg_fraction.specs.Rows.{IsRowGcd}
 use Rattle.rg_order_of_work.specs.Fold.{gives, and_then, each, further, Ratio, whole, IsRatio, quotient, add, mul, multiple_of_all}
 use Rattle.rg_theory.specs.Tree.{parikh}

@@ -12,7 +12,7 @@ use Rattle.rg_linear.specs.Dictionary.{Relation, DictionaryRow}
 use Rattle.rg_linear.specs.Descent.{WideAt}
 use Rattle.rg_linear.specs.Cycle.{CycleWalk, CycleOutcome.too_wide, CycleBasis}
 use Rattle.rg_linear.specs.Branching.{Weight, SplitTree, SplitTree.leaf, SplitTree.split, low_side, high_side, node_system, Branching, BranchOutcome.found, BranchOutcome.tree, BranchOutcome.stopped, SplitSide}
-use Rattle.rg_fraction.specs.declared.term.Wide.{Wide}
+use Rattle.rg_integers.specs.declared.term.Wide.{Wide}
 use Rattle.rg_order_of_work.specs.Fold.{Ratio, whole, IsRatio}
 use Rattle.rg_theory.specs.Tree.{IsTree}
 use Rattle.rg_order_of_work.specs.Chords.{KeepsChords, chord_system, IsBasis}

@@ -9,7 +9,7 @@ use Rattle.rg_refuting.specs.Row.{RowName, RowName.arc_row, RowName.above_row, F
 use Rattle.rg_refuting.specs.Refutes.{NamedRow}
 use Rattle.rg_integers.specs.Sign.{size}
 use Rattle.rg_linear.specs.Branching.{Weight, Form, form_at, SplitSide}
-use Rattle.rg_fraction.specs.declared.term.Wide.{Wide}
+use Rattle.rg_integers.specs.declared.term.Wide.{Wide}
 use Rattle.rg_fraction.specs.Rows.{IsRowGcd}
 use Rattle.rg_order_of_work.specs.Fold.{gives, and_then, each, joined, Ratio, whole, quotient, add, mul, whole_sum, whole_product}
 use Rattle.rg_theory.specs.Tree.{same_arc}

@@ -15,7 +15,8 @@ ghost use Rattle.rg_order_of_work.specs.Rewriting.{dependent_term, substitute_fo
 ghost use Rattle.rg_order_of_work.specs.Placing.{missing, place_fold};
 ghost use Rattle.rg_order_of_work.specs.Spreading.{Share, leaf_fold, spread_fold};
 
-use rg_fraction::{Fraction, Wide};
+use rg_fraction::Fraction;
+use rg_integers::Wide;
 use rg_theory::{Arc, Class, Problem};
 
 /// Each step has one result at most.

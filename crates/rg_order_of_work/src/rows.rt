@@ -21,13 +21,30 @@ pub fn expression_is_rewritten()
 /// bottom is that of its named row times the factor's top; both are positive, so the row is met exactly
 /// where its named row is. The numbers of a form are worth its value times its scale.
 pub fn row_is_exact()
-    ensures value { (lts : System) (tree : List Arc) (basis : CycleBasis) (class : Class) (name : RowName) (e : Expression) (start : ℤ) (effect : ℕ → ℤ) (scale : ℤ) (out : KeptRow) → IsBasis lts tree basis → NamesLabels (labels lts) e.terms → (has_start class ≡ false → start ≡ pos 0) → FollowsRelations (chord_system lts tree basis.kept) basis.members effect → UnusedAreZero lts effect → row_fold lts tree basis class name e (Ok out) → out.factor.bottom *ℤ (dot out.row.coeffs (column_values lts basis class start effect) +ℤ (out.row.constant *ℤ scale)) ≡ out.factor.top *ℤ (value_in (numbers_along lts tree start effect) e.terms +ℤ (e.constant *ℤ scale)) }
+    ensures value { (lts : System) (tree : List Arc) (basis : CycleBasis) (class : Class) (name : RowName) (e : Expression) (start : ℤ) (effect : ℕ → ℤ) (scale : ℤ)
+        (out : KeptRow) → IsBasis lts tree basis → NamesLabels (labels lts) e.terms → (has_start class ≡ false → start ≡ pos 0)
+        → FollowsRelations (chord_system lts tree basis.kept) basis.members effect → UnusedAreZero lts effect → row_fold lts tree basis class name e (Ok out)
+        → out.factor.bottom *ℤ (dot out.row.coeffs (column_values lts basis class start effect) +ℤ (out.row.constant *ℤ scale)) ≡ out.factor.top *ℤ
+        (value_in (numbers_along lts tree start effect) e.terms +ℤ (e.constant *ℤ scale)) }
     ensures factor { (lts : System) (tree : List Arc) (basis : CycleBasis) (class : Class) (name : RowName) (e : Expression) (out : KeptRow) → row_fold lts tree basis class name e (Ok out) → (pos 0 <ℤ out.factor.top) × (pos 0 <ℤ out.factor.bottom) }
-    ensures met { (lts : System) (tree : List Arc) (basis : CycleBasis) (class : Class) (name : RowName) (e : Expression) (start : ℤ) (effect : ℕ → ℤ) (scale : ℤ) (out : KeptRow) → IsBasis lts tree basis → NamesLabels (labels lts) e.terms → (has_start class ≡ false → start ≡ pos 0) → FollowsRelations (chord_system lts tree basis.kept) basis.members effect → UnusedAreZero lts effect → row_fold lts tree basis class name e (Ok out) → (pos 0 ≤ℤ (dot out.row.coeffs (column_values lts basis class start effect) +ℤ (out.row.constant *ℤ scale))) ↔ (pos 0 ≤ℤ (value_in (numbers_along lts tree start effect) e.terms +ℤ (e.constant *ℤ scale))) }
-    ensures form { (lts : System) (tree : List Arc) (basis : CycleBasis) (class : Class) (terms : List Term) (start : ℤ) (effect : ℕ → ℤ) (scaled : Scaled) → IsBasis lts tree basis → NamesLabels (labels lts) terms → (has_start class ≡ false → start ≡ pos 0) → FollowsRelations (chord_system lts tree basis.kept) basis.members effect → UnusedAreZero lts effect → terms_fold lts tree basis class terms (Ok scaled) → dot scaled.numbers (column_values lts basis class start effect) ≡ scaled.multiple *ℤ value_in (numbers_along lts tree start effect) terms }
+    ensures met { (lts : System) (tree : List Arc) (basis : CycleBasis) (class : Class) (name : RowName) (e : Expression) (start : ℤ) (effect : ℕ → ℤ) (scale : ℤ)
+        (out : KeptRow) → IsBasis lts tree basis → NamesLabels (labels lts) e.terms → (has_start class ≡ false → start ≡ pos 0)
+        → FollowsRelations (chord_system lts tree basis.kept) basis.members effect → UnusedAreZero lts effect → row_fold lts tree basis class name e (Ok out)
+        → (pos 0 ≤ℤ (dot out.row.coeffs (column_values lts basis class start effect) +ℤ (out.row.constant *ℤ scale))) ↔
+        (pos 0 ≤ℤ (value_in (numbers_along lts tree start effect) e.terms +ℤ (e.constant *ℤ scale))) }
+    ensures form { (lts : System) (tree : List Arc) (basis : CycleBasis) (class : Class) (terms : List Term) (start : ℤ) (effect : ℕ → ℤ) (scaled : Scaled)
+        → IsBasis lts tree basis → NamesLabels (labels lts) terms → (has_start class ≡ false → start ≡ pos 0)
+        → FollowsRelations (chord_system lts tree basis.kept) basis.members effect → UnusedAreZero lts effect → terms_fold lts tree basis class terms (Ok scaled)
+        → dot scaled.numbers (column_values lts basis class start effect) ≡ scaled.multiple *ℤ value_in (numbers_along lts tree start effect) terms }
 {}
 
 /// The rows of a case's system are met exactly where its named rows are, but those of arcs and splits.
 pub fn system_is_exact()
-    ensures { (lts : System) (tree : List Arc) (basis : CycleBasis) (class : Class) (problem : Problem) (number : ℕ) (start : ℤ) (effect : ℕ → ℤ) (scale : ℤ) (case : CaseSystem) → IsBasis lts tree basis → ((name : RowName) → Contains (names_of lts class problem number) name → NamesLabels (labels lts) (row_expression lts class problem number [] name).terms) → pos 0 <ℤ scale → (has_start class ≡ false → start ≡ pos 0) → FollowsRelations (chord_system lts tree basis.kept) basis.members effect → UnusedAreZero lts effect → system_fold lts tree basis class problem number (Ok case) → ((k : KeptRow) → Contains case.kept k → RowIsMet (column_values lts basis class start effect) scale k) ↔ ((name : RowName) → Contains (names_of lts class problem number) name → NameIsMet lts tree start effect scale (row_expression lts class problem number [] name)) }
+    ensures { (lts : System) (tree : List Arc) (basis : CycleBasis) (class : Class) (problem : Problem) (number : ℕ) (start : ℤ) (effect : ℕ → ℤ) (scale : ℤ)
+        (case : CaseSystem) → IsBasis lts tree basis
+        → ((name : RowName) → Contains (names_of lts class problem number) name → NamesLabels (labels lts) (row_expression lts class problem number [] name).terms)
+        → pos 0 <ℤ scale → (has_start class ≡ false → start ≡ pos 0) → FollowsRelations (chord_system lts tree basis.kept) basis.members effect
+        → UnusedAreZero lts effect → system_fold lts tree basis class problem number (Ok case)
+        → ((k : KeptRow) → Contains case.kept k → RowIsMet (column_values lts basis class start effect) scale k) ↔
+        ((name : RowName) → Contains (names_of lts class problem number) name → NameIsMet lts tree start effect scale (row_expression lts class problem number [] name)) }
 {}

@@ -93,7 +93,9 @@ module _ (lts : System) (fine : IsInRange lts) where
   joins_first : (met : List ℕ) (place : ℕ) (s : ℕ) → slice_get met place ≡ Some s → (out : FirstOut met s) → ((j : ℕ) → j < place → ¬ PlaceOut met j) → Joins lts met (record { from = s; label = out.t; to = out.to })
   joins_first met place s at out before = record { place = place; source = at; has = out.out.0; fresh = out.out.1; first = at_first }
     where
-      here : (b : Arc) → s ≡ b.from → Contains lts.arcs b → ¬ Contains met b.to → PairBefore b.label b.to out.t out.to ⊎ (((b.label ≡ out.t) × (b.to ≡ out.to)) ⊎ PairBefore out.t out.to b.label b.to) → (b ≡ record { from = s; label = out.t; to = out.to }) ⊎ IsArcBefore (record { from = s; label = out.t; to = out.to }) b
+      here : (b : Arc) → s ≡ b.from → Contains lts.arcs b → ¬ Contains met b.to → PairBefore b.label b.to out.t out.to
+          ⊎ (((b.label ≡ out.t) × (b.to ≡ out.to)) ⊎ PairBefore out.t out.to b.label b.to) → (b ≡ record { from = s; label = out.t; to = out.to })
+          ⊎ IsArcBefore (record { from = s; label = out.t; to = out.to }) b
       here b same has fresh (inl less) = absurd (out.before b.label b.to less (subst (λ x. HasArc lts x b.label b.to) (sym same) has, fresh))
       here b same has fresh (inr (inl (e, f))) = inl (λ i. record { from = sym same i; label = e i; to = f i })
       here b same has fresh (inr (inr after)) = inr (inr (same, after))
@@ -102,7 +104,8 @@ module _ (lts : System) (fine : IsInRange lts) where
       any j b e has fresh (inl found) = found
       any j b e has fresh (inr none) = absurd (none b.label b.to (has, fresh))
 
-      placed : (b : Arc) → (b ≡ record { from = s; label = out.t; to = out.to }) ⊎ IsArcBefore (record { from = s; label = out.t; to = out.to }) b → (j : ℕ) → place ≡ j → (b ≡ record { from = s; label = out.t; to = out.to }) ⊎ ((place < j) ⊎ ((place ≡ j) × IsArcBefore (record { from = s; label = out.t; to = out.to }) b))
+      placed : (b : Arc) → (b ≡ record { from = s; label = out.t; to = out.to }) ⊎ IsArcBefore (record { from = s; label = out.t; to = out.to }) b → (j : ℕ) → place ≡ j
+          → (b ≡ record { from = s; label = out.t; to = out.to }) ⊎ ((place < j) ⊎ ((place ≡ j) × IsArcBefore (record { from = s; label = out.t; to = out.to }) b))
       placed b (inl e) j same = inl e
       placed b (inr less) j same = inr (inr (same, less))
 
@@ -219,7 +222,9 @@ module _ (lts : System) (fine : IsInRange lts) where
           go low (inl less) = absurd (none a (arc_in_range lts fine s t a has').2 (has', less))
           go low (inr more) = omega arith
 
-      second : (one : ℕ) → HasArc lts s t one → ((j : ℕ) → j < one → ¬ HasArc lts s t j) → ((two : ℕ) × (two < states lts) × (HasArc lts s t two × (one < two)) × ((j : ℕ) → j < two → ¬ (HasArc lts s t j × (one < j)))) ⊎ ((to : ℕ) → to < states lts → ¬ (HasArc lts s t to × (one < to))) → TwoTargets s t ⊎ ((a b : ℕ) → HasArc lts s t a → HasArc lts s t b → a ≡ b)
+      second : (one : ℕ) → HasArc lts s t one → ((j : ℕ) → j < one → ¬ HasArc lts s t j)
+          → ((two : ℕ) × (two < states lts) × (HasArc lts s t two × (one < two)) × ((j : ℕ) → j < two → ¬ (HasArc lts s t j × (one < j))))
+          ⊎ ((to : ℕ) → to < states lts → ¬ (HasArc lts s t to × (one < to))) → TwoTargets s t ⊎ ((a b : ℕ) → HasArc lts s t a → HasArc lts s t b → a ≡ b)
       second one has before (inl (two, lt, (has', less), before')) = inl (record {
         one = one;
         two = two;

@@ -18,7 +18,7 @@ use Rattle.rg_order_of_work.specs.Shown.{Stage, Shown, StandsAt, CycleShown}
 use Rattle.rg_outcome.specs.Solving.{ProblemComes}
 use Rattle.rg_outcome.specs.Coming.{Separation, Separation.places, Separation.unsolvable as of_problem, Separation.too_wide as of_term, Comes}
 use Rattle.rg_outcome.specs.Outcome.{Answer, Answer.net, Answer.unsolvable, Answer.too_wide, Gives, Searched, Searched.a_cycle, Searched.all_problems, Out, Out.a_state, Out.a_fork, Out.a_search}
-use Rattle.rg_prune.specs.Pruned.{IsPruned}
+use Rattle.rg_theory.specs.Pruned.{IsPruned}
 use Rattle.rg_outcome.proofs.Separations.{same_separation}
 use Rattle.rg_outcome.proofs.Solvings.{same_solved}
 

@@ -6,7 +6,7 @@ use Rattle.rg_theory.specs.Net.{Place}
 use Rattle.rg_theory.specs.declared.Class.{Class}
 use Rattle.rg_theory.specs.declared.Problem.{Problem}
 use Rattle.rg_refuting.specs.Refutes.{Tree, Tree.leaf as refuting_leaf, Tree.split as refuting_split}
-use Rattle.rg_fraction.specs.declared.term.Wide.{Wide}
+use Rattle.rg_integers.specs.declared.term.Wide.{Wide}
 use Rattle.rg_linear.specs.Cycle.{CycleBasis}
 use Rattle.rg_linear.specs.Branching.{SplitTree, SplitTree.leaf, SplitTree.split, SplitSide, low_side, high_side, node_system, Branching, BranchOutcome, BranchOutcome.found, BranchOutcome.tree, BranchOutcome.stopped}
 use Rattle.rg_linear.proofs.Branches.{same_branch}

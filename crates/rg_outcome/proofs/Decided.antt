@@ -102,7 +102,9 @@ are_bounded lts s s' is = let a = is.0 in let b = is.1 in (omega arith, b)
 -- the first problem, or none
 pub find_problem : (lts : System) (P : Problem → Type 0) → ((problem : Problem) → Decided (P problem)) → ((problem : Problem) → P problem → IsProblem lts problem)
     → ((problem : Problem) × IsFirstProblem P problem) ⊎ ((problem : Problem) → ¬ P problem)
-find_problem lts P decide has = go (find_pair (λ s t. P (Event s t)) (λ s t. decide (Event s t)) (states lts) (labels lts) (λ s t p. is_bounded lts s t (has (Event s t) p))) (find_pair (λ s s'. P (States s s')) (λ s s'. decide (States s s')) (states lts) (states lts) (λ s s' p. are_bounded lts s s' (has (States s s') p)))
+find_problem lts P decide has = go (find_pair (λ s t. P (Event s t)) (λ s t. decide (Event s t)) (states lts) (labels lts)
+    (λ s t p. is_bounded lts s t (has (Event s t) p)))
+    (find_pair (λ s s'. P (States s s')) (λ s s'. decide (States s s')) (states lts) (states lts) (λ s s' p. are_bounded lts s s' (has (States s s') p)))
   where
     FoundIn : (ℕ → ℕ → Problem) → Type 0
     FoundIn make = ((s : ℕ) × (t : ℕ) × P (make s t) × ((s' t' : ℕ) → PairBefore s' t' s t → ¬ P (make s' t'))) ⊎ ((s t : ℕ) → ¬ P (make s t))

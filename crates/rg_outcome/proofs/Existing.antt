@@ -11,7 +11,9 @@ use Rattle.rg_theory.specs.declared.Problem.{Problem}
 use Rattle.rg_theory.specs.Problem.{IsProblem, IsSeparatedBy, SeparateAll, ComesBefore}
 use Rattle.rg_order_of_work.specs.Shown.{Shown}
 use Rattle.rg_outcome.specs.Solving.{Solved, Solved.placed, Solved.refuted, Solved.passed}
-use Rattle.rg_outcome.specs.Coming.{IsFirstProblem, Separation, Separation.places, Separation.unsolvable, Separation.too_wide, IsSeparated, IsLeft, IsBehind, IsNext, IsDone, ComesFrom, ComesFrom.keeps, ComesFrom.goes_on, ComesFrom.ends, ComesFrom.all_separated, ComesFrom.one_is_left, Comes, PlacesSeparate, HasResults, IsSound}
+use Rattle.rg_outcome.specs.Coming.{IsFirstProblem, Separation, Separation.places, Separation.unsolvable, Separation.too_wide, IsSeparated, IsLeft, IsBehind, IsNext}
+use Rattle.rg_outcome.specs.Coming.{IsDone, ComesFrom, ComesFrom.keeps, ComesFrom.goes_on, ComesFrom.ends, ComesFrom.all_separated, ComesFrom.one_is_left, Comes}
+use Rattle.rg_outcome.specs.Coming.{PlacesSeparate, HasResults, IsSound}
 use Rattle.rg_outcome.proofs.Ordering.{cases_order}
 use Rattle.rg_outcome.proofs.Decided.{Decided, find_problem, from_last, behind_is_decided, is_separated_decided, left_is_decided, next_is_decided}
 

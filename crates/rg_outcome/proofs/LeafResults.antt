@@ -8,7 +8,7 @@ use Rattle.rg_theory.specs.declared.Problem.{Problem}
 use Rattle.rg_integers.specs.Sign.{size}
 use Rattle.rg_integers.specs.Sum.{number_at}
 use Rattle.rg_integers.proofs.Divisors.{gcd_below}
-use Rattle.rg_fraction.specs.declared.term.Wide.{Wide}
+use Rattle.rg_integers.specs.declared.term.Wide.{Wide}
 use Rattle.rg_refuting.specs.Expression.{Expression, coefficient_in}
 use Rattle.rg_refuting.specs.Row.{RowName, Side, Form as SplitForm, Form.on_tokens, Form.on_effect, Form.on_start, row_expression}
 use Rattle.rg_refuting.specs.Refutes.{NamedRow, Tree, Tree.leaf as refuting_leaf, Tree.split as refuting_split}
@@ -18,7 +18,9 @@ use Rattle.rg_linear.proofs.Firsts.{kept_is}
 use Rattle.rg_order_of_work.specs.Fold.{gives, and_then, each, joined, whole, quotient, add, mul, whole_sum, whole_product}
 use Rattle.rg_order_of_work.specs.Rewriting.{dependent_labels, count_of, scaled_fold, Scaled, KeptRow, IsIdle, row_fold, names_of, CaseSystem, system_fold}
 use Rattle.rg_order_of_work.specs.Placing.{negated}
-use Rattle.rg_order_of_work.specs.Spreading.{Share, name_of, named_at, side_at, split_factor, factor_of, share_fold, Pair, pairs_of, pair_fold, used_chords, chord_fold, ArcTimes, arc_name, Addend, Addend.number, Addend.product, addend_fold, addends_at, tree_fold, named_from, parts_of, multiplier_among, not_zero, sizes_fold, variables_of, checked_leaf, chord_arcs, leaf_fold, spread_fold}
+use Rattle.rg_order_of_work.specs.Spreading.{Share, name_of, named_at, side_at, split_factor, factor_of, share_fold, Pair, pairs_of, pair_fold, used_chords, chord_fold}
+use Rattle.rg_order_of_work.specs.Spreading.{ArcTimes, arc_name, Addend, Addend.number, Addend.product, addend_fold, addends_at, tree_fold, named_from, parts_of}
+use Rattle.rg_order_of_work.specs.Spreading.{multiplier_among, not_zero, sizes_fold, variables_of, checked_leaf, chord_arcs, leaf_fold, spread_fold}
 use Rattle.rg_order_of_work.specs.Shown.{named_side, named_sides}
 use Rattle.rg_order_of_work.proofs.Lists.{first, behind}
 use Rattle.rg_order_of_work.proofs.Signs.{factor_is_positive}
@@ -55,7 +57,9 @@ factor_over case sides above all i = by (nat_lt i (length case.kept))
     of_row : IsOver (slice_index_or case.kept i (record { name = RowName.above_row 0; row = record { coeffs = []; constant = pos 0 }; factor = whole (pos 1) })).factor
     of_row = kept_factor case.kept (record { name = RowName.above_row 0; row = record { coeffs = []; constant = pos 0 }; factor = whole (pos 1) }) all (whole_over (pos 1)) i
 
-    by : (b : Bool) → IsOver (if b then (slice_index_or case.kept i (record { name = RowName.above_row 0; row = record { coeffs = []; constant = pos 0 }; factor = whole (pos 1) })).factor else split_factor (named_at above (i - length case.kept)).form (form_at case.forms (side_at sides (i - length case.kept)).form))
+    by : (b : Bool) → IsOver (if b then (slice_index_or case.kept i
+        (record { name = RowName.above_row 0; row = record { coeffs = []; constant = pos 0 }; factor = whole (pos 1) })).factor else split_factor
+        (named_at above (i - length case.kept)).form (form_at case.forms (side_at sides (i - length case.kept)).form))
     by true = of_row
     by false = split_factor_over (named_at above (i - length case.kept)).form (form_at case.forms (side_at sides (i - length case.kept)).form)
 
@@ -63,7 +67,10 @@ abbrev pub ShareOver : Share → Type 0
 ShareOver s = IsOver s.multiplier
 
 some_share : (case : CaseSystem) (sides : List SplitSide) (above : List Side) (weights : List Weight) → HaveFactors case → HasSome (each (share_fold case sides above) weights)
-some_share case sides above weights all = some_each (share_fold case sides above) weights (λ w has. some_then (mul (whole w.multiplier) (factor_of case sides above w.row)) (λ m. gives (record { name = name_of case w.row; multiplier = m })) (some_product (whole w.multiplier) (factor_of case sides above w.row) (whole_over w.multiplier) (factor_over case sides above all w.row)) (λ m _. some_given (record { name = name_of case w.row; multiplier = m })))
+some_share case sides above weights all = some_each (share_fold case sides above) weights
+    (λ w has. some_then (mul (whole w.multiplier) (factor_of case sides above w.row)) (λ m. gives (record { name = name_of case w.row; multiplier = m }))
+    (some_product (whole w.multiplier) (factor_of case sides above w.row) (whole_over w.multiplier) (factor_over case sides above all w.row))
+    (λ m _. some_given (record { name = name_of case w.row; multiplier = m })))
 
 shares_over : (case : CaseSystem) (sides : List SplitSide) (above : List Side) (weights : List Weight) → Makes (Each ShareOver) (each (share_fold case sides above) weights)
 shares_over case sides above weights = makes_each ShareOver (share_fold case sides above) weights (λ w has s (m, made, e). subst ShareOver (sym e) (product_over (whole w.multiplier) (factor_of case sides above w.row) m made))
@@ -84,7 +91,10 @@ module _ (lts : System) (arcs : List Arc) (basis : CycleBasis) (related : HaveRe
   some_pair : (c : ℕ) → Each (λ p. HasSome (pair_fold arcs basis expression c p)) (pairs_of shares (dependent_labels (labels lts) basis))
   some_pair c p has =
       let (over, differs) = pairs_fine basis shares (dependent_labels (labels lts) basis) all related p has in
-      some_then (mul p.share.multiplier (whole (count_of arcs (expression p.share.name).terms p.label))) (λ x. and_then (quotient ((basis.relation p.label).coefficient c) (basis.relation p.label).d) (λ k. mul x k)) (some_product p.share.multiplier (whole (count_of arcs (expression p.share.name).terms p.label)) over (whole_over (count_of arcs (expression p.share.name).terms p.label)))
+      some_then (mul p.share.multiplier (whole (count_of arcs (expression p.share.name).terms p.label)))
+      (λ x. and_then (quotient ((basis.relation p.label).coefficient c) (basis.relation p.label).d) (λ k. mul x k))
+      (some_product p.share.multiplier (whole (count_of arcs (expression p.share.name).terms p.label)) over
+      (whole_over (count_of arcs (expression p.share.name).terms p.label)))
       (λ x h. some_then (quotient ((basis.relation p.label).coefficient c) (basis.relation p.label).d) (λ k. mul x k) (some_quotient _ _ differs) (λ k q. some_product x k (product_over p.share.multiplier (whole (count_of arcs (expression p.share.name).terms p.label)) x h) q.positive))
 
   pair_over : (c : ℕ) → Each (λ p. Makes IsOver (pair_fold arcs basis expression c p)) (pairs_of shares (dependent_labels (labels lts) basis))
@@ -124,11 +134,15 @@ some_parts numbers =
     (Ok parts, record { divisor = g; greatest = is; parts_are = e })
 
 some_sizes : (coefficient : RowName → ℤ) (rows : List NamedRow) → HasSome (sizes_fold coefficient rows)
-some_sizes coefficient rows = some_joined IsAny whole_sum (λ r. and_then (whole_product r.multiplier (coefficient r.name)) (λ z. gives (size z))) (pos 0) rows any_sums (λ r has. some_then (whole_product r.multiplier (coefficient r.name)) (λ z. gives (size z)) (some_term _) (λ z _. some_given (size z))) (λ r has z h. tt)
+some_sizes coefficient rows = some_joined IsAny whole_sum (λ r. and_then (whole_product r.multiplier (coefficient r.name)) (λ z. gives (size z))) (pos 0) rows any_sums
+    (λ r has. some_then (whole_product r.multiplier (coefficient r.name)) (λ z. gives (size z)) (some_term _) (λ z _. some_given (size z))) (λ r has z h. tt)
 
 some_checked : (lts : System) (expression : RowName → Expression) (rows : List NamedRow) → HasSome (checked_leaf lts expression rows)
 some_checked lts expression rows =
-    some_then (each (λ v. sizes_fold (λ name. coefficient_in (expression name).terms v) rows) (variables_of lts)) (λ sums. and_then (sizes_fold (λ name. (expression name).constant) rows) (λ sum. gives rows)) (some_each (λ v. sizes_fold (λ name. coefficient_in (expression name).terms v) rows) (variables_of lts) (λ v has. some_sizes (λ name. coefficient_in (expression name).terms v) rows))
+    some_then (each (λ v. sizes_fold (λ name. coefficient_in (expression name).terms v) rows) (variables_of lts))
+    (λ sums. and_then (sizes_fold (λ name. (expression name).constant) rows) (λ sum. gives rows))
+    (some_each (λ v. sizes_fold (λ name. coefficient_in (expression name).terms v) rows) (variables_of lts)
+    (λ v has. some_sizes (λ name. coefficient_in (expression name).terms v) rows))
     (λ sums _. some_then (sizes_fold (λ name. (expression name).constant) rows) (λ sum. gives rows) (some_sizes (λ name. (expression name).constant) rows) (λ sum _. some_given rows))
 
 module _ (lts : System) (arcs : List Arc) (basis : CycleBasis) (related : HaveRelations lts basis) (expression : RowName → Expression) (shares : List Share) (all : Each ShareOver shares) where
@@ -145,12 +159,20 @@ module _ (lts : System) (arcs : List Arc) (basis : CycleBasis) (related : HaveRe
   some_times scaled times = some_then (parts_of (scaled.numbers ++ map (λ x. x.multiplier) times)) (λ parts. checked_leaf lts expression (leaf_of times parts)) (some_parts (scaled.numbers ++ map (λ x. x.multiplier) times)) (λ parts _. some_checked lts expression (leaf_of times parts))
 
   some_from_scaled : (scaled : Scaled) → HasSome (from_scaled scaled)
-  some_from_scaled scaled = some_then (tree_fold expression (named_from (map (λ r. r.name) shares ++ map arc_name (chord_arcs lts arcs basis)) scaled.numbers) [] (reverse arcs)) (from_times scaled) (some_tree expression (named_from (map (λ r. r.name) shares ++ map arc_name (chord_arcs lts arcs basis)) scaled.numbers) [] (reverse arcs)) (λ times _. some_times scaled times)
+  some_from_scaled scaled = some_then (tree_fold expression (named_from (map (λ r. r.name) shares ++ map arc_name (chord_arcs lts arcs basis)) scaled.numbers) []
+      (reverse arcs)) (from_times scaled) (some_tree expression (named_from (map (λ r. r.name) shares ++ map arc_name (chord_arcs lts arcs basis)) scaled.numbers) []
+      (reverse arcs)) (λ times _. some_times scaled times)
 
   some_leaf : HasSome (leaf_fold lts arcs basis expression shares)
   some_leaf =
-      some_then (each (chord_fold lts arcs basis expression shares) (used_chords lts basis)) (λ chord_shares. and_then (scaled_fold (map (λ r. r.multiplier) shares ++ chord_shares)) from_scaled) (some_each (chord_fold lts arcs basis expression shares) (used_chords lts basis) (λ c has. some_chord lts arcs basis related expression shares all c))
-      (λ chord_shares h. some_then (scaled_fold (map (λ r. r.multiplier) shares ++ chord_shares)) from_scaled (some_scaled (map (λ r. r.multiplier) shares ++ chord_shares) (each_append IsOver (map (λ r. r.multiplier) shares) chord_shares (each_mapped IsOver (λ (r : Share). r.multiplier) shares all) (makes_each IsOver (chord_fold lts arcs basis expression shares) (used_chords lts basis) (λ c has. chord_over lts arcs basis related expression shares all c) chord_shares h))) (λ scaled _. some_from_scaled scaled))
+      some_then (each (chord_fold lts arcs basis expression shares) (used_chords lts basis))
+      (λ chord_shares. and_then (scaled_fold (map (λ r. r.multiplier) shares ++ chord_shares)) from_scaled)
+      (some_each (chord_fold lts arcs basis expression shares) (used_chords lts basis) (λ c has. some_chord lts arcs basis related expression shares all c))
+      (λ chord_shares h. some_then (scaled_fold (map (λ r. r.multiplier) shares ++ chord_shares)) from_scaled
+      (some_scaled (map (λ r. r.multiplier) shares ++ chord_shares)
+      (each_append IsOver (map (λ r. r.multiplier) shares) chord_shares (each_mapped IsOver (λ (r : Share). r.multiplier) shares all)
+      (makes_each IsOver (chord_fold lts arcs basis expression shares) (used_chords lts basis)
+      (λ c has. chord_over lts arcs basis related expression shares all c) chord_shares h))) (λ scaled _. some_from_scaled scaled))
 
 -- ---- the leaves of a tree
 

@@ -6,7 +6,7 @@ use Rattle.rg_theory.specs.System.{System, states, labels}
 use Rattle.rg_theory.specs.Net.{Place}
 use Rattle.rg_theory.specs.declared.Class.{Class}
 use Rattle.rg_theory.specs.declared.Problem.{Problem}
-use Rattle.rg_fraction.specs.declared.term.Wide.{Wide}
+use Rattle.rg_integers.specs.declared.term.Wide.{Wide}
 use Rattle.rg_linear.specs.Cycle.{CycleBasis}
 use Rattle.rg_order_of_work.specs.Fold.{gives, and_then, either, each, joined, Ratio, whole, quotient, add, mul, whole_sum, multiple_of_all}
 use Rattle.rg_order_of_work.specs.Rewriting.{is_in, has_label, free_columns, all_numbers}
@@ -134,7 +134,9 @@ module _ (lts : System) (class : Class) (problem : Problem) (numbers : List Rati
   some_lifted moved all = by (is_lifted class problem)
     where
       by : (b : Bool) → HasSome (either b (each (λ m. add m (whole (pos (missing (unwrap_or class.marking 1) (unsigned_abs (top_at moved lts.initial)))))) moved) (gives moved))
-      by true = some_each (λ m. add m (whole (pos (missing (unwrap_or class.marking 1) (unsigned_abs (top_at moved lts.initial)))))) moved (λ m has. some_sum m (whole (pos (missing (unwrap_or class.marking 1) (unsigned_abs (top_at moved lts.initial))))) (all m has) (whole_over (pos (missing (unwrap_or class.marking 1) (unsigned_abs (top_at moved lts.initial))))))
+      by true = some_each (λ m. add m (whole (pos (missing (unwrap_or class.marking 1) (unsigned_abs (top_at moved lts.initial)))))) moved
+          (λ m has. some_sum m (whole (pos (missing (unwrap_or class.marking 1) (unsigned_abs (top_at moved lts.initial))))) (all m has)
+          (whole_over (pos (missing (unwrap_or class.marking 1) (unsigned_abs (top_at moved lts.initial))))))
       by false = some_given moved
 
   some_shift : HasSome (shift_fold lts class problem numbers)
@@ -174,10 +176,15 @@ module _ (lts : System) (arcs : List Arc) (basis : CycleBasis) (class : Class) (
   from_found found = and_then (along_tree (ratio_at found) (λ s. ratio_at found (labels lts)) arcs) (from_number found)
 
   some_shifted : (found numbers : List Ratio) → HasSome (from_shifted found numbers)
-  some_shifted found numbers = some_then (each (λ u. whole_sum (taken lts class problem numbers found u) (top_at found u)) (all_numbers (labels lts))) (λ post. gives (place_of lts numbers (map (taken lts class problem numbers found) (all_numbers (labels lts))) post)) (some_each (λ u. whole_sum (taken lts class problem numbers found u) (top_at found u)) (all_numbers (labels lts)) (λ u has. some_term _)) (λ post _. some_given (place_of lts numbers (map (taken lts class problem numbers found) (all_numbers (labels lts))) post))
+  some_shifted found numbers = some_then (each (λ u. whole_sum (taken lts class problem numbers found u) (top_at found u)) (all_numbers (labels lts)))
+      (λ post. gives (place_of lts numbers (map (taken lts class problem numbers found) (all_numbers (labels lts))) post))
+      (some_each (λ u. whole_sum (taken lts class problem numbers found u) (top_at found u)) (all_numbers (labels lts)) (λ u has. some_term _))
+      (λ post _. some_given (place_of lts numbers (map (taken lts class problem numbers found) (all_numbers (labels lts))) post))
 
   some_numbered : (found : List Ratio) (number : ℕ → Ratio) → ((s : ℕ) → IsOver (number s)) → HasSome (from_number found number)
-  some_numbered found number over = some_then (shift_fold lts class problem (map number (all_numbers (states lts)))) (from_shifted found) (some_shift lts class problem (map number (all_numbers (states lts))) (each_mapped IsOver number (all_numbers (states lts)) (λ s has. over s))) (λ numbers _. some_shifted found numbers)
+  some_numbered found number over = some_then (shift_fold lts class problem (map number (all_numbers (states lts)))) (from_shifted found)
+      (some_shift lts class problem (map number (all_numbers (states lts))) (each_mapped IsOver number (all_numbers (states lts)) (λ s has. over s)))
+      (λ numbers _. some_shifted found numbers)
 
   some_found : (found : List Ratio) → Each IsOver found → HasSome (from_found found)
   some_found found over = some_then (along_tree (ratio_at found) (λ s. ratio_at found (labels lts)) arcs) (from_number found) (some_along (ratio_at found) (λ s. ratio_at found (labels lts)) arcs (at_over found over) (λ s. at_over found over (labels lts)))

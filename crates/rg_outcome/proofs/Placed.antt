@@ -21,8 +21,8 @@ use Rattle.rg_order_of_work.specs.Shown.{Shown, PointOf, IsLive}
 use Rattle.rg_order_of_work.specs.Rewriting.{CaseSystem, rows_of, system_fold}
 use Rattle.rg_order_of_work.specs.Placing.{place_fold}
 use Rattle.rg_order_of_work.specs.Meaning.{IsCaseOver}
-use Rattle.rg_places.specs.Places.{tokens_of}
-use Rattle.rg_places.proofs.Points.{found_makes}
+use Rattle.rg_order_of_work.specs.Places.{tokens_of}
+use Rattle.rg_order_of_work.proofs.PlacePoints.{found_makes}
 use Rattle.rg_outcome.specs.Casing.{CaseResult, CaseResult.makes, CaseResult.refutes, CaseResult.passes, CaseComes, CaseComes.row_passes, CaseComes.pivot_passes, CaseComes.place_passes, CaseComes.place_is_made, CaseComes.leaf_passes, CaseComes.is_refuted}
 use Rattle.rg_outcome.specs.Solving.{Solved, Solved.placed, Solved.refuted, Solved.passed, CasesCome, CasesCome.first_place, CasesCome.all_refuted, CasesCome.first_term, ProblemComes}
 use Rattle.rg_outcome.specs.Coming.{IsSeparatedIn, PlacesSeparate, RefutedStay}

@@ -7,7 +7,7 @@ use Rattle.rg_theory.specs.declared.Arc.{Arc}
 use Rattle.rg_theory.specs.System.{System, labels}
 use Rattle.rg_theory.specs.declared.Class.{Class}
 use Rattle.rg_theory.specs.declared.Problem.{Problem}
-use Rattle.rg_fraction.specs.declared.term.Wide.{Wide}
+use Rattle.rg_integers.specs.declared.term.Wide.{Wide}
 use Rattle.rg_linear.specs.System.{LinearSystem}
 use Rattle.rg_linear.specs.Dictionary.{Relation}
 use Rattle.rg_linear.specs.Cycle.{CycleBasis}
@@ -77,7 +77,9 @@ effect_too true true v v' rest rest' same too r h = subst (λ x. gives x r) (sam
 effect_too true false v v' rest rest' same too r h = too r h
 
 module _ (lts : System) (arcs : List Arc) (basis : CycleBasis) (class : Class) (problem : Problem) (start : Ratio) (value value' : ℕ → Ratio) (same : (f : ℕ) → Contains (free_columns lts basis) f → value f ≡ value' f) where
-  terms : (t : ℕ) → HasResultsOf (joined add (λ f. and_then (quotient ((basis.relation t).coefficient f) (basis.relation t).d) (λ k. mul (value f) k)) (whole (pos 0)) (free_columns lts basis)) (joined add (λ f. and_then (quotient ((basis.relation t).coefficient f) (basis.relation t).d) (λ k. mul (value' f) k)) (whole (pos 0)) (free_columns lts basis))
+  terms : (t : ℕ) → HasResultsOf (joined add (λ f. and_then (quotient ((basis.relation t).coefficient f) (basis.relation t).d) (λ k. mul (value f) k)) (whole (pos 0))
+      (free_columns lts basis)) (joined add (λ f. and_then (quotient ((basis.relation t).coefficient f) (basis.relation t).d) (λ k. mul (value' f) k)) (whole (pos 0))
+      (free_columns lts basis))
   terms t = joined_too add (λ f. and_then (quotient ((basis.relation t).coefficient f) (basis.relation t).d) (λ k. mul (value f) k)) (λ f. and_then (quotient ((basis.relation t).coefficient f) (basis.relation t).d) (λ k. mul (value' f) k)) (whole (pos 0)) (free_columns lts basis)
       (λ f has r h. subst (λ v. and_then (quotient ((basis.relation t).coefficient f) (basis.relation t).d) (λ k. mul v k) r) (same f has) h)
 

@@ -38,7 +38,7 @@ use Rattle.rg_order_of_work.proofs.ExactRows.{not_in}
 use Rattle.rg_order_of_work.proofs.Lists.{where_is}
 use Rattle.rg_order_of_work.proofs.PointEffects.{in_has}
 use Rattle.rg_order_of_work.proofs.FormBounds.{forms_bounded}
-use Rattle.rg_places.proofs.PointPlaces.{count_is}
+use Rattle.rg_order_of_work.proofs.ColumnValues.{count_is}
 use Rattle.rg_outcome.specs.Casing.{CaseResult, CaseResult.makes, CaseResult.refutes, CaseResult.passes, LeafWide, spread_tree, step_at, term_at, CaseComes, CaseComes.row_passes, CaseComes.pivot_passes, CaseComes.place_passes, CaseComes.place_is_made, CaseComes.leaf_passes, CaseComes.is_refuted}
 use Rattle.rg_outcome.specs.Solving.{Solved, Solved.placed, Solved.refuted, Solved.passed, CasesCome, CasesCome.first_place, CasesCome.all_refuted, CasesCome.first_term, ProblemComes}
 use Rattle.rg_outcome.specs.Coming.{HasResults}
@@ -61,7 +61,9 @@ beside_is : (xs : List ℕ) (at : ℕ → Ratio) → IsInOrder xs → (i : ℕ) 
 unfolding beside
 beside_is [] at order i lt = absurd (omega arith)
 beside_is (x ∷ xs) at order zero lt = ap (λ b. if b then at 0 else beside xs (λ i. at (suc i)) x) (eq-eqb x x refl)
-beside_is (x ∷ xs) at order (suc i) lt = ⊎_elim (λ same. absurd (differs (eqb-true x (slice_index_or xs i 0) same))) (λ other. ap (λ b. if b then at 0 else beside xs (λ i. at (suc i)) (slice_index_or xs i 0)) other ∙ beside_is xs (λ i. at (suc i)) order.1 i (omega arith)) (cases_Bool (x == slice_index_or xs i 0))
+beside_is (x ∷ xs) at order (suc i) lt = ⊎_elim (λ same. absurd (differs (eqb-true x (slice_index_or xs i 0) same)))
+    (λ other. ap (λ b. if b then at 0 else beside xs (λ i. at (suc i)) (slice_index_or xs i 0)) other ∙ beside_is xs (λ i. at (suc i)) order.1 i (omega arith))
+    (cases_Bool (x == slice_index_or xs i 0))
   where
     above : x < slice_index_or xs i 0
     above = order.0 (slice_index_or xs i 0) (i, omega arith, get_or_default xs i (slice_index_or xs i 0) 0 (omega arith))
@@ -131,7 +133,9 @@ module _ (lts : System) (basis : CycleBasis) (class : Class) (system : LinearSys
       let s = some_start in
       let (fs, all) = chosen (λ i f. IsNumber (first_column class + i) f) (length (free_columns lts basis)) (λ i lt. number_at_column (first_column class + i) (let c = columns in let n = count_is lts basis class in omega arith)) in
       let order = in_order _ 0 (labels lts) in
-      let at : (i : ℕ) → i < length (free_columns lts basis) → IsNumber (first_column class + i) (beside (free_columns lts basis) (ratio_at fs) (slice_index_or (free_columns lts basis) i 0)) = λ i lt. subst (IsNumber (first_column class + i)) (sym (beside_is (free_columns lts basis) (ratio_at fs) order i lt)) (all i lt) in
+      let at : (i : ℕ) → i < length (free_columns lts basis)
+      → IsNumber (first_column class + i) (beside (free_columns lts basis) (ratio_at fs) (slice_index_or (free_columns lts basis) i 0)) = λ i lt. subst
+      (IsNumber (first_column class + i)) (sym (beside_is (free_columns lts basis) (ratio_at fs) order i lt)) (all i lt) in
       record {
         start = s.start;
         value = beside (free_columns lts basis) (ratio_at fs);
@@ -255,9 +259,13 @@ dead_or_not lts t = by (find_any (λ (a : Arc). a.label ≡ t) (λ a. cases_eq a
     by (inr none) = inl (λ s s' has. none (record { from = s; label = t; to = s' }) has refl)
 
 pub all_results : (lts : System) (arcs : List Arc) (basis : CycleBasis) (class : Class) → IsInRange lts → HasNumbersInRange class → IsAllReachable lts → IsTree lts arcs → IsBasis lts arcs basis → HasResults lts (ProblemComes lts arcs basis class)
-all_results lts arcs basis class fine numbers reachable is_tree is_basis (Event s t) is = by (dead_or_not lts t) (some_cases (CaseComes lts arcs basis class (Event s t)) (cases_of lts class (Event s t)) (same_result lts arcs basis class (Event s t)) (some_case_result lts arcs basis class fine numbers reachable is_tree is_basis (Event s t) is))
+all_results lts arcs basis class fine numbers reachable is_tree is_basis (Event s t) is = by (dead_or_not lts t)
+    (some_cases (CaseComes lts arcs basis class (Event s t)) (cases_of lts class (Event s t)) (same_result lts arcs basis class (Event s t))
+    (some_case_result lts arcs basis class fine numbers reachable is_tree is_basis (Event s t) is))
   where
     by : IsDead lts t ⊎ ¬ IsDead lts t → (r : Solved) × CasesCome (CaseComes lts arcs basis class (Event s t)) (cases_of lts class (Event s t)) r → (r : Solved) × ProblemComes lts arcs basis class (Event s t) r
     by (inl dead) _ = (placed (blocking (labels lts) t), inl (dead, refl))
     by (inr live) (r, c) = (r, inr (live, c))
-all_results lts arcs basis class fine numbers reachable is_tree is_basis (States s s') is = some_cases (CaseComes lts arcs basis class (States s s')) (cases_of lts class (States s s')) (same_result lts arcs basis class (States s s')) (some_case_result lts arcs basis class fine numbers reachable is_tree is_basis (States s s') is)
+all_results lts arcs basis class fine numbers reachable is_tree is_basis (States s s') is = some_cases (CaseComes lts arcs basis class (States s s'))
+    (cases_of lts class (States s s')) (same_result lts arcs basis class (States s s'))
+    (some_case_result lts arcs basis class fine numbers reachable is_tree is_basis (States s s') is)

@@ -11,7 +11,7 @@ use Rattle.rg_theory.specs.Problem.{IsProblem}
 use Rattle.rg_theory.specs.Region.{IsRegionIn}
 use Rattle.rg_theory.specs.Tree.{IsTree}
 use Rattle.rg_theory.proofs.No.{no_from_unreachable, no_from_fork, no_from_inseparable}
-use Rattle.rg_prune.proofs.Leaving.{left_solves}
+use Rattle.rg_theory.proofs.Leaving.{left_solves}
 use Rattle.rg_refuting.specs.Row.{cases_of}
 use Rattle.rg_refuting.specs.Refutes.{Tree}
 use Rattle.rg_linear.specs.Cycle.{CycleBasis}

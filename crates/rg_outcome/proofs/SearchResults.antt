@@ -12,7 +12,7 @@ use Rattle.rg_theory.specs.declared.Problem.{Problem}
 use Rattle.rg_theory.specs.Problem.{IsProblem, SeparateAll}
 use Rattle.rg_theory.specs.Region.{IsRegion}
 use Rattle.rg_theory.specs.Tree.{IsTree}
-use Rattle.rg_prune.specs.Pruned.{LeavesBehind}
+use Rattle.rg_theory.specs.Pruned.{LeavesBehind}
 use Rattle.rg_refuting.specs.Refutes.{Reason.refuted as refuted_reason}
 use Rattle.rg_linear.specs.Dictionary.{Relation, DictionaryRow, HasDictionary, numbers_from}
 use Rattle.rg_linear.specs.Descent.{WideAt}

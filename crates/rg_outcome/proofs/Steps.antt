@@ -8,8 +8,9 @@ use Rattle.rg_integers.specs.Value.{SameValue}
 use Rattle.rg_integers.proofs.Order.{mul_positive, positive_differs}
 use Rattle.rg_integers.proofs.Ranges.{fits_or_not}
 use Rattle.rg_integers.proofs.Values.{SameValue-parts, SameValue-neg}
-use Rattle.rg_fraction.specs.declared.term.Wide.{Wide}
-use Rattle.rg_fraction.specs.Terms.{FitsTerm, term_value, sum_top, sum_bottom, product_top, product_bottom}
+use Rattle.rg_integers.specs.declared.term.Wide.{Wide}
+use Rattle.rg_fraction.specs.Terms.{sum_top, sum_bottom, product_top, product_bottom}
+use Rattle.rg_integers.specs.Term.{FitsTerm, term_value}
 use Rattle.rg_fraction.proofs.Forms.{left_exact, right_exact, right_positive, quotients_reduced}
 use Rattle.rg_order_of_work.specs.Fold.{gives, and_then, each, further, joined, Ratio, whole, IsRatio, quotient, term, two_terms, add, mul, common_multiple, multiple_of_all}
 use Rattle.rg_order_of_work.proofs.Lists.{first, behind}

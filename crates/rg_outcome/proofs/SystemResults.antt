@@ -25,7 +25,9 @@ use Rattle.rg_linear.specs.Cycle.{CycleBasis, IsZeroVector}
 use Rattle.rg_linear.specs.Firsts.{KeepsFirsts}
 use Rattle.rg_order_of_work.specs.Chords.{IsBasis}
 use Rattle.rg_order_of_work.specs.Fold.{gives, and_then, each, Ratio, whole, quotient, add, mul, multiple_of_all}
-use Rattle.rg_order_of_work.specs.Rewriting.{is_in, has_label, free_labels, dependent_labels, dependent_term, coefficient_fold, substitute_fold, has_start, pick, columns_of, column_count, Scaled, scaled_fold, terms_fold, KeptRow, divided, row_fold, names_of, IsIdle, split_forms, form_low, form_high, form_fold, kept_of, system_fold, count_of, start_of}
+use Rattle.rg_order_of_work.specs.Rewriting.{is_in, has_label, free_labels, dependent_labels, dependent_term, coefficient_fold, substitute_fold, has_start, pick}
+use Rattle.rg_order_of_work.specs.Rewriting.{columns_of, column_count, Scaled, scaled_fold, terms_fold, KeptRow, divided, row_fold, names_of, IsIdle, split_forms}
+use Rattle.rg_order_of_work.specs.Rewriting.{form_low, form_high, form_fold, kept_of, system_fold, count_of, start_of}
 use Rattle.rg_order_of_work.proofs.Lists.{first, behind, where_is}
 use Rattle.rg_order_of_work.proofs.ExactRows.{not_in}
 use Rattle.rg_outcome.proofs.Steps.{HasSome, Makes, Each, each_none, each_cons, some_given, some_then, makes_then, some_each, makes_each, some_further, makes_further, IsOver, whole_over, some_ratio, some_quotient, some_product, sums_join, product_over, some_multiple}
@@ -58,7 +60,9 @@ each_picked P test (f ∷ fs) (r ∷ numbers) all = by (test f) (each_picked P t
     by false rest = rest
 
 each_column : (lts : System) (basis : CycleBasis) (class : Class) (start : ℤ) (free : List Ratio) → Each IsOver free → Each IsOver (columns_of lts basis class start free)
-each_column lts basis class start free all = each_append IsOver (if has_start class then (whole start ∷ []) else []) (pick (λ t. has_label t lts.arcs) (free_labels (labels lts) basis) free) (by (has_start class)) (each_picked IsOver (λ t. has_label t lts.arcs) (free_labels (labels lts) basis) free all)
+each_column lts basis class start free all = each_append IsOver (if has_start class then (whole start ∷ []) else [])
+    (pick (λ t. has_label t lts.arcs) (free_labels (labels lts) basis) free) (by (has_start class))
+    (each_picked IsOver (λ t. has_label t lts.arcs) (free_labels (labels lts) basis) free all)
   where
     by : (b : Bool) → Each IsOver (if b then (whole start ∷ []) else [])
     by true = each_cons IsOver (whole start) [] (whole_over start) (each_none IsOver)
@@ -90,7 +94,9 @@ module _ (lts : System) (basis : CycleBasis) (related : HaveRelations lts basis)
 pub some_scaled : (numbers : List Ratio) → Each IsOver numbers → HasSome (scaled_fold numbers)
 some_scaled numbers over =
     some_then (multiple_of_all (map (λ r. r.bottom) numbers)) (λ m. and_then (each (λ r. mul r (whole m)) numbers) (λ products. gives (record { multiple = m; numbers = map (λ r. r.top) products }))) (some_multiple (map (λ r. r.bottom) numbers))
-    (λ m _. some_then (each (λ r. mul r (whole m)) numbers) (λ products. gives (record { multiple = m; numbers = map (λ r. r.top) products })) (some_each (λ r. mul r (whole m)) numbers (λ r has. some_product r (whole m) (over r has) (whole_over m))) (λ products _. some_given (record { multiple = m; numbers = map (λ r. r.top) products })))
+    (λ m _. some_then (each (λ r. mul r (whole m)) numbers) (λ products. gives (record { multiple = m; numbers = map (λ r. r.top) products }))
+    (some_each (λ r. mul r (whole m)) numbers (λ r has. some_product r (whole m) (over r has) (whole_over m)))
+    (λ products _. some_given (record { multiple = m; numbers = map (λ r. r.top) products })))
 
 some_terms : (lts : System) (arcs : List Arc) (basis : CycleBasis) (class : Class) (terms : List Term) → HaveRelations lts basis → HasSome (terms_fold lts arcs basis class terms)
 some_terms lts arcs basis class terms related =
@@ -214,14 +220,18 @@ some_firsts {X} {K} key Drops drops same seen (x ∷ xs) = by (drops x) (among s
 
 some_form : (lts : System) (arcs : List Arc) (basis : CycleBasis) (class : Class) (form : SplitForm) → HaveRelations lts basis → HasSome (form_fold lts arcs basis class form)
 some_form lts arcs basis class form related =
-    some_then (terms_fold lts arcs basis class (plus (form_variable lts.initial form) ∷ [])) (λ scaled. gives (record { scale = pos (step_of class form) *ℤ scaled.multiple; coeffs = scaled.numbers; low = form_low form; high = form_high lts class form })) (some_terms lts arcs basis class (plus (form_variable lts.initial form) ∷ []) related)
+    some_then (terms_fold lts arcs basis class (plus (form_variable lts.initial form) ∷ []))
+    (λ scaled. gives (record { scale = pos (step_of class form) *ℤ scaled.multiple; coeffs = scaled.numbers; low = form_low form; high = form_high lts class form }))
+    (some_terms lts arcs basis class (plus (form_variable lts.initial form) ∷ []) related)
     (λ scaled _. some_given (record { scale = pos (step_of class form) *ℤ scaled.multiple; coeffs = scaled.numbers; low = form_low form; high = form_high lts class form }))
 
 pub some_system : (lts : System) (arcs : List Arc) (basis : CycleBasis) (class : Class) (problem : Problem) (number : ℕ) → HaveRelations lts basis → HasSome (system_fold lts arcs basis class problem number)
 some_system lts arcs basis class problem number related =
     some_then (each (λ name. row_fold lts arcs basis class name (row_expression lts class problem number [] name)) (names_of lts class problem number)) (λ all. and_then (each (form_fold lts arcs basis class) (split_forms lts class problem)) (λ forms. kept_of lts basis class all forms))
     (some_each (λ name. row_fold lts arcs basis class name (row_expression lts class problem number [] name)) (names_of lts class problem number) (λ name has. some_row lts arcs basis class name (row_expression lts class problem number [] name) related))
-    (λ all _. some_then (each (form_fold lts arcs basis class) (split_forms lts class problem)) (λ forms. kept_of lts basis class all forms) (some_each (form_fold lts arcs basis class) (split_forms lts class problem) (λ form has. some_form lts arcs basis class form related)) (λ forms _. kept all forms))
+    (λ all _. some_then (each (form_fold lts arcs basis class) (split_forms lts class problem)) (λ forms. kept_of lts basis class all forms)
+    (some_each (form_fold lts arcs basis class) (split_forms lts class problem) (λ form has. some_form lts arcs basis class form related))
+    (λ forms _. kept all forms))
   where
     kept : (all : List KeptRow) (forms : List Form) → HasSome (kept_of lts basis class all forms)
     kept all forms = let (rows, keeps) = some_firsts (λ (k : KeptRow). k.row) IsIdle idle same_row [] all in (Ok (record { columns = column_count lts basis class; kept = rows; forms = forms }), (refl, keeps, refl))

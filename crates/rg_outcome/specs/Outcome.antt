@@ -10,7 +10,7 @@ use Rattle.rg_theory.specs.Problem.{IsProblem, SeparateAll, IsInseparable}
 use Rattle.rg_theory.specs.Solves.{Solves}
 use Rattle.rg_theory.specs.Tree.{IsTree}
 use Rattle.rg_refuting.specs.Refutes.{Reason, Reason.unreachable, Reason.fork, Reason.refuted}
-use Rattle.rg_prune.specs.Pruned.{IsPruned}
+use Rattle.rg_theory.specs.Pruned.{IsPruned}
 use Rattle.rg_linear.specs.Cycle.{CycleBasis}
 use Rattle.rg_order_of_work.specs.Chords.{IsBasis}
 use Rattle.rg_order_of_work.specs.Shown.{Stage, Shown, CycleShown, ShownWide}

@@ -21,15 +21,15 @@ ghost use Rattle.rg_outcome.specs.Coming.{Separation, ComesFrom, Comes, IsSepara
 ghost use Rattle.rg_outcome.specs.Blocks.{ComesByBlocks};
 ghost use Rattle.rg_outcome.specs.Outcome.{Answer, Searched, Out, IsSearchRight, IsRight};
 
-use rg_prune::pruned_is_one;
-use rg_theory::{Arc, Class, Problem, one_least_fork};
+use rg_theory::{Arc, Class, Problem, one_least_fork, pruned_is_one};
 
 /// A case of a problem comes to one result: a place, a tree that refutes it, or a term out of range. So does a problem, and
 /// each problem of a system comes to some: every computation ends, or stops at its first step out of range. Neither knows of places that are kept, so a problem may be solved at any time.
 pub fn solving_is_one()
     ensures case { (lts : System) (arcs : List Arc) (basis : CycleBasis) (class : Class) (problem : Problem) (number : ℕ) (r r' : CaseResult) → CaseComes lts arcs basis class problem number r → CaseComes lts arcs basis class problem number r' → r ≡ r' }
     ensures problem { (lts : System) (arcs : List Arc) (basis : CycleBasis) (class : Class) (problem : Problem) (r r' : Solved) → ProblemComes lts arcs basis class problem r → ProblemComes lts arcs basis class problem r' → r ≡ r' }
-    ensures some { (lts : System) (arcs : List Arc) (basis : CycleBasis) (class : Class) (problem : Problem) → IsInRange lts → HasNumbersInRange class → IsAllReachable lts → IsTree lts arcs → IsBasis lts arcs basis → IsProblem lts problem → (r : Solved) × ProblemComes lts arcs basis class problem r }
+    ensures some { (lts : System) (arcs : List Arc) (basis : CycleBasis) (class : Class) (problem : Problem) → IsInRange lts → HasNumbersInRange class
+        → IsAllReachable lts → IsTree lts arcs → IsBasis lts arcs basis → IsProblem lts problem → (r : Solved) × ProblemComes lts arcs basis class problem r }
 {}
 
 /// What is left of all problems, with the places kept so far, comes to one result, and all of them come to some.
@@ -48,18 +48,23 @@ pub fn blocks_come_to_the_same()
 /// refuted, each place that is kept is that of a problem, and the places separate all problems, or the term is that of the
 /// first problem that none of them separates.
 pub fn separation_says()
-    ensures { (lts : System) (arcs : List Arc) (basis : CycleBasis) (class : Class) (o : Separation) → IsInRange lts → HasNumbersInRange class → IsAllReachable lts → IsTree lts arcs → IsBasis lts arcs basis → Comes lts (ProblemComes lts arcs basis class) o → Says lts (ProblemComes lts arcs basis class) o }
+    ensures { (lts : System) (arcs : List Arc) (basis : CycleBasis) (class : Class) (o : Separation) → IsInRange lts → HasNumbersInRange class → IsAllReachable lts
+        → IsTree lts arcs → IsBasis lts arcs basis → Comes lts (ProblemComes lts arcs basis class) o → Says lts (ProblemComes lts arcs basis class) o }
 {}
 
 /// A problem all of whose cases are refuted is separated by no region of the class: a region would give some case a point
 /// with whole forms, and branching leaves none (Schrijver, *Theory of Linear and Integer Programming*).
 pub fn refuted_is_inseparable()
-    ensures { (lts : System) (arcs : List Arc) (basis : CycleBasis) (class : Class) (problem : Problem) (trees : List Tree) → IsInRange lts → HasNumbersInRange class → IsAllReachable lts → IsTree lts arcs → IsBasis lts arcs basis → IsProblem lts problem → ProblemComes lts arcs basis class problem (Solved.refuted trees) → IsInseparable lts class problem }
+    ensures { (lts : System) (arcs : List Arc) (basis : CycleBasis) (class : Class) (problem : Problem) (trees : List Tree) → IsInRange lts → HasNumbersInRange class
+        → IsAllReachable lts → IsTree lts arcs → IsBasis lts arcs basis → IsProblem lts problem → ProblemComes lts arcs basis class problem (Solved.refuted trees)
+        → IsInseparable lts class problem }
 {}
 
 /// The place that a problem comes to is a region of the class that separates it.
 pub fn placed_separates()
-    ensures { (lts : System) (arcs : List Arc) (basis : CycleBasis) (class : Class) (problem : Problem) (p : Place) → IsInRange lts → HasNumbersInRange class → IsAllReachable lts → IsTree lts arcs → IsBasis lts arcs basis → IsProblem lts problem → ProblemComes lts arcs basis class problem (Solved.placed p) → IsSeparatedIn lts class problem p }
+    ensures { (lts : System) (arcs : List Arc) (basis : CycleBasis) (class : Class) (problem : Problem) (p : Place) → IsInRange lts → HasNumbersInRange class
+        → IsAllReachable lts → IsTree lts arcs → IsBasis lts arcs basis → IsProblem lts problem → ProblemComes lts arcs basis class problem (Solved.placed p)
+        → IsSeparatedIn lts class problem p }
 {}
 
 /// A search for places comes to one result. A system and a class have one answer, and always one.

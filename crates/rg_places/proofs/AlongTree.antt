@@ -8,7 +8,7 @@ use Rattle.rg_theory.specs.declared.Arc.{Arc}
 use Rattle.rg_theory.specs.System.{System, states, labels, IsInRange, IsArcInRange}
 use Rattle.rg_theory.specs.Tree.{IsTree}
 use Rattle.rg_theory.proofs.Trees.{tree_arcs}
-use Rattle.rg_fraction.specs.declared.term.Wide.{Wide}
+use Rattle.rg_integers.specs.declared.term.Wide.{Wide}
 use Rattle.rg_fraction.specs.declared.fraction.Fraction.{Fraction}
 use Rattle.rg_fraction.specs.Fractions.{numerator_of, denominator_of, IsSum}
 use Rattle.rg_order_of_work.specs.Fold.{Ratio, whole, add, ratio_of, shown_result}
@@ -19,7 +19,7 @@ use Rattle.rg_places.specs.PointValues.{ratios_of}
 use Rattle.rg_places.specs.Steps.{IsAlongTree}
 use Rattle.rg_places.proofs.FractionSteps.{ratio_there}
 use Rattle.rg_places.proofs.FoldSteps.{left_at}
-use Rattle.rg_places.proofs.Found.{all_at, all_length}
+use Rattle.rg_order_of_work.proofs.Found.{all_at, all_length}
 
 -- an arc of the tree names states and a label
 pub tree_arc_in_range : (lts : System) (tree : List Arc) (i : ℕ) (d : Arc) → IsInRange lts → IsTree lts tree → i < length tree → IsArcInRange lts (slice_index_or tree i d)
@@ -85,7 +85,9 @@ module _ (lts : System) (tree : List Arc) (found numbers : List Fraction) where
       within = let e = count in omega arith
 
       same : (s : ℕ) → s < states lts → ratio_at (ratios_of numbers) s ≡ ratio_at (ratios_of found) (labels lts)
-      same s lt = ap (λ l. ratio_at (ratios_of l) s) are ∙ get_or-map ratio_of (replicate (states lts) start) s start (whole (pos 0)) (subst (λ n. s < n) (sym (length-replicate (states lts) start)) lt) ∙ ap ratio_of (get_or-replicate (states lts) s start start lt) ∙ ratio_there found (labels lts) start within at
+      same s lt = ap (λ l. ratio_at (ratios_of l) s) are ∙ get_or-map ratio_of (replicate (states lts) start) s start (whole (pos 0))
+          (subst (λ n. s < n) (sym (length-replicate (states lts) start)) lt) ∙ ap ratio_of (get_or-replicate (states lts) s start start lt)
+          ∙ ratio_there found (labels lts) start within at
 
   module _ (i : ℕ) (d : Arc) (fine : IsInRange lts) (is : IsTree lts tree) (lt : i < length tree) (so_far : AlongLeads lts tree (ratios_of found) i (ratios_of numbers)) (count : length found ≡ labels lts + 1) where
     abbrev next : Arc
@@ -97,7 +99,8 @@ module _ (lts : System) (tree : List Arc) (found numbers : List Fraction) where
     many : length numbers ≡ states lts
     many = sym (length-map numbers ratio_of) ∙ so_far.one_each
 
-    module _ (source effect : Fraction) (source_is : source ≡ slice_index_or numbers next.from source) (effect_is : effect ≡ slice_index_or found next.label effect) (r : Result Fraction Wide) (sum : IsSum (numerator_of source) (denominator_of source) (numerator_of effect) (denominator_of effect) r) where
+    module _ (source effect : Fraction) (source_is : source ≡ slice_index_or numbers next.from source) (effect_is : effect ≡ slice_index_or found next.label effect)
+        (r : Result Fraction Wide) (sum : IsSum (numerator_of source) (denominator_of source) (numerator_of effect) (denominator_of effect) r) where
       added : add (ratio_at (ratios_of numbers) next.from) (ratio_at (ratios_of found) next.label) (shown_result ratio_of r)
       added = subst (λ x. add x (ratio_at (ratios_of found) next.label) (shown_result ratio_of r)) (ratio_there numbers next.from source (subst (λ n. next.from < n) (sym many) ends.0) source_is)
           (subst (λ y. add (ratio_of source) y (shown_result ratio_of r)) (ratio_there found next.label effect (let k = ends.1 in let e = count in omega arith) effect_is) (add_step source effect r sum))
@@ -106,4 +109,6 @@ module _ (lts : System) (tree : List Arc) (found numbers : List Fraction) where
       step_fails w e = along_fails lts tree (ratios_of found) i (ratios_of numbers) so_far next lt (get_or_default tree i d next lt) ends.0 w (subst (λ x. add (ratio_at (ratios_of numbers) next.from) (ratio_at (ratios_of found) next.label) (shown_result ratio_of x)) e added)
 
       pub step_next : (m : Fraction) → r ≡ Ok m → AlongLeads lts tree (ratios_of found) (i + 1) (ratios_of (set numbers next.to m))
-      step_next m e = subst (AlongLeads lts tree (ratios_of found) (i + 1)) (sym (map-set ratio_of numbers next.to m)) (along_next lts tree (ratios_of found) i (ratios_of numbers) so_far next lt (get_or_default tree i d next lt) ends.0 (ratio_of m) ends.2 (subst (λ x. add (ratio_at (ratios_of numbers) next.from) (ratio_at (ratios_of found) next.label) (shown_result ratio_of x)) e added))
+      step_next m e = subst (AlongLeads lts tree (ratios_of found) (i + 1)) (sym (map-set ratio_of numbers next.to m))
+          (along_next lts tree (ratios_of found) i (ratios_of numbers) so_far next lt (get_or_default tree i d next lt) ends.0 (ratio_of m) ends.2
+          (subst (λ x. add (ratio_at (ratios_of numbers) next.from) (ratio_at (ratios_of found) next.label) (shown_result ratio_of x)) e added))

@@ -16,7 +16,9 @@ where_filtered : (p q : ℕ → Bool) (a n : ℕ) → numbers_where (λ t. p t &
 where_filtered p q a zero = refl
 where_filtered p q a (suc n) = go (p a) (q a) refl (where_filtered p q (suc a) n)
   where
-    go : (x y : Bool) → q a ≡ y → numbers_where (λ t. p t && q t) (suc a) n ≡ filter q (numbers_where p (suc a) n) → (if x && y then (a ∷ numbers_where (λ t. p t && q t) (suc a) n) else numbers_where (λ t. p t && q t) (suc a) n) ≡ filter q (if x then (a ∷ numbers_where p (suc a) n) else numbers_where p (suc a) n)
+    go : (x y : Bool) → q a ≡ y → numbers_where (λ t. p t && q t) (suc a) n ≡ filter q (numbers_where p (suc a) n)
+        → (if x && y then (a ∷ numbers_where (λ t. p t && q t) (suc a) n) else numbers_where (λ t. p t && q t) (suc a) n) ≡ filter q
+        (if x then (a ∷ numbers_where p (suc a) n) else numbers_where p (suc a) n)
     go true true is e = ap (λ l. a ∷ l) e ∙ sym (ap (λ b. cond b (a ∷ filter q (numbers_where p (suc a) n)) (filter q (numbers_where p (suc a) n))) is)
     go true false is e = e ∙ sym (ap (λ b. cond b (a ∷ filter q (numbers_where p (suc a) n)) (filter q (numbers_where p (suc a) n))) is)
     go false y is e = e
@@ -48,7 +50,9 @@ module _ (lts : System) (basis : CycleBasis) (values : List Fraction) (place : �
     from_here : drop place (free_labels (labels lts) basis) ≡ label ∷ drop (place + 1) (free_labels (labels lts) basis)
     from_here = left_at (free_labels (labels lts) basis) place label within (sym is ∙ get_or_default (free_labels (labels lts) basis) place 0 label within)
 
-    by_test : filter (λ t. has_label t lts.arcs) (drop place (free_labels (labels lts) basis)) ≡ cond (has_label label lts.arcs) (label ∷ filter (λ t. has_label t lts.arcs) (drop (place + 1) (free_labels (labels lts) basis))) (filter (λ t. has_label t lts.arcs) (drop (place + 1) (free_labels (labels lts) basis)))
+    by_test : filter (λ t. has_label t lts.arcs) (drop place (free_labels (labels lts) basis)) ≡ cond (has_label label lts.arcs)
+        (label ∷ filter (λ t. has_label t lts.arcs) (drop (place + 1) (free_labels (labels lts) basis)))
+        (filter (λ t. has_label t lts.arcs) (drop (place + 1) (free_labels (labels lts) basis)))
     by_test = ap (filter (λ t. has_label t lts.arcs)) from_here
 
     pub columns_passed : has_label label lts.arcs ≡ false → ColumnsSoFar lts basis values (place + 1) columns
@@ -73,7 +77,10 @@ module _ (lts : System) (basis : CycleBasis) (values : List Fraction) (place : �
 
       pub columns_taken : (value : Fraction) → value ≡ slice_index_or values (length columns) value → ColumnsSoFar lts basis values (place + 1) (columns ++ record { label = label; place = place; value = value } ∷ [])
       columns_taken value at = record {
-        labels_are = ap (λ l. l ++ filter (λ t. has_label t lts.arcs) (drop (place + 1) (free_labels (labels lts) basis))) (map-append (λ c. c.label) columns (record { label = label; place = place; value = value } ∷ [])) ∙ append_assoc (labels_in columns) (label ∷ []) (filter (λ t. has_label t lts.arcs) (drop (place + 1) (free_labels (labels lts) basis))) ∙ ap (λ l. labels_in columns ++ l) (sym taken_here) ∙ so_far.labels_are;
+        labels_are = ap (λ l. l ++ filter (λ t. has_label t lts.arcs) (drop (place + 1) (free_labels (labels lts) basis)))
+            (map-append (λ c. c.label) columns (record { label = label; place = place; value = value } ∷ []))
+            ∙ append_assoc (labels_in columns) (label ∷ []) (filter (λ t. has_label t lts.arcs) (drop (place + 1) (free_labels (labels lts) basis)))
+            ∙ ap (λ l. labels_in columns ++ l) (sym taken_here) ∙ so_far.labels_are;
         placed = All-append (IsPlaced (free_labels (labels lts) basis)) columns (record { label = label; place = place; value = value } ∷ []) so_far.placed one;
         values_are = map-append (λ c. c.value) columns (record { label = label; place = place; value = value } ∷ []) ∙ ap (λ l. l ++ value ∷ []) so_far.values_are ∙ more;
       }

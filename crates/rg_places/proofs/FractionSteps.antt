@@ -1,7 +1,7 @@
 -- What calls of fractions answer are steps of folds.
 use Rattle.std.proofs.Common.{◌≡◌, ◌≢◌, ℕ, ◌<◌, slice_index_or, subst, List, [], ◌∷◌, length, ap, sym, ◌∙◌, Result, Ok, Err, inr, arith}
 use Rattle.std.specs.Prelude.{ℤ, pos, neg_ℤ, ◌+ℤ◌, ◌*ℤ◌}
-use Rattle.rg_fraction.specs.declared.term.Wide.{Wide}
+use Rattle.rg_integers.specs.declared.term.Wide.{Wide}
 use Rattle.rg_fraction.specs.declared.fraction.Fraction.{Fraction}
 use Rattle.rg_fraction.specs.Fractions.{numerator_of, denominator_of, IsValue, IsSum, IsProduct}
 use Rattle.rg_integers.proofs.Order.{mul_positive, positive_differs}
@@ -9,7 +9,7 @@ use Rattle.rg_order_of_work.specs.Fold.{and_then, joined, ratio_of, shown_result
 use Rattle.rg_order_of_work.specs.Placing.{negated, ratio_at, top_at}
 use Rattle.std.proofs.lemmas.List.{length-map, get_or_default}
 use Rattle.rg_integers.specs.Range.{InRange}
-use Rattle.rg_cycles.proofs.Folding.{whole_is}
+use Rattle.rg_order_of_work.proofs.Folding.{whole_is}
 use Rattle.rg_cycles.proofs.AddsNothing.{value_adds_nothing, number_adds_nothing}
 use Rattle.rg_places.specs.PointValues.{ratios_of}
 use Rattle.rg_places.proofs.FoldSteps.{map_at}
@@ -17,12 +17,24 @@ use Rattle.rg_order_of_work.proofs.FoldLemmas.{new_step, mul_step}
 
 -- a difference is the sum with the negated number
 pub sub_step : (f g : Fraction) (r : Result Fraction Wide) → IsSum (numerator_of f) (denominator_of f) (neg_ℤ (numerator_of g)) (denominator_of g) r → add (ratio_of f) (negated (ratio_of g)) (shown_result ratio_of r)
-sub_step f g (Ok h) (top, bottom, v) = (top, bottom, new_step h ((numerator_of f *ℤ denominator_of g) +ℤ (neg_ℤ (numerator_of g) *ℤ denominator_of f)) (denominator_of f *ℤ denominator_of g) (positive_differs (denominator_of f *ℤ denominator_of g) (mul_positive (denominator_of f) (denominator_of g) f.positive g.positive)) v)
+sub_step f g (Ok h) (top, bottom, v) = (
+  top,
+  bottom,
+  new_step h ((numerator_of f *ℤ denominator_of g) +ℤ (neg_ℤ (numerator_of g) *ℤ denominator_of f))
+      (denominator_of f *ℤ denominator_of g) (positive_differs (denominator_of f *ℤ denominator_of g)
+      (mul_positive (denominator_of f) (denominator_of g) f.positive g.positive)) v,
+)
 sub_step f g (Err w) passes = passes
 
 -- a sum
 pub add_step : (f g : Fraction) (r : Result Fraction Wide) → IsSum (numerator_of f) (denominator_of f) (numerator_of g) (denominator_of g) r → add (ratio_of f) (ratio_of g) (shown_result ratio_of r)
-add_step f g (Ok h) (top, bottom, v) = (top, bottom, new_step h ((numerator_of f *ℤ denominator_of g) +ℤ (numerator_of g *ℤ denominator_of f)) (denominator_of f *ℤ denominator_of g) (positive_differs (denominator_of f *ℤ denominator_of g) (mul_positive (denominator_of f) (denominator_of g) f.positive g.positive)) v)
+add_step f g (Ok h) (top, bottom, v) = (
+  top,
+  bottom,
+  new_step h ((numerator_of f *ℤ denominator_of g) +ℤ (numerator_of g *ℤ denominator_of f))
+      (denominator_of f *ℤ denominator_of g) (positive_differs (denominator_of f *ℤ denominator_of g)
+      (mul_positive (denominator_of f) (denominator_of g) f.positive g.positive)) v,
+)
 add_step f g (Err w) passes = passes
 
 -- a value times a quotient

@@ -5,7 +5,7 @@ use Rattle.std.proofs.lemmas.List.{append-nil}
 use Rattle.rg_theory.specs.System.{System, HasArc}
 use Rattle.rg_order_of_work.specs.Fold.{Ratio}
 use Rattle.rg_order_of_work.specs.Rewriting.{numbers_where, has_label_at}
-use Rattle.rg_cycles.proofs.Folding.{where_taken, where_left, where_ends}
+use Rattle.rg_order_of_work.proofs.Folding.{where_taken, where_left, where_ends}
 use Rattle.rg_order_of_work.proofs.Names.{found_at}
 use Rattle.rg_order_of_work.proofs.LeftOut.{finds_at}
 

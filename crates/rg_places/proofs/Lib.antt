@@ -1,15 +1,3 @@
-pub mod Wholes
-pub mod EffectValues
-pub mod Found
-pub mod Moved
-pub mod Overs
-pub mod Reduced
-pub mod Lowered
-pub mod Kept
-pub mod WholeKept
-pub mod PlaceWeights
-pub mod Made
-pub mod Points
 pub mod FoldSteps
 pub mod FractionSteps
 pub mod ColumnLists

@@ -7,18 +7,18 @@ use Rattle.rg_theory.specs.declared.Class.{Class}
 use Rattle.rg_theory.specs.declared.Problem.{Problem}
 use Rattle.rg_theory.specs.System.{System, states, labels}
 use Rattle.rg_theory.specs.Net.{Place}
-use Rattle.rg_fraction.specs.declared.term.Wide.{Wide}
+use Rattle.rg_integers.specs.declared.term.Wide.{Wide}
 use Rattle.rg_linear.specs.Cycle.{CycleBasis}
 use Rattle.rg_order_of_work.specs.Fold.{gives, and_then, either, each, IsOne, Ratio, whole, add, mul, multiple_of_all}
 use Rattle.rg_order_of_work.proofs.FoldLemmas.{and_then_one, each_one}
 use Rattle.rg_order_of_work.proofs.OneResult.{effect_one, whole_one, along_one, shift_one}
 use Rattle.rg_order_of_work.specs.Rewriting.{all_numbers}
 use Rattle.rg_order_of_work.specs.Placing.{effect_fold, negated, made_whole, ratio_at, along_tree, least_of, is_shifted, is_lifted, missing, shift_fold, top_at, taken, place_fold}
-use Rattle.rg_places.specs.Places.{numbers_fold}
+use Rattle.rg_order_of_work.specs.Places.{numbers_fold}
 use Rattle.rg_places.specs.Steps.{IsAlongTree, found_fold, weights_fold}
-use Rattle.rg_cycles.proofs.Items.{each_length}
-use Rattle.rg_places.proofs.PlaceWeights.{taken_length, given_length}
-use Rattle.rg_places.proofs.Found.{all_length, TimesMarking}
+use Rattle.rg_order_of_work.proofs.Items.{each_length}
+use Rattle.rg_order_of_work.proofs.PlaceWeights.{taken_length, given_length}
+use Rattle.rg_order_of_work.proofs.Found.{all_length, TimesMarking}
 
 -- ---- answers
 
@@ -58,7 +58,8 @@ module _ (class : Class) (numbers : List Ratio) where
   pub products_fail : (m : ℤ) (w : Wide) → (class.plain || is_some class.bound) ≡ false → multiple_of_all (map (λ r. r.bottom) numbers) (Ok m) → each (λ r. mul r (whole m)) numbers (Err w) → made_whole class numbers (Err w)
   products_fail m w e h products = made_by e (Err w) (inr (m, h, inl products))
 
-  pub multiple_makes : (m : ℤ) (products : List Ratio) → (class.plain || is_some class.bound) ≡ false → multiple_of_all (map (λ r. r.bottom) numbers) (Ok m) → each (λ r. mul r (whole m)) numbers (Ok products) → (r : Result (List Ratio) Wide) → TimesMarking class products r → made_whole class numbers r
+  pub multiple_makes : (m : ℤ) (products : List Ratio) → (class.plain || is_some class.bound) ≡ false → multiple_of_all (map (λ r. r.bottom) numbers) (Ok m)
+      → each (λ r. mul r (whole m)) numbers (Ok products) → (r : Result (List Ratio) Wide) → TimesMarking class products r → made_whole class numbers r
   multiple_makes m products e h are (Ok found) times = made_by e (Ok found) (m, h, (products, are, times))
   multiple_makes m products e h are (Err w) times = made_by e (Err w) (inr (m, h, inr (products, are, times)))
 
@@ -93,7 +94,9 @@ moved_length class numbers moved h = go (is_shifted class) h
 pub lifted_kept : (lts : System) (class : Class) (problem : Problem) (moved : List Ratio) → is_lifted class problem ≡ false → Lifted lts class problem moved (Ok moved)
 lifted_kept lts class problem moved e = subst (λ b. either b (each (λ m. add m (whole (pos (missing (unwrap_or class.marking 1) (unsigned_abs (top_at moved lts.initial)))))) moved) (gives moved) (Ok moved)) (sym e) refl
 
-pub lifted_made : (lts : System) (class : Class) (problem : Problem) (moved : List Ratio) (by : Ratio) → by ≡ whole (pos (missing (unwrap_or class.marking 1) (unsigned_abs (top_at moved lts.initial)))) → is_lifted class problem ≡ true → (r : Result (List Ratio) Wide) → each (λ m. add m by) moved r → Lifted lts class problem moved r
+pub lifted_made : (lts : System) (class : Class) (problem : Problem) (moved : List Ratio) (by : Ratio)
+    → by ≡ whole (pos (missing (unwrap_or class.marking 1) (unsigned_abs (top_at moved lts.initial)))) → is_lifted class problem ≡ true → (r : Result (List Ratio) Wide)
+    → each (λ m. add m by) moved r → Lifted lts class problem moved r
 lifted_made lts class problem moved by is e r h =
     subst (λ b. either b (each (λ m. add m (whole (pos (missing (unwrap_or class.marking 1) (unsigned_abs (top_at moved lts.initial)))))) moved) (gives moved) r) (sym e) (subst (λ l. each (λ m. add m l) moved r) is h)
 
@@ -136,7 +139,9 @@ module _ (lts : System) (tree : List Arc) (basis : CycleBasis) (class : Class) (
   found_fails w (inr (effects, made, h)) = inr (effects, made, inl h)
 
   module _ (found : List Ratio) (is_found : found_fold lts basis class start value (Ok found)) where
-    along_passes : (w : Wide) → (effects : List Ratio) × each (effect_fold lts basis value) (all_numbers (labels lts)) (Ok effects) × made_whole class (effects ++ start ∷ []) (Ok found) → along_tree (ratio_at found) (λ s. ratio_at found (labels lts)) tree (Err w) → place_fold lts tree basis class problem start value (Err w)
+    along_passes : (w : Wide) → (effects : List Ratio) × each (effect_fold lts basis value) (all_numbers (labels lts)) (Ok effects)
+        × made_whole class (effects ++ start ∷ []) (Ok found) → along_tree (ratio_at found) (λ s. ratio_at found (labels lts)) tree (Err w)
+        → place_fold lts tree basis class problem start value (Err w)
     along_passes w (effects, made, whole_made) h = inr (effects, made, inr (found, whole_made, inl h))
 
     pub tree_fails : (w : Wide) → along_tree (ratio_at found) (λ s. ratio_at found (labels lts)) tree (Err w) → place_fold lts tree basis class problem start value (Err w)
@@ -165,7 +170,9 @@ module _ (lts : System) (tree : List Arc) (basis : CycleBasis) (class : Class) (
         pub place_made_by : (r : Result Place Wide) → weights_fold lts class problem found numbers r → place_fold lts tree basis class problem start value r
         place_made_by r h = go is_found is_along r h
           where
-            go : (effects : List Ratio) × each (effect_fold lts basis value) (all_numbers (labels lts)) (Ok effects) × made_whole class (effects ++ start ∷ []) (Ok found) → IsAlongTree lts tree found before → (r : Result Place Wide) → weights_fold lts class problem found numbers r → place_fold lts tree basis class problem start value r
+            go : (effects : List Ratio) × each (effect_fold lts basis value) (all_numbers (labels lts)) (Ok effects)
+                × made_whole class (effects ++ start ∷ []) (Ok found) → IsAlongTree lts tree found before → (r : Result Place Wide)
+                → weights_fold lts class problem found numbers r → place_fold lts tree basis class problem start value r
             go (effects, made, whole_made) (number, along, are) (Ok place) h = (effects, made, (found, whole_made, (number, along, (numbers, subst (λ l. shift_fold lts class problem l (Ok numbers)) are is_shift, h))))
             go (effects, made, whole_made) (number, along, are) (Err w) h = inr (effects, made, inr (found, whole_made, inr (number, along, inr (numbers, subst (λ l. shift_fold lts class problem l (Ok numbers)) are is_shift, h))))
 

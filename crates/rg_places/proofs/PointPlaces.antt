@@ -14,12 +14,13 @@ use Rattle.rg_linear.specs.Cycle.{CycleBasis}
 use Rattle.rg_linear.proofs.Members.{IsInOrder}
 use Rattle.rg_order_of_work.specs.Fold.{Ratio, whole, ratio_of}
 use Rattle.rg_order_of_work.specs.Rewriting.{free_columns, has_start, column_count}
+use Rattle.rg_order_of_work.proofs.ColumnValues.{count_is}
 use Rattle.rg_order_of_work.specs.Placing.{ratio_at}
 use Rattle.rg_order_of_work.specs.Shown.{IsValueAt, PointOf}
 use Rattle.rg_order_of_work.specs.Meaning.{first_column}
 use Rattle.rg_cycles.proofs.Labels.{where_order}
-use Rattle.rg_places.specs.Places.{IsReduced, AreAtPoint}
-use Rattle.rg_places.proofs.Overs.{whole_reduced}
+use Rattle.rg_order_of_work.specs.Places.{IsReduced, AreAtPoint}
+use Rattle.rg_order_of_work.proofs.Overs.{whole_reduced}
 use Rattle.rg_places.specs.PointValues.{ratios_of, ratio_beside, point_start, point_value, HasValues}
 use Rattle.rg_places.specs.Steps.{value_by, AreFreeColumns}
 use Rattle.rg_places.specs.declared.columns.Column.{Column}
@@ -30,7 +31,9 @@ beside_in_order : (ls : List ℕ) (rs : List Ratio) → IsInOrder ls → (i : �
 beside_in_order [] rs order i lt = absurd (omega arith)
 beside_in_order (x ∷ ls) [] order i lt = refl
 beside_in_order (x ∷ ls) (r ∷ rs) order zero lt = ap (λ b. if b then r else ratio_beside ls rs x) (eq-eqb x x refl)
-beside_in_order (x ∷ ls) (r ∷ rs) order (suc i) lt = ⊎_elim (λ same. absurd (differs (eqb-true x (slice_index_or ls i 0) same))) (λ other. ap (λ b. if b then r else ratio_beside ls rs (slice_index_or ls i 0)) other ∙ beside_in_order ls rs order.1 i (omega arith)) (cases_Bool (x == slice_index_or ls i 0))
+beside_in_order (x ∷ ls) (r ∷ rs) order (suc i) lt = ⊎_elim (λ same. absurd (differs (eqb-true x (slice_index_or ls i 0) same)))
+    (λ other. ap (λ b. if b then r else ratio_beside ls rs (slice_index_or ls i 0)) other ∙ beside_in_order ls rs order.1 i (omega arith))
+    (cases_Bool (x == slice_index_or ls i 0))
   where
     above : x < slice_index_or ls i 0
     above = order.0 (slice_index_or ls i 0) (i, omega arith, get_or_default ls i (slice_index_or ls i 0) 0 (omega arith))
@@ -43,13 +46,6 @@ pub value_at_column : (lts : System) (basis : CycleBasis) (class : Class) (point
 value_at_column lts basis class point i lt = beside_in_order (free_columns lts basis) (drop (first_column class) (ratios_of point)) (where_order _ 0 (labels lts)) i lt ∙ get_or-drop (first_column class) (ratios_of point) i (whole (pos 0))
 
 -- ---- how many columns there are
-
-pub count_is : (lts : System) (basis : CycleBasis) (class : Class) → column_count lts basis class ≡ first_column class + length (free_columns lts basis)
-count_is lts basis class = go (has_start class)
-  where
-    go : (b : Bool) → length ((if b then (pos 0 ∷ []) else []) ++ map pos (free_columns lts basis)) ≡ (if b then 1 else 0) + length (free_columns lts basis)
-    go true = let e = length-map (free_columns lts basis) pos in omega arith
-    go false = let e = length-map (free_columns lts basis) pos in omega arith
 
 module _ (lts : System) (basis : CycleBasis) (class : Class) (point : List Fraction) (columns : length point ≡ column_count lts basis class) where
   pub one_each : length (drop (first_column class) point) ≡ length (free_columns lts basis)

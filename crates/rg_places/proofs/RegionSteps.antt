@@ -18,11 +18,11 @@ use Rattle.rg_order_of_work.specs.Rewriting.{column_count}
 use Rattle.rg_order_of_work.specs.Placing.{place_fold}
 use Rattle.rg_order_of_work.specs.Shown.{IsLive}
 use Rattle.rg_order_of_work.proofs.FoldLemmas.{ok_is}
-use Rattle.rg_places.specs.Places.{numbers_fold, tokens_of, PlaceIsMade}
+use Rattle.rg_order_of_work.specs.Places.{numbers_fold, tokens_of, PlaceIsMade}
 use Rattle.rg_places.specs.PointValues.{point_start, point_value, SolvesCase}
 use Rattle.rg_places.specs.RegionPlaces.{region_tokens, IsRegionPlace, PlaceSeparates}
-use Rattle.rg_places.specs.declared.region_place.RegionPlace.{RegionPlace}
-use Rattle.rg_places.proofs.Points.{point_makes}
+use Rattle.rg_marks.specs.declared.region_place.RegionPlace.{RegionPlace}
+use Rattle.rg_order_of_work.proofs.PlacePoints.{point_makes}
 use Rattle.rg_places.proofs.PointPlaces.{at_point}
 use Rattle.rg_places.proofs.PlaceSteps.{numbers_one, weights_of_all}
 
@@ -32,7 +32,10 @@ tokens_in (n ∷ numbers) zero = refl
 tokens_in (n ∷ numbers) (suc s) = tokens_in numbers s
 
 module _ (lts : System) (tree : List Arc) (basis : CycleBasis) (class : Class) (problem : Problem) (point : List Fraction) (r : RegionPlace) (numbers : List Ratio) where
-  region_of : numbers_fold lts tree basis class problem (point_start class point) (point_value lts basis class point) (Ok numbers) → r.tokens.items ≡ map (λ n. unsigned_abs n.top) numbers → length numbers ≡ states lts → (length r.place.pre.items ≡ labels lts) × (length r.place.post.items ≡ labels lts) → PlaceIsMade lts tree basis class problem (point_start class point) (point_value lts basis class point) (shown_place r.place) → IsRegionPlace lts class r × PlaceSeparates problem r
+  region_of : numbers_fold lts tree basis class problem (point_start class point) (point_value lts basis class point) (Ok numbers)
+      → r.tokens.items ≡ map (λ n. unsigned_abs n.top) numbers → length numbers ≡ states lts → (length r.place.pre.items ≡ labels lts)
+      × (length r.place.post.items ≡ labels lts) → PlaceIsMade lts tree basis class problem (point_start class point) (point_value lts basis class point)
+      (shown_place r.place) → IsRegionPlace lts class r × PlaceSeparates problem r
   region_of made tokens count (pre, post) m = (
     record {
       states = ap length tokens ∙ length-map numbers (λ n. unsigned_abs n.top) ∙ count;
@@ -57,7 +60,10 @@ module _ (lts : System) (tree : List Arc) (basis : CycleBasis) (class : Class) (
       few : All (λ n. n ≤ greatest) r.tokens.items
       few k d lt = subst (λ n. n ≤ greatest) (sym (get_or_default r.tokens.items k d 0 lt ∙ at k)) (m.fit.tokens k)
 
-  pub region_made : length point ≡ column_count lts basis class → IsLive lts problem → SolvesCase lts tree basis class problem point → numbers_fold lts tree basis class problem (point_start class point) (point_value lts basis class point) (Ok numbers) → place_fold lts tree basis class problem (point_start class point) (point_value lts basis class point) (Ok (shown_place r.place)) → r.tokens.items ≡ map (λ n. unsigned_abs n.top) numbers → length numbers ≡ states lts → IsRegionPlace lts class r × PlaceSeparates problem r
+  pub region_made : length point ≡ column_count lts basis class → IsLive lts problem → SolvesCase lts tree basis class problem point
+      → numbers_fold lts tree basis class problem (point_start class point) (point_value lts basis class point) (Ok numbers)
+      → place_fold lts tree basis class problem (point_start class point) (point_value lts basis class point) (Ok (shown_place r.place))
+      → r.tokens.items ≡ map (λ n. unsigned_abs n.top) numbers → length numbers ≡ states lts → IsRegionPlace lts class r × PlaceSeparates problem r
   region_made columns live s made fold tokens count = region_of made tokens count (weights_of_all lts tree basis class problem (point_start class point) (point_value lts basis class point) (shown_place r.place) fold)
       (point_makes lts tree basis class problem s.number s.case s.scale s.v (point_start class point) (point_value lts basis class point) (shown_place r.place) s.of_case live s.is_point s.meets s.whole (at_point lts basis class point columns s.scale s.v s.values) fold)
 

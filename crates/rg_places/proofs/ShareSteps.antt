@@ -4,7 +4,7 @@ use Rattle.std.specs.Prelude.{pos}
 use Rattle.std.proofs.lemmas.List.{length-map, get_or-map}
 use Rattle.rg_theory.specs.System.{System, labels}
 use Rattle.rg_integers.specs.Sum.{number_at}
-use Rattle.rg_fraction.specs.declared.term.Wide.{Wide}
+use Rattle.rg_integers.specs.declared.term.Wide.{Wide}
 use Rattle.rg_linear.specs.Cycle.{CycleBasis}
 use Rattle.rg_linear.proofs.Members.{IsInOrder}
 use Rattle.rg_order_of_work.specs.Fold.{gives, and_then, either, joined, Ratio, whole, ratio_of, quotient, add, mul}

@@ -16,7 +16,7 @@ use Rattle.rg_order_of_work.specs.Placing.{top_at, taken_by_effect, taken}
 use Rattle.rg_places.specs.PointValues.{ratios_of}
 use Rattle.rg_places.specs.Steps.{taken_to_stop}
 use Rattle.rg_places.proofs.FractionSteps.{top_there}
-use Rattle.rg_places.proofs.PlaceWeights.{taken_fits, taken_at, taken_length}
+use Rattle.rg_order_of_work.proofs.PlaceWeights.{taken_fits, taken_at, taken_length}
 
 abbrev by_effects : List Fraction → List ℤ
 by_effects effects = map (λ e. taken_by_effect (numerator_of e)) effects
@@ -47,7 +47,9 @@ module _ (lts : System) (class : Class) (numbers : List Ratio) (found : List Fra
   pub states_taken : (s other : ℕ) → by_effects (take (labels lts) found) ≡ map (taken lts class (States s other) numbers (ratios_of found)) (all_numbers (labels lts))
   states_taken s other = over_labels (labels lts) (taken lts class (States s other) numbers (ratios_of found)) (by_effects (take (labels lts) found)) effects_count (at_label (some_item found (let e = count in omega arith)))
 
-  pub event_taken : (s t : ℕ) (effect : Fraction) (z : ℤ) → t < labels lts → effect ≡ slice_index_or found t effect → z ≡ taken_to_stop lts class numbers (numerator_of effect) t → set (by_effects (take (labels lts) found)) t z ≡ map (taken lts class (Event s t) numbers (ratios_of found)) (all_numbers (labels lts))
+  pub event_taken : (s t : ℕ) (effect : Fraction) (z : ℤ) → t < labels lts → effect ≡ slice_index_or found t effect
+      → z ≡ taken_to_stop lts class numbers (numerator_of effect) t → set (by_effects (take (labels lts) found)) t z ≡ map
+      (taken lts class (Event s t) numbers (ratios_of found)) (all_numbers (labels lts))
   event_taken s t effect z below at is = over_labels (labels lts) (taken lts class (Event s t) numbers (ratios_of found)) (set (by_effects (take (labels lts) found)) t z) (length-set (by_effects (take (labels lts) found)) t z ∙ effects_count)
       (λ u lt. ⊎_elim (λ e. here u e) (λ e. other u lt e) (cases_Bool (u == t)))
     where

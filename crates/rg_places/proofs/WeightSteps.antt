@@ -8,7 +8,7 @@ use Rattle.rg_theory.specs.Net.{Place}
 use Rattle.rg_theory.specs.declared.Class.{Class}
 use Rattle.rg_theory.specs.declared.Problem.{Problem}
 use Rattle.rg_integers.specs.Sum.{number_at}
-use Rattle.rg_fraction.specs.declared.term.Wide.{Wide}
+use Rattle.rg_integers.specs.declared.term.Wide.{Wide}
 use Rattle.rg_fraction.specs.declared.fraction.Fraction.{Fraction}
 use Rattle.rg_fraction.specs.Fractions.{numerator_of}
 use Rattle.rg_order_of_work.specs.Fold.{Ratio, each, whole_sum, ratio_of}
@@ -16,8 +16,8 @@ use Rattle.rg_order_of_work.specs.Rewriting.{all_numbers}
 use Rattle.rg_order_of_work.specs.Placing.{top_at, taken, place_of}
 use Rattle.rg_places.specs.PointValues.{ratios_of}
 use Rattle.rg_places.specs.Steps.{weights_fold}
-use Rattle.rg_places.proofs.PlaceWeights.{taken_at, taken_length}
-use Rattle.rg_places.proofs.Found.{all_at, all_length}
+use Rattle.rg_order_of_work.proofs.PlaceWeights.{taken_at, taken_length}
+use Rattle.rg_order_of_work.proofs.Found.{all_at, all_length}
 
 -- where each item's results are those of another making, so are the list's
 each_same : {A X : Type 0} (make other : A → Result X Wide → Type 0) (items : List A) → ((i : ℕ) (a : A) → i < length items → a ≡ slice_index_or items i a → (r : Result X Wide) → make a r → other a r) → (r : Result (List X) Wide) → each make items r → each other items r
@@ -58,7 +58,9 @@ module _ (lts : System) (class : Class) (problem : Problem) (found numbers : Lis
   pub put_fails : (w : Wide) → each (λ u. whole_sum (number_at pre u) (top_at found u)) (all_numbers (length pre)) (Err w) → weights_fold lts class problem found numbers (Err w)
   put_fails w h = inl (sums (Err w) h)
 
-  pub place_done : (post : List ℤ) (place : Place) → each (λ u. whole_sum (number_at pre u) (top_at found u)) (all_numbers (length pre)) (Ok post) → place.start ≡ unsigned_abs (top_at numbers lts.initial) → place.pre ≡ map unsigned_abs pre → place.post ≡ map unsigned_abs post → weights_fold lts class problem found numbers (Ok place)
+  pub place_done : (post : List ℤ) (place : Place) → each (λ u. whole_sum (number_at pre u) (top_at found u)) (all_numbers (length pre)) (Ok post)
+      → place.start ≡ unsigned_abs (top_at numbers lts.initial) → place.pre ≡ map unsigned_abs pre → place.post ≡ map unsigned_abs post
+      → weights_fold lts class problem found numbers (Ok place)
   place_done post place h start pre_is post_is = (post, sums (Ok post) h, same)
     where
       pres : place.pre ≡ map unsigned_abs (map (taken lts class problem numbers found) (all_numbers (labels lts)))

@@ -1,4 +1,3 @@
-pub mod Places
 pub mod PointValues
 pub mod RegionPlaces
 pub mod Steps

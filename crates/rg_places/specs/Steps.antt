@@ -5,7 +5,7 @@ use Rattle.rg_theory.specs.System.{System, states, labels}
 use Rattle.rg_theory.specs.declared.Class.{Class}
 use Rattle.rg_theory.specs.declared.Problem.{Problem}
 use Rattle.rg_theory.specs.Net.{Place}
-use Rattle.rg_fraction.specs.declared.term.Wide.{Wide}
+use Rattle.rg_integers.specs.declared.term.Wide.{Wide}
 use Rattle.rg_integers.specs.Sum.{number_at}
 use Rattle.rg_linear.specs.Cycle.{CycleBasis}
 use Rattle.rg_cycles.specs.declared.relation.Relation.{Relation}

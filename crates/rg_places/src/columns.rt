@@ -3,7 +3,7 @@ ghost use Rattle.std.specs.Prelude.{◌≡◌, length, map, IfOk};
 ghost use Rattle.rg_theory.specs.System.{labels};
 ghost use Rattle.rg_order_of_work.specs.Rewriting.{free_columns};
 ghost use Rattle.rg_cycles.specs.View.{labels_of, cycle_of};
-ghost use Rattle.rg_columns.specs.View.{TellsUsedLabels};
+ghost use Rattle.rg_case_parts.specs.ColumnViews.{TellsUsedLabels};
 ghost use Rattle.rg_places.specs.Steps.{AreFreeColumns};
 
 use rg_cycles::Basis;

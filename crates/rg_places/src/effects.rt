@@ -1,7 +1,7 @@
 //! The effects of all labels, from those of the columns.
 ghost use Rattle.std.specs.Prelude.{◌≡◌, ◌<◌, pos, length, All, Ok, Err, IfOk, IsErrOf};
 ghost use Rattle.rg_theory.specs.System.{System, labels};
-ghost use Rattle.rg_fraction.specs.declared.term.Wide.{Wide};
+ghost use Rattle.rg_integers.specs.declared.term.Wide.{Wide};
 ghost use Rattle.rg_order_of_work.specs.Fold.{each, joined, add, whole, ratio_of, shown_result};
 ghost use Rattle.rg_order_of_work.specs.Rewriting.{all_numbers};
 ghost use Rattle.rg_order_of_work.specs.Placing.{effect_fold};
@@ -9,12 +9,13 @@ ghost use Rattle.rg_fraction.specs.declared.fold_stop.FoldStop.TheVariants as st
 ghost use Rattle.rg_cycles.specs.Basis.{IsRelationInRange};
 ghost use Rattle.rg_cycles.specs.View.{labels_of, cycle_of};
 ghost use Rattle.rg_places.specs.PointValues.{ratios_of};
-ghost use Rattle.rg_columns.specs.View.{TellsUsedLabels};
+ghost use Rattle.rg_case_parts.specs.ColumnViews.{TellsUsedLabels};
 ghost use Rattle.rg_places.specs.Steps.{AreFreeColumns, value_by, column_share, used_effect_fold};
 
 use crate::columns::Column;
 use rg_cycles::{Basis, Relation};
-use rg_fraction::{FoldStop, Fraction, Wide};
+use rg_fraction::{FoldStop, Fraction};
+use rg_integers::Wide;
 use rg_lts::Lts;
 use std::alloc::Global;
 

@@ -12,7 +12,7 @@ ghost use Rattle.rg_order_of_work.specs.Shown.{IsLive, PointOf};
 ghost use Rattle.rg_order_of_work.specs.Rewriting.{CaseSystem, rows_of};
 ghost use Rattle.rg_order_of_work.specs.Placing.{place_fold};
 ghost use Rattle.rg_order_of_work.specs.Meaning.{IsCaseOver, AreEffects, MeetsCase};
-ghost use Rattle.rg_places.specs.Places.{AreFormsWhole, AreValuesOf, AreAtPoint, numbers_fold, PlaceIsMade};
+ghost use Rattle.rg_order_of_work.specs.Places.{AreFormsWhole, AreValuesOf, AreAtPoint, numbers_fold, PlaceIsMade};
 
 use rg_theory::{Arc, Class, Problem};
 
@@ -21,12 +21,23 @@ use rg_theory::{Arc, Class, Problem};
 /// its numbers are at most 2^127 - 1.
 pub fn place_is_region()
     ensures numbers { (lts : System) (tree : List Arc) (basis : CycleBasis) (class : Class) (problem : Problem) (start : Ratio) (value : ℕ → Ratio) → IsOne (numbers_fold lts tree basis class problem start value) }
-    ensures made { (lts : System) (tree : List Arc) (basis : CycleBasis) (class : Class) (problem : Problem) (number : ℕ) (case : CaseSystem) (start : Ratio) (value : ℕ → Ratio) (first : ℤ) (effect : ℕ → ℤ) (scale : ℤ) (place : Place) → IsCaseOver lts tree basis class problem number case → IsLive lts problem → AreEffects lts tree basis effect → MeetsCase lts basis class case first effect scale → AreFormsWhole lts basis class case first effect scale → AreValuesOf lts basis start value first effect scale → place_fold lts tree basis class problem start value (Ok place) → PlaceIsMade lts tree basis class problem start value place }
+    ensures made { (lts : System) (tree : List Arc) (basis : CycleBasis) (class : Class) (problem : Problem) (number : ℕ) (case : CaseSystem) (start : Ratio)
+        (value : ℕ → Ratio) (first : ℤ) (effect : ℕ → ℤ) (scale : ℤ) (place : Place) → IsCaseOver lts tree basis class problem number case → IsLive lts problem
+        → AreEffects lts tree basis effect → MeetsCase lts basis class case first effect scale → AreFormsWhole lts basis class case first effect scale
+        → AreValuesOf lts basis start value first effect scale → place_fold lts tree basis class problem start value (Ok place)
+        → PlaceIsMade lts tree basis class problem start value place }
 {}
 
 /// So is the place of each point over the columns that meets every row of the case's system and has whole
 /// forms, and that of the point that a branching finds.
 pub fn points_make_places()
-    ensures point { (lts : System) (tree : List Arc) (basis : CycleBasis) (class : Class) (problem : Problem) (number : ℕ) (case : CaseSystem) (scale : ℤ) (v : ℕ → ℤ) (start : Ratio) (value : ℕ → Ratio) (place : Place) → IsCaseOver lts tree basis class problem number case → IsLive lts problem → IsPoint (rows_of case) scale v → MeetsRows (rows_of case) v → FormsWhole (rows_of case) case.forms scale v → AreAtPoint lts basis class scale v start value → place_fold lts tree basis class problem start value (Ok place) → PlaceIsMade lts tree basis class problem start value place }
-    ensures found { (lts : System) (tree : List Arc) (basis : CycleBasis) (class : Class) (problem : Problem) (number : ℕ) (case : CaseSystem) (members : List ℕ) (sides : List SplitSide) (start : Ratio) (value : ℕ → Ratio) (place : Place) → IsCaseOver lts tree basis class problem number case → IsLive lts problem → Branching (rows_of case) case.forms (BranchOutcome.found members sides) → PointOf lts basis class (node_system (rows_of case) case.forms sides) members start value → place_fold lts tree basis class problem start value (Ok place) → PlaceIsMade lts tree basis class problem start value place }
+    ensures point { (lts : System) (tree : List Arc) (basis : CycleBasis) (class : Class) (problem : Problem) (number : ℕ) (case : CaseSystem) (scale : ℤ) (v : ℕ → ℤ)
+        (start : Ratio) (value : ℕ → Ratio) (place : Place) → IsCaseOver lts tree basis class problem number case → IsLive lts problem → IsPoint (rows_of case) scale v
+        → MeetsRows (rows_of case) v → FormsWhole (rows_of case) case.forms scale v → AreAtPoint lts basis class scale v start value
+        → place_fold lts tree basis class problem start value (Ok place) → PlaceIsMade lts tree basis class problem start value place }
+    ensures found { (lts : System) (tree : List Arc) (basis : CycleBasis) (class : Class) (problem : Problem) (number : ℕ) (case : CaseSystem) (members : List ℕ)
+        (sides : List SplitSide) (start : Ratio) (value : ℕ → Ratio) (place : Place) → IsCaseOver lts tree basis class problem number case → IsLive lts problem
+        → Branching (rows_of case) case.forms (BranchOutcome.found members sides)
+        → PointOf lts basis class (node_system (rows_of case) case.forms sides) members start value → place_fold lts tree basis class problem start value (Ok place)
+        → PlaceIsMade lts tree basis class problem start value place }
 {}

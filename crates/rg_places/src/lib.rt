@@ -9,10 +9,8 @@ mod effects;
 mod laws;
 mod making;
 mod numbers;
-mod region_place;
 mod weights;
 mod whole;
 
 pub use laws::{place_is_region, points_make_places};
 pub use making::make_place;
-pub use region_place::RegionPlace;

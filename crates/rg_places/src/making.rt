@@ -2,7 +2,7 @@
 ghost use Rattle.std.specs.Prelude.{◌≡◌, ℕ, ◌+◌, ◌<◌, length, map, drop, unsigned_abs, Ok, Err, IfOk, IsErrOf, IsTrue};
 ghost use Rattle.rg_refuting.specs.Refutes.{IsSeparationProblem};
 ghost use Rattle.rg_theory.specs.System.{states, labels};
-ghost use Rattle.rg_fraction.specs.declared.term.Wide.{Wide};
+ghost use Rattle.rg_integers.specs.declared.term.Wide.{Wide};
 ghost use Rattle.rg_spanning.specs.Spanning.{IsTreeOf};
 ghost use Rattle.rg_fraction.specs.declared.fold_stop.FoldStop.TheVariants as stop;
 ghost use Rattle.rg_cycles.specs.View.{labels_of, cycle_of};
@@ -19,13 +19,13 @@ ghost use Rattle.rg_places.specs.RegionPlaces.{IsRegionPlace, PlaceSeparates, Ar
 use crate::columns::columns_with;
 use crate::effects::effects;
 use crate::numbers::{along_tree, shifted};
-use crate::region_place::RegionPlace;
 use crate::weights::{put, sizes, taken, whole_sizes};
 use crate::whole::made_whole;
-use rg_columns::{has_start, used_labels};
+use rg_case_parts::{has_start, used_labels};
 use rg_cycles::Basis;
 use rg_fraction::{FoldStop, Fraction};
 use rg_lts::Lts;
+use rg_marks::RegionPlace;
 use rg_net::Place;
 use rg_spanning::Tree;
 use rg_theory::{Class, Problem};

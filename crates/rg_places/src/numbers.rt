@@ -2,7 +2,7 @@
 ghost use Rattle.std.specs.Prelude.{◌≡◌, ℕ, ◌<◌, ◌+◌, ◌∷◌, unwrap_or, unsigned_abs, pos, length, map, Ok, Err, IfOk, IsErrOf};
 ghost use Rattle.rg_theory.specs.System.{states, labels};
 ghost use Rattle.rg_theory.specs.Tree.{IsTree};
-ghost use Rattle.rg_fraction.specs.declared.term.Wide.{Wide};
+ghost use Rattle.rg_integers.specs.declared.term.Wide.{Wide};
 ghost use Rattle.rg_order_of_work.specs.Fold.{gives, either, each, add, whole, Ratio, ratio_of};
 ghost use Rattle.rg_order_of_work.specs.Rewriting.{all_numbers};
 ghost use Rattle.rg_order_of_work.specs.Placing.{along_tree, ratio_at, negated, lesser, least_of, is_shifted, is_lifted, missing, top_at, shift_fold};
@@ -79,8 +79,13 @@ fn lifted(
     numbers: Vec<Fraction>,
 ) -> Result<Vec<Fraction>, FoldStop>
     requires { length numbers.items ≡ states lts.now }
-    ensures value { IfOk result (λ lifted. either (is_lifted class problem) (each (λ m. add m (whole (pos (missing (unwrap_or class.marking 1) (unsigned_abs (top_at (ratios_of numbers.items) lts.now.initial)))))) (ratios_of numbers.items)) (gives (ratios_of numbers.items)) (Ok (ratios_of lifted.items))) }
-    ensures wide { (w : Wide) → IsErrOf result (stop.Wide w) → either (is_lifted class problem) (each (λ m. add m (whole (pos (missing (unwrap_or class.marking 1) (unsigned_abs (top_at (ratios_of numbers.items) lts.now.initial)))))) (ratios_of numbers.items)) (gives (ratios_of numbers.items)) (Err w) }
+    ensures value { IfOk result (λ lifted. either (is_lifted class problem)
+        (each (λ m. add m (whole (pos (missing (unwrap_or class.marking 1) (unsigned_abs (top_at (ratios_of numbers.items) lts.now.initial))))))
+        (ratios_of numbers.items)) (gives (ratios_of numbers.items)) (Ok (ratios_of lifted.items))) }
+    ensures wide { (w : Wide) → IsErrOf result (stop.Wide w)
+        → either (is_lifted class problem) (each
+        (λ m. add m (whole (pos (missing (unwrap_or class.marking 1) (unsigned_abs (top_at (ratios_of numbers.items) lts.now.initial)))))) (ratios_of numbers.items))
+        (gives (ratios_of numbers.items)) (Err w) }
 {
     if !is_lifted(class, problem) {
         return Ok(numbers);

@@ -4,7 +4,7 @@ ghost use Rattle.rg_theory.specs.System.{states, labels};
 ghost use Rattle.rg_refuting.specs.Refutes.{IsSeparationProblem};
 ghost use Rattle.rg_integers.specs.Range.{InRange};
 ghost use Rattle.rg_integers.specs.Sum.{number_at};
-ghost use Rattle.rg_fraction.specs.declared.term.Wide.{Wide};
+ghost use Rattle.rg_integers.specs.declared.term.Wide.{Wide};
 ghost use Rattle.rg_fraction.specs.Fractions.{numerator_of};
 ghost use Rattle.rg_order_of_work.specs.Fold.{each, whole_sum, ratio_of};
 ghost use Rattle.rg_order_of_work.specs.Rewriting.{all_numbers, states_with};

@@ -1,13 +1,13 @@
 //! Fractions without denominators.
 ghost use Rattle.std.specs.Prelude.{◌≡◌, ◌||◌, is_some, unwrap_or, pos, Ok, Err, IfOk, IsErrOf};
 ghost use Rattle.rg_integers.specs.Range.{InRange};
-ghost use Rattle.rg_fraction.specs.declared.term.Wide.{Wide};
+ghost use Rattle.rg_integers.specs.declared.term.Wide.{Wide};
 ghost use Rattle.rg_order_of_work.specs.Fold.{gives, either, each, mul, whole};
 ghost use Rattle.rg_order_of_work.specs.Placing.{made_whole};
 ghost use Rattle.rg_fraction.specs.declared.fold_stop.FoldStop.TheVariants as stop;
 ghost use Rattle.rg_places.specs.PointValues.{ratios_of};
 
-use rg_denominators::{common_denominator, products};
+use rg_case_parts::{common_denominator, products};
 use rg_fraction::{FoldStop, Fraction};
 use rg_theory::Class;
 use std::alloc::Global;

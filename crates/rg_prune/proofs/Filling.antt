@@ -12,8 +12,8 @@ use Rattle.rg_theory.proofs.Lists.{Contains-cons_cases}
 use Rattle.rg_theory.proofs.Arcs.{arc_in_range}
 use Rattle.rg_theory.proofs.Trees.{source_met, led_is_met}
 use Rattle.rg_integers.specs.Range.{greatest}
-use Rattle.rg_separated.specs.Tokens.{IsNarrow, AreTokens}
-use Rattle.rg_separated.proofs.Marking.{weight_read}
+use Rattle.rg_marks.specs.Tokens.{IsNarrow, AreTokens}
+use Rattle.rg_marks.proofs.Marking.{weight_read}
 
 -- the tokens are right at the states that are met, and the rest of the tree grows from these
 pub record FilledSoFar (lts : System) (p : Place) (rest : List Arc) (tokens : List ℕ) : Type 0 where

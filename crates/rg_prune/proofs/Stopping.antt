@@ -6,8 +6,8 @@ use Rattle.std.proofs.lemmas.List.Elements.{Contains-append_left, Contains-push,
 use Rattle.rg_theory.specs.System.{System, states, labels}
 use Rattle.rg_theory.specs.Net.{Place, pre_weight}
 use Rattle.std.specs.declared.alloc.Global.{Global}
-use Rattle.rg_separated.specs.Stops.{rows_in, mark_at, IsTable, IsStoppedBy}
-use Rattle.rg_separated.proofs.Marking.{weight_read, row_read, row_of_label}
+use Rattle.rg_marks.specs.Stops.{rows_in, mark_at, IsTable, IsStoppedBy}
+use Rattle.rg_marks.proofs.Marking.{weight_read, row_read, row_of_label}
 
 -- the states before q are added with the label
 pub record PushedSoFar (tokens : List ℕ) (weight : ℕ) (row : List Bool) (t : ℕ) (old events : List (ℕ × ℕ)) (q : ℕ) : Type 0 where

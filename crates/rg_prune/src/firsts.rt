@@ -4,15 +4,15 @@ ghost use Rattle.rg_theory.specs.System.{IsAllReachable};
 ghost use Rattle.rg_theory.specs.Net.{Place as PlaceOfTheory};
 ghost use Rattle.rg_theory.specs.Tree.{IsTree};
 ghost use Rattle.rg_net.specs.Shown.{shown_place};
-ghost use Rattle.rg_separated.specs.Tokens.{IsNarrow, AreTokens};
-ghost use Rattle.rg_separated.specs.Separated.{SeparateSoMuch, AreSome};
+ghost use Rattle.rg_marks.specs.Tokens.{IsNarrow, AreTokens};
+ghost use Rattle.rg_marks.specs.Separated.{SeparateSoMuch, AreSome};
 ghost use Rattle.rg_prune.specs.Firsts.{AreFirsts, AreAllFirsts};
 
 use crate::stops::new_stops;
 use crate::tokens::{fill, no_tokens};
 use rg_lts::Lts;
+use rg_marks::Separated;
 use rg_net::Place;
-use rg_separated::Separated;
 use rg_theory::Arc;
 use std::alloc::{AllocError, Global};
 

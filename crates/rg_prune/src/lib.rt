@@ -6,11 +6,9 @@
 
 mod differing;
 mod firsts;
-mod laws;
 mod pruning;
 mod stops;
 mod tokens;
 
-pub use laws::{net_is_irredundant, pruned_is_one, pruned_separates};
 pub use pruning::prune;
 pub use rg_memory::NoMemory;

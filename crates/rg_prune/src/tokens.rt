@@ -4,7 +4,7 @@ ghost use Rattle.rg_theory.specs.System.{states, IsInRange, IsAllReachable};
 ghost use Rattle.rg_theory.specs.Tree.{IsTree};
 ghost use Rattle.rg_lts.specs.WellFormed.{IsWellFormed};
 ghost use Rattle.rg_net.specs.Shown.{shown_place};
-ghost use Rattle.rg_separated.specs.Tokens.{IsNarrow, AreTokens};
+ghost use Rattle.rg_marks.specs.Tokens.{IsNarrow, AreTokens};
 
 use rg_lts::Lts;
 use rg_net::Place;

@@ -5,7 +5,7 @@ use Rattle.rg_theory.specs.System.{System, arc, HasArc, IsAllReachable}
 use Rattle.rg_theory.specs.Net.{Place}
 use Rattle.rg_theory.specs.Region.{Region}
 use Rattle.rg_theory.proofs.Yes.{region_unique}
-use Rattle.rg_separated.specs.Tokens.{IsNarrow, AreTokens}
+use Rattle.rg_marks.specs.Tokens.{IsNarrow, AreTokens}
 use Rattle.rg_prune_tests.specs.Regions.{Moves, IsRegionBy}
 
 module _ (lts : System) (p : Place) (tokens : List ℕ) (by : IsRegionBy lts p tokens) where

@@ -13,7 +13,7 @@ use Rattle.rg_net.specs.Range.{IsNetInRange}
 use Rattle.rg_net.specs.Shown.{shown_place}
 use Rattle.rg_net.specs.declared.net.Place.{Place as PlaceOfCode}
 use Rattle.rg_net.proofs.Placing.{weights_of}
-use Rattle.rg_separated.specs.Tokens.{IsNarrow}
+use Rattle.rg_marks.specs.Tokens.{IsNarrow}
 
 pub narrow_places : (lts : System) (net : Net) (places : List PlaceOfCode) → IsInRange lts → IsNetInRange net → Solves net lts → IsBounded net greatest → map shown_place places ≡ net.places → All (λ p. IsNarrow lts (shown_place p)) places
 narrow_places lts net places fine range sol bounded are k d lt = record {

@@ -1,5 +1,5 @@
 //! The laws of pruning.
-use rg_prune::{net_is_irredundant, pruned_is_one, pruned_separates};
+use rg_theory::{net_is_irredundant, pruned_is_one, pruned_separates};
 
 #[test]
 fn laws_are_called(_rt: HostRuntime) {

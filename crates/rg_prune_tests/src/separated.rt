@@ -4,13 +4,13 @@ ghost use Rattle.rg_integers.specs.Range.{greatest};
 ghost use Rattle.rg_theory.specs.System.{states, labels, IsAllReachable, IsArcInRange};
 ghost use Rattle.rg_theory.specs.Problem.{IsProblem};
 ghost use Rattle.rg_net.specs.Shown.{shown_place};
-ghost use Rattle.rg_separated.specs.Separated.{AreSome};
+ghost use Rattle.rg_marks.specs.Separated.{AreSome};
 ghost use Rattle.rg_prune_tests.specs.Regions.{Moves, IsRegionBy};
 
 use crate::rows::system;
 use rg_lts::{Arc, Lts};
+use rg_marks::Separated;
 use rg_net::Place;
-use rg_separated::Separated;
 use rg_spanning::Tree;
 use rg_theory::Problem::{self, Event, States};
 use std::alloc::{AllocError, Global};

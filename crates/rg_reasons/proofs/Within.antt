@@ -7,7 +7,10 @@ use Rattle.rg_theory.specs.declared.Problem.{Problem}
 use Rattle.rg_theory.specs.declared.Problem.TheVariants.{Event, States}
 use Rattle.rg_theory.specs.System.{System, states, labels}
 use Rattle.rg_refuting.specs.Expression.{Variable, Variable.tokens_at, Variable.effect_of, Term, Expression, plus, minus, sum_of}
-use Rattle.rg_refuting.specs.Row.{Form, Form.on_tokens, Form.on_effect, Form.on_start, form_variable, step_of, Side, RowName, RowName.arc_row, RowName.tokens_row, RowName.cap_row, RowName.up_row, RowName.down_row, RowName.makes_row, RowName.stop_row, RowName.block_row, RowName.empty_row, RowName.full_row, RowName.keep_row, RowName.apart_row, RowName.above_row, side_expression, shared_expression, event_expression, state_expression, apart_expression, row_expression, order_of}
+use Rattle.rg_refuting.specs.Row.{Form, Form.on_tokens, Form.on_effect, Form.on_start, form_variable, step_of, Side, RowName, RowName.arc_row, RowName.tokens_row}
+use Rattle.rg_refuting.specs.Row.{RowName.cap_row, RowName.up_row, RowName.down_row, RowName.makes_row, RowName.stop_row, RowName.block_row, RowName.empty_row}
+use Rattle.rg_refuting.specs.Row.{RowName.full_row, RowName.keep_row, RowName.apart_row, RowName.above_row, side_expression, shared_expression, event_expression}
+use Rattle.rg_refuting.specs.Row.{state_expression, apart_expression, row_expression, order_of}
 use Rattle.rg_refuting.specs.Refutes.{IsSeparationProblem}
 use Rattle.rg_reasons.specs.Certificates.{IsFormOf, IsRowNameOf, IsTermWithin}
 

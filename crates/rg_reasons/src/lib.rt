@@ -11,6 +11,7 @@ mod rows;
 mod side;
 mod sum;
 mod variable;
+mod wide_at;
 
 pub use certificate::{Case, Certificate, Form, Node, Reason, RowName};
 pub use problem_case::ProblemCase;
@@ -19,3 +20,4 @@ pub use rows::expression;
 pub use side::Side;
 pub use sum::Expression;
 pub use variable::{Term, Variable};
+pub use wide_at::{Stage, WideAt};

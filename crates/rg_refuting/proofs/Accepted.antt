@@ -57,7 +57,9 @@ in_order : (m : ℕ → ℕ) (s s' : ℕ) → m s ≢ m s' → (order : ℕ) × 
 in_order m s s' differ = ⊎_elim (λ less. (0, omega arith, less)) (λ more. (1, omega arith, omega arith)) (cases_lt (m s) (m s'))
 
 -- a separating region meets the order and the consumer of some case
-pub state_case : (lts : System) (class : Class) (s s' : ℕ) (p : Place) (m : ℕ → ℕ) → RegionIn lts class p m → m s ≢ m s' → 0 < cases_of lts class (States s s') → (number : ℕ) × (number < cases_of lts class (States s s')) × IsInOrder m s s' (order_of lts class number) × (IsTrue class.nonbranching → (t : ℕ) → t < labels lts → t ≢ consumer_of lts number → pre_weight p t ≡ 0)
+pub state_case : (lts : System) (class : Class) (s s' : ℕ) (p : Place) (m : ℕ → ℕ) → RegionIn lts class p m → m s ≢ m s' → 0 < cases_of lts class (States s s')
+    → (number : ℕ) × (number < cases_of lts class (States s s')) × IsInOrder m s s' (order_of lts class number)
+    × (IsTrue class.nonbranching → (t : ℕ) → t < labels lts → t ≢ consumer_of lts number → pre_weight p t ≡ 0)
 state_case lts class s s' p m r differ some = go class.nonbranching refl
   where
     below_two : (o n c : ℕ) → o < 2 → c < n → o * n + c < 2 * n

@@ -25,7 +25,9 @@ use Rattle.rg_rows.specs.Making.{IsMade}
 use Rattle.rg_rows.proofs.FormRoom.{bounds_ordered, forms_few, room_few}
 use Rattle.rg_rows.proofs.FormTimes.{stands_in_row, over_row}
 
-module _ (lts : System) (tree : List Arc) (basis : CycleBasis) (class : Class) (problem : Problem) (number : ℕ) (names : List RowName) (case : CaseSystem) (all : List KeptRow) (places : List ℕ) (made : each (fold_of lts tree basis class problem number) names (Ok all)) (are : ArePlaces all case.kept places) (forms : List NamedForm) (is_made : All (IsMade lts class case.columns all places) forms) where
+module _ (lts : System) (tree : List Arc) (basis : CycleBasis) (class : Class) (problem : Problem) (number : ℕ) (names : List RowName) (case : CaseSystem)
+    (all : List KeptRow) (places : List ℕ) (made : each (fold_of lts tree basis class problem number) names (Ok all)) (are : ArePlaces all case.kept places)
+    (forms : List NamedForm) (is_made : All (IsMade lts class case.columns all places) forms) where
   pub all_stand : All (StandsInRow lts tree basis class problem number (rows_of case)) forms
   all_stand k d lt = stands_in_row lts tree basis class problem number names case all places made are case.columns (slice_index_or forms k d) (is_made k d lt)
 

@@ -1,7 +1,7 @@
 -- A fold over labels reads the counts of labels alone.
 use Rattle.std.proofs.Common.{◌≡◌, ℕ, suc, ◌<◌, not, Bool, List, [], ◌∷◌, Contains, Result, Ok, Err, subst, refl, inl, inr, arith}
 use Rattle.std.specs.Prelude.{ℤ}
-use Rattle.rg_fraction.specs.declared.term.Wide.{Wide}
+use Rattle.rg_integers.specs.declared.term.Wide.{Wide}
 use Rattle.rg_linear.specs.Cycle.{CycleBasis}
 use Rattle.rg_order_of_work.specs.Fold.{and_then, each, further, Ratio, whole, quotient, add, mul}
 use Rattle.rg_order_of_work.specs.Rewriting.{is_in, numbers_where, free_labels, dependent_labels, dependent_term, coefficient_fold, substitute_fold}

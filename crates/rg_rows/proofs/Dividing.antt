@@ -29,7 +29,9 @@ parts_multiplied old new (suc n) p = ext_get_or (pos 0) old (map (λ z. pos (max
     bigger : suc n ≡ max (suc n) 1
     bigger = omega arith
 
-pub row_divided : (scaled : Scaled) (number : ℤ) (new : List ℤ) (g h : ℕ) (out : KeptRow) → IsRowGcd (scaled.numbers ++ number ∷ []) g → IsPrimitivePart (scaled.numbers ++ number ∷ []) new h → out.row.coeffs ++ out.row.constant ∷ [] ≡ new → IsRatio out.factor scaled.multiple (pos (max g 1)) → IsDivided scaled number out
+pub row_divided : (scaled : Scaled) (number : ℤ) (new : List ℤ) (g h : ℕ) (out : KeptRow) → IsRowGcd (scaled.numbers ++ number ∷ []) g
+    → IsPrimitivePart (scaled.numbers ++ number ∷ []) new h → out.row.coeffs ++ out.row.constant ∷ [] ≡ new → IsRatio out.factor scaled.multiple (pos (max g 1))
+    → IsDivided scaled number out
 row_divided scaled number new g h out greatest part parted factor = record {
   divisor = g;
   greatest = greatest;

@@ -8,7 +8,8 @@ use Rattle.rg_theory.specs.declared.Class.{Class}
 use Rattle.rg_theory.specs.declared.Problem.{Problem}
 use Rattle.rg_theory.specs.declared.Problem.TheVariants.{Event, States}
 use Rattle.rg_theory.specs.System.{System, states, labels}
-use Rattle.rg_refuting.specs.Row.{RowName, RowName.tokens_row, RowName.cap_row, RowName.up_row, RowName.down_row, RowName.makes_row, RowName.stop_row, RowName.block_row, RowName.empty_row, RowName.full_row, RowName.keep_row, case_consumer, Form as SplitForm, Form.on_tokens, Form.on_effect, Form.on_start}
+use Rattle.rg_refuting.specs.Row.{RowName, RowName.tokens_row, RowName.cap_row, RowName.up_row, RowName.down_row, RowName.makes_row, RowName.stop_row, RowName.block_row}
+use Rattle.rg_refuting.specs.Row.{RowName.empty_row, RowName.full_row, RowName.keep_row, case_consumer, Form as SplitForm, Form.on_tokens, Form.on_effect, Form.on_start}
 use Rattle.rg_order_of_work.specs.Rewriting.{numbers_where, has_label, used_labels, states_with, has_start, all_numbers, problem_rows, names_of, splits_start, split_forms}
 use Rattle.rg_order_of_work.proofs.Forms.{start_of_bound}
 use Rattle.rg_order_of_work.proofs.Lists.{Contains-map, where_has}
@@ -64,9 +65,14 @@ named_forms lts class problem number =
     ∙ ap₂ (λ x y. x ++ y)
     (forms-append class (own ++ tokens) caps
     ∙ ap₂ (λ x y. x ++ y)
-    (forms-append class own tokens ∙ ap₂ (λ x y. x ++ y) (problem_none lts class problem) (optional class (has_start class) (map tokens_row (all_numbers (states lts))) (if is_some class.bound then map on_tokens (all_numbers (states lts)) else []) (all_forms class tokens_row on_tokens (is_some class.bound) (all_numbers (states lts)) (λ n. refl))))
+    (forms-append class own tokens ∙ ap₂ (λ x y. x ++ y) (problem_none lts class problem)
+    (optional class (has_start class) (map tokens_row (all_numbers (states lts))) (if is_some class.bound then map on_tokens (all_numbers (states lts)) else [])
+    (all_forms class tokens_row on_tokens (is_some class.bound) (all_numbers (states lts)) (λ n. refl))))
     (optional class (is_some class.bound) (map cap_row (all_numbers (states lts))) [] (no_forms class cap_row (all_numbers (states lts)) (λ n. refl))))
-    (optional class class.plain (map up_row (used_labels lts) ++ map down_row (used_labels lts)) (if class.plain && not (is_some class.bound) then map on_effect (used_labels lts) else []) (forms-append class (map up_row (used_labels lts)) (map down_row (used_labels lts)) ∙ ap₂ (λ x y. x ++ y) (no_forms class up_row (used_labels lts) (λ n. refl)) (all_forms class down_row on_effect (class.plain && not (is_some class.bound)) (used_labels lts) (λ n. refl)))))
+    (optional class class.plain (map up_row (used_labels lts) ++ map down_row (used_labels lts))
+    (if class.plain && not (is_some class.bound) then map on_effect (used_labels lts) else [])
+    (forms-append class (map up_row (used_labels lts)) (map down_row (used_labels lts)) ∙ ap₂ (λ x y. x ++ y) (no_forms class up_row (used_labels lts) (λ n. refl))
+    (all_forms class down_row on_effect (class.plain && not (is_some class.bound)) (used_labels lts) (λ n. refl)))))
     (optional class class.nonbranching (map makes_row makers) [] (no_forms class makes_row makers (λ n. refl)))
     ∙ choose (is_some class.bound) class.plain (has_start class) class.nonbranching (map on_tokens (all_numbers (states lts))) (map on_effect (used_labels lts)) (start_of_bound class)
   where

@@ -11,7 +11,7 @@ use Rattle.rg_theory.specs.System.{System, states, labels}
 use Rattle.rg_integers.specs.Sum.{sum_over}
 use Rattle.rg_refuting.specs.Row.{Form as SplitForm, Form.on_tokens, Form.on_effect, Form.on_start}
 use Rattle.rg_order_of_work.specs.Rewriting.{has_label, used_labels, all_numbers, splits_start, split_forms, form_low, form_high}
-use Rattle.rg_columns.proofs.Picking.{where_few}
+use Rattle.rg_case_parts.proofs.Picking.{where_few}
 use Rattle.rg_rows.specs.Forms.{split_of}
 use Rattle.rg_rows.specs.declared.named_form.NamedForm.{NamedForm}
 

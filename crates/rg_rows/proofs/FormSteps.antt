@@ -9,18 +9,20 @@ use Rattle.rg_theory.specs.declared.Class.{Class}
 use Rattle.rg_theory.specs.declared.Problem.{Problem}
 use Rattle.rg_theory.specs.System.{System}
 use Rattle.rg_theory.specs.ClassWords.{HasNumbersInRange}
-use Rattle.rg_fraction.specs.declared.term.Wide.{Wide}
+use Rattle.rg_integers.specs.declared.term.Wide.{Wide}
 use Rattle.rg_linear.specs.Branching.{Form}
 use Rattle.rg_linear.specs.Cycle.{CycleBasis}
 use Rattle.rg_refuting.specs.Expression.{Term, Expression, plus}
-use Rattle.rg_refuting.specs.Row.{RowName, RowName.arc_row, RowName.tokens_row, RowName.cap_row, RowName.up_row, RowName.down_row, RowName.makes_row, RowName.stop_row, RowName.block_row, RowName.empty_row, RowName.full_row, RowName.keep_row, RowName.apart_row, RowName.above_row, row_expression, Form as SplitForm, Form.on_tokens, Form.on_effect, form_variable, step_of}
+use Rattle.rg_refuting.specs.Row.{RowName, RowName.arc_row, RowName.tokens_row, RowName.cap_row, RowName.up_row, RowName.down_row, RowName.makes_row, RowName.stop_row}
+use Rattle.rg_refuting.specs.Row.{RowName.block_row, RowName.empty_row, RowName.full_row, RowName.keep_row, RowName.apart_row, RowName.above_row, row_expression}
+use Rattle.rg_refuting.specs.Row.{Form as SplitForm, Form.on_tokens, Form.on_effect, form_variable, step_of}
 use Rattle.rg_order_of_work.specs.Fold.{each}
 use Rattle.rg_order_of_work.specs.Rewriting.{Scaled, column_count, terms_fold, form_fold, form_low, form_high, KeptRow}
 use Rattle.rg_order_of_work.specs.FormRows.{form_row}
 use Rattle.rg_order_of_work.proofs.FormRows.{same_terms, form_over_row}
 use Rattle.rg_order_of_work.proofs.Forms.{each_at}
-use Rattle.rg_cycles.proofs.Folding.{behind, each_next, each_fails, each_ends}
-use Rattle.rg_cycles.proofs.Items.{from_place}
+use Rattle.rg_order_of_work.proofs.Folding.{behind, each_next, each_fails, each_ends}
+use Rattle.rg_order_of_work.proofs.Items.{from_place}
 use Rattle.rg_integers.specs.Range.{InRange}
 use Rattle.rg_reasons.specs.declared.certificate.RowName.{RowName as CodeName}
 use Rattle.rg_reasons.specs.declared.certificate.Form.{Form as CodeForm}
@@ -94,7 +96,8 @@ form_in_step class (above_row d) split e = cc
 
 -- ---- the list
 
-module _ (class : Class) (make : SplitForm → Result Form Wide → Type 0) (names : List RowName) (i : ℕ) (name : RowName) (next : drop i names ≡ name ∷ drop (i + 1) names) (xs : List Form) (so_far : (r : Result (List Form) Wide) → each make (forms_in class (drop i names)) r → each make (forms_in class names) (behind xs r)) where
+module _ (class : Class) (make : SplitForm → Result Form Wide → Type 0) (names : List RowName) (i : ℕ) (name : RowName) (next : drop i names ≡ name ∷ drop (i + 1) names)
+    (xs : List Form) (so_far : (r : Result (List Form) Wide) → each make (forms_in class (drop i names)) r → each make (forms_in class names) (behind xs r)) where
   pub form_skips : form_in class name ≡ None → (r : Result (List Form) Wide) → each make (forms_in class (drop (i + 1) names)) r → each make (forms_in class names) (behind xs r)
   form_skips none r h = so_far r (subst (λ l. each make l r) (sym (ap (forms_in class) next ∙ ap (λ o. put_form o (forms_in class (drop (i + 1) names))) none)) h)
 
@@ -108,7 +111,9 @@ module _ (class : Class) (make : SplitForm → Result Form Wide → Type 0) (nam
     pub form_fails : (w : Wide) → make split (Err w) → each make (forms_in class names) (Err w)
     form_fails w made = each_fails make (forms_in class names) split (forms_in class (drop (i + 1) names)) xs here w made
 
-pub forms_end : (class : Class) (make : SplitForm → Result Form Wide → Type 0) (names : List RowName) (i : ℕ) (xs : List Form) → ((r : Result (List Form) Wide) → each make (forms_in class (drop i names)) r → each make (forms_in class names) (behind xs r)) → length names ≤ i → each make (forms_in class names) (Ok xs)
+pub forms_end : (class : Class) (make : SplitForm → Result Form Wide → Type 0) (names : List RowName) (i : ℕ) (xs : List Form)
+    → ((r : Result (List Form) Wide) → each make (forms_in class (drop i names)) r → each make (forms_in class names) (behind xs r)) → length names ≤ i
+    → each make (forms_in class names) (Ok xs)
 forms_end class make names i xs so_far past = each_ends make (forms_in class names) xs (λ r h. so_far r (subst (λ l. each make (forms_in class l) r) (sym (drop_all i names past)) h))
 
 -- the names of the forms so far
@@ -137,11 +142,16 @@ module _ (lts : System) (tree : List Arc) (basis : CycleBasis) (class : Class) (
   -- the numbers are those of the row, so many times
   pub times_row : (s : Scaled) (k : KeptRow) → terms_fold lts tree basis class e.terms (Ok s) → fold_of lts tree basis class problem number (form_row lts.initial split) (Ok k) → (d : ℕ) × (0 < d) × (s.numbers ≡ map (λ z. pos d *ℤ z) k.row.coeffs)
   times_row s k h row =
-      let (divisor, same) = form_over_row lts tree basis class problem number split (record { scale = pos (step_of class split) *ℤ s.multiple; coeffs = s.numbers; low = form_low split; high = form_high lts class split }) k (form_of_terms s (record { scale = pos (step_of class split) *ℤ s.multiple; coeffs = s.numbers; low = form_low split; high = form_high lts class split }) h refl) row in
+      let (divisor, same) = form_over_row lts tree basis class problem number split
+      (record { scale = pos (step_of class split) *ℤ s.multiple; coeffs = s.numbers; low = form_low split; high = form_high lts class split }) k
+      (form_of_terms s (record { scale = pos (step_of class split) *ℤ s.multiple; coeffs = s.numbers; low = form_low split; high = form_high lts class split }) h
+      refl) row in
       (max divisor 1, omega arith, same)
 
 -- the row at a place, and its name
-pub row_at_place : (lts : System) (tree : List Arc) (basis : CycleBasis) (class : Class) (problem : Problem) (number : ℕ) (names : List RowName) (all : List KeptRow) (i : ℕ) (name : RowName) (k : KeptRow) → each (fold_of lts tree basis class problem number) names (Ok all) → i < length names → slice_index_or names i name ≡ name → slice_index_or all i k ≡ k → fold_of lts tree basis class problem number name (Ok k) × (k.name ≡ name)
+pub row_at_place : (lts : System) (tree : List Arc) (basis : CycleBasis) (class : Class) (problem : Problem) (number : ℕ) (names : List RowName) (all : List KeptRow)
+    (i : ℕ) (name : RowName) (k : KeptRow) → each (fold_of lts tree basis class problem number) names (Ok all) → i < length names → slice_index_or names i name ≡ name
+    → slice_index_or all i k ≡ k → fold_of lts tree basis class problem number name (Ok k) × (k.name ≡ name)
 row_at_place lts tree basis class problem number names all i name k made lt at at_k =
     let fold = subst (λ n. fold_of lts tree basis class problem number n (Ok k)) at (subst (λ r. fold_of lts tree basis class problem number (slice_index_or names i name) (Ok r)) at_k (each_at (fold_of lts tree basis class problem number) names all i name k made lt)) in
     (fold, named fold)
@@ -182,20 +192,31 @@ module _ (lts : System) (tree : List Arc) (basis : CycleBasis) (class : Class) (
       pub step_fails : (w : Wide) → terms_fold lts tree basis class e.terms (Err w) → each (form_fold lts tree basis class) (forms_in class (map row_name_of names)) (Err w)
       step_fails w h = form_fails class (form_fold lts tree basis class) (map row_name_of names) i name next_name xs so_far (form_of form) (sym is_form) w (form_of_none lts tree basis class problem number (form_of form) e is_split w h)
 
-      pub step_next : (f : NamedForm) (s : Scaled) → terms_fold lts tree basis class e.terms (Ok s) → f.scale ≡ s.multiple → (arc_slice_items f.coeffs) ≡ s.numbers → f.low ≡ form_low (form_of form) → f.high ≡ form_high lts class (form_of form) → (r : Result (List Form) Wide) → each (form_fold lts tree basis class) (forms_in class (drop (i + 1) (map row_name_of names))) r → each (form_fold lts tree basis class) (forms_in class (map row_name_of names)) (behind (xs ++ linear_form f ∷ []) r)
-      step_next f s h scale coeffs low high = form_next class (form_fold lts tree basis class) (map row_name_of names) i name next_name xs so_far (form_of form) (sym is_form) (linear_form f) (form_of_terms lts tree basis class problem number (form_of form) e is_split s (linear_form f) h (λ j. record { scale = (scale ∙ stepped s.multiple) j; coeffs = coeffs j; low = low j; high = high j }))
+      pub step_next : (f : NamedForm) (s : Scaled) → terms_fold lts tree basis class e.terms (Ok s) → f.scale ≡ s.multiple → (arc_slice_items f.coeffs) ≡ s.numbers
+          → f.low ≡ form_low (form_of form) → f.high ≡ form_high lts class (form_of form) → (r : Result (List Form) Wide)
+          → each (form_fold lts tree basis class) (forms_in class (drop (i + 1) (map row_name_of names))) r
+          → each (form_fold lts tree basis class) (forms_in class (map row_name_of names)) (behind (xs ++ linear_form f ∷ []) r)
+      step_next f s h scale coeffs low high = form_next class (form_fold lts tree basis class) (map row_name_of names) i name next_name xs so_far (form_of form)
+          (sym is_form) (linear_form f) (form_of_terms lts tree basis class problem number (form_of form) e is_split s (linear_form f) h
+          (λ j. record { scale = (scale ∙ stepped s.multiple) j; coeffs = coeffs j; low = low j; high = high j }))
 
-    pub step_named : (done : List SplitForm) → done ++ forms_in class (drop i (map row_name_of names)) ≡ forms_in class (map row_name_of names) → (f : NamedForm) → f.form ≡ form → (done ++ split_of f ∷ []) ++ forms_in class (drop (i + 1) (map row_name_of names)) ≡ forms_in class (map row_name_of names)
+    pub step_named : (done : List SplitForm) → done ++ forms_in class (drop i (map row_name_of names)) ≡ forms_in class (map row_name_of names) → (f : NamedForm)
+        → f.form ≡ form → (done ++ split_of f ∷ []) ++ forms_in class (drop (i + 1) (map row_name_of names)) ≡ forms_in class (map row_name_of names)
     step_named done so_far f same = ap (λ x. (done ++ form_of x ∷ []) ++ forms_in class (drop (i + 1) (map row_name_of names))) same ∙ named_next class (map row_name_of names) i name next_name done so_far (form_of form) (sym is_form)
 
     module _ (rows : List CaseRow) (lt' : i < length rows) (made : each (fold_of lts tree basis class problem number) (map row_name_of names) (Ok (map kept_row rows))) (row : CaseRow) (is_row : row ≡ slice_index_or rows i row) where
       row_is : fold_of lts tree basis class problem number name (Ok (kept_row row)) × ((kept_row row).name ≡ name)
-      row_is = row_at_place lts tree basis class problem number (map row_name_of names) (map kept_row rows) i name (kept_row row) made (subst (λ n. i < n) (sym (length-map names row_name_of)) lt) (get_or-map row_name_of names i d name lt) (get_or-map kept_row rows i row (kept_row row) lt' ∙ ap kept_row (sym is_row))
+      row_is = row_at_place lts tree basis class problem number (map row_name_of names) (map kept_row rows) i name (kept_row row) made
+          (subst (λ n. i < n) (sym (length-map names row_name_of)) lt) (get_or-map row_name_of names i d name lt)
+          (get_or-map kept_row rows i row (kept_row row) lt' ∙ ap kept_row (sym is_row))
 
       pub step_times : (s : Scaled) → terms_fold lts tree basis class e.terms (Ok s) → (t : ℕ) × (0 < t) × (s.numbers ≡ map (λ z. pos t *ℤ z) (arc_slice_items row.coeffs))
       step_times s h = times_row lts tree basis class problem number (form_of form) e is_split s (kept_row row) h (subst (λ n. fold_of lts tree basis class problem number n (Ok (kept_row row))) named row_is.0)
 
-      pub step_made : (columns : ℕ) (places : List ℕ) (f : NamedForm) → f.form ≡ form → IsPartOf f (arc_slice_items row.coeffs) (slice_index_or places i 0) → (f.low ≡ form_low (form_of form)) × (f.high ≡ form_high lts class (form_of form)) → length (arc_slice_items f.coeffs) ≡ columns → (HasNumbersInRange class → pos 0 <ℤ f.scale) → InRange f.scale → All InRange (arc_slice_items f.coeffs) → InRange f.times → IsMade lts class columns (map kept_row rows) places f
+      pub step_made : (columns : ℕ) (places : List ℕ) (f : NamedForm) → f.form ≡ form → IsPartOf f (arc_slice_items row.coeffs) (slice_index_or places i 0)
+          → (f.low ≡ form_low (form_of form)) × (f.high ≡ form_high lts class (form_of form)) → length (arc_slice_items f.coeffs) ≡ columns
+          → (HasNumbersInRange class → pos 0 <ℤ f.scale) → InRange f.scale → All InRange (arc_slice_items f.coeffs) → InRange f.times
+          → IsMade lts class columns (map kept_row rows) places f
       step_made columns places f same part bounds one_each positive scale coeffs times = record {
         number = i;
         row = kept_row row;

@@ -48,7 +48,9 @@ differs t h e = omega (arith, ints)
 has_at : (xs : List KeptRow) (i : ℕ) (r : KeptRow) → slice_get xs i ≡ Some r → Contains xs r
 has_at xs i r at = (i, slice_get_within xs i r at, get_or_from_slice_get xs i r r at)
 
-module _ (lts : System) (tree : List Arc) (basis : CycleBasis) (class : Class) (problem : Problem) (number : ℕ) (names : List RowName) (case : CaseSystem) (all : List KeptRow) (places : List ℕ) (made : each (fold_of lts tree basis class problem number) names (Ok all)) (are : ArePlaces all case.kept places) (columns : ℕ) (f : NamedForm) (is : IsMade lts class columns all places f) where
+module _ (lts : System) (tree : List Arc) (basis : CycleBasis) (class : Class) (problem : Problem) (number : ℕ) (names : List RowName) (case : CaseSystem)
+    (all : List KeptRow) (places : List ℕ) (made : each (fold_of lts tree basis class problem number) names (Ok all)) (are : ArePlaces all case.kept places)
+    (columns : ℕ) (f : NamedForm) (is : IsMade lts class columns all places f) where
   own_fold : fold_of lts tree basis class problem number (form_row lts.initial (split_of f)) (Ok is.row)
   own_fold =
       let (name, has, fold) = made_from (fold_of lts tree basis class problem number) names all is.row made (has_at all is.number is.row is.at) in
@@ -90,7 +92,9 @@ module _ (lts : System) (tree : List Arc) (basis : CycleBasis) (class : Class) (
 -- ---- what the code tells
 
 -- a number at which the parts are not 0
-pub quotient_is : (numbers parts : List ℤ) (i d : ℕ) → 0 < d → All InRange numbers → numbers ≡ map (λ z. pos d *ℤ z) parts → i < length numbers → (number_at numbers i ≡ pos 0 → ⊥) → (to_z w128 (of_z w128 (int_div (to_z w128 (of_z w128 (number_at numbers i))) (to_z w128 (of_z w128 (number_at parts i))))) ≡ pos d) × ¬ IsZeroVector numbers
+pub quotient_is : (numbers parts : List ℤ) (i d : ℕ) → 0 < d → All InRange numbers → numbers ≡ map (λ z. pos d *ℤ z) parts → i < length numbers
+    → (number_at numbers i ≡ pos 0 → ⊥) → (to_z w128 (of_z w128 (int_div (to_z w128 (of_z w128 (number_at numbers i))) (to_z w128 (of_z w128 (number_at parts i))))) ≡
+    pos d) × ¬ IsZeroVector numbers
 quotient_is numbers parts i d some fits are lt differ = (
   ap (λ z. to_z w128 (of_z w128 z)) (ap₂ int_div (back (number_at numbers i) number_fits) (back (number_at parts i) part_fits) ∙ quotient) ∙ back (pos d) d_fits,
   λ zeros. differ (zeros i (pos 0) lt),
@@ -150,7 +154,9 @@ part_of_none times t items coeffs row place d some at same none tells = ⊎_elim
     no : (d : ℕ) → 0 < d → pos d ≡ pos 0 → ⊥
     no d h e = omega (arith, ints)
 
-pub part_of_some : (times t : ℤ) (items coeffs : List ℤ) (row place d : ℕ) → 0 < d → row ≡ place → times ≡ t → (t ≡ pos 0 → ⊥) → items ≡ map (λ z. pos d *ℤ z) coeffs → Tells t d items → ((pos 0 <ℤ times) × (items ≡ map (λ z. times *ℤ z) coeffs) × (row ≡ place) × ¬ IsZeroVector items) ⊎ ((times ≡ pos 0) × (row ≡ 0) × IsZeroVector items)
+pub part_of_some : (times t : ℤ) (items coeffs : List ℤ) (row place d : ℕ) → 0 < d → row ≡ place → times ≡ t → (t ≡ pos 0 → ⊥) → items ≡ map (λ z. pos d *ℤ z) coeffs
+    → Tells t d items → ((pos 0 <ℤ times) × (items ≡ map (λ z. times *ℤ z) coeffs) × (row ≡ place) × ¬ IsZeroVector items)
+    ⊎ ((times ≡ pos 0) × (row ≡ 0) × IsZeroVector items)
 part_of_some times t items coeffs row place d some at same differ are tells = ⊎_elim
     (λ (is, busy). inl (subst (λ z. pos 0 <ℤ z) (sym (same ∙ is)) (positive d some), are ∙ ap (λ m. map (λ z. m *ℤ z) coeffs) (sym (same ∙ is)), at, busy))
     (λ (is, zeros). absurd (differ is))

@@ -14,11 +14,11 @@ use Rattle.rg_linear.specs.System.{LinearRow, row_at}
 use Rattle.rg_linear.specs.Firsts.{KeepsFirsts}
 use Rattle.rg_linear.proofs.Firsts.{kept_is, kept_count}
 use Rattle.rg_order_of_work.specs.Rewriting.{numbers_where, used_labels, has_label, has_label_at, states_with, has_start, problem_rows, names_of, KeptRow, IsIdle}
-use Rattle.rg_linear.specs.declared.system.Row.{Row}
+use Rattle.rg_linear.specs.declared.row.Row.{Row}
 use Rattle.rg_linear.specs.View.{linear_row, linear_system, IsWellFormed}
 use Rattle.rg_rows.specs.declared.case_row.CaseRow.{CaseRow}
 use Rattle.rg_rows.specs.View.{kept_row}
-use Rattle.rg_columns.proofs.Picking.{where_few}
+use Rattle.rg_case_parts.proofs.Picking.{where_few}
 
 -- ---- how many rows are named
 

@@ -81,12 +81,17 @@ module _ (all : List KeptRow) (has has' : List ℤ → Bool) (i : ℕ) (kept : L
 
 module _ (all : List CaseRow) (i : ℕ) (row : CaseRow) (lt : i < length all) (is : row ≡ slice_index_or all i row) where
   pub row_next : drop i (map kept_row all) ≡ kept_row row ∷ drop (i + 1) (map kept_row all)
-  row_next = drop-cons (map kept_row all) i (kept_row row) (simp length-map lt) ∙ ap (λ n. slice_index_or (map kept_row all) i (kept_row row) ∷ drop n (map kept_row all)) (sym (add-one i)) ∙ ap (λ x. x ∷ drop (i + 1) (map kept_row all)) (get_or-map kept_row all i row (kept_row row) lt ∙ ap kept_row (sym is))
+  row_next = drop-cons (map kept_row all) i (kept_row row) (simp length-map lt)
+      ∙ ap (λ n. slice_index_or (map kept_row all) i (kept_row row) ∷ drop n (map kept_row all)) (sym (add-one i))
+      ∙ ap (λ x. x ∷ drop (i + 1) (map kept_row all)) (get_or-map kept_row all i row (kept_row row) lt ∙ ap kept_row (sym is))
 
 -- the set is asked for the numbers of row i, and then has them
-module _ (all : List KeptRow) (i : ℕ) (kept : List KeptRow) (keys keys' : List (Bor (List ℤ))) (v : Bor (List ℤ)) (k : KeptSoFar all (has_numbers keys) i kept) (x : KeptRow) (next : drop i all ≡ x ∷ drop (i + 1) all) (is : v.now ≡ numbers_of x.row) (added : Bool) (says : added ≡ not (has_numbers keys v.now)) where
+module _ (all : List KeptRow) (i : ℕ) (kept : List KeptRow) (keys keys' : List (Bor (List ℤ))) (v : Bor (List ℤ)) (k : KeptSoFar all (has_numbers keys) i kept)
+    (x : KeptRow) (next : drop i all ≡ x ∷ drop (i + 1) all) (is : v.now ≡ numbers_of x.row) (added : Bool) (says : added ≡ not (has_numbers keys v.now)) where
   pub asked-new : ¬ IsIdle x → added ≡ true → ((q : Bor (List ℤ)) → has_numbers keys' q.now ≡ cond (pointwise int_eq v.now q.now) true (has_numbers keys q.now)) → KeptSoFar all (has_numbers keys') (i + 1) (kept ++ x ∷ [])
-  asked-new busy was updates = kept-push all (has_numbers keys) (has_numbers keys') i kept k x next busy (subst (λ l. has_numbers keys l ≡ false) is (fresh added (has_numbers keys v.now) says was)) (λ q. subst (λ l. has_numbers keys' q ≡ cond (pointwise int_eq l q) true (has_numbers keys q)) is (updates (record v { now = q })))
+  asked-new busy was updates = kept-push all (has_numbers keys) (has_numbers keys') i kept k x next busy
+      (subst (λ l. has_numbers keys l ≡ false) is (fresh added (has_numbers keys v.now) says was))
+      (λ q. subst (λ l. has_numbers keys' q ≡ cond (pointwise int_eq l q) true (has_numbers keys q)) is (updates (record v { now = q })))
     where
       fresh : (a b : Bool) → a ≡ not b → a ≡ true → b ≡ false
       fresh a true p q = sym q ∙ p

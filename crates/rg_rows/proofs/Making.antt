@@ -6,7 +6,7 @@ use Rattle.rg_theory.specs.declared.Arc.{Arc}
 use Rattle.rg_theory.specs.declared.Class.{Class}
 use Rattle.rg_theory.specs.declared.Problem.{Problem}
 use Rattle.rg_theory.specs.System.{System, labels}
-use Rattle.rg_fraction.specs.declared.term.Wide.{Wide}
+use Rattle.rg_integers.specs.declared.term.Wide.{Wide}
 use Rattle.rg_linear.specs.Branching.{Form}
 use Rattle.rg_linear.specs.Cycle.{CycleBasis}
 use Rattle.rg_refuting.specs.Expression.{Term, Expression}
@@ -21,8 +21,8 @@ use Rattle.rg_order_of_work.specs.Rewriting.{start_of, count_of, substitute_fold
 use Rattle.rg_linear.specs.Firsts.{KeepsFirsts}
 use Rattle.rg_rows.specs.View.{fold_of}
 use Rattle.rg_rows.proofs.Counted.{substitute_same}
-use Rattle.rg_columns.proofs.Picking.{columns_length}
-use Rattle.rg_cycles.proofs.Folding.{whole_is}
+use Rattle.rg_case_parts.proofs.Picking.{columns_length}
+use Rattle.rg_order_of_work.proofs.Folding.{whole_is}
 
 -- ---- from the counts of labels to the columns
 
@@ -74,7 +74,9 @@ module _ (lts : System) (tree : List Arc) (basis : CycleBasis) (class : Class) (
 -- ---- the rows of the code
 
 -- the row of the name at place i
-pub fold_told : (lts : System) (tree : List Arc) (basis : CycleBasis) (class : Class) (problem : Problem) (number : ℕ) (names : List CodeName) (i : ℕ) (d : CodeName) → i < length names → (r : Result KeptRow Wide) → fold_of lts tree basis class problem number (row_name_of (slice_index_or names i d)) r → fold_of lts tree basis class problem number (slice_index_or (map row_name_of names) i (row_name_of d)) r
+pub fold_told : (lts : System) (tree : List Arc) (basis : CycleBasis) (class : Class) (problem : Problem) (number : ℕ) (names : List CodeName) (i : ℕ) (d : CodeName)
+    → i < length names → (r : Result KeptRow Wide) → fold_of lts tree basis class problem number (row_name_of (slice_index_or names i d)) r
+    → fold_of lts tree basis class problem number (slice_index_or (map row_name_of names) i (row_name_of d)) r
 fold_told lts tree basis class problem number names i d lt r h = subst (λ name. fold_of lts tree basis class problem number name r) (sym (get_or-map row_name_of names i d (row_name_of d) lt)) h
 
 -- ---- from the rows to the case
@@ -87,5 +89,7 @@ module _ (lts : System) (tree : List Arc) (basis : CycleBasis) (class : Class) (
     pub forms_fail : (w : Wide) → each (form_fold lts tree basis class) (split_forms lts class problem) (Err w) → system_fold lts tree basis class problem number (Err w)
     forms_fail w h = inr (all, subst (λ l. each (fold_of lts tree basis class problem number) l (Ok all)) named made, inl h)
 
-    pub case_made : (forms : List Form) (shown : CaseSystem) → each (form_fold lts tree basis class) (split_forms lts class problem) (Ok forms) → shown.columns ≡ column_count lts basis class → KeepsFirsts (λ k. k.row) IsIdle [] all shown.kept → shown.forms ≡ forms → system_fold lts tree basis class problem number (Ok shown)
+    pub case_made : (forms : List Form) (shown : CaseSystem) → each (form_fold lts tree basis class) (split_forms lts class problem) (Ok forms)
+        → shown.columns ≡ column_count lts basis class → KeepsFirsts (λ k. k.row) IsIdle [] all shown.kept → shown.forms ≡ forms
+        → system_fold lts tree basis class problem number (Ok shown)
     case_made forms shown forms_made columns firsts same = (all, subst (λ l. each (fold_of lts tree basis class problem number) l (Ok all)) named made, (forms, forms_made, (columns, firsts, same)))

@@ -10,9 +10,9 @@ use Rattle.rg_theory.specs.System.{System, states, labels, HasArc, arc}
 use Rattle.rg_theory.proofs.Lists.{Contains-cons_cases}
 use Rattle.rg_refuting.specs.Row.{RowName, RowName.tokens_row, RowName.cap_row, RowName.up_row, RowName.down_row, RowName.makes_row, case_consumer}
 use Rattle.rg_order_of_work.specs.Rewriting.{numbers_where, has_label, has_label_at, used_labels, has_start, all_numbers, problem_rows, names_of}
-use Rattle.rg_cycles.proofs.Folding.{where_taken, where_left, where_ends}
-use Rattle.rg_columns.specs.declared.columns.Columns.{Columns}
-use Rattle.rg_columns.specs.View.{TellsUsedLabels, AreColumns}
+use Rattle.rg_order_of_work.proofs.Folding.{where_taken, where_left, where_ends}
+use Rattle.rg_case_parts.specs.declared.columns.Columns.{Columns}
+use Rattle.rg_case_parts.specs.ColumnViews.{TellsUsedLabels, AreColumns}
 use Rattle.rg_rows.specs.View.{users, makers}
 
 -- so far the rows of the numbers before i that pass the test are named
@@ -84,7 +84,9 @@ where_same p q a zero h = refl
 where_same p q a (suc n) h = ap (λ b. if b then (a ∷ numbers_where p (suc a) n) else numbers_where p (suc a) n) (h a (omega arith)) ∙ ap (λ l. if q a then (a ∷ l) else l) (where_same p q (suc a) n (λ t lt. h t (omega arith)))
 
 makers_are : (lts : System) (used : List Bool) (consumer : ℕ) → TellsUsedLabels lts used → makers used consumer ≡ numbers_where (λ u. has_label u lts.arcs && not (u == consumer)) 0 (labels lts)
-makers_are lts used consumer tells = ap (λ n. numbers_where (λ u. slice_index_or used u false && not (u == consumer)) 0 n) tells.one_each ∙ where_same (λ u. slice_index_or used u false && not (u == consumer)) (λ u. has_label u lts.arcs && not (u == consumer)) 0 (labels lts) (λ t lt. ap (λ b. b && not (t == consumer)) (tells.each t (omega arith)))
+makers_are lts used consumer tells = ap (λ n. numbers_where (λ u. slice_index_or used u false && not (u == consumer)) 0 n) tells.one_each
+    ∙ where_same (λ u. slice_index_or used u false && not (u == consumer)) (λ u. has_label u lts.arcs && not (u == consumer)) 0 (labels lts)
+    (λ t lt. ap (λ b. b && not (t == consumer)) (tells.each t (omega arith)))
 
 -- rows that are named where the test holds
 pub named_if : (b : Bool) (done more all : List RowName) → b ≡ true → all ≡ done ++ more → all ≡ done ++ (if b then more else [])
@@ -97,13 +99,20 @@ users_are : (lts : System) (used : List Bool) → TellsUsedLabels lts used → u
 users_are lts used tells = ap (λ n. numbers_where (λ t. slice_index_or used t false) 0 n) tells.one_each ∙ where_same (λ t. slice_index_or used t false) (λ t. has_label t lts.arcs) 0 (labels lts) (λ t lt. tells.each t (omega arith))
 
 module _ (lts : System) (class : Class) (problem : Problem) (number : ℕ) (columns : Columns) (are : AreColumns lts class columns) where
-  pub names_told : (own start capped sided all : List RowName) → own ≡ problem_rows lts class problem → start ≡ own ++ (if columns.start then map tokens_row (all_numbers (states lts)) else []) → capped ≡ start ++ (if is_some class.bound then map cap_row (all_numbers (states lts)) else []) → sided ≡ capped ++ (if class.plain then (map up_row (users columns.used.items) ++ map down_row (users columns.used.items)) else []) → all ≡ sided ++ (if class.nonbranching then map makes_row (makers columns.used.items (case_consumer lts problem number)) else []) → all ≡ names_of lts class problem number
+  pub names_told : (own start capped sided all : List RowName) → own ≡ problem_rows lts class problem
+      → start ≡ own ++ (if columns.start then map tokens_row (all_numbers (states lts)) else [])
+      → capped ≡ start ++ (if is_some class.bound then map cap_row (all_numbers (states lts)) else [])
+      → sided ≡ capped ++ (if class.plain then (map up_row (users columns.used.items) ++ map down_row (users columns.used.items)) else [])
+      → all ≡ sided ++ (if class.nonbranching then map makes_row (makers columns.used.items (case_consumer lts problem number)) else [])
+      → all ≡ names_of lts class problem number
   names_told own start capped sided all e f g h k =
       k
       ∙ ap (λ l. l ++ (if class.nonbranching then map makes_row (makers columns.used.items (case_consumer lts problem number)) else []))
       (h
       ∙ ap (λ l. l ++ (if class.plain then (map up_row (users columns.used.items) ++ map down_row (users columns.used.items)) else []))
-      (g ∙ ap (λ l. l ++ (if is_some class.bound then map cap_row (all_numbers (states lts)) else [])) (f ∙ ap (λ l. l ++ (if columns.start then map tokens_row (all_numbers (states lts)) else [])) e ∙ ap (λ b. problem_rows lts class problem ++ (if b then map tokens_row (all_numbers (states lts)) else [])) are.start))
+      (g ∙ ap (λ l. l ++ (if is_some class.bound then map cap_row (all_numbers (states lts)) else []))
+      (f ∙ ap (λ l. l ++ (if columns.start then map tokens_row (all_numbers (states lts)) else [])) e
+      ∙ ap (λ b. problem_rows lts class problem ++ (if b then map tokens_row (all_numbers (states lts)) else [])) are.start))
       ∙ ap (λ l. before ++ (if class.plain then (map up_row l ++ map down_row l) else [])) (users_are lts columns.used.items are.used))
       ∙ ap (λ l. (before ++ sides) ++ (if class.nonbranching then map makes_row l else [])) (makers_are lts columns.used.items (case_consumer lts problem number) are.used)
     where

@@ -50,7 +50,9 @@ get_front (x ∷ xs) ys zero r e = e
 get_front (x ∷ xs) ys (suc p) r e = get_front xs ys p r e
 
 -- the row with the numbers of the key at a place
-row_at_key : (kept : List KeptRow) (keys : List (Bor (List ℤ))) (place : ℕ) (k v : Bor (List ℤ)) (x : KeptRow) → map (λ (q : Bor (List ℤ)). q.now) keys ≡ map (λ (r : KeptRow). numbers_of r.row) kept → slice_get keys place ≡ Some k → pointwise int_eq v.now k.now ≡ true → v.now ≡ numbers_of x.row → slice_get (map (λ (r : KeptRow). r.row) kept) place ≡ Some x.row
+row_at_key : (kept : List KeptRow) (keys : List (Bor (List ℤ))) (place : ℕ) (k v : Bor (List ℤ)) (x : KeptRow)
+    → map (λ (q : Bor (List ℤ)). q.now) keys ≡ map (λ (r : KeptRow). numbers_of r.row) kept → slice_get keys place ≡ Some k → pointwise int_eq v.now k.now ≡ true
+    → v.now ≡ numbers_of x.row → slice_get (map (λ (r : KeptRow). r.row) kept) place ≡ Some x.row
 row_at_key kept keys place k v x same at equal is =
     let numbers : v.now ≡ k.now = (slice_eq-Decides Decides-int_eq v.now k.now true (sym equal)).0 refl in
     let there = sym (slice_get-map (λ (r : KeptRow). numbers_of r.row) kept place) ∙ ap (λ l. slice_get l place) (sym same) ∙ slice_get-map (λ (q : Bor (List ℤ)). q.now) keys place ∙ ap (option_map (λ (q : Bor (List ℤ)). q.now)) at in
@@ -65,7 +67,10 @@ row_at_key kept keys place k v x same at equal is =
 
 module _ (all : List KeptRow) (i : ℕ) (kept : List KeptRow) (keys : List (Bor (List ℤ))) (places : List ℕ) (so_far : PlacesSoFar all i kept keys places) (x : KeptRow) (at : slice_get all i ≡ Some x) where
   -- a place more, of row i
-  more : (kept' : List KeptRow) (keys' : List (Bor (List ℤ))) (place : ℕ) → length kept' ≤ i + 1 → map (λ (q : Bor (List ℤ)). q.now) keys' ≡ map (λ (k : KeptRow). numbers_of k.row) kept' → ((p : ℕ) (r : LinearRow) → slice_get (map (λ (k : KeptRow). k.row) kept) p ≡ Some r → slice_get (map (λ (k : KeptRow). k.row) kept') p ≡ Some r) → (¬ IsIdle x → slice_get (map (λ (k : KeptRow). k.row) kept') place ≡ Some x.row) → PlacesSoFar all (i + 1) kept' keys' (places ++ place ∷ [])
+  more : (kept' : List KeptRow) (keys' : List (Bor (List ℤ))) (place : ℕ) → length kept' ≤ i + 1
+      → map (λ (q : Bor (List ℤ)). q.now) keys' ≡ map (λ (k : KeptRow). numbers_of k.row) kept'
+      → ((p : ℕ) (r : LinearRow) → slice_get (map (λ (k : KeptRow). k.row) kept) p ≡ Some r → slice_get (map (λ (k : KeptRow). k.row) kept') p ≡ Some r)
+      → (¬ IsIdle x → slice_get (map (λ (k : KeptRow). k.row) kept') place ≡ Some x.row) → PlacesSoFar all (i + 1) kept' keys' (places ++ place ∷ [])
   more kept' keys' place few same stay here = record {
     few = few;
     keys_are = same;
@@ -92,7 +97,9 @@ module _ (all : List KeptRow) (i : ℕ) (kept : List KeptRow) (keys : List (Bor 
   pub places-idle : IsIdle x → PlacesSoFar all (i + 1) kept keys (places ++ 0 ∷ [])
   places-idle idle = more kept keys 0 (let h = so_far.few in omega arith) so_far.keys_are (λ p r e. e) (λ busy. absurd (busy idle))
 
-  module _ (keys' : List (Bor (List ℤ))) (v k : Bor (List ℤ)) (place : ℕ) (is : v.now ≡ numbers_of x.row) (added : Bool) (says : added ≡ not (has_numbers keys v.now)) (inserts : keys' ≡ (if has_numbers keys v.now then keys else keys ++ v ∷ [])) (stored : slice_get keys' place ≡ Some k) (equal : pointwise int_eq v.now k.now ≡ true) where
+  module _ (keys' : List (Bor (List ℤ))) (v k : Bor (List ℤ)) (place : ℕ) (is : v.now ≡ numbers_of x.row) (added : Bool) (says : added ≡ not (has_numbers keys v.now))
+      (inserts : keys' ≡ (if has_numbers keys v.now then keys else keys ++ v ∷ [])) (stored : slice_get keys' place ≡ Some k)
+      (equal : pointwise int_eq v.now k.now ≡ true) where
     has_is : (a : Bool) (b : Bool) → a ≡ not b → a ≡ true → b ≡ false
     has_is a true p q = cc
     has_is a false p q = refl
@@ -125,7 +132,8 @@ module _ (all : List KeptRow) (i : ℕ) (kept : List KeptRow) (keys : List (Bor 
     places-new was =
         let fresh = has_is added (has_numbers keys v.now) says was in
         let keys_are : keys' ≡ keys ++ v ∷ [] = inserts ∙ ap (λ b. if b then keys else keys ++ v ∷ []) fresh in
-        let same = ap (map (λ (q : Bor (List ℤ)). q.now)) keys_are ∙ map-append (λ (q : Bor (List ℤ)). q.now) keys (v ∷ []) ∙ ap (λ l. l ++ v.now ∷ []) so_far.keys_are ∙ ap (λ n. map (λ (y : KeptRow). numbers_of y.row) kept ++ n ∷ []) is ∙ sym (map-append (λ (y : KeptRow). numbers_of y.row) kept (x ∷ [])) in
+        let same = ap (map (λ (q : Bor (List ℤ)). q.now)) keys_are ∙ map-append (λ (q : Bor (List ℤ)). q.now) keys (v ∷ []) ∙ ap (λ l. l ++ v.now ∷ []) so_far.keys_are
+        ∙ ap (λ n. map (λ (y : KeptRow). numbers_of y.row) kept ++ n ∷ []) is ∙ sym (map-append (λ (y : KeptRow). numbers_of y.row) kept (x ∷ [])) in
         more (kept ++ x ∷ []) keys' place (let h = so_far.few in let e = length-append kept (x ∷ []) in omega arith) same
         (λ p r e. ap (λ l. slice_get l p) (map-append (λ (y : KeptRow). y.row) kept (x ∷ [])) ∙ get_front (map (λ (y : KeptRow). y.row) kept) (x.row ∷ []) p r e)
         (λ busy. row_at_key (kept ++ x ∷ []) keys' place k v x same stored equal is)

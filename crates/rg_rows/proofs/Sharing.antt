@@ -9,7 +9,7 @@ use Rattle.rg_theory.specs.declared.Class.{Class}
 use Rattle.rg_theory.specs.declared.Problem.{Problem}
 use Rattle.rg_theory.specs.declared.Problem.TheVariants.{Event, States}
 use Rattle.rg_theory.specs.System.{System, states, labels}
-use Rattle.rg_fraction.specs.declared.term.Wide.{Wide}
+use Rattle.rg_integers.specs.declared.term.Wide.{Wide}
 use Rattle.rg_fraction.specs.declared.fold_stop.FoldStop.{FoldStop}
 use Rattle.rg_fraction.specs.declared.fold_stop.FoldStop.TheVariants as stop
 use Rattle.rg_linear.specs.Cycle.{CycleBasis}
@@ -17,11 +17,11 @@ use Rattle.rg_refuting.specs.Expression.{Expression, Variable.tokens_at, plus, m
 use Rattle.rg_refuting.specs.Row.{RowName, row_expression, shared_expression}
 use Rattle.rg_order_of_work.specs.Fold.{shown_result}
 use Rattle.rg_order_of_work.specs.Rewriting.{has_start, column_count, terms_fold, row_fold}
-use Rattle.rg_denominators.specs.declared.scaled.Scaled.{Scaled}
-use Rattle.rg_denominators.specs.View.{scaled_of}
-use Rattle.rg_expressions.specs.View.{TermNamesStateBelow}
-use Rattle.rg_columns.specs.declared.columns.Columns.{Columns}
-use Rattle.rg_columns.specs.View.{AreColumns}
+use Rattle.rg_case_parts.specs.declared.scaled.Scaled.{Scaled}
+use Rattle.rg_case_parts.specs.WholeNumbers.{scaled_of}
+use Rattle.rg_case_parts.specs.StatesNamed.{TermNamesStateBelow}
+use Rattle.rg_case_parts.specs.declared.columns.Columns.{Columns}
+use Rattle.rg_case_parts.specs.ColumnViews.{AreColumns}
 use Rattle.rg_rows.specs.declared.case_row.CaseRow.{CaseRow}
 use Rattle.rg_rows.specs.declared.held_row.HeldRow.{HeldRow}
 use Rattle.rg_rows.specs.declared.kind.Kind.{Kind}
@@ -115,11 +115,19 @@ module _ (lts : System) (tree : List Arc) (basis : CycleBasis) (class : Class) (
 
 -- what is found in a table
 module _ (common : Common) (k : Kind) (i : ℕ) where
-  pub row_found : (rows : List (Result CaseRow Wide)) → ((lts : System) (tree : List Arc) (basis : CycleBasis) (class : Class) → IsCommonOf lts tree basis class common → AreRowsOfKind lts tree basis class k rows) → (found : Option (Bor (Result CaseRow Wide))) → IsGetResult rows i i found → IfSome found (λ r. (lts : System) (tree : List Arc) (basis : CycleBasis) (class : Class) (problem : Problem) (number : ℕ) → IsCommonOf lts tree basis class common → IsRowInCase lts tree basis class problem number (row_of_kind k i) r.now)
+  pub row_found : (rows : List (Result CaseRow Wide))
+      → ((lts : System) (tree : List Arc) (basis : CycleBasis) (class : Class) → IsCommonOf lts tree basis class common → AreRowsOfKind lts tree basis class k rows)
+      → (found : Option (Bor (Result CaseRow Wide))) → IsGetResult rows i i found
+      → IfSome found (λ r. (lts : System) (tree : List Arc) (basis : CycleBasis) (class : Class) (problem : Problem) (number : ℕ)
+      → IsCommonOf lts tree basis class common → IsRowInCase lts tree basis class problem number (row_of_kind k i) r.now)
   row_found rows are None told = tt
   row_found rows are (Some r) told = λ lts tree basis class problem number is. row_in_case_is lts tree basis class problem number k i rows r.now (are lts tree basis class is) (sym (get_is rows i (Some r) told))
 
-  pub terms_found : (terms : List (Result Scaled Wide)) → ((lts : System) (tree : List Arc) (basis : CycleBasis) (class : Class) → IsCommonOf lts tree basis class common → AreTermsOfKind lts tree basis class k terms) → (found : Option (Bor (Result Scaled Wide))) → IsGetResult terms i i found → IfSome found (λ r. (lts : System) (tree : List Arc) (basis : CycleBasis) (class : Class) (problem : Problem) (number : ℕ) → IsCommonOf lts tree basis class common → AreTermsInCase lts tree basis class problem number (row_of_kind k i) r.now)
+  pub terms_found : (terms : List (Result Scaled Wide))
+      → ((lts : System) (tree : List Arc) (basis : CycleBasis) (class : Class) → IsCommonOf lts tree basis class common → AreTermsOfKind lts tree basis class k terms)
+      → (found : Option (Bor (Result Scaled Wide))) → IsGetResult terms i i found
+      → IfSome found (λ r. (lts : System) (tree : List Arc) (basis : CycleBasis) (class : Class) (problem : Problem) (number : ℕ)
+      → IsCommonOf lts tree basis class common → AreTermsInCase lts tree basis class problem number (row_of_kind k i) r.now)
   terms_found terms are None told = tt
   terms_found terms are (Some r) told = λ lts tree basis class problem number is. terms_in_case_are lts tree basis class problem number k i terms r.now (are lts tree basis class is) (sym (get_is terms i (Some r) told))
 

@@ -10,7 +10,7 @@ use Rattle.rg_theory.specs.declared.Problem.{Problem}
 use Rattle.rg_theory.specs.System.{System}
 use Rattle.rg_theory.specs.ClassWords.{HasNumbersInRange}
 use Rattle.rg_theory.specs.Tree.{IsTree}
-use Rattle.rg_fraction.specs.declared.term.Wide.{Wide}
+use Rattle.rg_integers.specs.declared.term.Wide.{Wide}
 use Rattle.rg_linear.specs.Cycle.{CycleBasis}
 use Rattle.rg_integers.specs.Range.{InRange}
 use Rattle.rg_refuting.specs.Row.{RowName.tokens_row, row_expression, Form.on_start, step_of}
@@ -54,7 +54,10 @@ module _ (lts : System) (tree : List Arc) (basis : CycleBasis) (class : Class) (
       form_of_none lts tree basis class problem number on_start (row_expression lts class problem number [] (tokens_row lts.initial)) refl w
       (subst (λ m. terms_fold lts tree basis class (row_expression lts class problem number [] (tokens_row m)).terms (Err w)) at terms)
 
-  module _ (names : List CodeName) (rows : List CaseRow) (i n : ℕ) (at : n ≡ lts.initial) (lt : i < length names) (here : (d : CodeName) → slice_index_or names i d ≡ Tokens n) (lt' : i < length rows) (made : each (fold_of lts tree basis class problem number) (map row_name_of names) (Ok (map kept_row rows))) (row : CaseRow) (is_row : row ≡ slice_index_or rows i row) where
+  module _ (names : List CodeName) (rows : List CaseRow) (i n : ℕ) (at : n ≡ lts.initial) (lt : i < length names)
+      (here : (d : CodeName) → slice_index_or names i d ≡ Tokens n) (lt' : i < length rows)
+      (made : each (fold_of lts tree basis class problem number) (map row_name_of names) (Ok (map kept_row rows))) (row : CaseRow)
+      (is_row : row ≡ slice_index_or rows i row) where
     start_row : fold_of lts tree basis class problem number (tokens_row lts.initial) (Ok (kept_row row)) × ((kept_row row).name ≡ tokens_row lts.initial)
     start_row =
         row_at_place lts tree basis class problem number (map row_name_of names) (map kept_row rows) i (tokens_row lts.initial) (kept_row row) made (subst (λ k. i < k) (sym (length-map names row_name_of)) lt)

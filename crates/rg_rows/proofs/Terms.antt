@@ -16,7 +16,7 @@ use Rattle.rg_order_of_work.proofs.Lists.{nothing, where_is}
 use Rattle.rg_order_of_work.proofs.Names.{each_problem_name, each_name}
 use Rattle.rg_reasons.specs.declared.certificate.RowName.{RowName as CodeName}
 use Rattle.rg_reasons.specs.Trees.{row_name_of}
-use Rattle.rg_expressions.specs.View.{TermNamesStateBelow}
+use Rattle.rg_case_parts.specs.StatesNamed.{TermNamesStateBelow}
 use Rattle.rg_rows.specs.View.{AreNamesWithin}
 
 pub one : (n : ℕ) (t : SumTerm) → TermNamesStateBelow n t → All (TermNamesStateBelow n) (t ∷ [])
@@ -77,7 +77,9 @@ pub names_within : (lts : System) (class : Class) (problem : Problem) (number : 
 names_within lts class problem number asked = λ k d lt. one_name_within lts class problem number (slice_index_or (names_of lts class problem number) k d) asked (Contains-get_or (names_of lts class problem number) k d lt)
 
 -- what the code writes of a row names states of the system
-pub name_within : (lts : System) (class : Class) (problem : Problem) (number : ℕ) (names : List CodeName) (i : ℕ) (d : CodeName) (terms : List SumTerm) (n : ℕ) → AreNamesWithin lts class problem number (map row_name_of names) → i < length names → terms ≡ (row_expression lts class problem number [] (row_name_of (slice_index_or names i d))).terms → n ≡ states lts → All (TermNamesStateBelow n) terms
+pub name_within : (lts : System) (class : Class) (problem : Problem) (number : ℕ) (names : List CodeName) (i : ℕ) (d : CodeName) (terms : List SumTerm) (n : ℕ)
+    → AreNamesWithin lts class problem number (map row_name_of names) → i < length names
+    → terms ≡ (row_expression lts class problem number [] (row_name_of (slice_index_or names i d))).terms → n ≡ states lts → All (TermNamesStateBelow n) terms
 name_within lts class problem number names i d terms n within lt is same =
     subst (λ l. All (TermNamesStateBelow n) l) (sym is)
     (subst (λ k. All (TermNamesStateBelow k) (row_expression lts class problem number [] (row_name_of (slice_index_or names i d))).terms) (sym same)

@@ -6,13 +6,13 @@ use Rattle.rg_theory.specs.declared.Class.{Class}
 use Rattle.rg_theory.specs.System.{System, states}
 use Rattle.rg_linear.specs.System.{LinearRow}
 use Rattle.rg_linear.specs.Cycle.{CycleBasis}
-use Rattle.rg_fraction.specs.declared.term.Wide.{Wide}
+use Rattle.rg_integers.specs.declared.term.Wide.{Wide}
 use Rattle.rg_theory.specs.declared.Problem.{Problem}
 use Rattle.rg_refuting.specs.Row.{RowName, row_expression}
 use Rattle.rg_order_of_work.specs.Fold.{ratio_of}
 use Rattle.rg_order_of_work.specs.Rewriting.{numbers_where, KeptRow, IsIdle, row_fold}
 use Rattle.rg_reasons.specs.Trees.{row_name_of}
-use Rattle.rg_expressions.specs.View.{TermNamesStateBelow}
+use Rattle.rg_case_parts.specs.StatesNamed.{TermNamesStateBelow}
 use Rattle.rg_linear.specs.View.{linear_row}
 use Rattle.rg_rows.specs.declared.case_row.CaseRow.{CaseRow}
 use Rattle.rg_rows.specs.declared.held_row.HeldRow.{HeldRow}

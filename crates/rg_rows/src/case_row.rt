@@ -2,21 +2,24 @@
 ghost use Rattle.std.specs.Prelude.{◌≡◌, ◌++◌, ◌∷◌, [], All};
 ghost use Rattle.std.specs.Arc.{arc_slice_items};
 ghost use Rattle.rg_integers.specs.Range.{InRange};
+ghost use Rattle.rg_linear.specs.Norm.{row_norm, kept_norm};
 
 use rg_fraction::Fraction;
 use rg_reasons::RowName;
 use std::sync::ArcSlice;
 
 /// A row over the columns: it is the named row times the factor, which is positive. Its numbers are its coefficients, then its
-/// constant: by them rows are told apart. A case's system shares the coefficients.
+/// constant: by them rows are told apart. A case's system shares the coefficients, and takes over the norm.
 #[derive(Drop)]
 pub(crate) struct CaseRow {
     pub(crate) name: RowName,
     pub(crate) coeffs: ArcSlice<i128>,
     pub(crate) constant: i128,
+    pub(crate) norm: u64,
     pub(crate) factor: Fraction,
     pub(crate) numbers: Vec<i128>,
     pub ghost coeffs_in_range: { All InRange (arc_slice_items coeffs) },
     pub ghost constant_in_range: { InRange constant },
+    pub ghost norm_is: { norm ≡ kept_norm (row_norm (arc_slice_items coeffs) constant) },
     pub ghost numbers_are: { numbers.items ≡ arc_slice_items coeffs ++ constant ∷ [] },
 }

@@ -4,9 +4,9 @@ ghost use Rattle.rg_integers.specs.Range.{InRange};
 ghost use Rattle.rg_integers.specs.Sum.{number_at};
 ghost use Rattle.rg_order_of_work.specs.Rewriting.{count_of};
 ghost use Rattle.rg_reasons.specs.Sums.{expression_of};
-ghost use Rattle.rg_expressions.specs.View.{TermNamesStateBelow};
+ghost use Rattle.rg_case_parts.specs.StatesNamed.{TermNamesStateBelow};
 
-use rg_expressions::count;
+use rg_case_parts::count;
 use rg_reasons::Expression;
 use rg_spanning::Tree;
 use std::alloc::{AllocError, Global};

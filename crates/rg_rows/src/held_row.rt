@@ -2,14 +2,14 @@
 ghost use Rattle.std.specs.Prelude.{◌≡◌, [], length, map, All, Ok, Err, IfOk, IsErrOf};
 ghost use Rattle.std.specs.Arc.{arc_slice_items};
 ghost use Rattle.rg_theory.specs.System.{states, labels};
-ghost use Rattle.rg_fraction.specs.declared.term.Wide.{Wide};
+ghost use Rattle.rg_integers.specs.declared.term.Wide.{Wide};
 ghost use Rattle.rg_fraction.specs.declared.fold_stop.FoldStop.TheVariants as stop;
 ghost use Rattle.rg_refuting.specs.Row.{row_expression};
 ghost use Rattle.rg_spanning.specs.Spanning.{IsTreeOf};
 ghost use Rattle.rg_order_of_work.specs.Rewriting.{column_count};
 ghost use Rattle.rg_cycles.specs.View.{labels_of, cycle_of};
 ghost use Rattle.rg_reasons.specs.Trees.{row_name_of};
-ghost use Rattle.rg_expressions.specs.View.{TermNamesStateBelow};
+ghost use Rattle.rg_case_parts.specs.StatesNamed.{TermNamesStateBelow};
 ghost use Rattle.rg_rows.specs.View.{kept_row, row_in, fold_of};
 ghost use Rattle.rg_rows.specs.Sharing.{IsCommonOf};
 

@@ -57,6 +57,7 @@ impl CaseRows {
         self.rows.push(Row {
             coeffs,
             constant: row.constant,
+            norm: row.norm,
         })?;
         self.names.push(row.name)?;
         self.factors.push(row.factor)?;

@@ -5,7 +5,7 @@ ghost use Rattle.rg_reasons.specs.Sums.{expression_of};
 ghost use Rattle.rg_reasons.specs.Trees.{row_name_of};
 ghost use Rattle.rg_rows.specs.Sharing.{row_of_kind, rows_of_kind, forms_of_kind};
 
-use rg_columns::has_start;
+use rg_case_parts::has_start;
 use rg_lts::Lts;
 use rg_reasons::{Expression, ProblemCase, RowName, expression};
 use rg_theory::{Class, Problem};

@@ -5,11 +5,11 @@ ghost use Rattle.rg_refuting.specs.Refutes.{IsSeparationProblem};
 ghost use Rattle.rg_refuting.specs.Row.{RowName.tokens_row, RowName.cap_row, RowName.up_row, RowName.down_row, RowName.makes_row};
 ghost use Rattle.rg_reasons.specs.Trees.{row_name_of};
 ghost use Rattle.rg_order_of_work.specs.Rewriting.{all_numbers, problem_rows, names_of};
-ghost use Rattle.rg_columns.specs.View.{AreColumns};
+ghost use Rattle.rg_case_parts.specs.ColumnViews.{AreColumns};
 ghost use Rattle.rg_rows.specs.View.{users, makers};
 
 use crate::problem_names::problem_rows;
-use rg_columns::Columns;
+use rg_case_parts::Columns;
 use rg_lts::Lts;
 use rg_reasons::{ProblemCase, RowName};
 use std::alloc::{AllocError, Global};

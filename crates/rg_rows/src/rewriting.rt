@@ -4,7 +4,7 @@ ghost use Rattle.std.specs.Arc.{arc_slice_items};
 ghost use Rattle.rg_integers.specs.Range.{InRange};
 ghost use Rattle.rg_theory.specs.declared.Class.{Class};
 ghost use Rattle.rg_theory.specs.System.{System, labels};
-ghost use Rattle.rg_fraction.specs.declared.term.Wide.{Wide};
+ghost use Rattle.rg_integers.specs.declared.term.Wide.{Wide};
 ghost use Rattle.rg_fraction.specs.Rows.{IsRowGcd};
 ghost use Rattle.rg_spanning.specs.Spanning.{IsTreeOf};
 ghost use Rattle.rg_order_of_work.specs.Rewriting.{terms_fold, row_fold, IsDivided, column_count};
@@ -12,18 +12,17 @@ ghost use Rattle.rg_reasons.specs.Trees.{row_name_of};
 ghost use Rattle.rg_cycles.specs.View.{labels_of, cycle_of};
 ghost use Rattle.rg_fraction.specs.declared.fold_stop.FoldStop.TheVariants as stop;
 ghost use Rattle.rg_reasons.specs.Sums.{expression_of};
-ghost use Rattle.rg_expressions.specs.View.{TermNamesStateBelow};
-ghost use Rattle.rg_denominators.specs.View.{scaled_of};
-ghost use Rattle.rg_columns.specs.View.{AreColumns};
+ghost use Rattle.rg_case_parts.specs.StatesNamed.{TermNamesStateBelow};
+ghost use Rattle.rg_case_parts.specs.WholeNumbers.{scaled_of};
+ghost use Rattle.rg_case_parts.specs.ColumnViews.{AreColumns};
 ghost use Rattle.rg_rows.specs.View.{kept_row};
 
 use crate::case_row::CaseRow;
 use crate::counts::counts;
-use rg_columns::Columns;
+use rg_case_parts::{Columns, Scaled, start, without_denominators};
 use rg_cycles::{Basis, substitute};
-use rg_denominators::{Scaled, without_denominators};
-use rg_expressions::start;
 use rg_fraction::{FoldStop, Fraction, reduce, row_gcd};
+use rg_linear::norm;
 use rg_reasons::{Expression, RowName};
 use rg_spanning::Tree;
 use std::alloc::{AllocError, Global};
@@ -91,10 +90,12 @@ fn divided(
     let divisor = row_gcd(&numbers);
     reduce(&mut numbers);
     let (coeffs, constant) = parted(alloc, &numbers)?;
+    let norm = norm(&coeffs, constant);
     Ok(CaseRow {
         name,
         coeffs,
         constant,
+        norm,
         factor: Fraction::new(multiple, divisor.max(1)),
         numbers,
     })

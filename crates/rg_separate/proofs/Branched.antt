@@ -39,7 +39,9 @@ copy_asked system f coeffs same is = record {
 }
 
 -- one form more
-pub copies_more : (forms : List NamedForm) (i : ℕ) (copies : List Bounded) (f : NamedForm) (coeffs : ArcSlice ℤ Global) → i < length forms → get_or forms i f ≡ f → arc_slice_items coeffs ≡ arc_slice_items f.coeffs → forms_of copies ≡ map linear_form (take i forms) → forms_of (copies ++ copy_of f coeffs ∷ []) ≡ map linear_form (take (i + 1) forms)
+pub copies_more : (forms : List NamedForm) (i : ℕ) (copies : List Bounded) (f : NamedForm) (coeffs : ArcSlice ℤ Global) → i < length forms → get_or forms i f ≡ f
+    → arc_slice_items coeffs ≡ arc_slice_items f.coeffs → forms_of copies ≡ map linear_form (take i forms) → forms_of (copies ++ copy_of f coeffs ∷ []) ≡ map linear_form
+    (take (i + 1) forms)
 copies_more forms i copies f coeffs lt here same so_far =
     map-append form_of copies (copy_of f coeffs ∷ [])
     ∙ ap (λ xs. xs ++ form_of (copy_of f coeffs) ∷ []) so_far

@@ -19,7 +19,7 @@ use Rattle.rg_outcome.specs.Casing.{CaseResult, CaseComes, CaseResult.makes, Cas
 use Rattle.rg_outcome.specs.Solving as solved
 use Rattle.rg_outcome.specs.Solving.{Solved, ProblemComes, NoneMakes, NonePasses, CasesCome, CasesCome.first_place, CasesCome.all_refuted, CasesCome.first_term, Solved.placed, Solved.passed}
 use Rattle.rg_separate.specs.declared.problem.Tried.{Tried}
-use Rattle.rg_separate.specs.declared.wide_at.WideAt.{WideAt}
+use Rattle.rg_reasons.specs.declared.wide_at.WideAt.{WideAt}
 use Rattle.rg_separate.specs.View.{shown_of}
 use Rattle.rg_separate.specs.Deciding.{HaveCome}
 use Rattle.rg_separate.proofs.Trying.{case_more}

@@ -15,7 +15,7 @@ use Rattle.rg_theory.proofs.Dead.{blocking_region}
 use Rattle.rg_net.specs.Range.{IsPlaceInRange}
 use Rattle.rg_integers.specs.Range.{greatest}
 use Rattle.rg_net.specs.Shown.{shown_place}
-use Rattle.rg_places.specs.declared.region_place.RegionPlace.{RegionPlace}
+use Rattle.rg_marks.specs.declared.region_place.RegionPlace.{RegionPlace}
 use Rattle.rg_places.specs.RegionPlaces.{region_tokens, IsRegionPlace, PlaceSeparates}
 
 arc_there : (arcs : List Arc) (k t : ℕ) (d : Arc) → k < length arcs → (get_or arcs k d).label ≡ t → Contains arcs (arc (get_or arcs k d).from t (get_or arcs k d).to)

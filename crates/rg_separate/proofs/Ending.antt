@@ -10,11 +10,11 @@ use Rattle.rg_net.specs.Shown.{shown_place}
 use Rattle.rg_net.specs.declared.net.Place.{Place as PlaceOfCode}
 use Rattle.rg_order_of_work.specs.Shown.{Shown, CycleShown}
 use Rattle.rg_theory.specs.declared.Class.{Class}
-use Rattle.rg_separated.specs.declared.separated.Separated.{Separated}
+use Rattle.rg_marks.specs.declared.separated.Separated.{Separated}
 use Rattle.rg_cycles.specs.declared.stop.CycleWide.{CycleWide}
 use Rattle.rg_cycles.specs.View.{cycle_of}
 use Rattle.rg_reasons.specs.declared.certificate.Reason.{Reason}
-use Rattle.rg_places.specs.declared.region_place.RegionPlace.{RegionPlace}
+use Rattle.rg_marks.specs.declared.region_place.RegionPlace.{RegionPlace}
 use Rattle.rg_outcome.specs.Solving as solved
 use Rattle.rg_outcome.specs.Solving.{Solved, Solved.placed, Solved.passed, ProblemComes}
 use Rattle.rg_outcome.specs.Coming as outcome
@@ -27,7 +27,7 @@ use Rattle.rg_blocks.specs.declared.separation.SeparationOutcome.TheVariants as 
 use Rattle.rg_separate.specs.declared.problem.ProblemAnswer.TheVariants as problem_answer
 use Rattle.rg_separate.specs.declared.separation.Separation.TheVariants as separation
 use Rattle.rg_separate.specs.declared.setting.Setting.{Setting}
-use Rattle.rg_separate.specs.declared.wide_at.WideAt.{WideAt}
+use Rattle.rg_reasons.specs.declared.wide_at.WideAt.{WideAt}
 use Rattle.rg_separate.specs.Passing.{cycle_passed}
 use Rattle.rg_separate.specs.View.{shown_of}
 use Rattle.rg_separate.specs.Answer.{AreSeparating, IsSearched}

@@ -6,7 +6,7 @@ use Rattle.std.proofs.lemmas.List.Elements.{All-nil, All-cons}
 use Rattle.std.proofs.lemmas.Bool.{lt-ltb}
 use Rattle.std.proofs.lemmas.Int.{ints}
 use Rattle.std.specs.Int.Signed.{mag}
-use Rattle.rg_fraction.specs.declared.term.Wide.{Wide}
+use Rattle.rg_integers.specs.declared.term.Wide.{Wide}
 use Rattle.rg_fraction.specs.declared.fraction.Fraction.{Fraction}
 use Rattle.rg_fraction.specs.Fractions.{IsValue, IsProduct, numerator_of, denominator_of}
 use Rattle.rg_integers.specs.Range.{InRange}
@@ -104,7 +104,10 @@ module _ (named : NamedSystem) (case : CaseSystem) (shows : ShowsCase named case
       ∙ get_or-map split_of named.forms.items side.form f (on_tokens 0) lt
       ∙ ap split_of form
 
-  pub factor_of_split : (sides : List SplitSide) (i : ℕ) (side : SplitSide) (f : NamedForm) (scale : Fraction) (z : ℤ) → length named.system.rows ≤ i → i - length named.system.rows < length sides → side_at sides (i - length named.system.rows) ≡ side → side.form < length named.forms.items → get_or named.forms.items side.form f ≡ f → IsValue scale z (pos 1) → whole z ≡ split_factor (split_of f) (linear_form f) → ratio_of scale ≡ factor_of case sides (among sides) i
+  pub factor_of_split : (sides : List SplitSide) (i : ℕ) (side : SplitSide) (f : NamedForm) (scale : Fraction) (z : ℤ) → length named.system.rows ≤ i
+      → i - length named.system.rows < length sides → side_at sides (i - length named.system.rows) ≡ side → side.form < length named.forms.items
+      → get_or named.forms.items side.form f ≡ f → IsValue scale z (pos 1) → whole z ≡ split_factor (split_of f) (linear_form f)
+      → ratio_of scale ≡ factor_of case sides (among sides) i
   factor_of_split sides i side f scale z le below at lt form value factor =
       whole_fraction scale z value
       ∙ factor

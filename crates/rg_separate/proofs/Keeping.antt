@@ -8,12 +8,12 @@ use Rattle.rg_theory.specs.declared.Class.{Class}
 use Rattle.rg_theory.proofs.Yes.{region_unique}
 use Rattle.rg_net.specs.declared.net.Place.{Place}
 use Rattle.rg_net.specs.Shown.{shown_place}
-use Rattle.rg_places.specs.declared.region_place.RegionPlace.{RegionPlace}
+use Rattle.rg_marks.specs.declared.region_place.RegionPlace.{RegionPlace}
 use Rattle.rg_places.specs.RegionPlaces.{region_tokens, IsRegionPlace}
-use Rattle.rg_separated.specs.Tokens.{IsNarrow, AreTokens}
-use Rattle.rg_separated.specs.Separated.{AddsOne, SeparateSoMuch, AreSome}
-use Rattle.rg_separated.specs.declared.separated.Separated.{Separated}
-use Rattle.rg_separated.proofs.Members.{adds_last}
+use Rattle.rg_marks.specs.Tokens.{IsNarrow, AreTokens}
+use Rattle.rg_marks.specs.Separated.{AddsOne, SeparateSoMuch, AreSome}
+use Rattle.rg_marks.specs.declared.separated.Separated.{Separated}
+use Rattle.rg_marks.proofs.Members.{adds_last}
 use Rattle.rg_blocks.specs.Taking.{AreNotable}
 use Rattle.rg_separate.specs.Keeping.{MayKeep, IsKept, AreKept}
 

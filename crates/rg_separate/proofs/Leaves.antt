@@ -11,7 +11,7 @@ use Rattle.rg_theory.specs.declared.Class.{Class}
 use Rattle.rg_theory.specs.declared.Problem.{Problem}
 use Rattle.rg_refuting.specs.Row.{Form as SplitForm, Form.on_tokens, Form.on_effect, Form.on_start, Side, RowStands, row_expression}
 use Rattle.rg_refuting.specs.Refutes.{LeafRefutes}
-use Rattle.rg_fraction.specs.declared.term.Wide.{Wide}
+use Rattle.rg_integers.specs.declared.term.Wide.{Wide}
 use Rattle.rg_fraction.specs.declared.fraction.Fraction.{Fraction}
 use Rattle.rg_linear.specs.Branching.{SplitSide, side_row, Weight, SplitTree, BranchOutcome.tree, Branching, Form, form_at, weights_from, node_system}
 use Rattle.rg_linear.specs.Cycle.{CycleBasis}
@@ -37,7 +37,7 @@ use Rattle.rg_rows.specs.Shown.{ShowsCase}
 use Rattle.rg_farkas.specs.Refuting.{SharesRefute}
 use Rattle.rg_farkas.specs.Leaves.{share_of, IsLeafWith, RefutesCase}
 use Rattle.rg_farkas.proofs.Multipliers.{node_names_stand, node_names_in_range, node_shares_refute}
-use Rattle.rg_separate.specs.declared.wide_at.Stage.TheVariants.{Spread}
+use Rattle.rg_reasons.specs.declared.wide_at.Stage.TheVariants.{Spread}
 use Rattle.rg_separate.specs.declared.setting.CaseSetting.{CaseSetting}
 use Rattle.rg_separate.specs.Casing.{IsCase, IsNamedSystem, forms_in, AreRefuting, VisitStands, IsMadeOf, sides_among, SharesFold, LeafPasses}
 use Rattle.rg_separate.specs.Passing.{passed_at}
@@ -62,7 +62,11 @@ sides_of_system lts class problem sides all =
 
 -- ---- what is shown where a leaf passes
 
-pub spread_shown : (c : CaseSetting) (named : NamedSystem) (whole : SplitTree) (sides : List SplitSide) (weights : List Weight) (w : Wide) → IsCase c → (system : IsNamedSystem c named) → Branching named.system (forms_in named) (tree whole) → HasLeaf [] whole sides weights → spread_fold c.setting.lts.now c.setting.tree.now.arcs (cycle_of c.setting.basis.now) c.setting.class c.problem c.number system.case sides (named_sides c.setting.lts.now c.setting.class c.problem sides) weights (Err w) → SpreadShown c.setting.lts.now c.setting.class (passed_at Spread c (named_sides c.setting.lts.now c.setting.class c.problem sides) w)
+pub spread_shown : (c : CaseSetting) (named : NamedSystem) (whole : SplitTree) (sides : List SplitSide) (weights : List Weight) (w : Wide) → IsCase c
+    → (system : IsNamedSystem c named) → Branching named.system (forms_in named) (tree whole) → HasLeaf [] whole sides weights
+    → spread_fold c.setting.lts.now c.setting.tree.now.arcs (cycle_of c.setting.basis.now) c.setting.class c.problem c.number system.case sides
+    (named_sides c.setting.lts.now c.setting.class c.problem sides) weights (Err w)
+    → SpreadShown c.setting.lts.now c.setting.class (passed_at Spread c (named_sides c.setting.lts.now c.setting.class c.problem sides) w)
 spread_shown c named whole sides weights w is system ends has fails = record {
   case = system.case;
   of_case = record {
@@ -84,7 +88,9 @@ spread_shown c named whole sides weights w is system ends has fails = record {
   passes = fails;
 }
 
-pub leaf_shown : (c : CaseSetting) (named : NamedSystem) (nodes : List TreeNode) (i : ℕ) (above : List SplitSide) (made : List reasons.TreeNode) (n : TreeNode) (w : Wide) → IsCase c → IsNamedSystem c named → IsWalk c named nodes i above made → i < length nodes → get_or nodes i n ≡ n → LeafPasses c named above n w → SpreadShown c.setting.lts.now c.setting.class (passed_at Spread c (named_sides c.setting.lts.now c.setting.class c.problem above) w)
+pub leaf_shown : (c : CaseSetting) (named : NamedSystem) (nodes : List TreeNode) (i : ℕ) (above : List SplitSide) (made : List reasons.TreeNode) (n : TreeNode)
+    (w : Wide) → IsCase c → IsNamedSystem c named → IsWalk c named nodes i above made → i < length nodes → get_or nodes i n ≡ n → LeafPasses c named above n w
+    → SpreadShown c.setting.lts.now c.setting.class (passed_at Spread c (named_sides c.setting.lts.now c.setting.class c.problem above) w)
 leaf_shown c named nodes i above made (leaf_node weights) w is system walk lt here fails =
     spread_shown c named walk.whole above weights w is system walk.outcome (walk_leaf c named nodes i above made walk weights lt here) (fails system.case system.shows)
 leaf_shown c named nodes i above made (split_node f u) w is system walk lt here fails = absurd fails
@@ -96,10 +102,17 @@ refuting_case : (c : CaseSetting) (named : NamedSystem) (system : IsNamedSystem 
 refuting_case c named system sides weights are = subst (λ s. AreRefuting (node_system s system.case.forms sides) weights) system.shows.system (subst (λ fs. AreRefuting (node_system named.system fs sides) weights) system.shows.forms are)
 
 -- the shares with the sides by their names in the class
-pub shares_named : (c : CaseSetting) (named : NamedSystem) (system : IsNamedSystem c named) (sides : List SplitSide) (weights : List Weight) (result : Result (List Share) Wide) → SharesFold named sides weights result → (case : CaseSystem) → ShowsCase named case → each (share_fold case sides (named_sides c.setting.lts.now c.setting.class c.problem sides)) weights result
+pub shares_named : (c : CaseSetting) (named : NamedSystem) (system : IsNamedSystem c named) (sides : List SplitSide) (weights : List Weight)
+    (result : Result (List Share) Wide) → SharesFold named sides weights result → (case : CaseSystem)
+    → ShowsCase named case → each (share_fold case sides (named_sides c.setting.lts.now c.setting.class c.problem sides)) weights result
 shares_named c named system sides weights result fold case shows = subst (λ (ss : List Side). each (share_fold case sides ss) weights result) (ap (λ fs. sides_among fs sides) system.by_name) (fold case shows)
 
-pub leaf_asked : (c : CaseSetting) (named : NamedSystem) (sides : List SplitSide) (above : List SideOfCode) (weights : List Weight) (shares : List (NameOfCode × Fraction)) → IsCase c → IsNamedSystem c named → VisitStands named.system (forms_in named) (record { sides = sides; node = leaf_node weights }) → map side_of above ≡ named_sides c.setting.lts.now c.setting.class c.problem sides → length shares ≡ length weights → SharesFold named sides weights (Ok (map share_of shares)) → RefutesCase c.setting.lts.now c.setting.tree.now c.setting.basis.now c.setting.class c.problem c.number shares above
+pub leaf_asked : (c : CaseSetting) (named : NamedSystem) (sides : List SplitSide) (above : List SideOfCode) (weights : List Weight)
+    (shares : List (NameOfCode × Fraction)) → IsCase c → IsNamedSystem c named
+    → VisitStands named.system (forms_in named) (record { sides = sides; node = leaf_node weights })
+    → map side_of above ≡ named_sides c.setting.lts.now c.setting.class c.problem sides → length shares ≡ length weights
+    → SharesFold named sides weights (Ok (map share_of shares))
+    → RefutesCase c.setting.lts.now c.setting.tree.now c.setting.basis.now c.setting.class c.problem c.number shares above
 leaf_asked c named sides above weights shares is system stands by_name count fold = record {
   reachable = is.setting.reachable;
   tree = is.setting.tree;
@@ -107,7 +120,10 @@ leaf_asked c named sides above weights shares is system stands by_name count fol
   basis = is.setting.basis;
   asked = asked lts problem is.has;
   case = is.below;
-  sides = subst (All (λ (s : Side). IsFormOf lts s.form)) (sym by_name) (sides_of_system lts class problem sides (All-weaker (IsSideOf (forms_in named)) (λ (s : SplitSide). s.form < length (split_forms lts class problem)) (λ s at. (let e = forms_many in let l = at.form in omega arith)) sides stands.sides.each));
+  sides = subst (All (λ (s : Side). IsFormOf lts s.form)) (sym by_name)
+      (sides_of_system lts class problem sides
+      (All-weaker (IsSideOf (forms_in named)) (λ (s : SplitSide). s.form < length (split_forms lts class problem))
+      (λ s at. (let e = forms_many in let l = at.form in omega arith)) sides stands.sides.each));
   stand = subst (λ ss. All (λ (s : Share). RowStands lts class problem number ss s.name) (map share_of shares)) (sym by_name) (node_names_stand lts tree cycle class problem number system.case over sides within refuting.multiplier (map share_of shares) made);
   names = node_names_in_range lts tree cycle class problem number system.case over sides within (let f = stands.few in omega arith) refuting.multiplier (map share_of shares) made;
   refute = subst (λ ss. SharesRefute lts (row_expression lts class problem number ss) (map share_of shares)) (sym by_name) (node_shares_refute lts tree cycle class problem number system.case over sides within is.live refuting.multiplier refuting.refute (map share_of shares) made);
@@ -150,12 +166,18 @@ leaf_asked c named sides above weights shares is system stands by_name count fol
 
 -- ---- the leaf that is made
 
-pub leaf_made : (c : CaseSetting) (named : NamedSystem) (sides : List SplitSide) (above : List Side) (weights : List Weight) (shares : List Share) (n : reasons.TreeNode) → IsNamedSystem c named → above ≡ named_sides c.setting.lts.now c.setting.class c.problem sides → SharesFold named sides weights (Ok shares)
+pub leaf_made : (c : CaseSetting) (named : NamedSystem) (sides : List SplitSide) (above : List Side) (weights : List Weight) (shares : List Share) (n : reasons.TreeNode)
+    → IsNamedSystem c named → above ≡ named_sides c.setting.lts.now c.setting.class c.problem sides → SharesFold named sides weights (Ok shares)
     → IsLeafWith (λ rows. leaf_fold c.setting.lts.now c.setting.tree.now.arcs (cycle_of c.setting.basis.now) (row_expression c.setting.lts.now c.setting.class c.problem c.number above) shares (Ok rows)) n
     → IsLeafWith (LeafRefutes (RowStands c.setting.lts.now c.setting.class c.problem c.number above) (row_expression c.setting.lts.now c.setting.class c.problem c.number above)) n → IsMadeOf c named sides (leaf_node weights) n
 leaf_made c named sides above weights shares (made_leaf rows) system e fold leaf is = record {
   refutes = subst (λ ss. LeafRefutes (RowStands c.setting.lts.now c.setting.class c.problem c.number ss) (row_expression c.setting.lts.now c.setting.class c.problem c.number ss) rows) e is;
-  spreads = λ case shows. (shares, shares_named c named system sides weights (Ok shares) fold case shows, subst (λ ss. leaf_fold c.setting.lts.now c.setting.tree.now.arcs (cycle_of c.setting.basis.now) (row_expression c.setting.lts.now c.setting.class c.problem c.number ss) shares (Ok rows)) e leaf);
+  spreads = λ case shows. (
+    shares,
+    shares_named c named system sides weights (Ok shares) fold case shows,
+    subst (λ ss. leaf_fold c.setting.lts.now c.setting.tree.now.arcs (cycle_of c.setting.basis.now)
+        (row_expression c.setting.lts.now c.setting.class c.problem c.number ss) shares (Ok rows)) e leaf,
+  );
 }
 leaf_made c named sides above weights shares (made_split form at) system e fold leaf is = absurd is
 
@@ -174,7 +196,9 @@ lows_of lts arcs basis class (s ∷ splits) forms (x, (scaled, made, is), (more,
 
 pub split_fits : (c : CaseSetting) (named : NamedSystem) (f : ℕ) (u : ℤ) (d : NamedForm) → IsNamedSystem c named → f < length (forms_in named) → (form_at (forms_in named) f).low ≤ℤ u → FitsSigned w64 u → IsNodeOf c.setting.lts.now (made_split (form_of (get_or named.forms.items f d).form) u)
 split_fits c named f u d system lt le fits = (
-  subst (IsFormOf c.setting.lts.now) (ap (λ fs. get_or fs f (on_tokens 0)) (sym system.by_name) ∙ get_or-map split_of named.forms.items f d (on_tokens 0) within) (forms_of_system c.setting.lts.now c.setting.class c.problem f (on_tokens 0) (let e = sym (length-map named.forms.items split_of) ∙ ap length system.by_name in let w = within in omega arith)),
+  subst (IsFormOf c.setting.lts.now) (ap (λ fs. get_or fs f (on_tokens 0)) (sym system.by_name) ∙ get_or-map split_of named.forms.items f d (on_tokens 0) within)
+      (forms_of_system c.setting.lts.now c.setting.class c.problem f (on_tokens 0)
+      (let e = sym (length-map named.forms.items split_of) ∙ ap length system.by_name in let w = within in omega arith)),
   above u fits (let l = least in omega (arith, ints)),
 )
   where
@@ -182,7 +206,9 @@ split_fits c named f u d system lt le fits = (
     within = let e = length-map named.forms.items linear_form in omega arith
 
     all : All (λ g. negsuc 0 ≤ℤ g.low) system.case.forms
-    all = let (rows, rows_made, (forms, forms_made, (columns, keeps, form_list))) = system.made in subst (All (λ (g : Form). negsuc 0 ≤ℤ g.low)) (sym form_list) (lows_of c.setting.lts.now c.setting.tree.now.arcs (cycle_of c.setting.basis.now) c.setting.class (split_forms c.setting.lts.now c.setting.class c.problem) forms forms_made)
+    all = let (rows, rows_made, (forms, forms_made, (columns, keeps, form_list))) = system.made in subst (All (λ (g : Form). negsuc 0 ≤ℤ g.low)) (sym form_list)
+        (lows_of c.setting.lts.now c.setting.tree.now.arcs (cycle_of c.setting.basis.now) c.setting.class
+        (split_forms c.setting.lts.now c.setting.class c.problem) forms forms_made)
 
     least : negsuc 0 ≤ℤ (form_at (forms_in named) f).low
     least = subst (All (λ (g : Form). negsuc 0 ≤ℤ g.low)) (sym system.shows.forms) all f (record { scale = pos 1; coeffs = []; low = pos 0; high = pos 0 }) lt
@@ -193,7 +219,12 @@ split_fits c named f u d system lt le fits = (
 
 -- the weights of a leaf that stands: their rows are those of its node, and their multipliers are in range
 pub leaf_rows : (c : CaseSetting) (named : NamedSystem) (sides : List SplitSide) (weights : List Weight) → AreRefuting (node_system named.system (forms_in named) sides) weights → All (λ w. w.row < length named.system.rows + length sides) weights
-leaf_rows c named sides weights are = subst (All (λ (w : Weight). w.row < length named.system.rows + length sides)) (sym are.weights_are) (weights_are are.multiplier (λ (w : Weight). w.row < length named.system.rows + length sides) 0 (length (node_system named.system (forms_in named) sides).rows) (length named.system.rows + length sides) (let e = length-append named.system.rows (map (side_row (forms_in named)) sides) in let g = length-map sides (side_row (forms_in named)) in omega arith) (λ i lt. lt))
+leaf_rows c named sides weights are = subst (All (λ (w : Weight). w.row < length named.system.rows + length sides)) (sym are.weights_are)
+    (weights_are are.multiplier (λ (w : Weight). w.row < length named.system.rows + length sides) 0 (length (node_system named.system (forms_in named) sides).rows)
+    (length named.system.rows + length sides)
+    (let e = length-append named.system.rows (map (side_row (forms_in named)) sides) in let g = length-map sides (side_row (forms_in named)) in omega arith) (λ i lt. lt))
 
 pub leaf_not_negative : (c : CaseSetting) (named : NamedSystem) (sides : List SplitSide) (weights : List Weight) → AreRefuting (node_system named.system (forms_in named) sides) weights → All (λ w. pos 0 ≤ℤ w.multiplier) weights
-leaf_not_negative c named sides weights are = subst (All (λ (w : Weight). pos 0 ≤ℤ w.multiplier)) (sym are.weights_are) (weights_are are.multiplier (λ (w : Weight). pos 0 ≤ℤ w.multiplier) 0 (length (node_system named.system (forms_in named) sides).rows) (length (node_system named.system (forms_in named) sides).rows) (omega arith) are.refute.not_negative)
+leaf_not_negative c named sides weights are = subst (All (λ (w : Weight). pos 0 ≤ℤ w.multiplier)) (sym are.weights_are)
+    (weights_are are.multiplier (λ (w : Weight). pos 0 ≤ℤ w.multiplier) 0 (length (node_system named.system (forms_in named) sides).rows)
+    (length (node_system named.system (forms_in named) sides).rows) (omega arith) are.refute.not_negative)

@@ -1,7 +1,7 @@
 -- What a branching and a fold show where a number passes.
 use Rattle.std.proofs.Common.{◌≡◌, ℕ, List, [], Err, refl, subst}
 use Rattle.std.specs.Prelude.{ℤ}
-use Rattle.rg_fraction.specs.declared.term.Wide.{Wide}
+use Rattle.rg_integers.specs.declared.term.Wide.{Wide}
 use Rattle.rg_linear.specs.Branching.{SplitSide, Branching, BranchOutcome.stopped}
 use Rattle.rg_order_of_work.specs.Rewriting.{system_fold}
 use Rattle.rg_order_of_work.specs.Shown.{CycleShown, RowShown, PivotShown, named_sides}
@@ -17,13 +17,15 @@ use Rattle.rg_cycles.specs.View.{cycle_of}
 use Rattle.rg_feasible.specs.declared.settled.PivotWide.{PivotWide}
 use Rattle.rg_feasible.specs.Settling.{wide_at}
 use Rattle.rg_rows.specs.declared.named_system.NamedSystem.{NamedSystem}
-use Rattle.rg_separate.specs.declared.wide_at.Stage.TheVariants.{Row}
+use Rattle.rg_reasons.specs.declared.wide_at.Stage.TheVariants.{Row}
 use Rattle.rg_separate.specs.declared.setting.CaseSetting.{CaseSetting}
 use Rattle.rg_separate.specs.Casing.{IsCase, IsNamedSystem, forms_in}
 use Rattle.rg_separate.specs.Passing.{passed_at, pivot_at, cycle_passed}
 
 -- the term that an exchange of the case's descent shows
-pub pivot_shown : (c : CaseSetting) (named : NamedSystem) (sides : List SplitSide) (members : List ℕ) (at : PivotWide) → IsCase c → IsNamedSystem c named → Branching named.system (forms_in named) (stopped sides (wide_at members at)) → PivotShown c.setting.lts.now c.setting.class (pivot_at c (named_sides c.setting.lts.now c.setting.class c.problem sides) members at)
+pub pivot_shown : (c : CaseSetting) (named : NamedSystem) (sides : List SplitSide) (members : List ℕ) (at : PivotWide) → IsCase c → IsNamedSystem c named
+    → Branching named.system (forms_in named) (stopped sides (wide_at members at))
+    → PivotShown c.setting.lts.now c.setting.class (pivot_at c (named_sides c.setting.lts.now c.setting.class c.problem sides) members at)
 pivot_shown c named sides members at is system stops = record {
   case = system.case;
   of_case = record {
@@ -43,7 +45,10 @@ pivot_shown c named sides members at is system stops = record {
 }
 
 -- the case comes to that term
-pub pivot_comes : (c : CaseSetting) (named : NamedSystem) (sides : List SplitSide) (at : WideAt) → (system : IsNamedSystem c named) → Branching named.system (forms_in named) (stopped sides at) → CaseComes c.setting.lts.now c.setting.tree.now.arcs (cycle_of c.setting.basis.now) c.setting.class c.problem c.number (passes (term_at c.problem c.number (named_sides c.setting.lts.now c.setting.class c.problem sides) at))
+pub pivot_comes : (c : CaseSetting) (named : NamedSystem) (sides : List SplitSide) (at : WideAt) → (system : IsNamedSystem c named)
+    → Branching named.system (forms_in named) (stopped sides at) → CaseComes c.setting.lts.now c.setting.tree.now.arcs
+    (cycle_of c.setting.basis.now) c.setting.class c.problem c.number
+    (passes (term_at c.problem c.number (named_sides c.setting.lts.now c.setting.class c.problem sides) at))
 pivot_comes c named sides at system stops = pivot_passes system.case sides at system.made (subst (λ s. Branching s system.case.forms (stopped sides at)) system.shows.system (subst (λ fs. Branching named.system fs (stopped sides at)) system.shows.forms stops))
 
 -- the step that the rows of the case show

@@ -9,7 +9,7 @@ use Rattle.rg_theory.specs.declared.Problem.TheVariants.{Event, States}
 use Rattle.rg_theory.specs.Problem.{IsProblem}
 use Rattle.rg_refuting.specs.Refutes.{IsSeparationProblem}
 use Rattle.rg_integers.specs.Value.{SameValue}
-use Rattle.rg_fraction.specs.declared.term.Wide.{Wide}
+use Rattle.rg_integers.specs.declared.term.Wide.{Wide}
 use Rattle.rg_fraction.specs.declared.fraction.Fraction.{Fraction}
 use Rattle.rg_linear.specs.System.{LinearSystem, IsPoint, MeetsRows}
 use Rattle.rg_linear.specs.Descent as descent
@@ -32,7 +32,7 @@ use Rattle.rg_branch.specs.Answer.{AreValuesAt, IsFoundPoint, IsWholeSolution}
 use Rattle.rg_rows.specs.declared.named_system.NamedSystem.{NamedSystem}
 use Rattle.rg_places.specs.PointValues.{ratios_of, point_start, point_value, SolvesCase}
 use Rattle.rg_places.proofs.PointPlaces.{point_of}
-use Rattle.rg_separate.specs.declared.wide_at.Stage.TheVariants.{Place as PlaceStage}
+use Rattle.rg_reasons.specs.declared.wide_at.Stage.TheVariants.{Place as PlaceStage}
 use Rattle.rg_separate.specs.declared.setting.CaseSetting.{CaseSetting}
 use Rattle.rg_separate.specs.Casing.{IsCase, IsNamedSystem, forms_in}
 use Rattle.rg_separate.specs.Passing.{passed_at}
@@ -84,7 +84,9 @@ found_has system forms sides members b =
     descent_has node (column_set node) [] (length node.rows) 0 (descent.Outcome.point members) (found_well system forms [] (found members sides) b).descent (columns_have node)
 
 -- Start and the values of the labels are those of the columns at the set
-point_is : (lts : System) (basis : CycleBasis) (class : Class) (node : LinearSystem) (members : List ℕ) (point : List Fraction) → HasDictionary node members → AreValuesAt node members point → node.columns ≡ column_count lts basis class → PointOf lts basis class node members (point_start class point) (point_value lts basis class point)
+point_is : (lts : System) (basis : CycleBasis) (class : Class) (node : LinearSystem) (members : List ℕ) (point : List Fraction) → HasDictionary node members
+    → AreValuesAt node members point → node.columns ≡ column_count lts basis class → PointOf lts basis class node members (point_start class point)
+    (point_value lts basis class point)
 point_is lts basis class node members point has are count =
     point_of lts basis class point (are.one_each ∙ count) node members
     (λ j lt. ratio_is point j (IsValueAt node members j) lt (λ f. value_at node members has j (get_or point j f) (let e = are.one_each in omega arith) (λ scale v basic. are.each j f lt scale v basic)))
@@ -99,14 +101,23 @@ module _ (c : CaseSetting) (named : NamedSystem) (sides : List SplitSide) (point
       (point_is c.setting.lts.now (cycle_of c.setting.basis.now) c.setting.class (node_system named.system (forms_in named) sides) at.members point (found_has named.system (forms_in named) sides at.members at.outcome) at.values_are (case_columns c named system)))
 
   -- the case comes to the place of the point, or to its first step out of range
-  pub place_comes : (p : Place) → place_fold c.setting.lts.now c.setting.tree.now.arcs (cycle_of c.setting.basis.now) c.setting.class c.problem (point_start c.setting.class point) (point_value c.setting.lts.now (cycle_of c.setting.basis.now) c.setting.class point) (Ok p) → CaseComes c.setting.lts.now c.setting.tree.now.arcs (cycle_of c.setting.basis.now) c.setting.class c.problem c.number (makes p)
+  pub place_comes : (p : Place) → place_fold c.setting.lts.now c.setting.tree.now.arcs (cycle_of c.setting.basis.now) c.setting.class c.problem
+      (point_start c.setting.class point) (point_value c.setting.lts.now (cycle_of c.setting.basis.now) c.setting.class point) (Ok p)
+      → CaseComes c.setting.lts.now c.setting.tree.now.arcs (cycle_of c.setting.basis.now) c.setting.class c.problem c.number (makes p)
   place_comes p fold = place_is_made system.case at.members sides (point_start c.setting.class point) (point_value c.setting.lts.now (cycle_of c.setting.basis.now) c.setting.class point) p system.made case_found case_point fold
 
-  pub place_fails : (w : Wide) → place_fold c.setting.lts.now c.setting.tree.now.arcs (cycle_of c.setting.basis.now) c.setting.class c.problem (point_start c.setting.class point) (point_value c.setting.lts.now (cycle_of c.setting.basis.now) c.setting.class point) (Err w) → CaseComes c.setting.lts.now c.setting.tree.now.arcs (cycle_of c.setting.basis.now) c.setting.class c.problem c.number (passes (passed_at PlaceStage c (named_sides c.setting.lts.now c.setting.class c.problem sides) w))
+  pub place_fails : (w : Wide) → place_fold c.setting.lts.now c.setting.tree.now.arcs (cycle_of c.setting.basis.now) c.setting.class c.problem
+      (point_start c.setting.class point) (point_value c.setting.lts.now (cycle_of c.setting.basis.now) c.setting.class point) (Err w)
+      → CaseComes c.setting.lts.now c.setting.tree.now.arcs (cycle_of c.setting.basis.now) c.setting.class c.problem c.number
+      (passes (passed_at PlaceStage c (named_sides c.setting.lts.now c.setting.class c.problem sides) w))
   place_fails w fold = place_passes system.case at.members sides (point_start c.setting.class point) (point_value c.setting.lts.now (cycle_of c.setting.basis.now) c.setting.class point) w system.made case_found case_point fold
 
 -- the step that the place of the point shows
-pub place_shown : (c : CaseSetting) (named : NamedSystem) (sides : List SplitSide) (fractions : List Fraction) (w : Wide) → IsCase c → IsNamedSystem c named → IsFoundPoint named.system (forms_in named) sides fractions → place_fold c.setting.lts.now c.setting.tree.now.arcs (cycle_of c.setting.basis.now) c.setting.class c.problem (point_start c.setting.class fractions) (point_value c.setting.lts.now (cycle_of c.setting.basis.now) c.setting.class fractions) (Err w) → PlaceShown c.setting.lts.now c.setting.class (passed_at PlaceStage c (named_sides c.setting.lts.now c.setting.class c.problem sides) w)
+pub place_shown : (c : CaseSetting) (named : NamedSystem) (sides : List SplitSide) (fractions : List Fraction) (w : Wide) → IsCase c → IsNamedSystem c named
+    → IsFoundPoint named.system (forms_in named) sides fractions → place_fold c.setting.lts.now c.setting.tree.now.arcs
+    (cycle_of c.setting.basis.now) c.setting.class c.problem (point_start c.setting.class fractions)
+    (point_value c.setting.lts.now (cycle_of c.setting.basis.now) c.setting.class fractions) (Err w)
+    → PlaceShown c.setting.lts.now c.setting.class (passed_at PlaceStage c (named_sides c.setting.lts.now c.setting.class c.problem sides) w)
 place_shown c named sides fractions w is system at fails = record {
   case = system.case;
   of_case = record {

@@ -52,7 +52,9 @@ each_case lts class problem cases all i t e =
     let (case, at, is) = tree_at cases i t e in
     subst (TreeRefutes lts class problem i []) is (all i case at).refutes
 
-pub refuted_all : (lts : System) (class : Class) (s s' : ℕ) (cases : Vec Case Global) → IsInRange lts → IsAllReachable lts → HasNumbersInRange class → IsProblem lts (States s s') → length cases.items ≡ cases_of lts class (States s s') → ((i : ℕ) (case : Case) → slice_get cases.items i ≡ Some case → RefutesCase lts class (States s s') i case) → IsGoodReason lts class (reason.States s s' cases)
+pub refuted_all : (lts : System) (class : Class) (s s' : ℕ) (cases : Vec Case Global) → IsInRange lts → IsAllReachable lts → HasNumbersInRange class
+    → IsProblem lts (States s s') → length cases.items ≡ cases_of lts class (States s s')
+    → ((i : ℕ) (case : Case) → slice_get cases.items i ≡ Some case → RefutesCase lts class (States s s') i case) → IsGoodReason lts class (reason.States s s' cases)
 refuted_all lts class s s' cases fine reachable bounded (less, lt) count all =
     let below : s < states lts = omega arith in
     record {

@@ -11,7 +11,7 @@ use Rattle.rg_net.specs.Range.{IsPlaceInRange}
 use Rattle.rg_integers.specs.Range.{greatest}
 use Rattle.rg_net.specs.Shown.{shown_place}
 use Rattle.rg_net.specs.declared.net.Place.{Place as PlaceOfCode}
-use Rattle.rg_separated.specs.declared.separated.Separated.{Separated}
+use Rattle.rg_marks.specs.declared.separated.Separated.{Separated}
 use Rattle.rg_outcome.specs.Coming.{Separation.places}
 use Rattle.rg_theory.specs.Region.{IsRegionIn}
 use Rattle.rg_outcome.specs.Outcome.{Searched}
@@ -30,7 +30,10 @@ narrow lts class p reachable kept (m, region) = record {
 -- the places with which the search ends are regions that separate all problems
 pub separating : (lts : System) (class : Class) (kept : List PlaceOfCode) (separated : Separated) → IsInRange lts → HasNumbersInRange class → AreKept lts kept separated → length kept < 4294967296 → Searched lts class (places (map shown_place kept)) → AreSeparating lts class (map shown_place kept)
 separating lts class kept separated fine numbers are few searched = record {
-  regions = All-map (IsNarrowRegion lts class) shown_place kept (λ i d lt. narrow lts class (get_or kept i d) are.reachable (are.each i d lt) (subst (IsRegionIn lts class) (get_or-map shown_place kept i d (shown_place d) lt) (right.0 i (shown_place d) (let l = length-map kept shown_place in omega arith))));
+  regions = All-map (IsNarrowRegion lts class) shown_place kept
+      (λ i d lt. narrow lts class (get_or kept i d) are.reachable (are.each i d lt)
+      (subst (IsRegionIn lts class) (get_or-map shown_place kept i d (shown_place d) lt)
+      (right.0 i (shown_place d) (let l = length-map kept shown_place in omega arith))));
   in_range = record {
     weights = All-map (λ p. (length p.pre ≡ labels lts) × (length p.post ≡ labels lts)) shown_place kept (λ i d lt. ((are.each i d lt).narrow.pre, (are.each i d lt).narrow.post));
     places = All-map IsPlaceInRange shown_place kept (λ i d lt. (are.each i d lt).in_range);

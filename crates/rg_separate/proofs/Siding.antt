@@ -20,7 +20,10 @@ side_within n above i d all lt = subst (λ (s : SplitSide). s.form < n) (get_or-
 abbrev named : List SplitForm → SplitSide → Side
 named forms side = record { form = get_or forms side.form (on_tokens 0); at = side.at; high = side.high }
 
-pub sides_more : (forms : List NamedForm) (above : List (ℕ × ℤ × Bool)) (i : ℕ) (d : ℕ × ℤ × Bool) (f : NamedForm) (sides : List SideOfCode) → i < length above → (get_or above i d).0 < length forms → map reasons.side_of sides ≡ sides_among (map split_of forms) (sides_of (take i above)) → map reasons.side_of (sides ++ record { form = (get_or forms (get_or above i d).0 f).form; at = (get_or above i d).1; high = (get_or above i d).2 } ∷ []) ≡ sides_among (map split_of forms) (sides_of (take (i + 1) above))
+pub sides_more : (forms : List NamedForm) (above : List (ℕ × ℤ × Bool)) (i : ℕ) (d : ℕ × ℤ × Bool) (f : NamedForm) (sides : List SideOfCode) → i < length above
+    → (get_or above i d).0 < length forms → map reasons.side_of sides ≡ sides_among (map split_of forms) (sides_of (take i above))
+    → map reasons.side_of (sides ++ record { form = (get_or forms (get_or above i d).0 f).form; at = (get_or above i d).1; high = (get_or above i d).2 } ∷ []) ≡
+    sides_among (map split_of forms) (sides_of (take (i + 1) above))
 sides_more forms above i d f sides lt within so_far =
     map-append reasons.side_of sides (record { form = (get_or forms (get_or above i d).0 f).form; at = (get_or above i d).1; high = (get_or above i d).2 } ∷ [])
     ∙ ap (λ xs. xs ++ record { form = split_of (get_or forms (get_or above i d).0 f); at = (get_or above i d).1; high = (get_or above i d).2 } ∷ []) so_far

@@ -9,7 +9,7 @@ use Rattle.rg_theory.specs.declared.Problem.{Problem}
 use Rattle.rg_order_of_work.specs.Shown.{ShownWide}
 use Rattle.rg_reasons.specs.declared.certificate.Case.{Case}
 use Rattle.rg_separate.specs.declared.problem.Tried.{Tried}
-use Rattle.rg_separate.specs.declared.wide_at.WideAt.{WideAt}
+use Rattle.rg_reasons.specs.declared.wide_at.WideAt.{WideAt}
 use Rattle.rg_separate.specs.View.{shown_of}
 use Rattle.rg_separate.specs.Deciding.{RefutesCase, AreTried}
 
@@ -31,7 +31,9 @@ case_more P xs x each here i y at = go (cases_lt i (length xs))
         let e : length xs ≡ i = (let l = length-append xs (x ∷ []) in let below = lt in omega arith) in
         subst (P i) (sym (get_or_push xs x x i e) ∙ same) (subst (λ k. P k x) e here)
 
-pub tried_refuted : (lts : System) (class : Class) (problem : Problem) (n : ℕ) (before after : Tried) (case : Case) → AreTried lts class problem n before → after.refuted.items ≡ before.refuted.items ++ case ∷ [] → after.passed ≡ before.passed → RefutesCase lts class problem n case → AreTried lts class problem (n + 1) after
+pub tried_refuted : (lts : System) (class : Class) (problem : Problem) (n : ℕ) (before after : Tried) (case : Case) → AreTried lts class problem n before
+    → after.refuted.items ≡ before.refuted.items ++ case ∷ [] → after.passed ≡ before.passed → RefutesCase lts class problem n case → AreTried lts class problem
+    (n + 1) after
 tried_refuted lts class problem n before after case tried items same refutes = record {
   all = λ none. ap length items ∙ length-append before.refuted.items (case ∷ []) ∙ (let e = tried.all (sym same ∙ none) in omega arith);
   refuted = λ none i other at. case_more (RefutesCase lts class problem) before.refuted.items case (tried.refuted (sym same ∙ none)) (subst (λ k. RefutesCase lts class problem k case) (sym (tried.all (sym same ∙ none))) refutes) i other (subst (λ xs. slice_get xs i ≡ Some other) items at);

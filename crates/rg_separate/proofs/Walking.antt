@@ -9,7 +9,7 @@ use Rattle.rg_theory.specs.System.{System}
 use Rattle.rg_theory.specs.declared.Class.{Class}
 use Rattle.rg_theory.specs.declared.Problem.{Problem}
 use Rattle.rg_refuting.specs.Refutes.{Tree, Tree.leaf as leaf_of, Tree.split as split_of, TreeRefutes}
-use Rattle.rg_fraction.specs.declared.term.Wide.{Wide}
+use Rattle.rg_integers.specs.declared.term.Wide.{Wide}
 use Rattle.rg_linear.specs.Branching.{SplitSide, Weight, SplitTree, SplitTree.leaf, SplitTree.split, low_side, high_side, BranchOutcome.tree, Branching, AreBounded}
 use Rattle.rg_linear.specs.Room.{room}
 use Rattle.rg_order_of_work.specs.Rewriting.{split_forms, CaseSystem, rows_of}
@@ -28,7 +28,7 @@ use Rattle.rg_rows.specs.declared.named_system.NamedSystem.{NamedSystem}
 use Rattle.rg_rows.specs.Shown.{ShowsCase}
 use Rattle.rg_separate.specs.declared.case.CaseAnswer.TheVariants as answer
 use Rattle.rg_separate.specs.declared.setting.CaseSetting.{CaseSetting}
-use Rattle.rg_separate.specs.declared.wide_at.Stage.TheVariants.{Spread}
+use Rattle.rg_reasons.specs.declared.wide_at.Stage.TheVariants.{Spread}
 use Rattle.rg_separate.specs.Casing.{IsNamedSystem, forms_in, Visit, visits, next_sides, VisitStands, IsMadeOf, LeafPasses}
 use Rattle.rg_separate.specs.Passing.{passed_at}
 use Rattle.rg_separate.specs.Deciding.{RefutesCase, CaseComesTo}
@@ -42,7 +42,10 @@ held_or P (x ∷ xs) zero d all h = All-head P x xs all
 held_or P (x ∷ xs) (suc f) d all h = held_or P xs f d (All-tail P x xs all) h
 
 pub form_stands : (lts : System) (class : Class) (problem : Problem) (f : ℕ) → FormStands class (slice_index_or (split_forms lts class problem) f (on_tokens 0))
-form_stands lts class problem f = held_or (FormStands class) (split_forms lts class problem) f (on_tokens 0) (λ i d lt. by (get_or (split_forms lts class problem) i d) (split_is lts class problem (get_or (split_forms lts class problem) i d) (i, lt, get_or_default (split_forms lts class problem) i (get_or (split_forms lts class problem) i d) d lt))) tt
+form_stands lts class problem f = held_or (FormStands class) (split_forms lts class problem) f (on_tokens 0)
+    (λ i d lt. by (get_or (split_forms lts class problem) i d)
+    (split_is lts class problem (get_or (split_forms lts class problem) i d)
+    (i, lt, get_or_default (split_forms lts class problem) i (get_or (split_forms lts class problem) i d) d lt))) tt
   where
     by : (split : SplitForm) → IsSplitOf lts class problem split → FormStands class split
     by (on_tokens q) h = tt
@@ -101,7 +104,9 @@ module _ (c : CaseSetting) (named : NamedSystem) where
         spreads = λ case shows. (one.made, two.made, one.spreads case shows, two.spreads case shows, ap₂ (λ g z. split_of g z one.made two.made) by_name number_is);
       }
     where
-      below : (side : SplitSide) (is_high : Bool) → form ≡ slice_index_or (split_forms c.setting.lts.now c.setting.class c.problem) f (on_tokens 0) → at ≡ u → side.form ≡ f → side.at ≡ u → side.high ≡ is_high → named_sides c.setting.lts.now c.setting.class c.problem (above ++ side ∷ []) ≡ named_sides c.setting.lts.now c.setting.class c.problem above ++ record { form = form; at = at; high = is_high } ∷ []
+      below : (side : SplitSide) (is_high : Bool) → form ≡ slice_index_or (split_forms c.setting.lts.now c.setting.class c.problem) f (on_tokens 0) → at ≡ u
+          → side.form ≡ f → side.at ≡ u → side.high ≡ is_high → named_sides c.setting.lts.now c.setting.class c.problem
+          (above ++ side ∷ []) ≡ named_sides c.setting.lts.now c.setting.class c.problem above ++ record { form = form; at = at; high = is_high } ∷ []
       below side is_high by_name number_is e g h =
           map-append (named_side c.setting.lts.now c.setting.class c.problem) above (side ∷ [])
           ∙ ap (λ side'. named_sides c.setting.lts.now c.setting.class c.problem above ++ side' ∷ []) (same side.form side.at side.high e g h)
@@ -227,7 +232,9 @@ module _ (c : CaseSetting) (named : NamedSystem) (nodes : List TreeNode) where
           done = w.done ++ h.v ∷ [];
           left = h.rest;
           visits_are = w.visits_are ∙ ap (λ vs. w.done ++ vs) h.left_is ∙ sym (append_assoc w.done (h.v ∷ []) h.rest);
-          nodes_are = w.nodes_are ∙ ap (λ vs. map (λ v. v.node) w.done ++ map (λ v. v.node) vs) h.left_is ∙ sym (append_assoc (map (λ (v : Visit). v.node) w.done) (h.v.node ∷ []) (map (λ v. v.node) h.rest)) ∙ ap (λ ns. ns ++ map (λ v. v.node) h.rest) (sym (map-append (λ (v : Visit). v.node) w.done (h.v ∷ [])));
+          nodes_are = w.nodes_are ∙ ap (λ vs. map (λ v. v.node) w.done ++ map (λ v. v.node) vs) h.left_is
+              ∙ sym (append_assoc (map (λ (v : Visit). v.node) w.done) (h.v.node ∷ []) (map (λ v. v.node) h.rest))
+              ∙ ap (λ ns. ns ++ map (λ v. v.node) h.rest) (sym (map-append (λ (v : Visit). v.node) w.done (h.v ∷ [])));
           count = length-append w.done (h.v ∷ []) ∙ (let c = w.count in omega arith);
           follows = subst (λ s. Follows s h.rest []) (ap₂ next_sides h.sides h.node) follows.1;
           made_are = made_more c named w.done made h.v m w.made_are (subst (λ s. IsMadeOf c named s h.v.node m) (sym h.sides) (subst (λ x. IsMadeOf c named above x m) (sym h.node) is));
@@ -241,7 +248,9 @@ module _ (c : CaseSetting) (named : NamedSystem) (nodes : List TreeNode) where
         go [] e = tree_made c named [] w.whole made (subst (λ vs. AreMadeOf c named vs made) (sym (w.visits_are ∙ ap (λ vs. w.done ++ vs) e ∙ append-nil w.done)) w.made_are)
         go (v ∷ rest) e = absurd (let l = ap length (w.nodes_are ∙ ap (λ xs. map (λ v. v.node) w.done ++ map (λ v. v.node) xs) e) ∙ length-append (map (λ (v : Visit). v.node) w.done) (v.node ∷ map (λ v. v.node) rest) in let k = length-map w.done (λ v. v.node) ∙ w.count in omega arith)
 
-    pub walk_fails : (n : TreeNode) (wide : Wide) → i < length nodes → get_or nodes i n ≡ n → LeafPasses c named above n wide → (case : CaseSystem) → ShowsCase named case → spread_tree c.setting.lts.now c.setting.tree.now.arcs (cycle_of c.setting.basis.now) c.setting.class c.problem c.number case [] w.whole (Err (record { above = above; wide = wide }))
+    pub walk_fails : (n : TreeNode) (wide : Wide) → i < length nodes → get_or nodes i n ≡ n → LeafPasses c named above n wide → (case : CaseSystem)
+        → ShowsCase named case → spread_tree c.setting.lts.now c.setting.tree.now.arcs (cycle_of c.setting.basis.now) c.setting.class c.problem c.number case [] w.whole
+        (Err (record { above = above; wide = wide }))
     walk_fails n wide lt here fails case shows =
         let h = visit_here n lt here in
         subst (λ sides. spread_tree c.setting.lts.now c.setting.tree.now.arcs (cycle_of c.setting.basis.now) c.setting.class c.problem c.number case [] w.whole (Err (record { above = sides; wide = wide }))) h.sides
@@ -271,5 +280,7 @@ module _ (c : CaseSetting) (named : NamedSystem) (system : IsNamedSystem c named
       is_refuted system.case w.whole (case_tree case) system.made (case_branching w.whole w.outcome)
       (subst (λ t. spread_tree c.setting.lts.now c.setting.tree.now.arcs (cycle_of c.setting.basis.now) c.setting.class c.problem c.number system.case [] w.whole (Ok t)) (sym same) (end.spreads system.case system.shows))
 
-  pub walk_passes : (made : List reasons.TreeNode) (n : TreeNode) (wide : Wide) → IsWalk c named nodes i above made → i < length nodes → get_or nodes i n ≡ n → LeafPasses c named above n wide → CaseComes c.setting.lts.now c.setting.tree.now.arcs (cycle_of c.setting.basis.now) c.setting.class c.problem c.number (passes (passed_at Spread c (named_sides c.setting.lts.now c.setting.class c.problem above) wide))
+  pub walk_passes : (made : List reasons.TreeNode) (n : TreeNode) (wide : Wide) → IsWalk c named nodes i above made → i < length nodes → get_or nodes i n ≡ n
+      → LeafPasses c named above n wide → CaseComes c.setting.lts.now c.setting.tree.now.arcs (cycle_of c.setting.basis.now) c.setting.class c.problem c.number
+      (passes (passed_at Spread c (named_sides c.setting.lts.now c.setting.class c.problem above) wide))
   walk_passes made n wide w lt here fails = leaf_passes system.case w.whole (record { above = above; wide = wide }) system.made (case_branching w.whole w.outcome) (walk_fails c named nodes i above made w n wide lt here fails system.case system.shows)

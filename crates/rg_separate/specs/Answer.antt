@@ -17,7 +17,7 @@ use Rattle.rg_outcome.specs.Outcome.{Searched}
 use Rattle.rg_reasons.specs.Certificates.{reason_of, IsCertificateOf}
 use Rattle.rg_order_of_work.specs.Shown.{ShownWide}
 use Rattle.rg_separate.specs.View.{shown_of}
-use Rattle.rg_separate.specs.declared.wide_at.WideAt.{WideAt}
+use Rattle.rg_reasons.specs.declared.wide_at.WideAt.{WideAt}
 use Rattle.rg_separate.specs.declared.separation.Separation.{Separation}
 use Rattle.rg_separate.specs.declared.separation.Separation.TheVariants.{Places, Unsolvable, TooWide}
 

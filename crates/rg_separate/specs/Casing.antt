@@ -3,7 +3,7 @@ use Rattle.std.specs.Prelude.{◌≡◌, ℕ, ◌^◌, ◌<◌, List, [], ◌∷
 use Rattle.rg_theory.specs.Problem.{IsProblem}
 use Rattle.rg_refuting.specs.Row.{Form as SplitForm, Form.on_tokens, Side, RowStands, row_expression, cases_of}
 use Rattle.rg_refuting.specs.Refutes.{NamedRow, LeafRefutes}
-use Rattle.rg_fraction.specs.declared.term.Wide.{Wide}
+use Rattle.rg_integers.specs.declared.term.Wide.{Wide}
 use Rattle.rg_linear.specs.System.{LinearSystem, AreFarkasMultipliers}
 use Rattle.rg_linear.specs.Branching.{Form, form_at, SplitSide, Weight, SplitTree, SplitTree.leaf, SplitTree.split, low_side, high_side, weights_from, node_system}
 use Rattle.rg_order_of_work.specs.Fold.{each}
@@ -100,5 +100,6 @@ SharesFold named above weights result = (case : CaseSystem) → ShowsCase named 
 
 -- the first step of a leaf out of range
 abbrev pub LeafPasses : CaseSetting → NamedSystem → List SplitSide → TreeNode → Wide → Type 0
-LeafPasses c named above (leaf_node weights) w = (case : CaseSystem) → ShowsCase named case → spread_fold c.setting.lts.now c.setting.tree.now.arcs (cycle_of c.setting.basis.now) c.setting.class c.problem c.number case above (named_sides c.setting.lts.now c.setting.class c.problem above) weights (Err w)
+LeafPasses c named above (leaf_node weights) w = (case : CaseSystem) → ShowsCase named case → spread_fold c.setting.lts.now c.setting.tree.now.arcs
+    (cycle_of c.setting.basis.now) c.setting.class c.problem c.number case above (named_sides c.setting.lts.now c.setting.class c.problem above) weights (Err w)
 LeafPasses c named above (split_node f u) w = ⊥

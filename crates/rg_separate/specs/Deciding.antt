@@ -81,6 +81,10 @@ ProblemComesTo s problem (problem_answer.Place r) = ProblemComes s.lts.now s.tre
 ProblemComesTo s problem (problem_answer.Refuted reason) = (trees : List Tree) × (reason_of reason ≡ refuted problem trees) × ProblemComes s.lts.now s.tree.now.arcs (cycle_of s.basis.now) s.class problem (solved.Solved.refuted trees)
 ProblemComesTo s problem (problem_answer.Wide w) = ProblemComes s.lts.now s.tree.now.arcs (cycle_of s.basis.now) s.class problem (passed (shown_of w))
 
+-- the problem is refuted, and this is the reason
+abbrev pub ProvesRefuted : Setting → Problem → Reason → Type 0
+ProvesRefuted s problem reason = ProblemTells s.lts.now s.class problem (problem_answer.Refuted reason) × ProblemComesTo s problem (problem_answer.Refuted reason)
+
 -- the problem of the system ends the search: it is refuted, or shows its term
 pub record EndsWith (s : Setting) (problem : Problem) : Type 0 where
   pub has : IsProblem s.lts.now problem

@@ -6,14 +6,14 @@ use Rattle.rg_theory.specs.ClassWords.{HasNumbersInRange}
 use Rattle.rg_net.specs.declared.net.Place.{Place}
 use Rattle.rg_net.specs.Range.{IsPlaceInRange}
 use Rattle.rg_net.specs.Shown.{shown_place}
-use Rattle.rg_separated.specs.Tokens.{IsNarrow}
-use Rattle.rg_separated.specs.Separated.{SeparateSoMuch}
-use Rattle.rg_separated.specs.declared.separated.Separated.{Separated}
+use Rattle.rg_marks.specs.Tokens.{IsNarrow}
+use Rattle.rg_marks.specs.Separated.{SeparateSoMuch}
+use Rattle.rg_marks.specs.declared.separated.Separated.{Separated}
 use Rattle.rg_spanning.specs.Spanning.{IsTreeOf}
 use Rattle.rg_order_of_work.specs.Chords.{IsBasis}
 use Rattle.rg_cycles.specs.View.{labels_of, cycle_of}
 use Rattle.rg_rows.specs.Sharing.{IsCommonOf}
-use Rattle.rg_places.specs.declared.region_place.RegionPlace.{RegionPlace}
+use Rattle.rg_marks.specs.declared.region_place.RegionPlace.{RegionPlace}
 use Rattle.rg_places.specs.RegionPlaces.{IsRegionPlace}
 use Rattle.rg_separate.specs.declared.setting.Setting.{Setting}
 

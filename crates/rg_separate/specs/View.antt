@@ -3,9 +3,9 @@ use Rattle.std.specs.Prelude.{map}
 use Rattle.rg_order_of_work.specs.Shown as shown
 use Rattle.rg_order_of_work.specs.Shown.{Shown}
 use Rattle.rg_reasons.specs.Sums.{side_of}
-use Rattle.rg_separate.specs.declared.wide_at.Stage.{Stage}
-use Rattle.rg_separate.specs.declared.wide_at.Stage.TheVariants.{Cycle, Row, Pivot, Place, Spread}
-use Rattle.rg_separate.specs.declared.wide_at.WideAt.{WideAt}
+use Rattle.rg_reasons.specs.declared.wide_at.Stage.{Stage}
+use Rattle.rg_reasons.specs.declared.wide_at.Stage.TheVariants.{Cycle, Row, Pivot, Place, Spread}
+use Rattle.rg_reasons.specs.declared.wide_at.WideAt.{WideAt}
 
 abbrev pub stage_of : Stage → shown.Stage
 stage_of Cycle = shown.Stage.cycle

@@ -14,12 +14,12 @@ use crate::placing::placed;
 use crate::refuting::refuted;
 use crate::setting::{CaseSetting, Setting};
 use crate::sides::named_sides;
-use crate::wide_at::{Stage, WideAt};
 use rg_branch::{Bounded, BranchStop, Whole, solve_whole};
 use rg_feasible::PivotWide;
-use rg_fraction::{FoldStop, Wide};
-use rg_places::RegionPlace;
-use rg_reasons::{Case, Side};
+use rg_fraction::FoldStop;
+use rg_integers::Wide;
+use rg_marks::RegionPlace;
+use rg_reasons::{Case, Side, Stage, WideAt};
 use rg_rows::{NamedForm, NamedSystem, system_with};
 use std::alloc::{AllocError, Global};
 

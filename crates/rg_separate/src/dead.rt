@@ -8,8 +8,8 @@ ghost use Rattle.rg_net.specs.Shown.{shown_place};
 ghost use Rattle.rg_places.specs.RegionPlaces.{IsRegionPlace, PlaceSeparates};
 
 use rg_lts::{Arc, Lts};
+use rg_marks::RegionPlace;
 use rg_net::Place;
-use rg_places::RegionPlace;
 use std::alloc::{AllocError, Global};
 
 // Whether no arc has the label.

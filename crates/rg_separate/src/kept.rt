@@ -5,10 +5,9 @@ ghost use Rattle.rg_separate.specs.Keeping.{AreKept, MayKeep};
 
 use rg_blocks::Keeping;
 use rg_lts::Lts;
+use rg_marks::{RegionPlace, Separated};
 use rg_memory::NoMemory;
 use rg_net::Place;
-use rg_places::RegionPlace;
-use rg_separated::Separated;
 use rg_theory::Problem;
 use std::alloc::Global;
 

@@ -13,7 +13,5 @@ mod shares;
 mod sides;
 mod solving;
 mod vectors;
-mod wide_at;
 
 pub use separation::{Separation, separate};
-pub use wide_at::{Stage, WideAt};

@@ -8,9 +8,9 @@ ghost use Rattle.rg_separate.specs.Deciding.{CaseTells, CaseComesTo};
 use crate::case::{CaseAnswer, passed};
 use crate::setting::{CaseSetting, Setting};
 use crate::sides::named_sides;
-use crate::wide_at::Stage;
 use rg_fraction::{FoldStop, Fraction};
 use rg_places::make_place;
+use rg_reasons::Stage;
 use rg_rows::NamedSystem;
 use std::alloc::{AllocError, Global};
 

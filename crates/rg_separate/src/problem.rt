@@ -14,10 +14,9 @@ ghost use Rattle.rg_separate.specs.Deciding.{RefutesCase, AreTried, CasesCameTo,
 use crate::case::{CaseAnswer, solve_case};
 use crate::dead::{blocked, is_dead};
 use crate::setting::{CaseSetting, Setting};
-use crate::wide_at::WideAt;
 use rg_lts::Lts;
-use rg_places::RegionPlace;
-use rg_reasons::{Case, Reason};
+use rg_marks::RegionPlace;
+use rg_reasons::{Case, Reason, WideAt};
 use rg_rows::cases;
 use rg_theory::{Class, Problem};
 use std::alloc::{AllocError, Global};

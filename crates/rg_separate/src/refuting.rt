@@ -1,6 +1,6 @@
 //! The tree of a case that is refuted.
 ghost use Rattle.std.specs.Prelude.{◌≡◌, length, map, OnOk, IfOk, IsErrOf};
-ghost use Rattle.rg_fraction.specs.declared.term.Wide.{Wide};
+ghost use Rattle.rg_integers.specs.declared.term.Wide.{Wide};
 ghost use Rattle.rg_fraction.specs.declared.fold_stop.FoldStop.TheVariants as stop;
 ghost use Rattle.rg_reasons.specs.Trees.{node_of as made_node_of};
 ghost use Rattle.rg_reasons.specs.Certificates.{IsNodeOf};
@@ -13,11 +13,10 @@ use crate::case::{CaseAnswer, passed};
 use crate::setting::{CaseSetting, Setting};
 use crate::shares::shares;
 use crate::sides::named_sides;
-use crate::wide_at::Stage;
 use rg_branch::{RawNode, turn};
 use rg_farkas::spread;
 use rg_fraction::FoldStop;
-use rg_reasons::{Case, Node};
+use rg_reasons::{Case, Node, Stage};
 use rg_rows::NamedSystem;
 use std::alloc::{AllocError, Global};
 

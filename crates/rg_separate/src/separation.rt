@@ -1,5 +1,5 @@
 //! The order of work.
-ghost use Rattle.std.specs.Prelude.{◌≡◌, ◌≤◌, map, IfOk};
+ghost use Rattle.std.specs.Prelude.{◌≡◌, ◌≤◌, map, IfOk, IfSome};
 ghost use Rattle.rg_theory.specs.ClassWords.{HasNumbersInRange};
 ghost use Rattle.rg_theory.specs.System.{IsAllReachable};
 ghost use Rattle.rg_net.specs.Shown.{shown_place};
@@ -7,7 +7,7 @@ ghost use Rattle.rg_order_of_work.specs.Shown.{ShownWide};
 ghost use Rattle.rg_separate.specs.View.{shown_of};
 ghost use Rattle.rg_separate.specs.Passing.{cycle_passed};
 ghost use Rattle.rg_separate.specs.Keeping.{IsSetting};
-ghost use Rattle.rg_separate.specs.Deciding.{EndsWith};
+ghost use Rattle.rg_separate.specs.Deciding.{EndsWith, ProvesRefuted};
 ghost use Rattle.rg_separate.specs.Answer.{AreSeparating, IsGoodCertificate, IfPlaces, IfUnsolvable, IfTooWide, SeparationTells, IsSearched};
 
 use crate::kept::Kept;
@@ -15,16 +15,15 @@ use crate::problem::{ProblemAnswer, solve_problem};
 use crate::setting::Setting;
 use crate::solving::Problems;
 use crate::vectors::chord_vectors;
-use crate::wide_at::{Stage, WideAt};
 use rg_blocks::{SeparationOutcome, separate_all};
 use rg_cycles::{CycleWide, Stop, reduce};
 use rg_lts::Lts;
+use rg_marks::Separated;
 use rg_memory::NoMemory;
 use rg_net::Place;
 use rg_ports::Gate;
-use rg_reasons::Certificate;
+use rg_reasons::{Certificate, Reason, Stage, WideAt};
 use rg_rows::Common;
-use rg_separated::Separated;
 use rg_spanning::{GrowStop, Tree};
 use rg_theory::{Class, Problem};
 use std::alloc::Global;
@@ -114,11 +113,36 @@ fn separated<R: Threads + Sync, G: Gate + Sync>(
         places: Vec::new(alloc),
         separated: Separated::nothing(alloc, lts)?,
     };
-    match separate_all(rt, alloc, lts, &mut kept, &problems, jobs, gate)? {
+    let mut proof = None;
+    match separate_all(rt, alloc, lts, &mut kept, &problems, jobs, gate, &mut proof)? {
         SeparationOutcome::Separated => Ok(Separation::Places(kept.places)),
-        SeparationOutcome::Unsolvable(refuted) => shown(alloc, setting, refuted),
+        SeparationOutcome::Unsolvable(refuted) => certified(alloc, setting, refuted, proof),
         SeparationOutcome::TooWide(left) => shown(alloc, setting, left),
     }
+}
+
+// The certificate of a refuted problem: with the reason that was kept, where it is that of the problem.
+fn certified(
+    alloc: Global,
+    setting: Setting<'_>,
+    problem: Problem,
+    proof: Option<(Problem, Reason)>,
+) -> Result<Separation, NoMemory>
+    requires setting { IsSetting setting }
+    requires shows { EndsWith setting problem }
+    requires proves { IfSome proof (λ p. ProvesRefuted setting p.0 p.1) }
+    ensures tells { IfOk result (SeparationTells setting.entry.lts.now setting.entry.class) }
+    ensures searched { IfOk result (IsSearched setting.entry.lts.now setting.entry.class) }
+{
+    if let Some((proved, reason)) = proof {
+        if proved == problem {
+            return Ok(Separation::Unsolvable(Certificate {
+                class: setting.class,
+                reason,
+            }));
+        }
+    }
+    shown(alloc, setting, problem)
 }
 
 // The certificate of a refuted problem, or the term that a problem shows: it is solved once more, and comes to the same.

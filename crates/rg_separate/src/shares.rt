@@ -1,6 +1,6 @@
 //! The named rows of a leaf with their multipliers.
 ghost use Rattle.std.specs.Prelude.{◌≡◌, ◌+◌, ◌<◌, ◌≤ℤ◌, pos, length, map, All, Ok, Err, IfOk, IsErrOf};
-ghost use Rattle.rg_fraction.specs.declared.term.Wide.{Wide};
+ghost use Rattle.rg_integers.specs.declared.term.Wide.{Wide};
 ghost use Rattle.rg_fraction.specs.declared.fold_stop.FoldStop.TheVariants as stop;
 ghost use Rattle.rg_integers.specs.Range.{InRange};
 ghost use Rattle.rg_order_of_work.specs.Fold.{whole, ratio_of, shown_result};
@@ -13,7 +13,8 @@ ghost use Rattle.rg_rows.specs.Shown.{ShowsCase};
 ghost use Rattle.rg_farkas.specs.Leaves.{share_of};
 ghost use Rattle.rg_separate.specs.Casing.{sides_among, SharesFold};
 
-use rg_fraction::{FoldStop, Fraction, Wide};
+use rg_fraction::{FoldStop, Fraction};
+use rg_integers::Wide;
 use rg_reasons::{Form, RowName};
 use rg_rows::{NamedForm, NamedSystem};
 use std::alloc::Global;

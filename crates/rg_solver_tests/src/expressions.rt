@@ -1,6 +1,6 @@
 //! Rows and counts of the word a b a.
 use crate::systems::{ABA, NONBRANCHING, NONE, system};
-use rg_expressions::{count, start};
+use rg_case_parts::{count, start};
 use rg_lts::Lts;
 use rg_reasons::Term::{Minus, Plus};
 use rg_reasons::Variable::{Effect, Tokens};

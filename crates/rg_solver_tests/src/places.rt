@@ -10,11 +10,13 @@ use crate::systems::{
     ABA, CHOICE, NONBRANCHING, NONE, PLAIN, PLAIN_ONE_MARKING, PLAIN_TWO_MARKING, PURE, PURE_PLAIN,
     RING, SIDE, STEP, TWO_BOUNDED, TWO_MARKING, is_asked, system,
 };
-use rg_columns::{Columns, has_start, used_labels};
+use rg_case_parts::{Columns, has_start, used_labels};
 use rg_cycles::Basis;
-use rg_fraction::{FoldStop, Fraction, Wide};
+use rg_fraction::{FoldStop, Fraction};
+use rg_integers::Wide;
 use rg_lts::Lts;
-use rg_places::{RegionPlace, make_place};
+use rg_marks::RegionPlace;
+use rg_places::make_place;
 use rg_spanning::Tree;
 use rg_theory::Class;
 use rg_theory::Problem::{self, Event, States};

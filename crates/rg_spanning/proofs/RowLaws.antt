@@ -20,9 +20,9 @@ pub row-at : {X : Type 0} (rows width s : ℕ) (cells : List X) (d : List X) →
 row-at zero width s cells d lt = absurd (omega arith)
 row-at (suc rows) width zero cells d lt = let none : 0 ≡ 0 * width = omega arith in ap (λ n. take width (drop n cells)) none
 row-at (suc rows) width (suc s) cells d lt =
-    let place : width + s * width ≡ suc s * width = omega arith in
+    let index : width + s * width ≡ suc s * width = omega arith in
     row-at rows width s (drop width cells) d (omega arith) ∙ ap (take width) (drop-drop (s * width) width cells)
-    ∙ ap (λ n. take width (drop n cells)) place
+    ∙ ap (λ n. take width (drop n cells)) index
 
 -- a row is as long as the others
 pub row-length : {X : Type 0} (rows width s : ℕ) (cells : List X) (d : List X) → s < rows → length cells ≡ rows * width
@@ -44,12 +44,12 @@ pub set-row : {X : Type 0} (rows width s t : ℕ) (cells : List X) (x : X) (d : 
     → rows_of rows width (set cells (s * width + t) x) ≡ set (rows_of rows width cells) s (set (get_or (rows_of rows width cells) s d) t x)
 set-row zero width s t cells x d lt within = absurd (omega arith)
 set-row (suc rows) width zero t cells x d lt within =
-    let place : 0 * width + t ≡ t = omega arith in
-    ap (λ n. rows_of (suc rows) width (set cells n x)) place
+    let index : 0 * width + t ≡ t = omega arith in
+    ap (λ n. rows_of (suc rows) width (set cells n x)) index
     ∙ ap₂ ◌∷◌ (take-set-lt width cells t x within) (ap (rows_of rows width) (drop-set-lt width cells t x within))
 set-row (suc rows) width (suc s) t cells x d lt within =
-    let place : suc s * width + t ≡ width + (s * width + t) = omega arith in
-    ap (λ n. rows_of (suc rows) width (set cells n x)) place
+    let index : suc s * width + t ≡ width + (s * width + t) = omega arith in
+    ap (λ n. rows_of (suc rows) width (set cells n x)) index
     ∙ ap₂ ◌∷◌ (take-set-le width cells (width + (s * width + t)) x (omega arith))
     (ap (rows_of rows width) (drop-set-add width cells (s * width + t) x) ∙ set-row rows width s t (drop width cells) x d (omega arith) within)
 
@@ -58,11 +58,11 @@ take-nil zero = refl
 take-nil (suc n) = refl
 
 take-add : {X : Type 0} (m n : ℕ) (xs : List X) → take (m + n) xs ≡ take m xs ++ take n (drop m xs)
-take-add zero n xs = let place : 0 + n ≡ n = omega arith in ap (λ m. take m xs) place
-take-add (suc m) n [] = let place : suc m + n ≡ suc (m + n) = omega arith in ap (λ k. take k []) place ∙ sym (take-nil n)
+take-add zero n xs = let index : 0 + n ≡ n = omega arith in ap (λ m. take m xs) index
+take-add (suc m) n [] = let index : suc m + n ≡ suc (m + n) = omega arith in ap (λ k. take k []) index ∙ sym (take-nil n)
 take-add (suc m) n (x ∷ xs) =
-    let place : suc m + n ≡ suc (m + n) = omega arith in
-    ap (λ k. take k (x ∷ xs)) place ∙ ap (λ ys. x ∷ ys) (take-add m n xs)
+    let index : suc m + n ≡ suc (m + n) = omega arith in
+    ap (λ k. take k (x ∷ xs)) index ∙ ap (λ ys. x ∷ ys) (take-add m n xs)
 
 -- what stands before the other list
 pub take-exact : {X : Type 0} (n : ℕ) (xs ys : List X) → length xs ≡ n → take n (xs ++ ys) ≡ xs
@@ -164,7 +164,7 @@ rows-apart from to width = go (cases_lt from to)
     go (inl lt) = inl (row-within from to width lt)
     go (inr le) = inr (mul-le-mul_right width le)
 
--- the cells once the first i of a run are copied to another place
+-- the cells once the first i of a run are copied to another index
 abbrev pub copied : {X : Type 0} → List X → ℕ → ℕ → ℕ → List X
 copied cells from to i = take to cells ++ (take i (drop from cells) ++ drop (to + i) cells)
 
@@ -215,6 +215,6 @@ module _ {X : Type 0} (cells : List X) (count from to i : ℕ) (d : X) (read : f
       tail =
           let more = take_more (drop from cells) i d (let l = length-drop from cells in omega arith) in
           let here = get_or-drop from cells i d in
-          let place : (to + i) + 1 ≡ to + (i + 1) = omega arith in
+          let index : (to + i) + 1 ≡ to + (i + 1) = omega arith in
           sym (append_assoc part (x ∷ []) rest)
-          ∙ ap₂ ◌++◌ (ap (λ y. part ++ y ∷ []) (sym here) ∙ sym more) (ap (λ n. drop n cells) place)
+          ∙ ap₂ ◌++◌ (ap (λ y. part ++ y ∷ []) (sym here) ∙ sym more) (ap (λ n. drop n cells) index)

@@ -1,5 +1,7 @@
 -- A growing tree goes on growing when an arc joins, and is complete when no arc is left.
-use Rattle.std.proofs.Common.{◌≡◌, ◌≢◌, ◌⊎◌, ◌↔◌, ℕ, zero, suc, ◌+◌, ◌<◌, ◌≤◌, true, cond, List, [], ◌∷◌, ◌++◌, length, map, Option, None, Some, get_or, set, slice_get, slice_index_or, slice_set, Contains, AllPairs, is_some, is_none, count_by, inl, inr, sym, subst, ap, ◌∙◌, refl, arith, append_assoc, length-append, replicate}
+use Rattle.std.proofs.Common.{◌≡◌, ◌≢◌, ◌⊎◌, ◌↔◌, ℕ, zero, suc, ◌+◌, ◌<◌, ◌≤◌, true, cond, List, [], ◌∷◌, ◌++◌, length, map, Option, None, Some, get_or, set, slice_get}
+use Rattle.std.proofs.Common.{slice_index_or, slice_set, Contains, AllPairs, is_some, is_none, count_by, inl, inr, sym, subst, ap, ◌∙◌, refl, arith, append_assoc}
+use Rattle.std.proofs.Common.{length-append, replicate}
 use Rattle.std.proofs.lemmas.Bool.{cases_order, cases_eq, cases_lt}
 use Rattle.std.proofs.lemmas.Option.{none-some, same_Some, slice_get-get_or, get_or_from_slice_get, slice_get_within}
 use Rattle.std.proofs.lemmas.List.{get_or-set_same, get_or-set_other, get_or_append_left, length-map, length-set, length-replicate, get_or-replicate, get_or_past, get_or_default, map-append}
@@ -185,9 +187,9 @@ get_push order x i y lt is =
     slice_get-get_or order i y lt ∙ ap Some (sym (get_or_append_left order (x ∷ []) y i lt) ∙ here)
 
 -- what is settled stays settled
-pub settled_push : (lts : System) (order : List ℕ) (place x : ℕ) → place ≤ length order → IsSettled lts order place
-    → IsSettled lts (order ++ x ∷ []) place
-settled_push lts order place x le settled i b lt is has = Contains-append_left order (x ∷ []) b.to
+pub settled_push : (lts : System) (order : List ℕ) (index x : ℕ) → index ≤ length order → IsSettled lts order index
+    → IsSettled lts (order ++ x ∷ []) index
+settled_push lts order index x le settled i b lt is has = Contains-append_left order (x ∷ []) b.to
     (settled i b lt (get_push order x i b.from (omega arith) is) has)
 
 -- the arcs that leave s, in order
@@ -196,12 +198,12 @@ pub record IsLeaving (lts : System) (s : ℕ) (leaving : List Arc) : Type 0 wher
   pub order : AllPairs IsArcBefore leaving
 
 -- the first of the leaving arcs to a state that isn't met joins
-pub joins_here : (lts : System) (order : List ℕ) (place s : ℕ) (leaving : List Arc) (i : ℕ) (a : Arc) → IsLeaving lts s leaving
-    → IsSettled lts order place → slice_get order place ≡ Some s
+pub joins_here : (lts : System) (order : List ℕ) (index s : ℕ) (leaving : List Arc) (i : ℕ) (a : Arc) → IsLeaving lts s leaving
+    → IsSettled lts order index → slice_get order index ≡ Some s
     → i < length leaving → get_or leaving i a ≡ a → ((k : ℕ) (d : Arc) → k < i → Contains order (slice_index_or leaving k d).to)
     → (Contains order a.to → ⊥) → Joins lts order a
-joins_here lts order place s leaving i a leaves settled at lt is done fresh = record {
-  place = place;
+joins_here lts order index s leaving i a leaves settled at lt is done fresh = record {
+  place = index;
   source = at ∙ ap Some (sym from);
   has = own.0;
   fresh = fresh;
@@ -225,34 +227,34 @@ joins_here lts order place s leaving i a leaves settled at lt is done fresh = re
             inr (subst (IsArcBefore a) (get_or_default leaving k a b l ∙ e) (subst (λ x. IsArcBefore x (get_or leaving k a)) is here))
 
     first : (j : ℕ) (b : Arc) → slice_get order j ≡ Some b.from → Contains lts.arcs b → (Contains order b.to → ⊥)
-        → (b ≡ a) ⊎ ((place < j) ⊎ ((place ≡ j) × IsArcBefore a b))
-    first j b source has new = go (cases_order j place)
+        → (b ≡ a) ⊎ ((index < j) ⊎ ((index ≡ j) × IsArcBefore a b))
+    first j b source has new = go (cases_order j index)
       where
-        same_place : j ≡ place → (b ≡ a) ⊎ IsArcBefore a b → (b ≡ a) ⊎ ((place < j) ⊎ ((place ≡ j) × IsArcBefore a b))
+        same_place : j ≡ index → (b ≡ a) ⊎ IsArcBefore a b → (b ≡ a) ⊎ ((index < j) ⊎ ((index ≡ j) × IsArcBefore a b))
         same_place e (inl q) = inl q
         same_place e (inr q) = inr (inr (sym e, q))
 
-        go : (j ≡ place) ⊎ ((j < place) ⊎ (place < j)) → (b ≡ a) ⊎ ((place < j) ⊎ ((place ≡ j) × IsArcBefore a b))
+        go : (j ≡ index) ⊎ ((j < index) ⊎ (index < j)) → (b ≡ a) ⊎ ((index < j) ⊎ ((index ≡ j) × IsArcBefore a b))
         go (inl e) =
             let here : b.from ≡ s = same_Some b.from s (sym source ∙ ap (slice_get order) e ∙ at) in
             same_place e (among b ((leaves.members b).1 (has, here)) new)
         go (inr (inl l)) = absurd (new (settled j b l source has))
         go (inr (inr l)) = inr (inl l)
 
--- with all its arcs the state at the place is settled too
-pub settled_more : (lts : System) (order : List ℕ) (place s : ℕ) (leaving : List Arc) → IsLeaving lts s leaving → IsSettled lts order place
-    → slice_get order place ≡ Some s
-    → ((k : ℕ) (d : Arc) → k < length leaving → Contains order (slice_index_or leaving k d).to) → IsSettled lts order (place + 1)
-settled_more lts order place s leaving leaves settled at done i b lt is has = go (cases_eq i place)
+-- with all its arcs the state at the index is settled too
+pub settled_more : (lts : System) (order : List ℕ) (index s : ℕ) (leaving : List Arc) → IsLeaving lts s leaving → IsSettled lts order index
+    → slice_get order index ≡ Some s
+    → ((k : ℕ) (d : Arc) → k < length leaving → Contains order (slice_index_or leaving k d).to) → IsSettled lts order (index + 1)
+settled_more lts order index s leaving leaves settled at done i b lt is has = go (cases_eq i index)
   where
-    go : (i ≡ place) ⊎ (i ≡ place → ⊥) → Contains order b.to
+    go : (i ≡ index) ⊎ (i ≡ index → ⊥) → Contains order b.to
     go (inl e) =
         let here : b.from ≡ s = same_Some b.from s (sym is ∙ ap (slice_get order) e ∙ at) in
         let (k, l, there) = (leaves.members b).1 (has, here) in
         subst (λ (x : Arc). Contains order x.to) there (done k b l)
     go (inr ne) = settled i b (omega arith) is has
 
--- where all places are settled, the tree is complete
+-- where all indices are settled, the tree is complete
 pub complete : (lts : System) (order : List ℕ) (tree : List Arc) (entries : List (Option Arc)) → IsGrowing lts order tree entries
     → IsSettled lts order (length order) → IsTree lts tree
 complete lts order tree entries g settled = subst (IsTree lts) (nil tree) (g.completes [] grown)
@@ -291,36 +293,36 @@ place_push order x i s is =
     slice_get-get_or (order ++ x ∷ []) i s (let m = length-append order (x ∷ []) in omega arith) ∙ ap Some
     (get_or_append_left order (x ∷ []) s i lt ∙ get_or_from_slice_get order i s s is)
 
--- the arcs that leave the state at the place are joining, as far as i
-pub record IsJoining (lts : System) (order : List ℕ) (tree : List Arc) (entries : List (Option Arc)) (place s : ℕ) (leaving : List Arc) (i : ℕ) :
+-- the arcs that leave the state at the index are joining, as far as i
+pub record IsJoining (lts : System) (order : List ℕ) (tree : List Arc) (entries : List (Option Arc)) (index s : ℕ) (leaving : List Arc) (i : ℕ) :
     Type 0 where
   pub growing : IsGrowing lts order tree entries
-  pub settled : IsSettled lts order place
-  pub at : slice_get order place ≡ Some s
+  pub settled : IsSettled lts order index
+  pub at : slice_get order index ≡ Some s
   pub done : (k : ℕ) (d : Arc) → k < i → Contains order (slice_index_or leaving k d).to
 
-module _ (lts : System) (order : List ℕ) (tree : List Arc) (entries : List (Option Arc)) (place s : ℕ) (leaving : List Arc) (i : ℕ) (d : Arc)
-    (j : IsJoining lts order tree entries place s leaving i) (lt : i < length leaving) where
+module _ (lts : System) (order : List ℕ) (tree : List Arc) (entries : List (Option Arc)) (index s : ℕ) (leaving : List Arc) (i : ℕ) (d : Arc)
+    (j : IsJoining lts order tree entries index s leaving i) (lt : i < length leaving) where
   -- an arc to a state that isn't met joins
   pub next_joins : IsLeaving lts s leaving → (Contains order (slice_index_or leaving i d).to → ⊥) → Joins lts order (slice_index_or leaving i d)
-  next_joins leaves fresh = joins_here lts order place s leaving i (slice_index_or leaving i d) leaves j.settled j.at lt
+  next_joins leaves fresh = joins_here lts order index s leaving i (slice_index_or leaving i d) leaves j.settled j.at lt
       (get_or_default leaving i _ d lt) j.done fresh
 
   -- one arc further, where it leads to a state that is met
-  pub over_met : Contains order (slice_index_or leaving i d).to → IsJoining lts order tree entries place s leaving (i + 1)
+  pub over_met : Contains order (slice_index_or leaving i d).to → IsJoining lts order tree entries index s leaving (i + 1)
   over_met met = record { growing = j.growing; settled = j.settled; at = j.at; done = done_more order leaving i d lt j.done met }
 
   -- one arc further, where it joined
   pub over_joined : (order' : List ℕ) (tree' : List Arc) (entries' : List (Option Arc)) → IsGrowing lts order' tree' entries'
       → order' ≡ order ++ (slice_index_or leaving i d).to ∷ []
-      → IsJoining lts order' tree' entries' place s leaving (i + 1)
+      → IsJoining lts order' tree' entries' index s leaving (i + 1)
   over_joined order' tree' entries' growing is =
       let x = (slice_index_or leaving i d).to in
       record {
         growing = growing;
-        settled = subst (λ xs. IsSettled lts xs place) (sym is)
-            (settled_push lts order place x (let l = slice_get_within order place s j.at in omega arith) j.settled);
-        at = subst (λ xs. slice_get xs place ≡ Some s) (sym is) (place_push order x place s j.at);
+        settled = subst (λ xs. IsSettled lts xs index) (sym is)
+            (settled_push lts order index x (let l = slice_get_within order index s j.at in omega arith) j.settled);
+        at = subst (λ xs. slice_get xs index ≡ Some s) (sym is) (place_push order x index s j.at);
         done = subst (λ xs. (k : ℕ) (d : Arc) → k < i + 1 → Contains xs (slice_index_or leaving k d).to) (sym is)
             (done_more (order ++ x ∷ []) leaving i d lt (done_push order leaving i x j.done) (Contains-push order x));
       }

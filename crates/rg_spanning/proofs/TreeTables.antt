@@ -1,5 +1,7 @@
 -- What is kept beside a tree is right: its arcs by their targets, the counts of labels, and the other arcs.
-use Rattle.std.proofs.Common.{◌≡◌, ◌≢◌, ◌⊎◌, ℕ, zero, suc, ◌+◌, ◌<◌, ◌≤◌, ◌==◌, ◌&&◌, Bool, true, false, if◌then◌else◌, List, [], ◌∷◌, ◌++◌, length, take, Option, None, Some, get_or, set, slice_index, slice_index_or, slice_set, Contains, All, IfSome, replicate, inl, inr, sym, subst, ap, ◌∙◌, refl, arith, eq-eqb, ne_eqb, append_assoc, add-zero, true≢false}
+use Rattle.std.proofs.Common.{◌≡◌, ◌≢◌, ◌⊎◌, ℕ, zero, suc, ◌+◌, ◌<◌, ◌≤◌, ◌==◌, ◌&&◌, Bool, true, false, if◌then◌else◌, List, [], ◌∷◌, ◌++◌, length, take, Option, None}
+use Rattle.std.proofs.Common.{Some, get_or, set, slice_index, slice_index_or, slice_set, Contains, All, IfSome, replicate, inl, inr, sym, subst, ap, ◌∙◌, refl, arith}
+use Rattle.std.proofs.Common.{eq-eqb, ne_eqb, append_assoc, add-zero, true≢false}
 use Rattle.std.proofs.lemmas.Bool.{cases_eq}
 use Rattle.std.proofs.lemmas.Bool.Decides.{Decides-eqb}
 use Rattle.std.proofs.lemmas.Option.{same_Some, none-some}

@@ -16,7 +16,7 @@ pub record IsGrowing (lts : System) (order : List ℕ) (tree : List Arc) (entrie
   pub count : count_by is_none entries + length tree ≡ states lts
   pub completes : (rest : List Arc) → Grows lts order rest → IsTree lts (tree ++ rest)
 
--- the arcs of the states at the places below this one lead to states that are met
+-- the arcs of the states at the indices below this one lead to states that are met
 abbrev pub IsSettled : System → List ℕ → ℕ → Type 0
-IsSettled lts order place =
-    (i : ℕ) (b : Arc) → i < place → slice_get order i ≡ Some b.from → Contains lts.arcs b → Contains order b.to
+IsSettled lts order index =
+    (i : ℕ) (b : Arc) → i < index → slice_get order i ≡ Some b.from → Contains lts.arcs b → Contains order b.to

@@ -23,10 +23,10 @@ pub(crate) fn grown(alloc: Global, lts: &Lts) -> Result<Growth, AllocError>
     ensures tree { IfOk result (λ g. IsTree lts.now g.arcs.items) }
 {
     let mut growth = rooted(alloc, lts)?;
-    let mut place = 0;
-    while place < growth.order.len() {
-        join_arcs_of(lts, &mut growth, place)?;
-        place += 1;
+    let mut index = 0;
+    while index < growth.order.len() {
+        join_arcs_of(lts, &mut growth, index)?;
+        index += 1;
     }
     Ok(growth)
 }
@@ -45,16 +45,16 @@ fn rooted(alloc: Global, lts: &Lts) -> Result<Growth, AllocError>
     })
 }
 
-// Adds the arcs that join from the state at this place.
-fn join_arcs_of(lts: &Lts, growth: &mut Growth, place: usize) -> Result<(), AllocError>
+// Adds the arcs that join from the state at this index.
+fn join_arcs_of(lts: &Lts, growth: &mut Growth, index: usize) -> Result<(), AllocError>
     requires growing { IsGrowing lts.now growth.old.order.items growth.old.arcs.items growth.old.entries.items }
-    requires settled { IsSettled lts.now growth.old.order.items place }
-    requires within { place < length growth.old.order.items }
+    requires settled { IsSettled lts.now growth.old.order.items index }
+    requires within { index < length growth.old.order.items }
     ensures growing { OnOk result (IsGrowing lts.now growth.new.order.items growth.new.arcs.items growth.new.entries.items) }
-    ensures settled { OnOk result (IsSettled lts.now growth.new.order.items (place + 1)) }
-    ensures within { OnOk result (place < length growth.new.order.items) }
+    ensures settled { OnOk result (IsSettled lts.now growth.new.order.items (index + 1)) }
+    ensures within { OnOk result (index < length growth.new.order.items) }
 {
-    let s = growth.order[place];
+    let s = growth.order[index];
     for a in lts.arcs_from(s) {
         if !is_met(lts, growth, a.to) {
             join(lts, growth, *a)?;

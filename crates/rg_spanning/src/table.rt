@@ -69,7 +69,7 @@ impl Table {
     }
 }
 
-// Copies so many cells from one place to another; from before or behind the cells that are written.
+// Copies so many cells from one index to another; from before or behind the cells that are written.
 fn copy_cells(cells: &mut [u32], count: usize, from: usize, to: usize)
     requires from { from + count ≤ length cells.old }
     requires to { to + count ≤ length cells.old }

@@ -14,7 +14,7 @@ use Rattle.rg_theory.proofs.Lists.{Contains-cons_cases}
 use Rattle.rg_lts.specs.WellFormed.{IsWellFormed}
 use Rattle.rg_integers.specs.Range.{InRange}
 use Rattle.rg_integers.specs.Sign.{size}
-use Rattle.rg_fraction.specs.declared.term.Wide.{Wide}
+use Rattle.rg_integers.specs.declared.term.Wide.{Wide}
 use Rattle.rg_refuting.specs.Expression.{Variable, Variable.tokens_at, Variable.effect_of, Expression, coefficient_in}
 use Rattle.rg_refuting.specs.Row.{Side, RowName, RowName.arc_row, RowName.tokens_row, RowName.cap_row, RowName.up_row, RowName.down_row, RowName.makes_row, RowName.stop_row, RowName.block_row, RowName.empty_row}
 use Rattle.rg_refuting.specs.Row.{RowName.full_row, RowName.keep_row, RowName.apart_row, RowName.above_row, SharedStands, shared_expression, EventStands, event_expression, consumer_of, RowStands, row_expression}

@@ -16,7 +16,6 @@ pub mod Labels
 pub mod OtherLabels
 pub mod Cut
 pub mod Renamed
-pub mod ArcSearch
 pub mod ArcNumbers
 pub mod LeafParts
 pub mod RoundSteps

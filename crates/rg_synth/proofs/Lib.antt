@@ -1,3 +1,4 @@
 pub mod Pruned
 pub mod Nets
 pub mod Answers
+pub mod FewPlaces

@@ -12,8 +12,8 @@ use Rattle.rg_theory.proofs.Solution.{solution_of, places_are_regions, solved_re
 use Rattle.rg_theory.proofs.Yes.{region_unique}
 use Rattle.rg_net.specs.Range.{IsNetInRange}
 use Rattle.rg_integers.specs.Range.{greatest}
-use Rattle.rg_prune.specs.Pruned.{IsPruned}
-use Rattle.rg_prune.proofs.Leaving.{left_separates, left_needed}
+use Rattle.rg_theory.specs.Pruned.{IsPruned}
+use Rattle.rg_theory.proofs.Leaving.{left_separates, left_needed}
 use Rattle.rg_separate.specs.Answer.{IsNarrowRegion, AreSeparating}
 use Rattle.rg_synth.specs.Answer.{IsSolvingNet}
 use Rattle.rg_synth.proofs.Pruned.{all_left}

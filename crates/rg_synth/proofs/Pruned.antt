@@ -9,9 +9,9 @@ use Rattle.rg_net.specs.Range.{IsPlaceInRange, IsNetInRange}
 use Rattle.rg_net.specs.Shown.{shown_place}
 use Rattle.rg_net.specs.declared.net.Place.{Place as PlaceOfCode}
 use Rattle.rg_separate.specs.Answer.{IsNarrowRegion, AreSeparating}
-use Rattle.rg_prune.specs.Pruned.{IsPruned}
-use Rattle.rg_separated.specs.Tokens.{IsNarrow}
-use Rattle.rg_prune.proofs.Leaving.{left_among, left_no_more}
+use Rattle.rg_theory.specs.Pruned.{IsPruned}
+use Rattle.rg_marks.specs.Tokens.{IsNarrow}
+use Rattle.rg_theory.proofs.Leaving.{left_among, left_no_more}
 
 -- what is true of all places is true of those left
 pub all_left : (lts : System) (places left : List Place) (P : Place → Type 0) → IsPruned lts places left → All P places → All P left

@@ -5,9 +5,11 @@
 #![tactic(auto)]
 
 mod answer;
+mod laws;
 mod synthesis;
 
 pub use answer::Answer;
+pub use laws::net_is_small;
 pub use rg_memory::NoMemory;
-pub use rg_separate::{Stage, WideAt};
+pub use rg_reasons::{Stage, WideAt};
 pub use synthesis::synthesize;

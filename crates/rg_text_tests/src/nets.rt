@@ -1,9 +1,10 @@
 //! Nets in memory, and the texts that spell them.
 use crate::samples::system;
 use rg_lts::Lts;
-use rg_net::{Class, Net, Place, class_text, net_is_told, prefix_is_free};
+use rg_net::{Class, Net, Place, net_is_told, prefix_is_free};
 use rg_netfile::{one_answer, print_net, printed_is_spelled, read_net};
 use rg_text::MOST_BYTES;
+use rg_theory::class_text;
 use std::alloc::Global;
 use std::test::Fail;
 

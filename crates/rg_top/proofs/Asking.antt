@@ -4,7 +4,7 @@ use Rattle.rg_ports.specs.Calls.{finds_end, ReadsFile}
 use Rattle.rg_ports.specs.Count.{HasRisen}
 use Rattle.rg_ports.specs.Shelf.{Files, asked_with}
 use Rattle.rg_theory.specs.System.{System}
-use Rattle.rg_commands.specs.Requests.{Work, net, judgement, verdict, conversion, Asked, of_system, generation, self_test, second_files}
+use Rattle.rg_commands.specs.Requests.{Work, net, judgement, verdict, conversion, factoring, splitting, comparison, examination, Asked, of_system, generation, self_test, second_files}
 use Rattle.rg_commands.specs.Says.{Ask}
 use Rattle.rg_commands.specs.declared.forms.Form.{Form}
 use Rattle.rg_top.specs.Given.{IsSystemFile}
@@ -40,6 +40,10 @@ pub reads_all : {S : Type 0} (finds : S → List ℕ → Option Bool → S → T
     → ReadsFile finds hands file s finds_end m → IsSystemFile files form file lts → ReadsMore finds hands (second_files work) m t → ReadsFiles finds hands files work file form s t
 reads_all finds hands files (net class) file form s m t lts first system more = first_alone s t finds_end (subst (λ x. ReadsFile finds hands file s finds_end x) (sym more) first)
 reads_all finds hands files (conversion target) file form s m t lts first system more = first_alone s t finds_end (subst (λ x. ReadsFile finds hands file s finds_end x) (sym more) first)
+reads_all finds hands files (factoring class) file form s m t lts first system more = first_alone s t finds_end (subst (λ x. ReadsFile finds hands file s finds_end x) (sym more) first)
+reads_all finds hands files (splitting output) file form s m t lts first system more = first_alone s t finds_end (subst (λ x. ReadsFile finds hands file s finds_end x) (sym more) first)
+reads_all finds hands files (examination output) file form s m t lts first system more = first_alone s t finds_end (subst (λ x. ReadsFile finds hands file s finds_end x) (sym more) first)
+reads_all finds hands files (comparison name second) file form s m t lts first system (last, more) = both name s m t lts last refl first system more
 reads_all finds hands files (judgement cert) file form s m t lts first system (last, more) = both cert s m t lts last refl first system more
 reads_all finds hands files (verdict class name) file form s m t lts first system (last, more) = both name s m t lts last refl first system more
 

@@ -8,12 +8,12 @@ use Rattle.rg_netfile.specs.Spells.{Spells, FirstFault}
 use Rattle.rg_netfile.specs.declared.fault.NetFault.{NetFault}
 use Rattle.rg_net_verdict.specs.declared.verdict.NetVerdict.TheVariants as verdict
 use Rattle.rg_net_verdict.specs.Verdict.{Told, IsVerdict}
-use Rattle.rg_lines.specs.CheckedTexts.{yes_line, no_line}
-use Rattle.rg_lines.specs.Files.{file_line}
-use Rattle.rg_lines.specs.Wides.{wide_line}
-use Rattle.rg_lines.specs.declared.fault.Fault.{Fault}
-use Rattle.rg_lines.specs.declared.fault.Fault.TheVariants.{Missing, TooLong, Apt, Graph, Words, Net as OfNet}
-use Rattle.rg_lines.specs.declared.wide.WideCause.TheVariants.{Synthesis, Check}
+use Rattle.rg_messages.specs.CheckedTexts.{yes_line, no_line}
+use Rattle.rg_messages.specs.Files.{file_line}
+use Rattle.rg_messages.specs.Wides.{wide_line}
+use Rattle.rg_messages.specs.declared.fault.Fault.{Fault}
+use Rattle.rg_messages.specs.declared.fault.Fault.TheVariants.{Missing, TooLong, Apt, Graph, Words, Net as OfNet}
+use Rattle.rg_messages.specs.declared.wide.WideCause.TheVariants.{Synthesis, Check, Factor, Split}
 use Rattle.rg_top.specs.Given.{IsUnread}
 use Rattle.rg_top.specs.Second.{second_fault}
 use Rattle.rg_top.specs.Check.{IsNetFile, IsNetFault, IsFaultyNet, IsNoNet, IsTold, CheckEnds, unread, yes, no, passes, CheckIsDue}
@@ -121,6 +121,8 @@ which_due files class name lts Done is = is_told (Ok verdict.Yes) is
 which_due files class name lts No (n, is) = is_told (Ok (verdict.No n)) is
 which_due files class name lts (TooWide (Check w)) is = is_told (Err w) is
 which_due files class name lts (TooWide (Synthesis w)) is = absurd is
+which_due files class name lts (TooWide (Factor i w)) is = absurd is
+which_due files class name lts (TooWide (Split system w)) is = absurd is
 which_due files class name lts (File fault) (second, is) = of_second (WhichDue files class name lts) fault second (no_net fault.fault is)
 which_due files class name lts (Usage usage) is = absurd is
 which_due files class name lts ReadFault is = absurd is

@@ -5,7 +5,7 @@ use Rattle.rg_theory.specs.System.{System, states}
 use Rattle.rg_genet.specs.Loss.{has_label, is_on_arc, IsLabelKept, IsStateKept, IsFirstDead, IsFirstLost}
 use Rattle.rg_commands.specs.declared.forms.Target.{Target}
 use Rattle.rg_commands.specs.declared.forms.Target.TheVariants.{Apt, Graph}
-use Rattle.rg_lines.specs.LostTexts.{lost_label_line, lost_state_line}
+use Rattle.rg_messages.specs.LostTexts.{lost_label_line, lost_state_line}
 use Rattle.rg_top.specs.Convert.{ConvertEnds, as_apt, as_graph, label_lost, state_lost, ConvertIsDue}
 use Rattle.rg_top.specs.Run.{IsTheOne, AreOne}
 use Rattle.rg_top.specs.declared.status.Status.{Status}

@@ -15,9 +15,9 @@ use Rattle.rg_verify.specs.declared.verdict.Defect.TheVariants.{WrongRow, NotPos
 use Rattle.rg_verify.specs.declared.verdict.Verdict.TheVariants.{Refused}
 use Rattle.rg_verify.specs.Judged.{Holds, Judges}
 use Rattle.rg_verify.proofs.OneVerdict.{refused_fails, left_in_range}
-use Rattle.rg_lines.specs.JudgedTexts.{cert_fault_text, defect_text, refused_line, HasName}
-use Rattle.rg_lines.specs.declared.fault.Fault.{Fault}
-use Rattle.rg_lines.specs.declared.fault.Fault.TheVariants.{Missing, TooLong, Apt, Graph, Words, Net as OfNet}
+use Rattle.rg_messages.specs.JudgedTexts.{cert_fault_text, defect_text, refused_line, HasName}
+use Rattle.rg_messages.specs.declared.fault.Fault.{Fault}
+use Rattle.rg_messages.specs.declared.fault.Fault.TheVariants.{Missing, TooLong, Apt, Graph, Words, Net as OfNet}
 use Rattle.rg_top.specs.Given.{IsFile, IsUnread}
 use Rattle.rg_top.specs.Verify.{no_text, no_proof, VerifyEnds, accepted as ends_accepted, refused as ends_refused}
 use Rattle.rg_top.specs.Check.{IsNetFile, IsNetFault, IsNoNet, CheckEnds, unread as ends_unread, yes as ends_yes, no as ends_no, passes as ends_passes}

@@ -1,10 +1,16 @@
 pub mod FileLemmas
 pub mod Written
 pub mod OneFile
+pub mod Terms
 pub mod SynthesizeOnce
 pub mod VerifyOnce
 pub mod CheckOnce
 pub mod ConvertOnce
+pub mod FactorOnce
+pub mod Factored
+pub mod SplitOnce
+pub mod IsomorphicOnce
+pub mod ExamineOnce
 pub mod GenerateOnce
 pub mod SelfTestOnce
 pub mod OneEnd
@@ -12,4 +18,6 @@ pub mod Writing
 pub mod Asking
 pub mod Judged
 pub mod Found
+pub mod Compared
+pub mod ToldApart
 pub mod Trials

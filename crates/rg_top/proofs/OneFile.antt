@@ -11,8 +11,8 @@ use Rattle.rg_words.specs.Spells.{Spells as WordsSpell, FirstFault as FirstWordF
 use Rattle.rg_words.specs.declared.fault.WordFault.{WordFault}
 use Rattle.rg_commands.specs.declared.forms.Form.{Form}
 use Rattle.rg_commands.specs.declared.forms.Form.TheVariants as form
-use Rattle.rg_lines.specs.declared.fault.Fault.{Fault}
-use Rattle.rg_lines.specs.declared.fault.Fault.TheVariants.{Missing, TooLong, Apt, Graph, Words, Net}
+use Rattle.rg_messages.specs.declared.fault.Fault.{Fault}
+use Rattle.rg_messages.specs.declared.fault.Fault.TheVariants.{Missing, TooLong, Apt, Graph, Words, Net}
 use Rattle.rg_top.specs.Given.{IsFile, IsUnread, SpellsAs, IsFaultAs, IsFaulty, IsNoSystem, IsSystemFile}
 
 -- ---- files that are told

@@ -1,16 +1,17 @@
 -- `selftest` ends in one way for a number.
-use Rattle.std.proofs.Common.{◌≡◌, inl, inr, ℕ, List, [], ◌++◌, length, refl, sym, ap₂, subst, ◌∙◌}
+use Rattle.std.proofs.Common.{◌≡◌, Some, inl, inr, ℕ, List, [], ◌++◌, length, refl, sym, ap, ap₂, subst, ◌∙◌}
 use Rattle.rg_theory.specs.System.{System}
 use Rattle.rg_order_of_work.specs.Shown.{Shown}
 use Rattle.rg_outcome.specs.Outcome.{Out, Answer, Answer.net as of_net, Answer.unsolvable as of_reason, Answer.too_wide as of_term}
 use Rattle.rg_separate.specs.View.{shown_of}
-use Rattle.rg_separate.specs.declared.wide_at.WideAt.{WideAt}
-use Rattle.rg_lines.specs.CheckedTexts.{yes_line}
-use Rattle.rg_lines.specs.TrialTexts.{solved_line, unsolvable_line}
-use Rattle.rg_lines.specs.Wides.{wide_line}
-use Rattle.rg_lines.specs.declared.wide.WideCause.TheVariants.{Synthesis, Check}
+use Rattle.rg_reasons.specs.declared.wide_at.WideAt.{WideAt}
+use Rattle.rg_messages.specs.CheckedTexts.{yes_line}
+use Rattle.rg_messages.specs.TrialTexts.{solved_line, unsolvable_line}
+use Rattle.rg_messages.specs.Wides.{wide_line}
+use Rattle.rg_messages.specs.declared.wide.WideCause.TheVariants.{Synthesis, Check, Factor, Split}
 use Rattle.rg_top.specs.SelfTest.{Trial, grid_trial, doubling_trial, lock_trial, HasLine, solved, unsolvable, Passes, HasAnswer, IsConclusive, IsTerm}
 use Rattle.rg_top.specs.SelfTest.{SelfTestEnds, three_lines, first_passes, second_passes, third_passes, SelfTestIsDue}
+use Rattle.rg_top.specs.Terms.{Term.of_net as of_net_term}
 use Rattle.rg_top.specs.Run.{IsTheOne, AreOne}
 use Rattle.rg_top.specs.declared.status.Status.{Status}
 use Rattle.rg_top.specs.declared.status.Status.TheVariants.{Done, No, Usage, File, TooWide, ReadFault, WriteFault, NoMemory}
@@ -84,19 +85,24 @@ term_of t w p = record { lts = p.lts; of_family = p.of_family; answer = p.shown.
 
 -- ---- the status that is due
 
+shown_term : (w v : Shown) → w ≡ v → Some (of_net_term w) ≡ Some (of_net_term v)
+shown_term w v is = ap (λ x. Some (of_net_term x)) is
+
 term_due : OneOfTrials → (n : ℕ) (at : WideAt) (s : Status) (out err : List ℕ) → SelfTestEnds n s out err → SelfTestIsDue n (TooWide (Synthesis at)) → IsTheOne (TooWide (Synthesis at)) s
 term_due one n at s out err (three_lines f g h a b c) (inl t) = absurd (line_or_term one (grid_trial n) f (shown_of at) a t)
 term_due one n at s out err (three_lines f g h a b c) (inr (inl (k, t))) = absurd (line_or_term one (doubling_trial n) g (shown_of at) b t)
 term_due one n at s out err (three_lines f g h a b c) (inr (inr (k, l, t))) = absurd (line_or_term one (lock_trial n) h (shown_of at) c t)
-term_due one n at s out err (first_passes other p) (inl t) = one_term one (grid_trial n) (shown_of other) (shown_of at) (term_of (grid_trial n) (shown_of other) p) t
+term_due one n at s out err (first_passes other p) (inl t) = shown_term _ _ (one_term one (grid_trial n) (shown_of other) (shown_of at) (term_of (grid_trial n) (shown_of other) p) t)
 term_due one n at s out err (first_passes other p) (inr (inl (k, t))) = absurd (conclusive_or_term one (grid_trial n) (shown_of other) k (term_of (grid_trial n) (shown_of other) p))
 term_due one n at s out err (first_passes other p) (inr (inr (k, l, t))) = absurd (conclusive_or_term one (grid_trial n) (shown_of other) k (term_of (grid_trial n) (shown_of other) p))
 term_due one n at s out err (second_passes f other a p) (inl t) = absurd (line_or_term one (grid_trial n) f (shown_of at) a t)
-term_due one n at s out err (second_passes f other a p) (inr (inl (k, t))) = one_term one (doubling_trial n) (shown_of other) (shown_of at) (term_of (doubling_trial n) (shown_of other) p) t
+term_due one n at s out err (second_passes f other a p) (inr (inl (k, t))) =
+    shown_term _ _ (one_term one (doubling_trial n) (shown_of other) (shown_of at) (term_of (doubling_trial n) (shown_of other) p) t)
 term_due one n at s out err (second_passes f other a p) (inr (inr (k, l, t))) = absurd (conclusive_or_term one (doubling_trial n) (shown_of other) l (term_of (doubling_trial n) (shown_of other) p))
 term_due one n at s out err (third_passes f g other a b p) (inl t) = absurd (line_or_term one (grid_trial n) f (shown_of at) a t)
 term_due one n at s out err (third_passes f g other a b p) (inr (inl (k, t))) = absurd (line_or_term one (doubling_trial n) g (shown_of at) b t)
-term_due one n at s out err (third_passes f g other a b p) (inr (inr (k, l, t))) = one_term one (lock_trial n) (shown_of other) (shown_of at) (term_of (lock_trial n) (shown_of other) p) t
+term_due one n at s out err (third_passes f g other a b p) (inr (inr (k, l, t))) =
+    shown_term _ _ (one_term one (lock_trial n) (shown_of other) (shown_of at) (term_of (lock_trial n) (shown_of other) p) t)
 
 pub self_test_due : OneOfTrials → (n : ℕ) (s d : Status) (out err : List ℕ) → SelfTestEnds n s out err → SelfTestIsDue n d → IsTheOne d s
 self_test_due one n s Done out err (three_lines f g h a b c) is = refl
@@ -105,6 +111,8 @@ self_test_due one n s Done out err (second_passes f at a p) is = absurd (conclus
 self_test_due one n s Done out err (third_passes f g at a b p) is = absurd (conclusive_or_term one (lock_trial n) (shown_of at) is.2 (term_of (lock_trial n) (shown_of at) p))
 self_test_due one n s (TooWide (Synthesis at)) out err x is = term_due one n at s out err x is
 self_test_due one n s (TooWide (Check at)) out err x is = absurd is
+self_test_due one n s (TooWide (Factor i at)) out err x is = absurd is
+self_test_due one n s (TooWide (Split system at)) out err x is = absurd is
 self_test_due one n s No out err x is = absurd is
 self_test_due one n s (Usage usage) out err x is = absurd is
 self_test_due one n s (File fault) out err x is = absurd is
@@ -115,23 +123,33 @@ self_test_due one n s NoMemory out err x is = absurd is
 -- ---- one end
 
 same_passing : (at other : WideAt) → shown_of at ≡ shown_of other → AreOne (TooWide (Synthesis at)) (TooWide (Synthesis other)) [] [] (wide_line (Synthesis at)) (wide_line (Synthesis other))
-same_passing at other is = (is, refl, same_term_line at other is)
+same_passing at other is = (shown_term (shown_of at) (shown_of other) is, refl, same_term_line at other is)
 
 pub self_test_once : OneOfTrials → (n : ℕ) (s s' : Status) (out err out' err' : List ℕ) → SelfTestEnds n s out err → SelfTestEnds n s' out' err' → AreOne s s' out out' err err'
 self_test_once one n s s' out err out' err' (three_lines f g h a b c) (three_lines f' g' h' a' b' c') =
     (refl, ap₂ (λ x y. x ++ y) (one_line one (grid_trial n) f f' a a') (ap₂ (λ x y. x ++ y) (one_line one (doubling_trial n) g g' b b') (one_line one (lock_trial n) h h' c c')), refl)
 self_test_once one n s s' out err out' err' (three_lines f g h a b c) (first_passes at p) = absurd (line_or_term one (grid_trial n) f (shown_of at) a (term_of (grid_trial n) (shown_of at) p))
-self_test_once one n s s' out err out' err' (three_lines f g h a b c) (second_passes f' at a' p) = absurd (line_or_term one (doubling_trial n) g (shown_of at) b (term_of (doubling_trial n) (shown_of at) p))
-self_test_once one n s s' out err out' err' (three_lines f g h a b c) (third_passes f' g' at a' b' p) = absurd (line_or_term one (lock_trial n) h (shown_of at) c (term_of (lock_trial n) (shown_of at) p))
+self_test_once one n s s' out err out' err' (three_lines f g h a b c) (second_passes f' at a' p) =
+    absurd (line_or_term one (doubling_trial n) g (shown_of at) b (term_of (doubling_trial n) (shown_of at) p))
+self_test_once one n s s' out err out' err' (three_lines f g h a b c) (third_passes f' g' at a' b' p) =
+    absurd (line_or_term one (lock_trial n) h (shown_of at) c (term_of (lock_trial n) (shown_of at) p))
 self_test_once one n s s' out err out' err' (first_passes at p) (three_lines f' g' h' a' b' c') = absurd (line_or_term one (grid_trial n) f' (shown_of at) a' (term_of (grid_trial n) (shown_of at) p))
-self_test_once one n s s' out err out' err' (first_passes at p) (first_passes at' p') = same_passing at at' (one_term one (grid_trial n) (shown_of at) (shown_of at') (term_of (grid_trial n) (shown_of at) p) (term_of (grid_trial n) (shown_of at') p'))
+self_test_once one n s s' out err out' err' (first_passes at p) (first_passes at' p') =
+    same_passing at at' (one_term one (grid_trial n) (shown_of at) (shown_of at') (term_of (grid_trial n) (shown_of at) p) (term_of (grid_trial n) (shown_of at') p'))
 self_test_once one n s s' out err out' err' (first_passes at p) (second_passes f' at' a' p') = absurd (line_or_term one (grid_trial n) f' (shown_of at) a' (term_of (grid_trial n) (shown_of at) p))
-self_test_once one n s s' out err out' err' (first_passes at p) (third_passes f' g' at' a' b' p') = absurd (line_or_term one (grid_trial n) f' (shown_of at) a' (term_of (grid_trial n) (shown_of at) p))
-self_test_once one n s s' out err out' err' (second_passes f at a p) (three_lines f' g' h' a' b' c') = absurd (line_or_term one (doubling_trial n) g' (shown_of at) b' (term_of (doubling_trial n) (shown_of at) p))
+self_test_once one n s s' out err out' err' (first_passes at p) (third_passes f' g' at' a' b' p') =
+    absurd (line_or_term one (grid_trial n) f' (shown_of at) a' (term_of (grid_trial n) (shown_of at) p))
+self_test_once one n s s' out err out' err' (second_passes f at a p) (three_lines f' g' h' a' b' c') =
+    absurd (line_or_term one (doubling_trial n) g' (shown_of at) b' (term_of (doubling_trial n) (shown_of at) p))
 self_test_once one n s s' out err out' err' (second_passes f at a p) (first_passes at' p') = absurd (line_or_term one (grid_trial n) f (shown_of at') a (term_of (grid_trial n) (shown_of at') p'))
-self_test_once one n s s' out err out' err' (second_passes f at a p) (second_passes f' at' a' p') = same_passing at at' (one_term one (doubling_trial n) (shown_of at) (shown_of at') (term_of (doubling_trial n) (shown_of at) p) (term_of (doubling_trial n) (shown_of at') p'))
-self_test_once one n s s' out err out' err' (second_passes f at a p) (third_passes f' g' at' a' b' p') = absurd (line_or_term one (doubling_trial n) g' (shown_of at) b' (term_of (doubling_trial n) (shown_of at) p))
-self_test_once one n s s' out err out' err' (third_passes f g at a b p) (three_lines f' g' h' a' b' c') = absurd (line_or_term one (lock_trial n) h' (shown_of at) c' (term_of (lock_trial n) (shown_of at) p))
+self_test_once one n s s' out err out' err' (second_passes f at a p) (second_passes f' at' a' p') =
+    same_passing at at' (one_term one (doubling_trial n) (shown_of at) (shown_of at') (term_of (doubling_trial n) (shown_of at) p) (term_of (doubling_trial n) (shown_of at') p'))
+self_test_once one n s s' out err out' err' (second_passes f at a p) (third_passes f' g' at' a' b' p') =
+    absurd (line_or_term one (doubling_trial n) g' (shown_of at) b' (term_of (doubling_trial n) (shown_of at) p))
+self_test_once one n s s' out err out' err' (third_passes f g at a b p) (three_lines f' g' h' a' b' c') =
+    absurd (line_or_term one (lock_trial n) h' (shown_of at) c' (term_of (lock_trial n) (shown_of at) p))
 self_test_once one n s s' out err out' err' (third_passes f g at a b p) (first_passes at' p') = absurd (line_or_term one (grid_trial n) f (shown_of at') a (term_of (grid_trial n) (shown_of at') p'))
-self_test_once one n s s' out err out' err' (third_passes f g at a b p) (second_passes f' at' a' p') = absurd (line_or_term one (doubling_trial n) g (shown_of at') b (term_of (doubling_trial n) (shown_of at') p'))
-self_test_once one n s s' out err out' err' (third_passes f g at a b p) (third_passes f' g' at' a' b' p') = same_passing at at' (one_term one (lock_trial n) (shown_of at) (shown_of at') (term_of (lock_trial n) (shown_of at) p) (term_of (lock_trial n) (shown_of at') p'))
+self_test_once one n s s' out err out' err' (third_passes f g at a b p) (second_passes f' at' a' p') =
+    absurd (line_or_term one (doubling_trial n) g (shown_of at') b (term_of (doubling_trial n) (shown_of at') p'))
+self_test_once one n s s' out err out' err' (third_passes f g at a b p) (third_passes f' g' at' a' b' p') =
+    same_passing at at' (one_term one (lock_trial n) (shown_of at) (shown_of at') (term_of (lock_trial n) (shown_of at) p) (term_of (lock_trial n) (shown_of at') p'))

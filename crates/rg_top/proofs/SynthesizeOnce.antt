@@ -9,13 +9,15 @@ use Rattle.rg_order_of_work.specs.Shown as shown
 use Rattle.rg_order_of_work.specs.Shown.{Shown}
 use Rattle.rg_outcome.specs.Outcome.{Out, Answer, Answer.net as of_net, Answer.unsolvable as of_reason, Answer.too_wide as of_term}
 use Rattle.rg_separate.specs.View.{stage_of, shown_of}
-use Rattle.rg_separate.specs.declared.wide_at.Stage.{Stage}
-use Rattle.rg_separate.specs.declared.wide_at.Stage.TheVariants.{Cycle, Row, Pivot, Place as OfPlace, Spread}
-use Rattle.rg_separate.specs.declared.wide_at.WideAt.{WideAt}
-use Rattle.rg_lines.specs.Wides.{stage_words, term_text, wide_line}
-use Rattle.rg_lines.specs.declared.wide.WideCause.TheVariants.{Synthesis, Check}
+use Rattle.rg_reasons.specs.declared.wide_at.Stage.{Stage}
+use Rattle.rg_reasons.specs.declared.wide_at.Stage.TheVariants.{Cycle, Row, Pivot, Place as OfPlace, Spread}
+use Rattle.rg_reasons.specs.declared.wide_at.WideAt.{WideAt}
+use Rattle.rg_messages.specs.Wides.{stage_words, term_text, wide_line}
+use Rattle.rg_messages.specs.declared.wide.WideCause.TheVariants.{Synthesis, Check, Factor, Split}
 use Rattle.rg_top.specs.Synthesize.{IsNetText, SynthesizeEnds, a_net, a_certificate, a_term, SynthesizeIsDue}
-use Rattle.rg_top.specs.Run.{ShowsTerm, IsTheOne, AreOne}
+use Rattle.rg_top.specs.Run.{IsTheOne, AreOne}
+use Rattle.rg_top.specs.Terms.{Term.of_net as of_net_term, ShowsTerm}
+use Rattle.rg_top.proofs.Terms.{shows_one}
 use Rattle.rg_top.specs.declared.status.Status.{Status}
 use Rattle.rg_top.specs.declared.status.Status.TheVariants.{Done, No, Usage, File, TooWide, ReadFault, WriteFault, NoMemory}
 
@@ -53,7 +55,7 @@ same_term_line at other is = same_line at (shown_of other) is ∙ sym (same_line
 abbrev IsStatus : Answer → Status → Type 0
 IsStatus (of_net places) s = s ≡ Done
 IsStatus (of_reason reason) s = s ≡ No
-IsStatus (of_term w) s = ShowsTerm w s
+IsStatus (of_term w) s = ShowsTerm (of_net_term w) s
 
 abbrev Writes : Class → System → Answer → List ℕ → List ℕ → Type 0
 Writes class lts (of_net places) out err = (out ≡ net_text (record { labels = labels lts; places = places }) lts) × (err ≡ [])
@@ -76,6 +78,8 @@ due class lts Done (places, is) = (of_net places, is, refl)
 due class lts No (reason, is) = (of_reason reason, is, refl)
 due class lts (TooWide (Synthesis at)) is = (of_term (shown_of at), is, refl)
 due class lts (TooWide (Check at)) is = absurd is
+due class lts (TooWide (Factor i at)) is = absurd is
+due class lts (TooWide (Split system at)) is = absurd is
 due class lts (Usage usage) is = absurd is
 due class lts (File fault) is = absurd is
 due class lts ReadFault is = absurd is
@@ -84,21 +88,10 @@ due class lts NoMemory is = absurd is
 
 -- ---- two of one answer
 
-shows_one : (w : Shown) (due s : Status) → ShowsTerm w due → ShowsTerm w s → IsTheOne due s
-shows_one w (TooWide (Synthesis at)) s is also = subst (λ v. ShowsTerm v s) (sym is) also
-shows_one w (TooWide (Check at)) s is also = absurd is
-shows_one w Done s is also = absurd is
-shows_one w No s is also = absurd is
-shows_one w (Usage usage) s is also = absurd is
-shows_one w (File fault) s is also = absurd is
-shows_one w ReadFault s is also = absurd is
-shows_one w WriteFault s is also = absurd is
-shows_one w NoMemory s is also = absurd is
-
 same_status : (a : Answer) (s s' : Status) → IsStatus a s → IsStatus a s' → IsTheOne s' s
 same_status (of_net places) s s' is is' = subst (λ t. IsTheOne t s) (sym is') is
 same_status (of_reason reason) s s' is is' = subst (λ t. IsTheOne t s) (sym is') is
-same_status (of_term w) s s' is is' = shows_one w s' s is' is
+same_status (of_term w) s s' is is' = shows_one (of_net_term w) s' s is' is
 
 same_text : (class : Class) (lts : System) (a : Answer) (out err out' err' : List ℕ) → Writes class lts a out err → Writes class lts a out' err' → (out ≡ out') × (err ≡ err')
 same_text class lts (of_net places) out err out' err' (e, f) (e', f') = (e ∙ sym e', f ∙ sym f')
@@ -120,7 +113,7 @@ synthesize_once one class lts s s' out err out' err' x y =
     (same_status a s s' is (subst (λ c. IsStatus c s') same is'), texts.0, texts.1)
 
 -- a term that is the answer is shown
-pub synthesize_term : OneOut → (class : Class) (lts : System) (w : Shown) (s : Status) (out err : List ℕ) → SynthesizeEnds class lts s out err → Out lts class (of_term w) → ShowsTerm w s
+pub synthesize_term : OneOut → (class : Class) (lts : System) (w : Shown) (s : Status) (out err : List ℕ) → SynthesizeEnds class lts s out err → Out lts class (of_term w) → ShowsTerm (of_net_term w) s
 synthesize_term one class lts w s out err x answer' =
     let (a, answer, is, text) = writes class lts s out err x in
     subst (λ c. IsStatus c s) (one lts class a (of_term w) answer answer') is

@@ -1,10 +1,10 @@
 -- How `selftest` ends for the lines of its trials.
 use Rattle.std.proofs.Common.{◌≡◌, ℕ, min, List, [], ◌++◌, append_assoc, sym, ap, ap₂, subst, ◌∙◌}
 use Rattle.rg_separate.specs.View.{shown_of}
-use Rattle.rg_separate.specs.declared.wide_at.WideAt.{WideAt}
+use Rattle.rg_reasons.specs.declared.wide_at.WideAt.{WideAt}
 use Rattle.rg_families.specs.declared.Kind.TheVariants.{Lock}
-use Rattle.rg_lines.specs.Wides.{wide_line}
-use Rattle.rg_lines.specs.declared.wide.WideCause.TheVariants.{Synthesis}
+use Rattle.rg_messages.specs.Wides.{wide_line}
+use Rattle.rg_messages.specs.declared.wide.WideCause.TheVariants.{Synthesis}
 use Rattle.rg_top.specs.SelfTest.{trial, most_users, lock_class, grid_trial, doubling_trial, HasLine, Passes, SelfTestEnds, three_lines, third_passes}
 use Rattle.rg_top.specs.declared.status.Status.TheVariants.{Done, TooWide}
 

@@ -12,10 +12,10 @@ use Rattle.rg_verify.specs.declared.verdict.Defect.{Defect}
 use Rattle.rg_verify.specs.declared.verdict.Verdict.{Verdict}
 use Rattle.rg_verify.specs.declared.verdict.Verdict.TheVariants.{Accepted, Refused}
 use Rattle.rg_verify.specs.Judged.{Judges}
-use Rattle.rg_lines.specs.Files.{file_line}
-use Rattle.rg_lines.specs.JudgedTexts.{accepted_line, cert_fault_text, defect_text, refused_line}
-use Rattle.rg_lines.specs.declared.fault.Fault.{Fault}
-use Rattle.rg_lines.specs.declared.fault.FileFault.{FileFault}
+use Rattle.rg_messages.specs.Files.{file_line}
+use Rattle.rg_messages.specs.JudgedTexts.{accepted_line, cert_fault_text, defect_text, refused_line}
+use Rattle.rg_messages.specs.declared.fault.Fault.{Fault}
+use Rattle.rg_messages.specs.declared.fault.FileFault.{FileFault}
 use Rattle.rg_top.specs.Given.{IsUnread}
 use Rattle.rg_top.specs.Second.{second_fault}
 use Rattle.rg_top.specs.Verify.{IsAccepted, IsNotAccepted, IsRefusedFor, no_text, no_proof, IsRefused, VerifyEnds, unread, accepted, refused, VerifyIsDue}

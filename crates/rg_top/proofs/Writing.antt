@@ -3,12 +3,16 @@ use Rattle.std.proofs.Common.{◌≡◌, ◌⊎◌, inl, inr, ℕ, true, List, [
 use Rattle.rg_ports.specs.Shelf.{Files}
 use Rattle.rg_ports.specs.Sink.{taken_with, TakesPart}
 use Rattle.rg_theory.specs.System.{System}
-use Rattle.rg_commands.specs.Requests.{Work, net, judgement, verdict, conversion, Asked, of_system, generation, self_test}
+use Rattle.rg_commands.specs.Requests.{Work, net, judgement, verdict, conversion, factoring, splitting, comparison, examination, Asked, of_system, generation, self_test}
 use Rattle.rg_commands.specs.declared.forms.Form.{Form}
 use Rattle.rg_top.specs.Synthesize.{a_net, a_certificate, a_term}
 use Rattle.rg_top.specs.Verify as verify
 use Rattle.rg_top.specs.Check as check
 use Rattle.rg_top.specs.Convert.{as_apt, as_graph, label_lost, state_lost}
+use Rattle.rg_top.specs.Factor as factor
+use Rattle.rg_top.specs.Split as split
+use Rattle.rg_top.specs.Isomorphic as isomorphic
+use Rattle.rg_top.specs.Examine.{reported}
 use Rattle.rg_top.specs.Generate.{a_system}
 use Rattle.rg_top.specs.SelfTest.{three_lines, first_passes, second_passes, third_passes}
 use Rattle.rg_top.specs.Ends.{EndsOn, FileEnds, EndsOf, no_system, on_system, Answers, refused, asked}
@@ -39,6 +43,25 @@ on_one_sink files (conversion target) lts s out err (as_apt spelled) = done refl
 on_one_sink files (conversion target) lts s out err (as_graph l r again) = done refl
 on_one_sink files (conversion target) lts s out err (label_lost t is) = no refl
 on_one_sink files (conversion target) lts s out err (state_lost q is) = no refl
+on_one_sink files (factoring class) lts s out err (factor.a_state _ q is) = no refl
+on_one_sink files (factoring class) lts s out err (factor.a_fork _ q t p r all is) = no refl
+on_one_sink files (factoring class) lts s out err (factor.no_blocks _ squares is_open is none) = no refl
+on_one_sink files (factoring class) lts s out err (factor.no_product _ sizes is_open is) = no refl
+on_one_sink files (factoring class) lts s out err (factor.all_factors fs tuples are) = done refl
+on_one_sink files (factoring class) lts s out err (factor.a_net c text is) = done refl
+on_one_sink files (factoring class) lts s out err (factor.a_certificate c text is) = no refl
+on_one_sink files (factoring class) lts s out err (factor.a_term c i at is) = wide _ refl
+on_one_sink files (splitting output) lts s out err (split.a_net text is) = done refl
+on_one_sink files (splitting output) lts s out err (split.a_system text is) = done refl
+on_one_sink files (splitting output) lts s out err (split.a_state q is) = no refl
+on_one_sink files (splitting output) lts s out err (split.no_room is) = no refl
+on_one_sink files (splitting output) lts s out err (split.a_term system at is) = wide _ refl
+on_one_sink files (comparison named form) lts s out err (isomorphic.unread fault is) = file _ refl
+on_one_sink files (comparison named form) lts s out err (isomorphic.read other _ _ is formed (isomorphic.first_unjudged text u)) = no refl
+on_one_sink files (comparison named form) lts s out err (isomorphic.read other _ _ is formed (isomorphic.second_unjudged text j u)) = no refl
+on_one_sink files (comparison named form) lts s out err (isomorphic.read other _ _ is formed (isomorphic.same m j j' l i)) = done refl
+on_one_sink files (comparison named form) lts s out err (isomorphic.read other _ _ is formed (isomorphic.different told j j' c n r)) = no refl
+on_one_sink files (examination output) lts s out err (reported e is) = done refl
 
 of_file_one_sink : (files : Option Files) (work : Work) (name : List ℕ) (form : Form) (s : Status) (out err : List ℕ) → FileEnds files work name form s out err → Due out err s
 of_file_one_sink files work name form s out err (no_system fault is) = file _ refl

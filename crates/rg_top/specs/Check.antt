@@ -13,12 +13,12 @@ use Rattle.rg_net_verdict.specs.declared.verdict.CheckWide.{CheckWide}
 use Rattle.rg_net_verdict.specs.declared.verdict.NetNo.{NetNo}
 use Rattle.rg_net_verdict.specs.declared.verdict.NetVerdict.TheVariants as verdict
 use Rattle.rg_net_verdict.specs.Verdict.{Told, IsVerdict}
-use Rattle.rg_lines.specs.CheckedTexts.{yes_line, no_line}
-use Rattle.rg_lines.specs.Files.{file_line}
-use Rattle.rg_lines.specs.Wides.{wide_line}
-use Rattle.rg_lines.specs.declared.fault.Fault.{Fault}
-use Rattle.rg_lines.specs.declared.fault.Fault.TheVariants.{Missing, TooLong, Net as OfNet}
-use Rattle.rg_lines.specs.declared.wide.WideCause.TheVariants.{Check}
+use Rattle.rg_messages.specs.CheckedTexts.{yes_line, no_line}
+use Rattle.rg_messages.specs.Files.{file_line}
+use Rattle.rg_messages.specs.Wides.{wide_line}
+use Rattle.rg_messages.specs.declared.fault.Fault.{Fault}
+use Rattle.rg_messages.specs.declared.fault.Fault.TheVariants.{Missing, TooLong, Net as OfNet}
+use Rattle.rg_messages.specs.declared.wide.WideCause.TheVariants.{Check}
 use Rattle.rg_top.specs.Given.{MayHold, IsFile, IsTooLong}
 use Rattle.rg_top.specs.Second.{second_fault}
 use Rattle.rg_top.specs.declared.status.Status.{Status}

@@ -9,7 +9,7 @@ use Rattle.rg_genet.specs.Same.{IsSameByNames}
 use Rattle.rg_genet.specs.Loss.{IsLabelKept, IsStateKept, IsFirstDead, IsFirstLost}
 use Rattle.rg_commands.specs.declared.forms.Target.{Target}
 use Rattle.rg_commands.specs.declared.forms.Target.TheVariants.{Apt, Graph}
-use Rattle.rg_lines.specs.LostTexts.{lost_label_line, lost_state_line}
+use Rattle.rg_messages.specs.LostTexts.{lost_label_line, lost_state_line}
 use Rattle.rg_top.specs.declared.status.Status.{Status}
 use Rattle.rg_top.specs.declared.status.Status.TheVariants.{Done, No}
 

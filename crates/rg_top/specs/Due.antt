@@ -1,21 +1,30 @@
 -- When a status is due to the words and the files. A fault or want of memory never is.
-use Rattle.std.specs.Prelude.{ℕ, List, Option}
+use Rattle.std.specs.Prelude.{ℕ, List, Option, Some}
 use Rattle.rg_ports.specs.Shelf.{Files}
 use Rattle.rg_theory.specs.System.{System}
 use Rattle.rg_theory.specs.declared.Class.{Class}
 use Rattle.rg_order_of_work.specs.Shown.{Shown}
 use Rattle.rg_outcome.specs.Outcome.{Out, Answer.too_wide as of_term}
-use Rattle.rg_commands.specs.Requests.{Work, net, judgement, verdict, conversion, Asked, of_system, generation, self_test}
+use Rattle.rg_commands.specs.Requests.{Work, net, judgement, verdict, conversion, factoring, splitting, comparison, examination, Asked, of_system, generation, self_test}
 use Rattle.rg_commands.specs.Says.{Ask, AreRefused}
 use Rattle.rg_commands.specs.declared.usage.Usage.{Usage}
 use Rattle.rg_commands.specs.declared.forms.Form.{Form}
-use Rattle.rg_lines.specs.declared.fault.Fault.{Fault}
+use Rattle.rg_messages.specs.declared.fault.Fault.{Fault}
 use Rattle.rg_top.specs.Given.{IsNoSystem, IsSystemFile}
 use Rattle.rg_top.specs.Second.{first_fault}
 use Rattle.rg_top.specs.Synthesize.{SynthesizeIsDue}
 use Rattle.rg_top.specs.Verify.{VerifyIsDue}
 use Rattle.rg_top.specs.Check.{CheckIsDue}
 use Rattle.rg_top.specs.Convert.{ConvertIsDue}
+use Rattle.rg_product.specs.Product.{Factor}
+use Rattle.rg_factor_nets.specs.Answer.{IsBehindNets}
+use Rattle.rg_top.specs.Factor.{FactorIsDue, HasFactors}
+use Rattle.rg_top.specs.Split.{SplitIsDue}
+use Rattle.rg_split.specs.Rounds.{labelling, Splitting.too_wide as passes, SplitsTo}
+use Rattle.rg_commands.specs.declared.splitting.SplitOutput.{SplitOutput}
+use Rattle.rg_top.specs.Terms.{Term, of_net, of_factor, of_split}
+use Rattle.rg_top.specs.Isomorphic.{IsomorphicIsDue}
+use Rattle.rg_top.specs.Examine.{ExamineIsDue}
 use Rattle.rg_top.specs.Generate.{GenerateIsDue}
 use Rattle.rg_top.specs.SelfTest.{SelfTestIsDue}
 use Rattle.rg_top.specs.declared.status.Status.{Status}
@@ -27,6 +36,10 @@ DueOn files (net class) lts = SynthesizeIsDue class lts
 DueOn files (judgement cert) lts = VerifyIsDue files cert lts
 DueOn files (verdict class named) lts = CheckIsDue files class named lts
 DueOn files (conversion target) lts = ConvertIsDue lts target
+DueOn files (factoring class) lts = FactorIsDue lts class
+DueOn files (splitting output) lts = SplitIsDue lts
+DueOn files (comparison named form) lts = IsomorphicIsDue files named form lts
+DueOn files (examination output) lts = ExamineIsDue
 
 -- the status is due to work on the system of a file
 pub data FileDue (files : Option Files) (work : Work) (file : List ℕ) (form : Form) : Status → Type 0 where
@@ -44,12 +57,20 @@ pub data IsDue (words : List (List ℕ)) (files : Option Files) : Status → Typ
   refused : (usage : Usage) → AreRefused words usage → IsDue words files (Refuses usage)
   asked : (request : Asked) (status : Status) → Ask words request → DueOf files request status → IsDue words files status
 
--- a net is asked for, and the answer for the system and the class is this term, which is out of range
-pub record IsPassed (words : List (List ℕ)) (files : Option Files) (w : Shown) : Type 0 where
-  pub class : Class
+-- the term is out of range, and decides the work on the system: it is the answer for the system and the class where a net is asked for; that
+-- for the first factor whose answer is no net where nets for factors are; that of the last round where labels are told apart
+pub data Decides (lts : System) : Work → Term → Type 0 where
+  for_a_net : (class : Class) (w : Shown) → Out lts class (of_term w) → Decides lts (net class) (of_net w)
+  for_factors : (class : Class) (fs : List Factor) (i : ℕ) (f : Factor) (w : Shown) → HasFactors lts fs → IsBehindNets class fs i f → Out f.lts class (of_term w)
+      → Decides lts (factoring (Some class)) (of_factor i w)
+  for_labels : (output : SplitOutput) (system : System) (old : List ℕ) (w : Shown) → SplitsTo lts (passes (labelling system old) w) → Decides lts (splitting output) (of_split system w)
+
+-- work on the system of a file is asked for, and the term decides it
+pub record IsPassed (words : List (List ℕ)) (files : Option Files) (w : Term) : Type 0 where
+  pub work : Work
   pub file : List ℕ
   pub form : Form
-  pub ask : Ask words (of_system (net class) file form)
+  pub ask : Ask words (of_system work file form)
   pub lts : System
   pub spelled : IsSystemFile files form file lts
-  pub answer : Out lts class (of_term w)
+  pub decides : Decides lts work w

@@ -3,19 +3,23 @@ use Rattle.std.specs.Prelude.{ℕ, List, [], Option}
 use Rattle.rg_ports.specs.Shelf.{Files}
 use Rattle.rg_theory.specs.System.{System}
 use Rattle.rg_lts.specs.WellFormed.{IsWellFormed}
-use Rattle.rg_commands.specs.Requests.{Work, net, judgement, verdict, conversion, Asked, of_system, generation, self_test}
+use Rattle.rg_commands.specs.Requests.{Work, net, judgement, verdict, conversion, factoring, splitting, comparison, examination, Asked, of_system, generation, self_test}
 use Rattle.rg_commands.specs.Says.{Ask, AreRefused}
 use Rattle.rg_commands.specs.declared.usage.Usage.{Usage}
 use Rattle.rg_commands.specs.declared.forms.Form.{Form}
-use Rattle.rg_lines.specs.Usages.{usage_line}
-use Rattle.rg_lines.specs.Files.{file_line}
-use Rattle.rg_lines.specs.declared.fault.Fault.{Fault}
+use Rattle.rg_messages.specs.Usages.{usage_line}
+use Rattle.rg_messages.specs.Files.{file_line}
+use Rattle.rg_messages.specs.declared.fault.Fault.{Fault}
 use Rattle.rg_top.specs.Given.{IsNoSystem, IsSystemFile}
 use Rattle.rg_top.specs.Second.{first_fault}
 use Rattle.rg_top.specs.Synthesize.{SynthesizeEnds}
 use Rattle.rg_top.specs.Verify.{VerifyEnds}
 use Rattle.rg_top.specs.Check.{CheckEnds}
 use Rattle.rg_top.specs.Convert.{ConvertEnds}
+use Rattle.rg_top.specs.Factor.{FactorEnds}
+use Rattle.rg_top.specs.Split.{SplitEnds}
+use Rattle.rg_top.specs.Isomorphic.{IsomorphicEnds}
+use Rattle.rg_top.specs.Examine.{ExamineEnds}
 use Rattle.rg_top.specs.Generate.{GenerateEnds}
 use Rattle.rg_top.specs.SelfTest.{SelfTestEnds}
 use Rattle.rg_top.specs.declared.status.Status.{Status}
@@ -27,6 +31,10 @@ EndsOn files (net class) lts = SynthesizeEnds class lts
 EndsOn files (judgement cert) lts = VerifyEnds files cert lts
 EndsOn files (verdict class named) lts = CheckEnds files class named lts
 EndsOn files (conversion target) lts = ConvertEnds lts target
+EndsOn files (factoring class) lts = FactorEnds lts class
+EndsOn files (splitting output) lts = SplitEnds lts output
+EndsOn files (comparison named form) lts = IsomorphicEnds files named form lts
+EndsOn files (examination output) lts = ExamineEnds output lts
 
 -- how work on the system of a file ends: the file is not that of a system, or it is
 pub data FileEnds (files : Option Files) (work : Work) (file : List ℕ) (form : Form) : Status → List ℕ → List ℕ → Type 0 where

@@ -11,8 +11,8 @@ use Rattle.rg_words.specs.Spells.{Spells as WordsSpell, FirstFault as FirstWordF
 use Rattle.rg_words.specs.declared.fault.WordFault.TheVariants as word_fault
 use Rattle.rg_commands.specs.declared.forms.Form.{Form}
 use Rattle.rg_commands.specs.declared.forms.Form.TheVariants as form
-use Rattle.rg_lines.specs.declared.fault.Fault.{Fault}
-use Rattle.rg_lines.specs.declared.fault.Fault.TheVariants.{Missing, TooLong, Apt, Graph, Words}
+use Rattle.rg_messages.specs.declared.fault.Fault.{Fault}
+use Rattle.rg_messages.specs.declared.fault.Fault.TheVariants.{Missing, TooLong, Apt, Graph, Words}
 
 -- the shelf, as far as it tells its files, has these bytes under the name, or no such file
 abbrev pub MayHold : Option Files → List ℕ → Option (List ℕ) → Type 0

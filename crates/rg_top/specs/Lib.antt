@@ -5,8 +5,13 @@ pub mod Synthesize
 pub mod Verify
 pub mod Check
 pub mod Convert
+pub mod Isomorphic
+pub mod Examine
 pub mod Generate
 pub mod SelfTest
+pub mod Factor
+pub mod Split
+pub mod Terms
 pub mod Ends
 pub mod Due
 pub mod Run

@@ -17,15 +17,15 @@ use Rattle.rg_net_verdict.specs.declared.verdict.NetNo.{NetNo}
 use Rattle.rg_net_verdict.specs.declared.verdict.NetVerdict.TheVariants as verdict_of
 use Rattle.rg_net_verdict.specs.Verdict.{IsVerdict}
 use Rattle.rg_commands.specs.Requests as asked
-use Rattle.rg_commands.specs.Requests.{Asked, of_system, generation, self_test, net, judgement, verdict, conversion}
+use Rattle.rg_commands.specs.Requests.{Asked, of_system, generation, self_test, net, judgement, verdict, conversion, factoring, splitting, comparison, examination}
 use Rattle.rg_commands.specs.declared.request.Request.{Request}
-use Rattle.rg_commands.specs.declared.request.Request.TheVariants.{Synthesize, Verify, Check, Convert, Generate, SelfTest}
-use Rattle.rg_lines.specs.CheckedTexts.{yes_line, no_line}
-use Rattle.rg_lines.specs.Files.{file_line}
-use Rattle.rg_lines.specs.JudgedTexts.{accepted_line, refused_line}
-use Rattle.rg_lines.specs.Wides.{wide_line}
-use Rattle.rg_lines.specs.declared.fault.Fault.{Fault}
-use Rattle.rg_lines.specs.declared.wide.WideCause.TheVariants as wide
+use Rattle.rg_commands.specs.declared.request.Request.TheVariants.{Synthesize, Verify, Check, Convert, Factor, Split, Isomorphic, Examine, Generate, SelfTest}
+use Rattle.rg_messages.specs.CheckedTexts.{yes_line, no_line}
+use Rattle.rg_messages.specs.Files.{file_line}
+use Rattle.rg_messages.specs.JudgedTexts.{accepted_line, refused_line}
+use Rattle.rg_messages.specs.Wides.{wide_line}
+use Rattle.rg_messages.specs.declared.fault.Fault.{Fault}
+use Rattle.rg_messages.specs.declared.wide.WideCause.TheVariants as wide
 use Rattle.rg_top.specs.Check.{IsNetFault}
 use Rattle.rg_top.specs.Second.{second_fault}
 use Rattle.rg_top.specs.Verify.{IsRefusedFor}
@@ -43,14 +43,22 @@ HasJobs (Synthesize words) = 1 ≤ words.jobs
 HasJobs (Verify words) = Unit {0}
 HasJobs (Check words) = Unit {0}
 HasJobs (Convert words) = Unit {0}
+HasJobs (Factor words) = 1 ≤ words.jobs
+HasJobs (Split words) = 1 ≤ words.jobs
 HasJobs (Generate words) = Unit {0}
 HasJobs (SelfTest words) = Unit {0}
+HasJobs (Isomorphic words) = Unit {0}
+HasJobs (Examine words) = Unit {0}
 
 abbrev pub HasWorkJobs : Work → Type 0
 HasWorkJobs (task.Net class jobs) = 1 ≤ jobs
 HasWorkJobs (task.Judgement cert) = Unit {0}
 HasWorkJobs (task.Verdict class named) = Unit {0}
 HasWorkJobs (task.Conversion target) = Unit {0}
+HasWorkJobs (task.Factoring class jobs) = 1 ≤ jobs
+HasWorkJobs (task.Splitting output jobs) = 1 ≤ jobs
+HasWorkJobs (task.Comparison named form) = Unit {0}
+HasWorkJobs (task.Examination output) = Unit {0}
 
 abbrev pub HasTaskJobs : Task → Type 0
 HasTaskJobs (OfSystem work file form) = HasWorkJobs work
@@ -63,6 +71,10 @@ work_of (task.Net class jobs) = net class
 work_of (task.Judgement cert) = judgement cert.now
 work_of (task.Verdict class named) = verdict class named.now
 work_of (task.Conversion target) = conversion target
+work_of (task.Factoring class jobs) = factoring class
+work_of (task.Splitting output jobs) = splitting output
+work_of (task.Comparison named form) = comparison named.now form
+work_of (task.Examination output) = examination output
 
 abbrev pub asked_of : Task → Asked
 asked_of (OfSystem work file form) = of_system (work_of work) file.now form

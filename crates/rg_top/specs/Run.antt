@@ -1,19 +1,17 @@
 -- What is seen of one run, and how it may end.
-use Rattle.std.specs.Prelude.{◌≡◌, ◌⊎◌, ℕ, ◌<◌, Bool, true, false, List, [], ◌∷◌, ◌++◌, length, Option, option_map, IsSome}
+use Rattle.std.specs.Prelude.{◌≡◌, ◌⊎◌, ℕ, ◌<◌, Bool, true, false, List, [], ◌∷◌, ◌++◌, length, Option, None, Some, option_map, IsSome}
 use Rattle.rg_ports.specs.Calls.{LastCall, finds_end, ReadsFile}
 use Rattle.rg_ports.specs.Count.{HasRisen}
 use Rattle.rg_ports.specs.Shelf.{Files}
 use Rattle.rg_ports.specs.Sink.{taken_with, TakesPart}
 use Rattle.rg_theory.specs.System.{System}
-use Rattle.rg_order_of_work.specs.Shown.{Shown}
-use Rattle.rg_separate.specs.View.{shown_of}
 use Rattle.rg_commands.specs.Requests.{Work, of_system, file_words}
 use Rattle.rg_commands.specs.Says.{Ask}
 use Rattle.rg_commands.specs.declared.forms.Form.{Form}
-use Rattle.rg_lines.specs.declared.wide.WideCause.TheVariants.{Synthesis}
 use Rattle.rg_top.specs.Given.{IsSystemFile}
 use Rattle.rg_top.specs.Ends.{Answers}
 use Rattle.rg_top.specs.Due.{IsDue, IsPassed}
+use Rattle.rg_top.specs.Terms.{Term, term_of, ShowsTerm}
 use Rattle.rg_top.specs.declared.status.Status.{Status}
 use Rattle.rg_top.specs.declared.status.Status.TheVariants.{TooWide, ReadFault, WriteFault, NoMemory}
 
@@ -135,14 +133,14 @@ pub record NameNoFile (words : List (List ℕ)) : Type 0 where
 abbrev pub IsDecided : List (List ℕ) → Option Files → Type 0
 IsDecided words files = IsSome files ⊎ NameNoFile words
 
--- the status shows this term
-abbrev pub ShowsTerm : Shown → Status → Type 0
-ShowsTerm w (TooWide (Synthesis at)) = shown_of at ≡ w
-ShowsTerm w _ = ⊥
+-- the status is the one that is due, or shows the term, where that shows one
+abbrev pub ShowsSame : Option Term → Status → Status → Type 0
+ShowsSame None due result = result ≡ due
+ShowsSame (Some t) due result = ShowsTerm t result
 
 -- the status is the one that is due, or shows the same term
 abbrev pub IsTheOne : Status → Status → Type 0
-IsTheOne (TooWide (Synthesis at)) result = ShowsTerm (shown_of at) result
+IsTheOne (TooWide cause) result = ShowsSame (term_of cause) (TooWide cause) result
 IsTheOne due result = result ≡ due
 
 -- two ends are one: the same status, or one that shows the same term, and the same bytes
@@ -154,7 +152,7 @@ AreOne s s' out out' err err' = IsTheOne s' s × (out ≡ out') × (err ≡ err'
 abbrev pub ComesIfDue : List (List ℕ) → Option Files → Status → Status → Type 0
 ComesIfDue words files due result = IsDecided words files → IsDue words files due → IsTheOne due result ⊎ IsMishap result
 
--- where a net is asked for, the shelf tells its files, and the answer is a term that is out of range, the status shows that term,
+-- where nets are asked for, the shelf tells its files, and what decides is a term that is out of range, the status shows that term,
 -- unless a fault or want of memory comes in its place
-abbrev pub ComesIfPassed : List (List ℕ) → Option Files → Shown → Status → Type 0
+abbrev pub ComesIfPassed : List (List ℕ) → Option Files → Term → Status → Type 0
 ComesIfPassed words files w result = IsSome files → IsPassed words files w → ShowsTerm w result ⊎ IsMishap result

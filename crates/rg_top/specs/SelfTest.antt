@@ -13,12 +13,12 @@ use Rattle.rg_refuting.specs.Refutes.{Reason, Accepts}
 use Rattle.rg_order_of_work.specs.Shown.{Shown}
 use Rattle.rg_outcome.specs.Outcome.{Out, Answer, Answer.net as of_net, Answer.unsolvable as of_reason, Answer.too_wide as of_term}
 use Rattle.rg_separate.specs.View.{shown_of}
-use Rattle.rg_separate.specs.declared.wide_at.WideAt.{WideAt}
+use Rattle.rg_reasons.specs.declared.wide_at.WideAt.{WideAt}
 use Rattle.rg_synth.specs.Answer.{IsReason, IsSolvingNet}
-use Rattle.rg_lines.specs.CheckedTexts.{yes_line}
-use Rattle.rg_lines.specs.TrialTexts.{solved_line, unsolvable_line}
-use Rattle.rg_lines.specs.Wides.{wide_line}
-use Rattle.rg_lines.specs.declared.wide.WideCause.TheVariants.{Synthesis}
+use Rattle.rg_messages.specs.CheckedTexts.{yes_line}
+use Rattle.rg_messages.specs.TrialTexts.{solved_line, unsolvable_line}
+use Rattle.rg_messages.specs.Wides.{wide_line}
+use Rattle.rg_messages.specs.declared.wide.WideCause.TheVariants.{Synthesis}
 use Rattle.rg_top.specs.Synthesize.{IsShownFor}
 use Rattle.rg_top.specs.declared.status.Status.{Status}
 use Rattle.rg_top.specs.declared.status.Status.TheVariants.{Done, TooWide}

@@ -12,9 +12,9 @@ use Rattle.rg_cert.specs.Faults.{FirstFault}
 use Rattle.rg_verify.specs.declared.verdict.Defect.{Defect}
 use Rattle.rg_verify.specs.declared.verdict.Verdict.TheVariants.{Refused}
 use Rattle.rg_verify.specs.Judged.{Holds, Judges}
-use Rattle.rg_lines.specs.Files.{file_line}
-use Rattle.rg_lines.specs.JudgedTexts.{accepted_line, cert_fault_text, defect_text, refused_line}
-use Rattle.rg_lines.specs.declared.fault.Fault.{Fault}
+use Rattle.rg_messages.specs.Files.{file_line}
+use Rattle.rg_messages.specs.JudgedTexts.{accepted_line, cert_fault_text, defect_text, refused_line}
+use Rattle.rg_messages.specs.declared.fault.Fault.{Fault}
 use Rattle.rg_top.specs.Given.{IsFile, IsUnread}
 use Rattle.rg_top.specs.Second.{second_fault}
 use Rattle.rg_top.specs.declared.status.Status.{Status}

@@ -3,27 +3,31 @@ ghost use Rattle.std.specs.Prelude.{◌≡◌, ℕ, ◌≤◌, [], map, string_b
 ghost use Rattle.rg_ports.specs.Count.{HasRisen};
 ghost use Rattle.rg_lts.specs.WellFormed.{IsWellFormed};
 ghost use Rattle.rg_commands.specs.Requests.{asked_by, second_files, HasBounds, HasClassNumbers};
-ghost use Rattle.rg_lines.specs.Usages.{usage_line};
-ghost use Rattle.rg_lines.specs.Files.{file_line};
-ghost use Rattle.rg_lines.specs.Wides.{wide_line};
+ghost use Rattle.rg_messages.specs.Usages.{usage_line};
+ghost use Rattle.rg_messages.specs.Files.{file_line};
+ghost use Rattle.rg_messages.specs.Wides.{wide_line};
 ghost use Rattle.rg_top.specs.Ends.{EndsOn, FileEnds, EndsOf, Answers};
 ghost use Rattle.rg_top.specs.Requests.{HasJobs, HasWorkJobs, work_of, asked_more, ReadsMore, AsksOf, ReadsOf, IsOfFile};
 ghost use Rattle.rg_top.specs.Run.{AsksAtMost, AsksFiles, ReadsAtMost, ReadsFiles, IsReadFault};
 ghost use Rattle.rg_top.specs.declared.answer.Stop.TheVariants as stop;
 
 use crate::checking::verdict_answer;
+use crate::comparing::comparison_answer;
 use crate::converting::conversion_answer;
+use crate::examining::report_answer;
+use crate::factoring::factor_answer;
 use crate::files::{FileStop, read_system};
 use crate::generating::generated_answer;
+use crate::splitting::split_answer;
 use crate::status::Status;
 use crate::synthesizing::net_answer;
 use crate::task::{Task, Work, task_of};
 use crate::testing::self_test_answer;
 use crate::verifying::judgement_answer;
 use rg_commands::{Form, Request, Usage, WordsStop, read_words};
-use rg_lines::{Fault, FileFault, WideCause, file_text, usage_text, wide_text};
 use rg_lts::Lts;
 use rg_memory::NoMemory;
+use rg_messages::{Fault, FileFault, WideCause, file_text, usage_text, wide_text};
 use rg_ports::{Gate, Shelf};
 use std::alloc::{AllocError, Global};
 use std::thread::Threads;
@@ -149,6 +153,10 @@ fn system_answer<R: Threads + Sync, H: Shelf, G: Gate + Sync>(
         Work::Judgement(cert) => judgement_answer(alloc, lts, cert, shelf),
         Work::Verdict(class, net) => verdict_answer(alloc, lts, class, net, shelf),
         Work::Conversion(target) => Ok(conversion_answer(alloc, lts, target)?),
+        Work::Factoring(class, jobs) => Ok(factor_answer(rt, alloc, class, lts, jobs, gate)?),
+        Work::Splitting(output, jobs) => Ok(split_answer(rt, alloc, output, lts, jobs, gate)?),
+        Work::Comparison(name, form) => comparison_answer(alloc, lts, name, form, shelf),
+        Work::Examination(output) => Ok(report_answer(alloc, lts, output)?),
     }
 }
 

@@ -8,9 +8,9 @@ use crate::status::Status;
 use rg_apt::print_lts;
 use rg_commands::Target;
 use rg_genet::{GraphLoss, print_graph};
-use rg_lines::{label_loss_text, loss_has_name, state_loss_text};
 use rg_lts::Lts;
 use rg_memory::NoMemory;
+use rg_messages::{label_loss_text, loss_has_name, state_loss_text};
 use std::alloc::Global;
 
 // The system in the form, or what the form can't hold of it.

@@ -4,18 +4,18 @@ ghost use Rattle.rg_ports.specs.Calls.{LastCall, finds_end, ReadsFile};
 ghost use Rattle.rg_ports.specs.Count.{HasRisen};
 ghost use Rattle.rg_ports.specs.Shelf.{asked_with};
 ghost use Rattle.rg_text.specs.Limits.{most_bytes};
-ghost use Rattle.rg_lines.specs.declared.fault.Fault.{Fault};
+ghost use Rattle.rg_messages.specs.declared.fault.Fault.{Fault};
 ghost use Rattle.rg_top.specs.declared.files.FileStop.TheVariants as stop;
 ghost use Rattle.rg_top.specs.Given.{IsFile, IsUnread, SpellsAs, IsFaultAs, IsNoSystem, IsSystemFile};
 
 use rg_apt::{TextFault, read_lts};
 use rg_commands::Form;
 use rg_genet::{GraphFault, read_graph};
-use rg_lines::Fault;
 use rg_lts::Lts;
+use rg_messages::Fault;
 use rg_ports::{ReadStop, Shelf, read_all};
 use rg_text::MOST_BYTES;
-use rg_words::{WordFault, read_words};
+use rg_words::{WordFault, read_word_list};
 use std::alloc::Global;
 
 // Why a file gave nothing.
@@ -89,7 +89,7 @@ fn system_of(alloc: Global, bytes: &[u8], form: Form) -> Result<Lts, FileStop>
             Err(GraphFault::NoMemory) => Err(FileStop::NoMemory),
             Err(fault) => Err(FileStop::Refused(Fault::Graph(fault))),
         },
-        Form::Words => match read_words(alloc, bytes) {
+        Form::Words => match read_word_list(alloc, bytes) {
             Ok(lts) => Ok(lts),
             Err(WordFault::NoMemory) => Err(FileStop::NoMemory),
             Err(fault) => Err(FileStop::Refused(Fault::Words(fault))),

@@ -5,12 +5,19 @@ ghost use Rattle.rg_theory.specs.System.{System, IsInRange};
 ghost use Rattle.rg_theory.specs.declared.Class.{Class};
 ghost use Rattle.rg_lts.specs.WellFormed.{IsWellFormed};
 ghost use Rattle.rg_families.specs.declared.Kind.{Kind};
+ghost use Rattle.rg_commands.specs.declared.forms.Form.{Form};
+ghost use Rattle.rg_commands.specs.declared.examining.ExamineOutput.{ExamineOutput};
+ghost use Rattle.rg_commands.specs.declared.splitting.SplitOutput.{SplitOutput};
 ghost use Rattle.rg_commands.specs.declared.forms.Target.{Target};
 ghost use Rattle.rg_top.specs.Given.{IsFile};
 ghost use Rattle.rg_top.specs.Synthesize.{IsCertificateText, SynthesizeEnds, SynthesizeIsDue};
 ghost use Rattle.rg_top.specs.Verify.{IsAccepted, VerifyEnds, VerifyIsDue};
 ghost use Rattle.rg_top.specs.Check.{CheckEnds, CheckIsDue};
 ghost use Rattle.rg_top.specs.Convert.{ConvertEnds, ConvertIsDue};
+ghost use Rattle.rg_top.specs.Factor.{FactorEnds, FactorIsDue};
+ghost use Rattle.rg_top.specs.Split.{SplitEnds, SplitIsDue};
+ghost use Rattle.rg_top.specs.Isomorphic.{IsomorphicEnds, IsomorphicIsDue};
+ghost use Rattle.rg_top.specs.Examine.{ExamineEnds, ExamineIsDue};
 ghost use Rattle.rg_top.specs.Generate.{GenerateEnds, GenerateIsDue};
 ghost use Rattle.rg_top.specs.SelfTest.{SelfTestEnds, SelfTestIsDue};
 ghost use Rattle.rg_top.specs.Run.{IsTheOne, AreOne};
@@ -19,8 +26,13 @@ ghost use Rattle.rg_top.specs.declared.status.Status.{Status};
 
 use rg_commands::words_say_one_thing;
 use rg_families::one_of_each;
+use rg_isomorphism::one_comparison;
 use rg_net_verdict::verdict_is_one;
 use rg_outcome::outcome_is_one;
+use rg_product::factoring_is_one;
+use rg_report::one_examination;
+use rg_split::{splitting_is_one, splitting_says};
+use rg_theory::one_least_fork;
 use rg_verify::one_verdict;
 
 /// What `synthesize` writes with status 1 is accepted by `verify` for the same system, wherever it stands in a file.
@@ -61,6 +73,45 @@ pub fn convert_ends_once()
     ensures due { (lts : System) (target : Target) (s due : Status) (out err : List ℕ) → ConvertEnds lts target s out err → ConvertIsDue lts target due → IsTheOne due s }
 {}
 
+/// `factor` ends in one way for a system and a class or none, with the status that is due.
+pub fn factor_ends_once()
+    ensures once { (lts : System) (class : Option Class) (s s' : Status) (out err out' err' : List ℕ) → IsInRange lts → FactorEnds lts class s out err → FactorEnds lts class s' out' err' → AreOne s s' out out' err err' }
+    ensures due { (lts : System) (class : Option Class) (s due : Status) (out err : List ℕ) → IsInRange lts → FactorEnds lts class s out err → FactorIsDue lts class due → IsTheOne due s }
+{
+    one_least_fork();
+    factoring_is_one();
+    outcome_is_one();
+}
+
+/// `split` ends in one way for a system and what is to be written, with the status that is due.
+pub fn split_ends_once()
+    ensures once { (lts : System) (output : SplitOutput) (s s' : Status) (out err out' err' : List ℕ) → SplitEnds lts output s out err → SplitEnds lts output s' out' err' → AreOne s s' out out' err err' }
+    ensures due { (lts : System) (output : SplitOutput) (s due : Status) (out err : List ℕ) → SplitEnds lts output s out err → SplitIsDue lts due → IsTheOne due s }
+{
+    splitting_is_one();
+    splitting_says();
+}
+
+/// `isomorphic` ends in one way for a system, a form and the files that are told, with the status that is due.
+pub fn isomorphic_ends_once()
+    ensures once { (files : Files) (named : List ℕ) (form : Form) (lts : System) (s s' : Status) (out err out' err' : List ℕ) → IsWellFormed lts → IsomorphicEnds (Some files) named form lts s out err → IsomorphicEnds (Some files) named form lts s' out' err' → AreOne s s' out out' err err' }
+    ensures due { (files : Files) (named : List ℕ) (form : Form) (lts : System) (s due : Status) (out err : List ℕ) → IsomorphicEnds (Some files) named form lts s out err → IsomorphicIsDue (Some files) named form lts due → IsTheOne due s }
+{
+    rg_apt::one_answer();
+    rg_genet::one_answer();
+    rg_words::one_answer();
+    one_least_fork();
+    one_comparison();
+}
+
+/// `examine` ends in one way for a system and a form of the report, with the status that is due.
+pub fn examine_ends_once()
+    ensures once { (output : ExamineOutput) (lts : System) (s s' : Status) (out err out' err' : List ℕ) → ExamineEnds output lts s out err → ExamineEnds output lts s' out' err' → AreOne s s' out out' err err' }
+    ensures due { (output : ExamineOutput) (lts : System) (s due : Status) (out err : List ℕ) → ExamineEnds output lts s out err → ExamineIsDue due → IsTheOne due s }
+{
+    one_examination();
+}
+
 /// `generate` ends in one way for a family and a number, with the status that is due.
 pub fn generate_ends_once()
     ensures once { (kind : Kind) (n : ℕ) (s s' : Status) (out err out' err' : List ℕ) → GenerateEnds kind n s out err → GenerateEnds kind n s' out' err' → AreOne s s' out out' err err' }
@@ -95,4 +146,10 @@ pub fn answers_are_one()
     rg_words::one_answer();
     rg_cert::one_answer();
     rg_netfile::one_answer();
+    one_least_fork();
+    factoring_is_one();
+    splitting_is_one();
+    splitting_says();
+    one_comparison();
+    one_examination();
 }

@@ -1,7 +1,7 @@
 //! The top call.
 ghost use Rattle.std.specs.Prelude.{map, string_bytes};
 ghost use Rattle.rg_ports.specs.Offer.{Offers};
-ghost use Rattle.rg_order_of_work.specs.Shown.{Shown};
+ghost use Rattle.rg_top.specs.Terms.{Term};
 ghost use Rattle.rg_top.specs.Run.{Ends, AsksAtMost, ReadsAtMost, ComesIfDue, ComesIfPassed};
 ghost use Rattle.rg_top.specs.declared.status.Status.{Status};
 
@@ -14,12 +14,16 @@ use std::thread::Threads;
 
 /// Runs the command that the words name. `synthesize CLASS FILE` writes to `out` the text of a net of the class that solves the system of
 /// the file, or of a certificate that there is none; `verify FILE CERT` whether the certificate is accepted for the system; `check CLASS
-/// FILE NET` whether the net solves the system and is of the class; `convert FORM FILE` the system in another form; `generate KIND N` the
-/// system of a family for a number; `selftest N` what comes of three such systems: a net with what `check` says of it, or a certificate
-/// with what `verify` says. A refusal of words or files, and a number out of range, is a line to `err`. What is due is whole before the
-/// first write, and each write offers all that isn't taken yet. A file isn't read on once its end was found, and the second one is asked
-/// for only where the first spells a system. The problems of a system are solved by as many jobs as the words say, those of a self test
-/// by one, and the gate is entered and left for each number of a block of them.
+/// FILE NET` whether the net solves the system and is of the class; `factor FILE` the factors of which the system is the product, or with a
+/// class the net of them all side by side; `split FILE` a net for the system with occurrences of labels told apart, or that system;
+/// `isomorphic FILE FILE2` whether two systems are isomorphic, with the map or the first difference; `examine FILE` what the system is
+/// like; `convert FORM FILE` the system in another form; `generate KIND N` the system of a family for a number; `selftest N` what comes of
+/// three such systems: a net with what `check` says of it, or a certificate with what `verify` says.
+///
+/// A refusal of words or files, and a number out of range, is a line to `err`. What is due is whole before the first write, and each
+/// write offers all that isn't taken yet. A file isn't read on once its end was found, and the second one is asked for only where the first
+/// spells a system. The problems of a system are solved by as many jobs as the words say, those of a self test by one, and the gate is
+/// entered and left for each number of a block of them.
 ///
 /// The status says how it ended: each has its cause in `Ends`, and a status that is due comes by `ComesIfDue`. Of `synthesize` the one
 /// answer for the system and the class is due (`Out`, in `rg_outcome`): a net, a reason, or by `ComesIfPassed` a number out of range.
@@ -49,7 +53,7 @@ pub fn run<R: Threads + Sync, H: Shelf, O: Sink, E: Sink, G: Gate + Sync>(
       };
     }) result }
     ensures exactly { (due : Status) → ComesIfDue (map string_bytes words.now) (H.files shelf.old) due result }
-    ensures passed { (w : Shown) → ComesIfPassed (map string_bytes words.now) (H.files shelf.old) w result }
+    ensures passed { (w : Term) → ComesIfPassed (map string_bytes words.now) (H.files shelf.old) w result }
     ensures asked { AsksAtMost (map string_bytes words.now) (H.files shelf.old) (H.asked shelf.old) (H.asked shelf.new) }
     ensures reads { ReadsAtMost H.finds H.hands (map string_bytes words.now) (H.files shelf.old) shelf.old shelf.new }
 {

@@ -3,10 +3,10 @@ ghost use Rattle.std.specs.Prelude.{◌≡◌};
 ghost use Rattle.rg_top.specs.Numbers.{status_number};
 
 use rg_commands::Usage;
-use rg_lines::{FileFault, WideCause};
+use rg_messages::{FileFault, WideCause};
 
 /// How a run ends.
-#[derive(Debug, PartialEq, Eq, Drop)]
+#[derive(Drop)]
 pub enum Status {
     /// The command's yes: its text stands in out, a net, a system, that a certificate is accepted, that a net is right, or the
     /// lines of a self test.

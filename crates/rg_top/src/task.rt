@@ -3,7 +3,7 @@ ghost use Rattle.std.specs.Prelude.{◌≡◌};
 ghost use Rattle.rg_commands.specs.Requests.{asked_by};
 ghost use Rattle.rg_top.specs.Requests.{asked_of, HasJobs, HasTaskJobs};
 
-use rg_commands::{Form, Request, Target};
+use rg_commands::{ExamineOutput, Form, Request, SplitOutput, Target};
 use rg_families::Kind;
 use rg_theory::Class;
 
@@ -18,6 +18,14 @@ pub(crate) enum Work<'a> {
     Verdict(Class, &'a str),
     // The system in the form.
     Conversion(Target),
+    // The factors, or nets of the class for them side by side, by so many jobs.
+    Factoring(Option<Class>, u8),
+    // The net of the system with its labels told apart, or that system, by so many jobs.
+    Splitting(SplitOutput, u8),
+    // Whether the system of the file, in its form, is isomorphic to it.
+    Comparison(&'a str, Form),
+    // The report on it, as lines or as JSON.
+    Examination(ExamineOutput),
 }
 
 // Work on the system of the file in the form, or what needs no file.
@@ -49,7 +57,25 @@ pub(crate) fn task_of<'a>(request: Request<'a>) -> Task<'a>
         Request::Convert(words) => {
             Task::OfSystem(Work::Conversion(words.target), words.file, words.form)
         }
+        Request::Factor(words) => Task::OfSystem(
+            Work::Factoring(words.class, words.jobs),
+            words.file,
+            words.form,
+        ),
+        Request::Split(words) => Task::OfSystem(
+            Work::Splitting(words.output, words.jobs),
+            words.file,
+            words.form,
+        ),
         Request::Generate(words) => Task::Generation(words.kind, words.number),
         Request::SelfTest(words) => Task::SelfTest(words.number),
+        Request::Isomorphic(words) => Task::OfSystem(
+            Work::Comparison(words.second, words.second_form),
+            words.file,
+            words.form,
+        ),
+        Request::Examine(words) => {
+            Task::OfSystem(Work::Examination(words.output), words.file, words.form)
+        }
     }
 }

@@ -1,9 +1,10 @@
 -- A binary search finds each arc of a list of arcs in order, and no other.
-use Rattle.std.proofs.Common.{◌≡◌, ◌↔◌, ◌⊎◌, ℕ, ◌<◌, ◌≤◌, Bool, List, length, slice_index_or, Option, Some, None, is_some, IfSome, IfNone, Result, Ok, Err, is_ok, Contains, AllPairs, IsTrue, true≢false, inl, inr, refl, sym, subst, ap, ◌∙◌, arith, Ordering, Less, Equal, Greater}
+use Rattle.std.proofs.Common.{◌≡◌, ◌↔◌, ◌⊎◌, ℕ, ◌<◌, ◌≤◌, Bool, List, length, slice_index_or, slice_get, Option, Some, None, is_some, IfSome, IfNone, Result, Ok, Err, is_ok, Contains, AllPairs, IsTrue, true≢false, inl, inr, refl, sym, subst, ap, ◌∙◌, arith, Ordering, Less, Equal, Greater}
 use Rattle.std.specs.Ordering.{nat_cmp, ordering_then, ordering_index}
 use Rattle.std.specs.List.Sorted.{IsBinarySearchResult, IsSearchInRange, IsNonDecreasingBy}
 use Rattle.std.proofs.lemmas.Bool.{cases_order}
 use Rattle.std.proofs.lemmas.Bool.Decides.{nat_tests}
+use Rattle.std.proofs.lemmas.Option.{slice_get-get_or}
 use Rattle.rg_theory.specs.declared.Arc.{Arc}
 use Rattle.rg_theory.specs.System.{System, IsArcBefore, HasArc}
 use Rattle.rg_refuting.specs.Row.{HasArcAt}
@@ -100,21 +101,24 @@ equal_is y x e = by (in_order y x)
     by (inr (inr l)) = let f = after_greater y x l in absurd cc
 
 -- what a binary search among arcs in order tells
+pub found_at : (arcs : List Arc) (x : Arc) (i : ℕ) → i < length arcs → IsBinarySearchResult (λ y. arc_cmp y x) arcs (Ok i) → slice_get arcs i ≡ Some x
+found_at arcs x i within told = slice_get-get_or arcs i x within ∙ ap (λ a. Some a) (equal_is (slice_index_or arcs i x) x (told x))
+
+pub not_there : (arcs : List Arc) (x : Arc) (i : ℕ) → AllPairs IsArcBefore arcs → IsBinarySearchResult (λ y. arc_cmp y x) arcs (Err i) → Contains arcs x → ⊥
+not_there arcs x i order told (k, lt, at) = by (cases_order k i)
+  where
+    here : arc_cmp (slice_index_or arcs k x) x ≡ Equal
+    here = ap (λ y. arc_cmp y x) at ∙ same_equal x
+
+    by : (k ≡ i) ⊎ ((k < i) ⊎ (i < k)) → ⊥
+    by (inl e) = let g = here in let f = (told (all_rise arcs x order)).1 k x (omega arith) lt in absurd cc
+    by (inr (inl l)) = let g = here in let f = (told (all_rise arcs x order)).0 k x (omega arith) l in absurd cc
+    by (inr (inr l)) = let g = here in let f = (told (all_rise arcs x order)).1 k x (omega arith) lt in absurd cc
+
 pub found_iff : (arcs : List Arc) (x : Arc) (r : Result ℕ ℕ) (b : Bool) → AllPairs IsArcBefore arcs → IsSearchInRange r (length arcs) → IsBinarySearchResult (λ y. arc_cmp y x) arcs r → b ≡ is_ok r
     → IsTrue b ↔ Contains arcs x
 found_iff arcs x (Ok i) b order within told is = ((λ t. (i, within, equal_is (slice_index_or arcs i x) x (told x))), (λ has. is))
-found_iff arcs x (Err i) b order within told is = ((λ t. absurd (true≢false (sym t ∙ is))), (λ (k, lt, at). absurd (none k lt at)))
-  where
-    none : (k : ℕ) → k < length arcs → slice_index_or arcs k x ≡ x → ⊥
-    none k lt at = by (cases_order k i)
-      where
-        here : arc_cmp (slice_index_or arcs k x) x ≡ Equal
-        here = ap (λ y. arc_cmp y x) at ∙ same_equal x
-
-        by : (k ≡ i) ⊎ ((k < i) ⊎ (i < k)) → ⊥
-        by (inl e) = let g = here in let f = (told (all_rise arcs x order)).1 k x (omega arith) lt in absurd cc
-        by (inr (inl l)) = let g = here in let f = (told (all_rise arcs x order)).0 k x (omega arith) l in absurd cc
-        by (inr (inr l)) = let g = here in let f = (told (all_rise arcs x order)).1 k x (omega arith) lt in absurd cc
+found_iff arcs x (Err i) b order within told is = ((λ t. absurd (true≢false (sym t ∙ is))), (λ has. absurd (not_there arcs x i order told has)))
 
 -- a first target is there exactly where some arc begins
 pub at_iff : (lts : System) (q t : ℕ) (o : Option ℕ) (b : Bool) → IfSome o (λ to. HasArc lts q t to) → IfNone o ((to : ℕ) → HasArc lts q t to → ⊥) → b ≡ is_some o → IsTrue b ↔ HasArcAt lts q t

@@ -115,7 +115,9 @@ module _ (a b c : Option Term) where
   first_rest : (x y z : ℤ) → y +ℤ z ≡ pos 0 → x ≡ x +ℤ (y +ℤ z)
   first_rest x y z e = omega (arith, ints)
 
-  alone : (o : Option Term) (new : List (Option Term)) → ((P : linear.Term → Type 0) → All P (terms_in (a ∷ b ∷ c ∷ [])) → All P (terms_in new)) → ((v : linear.Variable) → coefficient_in (terms_in new) v ≡ here o v) → ((v : linear.Variable) → size_in (terms_in new) v ≡ nat_abs (here o v)) → ((v : linear.Variable) → here o v ≡ here a v +ℤ (here b v +ℤ here c v)) → IsReducedSum (terms_in (a ∷ b ∷ c ∷ [])) (terms_in new)
+  alone : (o : Option Term) (new : List (Option Term)) → ((P : linear.Term → Type 0) → All P (terms_in (a ∷ b ∷ c ∷ [])) → All P (terms_in new))
+      → ((v : linear.Variable) → coefficient_in (terms_in new) v ≡ here o v) → ((v : linear.Variable) → size_in (terms_in new) v ≡ nat_abs (here o v))
+      → ((v : linear.Variable) → here o v ≡ here a v +ℤ (here b v +ℤ here c v)) → IsReducedSum (terms_in (a ∷ b ∷ c ∷ [])) (terms_in new)
   alone o new within same size rest = record {
     within = λ states labels. within (IsTermWithin states labels);
     coefficients = λ v. same v ∙ rest v ∙ sym (coefficient_three a b c v);

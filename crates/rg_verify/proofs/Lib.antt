@@ -1,4 +1,4 @@
-mod Arcs
+pub mod Arcs
 mod Cancelling
 mod Places
 mod Variables

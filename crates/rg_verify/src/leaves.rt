@@ -28,7 +28,9 @@ pub(crate) fn leaf_defect(
     requires rows { All (IsRowOf lts.now) (map named_row rows.now) }
     requires clear { IsClear lts.now sums.old }
     ensures clear { IfOk result (λ _. IsClear lts.now sums.new) }
-    ensures judged { IfOk result (λ o. MatchOption o (LeafRefutes (StandsIn lts.now problem_case above.now) (expression_in lts.now problem_case above.now) (map named_row rows.now)) (IsDefectOf lts.now (StandsIn lts.now problem_case above.now) (expression_in lts.now problem_case above.now) (map named_row rows.now))) }
+    ensures judged { IfOk result (λ o. MatchOption o
+        (LeafRefutes (StandsIn lts.now problem_case above.now) (expression_in lts.now problem_case above.now) (map named_row rows.now))
+        (IsDefectOf lts.now (StandsIn lts.now problem_case above.now) (expression_in lts.now problem_case above.now) (map named_row rows.now))) }
 {
     if let Some(defect) = row_defect(lts, problem_case, above, rows) {
         return Ok(Some(defect));

@@ -49,7 +49,7 @@ module _ (all more : List Use) (n : ℕ) (word : Word) (names : List (List ℕ))
   word_ends s = record {
     before = s.before;
     goes = s.goes;
-    at = record { labels = s.at.labels; tree = s.at.tree; place = empty_first s.before };
+    at = record { labels = s.at.labels; tree = s.at.tree; index = empty_first s.before };
   }
 
 -- at the end the system is the tree

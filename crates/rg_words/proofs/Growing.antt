@@ -79,7 +79,7 @@ stays_at xs more i x at =
     let here : get_or (xs ++ more) i x ≡ x = get_or_append_left xs more x i lt ∙ get_or_from_slice_get xs i x x at in
     slice_get-get_or (xs ++ more) i x (omega (arith, length-append xs more)) ∙ ap Some here
 
--- in a list of different things a thing stands at one place
+-- in a list of different things a thing stands at one index
 pub one_place : {X : Type 0} (xs : List X) (i j : ℕ) (x : X) → AllPairs (λ a b. a ≢ b) xs → slice_get xs i ≡ Some x → slice_get xs j ≡ Some x → i ≡ j
 one_place xs i j x differ here there = by (cases_order i j)
   where
@@ -97,7 +97,7 @@ one_place xs i j x differ here there = by (cases_order i j)
 some_same : {X : Type 0} (a b : X) → Some a ≡ Some b → a ≡ b
 some_same a b e = cc
 
--- where a list with one more has a thing at a place, the list has it there, or the place is the last
+-- where a list with one more has a thing at an index, the list has it there, or the index is the last
 last_or : {X : Type 0} (xs : List X) (y : X) (i : ℕ) (x : X) → slice_get (xs ++ y ∷ []) i ≡ Some x → (slice_get xs i ≡ Some x) ⊎ ((i ≡ length xs) × (y ≡ x))
 last_or xs y i x at = by (cases_order i (length xs))
   where

@@ -75,9 +75,9 @@ module _ (all : List Use) (before : Word) (n : ℕ) (label : List ℕ) (names mo
       → IsAt (all ++ use_of n before label ∷ []) (before ++ label ∷ []) more steps (i + 1) × (use_fault all (use_of n before label) ≡ None)
   old_label i e room =
       let u = use_of n before label in
-      let r = old_step all steps h.tree u state t h.place named_there i e in
-      let same : length (prefixes (all ++ u ∷ [])) ≡ length (prefixes all) = ap length (old_same all steps h.tree u state t h.place named_there i e) in (
-        record { labels = labels_are; tree = r.0; place = r.1 },
+      let r = old_step all steps h.tree u state t h.index named_there i e in
+      let same : length (prefixes (all ++ u ∷ [])) ≡ length (prefixes all) = ap length (old_same all steps h.tree u state t h.index named_there i e) in (
+        record { labels = labels_are; tree = r.0; index = r.1 },
         no_fault n label (all ++ u ∷ []) short whole few_there (omega (arith, same, h.tree.size, room)),
       )
 
@@ -85,7 +85,7 @@ module _ (all : List Use) (before : Word) (n : ℕ) (label : List ℕ) (names mo
   new_size : (Contains steps (state, t) → ⊥) → length (prefixes (all ++ use_of n before label ∷ [])) ≡ length steps + 2
   new_size none =
       let u = use_of n before label in
-      let e = ap length (new_words all steps h.tree u state t h.place named_there none) in
+      let e = ap length (new_words all steps h.tree u state t h.index named_there none) in
       omega (arith, e, length-append (prefixes all) (prefix u ∷ []), h.tree.size)
 
   pub new_label : (Contains steps (state, t) → ⊥) → length steps + 1 < most_states
@@ -93,8 +93,8 @@ module _ (all : List Use) (before : Word) (n : ℕ) (label : List ℕ) (names mo
       × (use_fault all (use_of n before label) ≡ None)
   new_label none room =
       let u = use_of n before label in
-      let r = new_step all steps h.tree u state t h.place named_there none in (
-        record { labels = labels_are; tree = r.0; place = r.1 },
+      let r = new_step all steps h.tree u state t h.index named_there none in (
+        record { labels = labels_are; tree = r.0; index = r.1 },
         no_fault n label (all ++ u ∷ []) short whole few_there (omega (arith, new_size none, room)),
       )
 
@@ -118,9 +118,9 @@ pub draft_more : (e g : Draft) (steps : List (ℕ × ℕ)) (state t to : ℕ) (l
 draft_more e g steps state t to label h grown named to_is room =
     let longer : to ≡ length (steps ++ (state, t) ∷ []) = to_is ∙ sym (length-append steps ((state, t) ∷ [])) in
     let number : grown.number ≡ t = one_place e.label_names grown.number t label grown.differ.differ grown.named named in
-    let place : 1 + length steps ≡ to = omega (arith, to_is) in
+    let index : 1 + length steps ≡ to = omega (arith, to_is) in
     let arcs : step_arcs (steps ++ (state, t) ∷ []) ≡ step_arcs steps ++ arc state t to ∷ [] =
-    arcs_from-append 1 steps (state, t) ∙ ap (λ m. step_arcs steps ++ arc state t m ∷ []) place in
+    arcs_from-append 1 steps (state, t) ∙ ap (λ m. step_arcs steps ++ arc state t m ∷ []) index in
     let is : arc state grown.number to ≡ arc state t to = ap (λ m. arc state m to) number in
     record {
       states = ap (λ (x : Draft). x.state_names) grown.rest ∙ ap (λ m. state_names (m + 1)) longer;

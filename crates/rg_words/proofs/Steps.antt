@@ -34,12 +34,12 @@ any_at eq same (p ∷ keys) k (suc i, lt, e) = or_right (eq k p) (list_any (eq k
 pub fresh : (eq : ℕ × ℕ → ℕ × ℕ → Bool) → ((p : ℕ × ℕ) → eq p p ≡ true) → (keys grown : List (ℕ × ℕ)) (k : ℕ × ℕ) (i : ℕ) (new : Bool)
     → new ≡ not (list_any (eq k) keys) → grown ≡ insert_key eq keys k → i ≡ position_or_len (eq k) keys → new ≢ false
     → (i ≡ length keys) × (grown ≡ keys ++ k ∷ []) × (Contains keys k → ⊥)
-fresh eq same keys grown k i new added grows place real = by (list_any (eq k) keys) refl
+fresh eq same keys grown k i new added grows index real = by (list_any (eq k) keys) refl
   where
     by : (b : Bool) → list_any (eq k) keys ≡ b → (i ≡ length keys) × (grown ≡ keys ++ k ∷ []) × (Contains keys k → ⊥)
     by true e = absurd (real (added ∙ ap not e))
     by false e = (
-      place ∙ none_at (eq k) keys e,
+      index ∙ none_at (eq k) keys e,
       grows ∙ cond-false (list_any (eq k) keys) keys (keys ++ k ∷ []) e,
       λ has. (let there = any_at eq same keys k has in cc),
     )

@@ -92,7 +92,7 @@ root_at names steps no_names no_steps = record {
     same = λ a. (λ h. h, λ h. h);
     known = λ u has. absurd (omega (arith, has.1));
   });
-  place = refl;
+  index = refl;
 }
 
 -- there is room for an arc

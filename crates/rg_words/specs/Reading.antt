@@ -54,7 +54,7 @@ pub record IsDraftOf (d : Draft) (steps : List (ℕ × ℕ)) : Type 0 where
 pub record IsAt (all : List Use) (word : Word) (names : List (List ℕ)) (steps : List (ℕ × ℕ)) (state : ℕ) : Type 0 where
   pub labels : names ≡ label_names all
   pub tree : AreSteps all steps
-  pub place : slice_get (prefixes all) state ≡ Some word
+  pub index : slice_get (prefixes all) state ≡ Some word
 
 -- a state is added, and an arc that leads to it
 pub record IsGrown (old new : Draft) (state : ℕ) (label : List ℕ) (to : ℕ) : Type 0 where
@@ -74,7 +74,7 @@ pub record GoesTo (all before rest : List Use) : Type 0 where
   pub first : (f : WordFault) → IsFirst (faults_after use_fault before rest) f → IsFirst (faults_after use_fault [] all) f
   pub none : AreNone (faults_after use_fault before rest) → AreNone (faults_after use_fault [] all)
 
--- a place in a text: the uses before it are those of the tree, in which the word that it stands in has the state, and the rest is to come
+-- an index in a text: the uses before it are those of the tree, in which the word that it stands in has the state, and the rest is to come
 pub record Stands (all rest : List Use) (word : Word) (names : List (List ℕ)) (steps : List (ℕ × ℕ)) (state : ℕ) : Type 0 where
   pub before : List Use
   pub goes : GoesTo all before rest

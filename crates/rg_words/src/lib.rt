@@ -8,4 +8,4 @@ mod reading;
 
 pub use fault::WordFault;
 pub use laws::one_answer;
-pub use reading::read_words;
+pub use reading::read_word_list;

@@ -79,10 +79,10 @@ fn take_label(
     check(label, number)?;
     let name = as_name(label);
     let t = label_at(&mut tree.builder, name, number)?;
-    let (place, new) = place_of(&mut tree.steps, state, t)?;
-    let to = place as u32 + 1;
+    let (index, new) = place_of(&mut tree.steps, state, t)?;
+    let to = index as u32 + 1;
     if new {
-        if place + 1 >= MOST_STATES {
+        if index + 1 >= MOST_STATES {
             return Err(WordFault::TooManyStates(number));
         }
         grow(alloc, &mut tree.builder, state, name, to)?;
@@ -200,7 +200,7 @@ fn finish(builder: LtsBuilder) -> Result<Lts, WordFault>
 
 /// The tree of the prefixes of the words of a list of at most 16,777,216 bytes, or the text's first fault. By `one_answer` no
 /// other answer meets these clauses.
-pub fn read_words(alloc: Global, bytes: &[u8]) -> Result<Lts, WordFault>
+pub fn read_word_list(alloc: Global, bytes: &[u8]) -> Result<Lts, WordFault>
     requires { length bytes.now ≤ most_bytes }
     ensures ok { IfOk result (λ lts. Spells bytes.now lts) }
     ensures fault { IfErr result (λ e. e ≢ NoMemory → FirstFault bytes.now e) }

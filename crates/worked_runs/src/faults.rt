@@ -3,6 +3,7 @@ use crate::case::{Case, Fails};
 use crate::ending::{Due, difference_from};
 use crate::outside::Outside;
 use crate::stop::Stop;
+use rg_ports::NoGate;
 use std::alloc::Global;
 use std::thread::Threads;
 
@@ -29,7 +30,7 @@ pub fn each_read<R: Threads + Sync>(
     let mut fails = Fails::none(alloc);
     fails.shelf.push(calls.saturating_add(1))?;
     let mut outside = Outside::new(alloc, case, &fails, case.room)?;
-    let status = outside.end(rt, alloc, words);
+    let status = outside.end(rt, alloc, words, &NoGate);
     match difference_from(alloc, status, &outside, Due::of(case))? {
         Some(found) => Ok(Some(format!(in alloc; "there are more calls of the shelf: {found}")?)),
         None => Ok(None),
@@ -52,12 +53,12 @@ fn read_fails<R: Threads + Sync>(
         out: &[],
         err: &[],
     };
-    let status = outside.end(rt, alloc, words);
+    let status = outside.end(rt, alloc, words, &NoGate);
     let found = difference_from(alloc, status, &outside, nothing)?;
     if found.is_some() {
         return Ok(found);
     }
-    let status = outside.end(rt, alloc, words);
+    let status = outside.end(rt, alloc, words, &NoGate);
     difference_from(alloc, status, &outside, Due::of(case))
 }
 
@@ -120,7 +121,7 @@ fn write_fails<R: Threads + Sync>(
         out: case.out.get(..k).unwrap_or(&[]),
         err: case.err.get(..k).unwrap_or(&[]),
     };
-    let status = outside.end(rt, alloc, words);
+    let status = outside.end(rt, alloc, words, &NoGate);
     let found = difference_from(alloc, status, &outside, taken)?;
     if found.is_some() || call.is_none() {
         return Ok(found);
@@ -141,7 +142,7 @@ fn again<R: Threads + Sync>(
     out.extend_from_slice(&case.out)?;
     let mut err = Vec::from_slice(alloc, taken.err)?;
     err.extend_from_slice(&case.err)?;
-    let status = outside.end(rt, alloc, words);
+    let status = outside.end(rt, alloc, words, &NoGate);
     let both = Due {
         status: Due::of(case).status,
         out: &out,

@@ -12,6 +12,8 @@ mod outside;
 mod piece;
 mod reading;
 mod stop;
+#[cfg(test)]
+mod tests;
 mod trying;
 
 use crate::reading::Reader;

@@ -4,6 +4,7 @@ use crate::ending::{Due, difference_from};
 use crate::faults::{each_read, each_write};
 use crate::outside::Outside;
 use crate::stop::Stop;
+use rg_ports::NoGate;
 use std::alloc::Global;
 use std::thread::Threads;
 
@@ -36,7 +37,7 @@ fn difference_with<R: Threads + Sync>(
     words: &[String],
 ) -> Result<Option<String>, Stop> {
     let mut outside = Outside::new(alloc, case, &case.fails, case.room)?;
-    let status = outside.end(rt, alloc, words);
+    let status = outside.end(rt, alloc, words, &NoGate);
     let found = difference_from(alloc, status, &outside, Due::of(case))?;
     if found.is_some() {
         return Ok(found);

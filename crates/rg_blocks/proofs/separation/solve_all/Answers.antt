@@ -49,4 +49,5 @@ loop-block-preserved g c =
       end.1,
       block_sound lts comes now after c.loop-block.last _ c.in_ok-block.block.items c.requires.reachable c.requires.separating c.loop-block.invariant.2 c.in_ok-block.ensures.block end.0 taken_all,
       c.in_ok-refuted.ensures.kept,
+      c.in_ok-refuted.ensures.proves,
     )

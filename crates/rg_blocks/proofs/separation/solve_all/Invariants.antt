@@ -11,6 +11,7 @@ invariant-loop-block g l =
     × IfSome l.last (IsProblem l.lts)
     × IsSound l.lts (g.S.Solving.comes l.solving) l.last (g.K.Keeping.places l.kept)
     × g.K.Keeping.keeps_for l.kept l.lts
+    × IfSome l.proof (λ p. g.S.Solving.proves l.solving p.0 p.1)
 
 abbrev pub decreases-loop-block : goal.decreases-loop-block
 decreases-loop-block g l = top_rank l.lts - rank l.lts l.last

@@ -3,7 +3,7 @@ use Rattle.std.specs.Prelude.{slice_index_or}
 use Rattle.std.proofs.lemmas.List.{length-map}
 use Rattle.rg_integers.specs.Range.{InRange}
 use Rattle.rg_integers.proofs.Casts.{back}
-use Rattle.rg_linear.specs.declared.system.Row.{Row}
+use Rattle.rg_linear.specs.declared.row.Row.{Row}
 use Rattle.rg_linear.specs.View.{linear_row}
 use Rattle.rg_linear.proofs.KeptRows.{constant_in_range}
 use Rattle.rg_branch.proofs.point.constant_at.Goals as goal

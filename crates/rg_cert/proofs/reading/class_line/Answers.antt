@@ -16,5 +16,9 @@ returns-in-None-clause-err c = (refl, no_line (at_class (version_in c.args.versi
 pub returns-then-not-has-clause-err : goal.returns-then-not-has-clause-err
 returns-then-not-has-clause-err c =
     let first = c.in-Some.ensures.some in
-    let named = c.in-Some-class_in.ensures.some in
-    (refl, class_breaks (version_in c.args.version) c.args.text.now c.in-Some.line.now c.in-Some.rest.now first.0 first.1 (class_passes (version_in c.args.version) c.in-Some.line.now named.0 c.in-Some-class_in.class named.1 named.2 (λ fits. (let e = c.has.ensures.1 fits in let f = c.if-not-has.true in cc))))
+    let named = c.in-Some-class_in.ensures.some in (
+      refl,
+      class_breaks (version_in c.args.version) c.args.text.now c.in-Some.line.now c.in-Some.rest.now first.0 first.1
+          (class_passes (version_in c.args.version) c.in-Some.line.now named.0 c.in-Some-class_in.class named.1 named.2
+          (λ fits. (let e = c.has.ensures.1 fits in let f = c.if-not-has.true in cc))),
+    )

@@ -1,5 +1,4 @@
-use Rattle.rg_commands.proofs.OneThing.{one_said}
-use Rattle.rg_commands.proofs.SomeThing.{some_said}
+use Rattle.rg_commands.proofs.Telling.{one_said, some_said}
 use Rattle.rg_commands.proofs.laws.words_say_one_thing.Goals as goal
 
 pub returns : goal.returns

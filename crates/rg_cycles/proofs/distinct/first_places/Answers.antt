@@ -18,8 +18,13 @@ pub loop-i-preserved : goal.loop-i-preserved
 loop-i-preserved c =
     let is = vector_is c.args.vectors.now c.loop-i.i c.index-vectors-i.result c.loop-i-test.true c.index-vectors-i.is ∙ sym c.as_slice.ensures.value in
     elim c.if-is_new.branch [
-      | then-is_new+in_ok-push w ↦ rw (w.kept-is, w.in_ok-push.ensures.items) (asked-new (numbers_in c.args.vectors.now) c.loop-i.i c.loop-i.kept.items _ _ c.as_slice.result c.loop-i.invariant (below_in c.args.vectors.now c.loop-i.i c.loop-i-test.true) is c.in_ok-is_new.is_new c.in_ok-is_new.ensures.added c.is_zero.result c.deref.result.now c.if-is_zero.false c.is_zero.ensures.1 (c.deref.ensures.value ∙ sym c.as_slice.ensures.value) w.if-is_new.true c.in_ok-is_new.ensures.updates.0)
-      | else-is_new w ↦ rw w.kept-is (asked-old (numbers_in c.args.vectors.now) c.loop-i.i c.loop-i.kept.items _ _ c.as_slice.result c.loop-i.invariant (below_in c.args.vectors.now c.loop-i.i c.loop-i-test.true) is c.in_ok-is_new.is_new c.in_ok-is_new.ensures.added w.if-is_new.false c.in_ok-is_new.ensures.unchanged)
+      | then-is_new+in_ok-push w ↦ rw (w.kept-is, w.in_ok-push.ensures.items)
+          (asked-new (numbers_in c.args.vectors.now) c.loop-i.i c.loop-i.kept.items _ _ c.as_slice.result c.loop-i.invariant
+          (below_in c.args.vectors.now c.loop-i.i c.loop-i-test.true) is c.in_ok-is_new.is_new c.in_ok-is_new.ensures.added c.is_zero.result c.deref.result.now
+          c.if-is_zero.false c.is_zero.ensures.1 (c.deref.ensures.value ∙ sym c.as_slice.ensures.value) w.if-is_new.true c.in_ok-is_new.ensures.updates.0)
+      | else-is_new w ↦ rw w.kept-is (asked-old (numbers_in c.args.vectors.now) c.loop-i.i c.loop-i.kept.items _ _ c.as_slice.result c.loop-i.invariant
+          (below_in c.args.vectors.now c.loop-i.i c.loop-i-test.true) is c.in_ok-is_new.is_new c.in_ok-is_new.ensures.added w.if-is_new.false
+          c.in_ok-is_new.ensures.unchanged)
     ]
 
 pub returns : goal.returns

@@ -10,13 +10,16 @@ use Rattle.rg_dictionary.proofs.RowTerms.{shown_number}
 use Rattle.rg_cycles.proofs.reading.free_numbers.Goals as goal
 use Rattle.rg_cycles.proofs.reading.free_numbers.Goals.{then-member-labels+in_ok-push, else-member-labels}
 
-pub loop-place-preserved : goal.loop-place-preserved
-loop-place-preserved c = λ k e.
-    let f = fits (number_at c.args.numbers.now (c.loop-place.place + 2)) (c.requires.in_range (c.loop-place.place + 2)) in
+pub loop-index-preserved : goal.loop-index-preserved
+loop-index-preserved c = λ k e.
+    let f = fits (number_at c.args.numbers.now (c.loop-index.index + 2)) (c.requires.in_range (c.loop-index.index + 2)) in
     elim c.if-member-labels.branch [
-      | then-member-labels+in_ok-push w ↦ rw (w.free-is, w.in_ok-push.ensures.items) (taken_more k.coefficient (λ m. nat_lt m c.args.labels) c.args.members.now c.loop-place.place c.loop-place.free.items c.loop-place-test.true (c.loop-place.invariant k e) (below_test _ _ w.if-member-labels.true) _ (to_z-of_z w128 _ f ∙ shown_number c.args.members.now k c.args.numbers.now c.loop-place.place e c.loop-place-test.true))
-      | else-member-labels w ↦ rw w.free-is (left_more k.coefficient (λ m. nat_lt m c.args.labels) c.args.members.now c.loop-place.place c.loop-place.free.items c.loop-place-test.true (c.loop-place.invariant k e) (past_test _ _ w.if-member-labels.false))
+      | then-member-labels+in_ok-push w ↦ rw (w.free-is, w.in_ok-push.ensures.items)
+          (taken_more k.coefficient (λ m. nat_lt m c.args.labels) c.args.members.now c.loop-index.index c.loop-index.free.items c.loop-index-test.true
+          (c.loop-index.invariant k e) (below_test _ _ w.if-member-labels.true) _
+          (to_z-of_z w128 _ f ∙ shown_number c.args.members.now k c.args.numbers.now c.loop-index.index e c.loop-index-test.true))
+      | else-member-labels w ↦ rw w.free-is (left_more k.coefficient (λ m. nat_lt m c.args.labels) c.args.members.now c.loop-index.index c.loop-index.free.items c.loop-index-test.true (c.loop-index.invariant k e) (past_test _ _ w.if-member-labels.false))
     ]
 
 pub returns : goal.returns
-returns c = λ k e. c.loop-place.invariant k e ∙ ap (λ l. map k.coefficient (filter (λ m. nat_lt m c.args.labels) l)) (take_all c.loop-place.place c.args.members.now c.loop-place-test.false)
+returns c = λ k e. c.loop-index.invariant k e ∙ ap (λ l. map k.coefficient (filter (λ m. nat_lt m c.args.labels) l)) (take_all c.loop-index.index c.args.members.now c.loop-index-test.false)

@@ -7,27 +7,27 @@ use Rattle.rg_cycles.proofs.Firsts.{vector_is}
 use Rattle.rg_cycles.proofs.Filling.{row_added, vector_length, vector_in_range}
 use Rattle.rg_cycles.proofs.solving.filled.Goals as goal
 
-pub bounds-vectors-place : goal.bounds-vectors-place
-bounds-vectors-place c = c.requires.kept (slice_index c.args.kept.now c.loop-place.place-index) (Contains-get_or c.args.kept.now c.loop-place.place-index 0 c.loop-place-test.true)
+pub bounds-vectors-index : goal.bounds-vectors-index
+bounds-vectors-index c = c.requires.kept (slice_index c.args.kept.now c.loop-index.index-index) (Contains-get_or c.args.kept.now c.loop-index.index-index 0 c.loop-index-test.true)
 
 pub push_row-requires-clause-one_each : goal.push_row-requires-clause-one_each
 push_row-requires-clause-one_each c =
-    let lt = c.requires.kept (slice_index c.args.kept.now c.loop-place.place-index) (Contains-get_or c.args.kept.now c.loop-place.place-index 0 c.loop-place-test.true) in
-    rw (c.deref.ensures.value, c.loop-place.invariant.columns) (vector_length c.args.labels c.args.vectors.now c.requires.vectors (slice_index c.args.kept.now c.loop-place.place-index) lt c.index-vectors-place.result c.index-vectors-place.is)
+    let lt = c.requires.kept (slice_index c.args.kept.now c.loop-index.index-index) (Contains-get_or c.args.kept.now c.loop-index.index-index 0 c.loop-index-test.true) in
+    rw (c.deref.ensures.value, c.loop-index.invariant.columns) (vector_length c.args.labels c.args.vectors.now c.requires.vectors (slice_index c.args.kept.now c.loop-index.index-index) lt c.index-vectors-index.result c.index-vectors-index.is)
 
 pub push_row-requires-clause-coeffs_in_range : goal.push_row-requires-clause-coeffs_in_range
 push_row-requires-clause-coeffs_in_range c =
-    let lt = c.requires.kept (slice_index c.args.kept.now c.loop-place.place-index) (Contains-get_or c.args.kept.now c.loop-place.place-index 0 c.loop-place-test.true) in
-    rw c.deref.ensures.value (vector_in_range c.args.labels c.args.vectors.now c.requires.vectors (slice_index c.args.kept.now c.loop-place.place-index) lt c.index-vectors-place.result c.index-vectors-place.is)
+    let lt = c.requires.kept (slice_index c.args.kept.now c.loop-index.index-index) (Contains-get_or c.args.kept.now c.loop-index.index-index 0 c.loop-index-test.true) in
+    rw c.deref.ensures.value (vector_in_range c.args.labels c.args.vectors.now c.requires.vectors (slice_index c.args.kept.now c.loop-index.index-index) lt c.index-vectors-index.result c.index-vectors-index.is)
 
-pub loop-place-preserved : goal.loop-place-preserved
-loop-place-preserved c =
-    let lt = c.requires.kept (slice_index c.args.kept.now c.loop-place.place-index) (Contains-get_or c.args.kept.now c.loop-place.place-index 0 c.loop-place-test.true) in
-    let is = vector_is c.args.vectors.now (slice_index c.args.kept.now c.loop-place.place-index) c.index-vectors-place.result lt c.index-vectors-place.is ∙ sym c.deref.ensures.value in
+pub loop-index-preserved : goal.loop-index-preserved
+loop-index-preserved c =
+    let lt = c.requires.kept (slice_index c.args.kept.now c.loop-index.index-index) (Contains-get_or c.args.kept.now c.loop-index.index-index 0 c.loop-index-test.true) in
+    let is = vector_is c.args.vectors.now (slice_index c.args.kept.now c.loop-index.index-index) c.index-vectors-index.result lt c.index-vectors-index.is ∙ sym c.deref.ensures.value in
     let room = c.push_row.ensures.room in
     record {
-      whole = subst (λ system. IsDictionary system c.push_row.new.self) (row_added c.args.labels (numbers_in c.args.vectors.now) c.args.kept.now c.loop-place.place-index c.loop-place-test.true c.deref.result.now is) (c.push_row.ensures.system _ c.loop-place.invariant.whole);
-      start = c.push_row.ensures.members ∙ c.loop-place.invariant.start;
-      columns = c.push_row.ensures.columns ∙ c.loop-place.invariant.columns;
-      room = (let r = c.loop-place.invariant.room in omega arith);
+      whole = subst (λ system. IsDictionary system c.push_row.new.self) (row_added c.args.labels (numbers_in c.args.vectors.now) c.args.kept.now c.loop-index.index-index c.loop-index-test.true c.deref.result.now is) (c.push_row.ensures.system _ c.loop-index.invariant.whole);
+      start = c.push_row.ensures.members ∙ c.loop-index.invariant.start;
+      columns = c.push_row.ensures.columns ∙ c.loop-index.invariant.columns;
+      room = (let r = c.loop-index.invariant.room in omega arith);
     }

@@ -5,10 +5,10 @@ use Rattle.rg_dictionary.specs.Contents.{IsDictionary}
 use Rattle.rg_cycles.specs.Vectors.{numbers_in}
 use Rattle.rg_cycles.proofs.solving.filled.Given as goal
 
-abbrev pub invariant-loop-place : goal.invariant-loop-place
-invariant-loop-place l = record {
-  whole : IsDictionary (vector_system l.labels (numbers_in l.vectors) (take l.place-index l.kept)) l.dictionary;
+abbrev pub invariant-loop-index : goal.invariant-loop-index
+invariant-loop-index l = record {
+  whole : IsDictionary (vector_system l.labels (numbers_in l.vectors) (take l.index-index l.kept)) l.dictionary;
   start : l.dictionary.members ≡ numbers_from 0 l.labels;
   columns : l.dictionary.columns ≡ l.labels;
-  room : l.dictionary.room + l.place-index ≡ length l.kept;
+  room : l.dictionary.room + l.index-index ≡ length l.kept;
 }

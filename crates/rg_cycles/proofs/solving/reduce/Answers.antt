@@ -23,7 +23,7 @@ filled-requires-clause-few c =
     rw c.deref.ensures.value (omega arith)
 
 pub filled-requires-clause-kept : goal.filled-requires-clause-kept
-filled-requires-clause-kept c = rw c.deref.ensures.value (λ place has. (let h = kept_below (numbers_in c.args.chords.now) c.in_ok-kept.kept.items c.in_ok-kept.ensures place has in simp length-map at h))
+filled-requires-clause-kept c = rw c.deref.ensures.value (λ index has. (let h = kept_below (numbers_in c.args.chords.now) c.in_ok-kept.kept.items c.in_ok-kept.ensures index has in simp length-map at h))
 
 pub walk-requires-clause-few : goal.walk-requires-clause-few
 walk-requires-clause-few c =

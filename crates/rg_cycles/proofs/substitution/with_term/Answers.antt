@@ -10,15 +10,15 @@ use Rattle.rg_cycles.proofs.substitution.with_term.Goals as goal
 
 pub returns-then-count-eq0 : goal.returns-then-count-eq0
 returns-then-count-eq0 c =
-    count_passed_over (number_at c.args.relation.now.free.items c.args.place) c.args.relation.now.d c.args.count c.args.sum
+    count_passed_over (number_at c.args.relation.now.free.items c.args.index) c.args.relation.now.d c.args.count c.args.sum
     c.requires.count_in_range c.if-count-eq0.true (positive_differs _ c.requires.relation_in_range.positive)
-    (c.requires.relation_in_range.free c.args.place) c.requires.relation_in_range.d
+    (c.requires.relation_in_range.free c.args.index) c.requires.relation_in_range.d
 
 pub returns-then-index-eq0 : goal.returns-then-index-eq0
 returns-then-index-eq0 c =
-    let number = c.index.ensures ∙ get_or_default c.args.relation.now.free.items c.args.place c.index.result.now _ c.requires.place in
-    entry_passed_over (number_at c.args.relation.now.free.items c.args.place) c.args.relation.now.d c.args.count c.args.sum
-    (c.requires.relation_in_range.free c.args.place) (rw number at c.if-index-eq0.true) (positive_differs _ c.requires.relation_in_range.positive)
+    let number = c.index.ensures ∙ get_or_default c.args.relation.now.free.items c.args.index c.index.result.now _ c.requires.index in
+    entry_passed_over (number_at c.args.relation.now.free.items c.args.index) c.args.relation.now.d c.args.count c.args.sum
+    (c.requires.relation_in_range.free c.args.index) (rw number at c.if-index-eq0.true) (positive_differs _ c.requires.relation_in_range.positive)
     c.requires.count_in_range
 
 pub returns-in_err-term : goal.returns-in_err-term
@@ -30,6 +30,6 @@ returns-in_err-term c =
 pub returns : goal.returns
 returns c =
     let n = back c.args.count c.requires.count_in_range in
-    term_added (and_then (quotient (number_at c.args.relation.now.free.items c.args.place) c.args.relation.now.d) (mul (whole c.args.count)))
+    term_added (and_then (quotient (number_at c.args.relation.now.free.items c.args.index) c.args.relation.now.d) (mul (whole c.args.count)))
     (ratio_of c.args.sum) (ratio_of c.in_ok-term.term) c.add.result (rw (n, c.in_ok-term.was) at c.term_of.ensures)
     (add_step c.args.sum c.in_ok-term.term c.add.result c.add.ensures)

@@ -23,7 +23,7 @@ returns-in-Ok-clause-goes_on c = λ system o whole rest.
     let least = rw (c.columns-labels.ensures, c.members.ensures) at c.in-Some.ensures.least in
     let exact = rw c.columns-labels.ensures at c.in-Ok.ensures.exact system whole in
     let is = rw c.columns-labels.ensures at c.in-Ok.ensures.members in
-    step_exchanges c.args.dictionary.now c.args.i c.numbers.result.now c.requires.row system whole shows c.in-Some.place names least exact.0 c.exchange.new.self.members is o rest
+    step_exchanges c.args.dictionary.now c.args.i c.numbers.result.now c.requires.row system whole shows c.in-Some.index names least exact.0 c.exchange.new.self.members is o rest
 
 pub returns-in-Err-clause-passes : goal.returns-in-Err-clause-passes
 returns-in-Err-clause-passes c = λ system whole.
@@ -31,4 +31,4 @@ returns-in-Err-clause-passes c = λ system whole.
     let names = rw (c.columns-labels.ensures, c.members.ensures) at c.in-Some.ensures.names in
     let least = rw (c.columns-labels.ensures, c.members.ensures) at c.in-Some.ensures.least in
     let first = rw c.columns-labels.ensures at c.in-Err.ensures.exact system whole in
-    rw c.members-2.ensures (step_passes c.args.dictionary.now c.args.i c.numbers.result.now c.requires.row system whole shows c.in-Some.place names least c.in-Err.at.target c.in-Err.at.entry c.in-Err.at.wide first)
+    rw c.members-2.ensures (step_passes c.args.dictionary.now c.args.i c.numbers.result.now c.requires.row system whole shows c.in-Some.index names least c.in-Err.at.target c.in-Err.at.entry c.in-Err.at.wide first)

@@ -3,7 +3,7 @@ use Rattle.std.proofs.lemmas.Result.{MatchResult-weaker}
 use Rattle.rg_integers.specs.Range.{InRange}
 use Rattle.rg_integers.specs.Sum.{number_at}
 use Rattle.rg_integers.proofs.Casts.{back}
-use Rattle.rg_fraction.specs.Terms.{FitsTerm}
+use Rattle.rg_integers.specs.Term.{FitsTerm}
 use Rattle.rg_dictionary.proofs.Writing.{in_range-set}
 use Rattle.rg_dictionary.proofs.Renewing.{place_low, place_high, renewed, wide_last}
 use Rattle.rg_dictionary.proofs.Sparse.{listed_place, still, renewed_more, all_renewed, wide_listed}
@@ -38,7 +38,9 @@ returns-then-n-p-clause-renewed c =
     let y = back (number_at c.args.pivot.now (get_or c.args.places.now c.loop-n.n-index 0)) (c.requires.pivot_in_range (get_or c.args.places.now c.loop-n.n-index 0) ok.1) in
     let v = back (number_at c.args.row.now c.args.p) (c.requires.in_range c.args.p c.requires.place) in
     let h = rw (x, y, v, same) at (c.in-Err.ensures {u = tt}) in
-    wide_listed c.args.pivot.now c.args.row.now c.args.p c.args.places.now c.requires.after_constant c.requires.place c.requires.same_length c.requires.unit c.requires.in_range c.requires.named c.loop-n.row c.loop-n.n-index (get_or c.args.places.now c.loop-n.n-index 0) c.in-Err.wide c.loop-n.invariant.renewed c.loop-n-test.true (place_low c.args.p (get_or c.args.places.now c.loop-n.n-index 0) c.if-n-p.true) h.1 (λ f. h.0 (subst FitsTerm h.1 f))
+    wide_listed c.args.pivot.now c.args.row.now c.args.p c.args.places.now c.requires.after_constant c.requires.place c.requires.same_length c.requires.unit
+    c.requires.in_range c.requires.named c.loop-n.row c.loop-n.n-index (get_or c.args.places.now c.loop-n.n-index 0) c.in-Err.wide c.loop-n.invariant.renewed
+    c.loop-n-test.true (place_low c.args.p (get_or c.args.places.now c.loop-n.n-index 0) c.if-n-p.true) h.1 (λ f. h.0 (subst FitsTerm h.1 f))
 
 pub returns-else-n-p-clause-renewed : goal.returns-else-n-p-clause-renewed
 returns-else-n-p-clause-renewed c =
@@ -49,7 +51,9 @@ returns-else-n-p-clause-renewed c =
     let y = back (number_at c.args.pivot.now (get_or c.args.places.now c.loop-n.n-index 0)) (c.requires.pivot_in_range (get_or c.args.places.now c.loop-n.n-index 0) ok.1) in
     let v = back (number_at c.args.row.now c.args.p) (c.requires.in_range c.args.p c.requires.place) in
     let h = rw (x, y, v, same) at (c.in-Err.ensures {u = tt}) in
-    wide_listed c.args.pivot.now c.args.row.now c.args.p c.args.places.now c.requires.after_constant c.requires.place c.requires.same_length c.requires.unit c.requires.in_range c.requires.named c.loop-n.row c.loop-n.n-index (get_or c.args.places.now c.loop-n.n-index 0 - 1) c.in-Err.wide c.loop-n.invariant.renewed c.loop-n-test.true (place_high c.args.p (get_or c.args.places.now c.loop-n.n-index 0 - 1) (omega arith) ∙ omega arith) h.1 (λ f. h.0 (subst FitsTerm h.1 f))
+    wide_listed c.args.pivot.now c.args.row.now c.args.p c.args.places.now c.requires.after_constant c.requires.place c.requires.same_length c.requires.unit
+    c.requires.in_range c.requires.named c.loop-n.row c.loop-n.n-index (get_or c.args.places.now c.loop-n.n-index 0 - 1) c.in-Err.wide c.loop-n.invariant.renewed
+    c.loop-n-test.true (place_high c.args.p (get_or c.args.places.now c.loop-n.n-index 0 - 1) (omega arith) ∙ omega arith) h.1 (λ f. h.0 (subst FitsTerm h.1 f))
 
 pub loop-n-preserved : goal.loop-n-preserved
 loop-n-preserved c =

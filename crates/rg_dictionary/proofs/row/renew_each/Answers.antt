@@ -5,7 +5,7 @@ use Rattle.std.proofs.lemmas.Int.{to_z-of_z}
 use Rattle.rg_integers.specs.Range.{InRange}
 use Rattle.rg_integers.specs.Sum.{number_at}
 use Rattle.rg_integers.proofs.Casts.{back}
-use Rattle.rg_fraction.specs.Terms.{FitsTerm}
+use Rattle.rg_integers.specs.Term.{FitsTerm}
 use Rattle.rg_dictionary.proofs.Writing.{in_range-set, renews_more}
 use Rattle.rg_dictionary.proofs.row.renew_each.Goals as goal
 

@@ -4,7 +4,7 @@ use Rattle.std.specs.Prelude.{pos}
 use Rattle.rg_integers.specs.Range.{InRange}
 use Rattle.rg_integers.specs.Sum.{number_at}
 use Rattle.rg_integers.proofs.Casts.{back}
-use Rattle.rg_fraction.specs.Terms.{term_value, FitsTerm}
+use Rattle.rg_integers.specs.Term.{term_value, FitsTerm}
 use Rattle.rg_dictionary.proofs.Writing.{in_range-set}
 use Rattle.rg_dictionary.proofs.Renewing.{last_number}
 use Rattle.rg_dictionary.proofs.row.renew_last.Goals as goal

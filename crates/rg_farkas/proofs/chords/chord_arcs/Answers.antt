@@ -18,4 +18,7 @@ bounds-chords-place c =
     rw (c.kept.ensures, c.chords.ensures, c.requires.tree.chords) (kept_place c.args.lts.now c.args.tree.now.arcs (cycle_of c.args.basis.now).kept (slice_index (cycle_of c.args.basis.now).kept i) c.requires.basis.kept (Contains-get_or (cycle_of c.args.basis.now).kept i 0 lt))
 
 pub loop-chord-preserved : goal.loop-chord-preserved
-loop-chord-preserved c = rw c.in_ok-push.ensures.items (mapped_next (used_chord c.args.lts.now c.args.tree.now.arcs (cycle_of c.args.basis.now)) c.args.used.now c.loop-chord.chord-index 0 c.loop-chord.arcs.items (chord_arcs c.args.lts.now c.args.tree.now.arcs (cycle_of c.args.basis.now)) c.loop-chord.invariant c.loop-chord-test.true _ (let k = c.kept.ensures in let a = c.chords.ensures in let t = c.requires.tree.chords in rw (k, a, t) refl))
+loop-chord-preserved c = rw c.in_ok-push.ensures.items
+    (mapped_next (used_chord c.args.lts.now c.args.tree.now.arcs (cycle_of c.args.basis.now)) c.args.used.now c.loop-chord.chord-index 0 c.loop-chord.arcs.items
+    (chord_arcs c.args.lts.now c.args.tree.now.arcs (cycle_of c.args.basis.now)) c.loop-chord.invariant c.loop-chord-test.true _
+    (let k = c.kept.ensures in let a = c.chords.ensures in let t = c.requires.tree.chords in rw (k, a, t) refl))

@@ -27,29 +27,42 @@ pub loop-pair-init : goal.loop-pair-init
 loop-pair-init c = first_made (count_fold (cycle_of c.args.basis.now) (labels c.args.lts.now + c.args.chord)) c.args.counts.now c.in-Some.first.now c.in-Some.rest.now c.in-Some.ensures.cases.0 (ratio_of c.in_ok-sum.sum) c.in_ok-sum.ensures
 
 pub chord_term-requires-in-loop-pair-clause-label : goal.chord_term-requires-in-loop-pair-clause-label
-chord_term-requires-in-loop-pair-clause-label c = (rest_count (IsDependent (labels c.args.lts.now) (cycle_of c.args.basis.now)) c.args.counts.now c.in-Some.first.now c.in-Some.rest.now c.in-Some.ensures.cases.0 c.requires.counts c.loop-pair.pair-index c.pair-item.result c.loop-pair-test.true c.pair-item.is).0
+chord_term-requires-in-loop-pair-clause-label c =
+    (rest_count (IsDependent (labels c.args.lts.now) (cycle_of c.args.basis.now)) c.args.counts.now c.in-Some.first.now c.in-Some.rest.now c.in-Some.ensures.cases.0
+    c.requires.counts c.loop-pair.pair-index c.pair-item.result c.loop-pair-test.true c.pair-item.is).0
 
 pub chord_term-requires-in-loop-pair-clause-dependent : goal.chord_term-requires-in-loop-pair-clause-dependent
-chord_term-requires-in-loop-pair-clause-dependent c = (rest_count (IsDependent (labels c.args.lts.now) (cycle_of c.args.basis.now)) c.args.counts.now c.in-Some.first.now c.in-Some.rest.now c.in-Some.ensures.cases.0 c.requires.counts c.loop-pair.pair-index c.pair-item.result c.loop-pair-test.true c.pair-item.is).1
+chord_term-requires-in-loop-pair-clause-dependent c =
+    (rest_count (IsDependent (labels c.args.lts.now) (cycle_of c.args.basis.now)) c.args.counts.now c.in-Some.first.now c.in-Some.rest.now c.in-Some.ensures.cases.0
+    c.requires.counts c.loop-pair.pair-index c.pair-item.result c.loop-pair-test.true c.pair-item.is).1
 
 pub returns-in_err-term : goal.returns-in_err-term
 returns-in_err-term c =
     let same : c.from_residual-in_err-term.result ≡ Err c.in_err-term.field-0.0 = search rules in
-    rw same (next_fails (count_fold (cycle_of c.args.basis.now) (labels c.args.lts.now + c.args.chord)) c.args.counts.now c.in-Some.rest.now c.loop-pair.pair-index c.pair-item.result c.loop-pair-test.true c.pair-item.is (ratio_of c.loop-pair.sum) c.loop-pair.invariant c.in_err-term.field-0.0 c.in_err-term.ensures)
+    rw same (next_fails (count_fold (cycle_of c.args.basis.now) (labels c.args.lts.now + c.args.chord)) c.args.counts.now c.in-Some.rest.now c.loop-pair.pair-index
+    c.pair-item.result c.loop-pair-test.true c.pair-item.is (ratio_of c.loop-pair.sum) c.loop-pair.invariant c.in_err-term.field-0.0 c.in_err-term.ensures)
 
 pub returns-in_err-sum-2 : goal.returns-in_err-sum-2
 returns-in_err-sum-2 c =
     let same : c.from_residual-in_err-sum-2.result ≡ Err c.in_err-sum-2.field-0.0 = search rules in
-    rw same (next_unjoined (count_fold (cycle_of c.args.basis.now) (labels c.args.lts.now + c.args.chord)) c.args.counts.now c.in-Some.rest.now c.loop-pair.pair-index c.pair-item.result c.loop-pair-test.true c.pair-item.is (ratio_of c.loop-pair.sum) c.loop-pair.invariant (ratio_of c.in_ok-term.term) c.in_err-sum-2.field-0.0 c.in_ok-term.ensures (add_step c.loop-pair.sum c.in_ok-term.term (Err c.in_err-sum-2.field-0.0) c.in_err-sum-2.ensures))
+    rw same (next_unjoined (count_fold (cycle_of c.args.basis.now) (labels c.args.lts.now + c.args.chord)) c.args.counts.now c.in-Some.rest.now c.loop-pair.pair-index
+    c.pair-item.result c.loop-pair-test.true c.pair-item.is (ratio_of c.loop-pair.sum) c.loop-pair.invariant
+    (ratio_of c.in_ok-term.term) c.in_err-sum-2.field-0.0 c.in_ok-term.ensures
+    (add_step c.loop-pair.sum c.in_ok-term.term (Err c.in_err-sum-2.field-0.0) c.in_err-sum-2.ensures))
 
 pub loop-pair-preserved : goal.loop-pair-preserved
 loop-pair-preserved c =
     elim c.if-numerator-ne0.branch [
       | then-numerator-ne0+in_ok-sum-2 w ↦
-          rw w.sum-is (next_made (count_fold (cycle_of c.args.basis.now) (labels c.args.lts.now + c.args.chord)) c.args.counts.now c.in-Some.rest.now c.loop-pair.pair-index c.pair-item.result c.loop-pair-test.true c.pair-item.is (ratio_of c.loop-pair.sum) c.loop-pair.invariant (ratio_of c.in_ok-term.term) (ratio_of w.in_ok-sum-2.sum) c.in_ok-term.ensures (add_step c.loop-pair.sum c.in_ok-term.term (Ok w.in_ok-sum-2.sum) w.in_ok-sum-2.ensures))
+          rw w.sum-is (next_made (count_fold (cycle_of c.args.basis.now) (labels c.args.lts.now + c.args.chord)) c.args.counts.now c.in-Some.rest.now
+          c.loop-pair.pair-index c.pair-item.result c.loop-pair-test.true c.pair-item.is (ratio_of c.loop-pair.sum) c.loop-pair.invariant
+          (ratio_of c.in_ok-term.term) (ratio_of w.in_ok-sum-2.sum) c.in_ok-term.ensures
+          (add_step c.loop-pair.sum c.in_ok-term.term (Ok w.in_ok-sum-2.sum) w.in_ok-sum-2.ensures))
       | else-numerator-ne0 w ↦
           let none = sym c.numerator.ensures.value ∙ zero_of_bits c.numerator.result c.numerator.ensures.in_range w.if-numerator-ne0.false in
-          rw w.sum-is (next_made (count_fold (cycle_of c.args.basis.now) (labels c.args.lts.now + c.args.chord)) c.args.counts.now c.in-Some.rest.now c.loop-pair.pair-index c.pair-item.result c.loop-pair-test.true c.pair-item.is (ratio_of c.loop-pair.sum) c.loop-pair.invariant (ratio_of c.in_ok-term.term) (ratio_of c.loop-pair.sum) c.in_ok-term.ensures (plus_none c.loop-pair.sum c.in_ok-term.term none))
+          rw w.sum-is (next_made (count_fold (cycle_of c.args.basis.now) (labels c.args.lts.now + c.args.chord)) c.args.counts.now c.in-Some.rest.now
+          c.loop-pair.pair-index c.pair-item.result c.loop-pair-test.true c.pair-item.is (ratio_of c.loop-pair.sum) c.loop-pair.invariant
+          (ratio_of c.in_ok-term.term) (ratio_of c.loop-pair.sum) c.in_ok-term.ensures (plus_none c.loop-pair.sum c.in_ok-term.term none))
     ]
 
 pub returns : goal.returns

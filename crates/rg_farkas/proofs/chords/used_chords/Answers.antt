@@ -3,7 +3,7 @@ use Rattle.rg_theory.specs.System.{labels}
 use Rattle.rg_cycles.specs.View.{cycle_of}
 use Rattle.rg_order_of_work.specs.Rewriting.{is_in}
 use Rattle.rg_order_of_work.specs.Spreading.{used_chords}
-use Rattle.rg_cycles.proofs.Folding.{number_taken, number_left}
+use Rattle.rg_order_of_work.proofs.Folding.{number_taken, number_left}
 use Rattle.rg_farkas.proofs.chords.used_chords.Goals as goal
 use Rattle.rg_farkas.proofs.chords.used_chords.Goals.{then-is_member+in_ok-push, else-is_member}
 
@@ -13,6 +13,11 @@ loop-chord-preserved c =
     let lt = subst (λ l. c.loop-chord.chord < length l) c.kept.ensures c.loop-chord-test.true in
     let e = sym (c.is_member.ensures ∙ ap₂ is_in c.members.ensures (ap (λ n. n + c.loop-chord.chord) c.labels-labels.ensures.value)) in
     elim c.if-is_member.branch [
-      | then-is_member+in_ok-push w ↦ rw (w.used-is, w.in_ok-push.ensures.items) (number_taken (λ u. is_in (cycle_of c.args.basis.now).members (labels c.args.lts.now + u)) (length (cycle_of c.args.basis.now).kept) c.loop-chord.chord c.loop-chord.used.items (used_chords c.args.lts.now (cycle_of c.args.basis.now)) c.loop-chord.invariant lt (e ∙ w.if-is_member.true))
-      | else-is_member w ↦ rw w.used-is (number_left (λ u. is_in (cycle_of c.args.basis.now).members (labels c.args.lts.now + u)) (length (cycle_of c.args.basis.now).kept) c.loop-chord.chord c.loop-chord.used.items (used_chords c.args.lts.now (cycle_of c.args.basis.now)) c.loop-chord.invariant lt (e ∙ w.if-is_member.false))
+      | then-is_member+in_ok-push w ↦ rw (w.used-is, w.in_ok-push.ensures.items)
+          (number_taken (λ u. is_in (cycle_of c.args.basis.now).members (labels c.args.lts.now + u))
+          (length (cycle_of c.args.basis.now).kept) c.loop-chord.chord c.loop-chord.used.items
+          (used_chords c.args.lts.now (cycle_of c.args.basis.now)) c.loop-chord.invariant lt (e ∙ w.if-is_member.true))
+      | else-is_member w ↦ rw w.used-is (number_left (λ u. is_in (cycle_of c.args.basis.now).members (labels c.args.lts.now + u))
+          (length (cycle_of c.args.basis.now).kept) c.loop-chord.chord c.loop-chord.used.items
+          (used_chords c.args.lts.now (cycle_of c.args.basis.now)) c.loop-chord.invariant lt (e ∙ w.if-is_member.false))
     ]

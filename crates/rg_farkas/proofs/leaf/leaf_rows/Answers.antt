@@ -9,7 +9,7 @@ use Rattle.rg_order_of_work.specs.Rewriting.{scaled_fold}
 use Rattle.rg_order_of_work.specs.Spreading.{chord_arcs, tree_fold, checked_leaf}
 use Rattle.rg_reasons.specs.Sums.{side_of}
 use Rattle.rg_farkas.specs.Leaves.{share_of}
-use Rattle.rg_denominators.specs.View.{scaled_of}
+use Rattle.rg_case_parts.specs.WholeNumbers.{scaled_of}
 use Rattle.rg_farkas.specs.View.{counted_of, named_of, arc_times}
 use Rattle.rg_farkas.proofs.ChordNumbers.{all_used}
 use Rattle.rg_farkas.proofs.LeafSteps.{few_kept, all_dependent, chords_told, leaf_unshared, leaf_unscaled, leaf_untreed, leaf_rows_of, leaf_unchecked, leaf_made, fractions_are, numbered_length, shares_length, listed_are, listed_range, tree_made, parted, leaf_is, leaf_range, checked_as, enough_parts}
@@ -19,7 +19,9 @@ pub used_chords-requires-clause-few : goal.used_chords-requires-clause-few
 used_chords-requires-clause-few c = few_kept c.args.lts.now c.args.tree.now.arcs (cycle_of c.args.basis.now) c.arcs-system.ensures.well_formed c.requires.basis
 
 pub chord_shares-requires-clause-counts : goal.chord_shares-requires-clause-counts
-chord_shares-requires-clause-counts c = all_dependent c.args.lts.now c.args.tree.now.arcs (cycle_of c.args.basis.now) (row_expression c.args.lts.now c.args.case.class c.args.case.problem c.args.case.number (map side_of c.args.above.now)) (map share_of c.args.named.now) (map counted_of c.deref.result.now) (ap (map counted_of) c.deref.ensures.value ∙ c.in_ok-counts.ensures)
+chord_shares-requires-clause-counts c = all_dependent c.args.lts.now c.args.tree.now.arcs (cycle_of c.args.basis.now)
+    (row_expression c.args.lts.now c.args.case.class c.args.case.problem c.args.case.number (map side_of c.args.above.now)) (map share_of c.args.named.now)
+    (map counted_of c.deref.result.now) (ap (map counted_of) c.deref.ensures.value ∙ c.in_ok-counts.ensures)
 
 pub chord_shares-requires-clause-used : goal.chord_shares-requires-clause-used
 chord_shares-requires-clause-used c = all_used c.args.lts.now (cycle_of c.args.basis.now) c.deref-2.result.now (c.deref-2.ensures.value ∙ c.in_ok-used.ensures)
@@ -29,41 +31,210 @@ returns-in_err-shares-clause-wide c = λ w e.
     let same : c.from_residual-in_err-shares.result ≡ Err c.in_err-shares.field-0.0 = search rules in
     let is : c.in_err-shares.field-0.0 ≡ stop.Wide w = cc in
     let told = c.in_err-shares.ensures.wide w (ap Err is) in
-    leaf_unshared c.args.lts.now c.args.tree.now.arcs (cycle_of c.args.basis.now) (row_expression c.args.lts.now c.args.case.class c.args.case.problem c.args.case.number (map side_of c.args.above.now)) (map share_of c.args.named.now) w (chords_told c.args.lts.now c.args.tree.now.arcs (cycle_of c.args.basis.now) (row_expression c.args.lts.now c.args.case.class c.args.case.problem c.args.case.number (map side_of c.args.above.now)) (map share_of c.args.named.now) (map counted_of c.deref.result.now) (ap (map counted_of) c.deref.ensures.value ∙ c.in_ok-counts.ensures) c.deref-2.result.now c.in_ok-used.used.items c.deref-2.ensures.value c.in_ok-used.ensures (Err w) told)
+    leaf_unshared c.args.lts.now c.args.tree.now.arcs (cycle_of c.args.basis.now)
+    (row_expression c.args.lts.now c.args.case.class c.args.case.problem c.args.case.number (map side_of c.args.above.now)) (map share_of c.args.named.now) w
+    (chords_told c.args.lts.now c.args.tree.now.arcs (cycle_of c.args.basis.now)
+    (row_expression c.args.lts.now c.args.case.class c.args.case.problem c.args.case.number (map side_of c.args.above.now)) (map share_of c.args.named.now)
+    (map counted_of c.deref.result.now) (ap (map counted_of) c.deref.ensures.value ∙ c.in_ok-counts.ensures) c.deref-2.result.now c.in_ok-used.used.items
+    c.deref-2.ensures.value c.in_ok-used.ensures (Err w) told)
 
 pub returns-in_err-scaled-clause-wide : goal.returns-in_err-scaled-clause-wide
 returns-in_err-scaled-clause-wide c = λ w e.
     let same : c.from_residual-in_err-scaled.result ≡ Err c.in_err-scaled.field-0.0 = search rules in
     let is : c.in_err-scaled.field-0.0 ≡ stop.Wide w = cc in
     let told = c.in_err-scaled.ensures.wide w (ap Err is) in
-    leaf_unscaled c.args.lts.now c.args.tree.now.arcs (cycle_of c.args.basis.now) (row_expression c.args.lts.now c.args.case.class c.args.case.problem c.args.case.number (map side_of c.args.above.now)) (map share_of c.args.named.now) (map ratio_of c.in_ok-shares.shares.items) (chords_told c.args.lts.now c.args.tree.now.arcs (cycle_of c.args.basis.now) (row_expression c.args.lts.now c.args.case.class c.args.case.problem c.args.case.number (map side_of c.args.above.now)) (map share_of c.args.named.now) (map counted_of c.deref.result.now) (ap (map counted_of) c.deref.ensures.value ∙ c.in_ok-counts.ensures) c.deref-2.result.now c.in_ok-used.used.items c.deref-2.ensures.value c.in_ok-used.ensures (Ok (map ratio_of c.in_ok-shares.shares.items)) c.in_ok-shares.ensures.value) w (subst (λ l. scaled_fold l (Err w)) (fractions_are c.args.named.now c.deref-3.result.now c.in_ok-shares.shares.items c.in_ok-fractions.fractions.items c.deref-4.result.now c.deref-3.ensures.value c.in_ok-fractions.ensures c.deref-4.ensures.value) told)
+    leaf_unscaled c.args.lts.now c.args.tree.now.arcs (cycle_of c.args.basis.now)
+    (row_expression c.args.lts.now c.args.case.class c.args.case.problem c.args.case.number (map side_of c.args.above.now)) (map share_of c.args.named.now)
+    (map ratio_of c.in_ok-shares.shares.items)
+    (chords_told c.args.lts.now c.args.tree.now.arcs (cycle_of c.args.basis.now)
+    (row_expression c.args.lts.now c.args.case.class c.args.case.problem c.args.case.number (map side_of c.args.above.now)) (map share_of c.args.named.now)
+    (map counted_of c.deref.result.now) (ap (map counted_of) c.deref.ensures.value ∙ c.in_ok-counts.ensures) c.deref-2.result.now c.in_ok-used.used.items
+    c.deref-2.ensures.value c.in_ok-used.ensures (Ok (map ratio_of c.in_ok-shares.shares.items)) c.in_ok-shares.ensures.value) w
+    (subst (λ l. scaled_fold l (Err w)) (fractions_are c.args.named.now c.deref-3.result.now c.in_ok-shares.shares.items c.in_ok-fractions.fractions.items
+    c.deref-4.result.now c.deref-3.ensures.value c.in_ok-fractions.ensures c.deref-4.ensures.value) told)
 
 pub numbered-requires : goal.numbered-requires
-numbered-requires c = numbered_length c.args.named.now c.args.lts.now c.args.tree.now.arcs (cycle_of c.args.basis.now) c.deref-2.result.now c.in_ok-used.used.items c.in_ok-shares.shares.items c.deref-3.result.now c.in_ok-fractions.fractions.items c.deref-4.result.now c.in_ok-scaled.scaled.numbers.items c.deref-7.result.now c.in_ok-chords.chords.items c.deref-6.result.now (shares_length c.args.lts.now (cycle_of c.args.basis.now) (map counted_of c.deref.result.now) c.deref-2.result.now c.in_ok-shares.shares.items c.in_ok-shares.ensures.value) c.deref-2.ensures.value c.in_ok-used.ensures c.deref-3.ensures.value c.in_ok-fractions.ensures c.deref-4.ensures.value c.in_ok-scaled.ensures.one_each c.deref-7.ensures.value c.in_ok-chords.ensures c.deref-6.ensures.value
+numbered-requires c = numbered_length c.args.named.now c.args.lts.now c.args.tree.now.arcs
+    (cycle_of c.args.basis.now) c.deref-2.result.now c.in_ok-used.used.items c.in_ok-shares.shares.items c.deref-3.result.now c.in_ok-fractions.fractions.items
+    c.deref-4.result.now c.in_ok-scaled.scaled.numbers.items c.deref-7.result.now c.in_ok-chords.chords.items c.deref-6.result.now
+    (shares_length c.args.lts.now (cycle_of c.args.basis.now) (map counted_of c.deref.result.now) c.deref-2.result.now c.in_ok-shares.shares.items
+    c.in_ok-shares.ensures.value) c.deref-2.ensures.value c.in_ok-used.ensures c.deref-3.ensures.value c.in_ok-fractions.ensures c.deref-4.ensures.value
+    c.in_ok-scaled.ensures.one_each c.deref-7.ensures.value c.in_ok-chords.ensures c.deref-6.ensures.value
 
 pub with_expressions-requires : goal.with_expressions-requires
-with_expressions-requires c = listed_range c.args.lts.now c.args.tree.now.arcs (cycle_of c.args.basis.now) c.args.named.now c.in_ok-scaled.scaled.numbers.items c.in_ok-listed.listed.items c.deref-8.result.now c.deref-8.ensures.value (listed_are c.args.lts.now c.args.tree.now.arcs (cycle_of c.args.basis.now) c.args.named.now c.in_ok-chords.chords.items c.deref-6.result.now c.in_ok-scaled.scaled.numbers.items c.deref-7.result.now c.in_ok-listed.listed.items c.deref-6.ensures.value c.in_ok-chords.ensures c.deref-7.ensures.value c.in_ok-listed.ensures) c.in_ok-scaled.scaled.numbers_in_range
+with_expressions-requires c = listed_range c.args.lts.now c.args.tree.now.arcs (cycle_of c.args.basis.now) c.args.named.now c.in_ok-scaled.scaled.numbers.items
+    c.in_ok-listed.listed.items c.deref-8.result.now c.deref-8.ensures.value
+    (listed_are c.args.lts.now c.args.tree.now.arcs (cycle_of c.args.basis.now) c.args.named.now c.in_ok-chords.chords.items c.deref-6.result.now
+    c.in_ok-scaled.scaled.numbers.items c.deref-7.result.now c.in_ok-listed.listed.items c.deref-6.ensures.value c.in_ok-chords.ensures c.deref-7.ensures.value
+    c.in_ok-listed.ensures) c.in_ok-scaled.scaled.numbers_in_range
 
 pub returns-in_err-multipliers-clause-wide : goal.returns-in_err-multipliers-clause-wide
 returns-in_err-multipliers-clause-wide c = λ w e.
     let same : c.from_residual-in_err-multipliers.result ≡ Err c.in_err-multipliers.field-0.0 = search rules in
     let is : c.in_err-multipliers.field-0.0 ≡ stop.Wide w = cc in
-    leaf_untreed c.args.lts.now c.args.tree.now.arcs (cycle_of c.args.basis.now) (row_expression c.args.lts.now c.args.case.class c.args.case.problem c.args.case.number (map side_of c.args.above.now)) (map share_of c.args.named.now) (map ratio_of c.in_ok-shares.shares.items) (chords_told c.args.lts.now c.args.tree.now.arcs (cycle_of c.args.basis.now) (row_expression c.args.lts.now c.args.case.class c.args.case.problem c.args.case.number (map side_of c.args.above.now)) (map share_of c.args.named.now) (map counted_of c.deref.result.now) (ap (map counted_of) c.deref.ensures.value ∙ c.in_ok-counts.ensures) c.deref-2.result.now c.in_ok-used.used.items c.deref-2.ensures.value c.in_ok-used.ensures (Ok (map ratio_of c.in_ok-shares.shares.items)) c.in_ok-shares.ensures.value) (scaled_of c.in_ok-scaled.scaled) (subst (λ l. scaled_fold l (Ok (scaled_of c.in_ok-scaled.scaled))) (fractions_are c.args.named.now c.deref-3.result.now c.in_ok-shares.shares.items c.in_ok-fractions.fractions.items c.deref-4.result.now c.deref-3.ensures.value c.in_ok-fractions.ensures c.deref-4.ensures.value) c.in_ok-scaled.ensures.value) w (tree_made c.args.lts.now c.args.tree.now.arcs (cycle_of c.args.basis.now) c.args.named.now (row_expression c.args.lts.now c.args.case.class c.args.case.problem c.args.case.number (map side_of c.args.above.now)) c.in_ok-listed.listed.items c.deref-8.result.now c.in_ok-rows.rows.items c.deref-9.result.now c.arcs.result.now c.in_ok-scaled.scaled.numbers.items c.deref-8.ensures.value (listed_are c.args.lts.now c.args.tree.now.arcs (cycle_of c.args.basis.now) c.args.named.now c.in_ok-chords.chords.items c.deref-6.result.now c.in_ok-scaled.scaled.numbers.items c.deref-7.result.now c.in_ok-listed.listed.items c.deref-6.ensures.value c.in_ok-chords.ensures c.deref-7.ensures.value c.in_ok-listed.ensures) c.in_ok-rows.ensures.rows c.in_ok-rows.ensures.told c.deref-9.ensures.value c.arcs.ensures (Err w) (c.in_err-multipliers.ensures.wide w (ap Err is)))
+    leaf_untreed c.args.lts.now c.args.tree.now.arcs (cycle_of c.args.basis.now)
+    (row_expression c.args.lts.now c.args.case.class c.args.case.problem c.args.case.number (map side_of c.args.above.now)) (map share_of c.args.named.now)
+    (map ratio_of c.in_ok-shares.shares.items)
+    (chords_told c.args.lts.now c.args.tree.now.arcs (cycle_of c.args.basis.now)
+    (row_expression c.args.lts.now c.args.case.class c.args.case.problem c.args.case.number (map side_of c.args.above.now)) (map share_of c.args.named.now)
+    (map counted_of c.deref.result.now) (ap (map counted_of) c.deref.ensures.value ∙ c.in_ok-counts.ensures) c.deref-2.result.now c.in_ok-used.used.items
+    c.deref-2.ensures.value c.in_ok-used.ensures (Ok (map ratio_of c.in_ok-shares.shares.items)) c.in_ok-shares.ensures.value) (scaled_of c.in_ok-scaled.scaled)
+    (subst (λ l. scaled_fold l (Ok (scaled_of c.in_ok-scaled.scaled)))
+    (fractions_are c.args.named.now c.deref-3.result.now c.in_ok-shares.shares.items c.in_ok-fractions.fractions.items c.deref-4.result.now c.deref-3.ensures.value
+    c.in_ok-fractions.ensures c.deref-4.ensures.value) c.in_ok-scaled.ensures.value) w
+    (tree_made c.args.lts.now c.args.tree.now.arcs (cycle_of c.args.basis.now) c.args.named.now
+    (row_expression c.args.lts.now c.args.case.class c.args.case.problem c.args.case.number (map side_of c.args.above.now)) c.in_ok-listed.listed.items
+    c.deref-8.result.now c.in_ok-rows.rows.items c.deref-9.result.now c.arcs.result.now c.in_ok-scaled.scaled.numbers.items c.deref-8.ensures.value
+    (listed_are c.args.lts.now c.args.tree.now.arcs (cycle_of c.args.basis.now) c.args.named.now c.in_ok-chords.chords.items c.deref-6.result.now
+    c.in_ok-scaled.scaled.numbers.items c.deref-7.result.now c.in_ok-listed.listed.items c.deref-6.ensures.value c.in_ok-chords.ensures c.deref-7.ensures.value
+    c.in_ok-listed.ensures) c.in_ok-rows.ensures.rows c.in_ok-rows.ensures.told c.deref-9.ensures.value c.arcs.ensures (Err w)
+    (c.in_err-multipliers.ensures.wide w (ap Err is)))
 
 pub push_arcs-requires : goal.push_arcs-requires
-push_arcs-requires c = enough_parts c.args.named.now c.arcs.result.now c.arcs-2.result.now c.in_ok-arcs.arcs.items c.deref-14.result.now c.in_ok-chords.chords.items c.deref-13.result.now c.deref-6.result.now c.in_ok-scaled.scaled.numbers.items c.deref-10.result.now c.deref-7.result.now c.in_ok-multipliers.multipliers.items c.deref-11.result.now c.in_ok-parts.parts.items c.deref-15.result.now (numbered_length c.args.named.now c.args.lts.now c.args.tree.now.arcs (cycle_of c.args.basis.now) c.deref-2.result.now c.in_ok-used.used.items c.in_ok-shares.shares.items c.deref-3.result.now c.in_ok-fractions.fractions.items c.deref-4.result.now c.in_ok-scaled.scaled.numbers.items c.deref-7.result.now c.in_ok-chords.chords.items c.deref-6.result.now (shares_length c.args.lts.now (cycle_of c.args.basis.now) (map counted_of c.deref.result.now) c.deref-2.result.now c.in_ok-shares.shares.items c.in_ok-shares.ensures.value) c.deref-2.ensures.value c.in_ok-used.ensures c.deref-3.ensures.value c.in_ok-fractions.ensures c.deref-4.ensures.value c.in_ok-scaled.ensures.one_each c.deref-7.ensures.value c.in_ok-chords.ensures c.deref-6.ensures.value) c.deref-7.ensures.value c.deref-6.ensures.value c.deref-10.ensures.value c.deref-11.ensures.value c.in_ok-multipliers.ensures.one_each (c.arcs.ensures ∙ sym c.arcs-2.ensures) c.in_ok-parts.ensures.parts c.deref-13.ensures.value c.in_ok-arcs.ensures c.deref-14.ensures.value c.deref-15.ensures.value
+push_arcs-requires c = enough_parts c.args.named.now c.arcs.result.now c.arcs-2.result.now c.in_ok-arcs.arcs.items c.deref-14.result.now c.in_ok-chords.chords.items
+    c.deref-13.result.now c.deref-6.result.now c.in_ok-scaled.scaled.numbers.items c.deref-10.result.now c.deref-7.result.now c.in_ok-multipliers.multipliers.items
+    c.deref-11.result.now c.in_ok-parts.parts.items c.deref-15.result.now
+    (numbered_length c.args.named.now c.args.lts.now c.args.tree.now.arcs
+    (cycle_of c.args.basis.now) c.deref-2.result.now c.in_ok-used.used.items c.in_ok-shares.shares.items c.deref-3.result.now c.in_ok-fractions.fractions.items
+    c.deref-4.result.now c.in_ok-scaled.scaled.numbers.items c.deref-7.result.now c.in_ok-chords.chords.items c.deref-6.result.now
+    (shares_length c.args.lts.now (cycle_of c.args.basis.now) (map counted_of c.deref.result.now) c.deref-2.result.now c.in_ok-shares.shares.items
+    c.in_ok-shares.ensures.value) c.deref-2.ensures.value c.in_ok-used.ensures c.deref-3.ensures.value c.in_ok-fractions.ensures c.deref-4.ensures.value
+    c.in_ok-scaled.ensures.one_each c.deref-7.ensures.value c.in_ok-chords.ensures c.deref-6.ensures.value) c.deref-7.ensures.value c.deref-6.ensures.value
+    c.deref-10.ensures.value c.deref-11.ensures.value c.in_ok-multipliers.ensures.one_each
+    (c.arcs.ensures ∙ sym c.arcs-2.ensures) c.in_ok-parts.ensures.parts c.deref-13.ensures.value c.in_ok-arcs.ensures c.deref-14.ensures.value c.deref-15.ensures.value
 
 pub with_expressions-requires-2 : goal.with_expressions-requires-2
-with_expressions-requires-2 c = subst (All (λ r. InRange r.1)) (sym c.deref-16.ensures.value) (leaf_range c.args.lts.now c.args.tree.now.arcs (cycle_of c.args.basis.now) c.args.named.now (chord_arcs c.args.lts.now c.args.tree.now.arcs (cycle_of c.args.basis.now) ++ map (λ x. x.arc) (arc_times c.args.tree.now.arcs c.in_ok-multipliers.multipliers.items)) c.in_ok-parts.parts.items c.in_ok-parts.parts.items c.push_arcs.new.rows.items (leaf_is c.args.lts.now c.args.tree.now.arcs (cycle_of c.args.basis.now) c.args.named.now c.arcs.result.now c.arcs-2.result.now c.in_ok-arcs.arcs.items c.deref-14.result.now c.in_ok-chords.chords.items c.deref-13.result.now c.arcs-system.result.now c.in_ok-multipliers.multipliers.items c.in_ok-parts.parts.items c.deref-12.result.now c.deref-15.result.now c.in_ok-leaf.leaf.items c.push_arcs.new.rows.items c.arcs.ensures c.arcs-2.ensures c.in_ok-multipliers.ensures.one_each c.deref-13.ensures.value c.in_ok-chords.ensures c.in_ok-arcs.ensures c.deref-14.ensures.value c.arcs-system.ensures.value c.deref-12.ensures.value c.deref-15.ensures.value c.in_ok-leaf.ensures c.in_ok-push_arcs.ensures) c.in_ok-parts.ensures.in_range)
+with_expressions-requires-2 c = subst (All (λ r. InRange r.1)) (sym c.deref-16.ensures.value)
+    (leaf_range c.args.lts.now c.args.tree.now.arcs (cycle_of c.args.basis.now) c.args.named.now
+    (chord_arcs c.args.lts.now c.args.tree.now.arcs (cycle_of c.args.basis.now) ++ map (λ x. x.arc)
+    (arc_times c.args.tree.now.arcs c.in_ok-multipliers.multipliers.items)) c.in_ok-parts.parts.items c.in_ok-parts.parts.items c.push_arcs.new.rows.items
+    (leaf_is c.args.lts.now c.args.tree.now.arcs (cycle_of c.args.basis.now) c.args.named.now c.arcs.result.now c.arcs-2.result.now c.in_ok-arcs.arcs.items
+    c.deref-14.result.now c.in_ok-chords.chords.items c.deref-13.result.now c.arcs-system.result.now c.in_ok-multipliers.multipliers.items c.in_ok-parts.parts.items
+    c.deref-12.result.now c.deref-15.result.now c.in_ok-leaf.leaf.items c.push_arcs.new.rows.items c.arcs.ensures c.arcs-2.ensures c.in_ok-multipliers.ensures.one_each
+    c.deref-13.ensures.value c.in_ok-chords.ensures c.in_ok-arcs.ensures c.deref-14.ensures.value c.arcs-system.ensures.value c.deref-12.ensures.value
+    c.deref-15.ensures.value c.in_ok-leaf.ensures c.in_ok-push_arcs.ensures) c.in_ok-parts.ensures.in_range)
 
 pub returns-in_err-check_sizes-clause-wide : goal.returns-in_err-check_sizes-clause-wide
 returns-in_err-check_sizes-clause-wide c = λ w e.
     let same : c.from_residual-in_err-check_sizes.result ≡ Err c.in_err-check_sizes.field-0.0 = search rules in
     let is : c.in_err-check_sizes.field-0.0 ≡ stop.Wide w = cc in
-    leaf_unchecked c.args.lts.now c.args.tree.now.arcs (cycle_of c.args.basis.now) (row_expression c.args.lts.now c.args.case.class c.args.case.problem c.args.case.number (map side_of c.args.above.now)) (map share_of c.args.named.now) (map ratio_of c.in_ok-shares.shares.items) (chords_told c.args.lts.now c.args.tree.now.arcs (cycle_of c.args.basis.now) (row_expression c.args.lts.now c.args.case.class c.args.case.problem c.args.case.number (map side_of c.args.above.now)) (map share_of c.args.named.now) (map counted_of c.deref.result.now) (ap (map counted_of) c.deref.ensures.value ∙ c.in_ok-counts.ensures) c.deref-2.result.now c.in_ok-used.used.items c.deref-2.ensures.value c.in_ok-used.ensures (Ok (map ratio_of c.in_ok-shares.shares.items)) c.in_ok-shares.ensures.value) (scaled_of c.in_ok-scaled.scaled) (subst (λ l. scaled_fold l (Ok (scaled_of c.in_ok-scaled.scaled))) (fractions_are c.args.named.now c.deref-3.result.now c.in_ok-shares.shares.items c.in_ok-fractions.fractions.items c.deref-4.result.now c.deref-3.ensures.value c.in_ok-fractions.ensures c.deref-4.ensures.value) c.in_ok-scaled.ensures.value) (arc_times c.args.tree.now.arcs c.in_ok-multipliers.multipliers.items) (tree_made c.args.lts.now c.args.tree.now.arcs (cycle_of c.args.basis.now) c.args.named.now (row_expression c.args.lts.now c.args.case.class c.args.case.problem c.args.case.number (map side_of c.args.above.now)) c.in_ok-listed.listed.items c.deref-8.result.now c.in_ok-rows.rows.items c.deref-9.result.now c.arcs.result.now c.in_ok-scaled.scaled.numbers.items c.deref-8.ensures.value (listed_are c.args.lts.now c.args.tree.now.arcs (cycle_of c.args.basis.now) c.args.named.now c.in_ok-chords.chords.items c.deref-6.result.now c.in_ok-scaled.scaled.numbers.items c.deref-7.result.now c.in_ok-listed.listed.items c.deref-6.ensures.value c.in_ok-chords.ensures c.deref-7.ensures.value c.in_ok-listed.ensures) c.in_ok-rows.ensures.rows c.in_ok-rows.ensures.told c.deref-9.ensures.value c.arcs.ensures (Ok (arc_times c.args.tree.now.arcs c.in_ok-multipliers.multipliers.items)) (λ e t. subst (λ l. tree_fold e (map named_of c.deref-9.result.now) [] (reverse c.arcs.result.now) (Ok (arc_times l c.in_ok-multipliers.multipliers.items))) c.arcs.ensures (c.in_ok-multipliers.ensures.value e t))) c.in_ok-parts.parts.items (parted c.args.lts.now c.args.tree.now.arcs (cycle_of c.args.basis.now) c.args.named.now c.arcs.result.now c.in_ok-scaled.scaled.numbers.items c.deref-10.result.now c.in_ok-multipliers.multipliers.items c.deref-11.result.now c.in_ok-parts.parts.items c.arcs.ensures c.deref-10.ensures.value c.deref-11.ensures.value c.in_ok-multipliers.ensures.one_each c.in_ok-parts.ensures.parts) w (checked_as c.args.lts.now c.args.tree.now.arcs (cycle_of c.args.basis.now) c.args.named.now (row_expression c.args.lts.now c.args.case.class c.args.case.problem c.args.case.number (map side_of c.args.above.now)) c.push_arcs.new.rows.items c.deref-16.result.now c.in_ok-rows-2.rows.items c.deref-17.result.now (leaf_rows_of c.args.lts.now c.args.tree.now.arcs (cycle_of c.args.basis.now) (row_expression c.args.lts.now c.args.case.class c.args.case.problem c.args.case.number (map side_of c.args.above.now)) (map share_of c.args.named.now) (map ratio_of c.in_ok-shares.shares.items) (chords_told c.args.lts.now c.args.tree.now.arcs (cycle_of c.args.basis.now) (row_expression c.args.lts.now c.args.case.class c.args.case.problem c.args.case.number (map side_of c.args.above.now)) (map share_of c.args.named.now) (map counted_of c.deref.result.now) (ap (map counted_of) c.deref.ensures.value ∙ c.in_ok-counts.ensures) c.deref-2.result.now c.in_ok-used.used.items c.deref-2.ensures.value c.in_ok-used.ensures (Ok (map ratio_of c.in_ok-shares.shares.items)) c.in_ok-shares.ensures.value) (scaled_of c.in_ok-scaled.scaled) (subst (λ l. scaled_fold l (Ok (scaled_of c.in_ok-scaled.scaled))) (fractions_are c.args.named.now c.deref-3.result.now c.in_ok-shares.shares.items c.in_ok-fractions.fractions.items c.deref-4.result.now c.deref-3.ensures.value c.in_ok-fractions.ensures c.deref-4.ensures.value) c.in_ok-scaled.ensures.value) (arc_times c.args.tree.now.arcs c.in_ok-multipliers.multipliers.items) (tree_made c.args.lts.now c.args.tree.now.arcs (cycle_of c.args.basis.now) c.args.named.now (row_expression c.args.lts.now c.args.case.class c.args.case.problem c.args.case.number (map side_of c.args.above.now)) c.in_ok-listed.listed.items c.deref-8.result.now c.in_ok-rows.rows.items c.deref-9.result.now c.arcs.result.now c.in_ok-scaled.scaled.numbers.items c.deref-8.ensures.value (listed_are c.args.lts.now c.args.tree.now.arcs (cycle_of c.args.basis.now) c.args.named.now c.in_ok-chords.chords.items c.deref-6.result.now c.in_ok-scaled.scaled.numbers.items c.deref-7.result.now c.in_ok-listed.listed.items c.deref-6.ensures.value c.in_ok-chords.ensures c.deref-7.ensures.value c.in_ok-listed.ensures) c.in_ok-rows.ensures.rows c.in_ok-rows.ensures.told c.deref-9.ensures.value c.arcs.ensures (Ok (arc_times c.args.tree.now.arcs c.in_ok-multipliers.multipliers.items)) (λ e t. subst (λ l. tree_fold e (map named_of c.deref-9.result.now) [] (reverse c.arcs.result.now) (Ok (arc_times l c.in_ok-multipliers.multipliers.items))) c.arcs.ensures (c.in_ok-multipliers.ensures.value e t))) c.in_ok-parts.parts.items (parted c.args.lts.now c.args.tree.now.arcs (cycle_of c.args.basis.now) c.args.named.now c.arcs.result.now c.in_ok-scaled.scaled.numbers.items c.deref-10.result.now c.in_ok-multipliers.multipliers.items c.deref-11.result.now c.in_ok-parts.parts.items c.arcs.ensures c.deref-10.ensures.value c.deref-11.ensures.value c.in_ok-multipliers.ensures.one_each c.in_ok-parts.ensures.parts)) (leaf_is c.args.lts.now c.args.tree.now.arcs (cycle_of c.args.basis.now) c.args.named.now c.arcs.result.now c.arcs-2.result.now c.in_ok-arcs.arcs.items c.deref-14.result.now c.in_ok-chords.chords.items c.deref-13.result.now c.arcs-system.result.now c.in_ok-multipliers.multipliers.items c.in_ok-parts.parts.items c.deref-12.result.now c.deref-15.result.now c.in_ok-leaf.leaf.items c.push_arcs.new.rows.items c.arcs.ensures c.arcs-2.ensures c.in_ok-multipliers.ensures.one_each c.deref-13.ensures.value c.in_ok-chords.ensures c.in_ok-arcs.ensures c.deref-14.ensures.value c.arcs-system.ensures.value c.deref-12.ensures.value c.deref-15.ensures.value c.in_ok-leaf.ensures c.in_ok-push_arcs.ensures) c.deref-16.ensures.value c.in_ok-rows-2.ensures.rows c.deref-17.ensures.value c.in_ok-rows-2.ensures.told (Err w) (c.in_err-check_sizes.ensures.wide w (ap Err is)))
+    leaf_unchecked c.args.lts.now c.args.tree.now.arcs (cycle_of c.args.basis.now)
+    (row_expression c.args.lts.now c.args.case.class c.args.case.problem c.args.case.number (map side_of c.args.above.now)) (map share_of c.args.named.now)
+    (map ratio_of c.in_ok-shares.shares.items)
+    (chords_told c.args.lts.now c.args.tree.now.arcs (cycle_of c.args.basis.now)
+    (row_expression c.args.lts.now c.args.case.class c.args.case.problem c.args.case.number (map side_of c.args.above.now)) (map share_of c.args.named.now)
+    (map counted_of c.deref.result.now) (ap (map counted_of) c.deref.ensures.value ∙ c.in_ok-counts.ensures) c.deref-2.result.now c.in_ok-used.used.items
+    c.deref-2.ensures.value c.in_ok-used.ensures (Ok (map ratio_of c.in_ok-shares.shares.items)) c.in_ok-shares.ensures.value) (scaled_of c.in_ok-scaled.scaled)
+    (subst (λ l. scaled_fold l (Ok (scaled_of c.in_ok-scaled.scaled)))
+    (fractions_are c.args.named.now c.deref-3.result.now c.in_ok-shares.shares.items c.in_ok-fractions.fractions.items c.deref-4.result.now c.deref-3.ensures.value
+    c.in_ok-fractions.ensures c.deref-4.ensures.value) c.in_ok-scaled.ensures.value) (arc_times c.args.tree.now.arcs c.in_ok-multipliers.multipliers.items)
+    (tree_made c.args.lts.now c.args.tree.now.arcs (cycle_of c.args.basis.now) c.args.named.now
+    (row_expression c.args.lts.now c.args.case.class c.args.case.problem c.args.case.number (map side_of c.args.above.now)) c.in_ok-listed.listed.items
+    c.deref-8.result.now c.in_ok-rows.rows.items c.deref-9.result.now c.arcs.result.now c.in_ok-scaled.scaled.numbers.items c.deref-8.ensures.value
+    (listed_are c.args.lts.now c.args.tree.now.arcs (cycle_of c.args.basis.now) c.args.named.now c.in_ok-chords.chords.items c.deref-6.result.now
+    c.in_ok-scaled.scaled.numbers.items c.deref-7.result.now c.in_ok-listed.listed.items c.deref-6.ensures.value c.in_ok-chords.ensures c.deref-7.ensures.value
+    c.in_ok-listed.ensures) c.in_ok-rows.ensures.rows c.in_ok-rows.ensures.told c.deref-9.ensures.value c.arcs.ensures
+    (Ok (arc_times c.args.tree.now.arcs c.in_ok-multipliers.multipliers.items))
+    (λ e t. subst (λ l. tree_fold e (map named_of c.deref-9.result.now) [] (reverse c.arcs.result.now) (Ok (arc_times l c.in_ok-multipliers.multipliers.items)))
+    c.arcs.ensures (c.in_ok-multipliers.ensures.value e t))) c.in_ok-parts.parts.items
+    (parted c.args.lts.now c.args.tree.now.arcs (cycle_of c.args.basis.now) c.args.named.now c.arcs.result.now c.in_ok-scaled.scaled.numbers.items
+    c.deref-10.result.now c.in_ok-multipliers.multipliers.items c.deref-11.result.now c.in_ok-parts.parts.items c.arcs.ensures c.deref-10.ensures.value
+    c.deref-11.ensures.value c.in_ok-multipliers.ensures.one_each c.in_ok-parts.ensures.parts) w
+    (checked_as c.args.lts.now c.args.tree.now.arcs (cycle_of c.args.basis.now) c.args.named.now
+    (row_expression c.args.lts.now c.args.case.class c.args.case.problem c.args.case.number (map side_of c.args.above.now)) c.push_arcs.new.rows.items
+    c.deref-16.result.now c.in_ok-rows-2.rows.items c.deref-17.result.now
+    (leaf_rows_of c.args.lts.now c.args.tree.now.arcs (cycle_of c.args.basis.now)
+    (row_expression c.args.lts.now c.args.case.class c.args.case.problem c.args.case.number (map side_of c.args.above.now)) (map share_of c.args.named.now)
+    (map ratio_of c.in_ok-shares.shares.items)
+    (chords_told c.args.lts.now c.args.tree.now.arcs (cycle_of c.args.basis.now)
+    (row_expression c.args.lts.now c.args.case.class c.args.case.problem c.args.case.number (map side_of c.args.above.now)) (map share_of c.args.named.now)
+    (map counted_of c.deref.result.now) (ap (map counted_of) c.deref.ensures.value ∙ c.in_ok-counts.ensures) c.deref-2.result.now c.in_ok-used.used.items
+    c.deref-2.ensures.value c.in_ok-used.ensures (Ok (map ratio_of c.in_ok-shares.shares.items)) c.in_ok-shares.ensures.value) (scaled_of c.in_ok-scaled.scaled)
+    (subst (λ l. scaled_fold l (Ok (scaled_of c.in_ok-scaled.scaled)))
+    (fractions_are c.args.named.now c.deref-3.result.now c.in_ok-shares.shares.items c.in_ok-fractions.fractions.items c.deref-4.result.now c.deref-3.ensures.value
+    c.in_ok-fractions.ensures c.deref-4.ensures.value) c.in_ok-scaled.ensures.value) (arc_times c.args.tree.now.arcs c.in_ok-multipliers.multipliers.items)
+    (tree_made c.args.lts.now c.args.tree.now.arcs (cycle_of c.args.basis.now) c.args.named.now
+    (row_expression c.args.lts.now c.args.case.class c.args.case.problem c.args.case.number (map side_of c.args.above.now)) c.in_ok-listed.listed.items
+    c.deref-8.result.now c.in_ok-rows.rows.items c.deref-9.result.now c.arcs.result.now c.in_ok-scaled.scaled.numbers.items c.deref-8.ensures.value
+    (listed_are c.args.lts.now c.args.tree.now.arcs (cycle_of c.args.basis.now) c.args.named.now c.in_ok-chords.chords.items c.deref-6.result.now
+    c.in_ok-scaled.scaled.numbers.items c.deref-7.result.now c.in_ok-listed.listed.items c.deref-6.ensures.value c.in_ok-chords.ensures c.deref-7.ensures.value
+    c.in_ok-listed.ensures) c.in_ok-rows.ensures.rows c.in_ok-rows.ensures.told c.deref-9.ensures.value c.arcs.ensures
+    (Ok (arc_times c.args.tree.now.arcs c.in_ok-multipliers.multipliers.items))
+    (λ e t. subst (λ l. tree_fold e (map named_of c.deref-9.result.now) [] (reverse c.arcs.result.now) (Ok (arc_times l c.in_ok-multipliers.multipliers.items)))
+    c.arcs.ensures (c.in_ok-multipliers.ensures.value e t))) c.in_ok-parts.parts.items
+    (parted c.args.lts.now c.args.tree.now.arcs (cycle_of c.args.basis.now) c.args.named.now c.arcs.result.now c.in_ok-scaled.scaled.numbers.items
+    c.deref-10.result.now c.in_ok-multipliers.multipliers.items c.deref-11.result.now c.in_ok-parts.parts.items c.arcs.ensures c.deref-10.ensures.value
+    c.deref-11.ensures.value c.in_ok-multipliers.ensures.one_each c.in_ok-parts.ensures.parts))
+    (leaf_is c.args.lts.now c.args.tree.now.arcs (cycle_of c.args.basis.now) c.args.named.now c.arcs.result.now c.arcs-2.result.now c.in_ok-arcs.arcs.items
+    c.deref-14.result.now c.in_ok-chords.chords.items c.deref-13.result.now c.arcs-system.result.now c.in_ok-multipliers.multipliers.items c.in_ok-parts.parts.items
+    c.deref-12.result.now c.deref-15.result.now c.in_ok-leaf.leaf.items c.push_arcs.new.rows.items c.arcs.ensures c.arcs-2.ensures
+    c.in_ok-multipliers.ensures.one_each c.deref-13.ensures.value c.in_ok-chords.ensures c.in_ok-arcs.ensures c.deref-14.ensures.value c.arcs-system.ensures.value
+    c.deref-12.ensures.value c.deref-15.ensures.value c.in_ok-leaf.ensures c.in_ok-push_arcs.ensures) c.deref-16.ensures.value c.in_ok-rows-2.ensures.rows
+    c.deref-17.ensures.value c.in_ok-rows-2.ensures.told (Err w) (c.in_err-check_sizes.ensures.wide w (ap Err is)))
 
 pub returns-clause-leaf : goal.returns-clause-leaf
-returns-clause-leaf c = leaf_made c.args.lts.now c.args.tree.now.arcs (cycle_of c.args.basis.now) (row_expression c.args.lts.now c.args.case.class c.args.case.problem c.args.case.number (map side_of c.args.above.now)) (map share_of c.args.named.now) (map ratio_of c.in_ok-shares.shares.items) (chords_told c.args.lts.now c.args.tree.now.arcs (cycle_of c.args.basis.now) (row_expression c.args.lts.now c.args.case.class c.args.case.problem c.args.case.number (map side_of c.args.above.now)) (map share_of c.args.named.now) (map counted_of c.deref.result.now) (ap (map counted_of) c.deref.ensures.value ∙ c.in_ok-counts.ensures) c.deref-2.result.now c.in_ok-used.used.items c.deref-2.ensures.value c.in_ok-used.ensures (Ok (map ratio_of c.in_ok-shares.shares.items)) c.in_ok-shares.ensures.value) (scaled_of c.in_ok-scaled.scaled) (subst (λ l. scaled_fold l (Ok (scaled_of c.in_ok-scaled.scaled))) (fractions_are c.args.named.now c.deref-3.result.now c.in_ok-shares.shares.items c.in_ok-fractions.fractions.items c.deref-4.result.now c.deref-3.ensures.value c.in_ok-fractions.ensures c.deref-4.ensures.value) c.in_ok-scaled.ensures.value) (arc_times c.args.tree.now.arcs c.in_ok-multipliers.multipliers.items) (tree_made c.args.lts.now c.args.tree.now.arcs (cycle_of c.args.basis.now) c.args.named.now (row_expression c.args.lts.now c.args.case.class c.args.case.problem c.args.case.number (map side_of c.args.above.now)) c.in_ok-listed.listed.items c.deref-8.result.now c.in_ok-rows.rows.items c.deref-9.result.now c.arcs.result.now c.in_ok-scaled.scaled.numbers.items c.deref-8.ensures.value (listed_are c.args.lts.now c.args.tree.now.arcs (cycle_of c.args.basis.now) c.args.named.now c.in_ok-chords.chords.items c.deref-6.result.now c.in_ok-scaled.scaled.numbers.items c.deref-7.result.now c.in_ok-listed.listed.items c.deref-6.ensures.value c.in_ok-chords.ensures c.deref-7.ensures.value c.in_ok-listed.ensures) c.in_ok-rows.ensures.rows c.in_ok-rows.ensures.told c.deref-9.ensures.value c.arcs.ensures (Ok (arc_times c.args.tree.now.arcs c.in_ok-multipliers.multipliers.items)) (λ e t. subst (λ l. tree_fold e (map named_of c.deref-9.result.now) [] (reverse c.arcs.result.now) (Ok (arc_times l c.in_ok-multipliers.multipliers.items))) c.arcs.ensures (c.in_ok-multipliers.ensures.value e t))) c.in_ok-parts.parts.items (parted c.args.lts.now c.args.tree.now.arcs (cycle_of c.args.basis.now) c.args.named.now c.arcs.result.now c.in_ok-scaled.scaled.numbers.items c.deref-10.result.now c.in_ok-multipliers.multipliers.items c.deref-11.result.now c.in_ok-parts.parts.items c.arcs.ensures c.deref-10.ensures.value c.deref-11.ensures.value c.in_ok-multipliers.ensures.one_each c.in_ok-parts.ensures.parts) (map named_row c.push_arcs.new.rows.items) (checked_as c.args.lts.now c.args.tree.now.arcs (cycle_of c.args.basis.now) c.args.named.now (row_expression c.args.lts.now c.args.case.class c.args.case.problem c.args.case.number (map side_of c.args.above.now)) c.push_arcs.new.rows.items c.deref-16.result.now c.in_ok-rows-2.rows.items c.deref-17.result.now (leaf_rows_of c.args.lts.now c.args.tree.now.arcs (cycle_of c.args.basis.now) (row_expression c.args.lts.now c.args.case.class c.args.case.problem c.args.case.number (map side_of c.args.above.now)) (map share_of c.args.named.now) (map ratio_of c.in_ok-shares.shares.items) (chords_told c.args.lts.now c.args.tree.now.arcs (cycle_of c.args.basis.now) (row_expression c.args.lts.now c.args.case.class c.args.case.problem c.args.case.number (map side_of c.args.above.now)) (map share_of c.args.named.now) (map counted_of c.deref.result.now) (ap (map counted_of) c.deref.ensures.value ∙ c.in_ok-counts.ensures) c.deref-2.result.now c.in_ok-used.used.items c.deref-2.ensures.value c.in_ok-used.ensures (Ok (map ratio_of c.in_ok-shares.shares.items)) c.in_ok-shares.ensures.value) (scaled_of c.in_ok-scaled.scaled) (subst (λ l. scaled_fold l (Ok (scaled_of c.in_ok-scaled.scaled))) (fractions_are c.args.named.now c.deref-3.result.now c.in_ok-shares.shares.items c.in_ok-fractions.fractions.items c.deref-4.result.now c.deref-3.ensures.value c.in_ok-fractions.ensures c.deref-4.ensures.value) c.in_ok-scaled.ensures.value) (arc_times c.args.tree.now.arcs c.in_ok-multipliers.multipliers.items) (tree_made c.args.lts.now c.args.tree.now.arcs (cycle_of c.args.basis.now) c.args.named.now (row_expression c.args.lts.now c.args.case.class c.args.case.problem c.args.case.number (map side_of c.args.above.now)) c.in_ok-listed.listed.items c.deref-8.result.now c.in_ok-rows.rows.items c.deref-9.result.now c.arcs.result.now c.in_ok-scaled.scaled.numbers.items c.deref-8.ensures.value (listed_are c.args.lts.now c.args.tree.now.arcs (cycle_of c.args.basis.now) c.args.named.now c.in_ok-chords.chords.items c.deref-6.result.now c.in_ok-scaled.scaled.numbers.items c.deref-7.result.now c.in_ok-listed.listed.items c.deref-6.ensures.value c.in_ok-chords.ensures c.deref-7.ensures.value c.in_ok-listed.ensures) c.in_ok-rows.ensures.rows c.in_ok-rows.ensures.told c.deref-9.ensures.value c.arcs.ensures (Ok (arc_times c.args.tree.now.arcs c.in_ok-multipliers.multipliers.items)) (λ e t. subst (λ l. tree_fold e (map named_of c.deref-9.result.now) [] (reverse c.arcs.result.now) (Ok (arc_times l c.in_ok-multipliers.multipliers.items))) c.arcs.ensures (c.in_ok-multipliers.ensures.value e t))) c.in_ok-parts.parts.items (parted c.args.lts.now c.args.tree.now.arcs (cycle_of c.args.basis.now) c.args.named.now c.arcs.result.now c.in_ok-scaled.scaled.numbers.items c.deref-10.result.now c.in_ok-multipliers.multipliers.items c.deref-11.result.now c.in_ok-parts.parts.items c.arcs.ensures c.deref-10.ensures.value c.deref-11.ensures.value c.in_ok-multipliers.ensures.one_each c.in_ok-parts.ensures.parts)) (leaf_is c.args.lts.now c.args.tree.now.arcs (cycle_of c.args.basis.now) c.args.named.now c.arcs.result.now c.arcs-2.result.now c.in_ok-arcs.arcs.items c.deref-14.result.now c.in_ok-chords.chords.items c.deref-13.result.now c.arcs-system.result.now c.in_ok-multipliers.multipliers.items c.in_ok-parts.parts.items c.deref-12.result.now c.deref-15.result.now c.in_ok-leaf.leaf.items c.push_arcs.new.rows.items c.arcs.ensures c.arcs-2.ensures c.in_ok-multipliers.ensures.one_each c.deref-13.ensures.value c.in_ok-chords.ensures c.in_ok-arcs.ensures c.deref-14.ensures.value c.arcs-system.ensures.value c.deref-12.ensures.value c.deref-15.ensures.value c.in_ok-leaf.ensures c.in_ok-push_arcs.ensures) c.deref-16.ensures.value c.in_ok-rows-2.ensures.rows c.deref-17.ensures.value c.in_ok-rows-2.ensures.told (Ok (map named_row c.push_arcs.new.rows.items)) (λ e t. subst (λ l. checked_leaf c.args.lts.now e (map named_of c.deref-17.result.now) (Ok l)) (ap (map named_of) c.deref-17.ensures.value ∙ c.in_ok-rows-2.ensures.rows ∙ ap (map named_row) c.deref-16.ensures.value) (c.in_ok-check_sizes.ensures.value e t)))
+returns-clause-leaf c = leaf_made c.args.lts.now c.args.tree.now.arcs (cycle_of c.args.basis.now)
+    (row_expression c.args.lts.now c.args.case.class c.args.case.problem c.args.case.number (map side_of c.args.above.now)) (map share_of c.args.named.now)
+    (map ratio_of c.in_ok-shares.shares.items)
+    (chords_told c.args.lts.now c.args.tree.now.arcs (cycle_of c.args.basis.now)
+    (row_expression c.args.lts.now c.args.case.class c.args.case.problem c.args.case.number (map side_of c.args.above.now)) (map share_of c.args.named.now)
+    (map counted_of c.deref.result.now) (ap (map counted_of) c.deref.ensures.value ∙ c.in_ok-counts.ensures) c.deref-2.result.now c.in_ok-used.used.items
+    c.deref-2.ensures.value c.in_ok-used.ensures (Ok (map ratio_of c.in_ok-shares.shares.items)) c.in_ok-shares.ensures.value) (scaled_of c.in_ok-scaled.scaled)
+    (subst (λ l. scaled_fold l (Ok (scaled_of c.in_ok-scaled.scaled)))
+    (fractions_are c.args.named.now c.deref-3.result.now c.in_ok-shares.shares.items c.in_ok-fractions.fractions.items c.deref-4.result.now c.deref-3.ensures.value
+    c.in_ok-fractions.ensures c.deref-4.ensures.value) c.in_ok-scaled.ensures.value) (arc_times c.args.tree.now.arcs c.in_ok-multipliers.multipliers.items)
+    (tree_made c.args.lts.now c.args.tree.now.arcs (cycle_of c.args.basis.now) c.args.named.now
+    (row_expression c.args.lts.now c.args.case.class c.args.case.problem c.args.case.number (map side_of c.args.above.now)) c.in_ok-listed.listed.items
+    c.deref-8.result.now c.in_ok-rows.rows.items c.deref-9.result.now c.arcs.result.now c.in_ok-scaled.scaled.numbers.items c.deref-8.ensures.value
+    (listed_are c.args.lts.now c.args.tree.now.arcs (cycle_of c.args.basis.now) c.args.named.now c.in_ok-chords.chords.items c.deref-6.result.now
+    c.in_ok-scaled.scaled.numbers.items c.deref-7.result.now c.in_ok-listed.listed.items c.deref-6.ensures.value c.in_ok-chords.ensures c.deref-7.ensures.value
+    c.in_ok-listed.ensures) c.in_ok-rows.ensures.rows c.in_ok-rows.ensures.told c.deref-9.ensures.value c.arcs.ensures
+    (Ok (arc_times c.args.tree.now.arcs c.in_ok-multipliers.multipliers.items))
+    (λ e t. subst (λ l. tree_fold e (map named_of c.deref-9.result.now) [] (reverse c.arcs.result.now) (Ok (arc_times l c.in_ok-multipliers.multipliers.items)))
+    c.arcs.ensures (c.in_ok-multipliers.ensures.value e t))) c.in_ok-parts.parts.items
+    (parted c.args.lts.now c.args.tree.now.arcs (cycle_of c.args.basis.now) c.args.named.now c.arcs.result.now c.in_ok-scaled.scaled.numbers.items c.deref-10.result.now
+    c.in_ok-multipliers.multipliers.items c.deref-11.result.now c.in_ok-parts.parts.items c.arcs.ensures c.deref-10.ensures.value c.deref-11.ensures.value
+    c.in_ok-multipliers.ensures.one_each c.in_ok-parts.ensures.parts) (map named_row c.push_arcs.new.rows.items)
+    (checked_as c.args.lts.now c.args.tree.now.arcs (cycle_of c.args.basis.now) c.args.named.now
+    (row_expression c.args.lts.now c.args.case.class c.args.case.problem c.args.case.number (map side_of c.args.above.now)) c.push_arcs.new.rows.items
+    c.deref-16.result.now c.in_ok-rows-2.rows.items c.deref-17.result.now
+    (leaf_rows_of c.args.lts.now c.args.tree.now.arcs (cycle_of c.args.basis.now)
+    (row_expression c.args.lts.now c.args.case.class c.args.case.problem c.args.case.number (map side_of c.args.above.now)) (map share_of c.args.named.now)
+    (map ratio_of c.in_ok-shares.shares.items)
+    (chords_told c.args.lts.now c.args.tree.now.arcs (cycle_of c.args.basis.now)
+    (row_expression c.args.lts.now c.args.case.class c.args.case.problem c.args.case.number (map side_of c.args.above.now)) (map share_of c.args.named.now)
+    (map counted_of c.deref.result.now) (ap (map counted_of) c.deref.ensures.value ∙ c.in_ok-counts.ensures) c.deref-2.result.now c.in_ok-used.used.items
+    c.deref-2.ensures.value c.in_ok-used.ensures (Ok (map ratio_of c.in_ok-shares.shares.items)) c.in_ok-shares.ensures.value) (scaled_of c.in_ok-scaled.scaled)
+    (subst (λ l. scaled_fold l (Ok (scaled_of c.in_ok-scaled.scaled)))
+    (fractions_are c.args.named.now c.deref-3.result.now c.in_ok-shares.shares.items c.in_ok-fractions.fractions.items c.deref-4.result.now c.deref-3.ensures.value
+    c.in_ok-fractions.ensures c.deref-4.ensures.value) c.in_ok-scaled.ensures.value) (arc_times c.args.tree.now.arcs c.in_ok-multipliers.multipliers.items)
+    (tree_made c.args.lts.now c.args.tree.now.arcs (cycle_of c.args.basis.now) c.args.named.now
+    (row_expression c.args.lts.now c.args.case.class c.args.case.problem c.args.case.number (map side_of c.args.above.now)) c.in_ok-listed.listed.items
+    c.deref-8.result.now c.in_ok-rows.rows.items c.deref-9.result.now c.arcs.result.now c.in_ok-scaled.scaled.numbers.items c.deref-8.ensures.value
+    (listed_are c.args.lts.now c.args.tree.now.arcs (cycle_of c.args.basis.now) c.args.named.now c.in_ok-chords.chords.items c.deref-6.result.now
+    c.in_ok-scaled.scaled.numbers.items c.deref-7.result.now c.in_ok-listed.listed.items c.deref-6.ensures.value c.in_ok-chords.ensures c.deref-7.ensures.value
+    c.in_ok-listed.ensures) c.in_ok-rows.ensures.rows c.in_ok-rows.ensures.told c.deref-9.ensures.value c.arcs.ensures
+    (Ok (arc_times c.args.tree.now.arcs c.in_ok-multipliers.multipliers.items))
+    (λ e t. subst (λ l. tree_fold e (map named_of c.deref-9.result.now) [] (reverse c.arcs.result.now) (Ok (arc_times l c.in_ok-multipliers.multipliers.items)))
+    c.arcs.ensures (c.in_ok-multipliers.ensures.value e t))) c.in_ok-parts.parts.items
+    (parted c.args.lts.now c.args.tree.now.arcs (cycle_of c.args.basis.now) c.args.named.now c.arcs.result.now c.in_ok-scaled.scaled.numbers.items c.deref-10.result.now
+    c.in_ok-multipliers.multipliers.items c.deref-11.result.now c.in_ok-parts.parts.items c.arcs.ensures c.deref-10.ensures.value c.deref-11.ensures.value
+    c.in_ok-multipliers.ensures.one_each c.in_ok-parts.ensures.parts))
+    (leaf_is c.args.lts.now c.args.tree.now.arcs (cycle_of c.args.basis.now) c.args.named.now c.arcs.result.now c.arcs-2.result.now c.in_ok-arcs.arcs.items
+    c.deref-14.result.now c.in_ok-chords.chords.items c.deref-13.result.now c.arcs-system.result.now c.in_ok-multipliers.multipliers.items c.in_ok-parts.parts.items
+    c.deref-12.result.now c.deref-15.result.now c.in_ok-leaf.leaf.items c.push_arcs.new.rows.items c.arcs.ensures c.arcs-2.ensures c.in_ok-multipliers.ensures.one_each
+    c.deref-13.ensures.value c.in_ok-chords.ensures c.in_ok-arcs.ensures c.deref-14.ensures.value c.arcs-system.ensures.value c.deref-12.ensures.value
+    c.deref-15.ensures.value c.in_ok-leaf.ensures c.in_ok-push_arcs.ensures) c.deref-16.ensures.value c.in_ok-rows-2.ensures.rows c.deref-17.ensures.value
+    c.in_ok-rows-2.ensures.told (Ok (map named_row c.push_arcs.new.rows.items))
+    (λ e t. subst (λ l. checked_leaf c.args.lts.now e (map named_of c.deref-17.result.now) (Ok l))
+    (ap (map named_of) c.deref-17.ensures.value ∙ c.in_ok-rows-2.ensures.rows ∙ ap (map named_row) c.deref-16.ensures.value) (c.in_ok-check_sizes.ensures.value e t)))
 
 pub returns-clause-in_range : goal.returns-clause-in_range
-returns-clause-in_range c = leaf_range c.args.lts.now c.args.tree.now.arcs (cycle_of c.args.basis.now) c.args.named.now (chord_arcs c.args.lts.now c.args.tree.now.arcs (cycle_of c.args.basis.now) ++ map (λ x. x.arc) (arc_times c.args.tree.now.arcs c.in_ok-multipliers.multipliers.items)) c.in_ok-parts.parts.items c.in_ok-parts.parts.items c.push_arcs.new.rows.items (leaf_is c.args.lts.now c.args.tree.now.arcs (cycle_of c.args.basis.now) c.args.named.now c.arcs.result.now c.arcs-2.result.now c.in_ok-arcs.arcs.items c.deref-14.result.now c.in_ok-chords.chords.items c.deref-13.result.now c.arcs-system.result.now c.in_ok-multipliers.multipliers.items c.in_ok-parts.parts.items c.deref-12.result.now c.deref-15.result.now c.in_ok-leaf.leaf.items c.push_arcs.new.rows.items c.arcs.ensures c.arcs-2.ensures c.in_ok-multipliers.ensures.one_each c.deref-13.ensures.value c.in_ok-chords.ensures c.in_ok-arcs.ensures c.deref-14.ensures.value c.arcs-system.ensures.value c.deref-12.ensures.value c.deref-15.ensures.value c.in_ok-leaf.ensures c.in_ok-push_arcs.ensures) c.in_ok-parts.ensures.in_range
+returns-clause-in_range c = leaf_range c.args.lts.now c.args.tree.now.arcs (cycle_of c.args.basis.now) c.args.named.now
+    (chord_arcs c.args.lts.now c.args.tree.now.arcs (cycle_of c.args.basis.now) ++ map (λ x. x.arc)
+    (arc_times c.args.tree.now.arcs c.in_ok-multipliers.multipliers.items)) c.in_ok-parts.parts.items c.in_ok-parts.parts.items c.push_arcs.new.rows.items
+    (leaf_is c.args.lts.now c.args.tree.now.arcs (cycle_of c.args.basis.now) c.args.named.now c.arcs.result.now c.arcs-2.result.now c.in_ok-arcs.arcs.items
+    c.deref-14.result.now c.in_ok-chords.chords.items c.deref-13.result.now c.arcs-system.result.now c.in_ok-multipliers.multipliers.items c.in_ok-parts.parts.items
+    c.deref-12.result.now c.deref-15.result.now c.in_ok-leaf.leaf.items c.push_arcs.new.rows.items c.arcs.ensures c.arcs-2.ensures c.in_ok-multipliers.ensures.one_each
+    c.deref-13.ensures.value c.in_ok-chords.ensures c.in_ok-arcs.ensures c.deref-14.ensures.value c.arcs-system.ensures.value c.deref-12.ensures.value
+    c.deref-15.ensures.value c.in_ok-leaf.ensures c.in_ok-push_arcs.ensures) c.in_ok-parts.ensures.in_range

@@ -5,7 +5,7 @@ use Rattle.std.proofs.lemmas.Int.{ints}
 use Rattle.rg_integers.proofs.Casts.{back}
 use Rattle.rg_refuting.specs.Expression.{coefficient_in}
 use Rattle.rg_reasons.specs.Sums.{variable_of}
-use Rattle.rg_expressions.proofs.Counting.{in_range_between, coefficient_next, nothing_next, whole_sum}
+use Rattle.rg_case_parts.proofs.Counting.{in_range_between, coefficient_next, nothing_next, whole_sum}
 use Rattle.rg_farkas.proofs.sums.coefficient.Goals as goal
 use Rattle.rg_farkas.proofs.sums.coefficient.Goals.{in-Some, in_default}
 

@@ -11,7 +11,9 @@ pub returns-in_err-sum-clause-wide : goal.returns-in_err-sum-clause-wide
 returns-in_err-sum-clause-wide c = λ w e expression told.
     let same : c.from_residual-in_err-sum.result ≡ Err (stop.Wide c.in_err-sum.field-0.0) = search rules in
     let is : c.in_err-sum.field-0.0 ≡ w = cc in
-    let h = state_fails c.args.rows.now c.args.tree.now c.loop-i.multipliers.items c.loop-i.i record { from = 0; label = 0; to = 0 } c.loop-i-test.true c.loop-i.auto.i c.loop-i.invariant.one_each c.loop-i.invariant.in_range c.loop-i.invariant.so_far c.deref.result.now c.deref.ensures.value c.in_err-sum.field-0.0 c.in_err-sum.ensures.value expression told in
+    let h = state_fails c.args.rows.now c.args.tree.now c.loop-i.multipliers.items c.loop-i.i record { from = 0; label = 0; to = 0 } c.loop-i-test.true c.loop-i.auto.i
+    c.loop-i.invariant.one_each c.loop-i.invariant.in_range c.loop-i.invariant.so_far c.deref.result.now c.deref.ensures.value c.in_err-sum.field-0.0
+    c.in_err-sum.ensures.value expression told in
     rw is at h
 
 pub loop-i-preserved : goal.loop-i-preserved
@@ -19,5 +21,7 @@ loop-i-preserved c =
     rw (back c.in_ok-sum.sum c.in_ok-sum.ensures.in_range) (record {
       one_each = simp length-set c.loop-i.invariant.one_each;
       in_range = All-set InRange c.loop-i.multipliers.items (c.loop-i.i - 1) c.in_ok-sum.sum c.in_ok-sum.ensures.in_range c.loop-i.invariant.in_range;
-      so_far = state_next c.args.rows.now c.args.tree.now c.loop-i.multipliers.items c.loop-i.i record { from = 0; label = 0; to = 0 } c.loop-i-test.true c.loop-i.auto.i c.loop-i.invariant.one_each c.loop-i.invariant.in_range c.loop-i.invariant.so_far c.deref.result.now c.deref.ensures.value c.in_ok-sum.sum c.in_ok-sum.ensures.value;
+      so_far = state_next c.args.rows.now c.args.tree.now c.loop-i.multipliers.items c.loop-i.i record { from = 0; label = 0; to = 0 } c.loop-i-test.true c.loop-i.auto.i
+          c.loop-i.invariant.one_each c.loop-i.invariant.in_range c.loop-i.invariant.so_far c.deref.result.now c.deref.ensures.value c.in_ok-sum.sum
+          c.in_ok-sum.ensures.value;
     })

@@ -17,8 +17,12 @@ returns-in-Ok-clause-told c = λ system whole.
     let least = rw (c.columns-columns.ensures, c.members.ensures) at c.in-Some.ensures.least in
     let exact = rw c.columns-columns.ensures at c.in-Ok.ensures.exact system whole in
     let is = rw c.columns-columns.ensures at c.in-Ok.ensures.members in
-    let fails = negative_number (number_at c.numbers-numbers.result.now 1) (c.numbers-numbers.ensures.in_range 1) c.if-numbers-ge0.false in
-    (_, step_chooses c.args.table.now c.args.stack.now c.args.i c.numbers-numbers.result.now system whole shows fails c.in-Some.place names least, step_fits c.args.table.now c.args.stack.now c.args.i c.numbers-numbers.result.now system whole shows fails _ exact.0, step_exchanges c.args.table.now c.args.stack.now c.args.i c.numbers-numbers.result.now system whole shows fails _ c.exchange.new.self.members is)
+    let fails = negative_number (number_at c.numbers-numbers.result.now 1) (c.numbers-numbers.ensures.in_range 1) c.if-numbers-ge0.false in (
+      _,
+      step_chooses c.args.table.now c.args.stack.now c.args.i c.numbers-numbers.result.now system whole shows fails c.in-Some.place names least,
+      step_fits c.args.table.now c.args.stack.now c.args.i c.numbers-numbers.result.now system whole shows fails _ exact.0,
+      step_exchanges c.args.table.now c.args.stack.now c.args.i c.numbers-numbers.result.now system whole shows fails _ c.exchange.new.self.members is,
+    )
 
 pub returns-in-Err-clause-told : goal.returns-in-Err-clause-told
 returns-in-Err-clause-told c = λ system whole.
@@ -27,4 +31,10 @@ returns-in-Err-clause-told c = λ system whole.
     let least = rw (c.columns-columns.ensures, c.members.ensures) at c.in-Some.ensures.least in
     let first = rw c.columns-columns.ensures at c.in-Err.ensures.exact system whole in
     let fails = negative_number (number_at c.numbers-numbers.result.now 1) (c.numbers-numbers.ensures.in_range 1) c.if-numbers-ge0.false in
-    rw (c.members-2.ensures, c.columns-columns.ensures) (step_chooses c.args.table.now c.args.stack.now c.args.i c.numbers-numbers.result.now system whole shows fails c.in-Some.place names least, step_passes c.args.table.now c.args.stack.now c.args.i c.numbers-numbers.result.now system whole shows fails _ c.in-Err.at.target c.in-Err.at.entry c.in-Err.at.wide first, pivot_is c.args.table.now c.args.stack.now c.args.i c.numbers-numbers.result.now system whole shows fails, c.in-Err.ensures.members_stay)
+    rw (c.members-2.ensures, c.columns-columns.ensures) (
+      step_chooses c.args.table.now c.args.stack.now c.args.i c.numbers-numbers.result.now system whole shows fails c.in-Some.place names least,
+      step_passes c.args.table.now c.args.stack.now c.args.i c.numbers-numbers.result.now system whole shows fails _ c.in-Err.at.target c.in-Err.at.entry
+          c.in-Err.at.wide first,
+      pivot_is c.args.table.now c.args.stack.now c.args.i c.numbers-numbers.result.now system whole shows fails,
+      c.in-Err.ensures.members_stay,
+    )

@@ -1,4 +1,4 @@
-use Rattle.rg_items.proofs.Names.{read_as_name}
+use Rattle.rg_text.proofs.Names.{read_as_name}
 use Rattle.rg_firsts.proofs.names.as_name.Goals as goal
 
 pub unwrap-requires : goal.unwrap-requires

@@ -1,5 +1,5 @@
 use Rattle.std.proofs.Common.{◌≡◌, ℕ, ◌<◌, ◌≤◌}
-use Rattle.rg_fraction.specs.Terms.{term_value}
+use Rattle.rg_integers.specs.Term.{term_value}
 use Rattle.rg_integers.specs.Sum.{number_at}
 use Rattle.rg_fraction.specs.Rows.{row_term}
 use Rattle.rg_fraction.proofs.row.cross.Given as goal

@@ -5,5 +5,5 @@ use Rattle.rg_isomorphism.proofs.comparing.follow.Goals as goal
 
 pub returns-clause-none : goal.returns-clause-none
 returns-clause-none c =
-    pair_done c.args.a.now c.args.b.now (pairs_in c.loop-t.pairing) c.args.place c.loop-t.t (let n = c.labels-t-end.ensures.value in let m = c.loop-t-test.false in omega (arith, n, m))
+    pair_done c.args.a.now c.args.b.now (pairs_in c.loop-t.pairing) c.args.index c.loop-t.t (let n = c.labels-t-end.ensures.value in let m = c.loop-t-test.false in omega (arith, n, m))
     c.loop-t.invariant.followed

@@ -5,6 +5,6 @@ use Rattle.rg_isomorphism.proofs.comparing.follow.Given as goal
 
 abbrev pub invariant-loop-t : goal.invariant-loop-t
 invariant-loop-t l = record {
-  within : l.place < length l.pairing.order.items;
-  followed : IsFollowedTo l.a l.b (pairs_in l.pairing) l.place l.t;
+  within : l.index < length l.pairing.order.items;
+  followed : IsFollowedTo l.a l.b (pairs_in l.pairing) l.index l.t;
 }

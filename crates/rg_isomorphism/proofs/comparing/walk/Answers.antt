@@ -12,21 +12,21 @@ returns-in-Some c =
     told_compares c.args.a.now c.args.b.now c.requires.labels c.in-Some.difference
     (at_told (IsTold c.args.a.now c.args.b.now) c.in_ok-difference.field-0 c.in-Some.difference c.in-Some.is c.in_ok-difference.ensures.found)
 
-whole : (c : After-len) → (c.len.result ≤ c.loop-place.place) → IsWhole c.args.a.now c.args.b.now (pairs_in c.loop-place.pairing) c.loop-place.place
-whole c past = record { followed = c.loop-place.invariant; all = let n = c.len.ensures in omega (arith, n, past) }
+whole : (c : After-len) → (c.len.result ≤ c.loop-index.index) → IsWhole c.args.a.now c.args.b.now (pairs_in c.loop-index.pairing) c.loop-index.index
+whole c past = record { followed = c.loop-index.invariant; all = let n = c.len.ensures in omega (arith, n, past) }
 
 pub mapped-requires : goal.mapped-requires
 mapped-requires c = λ s lt.
-    (let past = c.loop-place-test.false in
+    (let past = c.loop-index-test.false in
     let w = whole (goal.at.mapped-requires c).After-len (omega (arith, past)) in
     let lt' = subst (λ xs. s < length xs) c.deref.ensures.value lt in
-    let (q, is) = each_has c.args.a.now c.args.b.now c.requires.comparable c.requires.labels (pairs_in c.loop-place.pairing) c.loop-place.place w c.requires.first s lt' in
+    let (q, is) = each_has c.args.a.now c.args.b.now c.requires.comparable c.requires.labels (pairs_in c.loop-index.pairing) c.loop-index.index w c.requires.first s lt' in
     ap is_some (ap (λ xs. slice_index_or xs s None) c.deref.ensures.value ∙ is))
 
 pub returns : goal.returns
 returns c =
-    let past = c.loop-place-test.false in
+    let past = c.loop-index-test.false in
     let w = whole (goal.at.returns c).After-len (omega (arith, past)) in
     let states = c.in_ok-mapped.field-0.items in
     by_map states c.requires.labels
-    (isomorphism c.args.a.now c.args.b.now c.requires.comparable c.requires.labels (pairs_in c.loop-place.pairing) c.loop-place.place w states (c.in_ok-mapped.ensures ∙ c.deref.ensures.value) c.requires.second)
+    (isomorphism c.args.a.now c.args.b.now c.requires.comparable c.requires.labels (pairs_in c.loop-index.pairing) c.loop-index.index w states (c.in_ok-mapped.ensures ∙ c.deref.ensures.value) c.requires.second)

@@ -1,6 +1,7 @@
 use Rattle.std.proofs.Common.{subst, sym}
 use Rattle.rg_text.specs.Byte.{IsName}
-use Rattle.rg_items.proofs.Names.{name_token, read_as_name}
+use Rattle.rg_items.proofs.Names.{name_token}
+use Rattle.rg_text.proofs.Names.{read_as_name}
 use Rattle.rg_items.proofs.texts.name_of.Goals as goal
 
 pub unwrap-requires : goal.unwrap-requires

@@ -27,31 +27,66 @@ index-source-requires c =
     omega arith
 
 pub allows-requires : goal.allows-requires
-allows-requires c = listed_within c.args.net.now (get_or c.args.tree.now c.loop-a.a-index (arc 0 0 0)).label c.deref.result.now (subst (IsFlow c.args.net.now (get_or c.args.tree.now c.loop-a.a-index (arc 0 0 0)).label) (sym c.deref.ensures.value) (flow_read c.args.net.now c.args.flows.now (get_or c.args.tree.now c.loop-a.a-index (arc 0 0 0)).label c.index-flows-a.result c.requires.flows (label_within c.args.lts.now c.args.net.now c.args.tree.now (shown_markings c.loop-a.rows.items) c.loop-a.a-index (arc 0 0 0) c.in_ok-rows.ensures.system c.requires.tree c.requires.labels c.loop-a-test.true c.loop-a.invariant) c.index-flows-a.is)) (length c.deref-in-loop-a.result.now) (source_places c.args.lts.now c.args.net.now c.args.tree.now (shown_markings c.loop-a.rows.items) c.loop-a.a-index (arc 0 0 0) c.in_ok-rows.ensures.system c.requires.tree c.requires.labels c.loop-a-test.true c.loop-a.invariant c.deref-in-loop-a.result.now (source_row c.args.lts.now c.args.net.now c.args.tree.now c.loop-a.rows.items c.loop-a.a-index (arc 0 0 0) c.in_ok-rows.ensures.system c.requires.tree c.requires.labels c.loop-a-test.true c.loop-a.invariant c.index-source.result.now c.index-source.ensures ∙ sym c.deref-in-loop-a.ensures.value))
+allows-requires c = listed_within c.args.net.now (get_or c.args.tree.now c.loop-a.a-index (arc 0 0 0)).label c.deref.result.now
+    (subst (IsFlow c.args.net.now (get_or c.args.tree.now c.loop-a.a-index (arc 0 0 0)).label) (sym c.deref.ensures.value)
+    (flow_read c.args.net.now c.args.flows.now (get_or c.args.tree.now c.loop-a.a-index (arc 0 0 0)).label c.index-flows-a.result c.requires.flows
+    (label_within c.args.lts.now c.args.net.now c.args.tree.now (shown_markings c.loop-a.rows.items) c.loop-a.a-index
+    (arc 0 0 0) c.in_ok-rows.ensures.system c.requires.tree c.requires.labels c.loop-a-test.true c.loop-a.invariant) c.index-flows-a.is))
+    (length c.deref-in-loop-a.result.now) (source_places c.args.lts.now c.args.net.now c.args.tree.now (shown_markings c.loop-a.rows.items) c.loop-a.a-index
+    (arc 0 0 0) c.in_ok-rows.ensures.system c.requires.tree c.requires.labels c.loop-a-test.true c.loop-a.invariant c.deref-in-loop-a.result.now
+    (source_row c.args.lts.now c.args.net.now c.args.tree.now c.loop-a.rows.items c.loop-a.a-index
+    (arc 0 0 0) c.in_ok-rows.ensures.system c.requires.tree c.requires.labels c.loop-a-test.true c.loop-a.invariant c.index-source.result.now c.index-source.ensures
+    ∙ sym c.deref-in-loop-a.ensures.value))
 
 pub returns-then-not-allows-clause-no : goal.returns-then-not-allows-clause-no
 returns-then-not-allows-clause-no c = λ class n e.
     let same : NotEnabled (get_or c.args.tree.now c.loop-a.a-index (arc 0 0 0)).from (get_or c.args.tree.now c.loop-a.a-index (arc 0 0 0)).label ≡ n = cc in
     subst (λ v. Tells c.args.lts.now c.args.net.now c.args.tree.now class (Ok (No v))) same
-    (inl (stuck_here c.args.lts.now c.args.net.now c.args.tree.now (shown_markings c.loop-a.rows.items) c.loop-a.a-index (arc 0 0 0) c.in_ok-rows.ensures.system c.requires.tree c.requires.labels c.loop-a-test.true c.loop-a.invariant c.deref-in-loop-a.result.now (source_row c.args.lts.now c.args.net.now c.args.tree.now c.loop-a.rows.items c.loop-a.a-index (arc 0 0 0) c.in_ok-rows.ensures.system c.requires.tree c.requires.labels c.loop-a-test.true c.loop-a.invariant c.index-source.result.now c.index-source.ensures ∙ sym c.deref-in-loop-a.ensures.value)
-    (λ on. false≢true (sym c.if-not-allows.true ∙ c.allows.ensures.1 (tokens_of c.args.net.now (get_or c.args.tree.now c.loop-a.a-index (arc 0 0 0)).label c.deref.result.now (subst (IsFlow c.args.net.now (get_or c.args.tree.now c.loop-a.a-index (arc 0 0 0)).label) (sym c.deref.ensures.value) (flow_read c.args.net.now c.args.flows.now (get_or c.args.tree.now c.loop-a.a-index (arc 0 0 0)).label c.index-flows-a.result c.requires.flows (label_within c.args.lts.now c.args.net.now c.args.tree.now (shown_markings c.loop-a.rows.items) c.loop-a.a-index (arc 0 0 0) c.in_ok-rows.ensures.system c.requires.tree c.requires.labels c.loop-a-test.true c.loop-a.invariant) c.index-flows-a.is)) c.deref-in-loop-a.result.now on)))))
+    (inl (stuck_here c.args.lts.now c.args.net.now c.args.tree.now (shown_markings c.loop-a.rows.items) c.loop-a.a-index
+    (arc 0 0 0) c.in_ok-rows.ensures.system c.requires.tree c.requires.labels c.loop-a-test.true c.loop-a.invariant c.deref-in-loop-a.result.now
+    (source_row c.args.lts.now c.args.net.now c.args.tree.now c.loop-a.rows.items c.loop-a.a-index
+    (arc 0 0 0) c.in_ok-rows.ensures.system c.requires.tree c.requires.labels c.loop-a-test.true c.loop-a.invariant c.index-source.result.now c.index-source.ensures
+    ∙ sym c.deref-in-loop-a.ensures.value)
+    (λ on. false≢true (sym c.if-not-allows.true
+    ∙ c.allows.ensures.1 (tokens_of c.args.net.now (get_or c.args.tree.now c.loop-a.a-index (arc 0 0 0)).label c.deref.result.now
+    (subst (IsFlow c.args.net.now (get_or c.args.tree.now c.loop-a.a-index (arc 0 0 0)).label) (sym c.deref.ensures.value)
+    (flow_read c.args.net.now c.args.flows.now (get_or c.args.tree.now c.loop-a.a-index (arc 0 0 0)).label c.index-flows-a.result c.requires.flows
+    (label_within c.args.lts.now c.args.net.now c.args.tree.now (shown_markings c.loop-a.rows.items) c.loop-a.a-index
+    (arc 0 0 0) c.in_ok-rows.ensures.system c.requires.tree c.requires.labels c.loop-a-test.true c.loop-a.invariant) c.index-flows-a.is))
+    c.deref-in-loop-a.result.now on)))))
 
 pub fired-requires-clause-flow : goal.fired-requires-clause-flow
-fired-requires-clause-flow c = subst (IsFlow c.args.net.now (get_or c.args.tree.now c.loop-a.a-index (arc 0 0 0)).label) (sym c.deref-in-loop-a-2.ensures.value) (flow_read c.args.net.now c.args.flows.now (get_or c.args.tree.now c.loop-a.a-index (arc 0 0 0)).label c.index-flows-a.result c.requires.flows (label_within c.args.lts.now c.args.net.now c.args.tree.now (shown_markings c.loop-a.rows.items) c.loop-a.a-index (arc 0 0 0) c.in_ok-rows.ensures.system c.requires.tree c.requires.labels c.loop-a-test.true c.loop-a.invariant) c.index-flows-a.is)
+fired-requires-clause-flow c = subst (IsFlow c.args.net.now (get_or c.args.tree.now c.loop-a.a-index (arc 0 0 0)).label) (sym c.deref-in-loop-a-2.ensures.value)
+    (flow_read c.args.net.now c.args.flows.now (get_or c.args.tree.now c.loop-a.a-index (arc 0 0 0)).label c.index-flows-a.result c.requires.flows
+    (label_within c.args.lts.now c.args.net.now c.args.tree.now (shown_markings c.loop-a.rows.items) c.loop-a.a-index
+    (arc 0 0 0) c.in_ok-rows.ensures.system c.requires.tree c.requires.labels c.loop-a-test.true c.loop-a.invariant) c.index-flows-a.is)
 
 pub fired-requires-clause-enabled : goal.fired-requires-clause-enabled
 fired-requires-clause-enabled c =
     subst (λ m. IsEnabled c.args.net.now m (get_or c.args.tree.now c.loop-a.a-index (arc 0 0 0)).label) (c.deref-in-loop-a.ensures.value ∙ sym c.deref-in-loop-a-3.ensures.value)
-    (enabled_by c.args.net.now (get_or c.args.tree.now c.loop-a.a-index (arc 0 0 0)).label c.deref.result.now (subst (IsFlow c.args.net.now (get_or c.args.tree.now c.loop-a.a-index (arc 0 0 0)).label) (sym c.deref.ensures.value) (flow_read c.args.net.now c.args.flows.now (get_or c.args.tree.now c.loop-a.a-index (arc 0 0 0)).label c.index-flows-a.result c.requires.flows (label_within c.args.lts.now c.args.net.now c.args.tree.now (shown_markings c.loop-a.rows.items) c.loop-a.a-index (arc 0 0 0) c.in_ok-rows.ensures.system c.requires.tree c.requires.labels c.loop-a-test.true c.loop-a.invariant) c.index-flows-a.is)) c.deref-in-loop-a.result.now (c.allows.ensures.0 c.if-not-allows.false))
+    (enabled_by c.args.net.now (get_or c.args.tree.now c.loop-a.a-index (arc 0 0 0)).label c.deref.result.now
+    (subst (IsFlow c.args.net.now (get_or c.args.tree.now c.loop-a.a-index (arc 0 0 0)).label) (sym c.deref.ensures.value)
+    (flow_read c.args.net.now c.args.flows.now (get_or c.args.tree.now c.loop-a.a-index (arc 0 0 0)).label c.index-flows-a.result c.requires.flows
+    (label_within c.args.lts.now c.args.net.now c.args.tree.now (shown_markings c.loop-a.rows.items) c.loop-a.a-index
+    (arc 0 0 0) c.in_ok-rows.ensures.system c.requires.tree c.requires.labels c.loop-a-test.true c.loop-a.invariant) c.index-flows-a.is))
+    c.deref-in-loop-a.result.now (c.allows.ensures.0 c.if-not-allows.false))
 
 pub fired-requires-clause-places : goal.fired-requires-clause-places
-fired-requires-clause-places c = source_places c.args.lts.now c.args.net.now c.args.tree.now (shown_markings c.loop-a.rows.items) c.loop-a.a-index (arc 0 0 0) c.in_ok-rows.ensures.system c.requires.tree c.requires.labels c.loop-a-test.true c.loop-a.invariant c.deref-in-loop-a-3.result.now (source_row c.args.lts.now c.args.net.now c.args.tree.now c.loop-a.rows.items c.loop-a.a-index (arc 0 0 0) c.in_ok-rows.ensures.system c.requires.tree c.requires.labels c.loop-a-test.true c.loop-a.invariant c.index-source.result.now c.index-source.ensures ∙ sym c.deref-in-loop-a-3.ensures.value)
+fired-requires-clause-places c = source_places c.args.lts.now c.args.net.now c.args.tree.now (shown_markings c.loop-a.rows.items) c.loop-a.a-index
+    (arc 0 0 0) c.in_ok-rows.ensures.system c.requires.tree c.requires.labels c.loop-a-test.true c.loop-a.invariant c.deref-in-loop-a-3.result.now
+    (source_row c.args.lts.now c.args.net.now c.args.tree.now c.loop-a.rows.items c.loop-a.a-index
+    (arc 0 0 0) c.in_ok-rows.ensures.system c.requires.tree c.requires.labels c.loop-a-test.true c.loop-a.invariant c.index-source.result.now c.index-source.ensures
+    ∙ sym c.deref-in-loop-a-3.ensures.value)
 
 pub fired-requires-clause-label : goal.fired-requires-clause-label
 fired-requires-clause-label c = label_within c.args.lts.now c.args.net.now c.args.tree.now (shown_markings c.loop-a.rows.items) c.loop-a.a-index (arc 0 0 0) c.in_ok-rows.ensures.system c.requires.tree c.requires.labels c.loop-a-test.true c.loop-a.invariant
 
 pub fired-requires-clause-in_range : goal.fired-requires-clause-in_range
-fired-requires-clause-in_range c = source_in_range c.args.lts.now c.args.net.now c.args.tree.now (shown_markings c.loop-a.rows.items) c.loop-a.a-index (arc 0 0 0) c.in_ok-rows.ensures.system c.requires.tree c.requires.labels c.loop-a-test.true c.loop-a.invariant c.deref-in-loop-a-3.result.now (source_row c.args.lts.now c.args.net.now c.args.tree.now c.loop-a.rows.items c.loop-a.a-index (arc 0 0 0) c.in_ok-rows.ensures.system c.requires.tree c.requires.labels c.loop-a-test.true c.loop-a.invariant c.index-source.result.now c.index-source.ensures ∙ sym c.deref-in-loop-a-3.ensures.value)
+fired-requires-clause-in_range c = source_in_range c.args.lts.now c.args.net.now c.args.tree.now (shown_markings c.loop-a.rows.items) c.loop-a.a-index
+    (arc 0 0 0) c.in_ok-rows.ensures.system c.requires.tree c.requires.labels c.loop-a-test.true c.loop-a.invariant c.deref-in-loop-a-3.result.now
+    (source_row c.args.lts.now c.args.net.now c.args.tree.now c.loop-a.rows.items c.loop-a.a-index
+    (arc 0 0 0) c.in_ok-rows.ensures.system c.requires.tree c.requires.labels c.loop-a-test.true c.loop-a.invariant c.index-source.result.now c.index-source.ensures
+    ∙ sym c.deref-in-loop-a-3.ensures.value)
 
 pub returns-in_err-target-clause-wide : goal.returns-in_err-target-clause-wide
 returns-in_err-target-clause-wide c = λ class w e.
@@ -60,7 +95,19 @@ returns-in_err-target-clause-wide c = λ class w e.
     let j = h.2 in
     let g = c.in_err-target.was in
     let told : c.fired.result ≡ Err (Stop (Wide w)) = cc in
-    passes_here c.args.lts.now c.args.net.now c.args.tree.now (shown_markings c.loop-a.rows.items) c.loop-a.a-index (arc 0 0 0) c.in_ok-rows.ensures.system c.requires.tree c.requires.labels c.loop-a-test.true c.loop-a.invariant c.deref-in-loop-a-3.result.now w (source_row c.args.lts.now c.args.net.now c.args.tree.now c.loop-a.rows.items c.loop-a.a-index (arc 0 0 0) c.in_ok-rows.ensures.system c.requires.tree c.requires.labels c.loop-a-test.true c.loop-a.invariant c.index-source.result.now c.index-source.ensures ∙ sym c.deref-in-loop-a-3.ensures.value) (subst (λ m. IsEnabled c.args.net.now m (get_or c.args.tree.now c.loop-a.a-index (arc 0 0 0)).label) (c.deref-in-loop-a.ensures.value ∙ sym c.deref-in-loop-a-3.ensures.value) (enabled_by c.args.net.now (get_or c.args.tree.now c.loop-a.a-index (arc 0 0 0)).label c.deref.result.now (subst (IsFlow c.args.net.now (get_or c.args.tree.now c.loop-a.a-index (arc 0 0 0)).label) (sym c.deref.ensures.value) (flow_read c.args.net.now c.args.flows.now (get_or c.args.tree.now c.loop-a.a-index (arc 0 0 0)).label c.index-flows-a.result c.requires.flows (label_within c.args.lts.now c.args.net.now c.args.tree.now (shown_markings c.loop-a.rows.items) c.loop-a.a-index (arc 0 0 0) c.in_ok-rows.ensures.system c.requires.tree c.requires.labels c.loop-a-test.true c.loop-a.invariant) c.index-flows-a.is)) c.deref-in-loop-a.result.now (c.allows.ensures.0 c.if-not-allows.false))) (c.fired.ensures.passes w told)
+    passes_here c.args.lts.now c.args.net.now c.args.tree.now (shown_markings c.loop-a.rows.items) c.loop-a.a-index
+    (arc 0 0 0) c.in_ok-rows.ensures.system c.requires.tree c.requires.labels c.loop-a-test.true c.loop-a.invariant c.deref-in-loop-a-3.result.now w
+    (source_row c.args.lts.now c.args.net.now c.args.tree.now c.loop-a.rows.items c.loop-a.a-index
+    (arc 0 0 0) c.in_ok-rows.ensures.system c.requires.tree c.requires.labels c.loop-a-test.true c.loop-a.invariant c.index-source.result.now c.index-source.ensures
+    ∙ sym c.deref-in-loop-a-3.ensures.value)
+    (subst (λ m. IsEnabled c.args.net.now m (get_or c.args.tree.now c.loop-a.a-index (arc 0 0 0)).label)
+    (c.deref-in-loop-a.ensures.value ∙ sym c.deref-in-loop-a-3.ensures.value)
+    (enabled_by c.args.net.now (get_or c.args.tree.now c.loop-a.a-index (arc 0 0 0)).label c.deref.result.now
+    (subst (IsFlow c.args.net.now (get_or c.args.tree.now c.loop-a.a-index (arc 0 0 0)).label) (sym c.deref.ensures.value)
+    (flow_read c.args.net.now c.args.flows.now (get_or c.args.tree.now c.loop-a.a-index (arc 0 0 0)).label c.index-flows-a.result c.requires.flows
+    (label_within c.args.lts.now c.args.net.now c.args.tree.now (shown_markings c.loop-a.rows.items) c.loop-a.a-index
+    (arc 0 0 0) c.in_ok-rows.ensures.system c.requires.tree c.requires.labels c.loop-a-test.true c.loop-a.invariant) c.index-flows-a.is))
+    c.deref-in-loop-a.result.now (c.allows.ensures.0 c.if-not-allows.false))) (c.fired.ensures.passes w told)
 
 pub index_mut-requires : goal.index_mut-requires
 index_mut-requires c =
@@ -72,7 +119,11 @@ index_mut-requires c =
 pub loop-a-preserved : goal.loop-a-preserved
 loop-a-preserved c =
     subst (λ ms. AlongSoFar c.args.lts.now c.args.net.now c.args.tree.now ms (c.loop-a.a-index + 1)) (sym (row_set c.loop-a.rows.items (get_or c.args.tree.now c.loop-a.a-index (arc 0 0 0)).to c.in_ok-target.target))
-    (along_next c.args.lts.now c.args.net.now c.args.tree.now (shown_markings c.loop-a.rows.items) c.loop-a.a-index (arc 0 0 0) c.in_ok-rows.ensures.system c.requires.tree c.requires.labels c.loop-a-test.true c.loop-a.invariant c.deref-in-loop-a-3.result.now c.in_ok-target.target.items (source_row c.args.lts.now c.args.net.now c.args.tree.now c.loop-a.rows.items c.loop-a.a-index (arc 0 0 0) c.in_ok-rows.ensures.system c.requires.tree c.requires.labels c.loop-a-test.true c.loop-a.invariant c.index-source.result.now c.index-source.ensures ∙ sym c.deref-in-loop-a-3.ensures.value) c.in_ok-target.ensures.fires c.in_ok-target.ensures.in_range)
+    (along_next c.args.lts.now c.args.net.now c.args.tree.now (shown_markings c.loop-a.rows.items) c.loop-a.a-index
+    (arc 0 0 0) c.in_ok-rows.ensures.system c.requires.tree c.requires.labels c.loop-a-test.true c.loop-a.invariant c.deref-in-loop-a-3.result.now
+    c.in_ok-target.target.items (source_row c.args.lts.now c.args.net.now c.args.tree.now c.loop-a.rows.items c.loop-a.a-index
+    (arc 0 0 0) c.in_ok-rows.ensures.system c.requires.tree c.requires.labels c.loop-a-test.true c.loop-a.invariant c.index-source.result.now c.index-source.ensures
+    ∙ sym c.deref-in-loop-a-3.ensures.value) c.in_ok-target.ensures.fires c.in_ok-target.ensures.in_range)
 
 pub returns-clause-rows : goal.returns-clause-rows
 returns-clause-rows c = along_rows c.args.lts.now c.args.net.now c.args.tree.now (shown_markings c.loop-a.rows.items) c.loop-a.a-index c.requires.reachable c.loop-a-test.false c.loop-a.invariant

@@ -12,7 +12,9 @@ sum_of_shares-requires-clause-places c =
     places_within lts (cycle_of c.args.basis.now) c.args.columns.now c.args.t c.in-Some.relation.now are (subst (λ n. ShowsRelation n (cycle_of c.args.basis.now) c.args.t c.in-Some.relation.now) (sym same) c.in-Some.ensures.exact.1)
 
 pub returns-in-Some : goal.returns-in-Some
-returns-in-Some c = λ lts same are. dependent_made lts (cycle_of c.args.basis.now) c.args.columns.now c.args.t c.in-Some.relation.now are (subst (λ n. ShowsRelation n (cycle_of c.args.basis.now) c.args.t c.in-Some.relation.now) (sym same) c.in-Some.ensures.exact.1) c.in-Some.ensures.exact.0 (shown_result ratio_of c.sum_of_shares.result) c.sum_of_shares.ensures
+returns-in-Some c = λ lts same are. dependent_made lts (cycle_of c.args.basis.now) c.args.columns.now c.args.t c.in-Some.relation.now are
+    (subst (λ n. ShowsRelation n (cycle_of c.args.basis.now) c.args.t c.in-Some.relation.now) (sym same) c.in-Some.ensures.exact.1) c.in-Some.ensures.exact.0
+    (shown_result ratio_of c.sum_of_shares.result) c.sum_of_shares.ensures
 
 pub returns-in-None : goal.returns-in-None
 returns-in-None c = λ lts same are. free_made lts (cycle_of c.args.basis.now) (value_by c.args.columns.now) c.args.t (ratio_of c.value_of.result) c.in-None.ensures.exact c.value_of.ensures

@@ -7,7 +7,7 @@ use Rattle.rg_order_of_work.specs.Rewriting.{all_numbers}
 use Rattle.rg_order_of_work.specs.Placing.{effect_fold}
 use Rattle.rg_fraction.specs.declared.fold_stop.FoldStop.TheVariants as stop
 use Rattle.rg_cycles.specs.View.{cycle_of}
-use Rattle.rg_cycles.proofs.Folding.{whole_is}
+use Rattle.rg_order_of_work.proofs.Folding.{whole_is}
 use Rattle.rg_places.specs.PointValues.{ratios_of}
 use Rattle.rg_places.specs.Steps.{value_by}
 use Rattle.rg_places.proofs.Counting.{counted_next, counted_fails, counted_end}

@@ -2,7 +2,7 @@ use Rattle.std.proofs.Common.{rules, ◌≡◌, ◌<◌, Err, length, subst, sym
 use Rattle.std.specs.Prelude.{pos}
 use Rattle.rg_order_of_work.specs.Fold.{joined, add, whole, ratio_of}
 use Rattle.rg_order_of_work.proofs.FoldLemmas.{add_step}
-use Rattle.rg_cycles.proofs.Folding.{whole_is}
+use Rattle.rg_order_of_work.proofs.Folding.{whole_is}
 use Rattle.rg_cycles.proofs.AddsNothing.{zero_of_bits, plus_none}
 use Rattle.rg_places.specs.Steps.{column_share}
 use Rattle.rg_places.proofs.FractionSteps.{joined_none}
@@ -17,24 +17,33 @@ returns-in_default c = joined_none add (column_share c.args.relation.now) (whole
 pub returns-in_err-sum : goal.returns-in_err-sum
 returns-in_err-sum c =
     let same : c.from_residual.result ≡ Err c.in_err-sum.field-0.0 = search rules in
-    rw same (subst (λ l. joined add (column_share c.args.relation.now) (whole (pos 0)) l (Err c.in_err-sum.field-0.0)) (sym c.in-Some.ensures.cases.0) (first_fails add (column_share c.args.relation.now) (whole (pos 0)) c.in-Some.first.now c.in-Some.rest.now c.in_err-sum.field-0.0 (rw c.in_err-sum.was at c.share_of.ensures)))
+    rw same (subst (λ l. joined add (column_share c.args.relation.now) (whole (pos 0)) l (Err c.in_err-sum.field-0.0)) (sym c.in-Some.ensures.cases.0)
+    (first_fails add (column_share c.args.relation.now) (whole (pos 0)) c.in-Some.first.now c.in-Some.rest.now c.in_err-sum.field-0.0
+    (rw c.in_err-sum.was at c.share_of.ensures)))
 
 pub loop-column-init : goal.loop-column-init
-loop-column-init c = λ r h. subst (λ l. joined add (column_share c.args.relation.now) (whole (pos 0)) l r) (sym c.in-Some.ensures.cases.0) (sum_leads add (column_share c.args.relation.now) (whole (pos 0)) c.in-Some.first.now c.in-Some.rest.now (ratio_of c.in_ok-sum.sum) (rw c.in_ok-sum.was at c.share_of.ensures) r h)
+loop-column-init c = λ r h. subst (λ l. joined add (column_share c.args.relation.now) (whole (pos 0)) l r) (sym c.in-Some.ensures.cases.0)
+    (sum_leads add (column_share c.args.relation.now) (whole (pos 0)) c.in-Some.first.now c.in-Some.rest.now (ratio_of c.in_ok-sum.sum)
+    (rw c.in_ok-sum.was at c.share_of.ensures) r h)
 
 pub share_of-requires-in-loop-column-clause-place : goal.share_of-requires-in-loop-column-clause-place
-share_of-requires-in-loop-column-clause-place c = rest_has (λ x. x.place < length c.args.relation.now.free.items) c.args.columns.now c.in-Some.first.now c.in-Some.rest.now c.loop-column.column-index c.column-item.result c.in-Some.ensures.cases.0 c.requires.places c.loop-column-test.true c.column-item.is
+share_of-requires-in-loop-column-clause-place c = rest_has (λ x. x.place < length c.args.relation.now.free.items) c.args.columns.now c.in-Some.first.now
+    c.in-Some.rest.now c.loop-column.column-index c.column-item.result c.in-Some.ensures.cases.0 c.requires.places c.loop-column-test.true c.column-item.is
 
 pub returns-in_err-share : goal.returns-in_err-share
 returns-in_err-share c =
     let same : c.from_residual-in_err-share.result ≡ Err c.in_err-share.field-0.0 = search rules in
-    rw same (item_fails add (column_share c.args.relation.now) (joined add (column_share c.args.relation.now) (whole (pos 0)) c.args.columns.now) c.in-Some.rest.now c.loop-column.column-index (ratio_of c.loop-column.sum) c.loop-column.invariant c.column-item.result c.loop-column-test.true c.column-item.is c.in_err-share.field-0.0 (rw c.in_err-share.was at c.share_of-in-loop-column.ensures))
+    rw same (item_fails add (column_share c.args.relation.now) (joined add (column_share c.args.relation.now) (whole (pos 0)) c.args.columns.now) c.in-Some.rest.now
+    c.loop-column.column-index (ratio_of c.loop-column.sum) c.loop-column.invariant c.column-item.result c.loop-column-test.true c.column-item.is
+    c.in_err-share.field-0.0 (rw c.in_err-share.was at c.share_of-in-loop-column.ensures))
 
 pub returns-in_err-sum-2 : goal.returns-in_err-sum-2
 returns-in_err-sum-2 c =
     let same : c.from_residual-in_err-sum-2.result ≡ Err c.in_err-sum-2.field-0.0 = search rules in
     let joins = add_step c.loop-column.sum c.in_ok-share.share c.add.result c.add.ensures in
-    rw same (join_fails add (column_share c.args.relation.now) (joined add (column_share c.args.relation.now) (whole (pos 0)) c.args.columns.now) c.in-Some.rest.now c.loop-column.column-index (ratio_of c.loop-column.sum) c.loop-column.invariant c.column-item.result c.loop-column-test.true c.column-item.is (ratio_of c.in_ok-share.share) c.in_err-sum-2.field-0.0 (rw c.in_ok-share.was at c.share_of-in-loop-column.ensures) (rw c.in_err-sum-2.was at joins))
+    rw same (join_fails add (column_share c.args.relation.now) (joined add (column_share c.args.relation.now) (whole (pos 0)) c.args.columns.now) c.in-Some.rest.now
+    c.loop-column.column-index (ratio_of c.loop-column.sum) c.loop-column.invariant c.column-item.result c.loop-column-test.true c.column-item.is
+    (ratio_of c.in_ok-share.share) c.in_err-sum-2.field-0.0 (rw c.in_ok-share.was at c.share_of-in-loop-column.ensures) (rw c.in_err-sum-2.was at joins))
 
 pub loop-column-preserved : goal.loop-column-preserved
 loop-column-preserved c =
@@ -42,10 +51,14 @@ loop-column-preserved c =
     elim c.if-numerator-ne0.branch [
       | then-numerator-ne0+in_ok-sum-2 w ↦
           let joins = add_step c.loop-column.sum c.in_ok-share.share w.add.result w.add.ensures in
-          rw w.sum-is (sum_next add (column_share c.args.relation.now) (joined add (column_share c.args.relation.now) (whole (pos 0)) c.args.columns.now) c.in-Some.rest.now c.loop-column.column-index (ratio_of c.loop-column.sum) c.loop-column.invariant c.column-item.result c.loop-column-test.true c.column-item.is (ratio_of c.in_ok-share.share) (ratio_of w.in_ok-sum-2.sum) made (rw w.in_ok-sum-2.was at joins))
+          rw w.sum-is (sum_next add (column_share c.args.relation.now) (joined add (column_share c.args.relation.now) (whole (pos 0)) c.args.columns.now)
+          c.in-Some.rest.now c.loop-column.column-index (ratio_of c.loop-column.sum) c.loop-column.invariant c.column-item.result c.loop-column-test.true
+          c.column-item.is (ratio_of c.in_ok-share.share) (ratio_of w.in_ok-sum-2.sum) made (rw w.in_ok-sum-2.was at joins))
       | else-numerator-ne0 w ↦
           let none = sym c.numerator.ensures.value ∙ zero_of_bits c.numerator.result c.numerator.ensures.in_range w.if-numerator-ne0.false in
-          rw w.sum-is (sum_next add (column_share c.args.relation.now) (joined add (column_share c.args.relation.now) (whole (pos 0)) c.args.columns.now) c.in-Some.rest.now c.loop-column.column-index (ratio_of c.loop-column.sum) c.loop-column.invariant c.column-item.result c.loop-column-test.true c.column-item.is (ratio_of c.in_ok-share.share) (ratio_of c.loop-column.sum) made (plus_none c.loop-column.sum c.in_ok-share.share none))
+          rw w.sum-is (sum_next add (column_share c.args.relation.now) (joined add (column_share c.args.relation.now) (whole (pos 0)) c.args.columns.now)
+          c.in-Some.rest.now c.loop-column.column-index (ratio_of c.loop-column.sum) c.loop-column.invariant c.column-item.result c.loop-column-test.true
+          c.column-item.is (ratio_of c.in_ok-share.share) (ratio_of c.loop-column.sum) made (plus_none c.loop-column.sum c.in_ok-share.share none))
     ]
 
 pub returns : goal.returns

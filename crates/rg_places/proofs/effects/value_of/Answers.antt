@@ -1,6 +1,6 @@
 use Rattle.std.proofs.Common.{sym, ◌∙◌}
 use Rattle.std.specs.Prelude.{pos}
-use Rattle.rg_cycles.proofs.Folding.{whole_is}
+use Rattle.rg_order_of_work.proofs.Folding.{whole_is}
 use Rattle.rg_places.proofs.ColumnLists.{value_found, value_later, value_ends}
 use Rattle.rg_places.proofs.effects.value_of.Goals as goal
 

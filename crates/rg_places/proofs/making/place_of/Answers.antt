@@ -30,7 +30,10 @@ returns-clause-place c =
     let lt = subst (λ n. c.initial.result < n) (sym count) c.initial.ensures.in_range in
     let start = get_or_read c.in_ok-tokens.tokens.items c.initial.result _ lt c.index-start.ensures 0 in
     let at = rw (c.in_ok-tokens.ensures, c.initial.ensures.value) at start in
-    place_done c.args.lts.now c.args.class c.args.problem (ratios_of c.args.found.now) (ratios_of c.args.numbers.now) c.in_ok-taken.taken.items c.in_ok-taken.ensures.value c.in_ok-put.put.items (shown_place (record { start = c.index-start.result.now; pre = c.in_ok-pre.pre; post = c.in_ok-post.post })) made (at ∙ tokens_at c.args.numbers.now c.args.lts.now.initial) pre post
+    place_done c.args.lts.now c.args.class c.args.problem (ratios_of c.args.found.now)
+    (ratios_of c.args.numbers.now) c.in_ok-taken.taken.items c.in_ok-taken.ensures.value c.in_ok-put.put.items
+    (shown_place (record { start = c.index-start.result.now; pre = c.in_ok-pre.pre; post = c.in_ok-post.post })) made
+    (at ∙ tokens_at c.args.numbers.now c.args.lts.now.initial) pre post
 
 pub returns-clause-tokens : goal.returns-clause-tokens
 returns-clause-tokens c = c.in_ok-tokens.ensures ∙ tokens_are c.args.numbers.now

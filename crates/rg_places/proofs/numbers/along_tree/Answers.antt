@@ -41,10 +41,14 @@ returns-in_err-number-clause-wide c = λ w e.
     let same : c.from_residual-in_err-number.result ≡ Err (stop.Wide c.in_err-number.field-0.0) = search rules in
     let is : c.in_err-number.field-0.0 ≡ w = cc in
     subst (λ v. along_tree (ratio_at (ratios_of c.args.found.now)) (λ s. ratio_at (ratios_of c.args.found.now) (labels c.args.lts.now)) c.args.tree.now (Err v)) is
-    (step_fails c.args.lts.now c.args.tree.now c.args.found.now c.loop-a.numbers.items c.loop-a.a-index no_arc c.labels.ensures.well_formed.in_range c.requires.tree c.loop-a-test.true c.loop-a.invariant c.requires.found c.index.result.now c.index-found-a.result c.index.ensures c.index-found-a.is c.add.result c.add.ensures c.in_err-number.field-0.0 c.in_err-number.was)
+    (step_fails c.args.lts.now c.args.tree.now c.args.found.now c.loop-a.numbers.items c.loop-a.a-index no_arc c.labels.ensures.well_formed.in_range c.requires.tree
+    c.loop-a-test.true c.loop-a.invariant c.requires.found c.index.result.now c.index-found-a.result c.index.ensures c.index-found-a.is c.add.result c.add.ensures
+    c.in_err-number.field-0.0 c.in_err-number.was)
 
 pub loop-a-preserved : goal.loop-a-preserved
-loop-a-preserved c = step_next c.args.lts.now c.args.tree.now c.args.found.now c.loop-a.numbers.items c.loop-a.a-index no_arc c.labels.ensures.well_formed.in_range c.requires.tree c.loop-a-test.true c.loop-a.invariant c.requires.found c.index.result.now c.index-found-a.result c.index.ensures c.index-found-a.is c.add.result c.add.ensures c.in_ok-number.number c.in_ok-number.was
+loop-a-preserved c = step_next c.args.lts.now c.args.tree.now c.args.found.now c.loop-a.numbers.items c.loop-a.a-index no_arc c.labels.ensures.well_formed.in_range
+    c.requires.tree c.loop-a-test.true c.loop-a.invariant c.requires.found c.index.result.now c.index-found-a.result c.index.ensures c.index-found-a.is c.add.result
+    c.add.ensures c.in_ok-number.number c.in_ok-number.was
 
 pub returns-clause-value : goal.returns-clause-value
 returns-clause-value c = along_end c.args.lts.now c.args.tree.now (ratios_of c.args.found.now) c.loop-a.a-index (ratios_of c.loop-a.numbers.items) c.loop-a.invariant c.loop-a-test.false

@@ -16,7 +16,11 @@ returns-then-not-is_lifted-clause-value c = lifted_kept c.args.lts.now c.args.cl
 pub returns-clause-value : goal.returns-clause-value
 returns-clause-value c =
     let numbers = c.args.numbers.items in
-    let start = c.unsigned_abs-start.ensures.value ∙ ap unsigned_abs (back c.numerator.result c.numerator.ensures.in_range ∙ c.numerator.ensures.value ∙ top_there numbers c.initial.result c.index.result.now (subst (λ k. k < length numbers) (sym c.initial.ensures.value) (subst (λ k. c.args.lts.now.initial < k) (sym c.requires) (subst (λ k. k < states c.args.lts.now) c.initial.ensures.value c.initial.ensures.in_range))) c.index.ensures ∙ ap (top_at (ratios_of numbers)) c.initial.ensures.value) in
+    let start = c.unsigned_abs-start.ensures.value
+    ∙ ap unsigned_abs (back c.numerator.result c.numerator.ensures.in_range ∙ c.numerator.ensures.value ∙ top_there numbers c.initial.result c.index.result.now
+    (subst (λ k. k < length numbers) (sym c.initial.ensures.value)
+    (subst (λ k. c.args.lts.now.initial < k) (sym c.requires) (subst (λ k. k < states c.args.lts.now) c.initial.ensures.value c.initial.ensures.in_range)))
+    c.index.ensures ∙ ap (top_at (ratios_of numbers)) c.initial.ensures.value) in
     let by = c.whole_number.ensures ∙ ap (λ n. whole (pos n)) (c.missing-by.ensures ∙ ap₂ missing c.unwrap_or.ensures start) in
     let made = rw c.deref.ensures.value at c.raised.ensures.value in
     if_ok (λ (v : Vec Fraction Global). each (λ m. add m (ratio_of c.whole_number.result)) (ratios_of numbers) (Ok (ratios_of v.items))) (λ (v : Vec Fraction Global). Lifted c.args.lts.now c.args.class c.args.problem (ratios_of numbers) (Ok (ratios_of v.items))) c.raised.result
@@ -25,7 +29,11 @@ returns-clause-value c =
 pub returns-clause-wide : goal.returns-clause-wide
 returns-clause-wide c = λ w e.
     let numbers = c.args.numbers.items in
-    let start = c.unsigned_abs-start.ensures.value ∙ ap unsigned_abs (back c.numerator.result c.numerator.ensures.in_range ∙ c.numerator.ensures.value ∙ top_there numbers c.initial.result c.index.result.now (subst (λ k. k < length numbers) (sym c.initial.ensures.value) (subst (λ k. c.args.lts.now.initial < k) (sym c.requires) (subst (λ k. k < states c.args.lts.now) c.initial.ensures.value c.initial.ensures.in_range))) c.index.ensures ∙ ap (top_at (ratios_of numbers)) c.initial.ensures.value) in
+    let start = c.unsigned_abs-start.ensures.value
+    ∙ ap unsigned_abs (back c.numerator.result c.numerator.ensures.in_range ∙ c.numerator.ensures.value ∙ top_there numbers c.initial.result c.index.result.now
+    (subst (λ k. k < length numbers) (sym c.initial.ensures.value)
+    (subst (λ k. c.args.lts.now.initial < k) (sym c.requires) (subst (λ k. k < states c.args.lts.now) c.initial.ensures.value c.initial.ensures.in_range)))
+    c.index.ensures ∙ ap (top_at (ratios_of numbers)) c.initial.ensures.value) in
     let by = c.whole_number.ensures ∙ ap (λ n. whole (pos n)) (c.missing-by.ensures ∙ ap₂ missing c.unwrap_or.ensures start) in
     let made = rw c.deref.ensures.value at (c.raised.ensures.wide w e) in
     lifted_made c.args.lts.now c.args.class c.args.problem (ratios_of numbers) (ratio_of c.whole_number.result) by (sym c.is_lifted.ensures ∙ c.if-not-is_lifted.false) (Err w) made

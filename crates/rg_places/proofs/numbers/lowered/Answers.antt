@@ -14,13 +14,17 @@ returns-in_err-difference-clause-wide c = λ w e.
     let is : c.in_err-difference.field-0.0 ≡ w = cc in
     let step = sub_step c.number-item.result c.args.by c.sub.result c.sub.ensures in
     subst (λ v. each (λ m. add m (negated (ratio_of c.args.by))) (ratios_of c.args.numbers.now) (Err v)) is
-    (mapped_fails (λ m. add m (negated (ratio_of c.args.by))) ratio_of c.args.numbers.now c.loop-number.number-index (ratios_of c.loop-number.lowered.items) c.loop-number.invariant c.number-item.result c.loop-number-test.true c.number-item.is c.in_err-difference.field-0.0 (rw c.in_err-difference.was at step))
+    (mapped_fails (λ m. add m (negated (ratio_of c.args.by))) ratio_of c.args.numbers.now c.loop-number.number-index
+    (ratios_of c.loop-number.lowered.items) c.loop-number.invariant c.number-item.result c.loop-number-test.true c.number-item.is c.in_err-difference.field-0.0
+    (rw c.in_err-difference.was at step))
 
 pub loop-number-preserved : goal.loop-number-preserved
 loop-number-preserved c =
     let step = sub_step c.number-item.result c.args.by c.sub.result c.sub.ensures in
     let items : ratios_of c.push.new.self.items ≡ _ = ap ratios_of c.in_ok-push.ensures.items ∙ map-append ratio_of c.loop-number.lowered.items _ in
-    rw items (mapped_next (λ m. add m (negated (ratio_of c.args.by))) ratio_of c.args.numbers.now c.loop-number.number-index (ratios_of c.loop-number.lowered.items) c.loop-number.invariant c.number-item.result c.loop-number-test.true c.number-item.is (ratio_of c.in_ok-difference.difference) (rw c.in_ok-difference.was at step))
+    rw items (mapped_next (λ m. add m (negated (ratio_of c.args.by))) ratio_of c.args.numbers.now c.loop-number.number-index
+    (ratios_of c.loop-number.lowered.items) c.loop-number.invariant c.number-item.result c.loop-number-test.true c.number-item.is
+    (ratio_of c.in_ok-difference.difference) (rw c.in_ok-difference.was at step))
 
 pub returns-clause-value : goal.returns-clause-value
 returns-clause-value c = mapped_end (λ m. add m (negated (ratio_of c.args.by))) ratio_of c.args.numbers.now c.loop-number.number-index (ratios_of c.loop-number.lowered.items) c.loop-number.invariant c.loop-number-test.false

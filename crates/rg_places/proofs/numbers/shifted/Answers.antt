@@ -20,7 +20,8 @@ lifted-requires c =
 
 pub returns-clause-value : goal.returns-clause-value
 returns-clause-value c =
-    if_ok (λ (v : Vec Fraction Global). Lifted c.args.lts.now c.args.class c.args.problem (ratios_of c.in_ok-moved.moved.items) (Ok (ratios_of v.items))) (λ (v : Vec Fraction Global). shift_fold c.args.lts.now c.args.class c.args.problem (ratios_of c.args.numbers.items) (Ok (ratios_of v.items))) c.lifted.result
+    if_ok (λ (v : Vec Fraction Global). Lifted c.args.lts.now c.args.class c.args.problem (ratios_of c.in_ok-moved.moved.items) (Ok (ratios_of v.items)))
+    (λ (v : Vec Fraction Global). shift_fold c.args.lts.now c.args.class c.args.problem (ratios_of c.args.numbers.items) (Ok (ratios_of v.items))) c.lifted.result
     (λ v h. shift_made c.args.lts.now c.args.class c.args.problem (ratios_of c.args.numbers.items) (ratios_of c.in_ok-moved.moved.items) c.in_ok-moved.ensures.value (Ok (ratios_of v.items)) h) c.lifted.ensures.value
 
 pub returns-clause-wide : goal.returns-clause-wide

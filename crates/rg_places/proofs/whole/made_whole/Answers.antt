@@ -6,9 +6,9 @@ use Rattle.rg_fraction.specs.Fractions.{denominator_of}
 use Rattle.rg_order_of_work.specs.Fold.{each, mul, whole, ratio_of, multiple_of_all}
 use Rattle.rg_order_of_work.specs.Placing.{made_whole}
 use Rattle.rg_fraction.specs.declared.fold_stop.FoldStop.TheVariants as stop
-use Rattle.rg_denominators.proofs.Multiples.{bottoms}
+use Rattle.rg_case_parts.proofs.Multiples.{bottoms}
 use Rattle.rg_places.specs.PointValues.{ratios_of}
-use Rattle.rg_places.proofs.Found.{TimesMarking}
+use Rattle.rg_order_of_work.proofs.Found.{TimesMarking}
 use Rattle.rg_places.proofs.PlaceSteps.{if_ok, made_kept, multiple_fails, products_fail, multiple_makes}
 use Rattle.rg_places.proofs.whole.made_whole.Goals as goal
 

@@ -4,7 +4,7 @@ use Rattle.rg_integers.proofs.Casts.{back}
 use Rattle.rg_fraction.specs.declared.fraction.Fraction.{Fraction}
 use Rattle.rg_order_of_work.specs.Fold.{each, mul, whole, ratio_of}
 use Rattle.rg_places.specs.PointValues.{ratios_of}
-use Rattle.rg_places.proofs.Found.{TimesMarking}
+use Rattle.rg_order_of_work.proofs.Found.{TimesMarking}
 use Rattle.rg_places.proofs.PlaceSteps.{if_ok, times_made, times_kept}
 use Rattle.rg_places.proofs.whole.times_marking.Goals as goal
 

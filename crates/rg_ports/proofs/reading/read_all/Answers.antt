@@ -28,7 +28,9 @@ returns-in_err-n-clause-calls g c =
     rw is (c.loop-most.invariant.run fails c.read.new.self (refused c.loop-most.shelf c.read.new.self _ c.in_err-n.ensures.hands))
 
 pub returns-then-n-eq0-clause-calls : goal.returns-then-n-eq0-clause-calls
-returns-then-n-eq0-clause-calls g c = c.loop-most.invariant.run finds_end c.read.new.self (at_end c.loop-most.shelf c.read.new.self (length c.read.new.buf) (search rules) (subst (λ (n : ℕ). g.H.Shelf.hands c.loop-most.shelf (length c.read.new.buf) (Some n) c.read.new.self) c.if-n-eq0.true c.in_ok-n.ensures.hands))
+returns-then-n-eq0-clause-calls g c = c.loop-most.invariant.run finds_end c.read.new.self
+    (at_end c.loop-most.shelf c.read.new.self (length c.read.new.buf) (search rules)
+    (subst (λ (n : ℕ). g.H.Shelf.hands c.loop-most.shelf (length c.read.new.buf) (Some n) c.read.new.self) c.if-n-eq0.true c.in_ok-n.ensures.hands))
 
 pub returns-then-room-n-clause-calls : goal.returns-then-room-n-clause-calls
 returns-then-room-n-clause-calls g c =
@@ -42,7 +44,10 @@ loop-most-preserved g c =
       files = search rules;
       asked = search rules;
       within = search rules;
-      between = subst (λ (read : List ℕ). IsBetween (g.H.Shelf.files c.args.shelf.now) c.args.name.now read (g.H.Shelf.left c.read.new.self)) (sym c.in_ok-extend_from_slice.ensures.items) (between-more (g.H.Shelf.files c.args.shelf.now) c.args.name.now c.loop-most.bytes.items n c.read.new.buf (drop c.if-room-lt4096.most c.loop-most.buf) (g.H.Shelf.left c.loop-most.shelf) (g.H.Shelf.left c.read.new.self) c.loop-most.invariant.between c.in_ok-n.ensures.within c.in_ok-n.ensures.moves);
+      between = subst (λ (read : List ℕ). IsBetween (g.H.Shelf.files c.args.shelf.now) c.args.name.now read (g.H.Shelf.left c.read.new.self))
+          (sym c.in_ok-extend_from_slice.ensures.items)
+          (between-more (g.H.Shelf.files c.args.shelf.now) c.args.name.now c.loop-most.bytes.items n c.read.new.buf (drop c.if-room-lt4096.most c.loop-most.buf)
+          (g.H.Shelf.left c.loop-most.shelf) (g.H.Shelf.left c.read.new.self) c.loop-most.invariant.between c.in_ok-n.ensures.within c.in_ok-n.ensures.moves);
       never_falls = search rules;
       run = λ last t rest. c.loop-most.invariant.run last t (more c.loop-most.shelf c.read.new.self t _ n last (search rules) c.in_ok-n.ensures.hands rest);
     }

@@ -1,6 +1,6 @@
 use Rattle.std.proofs.Common.{◌∷◌, refl}
 use Rattle.rg_net.specs.Shown.{shown_place}
-use Rattle.rg_separated.proofs.Members.{adds_front}
+use Rattle.rg_marks.proofs.Members.{adds_front}
 use Rattle.rg_prune_tests.proofs.ByTokens.{narrow_by, tokens_by}
 use Rattle.rg_prune_tests.proofs.separated.add.Goals as goal
 

@@ -1,7 +1,7 @@
 use Rattle.std.proofs.Common.{◌≡◌, ◌+◌, ℕ, Result, Some, List, [], ◌∷◌, length, ap, subst, sym, ◌∙◌}
 use Rattle.std.specs.Prelude.{slice_get}
 use Rattle.std.proofs.lemmas.List.{length-append}
-use Rattle.rg_fraction.specs.declared.term.Wide.{Wide}
+use Rattle.rg_integers.specs.declared.term.Wide.{Wide}
 use Rattle.rg_refuting.specs.Row.{shared_expression}
 use Rattle.rg_reasons.specs.Sums.{expression_of}
 use Rattle.rg_reasons.specs.Trees.{row_name_of}
@@ -23,9 +23,13 @@ loop-number-preserved c =
     let e = expression_of c.expression-expression.result in
     let written = c.in_ok-written.field-0 in
     let pushed = c.in_ok-push.ensures.items in
-    let shared = row_shared lts tree basis class name e (c.expression-expression.ensures ∙ ap (shared_expression lts class []) (sym c.name-name.ensures)) (labels_of c.args.basis.now) (sym c.requires.labels) c.args.columns.now c.requires.columns c.row.result written c.in_ok-written.ensures c.row.ensures.value c.row.ensures.one_each c.row.ensures.wide in
+    let shared = row_shared lts tree basis class name e (c.expression-expression.ensures ∙ ap (shared_expression lts class []) (sym c.name-name.ensures))
+    (labels_of c.args.basis.now) (sym c.requires.labels) c.args.columns.now c.requires.columns c.row.result written c.in_ok-written.ensures c.row.ensures.value
+    c.row.ensures.one_each c.row.ensures.wide in
     let here = subst (λ n. IsSharedRow lts tree basis class (row_of_kind kind n) written) (sym c.loop-number.invariant.many) (subst (λ n. IsSharedRow lts tree basis class n written) c.name-name.ensures shared) in
     record {
       many = ap length pushed ∙ length-append rows (written ∷ []) ∙ ap (λ n. n + 1) c.loop-number.invariant.many;
-      each = subst (λ (l : List (Result CaseRow Wide)). (i : ℕ) (y : Result CaseRow Wide) → slice_get l i ≡ Some y → IsSharedRow lts tree basis class (row_of_kind kind i) y) (sym pushed) (each_pushed (λ i y. IsSharedRow lts tree basis class (row_of_kind kind i) y) rows written c.loop-number.invariant.each here);
+      each = subst (λ (l : List (Result CaseRow Wide)). (i : ℕ) (y : Result CaseRow Wide) → slice_get l i ≡ Some y
+          → IsSharedRow lts tree basis class (row_of_kind kind i) y) (sym pushed)
+          (each_pushed (λ i y. IsSharedRow lts tree basis class (row_of_kind kind i) y) rows written c.loop-number.invariant.each here);
     }

@@ -1,8 +1,8 @@
 use Rattle.std.proofs.Common.{◌≡◌, ℕ, Result, Some, length}
 use Rattle.std.specs.Prelude.{slice_get}
-use Rattle.rg_fraction.specs.declared.term.Wide.{Wide}
+use Rattle.rg_integers.specs.declared.term.Wide.{Wide}
 use Rattle.rg_cycles.specs.View.{cycle_of}
-use Rattle.rg_denominators.specs.declared.scaled.Scaled.{Scaled}
+use Rattle.rg_case_parts.specs.declared.scaled.Scaled.{Scaled}
 use Rattle.rg_rows.specs.Sharing.{row_of_kind, AreSharedTerms}
 use Rattle.rg_rows.proofs.common.terms.Given as goal
 

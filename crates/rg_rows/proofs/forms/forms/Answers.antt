@@ -7,12 +7,12 @@ use Rattle.rg_integers.specs.Range.{InRange}
 use Rattle.rg_integers.proofs.Casts.{back}
 use Rattle.std.specs.Prelude.{pos, ◌<ℤ◌}
 use Rattle.rg_fraction.specs.declared.fold_stop.FoldStop.TheVariants as stop
-use Rattle.rg_denominators.specs.View.{scaled_of}
+use Rattle.rg_case_parts.specs.WholeNumbers.{scaled_of}
 use Rattle.rg_reasons.specs.Trees.{row_name_of}
 use Rattle.rg_theory.specs.System.{states}
 use Rattle.rg_cycles.specs.View.{cycle_of}
-use Rattle.rg_cycles.proofs.Folding.{behind}
-use Rattle.rg_fraction.specs.declared.term.Wide.{Wide}
+use Rattle.rg_order_of_work.proofs.Folding.{behind}
+use Rattle.rg_integers.specs.declared.term.Wide.{Wide}
 use Rattle.rg_linear.specs.Branching.{Form}
 use Rattle.rg_refuting.specs.Row.{Form as SplitForm}
 use Rattle.rg_order_of_work.specs.Fold.{each}
@@ -40,7 +40,10 @@ pub form_over-requires : goal.form_over-requires
 form_over-requires c =
     let row = c.row.result.now in
     let below = subst (λ n. c.loop-i.i < n) (sym c.requires.one_each) c.loop-i-test.true in
-    step_times c.args.lts.now c.args.tree.now.arcs (cycle_of c.args.basis.now) c.args.case.class c.args.case.problem c.args.case.number c.args.names.now c.loop-i.i _ c.loop-i-test.true c.in-Some.form c.in-Some.ensures _ refl (map row_in c.args.rows.now) (simp length-map below) c.requires.rows row (held_is c.args.rows.now c.loop-i.i c.index-rows-i.result row below c.index-rows-i.is c.row.ensures) (scaled_of c.in_ok-scaled.scaled) c.in_ok-scaled.ensures.value
+    step_times c.args.lts.now c.args.tree.now.arcs (cycle_of c.args.basis.now) c.args.case.class c.args.case.problem c.args.case.number c.args.names.now c.loop-i.i _
+    c.loop-i-test.true c.in-Some.form c.in-Some.ensures _ refl (map row_in c.args.rows.now) (simp length-map below) c.requires.rows row
+    (held_is c.args.rows.now c.loop-i.i c.index-rows-i.result row below c.index-rows-i.is c.row.ensures)
+    (scaled_of c.in_ok-scaled.scaled) c.in_ok-scaled.ensures.value
 
 pub loop-i-preserved : goal.loop-i-preserved
 loop-i-preserved c =
@@ -61,7 +64,9 @@ loop-i-preserved c =
           let pushed = w.in_ok-push.ensures.items in
           let row = w.row.result.now in
           let scale = w.in_ok-named.ensures.numbers.0 ∙ back scaled.multiple scaled.multiple_in_range in
-          let one = step_made lts tree basis class problem number c.args.names.now c.loop-i.i _ c.loop-i-test.true w.in-Some.form w.in-Some.ensures _ refl rows (simp length-map below) c.requires.rows row (held_is c.args.rows.now c.loop-i.i w.index-rows-i.result row below w.index-rows-i.is w.row.ensures) columns c.args.places.now f w.in_ok-named.ensures.form w.in_ok-named.ensures.row w.in_ok-named.ensures.bounds
+          let one = step_made lts tree basis class problem number c.args.names.now c.loop-i.i _ c.loop-i-test.true w.in-Some.form w.in-Some.ensures _ refl rows
+          (simp length-map below) c.requires.rows row (held_is c.args.rows.now c.loop-i.i w.index-rows-i.result row below w.index-rows-i.is w.row.ensures) columns
+          c.args.places.now f w.in_ok-named.ensures.form w.in_ok-named.ensures.row w.in_ok-named.ensures.bounds
           (ap length w.in_ok-named.ensures.numbers.1 ∙ w.in_ok-scaled.ensures.one_each)
           (λ bound. subst (λ z. pos 0 <ℤ z) (sym scale) scaled.positive)
           (subst InRange (sym scale) scaled.multiple_in_range)
@@ -70,8 +75,13 @@ loop-i-preserved c =
           subst (λ (v : Vec NamedForm Global). Keeps lts tree basis class c.args.names.now rows c.args.places.now (c.loop-i.i + 1) v.items) (sym w.forms-is)
           (subst (Keeps lts tree basis class c.args.names.now rows c.args.places.now (c.loop-i.i + 1)) (sym pushed)
           (record {
-            so_far = subst (λ (xs : List Form). (r : Result (List Form) Wide) → each (form_fold lts tree basis class) (forms_in class (drop (c.loop-i.i + 1) (map row_name_of c.args.names.now))) r → each (form_fold lts tree basis class) (forms_in class (map row_name_of c.args.names.now)) (behind xs r)) (sym (map-append linear_form c.loop-i.forms.items (f ∷ [])))
-                (step_next lts tree basis class problem number c.args.names.now c.loop-i.i _ c.loop-i-test.true w.in-Some.form w.in-Some.ensures _ refl (map linear_form c.loop-i.forms.items) c.loop-i.invariant.so_far f (scaled_of scaled) w.in_ok-scaled.ensures.value scale w.in_ok-named.ensures.numbers.1 w.in_ok-named.ensures.bounds.0 w.in_ok-named.ensures.bounds.1);
+            so_far = subst (λ (xs : List Form). (r : Result (List Form) Wide)
+                → each (form_fold lts tree basis class) (forms_in class (drop (c.loop-i.i + 1) (map row_name_of c.args.names.now))) r
+                → each (form_fold lts tree basis class) (forms_in class (map row_name_of c.args.names.now)) (behind xs r))
+                (sym (map-append linear_form c.loop-i.forms.items (f ∷ [])))
+                (step_next lts tree basis class problem number c.args.names.now c.loop-i.i _ c.loop-i-test.true w.in-Some.form w.in-Some.ensures _ refl
+                (map linear_form c.loop-i.forms.items) c.loop-i.invariant.so_far f
+                (scaled_of scaled) w.in_ok-scaled.ensures.value scale w.in_ok-named.ensures.numbers.1 w.in_ok-named.ensures.bounds.0 w.in_ok-named.ensures.bounds.1);
             splits = subst (λ (xs : List SplitForm). xs ++ forms_in class (drop (c.loop-i.i + 1) (map row_name_of c.args.names.now)) ≡ forms_in class (map row_name_of c.args.names.now)) (sym (map-append split_of c.loop-i.forms.items (f ∷ [])))
                 (step_named lts tree basis class problem number c.args.names.now c.loop-i.i _ c.loop-i-test.true w.in-Some.form w.in-Some.ensures _ refl (map split_of c.loop-i.forms.items) c.loop-i.invariant.splits f w.in_ok-named.ensures.form);
             made = All-append Made c.loop-i.forms.items (f ∷ []) c.loop-i.invariant.made (All-cons Made f [] one (All-nil Made));

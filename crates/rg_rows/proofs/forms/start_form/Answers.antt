@@ -3,7 +3,7 @@ use Rattle.std.proofs.lemmas.List.{length-map}
 use Rattle.rg_integers.specs.Range.{InRange}
 use Rattle.rg_integers.proofs.Casts.{back}
 use Rattle.rg_fraction.specs.declared.fold_stop.FoldStop.TheVariants as stop
-use Rattle.rg_denominators.specs.View.{scaled_of}
+use Rattle.rg_case_parts.specs.WholeNumbers.{scaled_of}
 use Rattle.rg_order_of_work.specs.Rewriting.{column_count}
 use Rattle.rg_reasons.specs.Trees.{form_of}
 use Rattle.rg_cycles.specs.View.{cycle_of}

@@ -6,8 +6,8 @@ use Rattle.rg_order_of_work.specs.Fold.{shown_result}
 use Rattle.rg_order_of_work.specs.Rewriting.{Scaled as ScaledNumbers, column_count, terms_fold}
 use Rattle.rg_reasons.specs.Trees.{row_name_of}
 use Rattle.rg_cycles.specs.View.{cycle_of}
-use Rattle.rg_denominators.specs.declared.scaled.Scaled.{Scaled}
-use Rattle.rg_denominators.specs.View.{scaled_of}
+use Rattle.rg_case_parts.specs.declared.scaled.Scaled.{Scaled}
+use Rattle.rg_case_parts.specs.WholeNumbers.{scaled_of}
 use Rattle.rg_rows.proofs.Making.{if_ok_more}
 use Rattle.rg_rows.proofs.forms.terms_in_case.Goals as goal
 

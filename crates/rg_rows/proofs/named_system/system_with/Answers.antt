@@ -15,7 +15,7 @@ use Rattle.rg_rows.specs.declared.held_row.HeldRow.{HeldRow}
 use Rattle.rg_rows.specs.View.{kept_row, row_in, AreNamesWithin, ArePlaces, fold_of}
 use Rattle.rg_rows.specs.Forms.{linear_form, case_forms, StandsInRow, AreFormsOf}
 use Rattle.rg_rows.specs.Making.{IsMade}
-use Rattle.rg_columns.proofs.Picking.{columns_few}
+use Rattle.rg_case_parts.proofs.Picking.{columns_few}
 use Rattle.rg_linear.proofs.Firsts.{kept_count}
 use Rattle.rg_rows.proofs.Terms.{names_within}
 use Rattle.rg_rows.proofs.Making.{case_made, forms_fail}
@@ -139,7 +139,10 @@ returns-clause-rows c =
     let shown : CaseSystem = record { columns = c.count.result; kept = kept; forms = map linear_form c.in_ok-forms.forms.items } in
     let kept_firsts = subst (λ l. KeepsFirsts (λ k. k.row) IsIdle [] (map kept_row (map row_in l)) kept) c.deref-2.ensures.value firsts in
     let kept_places = subst (λ l. ArePlaces l kept c.in_ok-kept.places.items) (ap (λ l. map kept_row (map row_in l)) c.deref-2.ensures.value) places in
-    let made = subst (λ n. All (IsMade lts class n (map kept_row all) c.in_ok-kept.places.items) c.in_ok-forms.forms.items) (sym columns) (subst (λ l. All (IsMade lts class (column_count lts basis class) (map kept_row all) l) c.in_ok-forms.forms.items) c.deref-5.ensures.value (subst (λ (l : List HeldRow). All (IsMade lts class (column_count lts basis class) (map kept_row (map row_in l)) c.deref-5.result.now) c.in_ok-forms.forms.items) c.deref-4.ensures.value c.in_ok-forms.ensures.made)) in
+    let made = subst (λ n. All (IsMade lts class n (map kept_row all) c.in_ok-kept.places.items) c.in_ok-forms.forms.items) (sym columns)
+    (subst (λ l. All (IsMade lts class (column_count lts basis class) (map kept_row all) l) c.in_ok-forms.forms.items) c.deref-5.ensures.value
+    (subst (λ (l : List HeldRow). All (IsMade lts class (column_count lts basis class) (map kept_row (map row_in l)) c.deref-5.result.now) c.in_ok-forms.forms.items)
+    c.deref-4.ensures.value c.in_ok-forms.ensures.made)) in
     let system_is = c.new.ensures ∙ (λ i. record { columns = c.count.result; rows = shows.rows i }) in
     subst (λ (s : LinearSystem). All (StandsInRow lts tree basis class problem number s) c.in_ok-forms.forms.items) (sym system_is)
     (all_stand lts tree basis class problem number (map row_name_of c.deref.result.now) shown (map kept_row all) c.in_ok-kept.places.items c.in_ok-all.ensures.value kept_places c.in_ok-forms.forms.items made)
@@ -160,7 +163,10 @@ returns-clause-forms c = λ reachable is_basis bound.
     let shown : CaseSystem = record { columns = c.count.result; kept = kept; forms = map linear_form c.in_ok-forms.forms.items } in
     let kept_firsts = subst (λ l. KeepsFirsts (λ k. k.row) IsIdle [] (map kept_row (map row_in l)) kept) c.deref-2.ensures.value firsts in
     let kept_places = subst (λ l. ArePlaces l kept c.in_ok-kept.places.items) (ap (λ l. map kept_row (map row_in l)) c.deref-2.ensures.value) places in
-    let made = subst (λ n. All (IsMade lts class n (map kept_row all) c.in_ok-kept.places.items) c.in_ok-forms.forms.items) (sym columns) (subst (λ l. All (IsMade lts class (column_count lts basis class) (map kept_row all) l) c.in_ok-forms.forms.items) c.deref-5.ensures.value (subst (λ (l : List HeldRow). All (IsMade lts class (column_count lts basis class) (map kept_row (map row_in l)) c.deref-5.result.now) c.in_ok-forms.forms.items) c.deref-4.ensures.value c.in_ok-forms.ensures.made)) in
+    let made = subst (λ n. All (IsMade lts class n (map kept_row all) c.in_ok-kept.places.items) c.in_ok-forms.forms.items) (sym columns)
+    (subst (λ l. All (IsMade lts class (column_count lts basis class) (map kept_row all) l) c.in_ok-forms.forms.items) c.deref-5.ensures.value
+    (subst (λ (l : List HeldRow). All (IsMade lts class (column_count lts basis class) (map kept_row (map row_in l)) c.deref-5.result.now) c.in_ok-forms.forms.items)
+    c.deref-4.ensures.value c.in_ok-forms.ensures.made)) in
     let system_is = c.new.ensures ∙ (λ i. record { columns = c.count.result; rows = shows.rows i }) in
     let forms_made = subst (λ (l : List SplitForm). each (form_fold lts tree basis class) l (Ok shown.forms)) (ap (case_forms class problem) named_again ∙ forms_are lts class problem number) c.in_ok-forms.ensures.value in
     let is_case = case_made lts tree basis class problem number (map row_name_of c.deref.result.now) named (map kept_row all) c.in_ok-all.ensures.value shown.forms shown forms_made columns kept_firsts refl in

@@ -29,7 +29,9 @@ returns c =
       | else-is_some w ↦ named_unless (is_some c.args.case.class.bound) start caps capped (sym c.is_some.ensures ∙ w.if-is_some.false) (ap (λ v. map row_name_of v.items) w.names-is)
     ] in
     let third : sided ≡ capped ++ (if c.args.case.class.plain then (ups ++ downs) else []) = elim c.if-case.branch [
-      | then-case+in_ok-push_ups+in_ok-push_downs w ↦ named_if c.args.case.class.plain capped (ups ++ downs) sided w.if-case.true (ap (λ v. map row_name_of v.items) w.names-is ∙ (rw w.deref-then-case.ensures.value at w.in_ok-push_downs.ensures) ∙ ap (λ l. l ++ downs) (rw w.deref.ensures.value at w.in_ok-push_ups.ensures) ∙ append_assoc capped ups downs)
+      | then-case+in_ok-push_ups+in_ok-push_downs w ↦ named_if c.args.case.class.plain capped (ups ++ downs) sided w.if-case.true
+          (ap (λ v. map row_name_of v.items) w.names-is ∙ (rw w.deref-then-case.ensures.value at w.in_ok-push_downs.ensures)
+          ∙ ap (λ l. l ++ downs) (rw w.deref.ensures.value at w.in_ok-push_ups.ensures) ∙ append_assoc capped ups downs)
       | else-case w ↦ named_unless c.args.case.class.plain capped (ups ++ downs) sided w.if-case.false (ap (λ v. map row_name_of v.items) w.names-is)
     ] in
     let fourth : all ≡ sided ++ (if c.args.case.class.nonbranching then makes else []) = elim c.if-case-2.branch [

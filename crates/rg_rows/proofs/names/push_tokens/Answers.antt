@@ -1,7 +1,7 @@
 use Rattle.std.proofs.Common.{true, map, refl}
 use Rattle.rg_refuting.specs.Row.{RowName.tokens_row}
 use Rattle.rg_reasons.specs.Trees.{row_name_of}
-use Rattle.rg_cycles.proofs.Items.{map_push}
+use Rattle.rg_order_of_work.proofs.Items.{map_push}
 use Rattle.rg_rows.proofs.Naming.{name_taken}
 use Rattle.rg_rows.proofs.names.push_tokens.Goals as goal
 

@@ -7,9 +7,10 @@ use Rattle.rg_integers.specs.Range.{InRange}
 use Rattle.rg_integers.proofs.Casts.{back}
 use Rattle.rg_integers.proofs.Order.{positive_differs}
 use Rattle.rg_fraction.specs.Fractions.{IsValue}
+use Rattle.rg_linear.specs.Norm.{row_norm, kept_norm}
 use Rattle.rg_fraction.specs.Rows.{IsRowGcd, IsPrimitivePart}
 use Rattle.rg_order_of_work.proofs.FoldLemmas.{new_step}
-use Rattle.rg_denominators.specs.View.{scaled_of}
+use Rattle.rg_case_parts.specs.WholeNumbers.{scaled_of}
 use Rattle.rg_rows.proofs.Dividing.{written_back, parts_in_range, bigger_is, row_divided}
 use Rattle.rg_rows.proofs.rewriting.divided.Goals as goal
 
@@ -24,7 +25,13 @@ invariant_of-result c =
     let constant_is = c.in_ok-coeffs.constant in
     let parted = c.in_ok-coeffs.ensures ∙ c.deref-2.ensures.value ∙ written_back new old c.push.new.self.len (part.same_length ∙ ap length given) whole in
     let (coeffs, constant) = parts_in_range coeffs_are constant_is new (length c.deref_mut.result.now) parted part.same_length c.reduce.ensures.in_range in
-    record { coeffs_in_range = coeffs; constant_in_range = subst InRange (sym (back constant_is constant)) constant; numbers_are = sym (ap (λ z. coeffs_are ++ z ∷ []) (back constant_is constant) ∙ c.in_ok-coeffs.ensures ∙ c.deref-2.ensures.value) }
+    record {
+      coeffs_in_range = coeffs;
+      constant_in_range = subst InRange (sym (back constant_is constant)) constant;
+      norm_is = c.norm-norm.ensures
+          ∙ ap (λ xs. kept_norm (row_norm xs (cast_signed w128 (cast_unsigned w128 constant_is)))) c.deref-3.ensures.value;
+      numbers_are = sym (ap (λ z. coeffs_are ++ z ∷ []) (back constant_is constant) ∙ c.in_ok-coeffs.ensures ∙ c.deref-2.ensures.value);
+    }
 
 pub returns-clause-value : goal.returns-clause-value
 returns-clause-value c =

@@ -10,7 +10,7 @@ use Rattle.rg_reasons.specs.Trees.{row_name_of}
 use Rattle.rg_fraction.specs.declared.fold_stop.FoldStop.TheVariants as stop
 use Rattle.rg_cycles.specs.View.{cycle_of}
 use Rattle.rg_reasons.specs.Sums.{expression_of}
-use Rattle.rg_denominators.specs.View.{scaled_of}
+use Rattle.rg_case_parts.specs.WholeNumbers.{scaled_of}
 use Rattle.rg_rows.specs.View.{kept_row}
 use Rattle.rg_rows.proofs.Making.{whole_step, if_ok_more, row_unscaled, row_unmade, row_made}
 use Rattle.rg_rows.proofs.rewriting.row.Goals as goal
@@ -54,7 +54,8 @@ returns-clause-value c =
     let constant = c.in_ok-constant.constant in
     let top = back c.numerator.result c.numerator.ensures.in_range ∙ c.numerator.ensures.value in
     if_ok_more c.divided.result (λ r. (r.name ≡ c.args.name) × IsDivided (scaled_of scaled) (cast_signed w128 (cast_unsigned w128 c.numerator.result)) (kept_row r)) _
-    (λ r (named, is) lts class same are. row_made lts tree cycle class name sum (scaled_of scaled) (c.in_ok-scaled.ensures.value lts class same are) (ratio_of constant) (kept_row r) (rw c.in_ok-constant.was at product) (ap row_name_of named) (subst (λ z. IsDivided (scaled_of scaled) z (kept_row r)) top is))
+    (λ r (named, is) lts class same are. row_made lts tree cycle class name sum (scaled_of scaled) (c.in_ok-scaled.ensures.value lts class same are) (ratio_of constant)
+    (kept_row r) (rw c.in_ok-constant.was at product) (ap row_name_of named) (subst (λ z. IsDivided (scaled_of scaled) z (kept_row r)) top is))
     c.divided.ensures.value
 
 pub returns-clause-one_each : goal.returns-clause-one_each

@@ -27,8 +27,13 @@ loop-form-preserved c =
     let own = subst (IsNamedFormOf c.args.named.now.system) here (c.requires.each c.loop-form.form-index c.form-item.result lt) in
     record {
       forms = subst (λ (xs : List Bounded). forms_of xs ≡ map linear_form (take (c.loop-form.form-index + 1) forms)) (sym items) (copies_more forms c.loop-form.form-index c.loop-form.forms.items c.form-item.result c.in_ok-clone.field-0 lt here same c.loop-form.invariant.forms);
-      each = subst (All (IsFormOf c.args.named.now.system)) (sym items) (All-push (IsFormOf c.args.named.now.system) c.loop-form.forms.items (copy_of c.form-item.result c.in_ok-clone.field-0) c.loop-form.invariant.each (copy_asked c.args.named.now.system c.form-item.result c.in_ok-clone.field-0 same own));
+      each = subst (All (IsFormOf c.args.named.now.system)) (sym items)
+          (All-push (IsFormOf c.args.named.now.system) c.loop-form.forms.items (copy_of c.form-item.result c.in_ok-clone.field-0) c.loop-form.invariant.each
+          (copy_asked c.args.named.now.system c.form-item.result c.in_ok-clone.field-0 same own));
     }
 
 pub returns-clause-can : goal.returns-clause-can
-returns-clause-can c = can_branch c.args.named.now.system c.args.named.now.forms.items c.loop-form.forms.items c.requires (c.loop-form.invariant.forms ∙ ap (map linear_form) (take_all c.loop-form.form-index c.args.named.now.forms.items (subst (λ (xs : List NamedForm). length xs ≤ c.loop-form.form-index) c.deref-form-items.ensures.value c.loop-form-test.false))) c.loop-form.invariant.each
+returns-clause-can c = can_branch c.args.named.now.system c.args.named.now.forms.items c.loop-form.forms.items c.requires
+    (c.loop-form.invariant.forms ∙ ap (map linear_form)
+    (take_all c.loop-form.form-index c.args.named.now.forms.items
+    (subst (λ (xs : List NamedForm). length xs ≤ c.loop-form.form-index) c.deref-form-items.ensures.value c.loop-form-test.false))) c.loop-form.invariant.each

@@ -26,7 +26,8 @@ IfOk_both (Ok a) p q f = f a p q
 IfOk_both (Err e) p q f = p
 
 pub shares-requires-clause-rows : goal.shares-requires-clause-rows
-shares-requires-clause-rows c = subst (λ n. All (λ (w : Weight). w.row < length c.args.named.now.system.rows + n) (map weight_of c.args.weights.now)) (length-map c.args.above.now side_of) (leaf_rows c.args.c c.args.named.now (sides_of c.args.above.now) (map weight_of c.args.weights.now) c.requires.leaf.node)
+shares-requires-clause-rows c = subst (λ n. All (λ (w : Weight). w.row < length c.args.named.now.system.rows + n) (map weight_of c.args.weights.now))
+    (length-map c.args.above.now side_of) (leaf_rows c.args.c c.args.named.now (sides_of c.args.above.now) (map weight_of c.args.weights.now) c.requires.leaf.node)
 
 pub shares-requires-clause-not_negative : goal.shares-requires-clause-not_negative
 shares-requires-clause-not_negative c = leaf_not_negative c.args.c c.args.named.now (sides_of c.args.above.now) (map weight_of c.args.weights.now) c.requires.leaf.node
@@ -45,7 +46,9 @@ returns-clause-made c =
     let sides = sides_of c.args.above.now in
     let by_name = c.in_ok-above.ensures ∙ ap (λ (fs : List NamedForm). sides_among (map split_of fs) sides) c.deref.ensures.value ∙ ap (λ fs. sides_among fs sides) c.requires.system.by_name in
     let fold = subst (λ (shares : List (RowName × Fraction)). SharesFold c.args.named.now sides (map weight_of c.args.weights.now) (Ok (map share_of shares))) (sym c.deref-2.ensures.value) c.in_ok-shares.ensures.shares in
-    IfOk_both c.spread.result c.spread.ensures.leaf c.spread.ensures.refutes (λ node leaf is. leaf_made c.args.c c.args.named.now sides (map made_side_of c.deref-3.result.now) (map weight_of c.args.weights.now) (map share_of c.deref-2.result.now) (made_node_of node) c.requires.system (ap (map made_side_of) c.deref-3.ensures.value ∙ by_name) fold leaf is)
+    IfOk_both c.spread.result c.spread.ensures.leaf c.spread.ensures.refutes
+    (λ node leaf is. leaf_made c.args.c c.args.named.now sides (map made_side_of c.deref-3.result.now) (map weight_of c.args.weights.now)
+    (map share_of c.deref-2.result.now) (made_node_of node) c.requires.system (ap (map made_side_of) c.deref-3.ensures.value ∙ by_name) fold leaf is)
 
 pub returns-clause-wide : goal.returns-clause-wide
 returns-clause-wide c = λ w is case shows.
@@ -54,7 +57,13 @@ returns-clause-wide c = λ w is case shows.
     let sides = sides_of c.args.above.now in
     let by_name = c.in_ok-above.ensures ∙ ap (λ (fs : List NamedForm). sides_among (map split_of fs) sides) c.deref.ensures.value ∙ ap (λ fs. sides_among fs sides) c.requires.system.by_name in
     let Fails : List Side → List (RowName × Fraction) → Type 0 = λ above shares. leaf_fold lts c.args.c.setting.tree.now.arcs (cycle_of c.args.c.setting.basis.now) (row_expression lts class c.args.c.problem c.args.c.number above) (map share_of shares) (Err w) in
-    inr (map share_of c.in_ok-shares.shares.items, shares_named c.args.c c.args.named.now c.requires.system sides (map weight_of c.args.weights.now) (Ok (map share_of c.in_ok-shares.shares.items)) c.in_ok-shares.ensures.shares case shows, subst (λ shares. Fails (named_sides lts class c.args.c.problem sides) shares) c.deref-2.ensures.value (subst (λ above. Fails above c.deref-2.result.now) (ap (map made_side_of) c.deref-3.ensures.value ∙ by_name) (c.spread.ensures.wide w is)))
+    inr (
+      map share_of c.in_ok-shares.shares.items,
+      shares_named c.args.c c.args.named.now c.requires.system sides (map weight_of c.args.weights.now)
+          (Ok (map share_of c.in_ok-shares.shares.items)) c.in_ok-shares.ensures.shares case shows,
+      subst (λ shares. Fails (named_sides lts class c.args.c.problem sides) shares) c.deref-2.ensures.value
+          (subst (λ above. Fails above c.deref-2.result.now) (ap (map made_side_of) c.deref-3.ensures.value ∙ by_name) (c.spread.ensures.wide w is)),
+    )
 
 pub returns-in_err-shares-clause-wide : goal.returns-in_err-shares-clause-wide
 returns-in_err-shares-clause-wide c = λ w is case shows.

@@ -12,26 +12,30 @@ separate_all-requires-clause-separating o c = λ lives within. places_separate c
 pub separate_all-requires-clause-notable : goal.separate_all-requires-clause-notable
 separate_all-requires-clause-notable o c = λ lives within. notable c.args.setting.lts.now c.args.setting.class c.requires.setting.reachable
 
-pub shown-requires-clause-shows : goal.shown-requires-clause-shows
-shown-requires-clause-shows o c =
+pub certified-requires-clause-shows : goal.certified-requires-clause-shows
+certified-requires-clause-shows o c =
     let kept = map shown_place c.separate_all.new.kept.places.items in
     ends_refuted c.args.setting c.requires.setting kept c.in-Unsolvable.refuted (subst (IsSeparationOutcome c.args.setting.lts.now (comes_of c.args.setting) kept) c.in-Unsolvable.is c.in_ok-separate_all.ensures.comes)
 
-pub shown-requires-in-TooWide-clause-shows : goal.shown-requires-in-TooWide-clause-shows
-shown-requires-in-TooWide-clause-shows o c =
+pub shown-requires-clause-shows : goal.shown-requires-clause-shows
+shown-requires-clause-shows o c =
     let kept = map shown_place c.separate_all.new.kept.places.items in
     ends_wide c.args.setting c.requires.setting kept c.in-TooWide.left (subst (IsSeparationOutcome c.args.setting.lts.now (comes_of c.args.setting) kept) c.in-TooWide.is c.in_ok-separate_all.ensures.comes)
 
 pub returns-in-Separated-clause-tells : goal.returns-in-Separated-clause-tells
 returns-in-Separated-clause-tells o c =
     let kept = c.separate_all.new.kept in
-    separated_tells c.args.setting c.requires.setting c.is_well_formed.ensures kept.places.items kept.separated c.in_ok-separate_all.ensures.kept (subst (IsSeparationOutcome c.args.setting.lts.now (comes_of c.args.setting) (map shown_place kept.places.items)) c.in-Separated.is c.in_ok-separate_all.ensures.comes)
+    separated_tells c.args.setting c.requires.setting c.is_well_formed.ensures kept.places.items kept.separated c.in_ok-separate_all.ensures.kept
+    (subst (IsSeparationOutcome c.args.setting.lts.now (comes_of c.args.setting) (map shown_place kept.places.items)) c.in-Separated.is
+    c.in_ok-separate_all.ensures.comes)
 
 pub returns-in-Separated-clause-searched : goal.returns-in-Separated-clause-searched
 returns-in-Separated-clause-searched o c =
     let kept = c.separate_all.new.kept in
     record {
       o = places (map shown_place kept.places.items);
-      searched = separated_searched c.args.setting c.requires.setting c.is_well_formed.ensures kept.places.items kept.separated c.in_ok-separate_all.ensures.kept (subst (IsSeparationOutcome c.args.setting.lts.now (comes_of c.args.setting) (map shown_place kept.places.items)) c.in-Separated.is c.in_ok-separate_all.ensures.comes);
+      searched = separated_searched c.args.setting c.requires.setting c.is_well_formed.ensures kept.places.items kept.separated c.in_ok-separate_all.ensures.kept
+          (subst (IsSeparationOutcome c.args.setting.lts.now (comes_of c.args.setting) (map shown_place kept.places.items)) c.in-Separated.is
+          c.in_ok-separate_all.ensures.comes);
       shows = refl;
     }

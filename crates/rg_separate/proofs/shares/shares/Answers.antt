@@ -3,11 +3,11 @@ use Rattle.std.proofs.lemmas.List.{length-map, length-append, get_or-map}
 use Rattle.std.specs.Prelude.{pos, ◌≤ℤ◌, FitsSigned}
 use Rattle.std.specs.Int.{w128}
 use Rattle.std.proofs.lemmas.Int.{to_z-of_z}
-use Rattle.rg_fraction.specs.declared.term.Wide.{Wide}
+use Rattle.rg_integers.specs.declared.term.Wide.{Wide}
 use Rattle.rg_linear.specs.Branching.{Weight}
 use Rattle.rg_order_of_work.specs.Fold.{each}
 use Rattle.rg_order_of_work.specs.Spreading.{share_fold}
-use Rattle.rg_cycles.proofs.Items.{item_next, item_fails, items_end, map_push}
+use Rattle.rg_order_of_work.proofs.Items.{item_next, item_fails, items_end, map_push}
 use Rattle.rg_branch.specs.View.{sides_of, weight_of}
 use Rattle.rg_rows.specs.Forms.{split_of}
 use Rattle.rg_farkas.specs.Leaves.{share_of}
@@ -48,9 +48,14 @@ loop-row-preserved c = record {
       let fits : FitsSigned w128 (get_or weights i (0, pos 0)).1 = search rules in
       let one = subst (λ z. fold (record { row = (get_or weights i (0, pos 0)).0; multiplier = z }) (Ok (share_of c.in-Ok.share))) (to_z-of_z w128 (get_or weights i (0, pos 0)).1 fits) (c.in-Ok.ensures case shows) in
       let here = subst (λ (x : Weight). fold x (Ok (share_of c.in-Ok.share))) (sym (get_or-map weight_of weights i (0, pos 0) none c.loop-row-test.true)) one in
-      rw (map_push share_of c.loop-row.shares.items c.push.new.self.items c.in-Ok.share c.in_ok-push-in-Ok.ensures.items) (item_next fold (map weight_of weights) i none (map share_of c.loop-row.shares.items) (c.loop-row.invariant.so_far case shows) (let t = c.loop-row-test.true in let e = length-map weights weight_of in omega arith) (share_of c.in-Ok.share) here));
+      rw (map_push share_of c.loop-row.shares.items c.push.new.self.items c.in-Ok.share c.in_ok-push-in-Ok.ensures.items)
+      (item_next fold (map weight_of weights) i none (map share_of c.loop-row.shares.items) (c.loop-row.invariant.so_far case shows)
+      (let t = c.loop-row-test.true in let e = length-map weights weight_of in omega arith) (share_of c.in-Ok.share) here));
   one_each = ap length c.in_ok-push-in-Ok.ensures.items ∙ length-append c.loop-row.shares.items (c.in-Ok.share ∷ []) ∙ (let e = c.loop-row.invariant.one_each in omega arith);
 }
 
 pub returns-clause-shares : goal.returns-clause-shares
-returns-clause-shares c = λ case shows. items_end (share_fold case (sides_of c.args.above.now) (sides_among (map split_of c.args.named.now.forms.items) (sides_of c.args.above.now))) (map weight_of c.args.weights.now) c.loop-row.row-index none (map share_of c.loop-row.shares.items) (c.loop-row.invariant.so_far case shows) (let t = c.loop-row-test.false in let e = length-map c.args.weights.now weight_of in omega arith)
+returns-clause-shares c = λ case shows. items_end
+    (share_fold case (sides_of c.args.above.now) (sides_among (map split_of c.args.named.now.forms.items) (sides_of c.args.above.now)))
+    (map weight_of c.args.weights.now) c.loop-row.row-index none (map share_of c.loop-row.shares.items) (c.loop-row.invariant.so_far case shows)
+    (let t = c.loop-row-test.false in let e = length-map c.args.weights.now weight_of in omega arith)

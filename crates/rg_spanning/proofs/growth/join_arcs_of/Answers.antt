@@ -14,7 +14,7 @@ pub arcs_from-a-items-requires : goal.arcs_from-a-items-requires
 arcs_from-a-items-requires c =
     let growth = c.args.growth.now in
     let order = growth.order.items in
-    let here : Contains order c.index-s.result.now = (c.args.place, c.requires.within, sym c.index-s.ensures) in
+    let here : Contains order c.index-s.result.now = (c.args.index, c.requires.within, sym c.index-s.ensures) in
     met_in_range c.args.lts.now order growth.arcs.items growth.entries.items c.requires.growing c.index-s.result.now here
 
 pub loop-a-init : goal.loop-a-init
@@ -23,7 +23,7 @@ loop-a-init c =
     record {
       growing = c.requires.growing;
       settled = c.requires.settled;
-      at = slice_get-get_or order c.args.place c.index-s.result.now c.requires.within ∙ ap Some (sym c.index-s.ensures);
+      at = slice_get-get_or order c.args.index c.index-s.result.now c.requires.within ∙ ap Some (sym c.index-s.ensures);
       done = λ k d lt. absurd (omega arith);
     }
 
@@ -35,7 +35,7 @@ is_met-requires-clause-state c =
 pub join-requires-clause-joins : goal.join-requires-clause-joins
 join-requires-clause-joins c =
     let growth = c.loop-a.growth in
-    next_joins c.args.lts.now growth.order.items growth.arcs.items growth.entries.items c.args.place c.index-s.result.now
+    next_joins c.args.lts.now growth.order.items growth.arcs.items growth.entries.items c.args.index c.index-s.result.now
     c.arcs_from-a-items.result.now c.loop-a.a-index
     (arc 0 0 0) c.loop-a.invariant c.loop-a-test.true (leaves (goal.at.join-requires-clause-joins c).After-arcs_from-a-items)
     (λ has. (let e = c.is_met.ensures.1 has in let f = c.if-not-is_met.true in cc))
@@ -43,16 +43,16 @@ join-requires-clause-joins c =
 pub loop-a-preserved : goal.loop-a-preserved
 loop-a-preserved c =
     let growth = c.loop-a.growth in
-    let at : Growth → Type 0 = λ g. IsJoining c.args.lts.now g.order.items g.arcs.items g.entries.items c.args.place c.index-s.result.now
+    let at : Growth → Type 0 = λ g. IsJoining c.args.lts.now g.order.items g.arcs.items g.entries.items c.args.index c.index-s.result.now
     c.arcs_from-a-items.result.now (c.loop-a.a-index + 1) in
     elim c.if-not-is_met.branch [
       | then-not-is_met+in_ok-join w ↦ subst at (sym w.growth-is)
-          (over_joined c.args.lts.now growth.order.items growth.arcs.items growth.entries.items c.args.place c.index-s.result.now
+          (over_joined c.args.lts.now growth.order.items growth.arcs.items growth.entries.items c.args.index c.index-s.result.now
           c.arcs_from-a-items.result.now c.loop-a.a-index
           (arc 0 0 0) c.loop-a.invariant c.loop-a-test.true w.join.new.growth.order.items w.join.new.growth.arcs.items w.join.new.growth.entries.items
           w.in_ok-join.ensures.growing w.in_ok-join.ensures.order)
       | else-not-is_met w ↦ subst at (sym w.growth-is)
-          (over_met c.args.lts.now growth.order.items growth.arcs.items growth.entries.items c.args.place c.index-s.result.now
+          (over_met c.args.lts.now growth.order.items growth.arcs.items growth.entries.items c.args.index c.index-s.result.now
           c.arcs_from-a-items.result.now c.loop-a.a-index
           (arc 0 0 0) c.loop-a.invariant c.loop-a-test.true (c.is_met.ensures.0 w.if-not-is_met.false))
     ]
@@ -60,8 +60,8 @@ loop-a-preserved c =
 pub returns-clause-settled : goal.returns-clause-settled
 returns-clause-settled c =
     let j = c.loop-a.invariant in
-    settled_more c.args.lts.now c.loop-a.growth.order.items c.args.place c.index-s.result.now c.arcs_from-a-items.result.now
+    settled_more c.args.lts.now c.loop-a.growth.order.items c.args.index c.index-s.result.now c.arcs_from-a-items.result.now
     (leaves (goal.at.returns-clause-settled c).After-arcs_from-a-items) j.settled j.at (λ k d lt. j.done k d (omega arith))
 
 pub returns-clause-within : goal.returns-clause-within
-returns-clause-within c = slice_get_within c.loop-a.growth.order.items c.args.place c.index-s.result.now c.loop-a.invariant.at
+returns-clause-within c = slice_get_within c.loop-a.growth.order.items c.args.index c.index-s.result.now c.loop-a.invariant.at

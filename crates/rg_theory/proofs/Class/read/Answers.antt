@@ -53,4 +53,6 @@ pub returns-clause-ok : goal.returns-clause-ok
 returns-clause-ok c =
     let kept = c.loop-word.invariant.2 in
     reads_end c.args.text.now c.loop-word.class c.loop-word.number
-    (subst (ReadsTo c.args.text.now c.loop-word.class c.loop-word.number) (none_left (split_steps FindsChar (λ a b. b ≡ a)) (λ x. x.now) c.loop-word.word-iterator c.next.new.self kept.0 kept.1 (subst (λ r. split_steps FindsChar (λ a b. b ≡ a) c.loop-word.word-iterator r c.next.new.self) c.in-None.is c.next.ensures.steps)) kept.2)
+    (subst (ReadsTo c.args.text.now c.loop-word.class c.loop-word.number)
+    (none_left (split_steps FindsChar (λ a b. b ≡ a)) (λ x. x.now) c.loop-word.word-iterator c.next.new.self kept.0 kept.1
+    (subst (λ r. split_steps FindsChar (λ a b. b ≡ a) c.loop-word.word-iterator r c.next.new.self) c.in-None.is c.next.ensures.steps)) kept.2)

@@ -1,5 +1,5 @@
 use Rattle.std.proofs.Common.{◌≡◌, [], Err, IfOk, ap, subst}
-use Rattle.rg_lines.specs.Files.{file_line}
+use Rattle.rg_messages.specs.Files.{file_line}
 use Rattle.rg_top.specs.Second.{first_fault}
 use Rattle.rg_top.specs.Ends.{EndsOn, FileEnds, no_system, on_system}
 use Rattle.rg_top.specs.Requests.{work_of}

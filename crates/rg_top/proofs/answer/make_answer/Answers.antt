@@ -1,7 +1,7 @@
 use Rattle.std.proofs.Common.{[], map, string_bytes, subst}
 use Rattle.rg_commands.specs.Requests.{asked_by}
 use Rattle.rg_commands.specs.Says.{AreRefused, IsStopOf}
-use Rattle.rg_lines.specs.Usages.{usage_line}
+use Rattle.rg_messages.specs.Usages.{usage_line}
 use Rattle.rg_top.specs.Ends.{EndsOf, Answers, refused, asked}
 use Rattle.rg_top.specs.declared.answer.Answer.{Answer}
 use Rattle.rg_top.specs.declared.status.Status.TheVariants.{Usage as Refuses}

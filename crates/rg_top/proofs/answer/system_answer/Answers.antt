@@ -23,3 +23,26 @@ pub returns-in_ok-conversion_answer-in-Conversion-clause-ok :
 returns-in_ok-conversion_answer-in-Conversion-clause-ok g c =
     let r = c.in_ok-conversion_answer-in-Conversion in
     subst (λ (w : Work). EndsOn (g.H.Shelf.files c.args.shelf.now) (work_of w) c.args.lts.now r.field-0.status r.field-0.out.items r.field-0.err.items) (sym c.in-Conversion.is) r.ensures
+
+pub returns-in_ok-factor_answer-in-Factoring-clause-ok :
+    goal.returns-in_ok-factor_answer-in-Factoring-clause-ok
+returns-in_ok-factor_answer-in-Factoring-clause-ok g c =
+    let r = c.in_ok-factor_answer-in-Factoring in
+    subst (λ (w : Work). EndsOn (g.H.Shelf.files c.args.shelf.now) (work_of w) c.args.lts.now r.field-0.status r.field-0.out.items r.field-0.err.items) (sym c.in-Factoring.is) r.ensures
+
+pub returns-in_ok-split_answer-in-Splitting-clause-ok :
+    goal.returns-in_ok-split_answer-in-Splitting-clause-ok
+returns-in_ok-split_answer-in-Splitting-clause-ok g c =
+    let r = c.in_ok-split_answer-in-Splitting in
+    subst (λ (w : Work). EndsOn (g.H.Shelf.files c.args.shelf.now) (work_of w) c.args.lts.now r.field-0.status r.field-0.out.items r.field-0.err.items) (sym c.in-Splitting.is) r.ensures
+
+pub returns-in-Comparison-clause-ok : goal.returns-in-Comparison-clause-ok
+returns-in-Comparison-clause-ok g c =
+    subst (λ (w : Work). IfOk c.comparison_answer.result (λ a. EndsOn (g.H.Shelf.files c.args.shelf.now) (work_of w) c.args.lts.now a.status a.out.items a.err.items)) (sym c.in-Comparison.is)
+    c.comparison_answer.ensures.ok
+
+pub returns-in_ok-report_answer-in-Examination-clause-ok :
+    goal.returns-in_ok-report_answer-in-Examination-clause-ok
+returns-in_ok-report_answer-in-Examination-clause-ok g c =
+    let r = c.in_ok-report_answer-in-Examination in
+    subst (λ (w : Work). EndsOn (g.H.Shelf.files c.args.shelf.now) (work_of w) c.args.lts.now r.field-0.status r.field-0.out.items r.field-0.err.items) (sym c.in-Examination.is) r.ensures

@@ -1,9 +1,9 @@
 use Rattle.std.proofs.Common.{[], Ok, Err, subst, ap, ◌∙◌}
 use Rattle.rg_net_verdict.specs.declared.verdict.NetVerdict.{NetVerdict}
 use Rattle.rg_net_verdict.specs.Verdict.{IsVerdict}
-use Rattle.rg_lines.specs.CheckedTexts.{yes_line, no_line}
-use Rattle.rg_lines.specs.Wides.{wide_line}
-use Rattle.rg_lines.specs.declared.wide.WideCause.TheVariants.{Check}
+use Rattle.rg_messages.specs.CheckedTexts.{yes_line, no_line}
+use Rattle.rg_messages.specs.Wides.{wide_line}
+use Rattle.rg_messages.specs.declared.wide.WideCause.TheVariants.{Check}
 use Rattle.rg_top.specs.Requests.{TellsNet, yes, no, passes}
 use Rattle.rg_top.specs.declared.status.Status.TheVariants.{Done, No, TooWide}
 use Rattle.rg_top.proofs.Written.{written}

@@ -1,6 +1,6 @@
 use Rattle.std.proofs.Common.{[]}
-use Rattle.rg_lines.specs.Files.{file_line}
-use Rattle.rg_lines.specs.declared.fault.Fault.TheVariants.{Net as OfNet}
+use Rattle.rg_messages.specs.Files.{file_line}
+use Rattle.rg_messages.specs.declared.fault.Fault.TheVariants.{Net as OfNet}
 use Rattle.rg_top.specs.Second.{second_fault}
 use Rattle.rg_top.specs.Requests.{TellsBytes, faulty, spelled, TellsNet}
 use Rattle.rg_top.specs.declared.answer.Answer.{Answer}

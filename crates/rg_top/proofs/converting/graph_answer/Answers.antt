@@ -4,7 +4,7 @@ use Rattle.rg_genet.specs.Same.{IsSameByNames}
 use Rattle.rg_genet.specs.Spells.{Spells}
 use Rattle.rg_genet.specs.Text.{graph_text}
 use Rattle.rg_commands.specs.declared.forms.Target.TheVariants.{Graph}
-use Rattle.rg_lines.specs.LostTexts.{lost_label_line, lost_state_line}
+use Rattle.rg_messages.specs.LostTexts.{lost_label_line, lost_state_line}
 use Rattle.rg_top.specs.Convert.{ConvertEnds, as_graph, label_lost, state_lost}
 use Rattle.rg_top.specs.declared.status.Status.TheVariants.{Done, No}
 use Rattle.rg_top.proofs.Written.{written}

@@ -1,7 +1,7 @@
 use Rattle.std.proofs.Common.{◌<◌, ◌≡◌, subst, ap, Err, length, IsSomeAnd}
 use Rattle.rg_ports.specs.Shelf.{Files, file_of}
 use Rattle.rg_text.specs.Limits.{most_bytes}
-use Rattle.rg_lines.specs.declared.fault.Fault.TheVariants.{TooLong}
+use Rattle.rg_messages.specs.declared.fault.Fault.TheVariants.{TooLong}
 use Rattle.rg_top.specs.Given.{IsUnread}
 use Rattle.rg_top.proofs.FileLemmas.{told, too_long}
 use Rattle.rg_top.proofs.files.read_bytes.Goals as goal

@@ -29,4 +29,18 @@ returns c = all_one (record {
     not_both = c.one_answer-5.ensures.not_both;
     one_verdict = c.verdict_is_one.ensures;
   };
+  factoring = record {
+    one_fork = c.one_least_fork.ensures;
+    one_factoring = c.factoring_is_one.ensures;
+    out = c.outcome_is_one.ensures.answer;
+  };
+  splitting = record {
+    one = c.splitting_is_one.ensures.one;
+    state = c.splitting_says.ensures.state;
+  };
+  comparison = record {
+    one_fork = c.one_least_fork.ensures;
+    one_told = c.one_comparison.ensures;
+  };
+  examination = c.one_examination.ensures;
 })

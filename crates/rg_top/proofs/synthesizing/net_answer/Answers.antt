@@ -6,8 +6,8 @@ use Rattle.rg_outcome.specs.Outcome.{Out}
 use Rattle.rg_separate.specs.View.{shown_of}
 use Rattle.rg_synth.specs.Answer.{answer_of, IsOpen, IsSolvingNet, IsRightCertificate, IfNet, IfUnsolvable, IfTooWide}
 use Rattle.rg_synth.specs.declared.answer.Answer.{Answer}
-use Rattle.rg_lines.specs.Wides.{wide_line}
-use Rattle.rg_lines.specs.declared.wide.WideCause.TheVariants.{Synthesis}
+use Rattle.rg_messages.specs.Wides.{wide_line}
+use Rattle.rg_messages.specs.declared.wide.WideCause.TheVariants.{Synthesis}
 use Rattle.rg_top.specs.Synthesize.{SynthesizeEnds, a_term}
 use Rattle.rg_top.specs.declared.status.Status.TheVariants.{Done, No, TooWide}
 use Rattle.rg_top.proofs.Found.{found_net, found_certificate}

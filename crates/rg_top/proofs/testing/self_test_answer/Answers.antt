@@ -1,6 +1,6 @@
 use Rattle.std.proofs.Common.{[], Err, ap}
-use Rattle.rg_lines.specs.Wides.{wide_line}
-use Rattle.rg_lines.specs.declared.wide.WideCause.TheVariants.{Synthesis}
+use Rattle.rg_messages.specs.Wides.{wide_line}
+use Rattle.rg_messages.specs.declared.wide.WideCause.TheVariants.{Synthesis}
 use Rattle.rg_top.specs.SelfTest.{SelfTestEnds}
 use Rattle.rg_top.specs.declared.status.Status.TheVariants.{Done, TooWide}
 use Rattle.rg_top.proofs.Written.{written}

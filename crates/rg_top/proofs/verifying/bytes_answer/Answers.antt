@@ -1,5 +1,5 @@
 use Rattle.std.proofs.Common.{[], ◌∙◌}
-use Rattle.rg_lines.specs.JudgedTexts.{cert_fault_text, refused_line}
+use Rattle.rg_messages.specs.JudgedTexts.{cert_fault_text, refused_line}
 use Rattle.rg_top.specs.Requests.{JudgesBytes}
 use Rattle.rg_top.specs.declared.status.Status.TheVariants.{No}
 use Rattle.rg_top.proofs.Written.{written}

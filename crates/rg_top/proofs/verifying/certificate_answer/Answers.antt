@@ -2,7 +2,7 @@ use Rattle.std.proofs.Common.{[], subst, ◌∙◌}
 use Rattle.rg_reasons.specs.Certificates.{claim_of}
 use Rattle.rg_verify.specs.declared.verdict.Verdict.{Verdict}
 use Rattle.rg_verify.specs.Judged.{Judges}
-use Rattle.rg_lines.specs.JudgedTexts.{accepted_line, defect_text, refused_line}
+use Rattle.rg_messages.specs.JudgedTexts.{accepted_line, defect_text, refused_line}
 use Rattle.rg_top.specs.Requests.{JudgesBytes, accepted}
 use Rattle.rg_top.specs.declared.status.Status.TheVariants.{Done, No}
 use Rattle.rg_top.proofs.Written.{written}

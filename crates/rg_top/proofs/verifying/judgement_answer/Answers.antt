@@ -1,5 +1,5 @@
 use Rattle.std.proofs.Common.{◌≡◌, [], List, ℕ, Err, ap, subst}
-use Rattle.rg_lines.specs.Files.{file_line}
+use Rattle.rg_messages.specs.Files.{file_line}
 use Rattle.rg_top.specs.Verify.{VerifyEnds, unread}
 use Rattle.rg_top.specs.Second.{second_fault}
 use Rattle.rg_top.specs.Requests.{JudgesBytes}

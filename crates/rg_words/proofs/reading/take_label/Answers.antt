@@ -8,21 +8,21 @@ use Rattle.rg_words.proofs.Steps.{states_long}
 use Rattle.rg_words.proofs.LabelSteps.{old_label, new_label, too_many_states, draft_same, draft_more}
 use Rattle.rg_words.proofs.reading.take_label.Goals as goal
 
-pub returns-then-place-ge-MOST_STATES-clause-fault : goal.returns-then-place-ge-MOST_STATES-clause-fault
-returns-then-place-ge-MOST_STATES-clause-fault c = λ real all before h.
+pub returns-then-index-ge-MOST_STATES-clause-fault : goal.returns-then-index-ge-MOST_STATES-clause-fault
+returns-then-index-ge-MOST_STATES-clause-fault c = λ real all before h.
     let label = c.args.label.now in
     let d = c.args.tree.now.builder in
     let e = c.label_at.new.builder in
     let name : c.as_name-name.result.now ≡ label = c.as_name-name.ensures in
     let grown : e.label_names ≡ with_new bytes_eq d.label_names label = ap (λ (x : Draft). x.label_names) c.in_ok-t.ensures.added ∙ ap (with_new bytes_eq d.label_names) name in
     let named : slice_get e.label_names c.in_ok-t.t ≡ Some label = c.in_ok-t.ensures.at ∙ ap Some name in
-    let new = c.in_ok-place.ensures.new (λ (no : c.in_ok-place.new ≡ false). cc) in
+    let new = c.in_ok-index.ensures.new (λ (no : c.in_ok-index.new ≡ false). cc) in
     too_many_states all before c.args.number label d.label_names e.label_names c.args.tree.now.steps.keys c.args.state c.in_ok-t.t h grown named
-    c.in_ok-check.ensures.short c.in_ok-check.ensures.whole (c.in_ok-t.ensures.few c.requires.draft.few_labels) new.2 (omega (arith, new.0, c.if-place-ge-MOST_STATES.true))
+    c.in_ok-check.ensures.short c.in_ok-check.ensures.whole (c.in_ok-t.ensures.few c.requires.draft.few_labels) new.2 (omega (arith, new.0, c.if-index-ge-MOST_STATES.true))
 
 pub grow-requires-clause-draft : goal.grow-requires-clause-draft
 grow-requires-clause-draft c =
-    let new = c.in_ok-place.ensures.new (λ (no : c.in_ok-place.new ≡ false). cc) in
+    let new = c.in_ok-index.ensures.new (λ (no : c.in_ok-index.new ≡ false). cc) in
     (c.args.tree.now.steps.keys, draft_same c.args.tree.now.builder c.label_at.new.builder c.args.tree.now.steps.keys c.as_name-name.result.now c.requires.draft c.in_ok-t.ensures.added c.in_ok-t.ensures.few, ap (λ n. n + 1) (sym new.0))
 
 pub returns-in_ok-grow-clause-draft : goal.returns-in_ok-grow-clause-draft
@@ -30,11 +30,11 @@ returns-in_ok-grow-clause-draft c =
     let d = c.args.tree.now.builder in
     let e = c.label_at.new.builder in
     let steps = c.args.tree.now.steps.keys in
-    let new = c.in_ok-place.ensures.new (λ (no : c.in_ok-place.new ≡ false). cc) in
+    let new = c.in_ok-index.ensures.new (λ (no : c.in_ok-index.new ≡ false). cc) in
     subst (IsDraftOf c.grow.new.builder) (sym new.1)
-    (draft_more e c.grow.new.builder steps c.args.state c.in_ok-t.t (c.in_ok-place.place + 1) c.as_name-name.result.now
+    (draft_more e c.grow.new.builder steps c.args.state c.in_ok-t.t (c.in_ok-index.index + 1) c.as_name-name.result.now
     (draft_same d e steps c.as_name-name.result.now c.requires.draft c.in_ok-t.ensures.added c.in_ok-t.ensures.few) c.in_ok-grow.ensures.ok c.in_ok-t.ensures.at
-    (ap (λ n. n + 1) new.0) c.if-place-ge-MOST_STATES.false)
+    (ap (λ n. n + 1) new.0) c.if-index-ge-MOST_STATES.false)
 
 pub returns-in_ok-grow-clause-ok : goal.returns-in_ok-grow-clause-ok
 returns-in_ok-grow-clause-ok c = λ all before h.
@@ -45,10 +45,10 @@ returns-in_ok-grow-clause-ok c = λ all before h.
     let name : c.as_name-name.result.now ≡ label = c.as_name-name.ensures in
     let grown : e.label_names ≡ with_new bytes_eq d.label_names label = ap (λ (x : Draft). x.label_names) c.in_ok-t.ensures.added ∙ ap (with_new bytes_eq d.label_names) name in
     let named : slice_get e.label_names c.in_ok-t.t ≡ Some label = c.in_ok-t.ensures.at ∙ ap Some name in
-    let new = c.in_ok-place.ensures.new (λ (no : c.in_ok-place.new ≡ false). cc) in
+    let new = c.in_ok-index.ensures.new (λ (no : c.in_ok-index.new ≡ false). cc) in
     let same : c.grow.new.builder.label_names ≡ e.label_names = ap (λ (x : Draft). x.label_names) c.in_ok-grow.ensures.ok.rest in
     let r = new_label all before c.args.number label d.label_names e.label_names steps c.args.state c.in_ok-t.t h grown named
-    c.in_ok-check.ensures.short c.in_ok-check.ensures.whole (c.in_ok-t.ensures.few c.requires.draft.few_labels) new.2 (omega (arith, new.0, c.if-place-ge-MOST_STATES.false)) in
+    c.in_ok-check.ensures.short c.in_ok-check.ensures.whole (c.in_ok-t.ensures.few c.requires.draft.few_labels) new.2 (omega (arith, new.0, c.if-index-ge-MOST_STATES.false)) in
     let u = use_of c.args.number before label in (
       subst (λ n. IsAt (all ++ u ∷ []) (before ++ label ∷ []) c.grow.new.builder.label_names c.place_of.new.steps.keys (n + 1)) (sym new.0)
           (subst (λ s. IsAt (all ++ u ∷ []) (before ++ label ∷ []) c.grow.new.builder.label_names s (length steps + 1)) (sym new.1)
@@ -58,12 +58,12 @@ returns-in_ok-grow-clause-ok c = λ all before h.
 
 pub returns-else-new-clause-draft : goal.returns-else-new-clause-draft
 returns-else-new-clause-draft c =
-    subst (IsDraftOf c.label_at.new.builder) (sym (c.in_ok-place.ensures.known c.if-new.false))
+    subst (IsDraftOf c.label_at.new.builder) (sym (c.in_ok-index.ensures.known c.if-new.false))
     (draft_same c.args.tree.now.builder c.label_at.new.builder c.args.tree.now.steps.keys c.as_name-name.result.now c.requires.draft c.in_ok-t.ensures.added c.in_ok-t.ensures.few)
 
 pub returns-else-new-clause-state : goal.returns-else-new-clause-state
 returns-else-new-clause-state c =
-    let within = slice_get_within c.place_of.new.steps.keys c.in_ok-place.place (c.args.state, c.in_ok-t.t) c.in_ok-place.ensures.at in
+    let within = slice_get_within c.place_of.new.steps.keys c.in_ok-index.index (c.args.state, c.in_ok-t.t) c.in_ok-index.ensures.at in
     omega (arith, within)
 
 pub returns-else-new-clause-ok : goal.returns-else-new-clause-ok
@@ -75,15 +75,15 @@ returns-else-new-clause-ok c = λ all before h.
     let name : c.as_name-name.result.now ≡ label = c.as_name-name.ensures in
     let grown : e.label_names ≡ with_new bytes_eq d.label_names label = ap (λ (x : Draft). x.label_names) c.in_ok-t.ensures.added ∙ ap (with_new bytes_eq d.label_names) name in
     let named : slice_get e.label_names c.in_ok-t.t ≡ Some label = c.in_ok-t.ensures.at ∙ ap Some name in
-    let known : c.place_of.new.steps.keys ≡ steps = c.in_ok-place.ensures.known c.if-new.false in
-    let at : slice_get steps c.in_ok-place.place ≡ Some (c.args.state, c.in_ok-t.t) = subst (λ s. slice_get s c.in_ok-place.place ≡ Some (c.args.state, c.in_ok-t.t)) known c.in_ok-place.ensures.at in
+    let known : c.place_of.new.steps.keys ≡ steps = c.in_ok-index.ensures.known c.if-new.false in
+    let at : slice_get steps c.in_ok-index.index ≡ Some (c.args.state, c.in_ok-t.t) = subst (λ s. slice_get s c.in_ok-index.index ≡ Some (c.args.state, c.in_ok-t.t)) known c.in_ok-index.ensures.at in
     let r = old_label all before c.args.number label d.label_names e.label_names steps c.args.state c.in_ok-t.t h grown named
-    c.in_ok-check.ensures.short c.in_ok-check.ensures.whole (c.in_ok-t.ensures.few c.requires.draft.few_labels) c.in_ok-place.place at c.requires.draft.few_steps in
-    (subst (λ s. IsAt (all ++ use_of c.args.number before label ∷ []) (before ++ label ∷ []) e.label_names s (c.in_ok-place.place + 1)) (sym known) r.0, r.1)
+    c.in_ok-check.ensures.short c.in_ok-check.ensures.whole (c.in_ok-t.ensures.few c.requires.draft.few_labels) c.in_ok-index.index at c.requires.draft.few_steps in
+    (subst (λ s. IsAt (all ++ use_of c.args.number before label ∷ []) (before ++ label ∷ []) e.label_names s (c.in_ok-index.index + 1)) (sym known) r.0, r.1)
 
 pub grow-requires-clause-room : goal.grow-requires-clause-room
 grow-requires-clause-room c =
-    let new = c.in_ok-place.ensures.new (λ (no : c.in_ok-place.new ≡ false). cc) in
+    let new = c.in_ok-index.ensures.new (λ (no : c.in_ok-index.new ≡ false). cc) in
     let e = c.label_at.new.builder in
     let d = draft_same c.args.tree.now.builder e c.args.tree.now.steps.keys c.as_name-name.result.now c.requires.draft c.in_ok-t.ensures.added c.in_ok-t.ensures.few in
-    omega (arith, ap length d.states, states_long (length c.args.tree.now.steps.keys + 1), new.0, c.if-place-ge-MOST_STATES.false)
+    omega (arith, ap length d.states, states_long (length c.args.tree.now.steps.keys + 1), new.0, c.if-index-ge-MOST_STATES.false)

@@ -24,13 +24,17 @@ of_view c = subst (λ (v : Contents). v.columns + c.args.rows < 2 ^ 32) (sym c.s
 table_fits : (c : goal.After-self-3-1) → (length c.truncate.new.self.items ≡ c.self.inside.columns * (c.self.inside.columns + 2)) × RowInRange c.truncate.new.self.items
 table_fits c =
     let items = c.truncate.ensures.items ∙ ap (λ w. take (c.self.inside.columns * w) c.make_room.new.table.items) (width_is c) ∙ ap (take (c.self.inside.columns * (c.self.inside.columns + 2))) c.make_room.ensures.items in
-    subst (λ xs. (length xs ≡ c.self.inside.columns * (c.self.inside.columns + 2)) × RowInRange xs) (sym items) (first_fit c.self.inside.table.items (c.self.inside.columns * (c.self.inside.columns + 2)) (columns_first c.self.inside.columns c.self.inside.rows _ c.self.invariant.size) c.self.invariant.in_range)
+    subst (λ xs. (length xs ≡ c.self.inside.columns * (c.self.inside.columns + 2)) × RowInRange xs) (sym items)
+    (first_fit c.self.inside.table.items (c.self.inside.columns * (c.self.inside.columns + 2))
+    (columns_first c.self.inside.columns c.self.inside.rows _ c.self.invariant.size) c.self.invariant.in_range)
 
 pub invariant_of-self-2 : goal.invariant_of-self-2
 invariant_of-self-2 c =
     let fits = table_fits c in
     let few : c.self.inside.columns + c.max-room.result < 2 ^ 32 = (let e = c.max-room.ensures in let f = c.self.invariant.few in let r = of_view c in omega arith) in
-    let space : (c.self.inside.columns + c.max-room.result) * (c.self.inside.columns + 2) ≤ vec_capacity c.truncate.new.self = subst (λ n. (c.self.inside.columns + c.max-room.result) * n ≤ vec_capacity c.truncate.new.self) (width_is c) (let r = (c.in_ok-make_room.ensures {u = tt}).room in let e = c.truncate.ensures.capacity in omega arith) in
+    let space : (c.self.inside.columns + c.max-room.result) * (c.self.inside.columns + 2) ≤ vec_capacity c.truncate.new.self = subst
+    (λ n. (c.self.inside.columns + c.max-room.result) * n ≤ vec_capacity c.truncate.new.self) (width_is c)
+    (let r = (c.in_ok-make_room.ensures {u = tt}).room in let e = c.truncate.ensures.capacity in omega arith) in
     stored_fresh c.self.inside.columns c.max-room.result (vec_capacity c.truncate.new.self) (vec_capacity c.self.inside.named_places) _ c.truncate.new.self.items c.self.inside.pivot_row.items few (members_are c) fits.0 fits.1 space c.self.invariant.width c.self.invariant.places
 
 pub returns-clause-system : goal.returns-clause-system

@@ -1,0 +1,4 @@
+pub mod Multiples
+pub mod Picking
+pub mod Marking
+pub mod Counting

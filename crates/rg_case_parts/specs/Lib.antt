@@ -1,0 +1,3 @@
+pub mod WholeNumbers
+pub mod ColumnViews
+pub mod StatesNamed

@@ -1,0 +1,98 @@
+//! The columns of a system: Start, where it is one, and the free labels with an arc.
+ghost use Rattle.std.specs.Prelude.{◌≡◌, ℕ, ◌<◌, ◌≤◌, false, length, map, slice_index_or, ℤ, IfOk};
+ghost use Rattle.rg_integers.specs.Range.{InRange};
+ghost use Rattle.rg_theory.specs.declared.Class.{Class};
+ghost use Rattle.rg_theory.specs.Limits.{most_labels};
+ghost use Rattle.rg_theory.specs.System.{System, labels};
+ghost use Rattle.rg_lts.specs.WellFormed.{IsWellFormed};
+ghost use Rattle.rg_order_of_work.specs.Fold.{ratio_of};
+ghost use Rattle.rg_order_of_work.specs.Rewriting.{has_label, free_labels, has_start, columns_of, column_count};
+ghost use Rattle.rg_cycles.specs.View.{labels_of, cycle_of};
+ghost use Rattle.rg_case_parts.specs.ColumnViews.{TellsUsedLabels, AreColumns};
+
+use rg_cycles::Basis;
+use rg_fraction::Fraction;
+use rg_lts::Lts;
+use rg_theory::Class;
+use std::alloc::{AllocError, Global};
+
+/// The columns of a case's system: whether Start is one, and of each label whether it has an arc.
+#[derive(Drop)]
+pub struct Columns {
+    pub start: bool,
+    pub used: Vec<bool>,
+}
+
+impl Columns {
+    /// The columns in this class. An error where there is no memory.
+    pub fn new(alloc: Global, lts: &Lts, class: Class) -> Result<Columns, AllocError>
+        ensures columns { IfOk result (AreColumns lts.now class) }
+        ensures well_formed { IfOk result (λ _. IsWellFormed lts.now) }
+    {
+        let used = used_labels(alloc, lts)?;
+        Ok(Columns {
+            start: has_start(class),
+            used,
+        })
+    }
+
+    /// How many there are.
+    pub fn count(&self, basis: &Basis) -> u32
+        requires labels { length self.now.used.items ≡ labels_of basis.now }
+        requires few { length self.now.used.items ≤ most_labels }
+        ensures { (lts : System) (class : Class) → labels lts ≡ labels_of basis.now → AreColumns lts class self.now → result ≡ column_count lts (cycle_of basis.now) class }
+    {
+        let mut count = u32::from(self.start);
+        for &label in basis.free() {
+            if self.used[label as usize] {
+                count += 1;
+            }
+        }
+        count
+    }
+
+    /// The numbers of the columns: of Start, and of the free labels with an arc, out of those of all free labels.
+    /// An error where there is no memory.
+    pub fn pick(
+        &self,
+        alloc: Global,
+        basis: &Basis,
+        start: i128,
+        free: &[Fraction],
+    ) -> Result<Vec<Fraction>, AllocError>
+        requires in_range { InRange start }
+        requires labels { length self.now.used.items ≡ labels_of basis.now }
+        requires one_each { length free.now ≡ length (free_labels (labels_of basis.now) (cycle_of basis.now)) }
+        ensures { IfOk result (λ v. (lts : System) (class : Class) → labels lts ≡ labels_of basis.now → AreColumns lts class self.now → map ratio_of v.items ≡ columns_of lts (cycle_of basis.now) class start (map ratio_of free.now)) }
+    {
+        let mut numbers = Vec::new(alloc);
+        if self.start {
+            numbers.push(Fraction::new(start, 1))?;
+        }
+        for (place, &label) in basis.free().iter().enumerate() {
+            if self.used[label as usize] {
+                numbers.push(free[place])?;
+            }
+        }
+        Ok(numbers)
+    }
+}
+
+/// Whether Start is a column in this class: elsewhere it cancels in every row.
+pub fn has_start(class: Class) -> bool
+    ensures { result ≡ has_start class }
+{
+    class.pure || class.plain || class.bound.is_some()
+}
+
+/// Of each label whether it has an arc: one entry for each label, in order. An error where there is no memory.
+pub fn used_labels(alloc: Global, lts: &Lts) -> Result<Vec<bool>, AllocError>
+    ensures labels { IfOk result (λ used. TellsUsedLabels lts.now used.items) }
+    ensures well_formed { IfOk result (λ _. IsWellFormed lts.now) }
+{
+    let mut used = vec![in alloc; false; lts.labels() as usize]?;
+    for a in lts.arcs() {
+        used[a.label as usize] = true;
+    }
+    Ok(used)
+}

@@ -1,0 +1,85 @@
+//! The least common multiple of denominators.
+ghost use Rattle.std.specs.Prelude.{◌≡◌, ℕ, ◌<◌, ◌<ℤ◌, pos, map, length, All, Ok, Err, IfOk, IsErrOf};
+ghost use Rattle.rg_integers.specs.Range.{InRange};
+ghost use Rattle.rg_integers.specs.declared.term.Wide.{Wide};
+ghost use Rattle.rg_fraction.specs.Fractions.{numerator_of, denominator_of};
+ghost use Rattle.rg_order_of_work.specs.Fold.{ratio_of, whole, each, mul, common_multiple, multiple_of_all};
+ghost use Rattle.rg_order_of_work.specs.Rewriting.{scaled_fold};
+ghost use Rattle.rg_fraction.specs.declared.fold_stop.FoldStop.TheVariants as stop;
+ghost use Rattle.rg_case_parts.specs.WholeNumbers.{scaled_of};
+
+use crate::scaled::Scaled;
+use rg_fraction::{FoldStop, Fraction, gcd, whole_product};
+use rg_integers::Wide;
+use std::alloc::Global;
+
+/// The fractions, each multiplied by the least common multiple of all denominators: the usual way from rational
+/// to whole numbers (Schrijver, *Theory of Linear and Integer Programming*). `numbers` has one entry for each
+/// fraction, in order.
+///
+/// `FoldStop::Wide` comes exactly where a step of this is out of range, with the first such step: first the
+/// multiple, two denominators at a time, then the products in order. `FoldStop::NoMemory` comes where there is no
+/// memory.
+pub fn without_denominators(alloc: Global, fractions: &[Fraction]) -> Result<Scaled, FoldStop>
+    ensures value { IfOk result (λ s. scaled_fold (map ratio_of fractions.now) (Ok (scaled_of s))) }
+    ensures one_each { IfOk result (λ s. length s.numbers.items ≡ length fractions.now) }
+    ensures wide { (w : Wide) → IsErrOf result (stop.Wide w) → scaled_fold (map ratio_of fractions.now) (Err w) }
+{
+    let multiple = common_denominator(fractions)?;
+    let products = products(alloc, fractions, multiple)?;
+    let mut numbers = Vec::new(alloc);
+    for product in &products {
+        numbers.push(product.numerator())?;
+    }
+    Ok(Scaled { multiple, numbers })
+}
+
+/// The least common multiple of all denominators, formed two at a time from the first on; 1 of none. `Wide` comes
+/// exactly where a multiple on the way is out of range, with the first such step.
+pub fn common_denominator(fractions: &[Fraction]) -> Result<i128, Wide>
+    ensures value { multiple_of_all (map denominator_of fractions.now) result }
+    ensures in_range { IfOk result InRange }
+    ensures positive { IfOk result (λ m. pos 0 <ℤ m) }
+{
+    let Some((first, rest)) = fractions.split_first() else {
+        return Ok(1);
+    };
+    let mut multiple = first.denominator();
+    for fraction in rest {
+        multiple = common_multiple(multiple, fraction.denominator())?;
+    }
+    Ok(multiple)
+}
+
+// The least common multiple of two positive numbers.
+fn common_multiple(x: i128, y: i128) -> Result<i128, Wide>
+    requires x_in_range { InRange x }
+    requires y_in_range { InRange y }
+    requires x_positive { pos 0 <ℤ x }
+    requires y_positive { pos 0 <ℤ y }
+    ensures value { common_multiple x y result }
+    ensures in_range { IfOk result InRange }
+{
+    whole_product(x / gcd(x, y), y)
+}
+
+/// The fractions times the number: one product for each, in order.
+///
+/// `FoldStop::Wide` comes exactly where a product is out of range, with the first such step; `FoldStop::NoMemory`
+/// where there is no memory.
+pub fn products(
+    alloc: Global,
+    fractions: &[Fraction],
+    number: i128,
+) -> Result<Vec<Fraction>, FoldStop>
+    requires { InRange number }
+    ensures value { IfOk result (λ v. each (λ f. mul f (whole number)) (map ratio_of fractions.now) (Ok (map ratio_of v.items))) }
+    ensures wide { (w : Wide) → IsErrOf result (stop.Wide w) → each (λ f. mul f (whole number)) (map ratio_of fractions.now) (Err w) }
+{
+    let factor = Fraction::new(number, 1);
+    let mut products = Vec::new(alloc);
+    for fraction in fractions {
+        products.push(fraction.mul(factor)?)?;
+    }
+    Ok(products)
+}

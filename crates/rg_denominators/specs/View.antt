@@ -1,7 +1,0 @@
--- How numbers without denominators are seen.
-use Rattle.rg_order_of_work.specs.Rewriting.{Scaled as ScaledNumbers}
-use Rattle.rg_denominators.specs.declared.scaled.Scaled.{Scaled}
-
--- the multiple and the numbers
-abbrev pub scaled_of : Scaled → ScaledNumbers
-scaled_of s = record { multiple = s.multiple; numbers = s.numbers.items }

@@ -1,0 +1,73 @@
+//! What some places separate, and what one more does.
+ghost use Rattle.std.specs.Prelude.{◌≡◌, ◌≢◌, ◌↔◌, List, [], Any, IsTrue, IfOk, OnOk, OnErr, IfSome, IfNone};
+ghost use Rattle.rg_theory.specs.Net.{Place as PlaceOfTheory};
+ghost use Rattle.rg_theory.specs.Problem.{IsProblem, IsSeparatedBy};
+ghost use Rattle.rg_net.specs.Shown.{shown_place};
+ghost use Rattle.rg_marks.specs.Tokens.{IsNarrow, AreTokens};
+ghost use Rattle.rg_marks.specs.Separated.{AddsOne, SeparateSoMuch, AreSome};
+
+use crate::blocks::refined;
+use crate::stops::{mark, no_marks};
+use rg_lts::Lts;
+use rg_net::Place;
+use rg_theory::Problem;
+use std::alloc::{AllocError, Global};
+
+/// What some places of a system separate. The order of the places doesn't matter, and the places themselves aren't kept.
+#[derive(Drop)]
+pub struct Separated {
+    /// A row for each label, with a mark for each state: whether one of the places stops the label there.
+    pub stops: Vec<Vec<bool>>,
+    /// A number for each state. Two states have different ones exactly where one of the places tells them apart.
+    pub blocks: Vec<u32>,
+}
+
+impl Separated {
+    /// What no place separates: nothing. `AllocError` where there is no memory.
+    pub fn nothing(alloc: Global, lts: &Lts) -> Result<Separated, AllocError>
+        ensures { IfOk result (SeparateSoMuch lts.now []) }
+    {
+        let stops = no_marks(alloc, lts)?;
+        let blocks = vec![in alloc; 0; lts.states() as usize]?;
+        Ok(Separated { stops, blocks })
+    }
+
+    /// Adds what one more place separates, given with its tokens: one number for each state. Where that changes the blocks, as it does
+    /// where the place tells two states of one block apart, they are given as they were, a number for each state; else None.
+    /// `AllocError` where there is no memory: then nothing is added.
+    pub fn add(
+        &mut self,
+        alloc: Global,
+        lts: &Lts,
+        place: &Place,
+        tokens: &[u128],
+    ) -> Result<Option<Vec<u32>>, AllocError>
+        requires narrow { IsNarrow lts.now (shown_place place.now) }
+        requires tokens { AreTokens lts.now (shown_place place.now) tokens.now }
+        requires some { AreSome lts.now self.old }
+        ensures separated { OnOk result ((places more : List PlaceOfTheory) → AddsOne (shown_place place.now) places more → SeparateSoMuch lts.now places self.old → SeparateSoMuch lts.now more self.new) }
+        ensures before { IfOk result (λ before. IfSome before (λ numbers. (numbers.items ≡ self.old.blocks.items) × (self.new.blocks.items ≢ numbers.items))) }
+        ensures same { IfOk result (λ before. IfNone before (self.new.blocks.items ≡ self.old.blocks.items)) }
+        ensures none_added { OnErr result (self.new ≡ self.old) }
+    {
+        lts.is_well_formed();
+        let blocks = refined(alloc, &self.blocks, tokens)?;
+        mark(lts, &mut self.stops, place, tokens);
+        if blocks == self.blocks {
+            return Ok(None);
+        }
+        Ok(Some(std::mem::replace(&mut self.blocks, blocks)))
+    }
+
+    /// Whether one of the places separates the problem of the system.
+    pub fn separates(&self, lts: &Lts, problem: Problem) -> bool
+        requires problem { IsProblem lts.now problem }
+        requires some { AreSome lts.now self.now }
+        ensures { (places : List PlaceOfTheory) → SeparateSoMuch lts.now places self.now → (IsTrue result ↔ Any (IsSeparatedBy lts.now problem) places) }
+    {
+        match problem {
+            Problem::Event(s, t) => self.stops[t as usize][s as usize],
+            Problem::States(s, other) => self.blocks[s as usize] != self.blocks[other as usize],
+        }
+    }
+}

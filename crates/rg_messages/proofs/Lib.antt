@@ -1,0 +1,4 @@
+pub mod Joined
+pub mod Naming
+pub mod ToldNames
+mod FactorLines

@@ -1,0 +1,10 @@
+pub mod Usages
+pub mod Files
+pub mod Wides
+pub mod JudgedTexts
+pub mod CheckedTexts
+pub mod ComparedTexts
+pub mod FactorTexts
+pub mod SplitTexts
+pub mod LostTexts
+pub mod TrialTexts

@@ -1,0 +1,300 @@
+-- In a class that is plain or bounded, the numbers that a point with whole forms makes are whole and keep all rows of the case.
+use Rattle.std.proofs.Common.{◌≡◌, ⊎_elim, ℕ, ◌*◌, ◌<◌, ◌≤◌, ◌&&◌, ◌||◌, not, is_some, unwrap_or, Option, Some, None, IfSome, Bool, true, false, if◌then◌else◌, List, [], ◌∷◌, ◌++◌, map, length, Contains, Ok, refl, sym, ap, ap₂, subst, ◌∙◌, arith}
+use Rattle.std.specs.Prelude.{ℤ, pos, negsuc, neg_ℤ, ◌+ℤ◌, ◌*ℤ◌, ◌<ℤ◌, ◌≤ℤ◌, unsigned_abs}
+use Rattle.std.proofs.Math.IntN.{*ℤ-zero}
+use Rattle.std.proofs.lemmas.Int.{ints, by_lt_z}
+use Rattle.std.proofs.lemmas.Bool.{true≢false, cases_Bool}
+use Rattle.std.proofs.lemmas.List.{length-map, get_or-map}
+use Rattle.std.proofs.lemmas.List.Elements.{Contains-get_or}
+use Rattle.rg_theory.specs.declared.Arc.{Arc}
+use Rattle.rg_theory.specs.declared.Class.{Class}
+use Rattle.rg_theory.specs.declared.Problem.{Problem}
+use Rattle.rg_theory.specs.declared.Problem.TheVariants.{Event, States}
+use Rattle.rg_theory.specs.System.{System, states, labels}
+use Rattle.rg_theory.proofs.Arcs.{arc_in_range}
+use Rattle.rg_theory.proofs.Trees.{tree_arcs}
+use Rattle.rg_integers.specs.Range.{InRange}
+use Rattle.rg_integers.proofs.Ring.{ring}
+use Rattle.rg_integers.proofs.Order.{mul-cancel_left, positive_differs}
+use Rattle.rg_linear.specs.Branching.{form_at}
+use Rattle.rg_linear.specs.Cycle.{CycleBasis}
+use Rattle.rg_linear.proofs.Branches.{positive_times_less}
+use Rattle.rg_refuting.specs.Expression.{Variable, Variable.tokens_at, Variable.effect_of}
+use Rattle.rg_refuting.specs.Row.{RowName.cap_row, RowName.block_row, RowName.empty_row, RowName.down_row, Form as SplitForm, Form.on_tokens, Form.on_start, form_variable, step_of}
+use Rattle.rg_order_of_work.specs.Fold.{each, Ratio, whole, add}
+use Rattle.rg_order_of_work.specs.Rewriting.{has_label, all_numbers, has_start, splits_start, split_forms, CaseSystem}
+use Rattle.rg_order_of_work.specs.Values.{numbers_along}
+use Rattle.rg_order_of_work.specs.Shown.{IsLive}
+use Rattle.rg_order_of_work.specs.Placing.{negated, ratio_at, along_tree, least_of, is_shifted, is_lifted, top_at, effect_fold, made_whole}
+use Rattle.rg_order_of_work.specs.Meaning.{KeepsRowsOver, IsCaseOver, AreEffects, MeetsCase}
+use Rattle.rg_order_of_work.specs.WholeParts.{AreWholeParts}
+use Rattle.rg_order_of_work.proofs.RowValues.{add_over}
+use Rattle.rg_order_of_work.proofs.CaseMeaning.{start_means}
+use Rattle.rg_order_of_work.proofs.Forms.{form_of_variable, form_value, form_positive, form_names, bounded_has, start_has}
+use Rattle.rg_order_of_work.proofs.Times.{rest_none, allows_by}
+use Rattle.rg_theory.specs.Class.{IsMultiple, AllowsStart}
+use Rattle.rg_refuting.specs.Refutes.{IsSeparationProblem}
+use Rattle.rg_order_of_work.proofs.WholeParts.{whole_tokens, whole_rows}
+use Rattle.rg_order_of_work.proofs.WholePoints.{bounded_parts, plain_parts}
+use Rattle.rg_order_of_work.proofs.Lists.{Contains-of_map, where_is}
+use Rattle.rg_order_of_work.specs.Places.{IsReduced, AreValuesOf, AreFormsWhole}
+use Rattle.rg_order_of_work.proofs.Wholes.{each_at}
+use Rattle.rg_order_of_work.proofs.Found.{IsOverAt, all_length, all_at, whole_by, label_at, start_at}
+use Rattle.rg_order_of_work.proofs.Reduced.{effect_reduced, start_is_reduced}
+use Rattle.rg_order_of_work.proofs.PlaceKept.{AreMoved, shift_by}
+use Rattle.rg_order_of_work.proofs.Overs.{whole_over, sum_in_range, along_gives_over, opposite_over, AreOver, one_value, least_over}
+use Rattle.rg_order_of_work.proofs.Lowered.{lowered, lowered_at, lowered_keeps}
+use Rattle.rg_order_of_work.proofs.Items.{each_length}
+
+module _ (lts : System) (tree : List Arc) (basis : CycleBasis) (class : Class) (problem : Problem) (number : ℕ) (case : CaseSystem) (first : ℤ) (effect : ℕ → ℤ)
+    (scale : ℤ) (start : Ratio) (value : ℕ → Ratio) (effects found numbers : List Ratio) (out : ℕ → Ratio) (c : IsCaseOver lts tree basis class problem number case)
+    (live : IsLive lts problem) (e : AreEffects lts tree basis effect) (v : AreValuesOf lts basis start value first effect scale)
+    (whole_forms : AreFormsWhole lts basis class case first effect scale) (met : MeetsCase lts basis class case first effect scale)
+    (whole_class : (class.plain || is_some class.bound) ≡ true) (made : each (effect_fold lts basis value) (all_numbers (labels lts)) (Ok effects))
+    (whole_made : made_whole class (effects ++ start ∷ []) (Ok found)) (along : along_tree (ratio_at found) (λ s. ratio_at found (labels lts)) tree (Ok out))
+    (shift : shift_by (is_shifted class) (map out (all_numbers (states lts))) numbers) where
+  abbrev x : Variable → ℤ
+  x = numbers_along lts tree first effect
+
+  starts : has_start class ≡ true
+  starts = ap (λ b. class.pure || b) whole_class ∙ either_way class.pure
+    where
+      either_way : (b : Bool) → (b || true) ≡ true
+      either_way true = refl
+      either_way false = refl
+
+  keeps : KeepsRowsOver lts class problem number scale x
+  keeps = (start_means lts tree basis class problem number case first effect scale c e v.positive starts).0 met
+
+  -- a variable that has a form is whole, by its steps
+  variable_steps : (split : SplitForm) → Contains (split_forms lts class problem) split → (u : ℤ) × (x (form_variable lts.initial split) ≡ scale *ℤ (pos (step_of class split) *ℤ u))
+  variable_steps split has =
+      let f = form_of_variable lts tree basis class problem number case split c.is_case has in
+      let (u, is) = whole_forms f.number f.within in
+      let form = form_at case.forms f.number in
+      let worth = form_value lts tree basis class problem number case c split form first effect f.made (form_names lts class problem split has) (λ none. absurd (true≢false (sym starts ∙ none))) e in (
+        u,
+        mul-cancel_left form.scale (x (form_variable lts.initial split)) (scale *ℤ (pos (step_of class split) *ℤ u)) (positive_differs form.scale (form_positive lts tree basis class problem number case c split form f.made))
+            (sym worth ∙ ap (λ z. pos (step_of class split) *ℤ z) is ∙ turn (pos (step_of class split)) u form.scale scale),
+      )
+    where
+      turn : (n u f s : ℤ) → n *ℤ (u *ℤ (f *ℤ s)) ≡ f *ℤ (s *ℤ (n *ℤ u))
+      turn n u f s = simp ring
+
+  variable_whole : (split : SplitForm) → Contains (split_forms lts class problem) split → (u : ℤ) × (x (form_variable lts.initial split) ≡ scale *ℤ u)
+  variable_whole split has = let (u, is) = variable_steps split has in (pos (step_of class split) *ℤ u, is)
+
+  start_whole : splits_start class problem ≡ true → (u : ℤ) × (x (tokens_at lts.initial) ≡ scale *ℤ (pos (unwrap_or class.marking 1) *ℤ u))
+  start_whole splits = variable_steps on_start (start_has lts class problem splits)
+
+  -- ---- the numbers of the fold
+
+  same : found ≡ effects ++ start ∷ []
+  same = subst (λ b. whole_by class b (effects ++ start ∷ []) found) whole_class whole_made
+
+  label_over : (t : ℕ) → t < labels lts → IsOverAt scale (ratio_at found t) (effect t)
+  label_over t lt = subst (λ l. IsOverAt scale (ratio_at l t) (effect t)) (sym same) (label_at lts tree basis start value first effect scale effects c.is_basis e v made t lt)
+
+  start_over : IsOverAt scale (ratio_at found (labels lts)) first
+  start_over = subst (λ l. IsOverAt scale (ratio_at l (labels lts)) first) (sym same) (start_at lts tree basis start value first effect scale effects c.is_basis e v made)
+
+  label_reduced : (t : ℕ) → t < labels lts → IsReduced (ratio_at found t)
+  label_reduced t lt = subst (λ l. IsReduced (ratio_at l t)) (sym same) (effect_reduced lts basis start value first effect scale effects v made t lt)
+
+  start_reduced : IsReduced (ratio_at found (labels lts))
+  start_reduced = subst (λ l. IsReduced (ratio_at l (labels lts))) (sym same) (start_is_reduced lts basis start value first effect scale effects v made)
+
+  -- the number of a state, before the shift
+  state_over : (s : ℕ) → s < states lts → IsOverAt scale (out s) (x (tokens_at s)) × IsReduced (out s)
+  state_over s lt = along_gives_over lts tree scale (ratio_at found) out (ratio_at found (labels lts)) first effect s c.in_range c.is_tree (c.reachable.each s lt)
+      (λ a has. label_over a.label (arc_in_range lts c.in_range a.from a.label a.to (tree_arcs lts (lts.initial ∷ []) tree a c.is_tree has)).1) start_over start_reduced
+      along
+
+  abbrev list : List Ratio
+  list = map out (all_numbers (states lts))
+
+  list_length : length list ≡ states lts
+  list_length = length-map (all_numbers (states lts)) out ∙ all_length (states lts)
+
+  list_at : (s : ℕ) → s < states lts → ratio_at list s ≡ out s
+  list_at s lt = get_or-map out (all_numbers (states lts)) s 0 (whole (pos 0)) (subst (λ k. s < k) (sym (all_length (states lts))) lt) ∙ ap out (all_at (states lts) s lt)
+
+  -- ---- the effects
+
+  module _ (y : Variable → ℤ) (parts : AreWholeParts lts scale x y) where
+    effect_whole : (t : ℕ) → t < labels lts → top_at found t ≡ y (effect_of t)
+    effect_whole t lt = ap (λ (r : Ratio). r.top) (whole_over scale (y (effect_of t)) (ratio_at found t) v.positive (subst (IsOverAt scale (ratio_at found t)) times (label_over t lt)) (label_reduced t lt))
+      where
+        none : (s a b : ℤ) → a ≡ pos 0 → b ≡ pos 0 → a ≡ s *ℤ b
+        none s a b p q = p ∙ sym (*ℤ-zero s) ∙ ap (λ z. s *ℤ z) (sym q)
+
+        times : effect t ≡ scale *ℤ y (effect_of t)
+        times = ⊎_elim (λ used. parts.effects t used) (λ unused. none scale (effect t) (y (effect_of t)) (e.unused t unused) (parts.unused t unused)) (cases_Bool (has_label t lts.arcs))
+
+    keeps_whole : KeepsRowsOver lts class problem number (pos 1) y
+    keeps_whole = whole_rows lts class problem number scale x y c.in_range c.asked live parts keeps
+
+  -- ---- a bounded class
+
+  bounded_kept : is_some class.bound ≡ true → (y : Variable → ℤ) × AreMoved lts class problem number found numbers y × (is_lifted class problem ≡ false → AllowsStart class (unsigned_abs (y (tokens_at lts.initial))))
+  bounded_kept bound =
+      let (y, parts, allowed_start) = bounded_parts lts tree basis class problem number c.in_range c.is_tree scale v.positive first effect e keeps variable_whole start_whole bound in
+      let kept = keeps_whole y parts in
+      let stays : numbers ≡ list = subst (λ b. shift_by b list numbers) (ap (λ b. not b && (class.plain || not class.pure)) bound) shift in (
+        y,
+        record {
+          keeps = kept;
+          at = (
+            ap length stays ∙ list_length,
+            λ s lt. (
+              ap (λ l. ratio_at l s) stays ∙ list_at s lt ∙ whole_over scale (y (tokens_at s)) (out s) v.positive (subst (IsOverAt scale (out s)) (exact bound y parts s lt) (state_over s lt).0) (state_over s lt).1,
+              fits y kept s lt (whole_tokens lts class problem number scale x y s parts keeps),
+            ),
+          );
+          effects = effect_whole y parts;
+        },
+        λ none. allowed_start,
+      )
+    where
+      exact : is_some class.bound ≡ true → (y : Variable → ℤ) → AreWholeParts lts scale x y → (s : ℕ) → s < states lts → x (tokens_at s) ≡ scale *ℤ y (tokens_at s)
+      exact bound y parts s lt =
+          let (u, is) = variable_whole (on_tokens s) (bounded_has lts class problem s bound lt) in
+          is ∙ ap (λ z. scale *ℤ z) (sym (rest_none scale (y (tokens_at s)) parts.rest u parts.not_negative parts.below (sym (parts.tokens s lt) ∙ is)).1)
+
+      bound_in_range : InRange (pos (unwrap_or class.bound 0))
+      bound_in_range = let h = few class.bound c.numbers.bound in omega (arith, ints, h)
+        where
+          few : (o : Option ℕ) → IfSome o (λ k. (0 < k) × (k ≤ 255)) → unwrap_or o 0 ≤ 255
+          few None h = omega arith
+          few (Some k) h = h.1
+
+      capped : (z k : ℤ) → pos 0 ≤ℤ z → pos 0 ≤ℤ (((negsuc 0 *ℤ z) +ℤ pos 0) +ℤ (k *ℤ pos 1)) → InRange k → InRange z
+      capped z k low high fits = between (unsigned_abs z) (unsigned_abs k) _ (below z k low high) fits
+        where
+          below : (z k : ℤ) → pos 0 ≤ℤ z → pos 0 ≤ℤ (((negsuc 0 *ℤ z) +ℤ pos 0) +ℤ (k *ℤ pos 1)) → unsigned_abs z ≤ unsigned_abs k
+          below z k low high = omega (arith, ints)
+
+          between : (a b n : ℕ) → a ≤ b → b < n → a < n
+          between a b n h g = omega arith
+
+      cap : (p : Problem) (y : Variable → ℤ) (s : ℕ) → s < states lts → KeepsRowsOver lts class p number (pos 1) y → pos 0 ≤ℤ (((negsuc 0 *ℤ y (tokens_at s)) +ℤ pos 0) +ℤ (pos (unwrap_or class.bound 0) *ℤ pos 1))
+      cap (Event a b) y s lt kept = kept (cap_row s) (lt, bound)
+      cap (States a b) y s lt kept = kept (cap_row s) (lt, bound)
+
+      fits : (y : Variable → ℤ) → KeepsRowsOver lts class problem number (pos 1) y → (s : ℕ) → s < states lts → pos 0 ≤ℤ y (tokens_at s) → InRange (y (tokens_at s))
+      fits y kept s lt low = capped (y (tokens_at s)) (pos (unwrap_or class.bound 0)) low (cap problem y s lt kept) bound_in_range
+
+  -- ---- a plain class without bound
+
+  all_over : AreOver scale list
+  all_over r has =
+      let (s, within, is) = Contains-of_map out (all_numbers (states lts)) r has in
+      let (_, _, lt) = where_is (λ q. true) 0 (states lts) s within in
+      (x (tokens_at s), subst (λ q. IsOverAt scale q (x (tokens_at s))) is (state_over s (omega arith)).0)
+
+  plain_kept : is_some class.bound ≡ false → class.plain ≡ true → (y : Variable → ℤ) × AreMoved lts class problem number found numbers y × (is_lifted class problem ≡ false → AllowsStart class (unsigned_abs (y (tokens_at lts.initial))))
+  plain_kept bound plain =
+      let (y, parts, start_steps) = plain_parts lts tree basis class problem number c.in_range c.is_tree scale v.positive first effect e keeps variable_whole start_whole bound plain in
+      let kept = keeps_whole y parts in
+      let shifts = subst (λ b. shift_by b list numbers) (ap₂ (λ a b. not a && (b || not class.pure)) bound plain) shift in
+      let (least, over, has, low) = least_over scale list (subst (λ k. 0 < k) (sym list_length) (let lt = c.in_range.initial in omega arith)) v.positive all_over in
+      let (l, within, is) = Contains-of_map out (all_numbers (states lts)) (least_of list) has in
+      let (_, _, below) = where_is (λ q. true) 0 (states lts) l within in
+      let l_lt : l < states lts = omega arith in
+      let over_l = (state_over l l_lt).0 in
+      let order : (s : ℕ) → s < states lts → y (tokens_at l) ≤ℤ y (tokens_at s) = λ s lt. parts_order scale (x (tokens_at l)) (x (tokens_at s)) (y (tokens_at l)) (y (tokens_at s)) parts.rest v.positive (parts.tokens l l_lt) (parts.tokens s lt) (low_at y parts l s l_lt lt is least over low) in
+      let le = down (y (tokens_at l)) (whole_tokens lts class problem number scale x y l parts keeps) in
+      let above : (s : ℕ) → s < states lts → pos 0 ≤ℤ (y (tokens_at s) +ℤ neg_ℤ (y (tokens_at l))) = λ s lt. difference (y (tokens_at l)) (y (tokens_at s)) (order s lt) in (
+        lowered (states lts) (neg_ℤ (y (tokens_at l))) y,
+        record {
+          keeps = lowered_keeps lts class plain bound c.in_range (neg_ℤ (y (tokens_at l))) le y above problem number c.asked kept;
+          at = (
+            each_length (λ m. add m (negated (least_of list))) list numbers shifts ∙ list_length,
+            λ s lt.
+                (let sum = subst (λ r. add r (negated (least_of list)) (Ok (ratio_at numbers s))) (list_at s lt) (each_at (λ m. add m (negated (least_of list))) list numbers (whole (pos 0)) (whole (pos 0)) s shifts (subst (λ k. s < k) (sym list_length) lt)) in
+                let at_l = subst (λ q. IsOverAt scale q (x (tokens_at l))) is over_l in
+                let opposite = opposite_over scale (x (tokens_at l)) (least_of list) at_l in
+                let value_is = whole_over scale (y (tokens_at s) +ℤ neg_ℤ (y (tokens_at l))) (ratio_at numbers s) v.positive
+                (subst (IsOverAt scale (ratio_at numbers s))
+                (parts_less scale (x (tokens_at l)) (x (tokens_at s)) (y (tokens_at l)) (y (tokens_at s)) parts.rest (parts.tokens l l_lt) (parts.tokens s lt)) (
+                  add_over scale (out s) (negated (least_of list)) (ratio_at numbers s) (x (tokens_at s)) (neg_ℤ (x (tokens_at l))) sum
+                      (state_over s lt).0.0 opposite.0,
+                  sum.2.positive,
+                ))
+                sum.2.reduced in
+                let same_y = lowered_at lts class plain bound c.in_range (neg_ℤ (y (tokens_at l))) le y above s lt in (
+                  value_is ∙ ap whole (sym same_y),
+                  subst InRange (sym same_y) (sum_in_range (out s) (negated (least_of list)) (y (tokens_at s) +ℤ neg_ℤ (y (tokens_at l))) (state_over s lt).0.1 opposite.1 (subst (λ r. add (out s) (negated (least_of list)) (Ok r)) value_is sum)),
+                )),
+          );
+          effects = effect_whole y parts;
+        },
+        λ none. subst (λ z. AllowsStart class (unsigned_abs z)) (sym (lowered_at lts class plain bound c.in_range (neg_ℤ (y (tokens_at l))) le y above lts.initial c.in_range.initial))
+            (allowed_by problem y l bound plain c.asked kept (λ s lt. order s lt) (whole_tokens lts class problem number scale x y l parts keeps) start_steps none),
+      )
+    where
+      allowed : (o : Option ℕ) (m : ℕ) → (is_some o ≡ true → IfSome o (λ n. IsMultiple n m)) → IfSome o (λ n. IsMultiple n m)
+      allowed None m h = tt
+      allowed (Some n) m h = h refl
+
+      event_splits : (m p b : Bool) → m ≡ true → p ≡ true → (m && (p || b)) ≡ true
+      event_splits true true b e f = refl
+      event_splits true false b e f = absurd (true≢false (sym f))
+      event_splits false p b e f = absurd (true≢false (sym e))
+
+      states_lifts : (m p b : Bool) → m ≡ true → p ≡ true → b ≡ false → (m && (p && not b)) ≡ true
+      states_lifts true true false e f g = refl
+      states_lifts true true true e f g = absurd (true≢false g)
+      states_lifts true false b e f g = absurd (true≢false (sym f))
+      states_lifts false p b e f g = absurd (true≢false (sym e))
+
+      low_empty : (a l : ℤ) → pos 0 ≤ℤ l → l ≤ℤ a → pos 0 ≤ℤ (((negsuc 0 *ℤ a) +ℤ pos 0) +ℤ (pos 0 *ℤ pos 1)) → l ≡ pos 0
+      low_empty a l h k g = omega (arith, ints)
+
+      low_block : (a e l : ℤ) → pos 0 ≤ℤ l → l ≤ℤ a → pos 0 ≤ℤ (((negsuc 0 *ℤ a) +ℤ ((negsuc 0 *ℤ e) +ℤ pos 0)) +ℤ (negsuc 0 *ℤ pos 1)) → pos 0 ≤ℤ (((pos 1 *ℤ e) +ℤ pos 0) +ℤ (pos 1 *ℤ pos 1)) → l ≡ pos 0
+      low_block a e l h k g d = omega (arith, ints)
+
+      less_none : (a l : ℤ) (n : ℕ) (u : ℤ) → l ≡ pos 0 → a ≡ pos n *ℤ u → a +ℤ neg_ℤ l ≡ pos n *ℤ u
+      less_none a l n u e g = same a l e ∙ g
+        where
+          same : (a l : ℤ) → l ≡ pos 0 → a +ℤ neg_ℤ l ≡ a
+          same a l e = omega (arith, ints)
+
+      -- of an event the least is 0, at the stopped state; of two states the numbers are moved back
+      allowed_by : (p : Problem) (y : Variable → ℤ) (l : ℕ) → is_some class.bound ≡ false → class.plain ≡ true → IsSeparationProblem lts p → KeepsRowsOver lts class p number (pos 1) y → ((s : ℕ) → s < states lts → y (tokens_at l) ≤ℤ y (tokens_at s)) → pos 0 ≤ℤ y (tokens_at l)
+          → (splits_start class p ≡ true → (u : ℤ) × (y (tokens_at lts.initial) ≡ pos (unwrap_or class.marking 1) *ℤ u)) → is_lifted class p ≡ false → AllowsStart class (unsigned_abs (y (tokens_at lts.initial) +ℤ neg_ℤ (y (tokens_at l))))
+      allowed_by (Event s t) y l bound plain asked kept order low steps none =
+          let least = ⊎_elim
+          (λ pure. low_block (y (tokens_at s)) (y (effect_of t)) (y (tokens_at l)) low (order s asked.0) (kept block_row pure) (kept (down_row t) (asked.1, plain)))
+          (λ impure. low_empty (y (tokens_at s)) (y (tokens_at l)) low (order s asked.0) (kept empty_row (plain, impure)))
+          (cases_Bool class.pure) in
+          allowed class.marking (unsigned_abs (y (tokens_at lts.initial) +ℤ neg_ℤ (y (tokens_at l))))
+          (λ some. (let (u, is) = steps (event_splits (is_some class.marking) class.plain (is_some class.bound) some plain) in allows_by class (y (tokens_at lts.initial) +ℤ neg_ℤ (y (tokens_at l))) u (less_none (y (tokens_at lts.initial)) (y (tokens_at l)) (unwrap_or class.marking 1) u least is)))
+      allowed_by (States s s') y l bound plain asked kept order low steps none =
+          allowed class.marking (unsigned_abs (y (tokens_at lts.initial) +ℤ neg_ℤ (y (tokens_at l)))) (λ some. absurd (true≢false (sym (states_lifts (is_some class.marking) class.plain (is_some class.bound) some plain bound) ∙ none)))
+
+      down : (z : ℤ) → pos 0 ≤ℤ z → neg_ℤ z ≤ℤ pos 0
+      down z h = omega (arith, ints)
+
+      difference : (a b : ℤ) → a ≤ℤ b → pos 0 ≤ℤ (b +ℤ neg_ℤ a)
+      difference a b h = omega (arith, ints)
+
+      parts_order : (k a b y z r : ℤ) → pos 0 <ℤ k → a ≡ (k *ℤ y) +ℤ r → b ≡ (k *ℤ z) +ℤ r → a ≤ℤ b → y ≤ℤ z
+      parts_order k a b y z r h p q le = by_lt_z z y (λ less. (let m = positive_times_less k z y h less in absurd (omega (arith, ints)))) (λ most. most)
+
+      parts_less : (k a b y z r : ℤ) → a ≡ (k *ℤ y) +ℤ r → b ≡ (k *ℤ z) +ℤ r → b +ℤ neg_ℤ a ≡ k *ℤ (z +ℤ neg_ℤ y)
+      parts_less k a b y z r p q = let d : k *ℤ (z +ℤ neg_ℤ y) ≡ (k *ℤ z) +ℤ neg_ℤ (k *ℤ y) = simp ring (omega (arith, ints)) in omega (arith, ints)
+
+      low_at : (y : Variable → ℤ) → AreWholeParts lts scale x y → (l s : ℕ) → l < states lts → s < states lts → out l ≡ least_of list → (least : ℤ) → IsOverAt scale (least_of list) least → ((r : Ratio) (z : ℤ) → Contains list r → IsOverAt scale r z → least ≤ℤ z) → x (tokens_at l) ≤ℤ x (tokens_at s)
+      low_at y parts l s l_lt lt is least over low =
+          let same_l = one_value scale (x (tokens_at l)) least (least_of list) (subst (λ q. IsOverAt scale q (x (tokens_at l))) is (state_over l l_lt).0) over in
+          let h = low (ratio_at list s) (x (tokens_at s)) (Contains-get_or list s (whole (pos 0)) (subst (λ k. s < k) (sym list_length) lt)) (subst (λ q. IsOverAt scale q (x (tokens_at s))) (sym (list_at s lt)) (state_over s lt).0) in
+          subst (λ z. z ≤ℤ x (tokens_at s)) (sym same_l) h
+
+  pub whole_kept : (y : Variable → ℤ) × AreMoved lts class problem number found numbers y × (is_lifted class problem ≡ false → AllowsStart class (unsigned_abs (y (tokens_at lts.initial))))
+  whole_kept = ⊎_elim bounded_kept (λ bound. plain_kept bound (plainly class.plain (is_some class.bound) whole_class bound)) (cases_Bool (is_some class.bound))
+    where
+      plainly : (a b : Bool) → (a || b) ≡ true → b ≡ false → a ≡ true
+      plainly true b e f = refl
+      plainly false true e f = absurd (true≢false f)
+      plainly false false e f = e

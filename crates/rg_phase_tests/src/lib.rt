@@ -1,5 +1,0 @@
-//! Tests of blocks of tasks.
-#![tactic(auto)]
-
-#[cfg(test)]
-mod blocks;

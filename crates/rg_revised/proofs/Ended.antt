@@ -1,0 +1,85 @@
+-- How a descent over a system's rows and further ones ends.
+use Rattle.std.proofs.Common.{◌≡◌, ◌⊎◌, inl, inr, ℕ, ◌+◌, ◌-◌, ◌*◌, ◌^◌, ◌<◌, ◌≤◌, max, List, [], ◌++◌, length, length-append, map, Some, ap, ap₂, refl, subst, sym, ◌∙◌, arith, le_refl}
+use Rattle.std.specs.Prelude.{pos}
+use Rattle.std.proofs.lemmas.Bool.{cases_lt}
+use Rattle.std.proofs.lemmas.Bool.Decides.{nat_tests}
+use Rattle.std.proofs.lemmas.List.{map-append, get_or_append_left, get_or-append_right}
+use Rattle.std.proofs.Math.Nat.{mul-le-mul}
+use Rattle.rg_linear.specs.System.{LinearSystem, LinearRow}
+use Rattle.rg_linear.specs.Norm.{row_norm, norm_at, greatest_norm, kept_norm}
+use Rattle.rg_linear.specs.View.{linear_row, linear_system}
+use Rattle.rg_linear.specs.declared.row.Row.{Row}
+use Rattle.rg_linear.proofs.Norms.{at_most}
+use Rattle.rg_feasible.specs.Settling.{with_rows}
+use Rattle.rg_revised.specs.Basis.{HasNorms}
+use Rattle.rg_revised.specs.State.{HasRoom, HasConstants}
+use Rattle.rg_revised.specs.Ending.{EndTells, IsEnded}
+use Rattle.rg_revised.specs.View.{RevisedState}
+use Rattle.rg_revised.specs.Settling.{IsCommonFactor, IsDescent}
+use Rattle.rg_revised.specs.declared.descent.Descent.{Descent}
+use Rattle.rg_revised.specs.declared.descent.Descent.TheVariants.{Point, Refuted, Large}
+
+-- ---- the system
+
+pub rows_behind : (system : LinearSystem) (columns : ℕ) (own further : List Row) → columns ≡ system.columns → map linear_row own ≡ system.rows
+    → linear_system columns (own ++ further) ≡ with_rows system (map linear_row further)
+rows_behind system columns own further same are = ap₂ (λ n (rs : List LinearRow). record { columns = n; rows = rs }) same
+    (map-append linear_row own further ∙ ap (λ xs. xs ++ map linear_row further) are)
+
+-- ---- norms
+
+unkept : (g a b n : ℕ) → a ≡ kept_norm g → n ≡ max a b → n < 2 ^ 63 → g ≤ n
+unkept g a b n e m lt = grind (arith, nat_tests)
+
+turned_max : (a b n : ℕ) → n ≡ max a b → n ≡ max b a
+turned_max a b n m = grind (arith, nat_tests)
+
+norms_of : (own further : List LinearRow) (a b n : ℕ) → a ≡ kept_norm (greatest_norm own) → b ≡ kept_norm (greatest_norm further) → n ≡ max a b → n < 2 ^ 63 → (i : ℕ)
+    → i < length (own ++ further) → norm_at (own ++ further) i ≤ n
+norms_of own further a b n first second greater small i lt = go (cases_lt i (length own))
+  where
+    norm_is : (x y : LinearRow) → x ≡ y → row_norm x.coeffs x.constant ≡ row_norm y.coeffs y.constant
+    norm_is x y e = ap (λ (r : LinearRow). row_norm r.coeffs r.constant) e
+
+    below : (m g : ℕ) → m ≤ g → g ≤ n → m ≤ n
+    below m g h k = omega arith
+
+    go : (i < length own) ⊎ (length own ≤ i) → norm_at (own ++ further) i ≤ n
+    go (inl less) = subst (λ m. m ≤ n) (sym (norm_is _ _ (get_or_append_left own further (record { coeffs = []; constant = pos 0 }) i less)))
+        (below _ _ (at_most (length own) (norm_at own) i less) (unkept (greatest_norm own) a b n first greater small))
+    go (inr past) =
+        let e = length-append own further in
+        let inside : i - length own < length further = omega arith in
+        subst (λ m. m ≤ n) (sym (norm_is _ _ (get_or-append_right own further (length own) i (record { coeffs = []; constant = pos 0 }) refl past)))
+        (below _ _ (at_most (length further) (norm_at further) (i - length own) inside) (unkept (greatest_norm further) b a n second (turned_max a b n greater) small))
+
+pub has_norms : (system : LinearSystem) (columns : ℕ) (own further : List Row) → columns ≡ system.columns → map linear_row own ≡ system.rows → (a b n most : ℕ)
+    → a ≡ kept_norm (greatest_norm system.rows) → b ≡ kept_norm (greatest_norm (map linear_row further)) → n ≡ max a b → 1 ≤ most → (n + 1) * most < 2 ^ 63
+    → HasNorms (linear_system columns (own ++ further)) n
+has_norms system columns own further same are a b n most first second greater some room = subst (λ s. HasNorms s n) (sym (rows_behind system columns own further same are))
+    (norms_of system.rows (map linear_row further) a b n first second greater (small n most some room))
+  where
+    small : (n most : ℕ) → 1 ≤ most → (n + 1) * most < 2 ^ 63 → n < 2 ^ 63
+    small n most some room = let m = mul-le-mul (le_refl (n + 1)) some in omega arith
+
+-- ---- the ends
+
+module _ (system : LinearSystem) (most : ℕ) (r : RevisedState) (room : HasRoom system most) where
+  pub refuted_at : (i : ℕ) → EndTells system most r.slots r.d r.table r.numbers (Refuted i) → HasConstants r.slots r.table r.constants r.named → r.failing ≡ Some i
+      → IsCommonFactor r.d r.numbers r.factor → IsDescent system r (Refuted i)
+  refuted_at i told constants failing common = (
+    told.members,
+    record {
+      held = record { most = most; held = told.held; room = room; constants = constants };
+      outcome = (told.fixed, told.outcome);
+      relation = told.relation;
+      failing = failing;
+      common = common;
+    },
+  )
+
+  pub other_end : (ended : Descent) → ((i : ℕ) → ended ≡ Refuted i → ⊥) → EndTells system most r.slots r.d r.table r.numbers ended
+      → (IsEnded ended → HasConstants r.slots r.table r.constants r.named) → IsDescent system r ended
+  other_end Point none told constants = (told.members, record { held = record { most = most; held = told.held; room = room; constants = constants tt }; outcome = told.outcome })
+  other_end (Refuted i) none told constants = absurd (none i refl)
+  other_end Large none told constants = tt

@@ -1,0 +1,28 @@
+-- The loop over the rows: how it begins.
+use Rattle.std.proofs.Common.{◌≡◌, ℕ, List, [], length, map, reverse, ap, subst, sym, ◌∙◌, ◌<◌, ◌≤◌}
+use Rattle.std.proofs.lemmas.List.{length-map}
+use Rattle.rg_linear.specs.Dictionary.{numbers_from}
+use Rattle.rg_linear.specs.Descent.{Outcome, DescentFromStart}
+use Rattle.rg_linear.specs.Stack.{limit, Resumes, Resumes.last, work_left, IsStackOf}
+use Rattle.rg_linear.specs.declared.row.Row.{Row}
+use Rattle.rg_linear.specs.View.{linear_row, linear_system}
+use Rattle.rg_linear.proofs.Members.{Contains-nil}
+use Rattle.rg_feasible.proofs.Descending.{LeadsOn}
+
+pub begins : (columns : ℕ) (rows : List Row) (stack : List ℕ) → stack ≡ [] → LeadsOn (linear_system columns rows) (numbers_from 0 columns) stack (length rows) 0
+begins columns rows stack none = record {
+  limit = sym (length-map rows linear_row) ∙ ap (λ xs. limit (linear_system columns rows) (reverse xs)) (sym none);
+  stacked = subst (λ xs. IsStackOf (linear_system columns rows) (reverse xs) (numbers_from 0 columns)) (sym none) (record { falls = tt; all = λ m has. absurd (Contains-nil m has) });
+  leads = λ o rest. at_start o (subst (λ xs. Resumes (linear_system columns rows) (reverse xs) (numbers_from 0 columns) 0 o) none rest);
+}
+  where
+    at_start : (o : Outcome) → Resumes (linear_system columns rows) [] (numbers_from 0 columns) 0 o → DescentFromStart (linear_system columns rows) o
+    at_start o (last from) = from
+
+-- a measure by the number of the rows as code keeps them
+pub work_kept : (columns : ℕ) (rows : List Row) (a b : List ℕ) (i j : ℕ) → work_left (length (map linear_row rows)) a i < work_left (length (map linear_row rows)) b j
+    → work_left (length rows) a i < work_left (length rows) b j
+work_kept columns rows a b i j h = subst (λ n. work_left n a i < work_left n b j) (length-map rows linear_row) h
+
+pub within_kept : (rows : List Row) (below : ℕ) → below ≤ length (map linear_row rows) → below ≤ length rows
+within_kept rows below h = subst (λ n. below ≤ n) (length-map rows linear_row) h

@@ -1,0 +1,42 @@
+-- An exchange of the relations of the columns.
+use Rattle.std.proofs.Common.{◌≡◌, ◌≢◌, ℕ, ◌+◌, ◌<◌, ◌≤◌, Bool, List, ◌++◌, take, length, get_or, subst, sym, ◌∙◌, arith}
+use Rattle.std.proofs.Math.ListN.{set, length-set}
+use Rattle.std.proofs.Math.Seq.{take-append_seam}
+use Rattle.std.specs.Prelude.{ℤ, pos, ◌≤ℤ◌, unsigned_abs}
+use Rattle.std.proofs.lemmas.Int.{ints}
+use Rattle.rg_integers.specs.Sum.{number_at}
+use Rattle.rg_integers.specs.Sign.{size}
+use Rattle.rg_integers.proofs.Signs.{sign-times}
+use Rattle.rg_linear.specs.Exchange.{exchanged}
+use Rattle.rg_revised.specs.Rows.{TableWithin, TableRenewed}
+use Rattle.rg_revised.specs.Held.{IsHeld, IsPivot}
+use Rattle.rg_revised.specs.State.{IsExchangeOf}
+use Rattle.rg_revised.proofs.Keeping.{held_exchanged}
+
+pub pivot_size : (numbers pivot : List ℤ) (p : ℕ) (negative : Bool) → IsPivot numbers pivot p negative → p < length numbers → number_at pivot p ≡ size (number_at numbers p)
+pivot_size numbers pivot p negative signed lt = signed.numbers_are p lt ∙ sign-times (number_at numbers p)
+
+pub exchange_of : (slots : List ℕ) (d : ℤ) (table table' numbers pivot : List ℤ) (p variable : ℕ) (negative : Bool) (most : ℕ) (z : ℤ) → p < length slots → length numbers ≡ length slots + 1
+    → number_at numbers p ≢ pos 0 → IsPivot numbers pivot p negative
+    → TableRenewed (length slots + 1) pivot table table' p negative d most (length slots) → z ≡ number_at pivot p → unsigned_abs z ≤ most
+    → IsExchangeOf slots d table numbers p variable most (set slots p variable) z table'
+exchange_of slots d table table' numbers pivot p variable negative most z inside width named signed r is small system members old lt outside relation = record {
+  held = subst (λ x. IsHeld system (exchanged members variable (get_or slots p 0)) (set slots p variable) x table') (sym (is ∙ pivot_size numbers pivot p negative signed (omega arith)))
+      (held_exchanged system members slots d table table' numbers pivot p variable negative most old.held lt outside relation width inside named signed
+      (subst (TableRenewed (length slots + 1) pivot table table' p negative d most) old.held.count r));
+  within = subst (λ n. TableWithin (n + 1) n most table') (sym (length-set slots p variable)) (λ t below. (r.rows t below).within);
+  d_within = small;
+}
+
+-- the items of a vector, after a slice of all was written
+pub written_back : (n : ℕ) (xs zs : List ℤ) → length xs ≡ n → take n (xs ++ zs) ≡ xs
+written_back n xs zs e = subst (λ k. take k (xs ++ zs) ≡ xs) e (take-append_seam xs zs)
+
+pub size_is_size : (numbers pivot : List ℤ) (p : ℕ) (negative : Bool) (z : ℤ) → IsPivot numbers pivot p negative → p < length numbers → z ≡ number_at pivot p → pos 0 ≤ℤ z
+size_is_size numbers pivot p negative z signed lt is = subst (λ x. pos 0 ≤ℤ x) (sym (is ∙ pivot_size numbers pivot p negative signed lt)) (not_negative (number_at numbers p))
+  where
+    not_negative : (x : ℤ) → pos 0 ≤ℤ size x
+    not_negative x = omega (arith, ints)
+
+pub small_enough : (z most : ℤ) → pos 0 ≤ℤ z → z ≤ℤ most → unsigned_abs z ≤ unsigned_abs most
+small_enough z most h le = omega (arith, ints)

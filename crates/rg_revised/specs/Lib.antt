@@ -1,0 +1,9 @@
+pub mod Basis
+pub mod Rows
+pub mod Held
+pub mod Reading
+pub mod State
+pub mod Ending
+pub mod Starting
+pub mod View
+pub mod Settling

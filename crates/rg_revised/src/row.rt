@@ -1,0 +1,285 @@
+//! One row of the table in an exchange.
+
+ghost use Rattle.std.specs.Prelude.{if◌then◌else◌, ◌≡◌, ◌≢◌, ◌↔◌, ℕ, ◌<◌, ◌≤◌, ◌^◌, length, pos, neg_ℤ, ◌-ℤ◌, ◌*ℤ◌, ◌<ℤ◌, ◌≤ℤ◌, unsigned_abs, IsTrue, IfSome};
+ghost use Rattle.rg_integers.specs.Range.{InRange};
+ghost use Rattle.rg_integers.specs.Sum.{number_at};
+ghost use Rattle.rg_revised.specs.Rows.{RowWithin, AreShort, IsSubtracted, RowRenewed};
+
+// a*b - c*d, which is never out of range.
+fn short_term(a: i64, b: i64, c: i64, d: i64) -> i128
+    ensures value { result ≡ (a *ℤ b) -ℤ (c *ℤ d) }
+    ensures in_range { InRange result }
+{
+    i128::from(a) * i128::from(b) - i128::from(c) * i128::from(d)
+}
+
+// The quotient, where there is no rest.
+fn exact_quotient(n: i128, by: i64) -> Option<i128>
+    requires n_in_range { InRange n }
+    requires positive { pos 0 <ℤ by }
+    ensures value { IfSome result (λ q. by *ℤ q ≡ n) }
+    ensures in_range { IfSome result InRange }
+{
+    if by == 1 {
+        return Some(n);
+    }
+    match i64::try_from(n) {
+        Ok(short) => short_quotient(short, by),
+        Err(_) => long_quotient(n, by),
+    }
+}
+
+// The same for a number of 64 bits.
+fn short_quotient(n: i64, by: i64) -> Option<i128>
+    requires positive { pos 0 <ℤ by }
+    ensures value { IfSome result (λ q. by *ℤ q ≡ n) }
+    ensures in_range { IfSome result InRange }
+{
+    if n % by != 0 {
+        return None;
+    }
+    Some(i128::from(n / by))
+}
+
+// The same for any number in range.
+fn long_quotient(n: i128, by: i64) -> Option<i128>
+    requires n_in_range { InRange n }
+    requires positive { pos 0 <ℤ by }
+    ensures value { IfSome result (λ q. by *ℤ q ≡ n) }
+    ensures in_range { IfSome result InRange }
+{
+    let by = i128::from(by);
+    if n % by != 0 {
+        return None;
+    }
+    Some(n / by)
+}
+
+// The number, where its size is at most `most`.
+fn kept_within(z: i128, most: i64) -> Option<i64>
+    requires in_range { InRange z }
+    requires not_negative { pos 0 ≤ℤ most }
+    ensures value { IfSome result (λ q. q ≡ z) }
+    ensures within { IfSome result (λ q. unsigned_abs q ≤ unsigned_abs most) }
+{
+    let most = i128::from(most);
+    if z > most || z < -most {
+        return None;
+    }
+    Some(z as i64)
+}
+
+// Whether the number's size is below 2^31.
+fn is_short(z: i64) -> bool
+    ensures { IsTrue result ↔ (unsigned_abs z < 2 ^ 31) }
+{
+    z < 2147483648 && z > -2147483648
+}
+
+// a*b - c*d in 64 bits.
+fn difference(a: i64, b: i64, c: i64, d: i64) -> i64
+    requires a { unsigned_abs a < 2 ^ 31 }
+    requires b { unsigned_abs b < 2 ^ 31 }
+    requires c { unsigned_abs c < 2 ^ 31 }
+    requires d { unsigned_abs d < 2 ^ 31 }
+    ensures value { result ≡ (a *ℤ b) -ℤ (c *ℤ d) }
+    ensures above_least { unsigned_abs result < 2 ^ 63 }
+{
+    a * b - c * d
+}
+
+// The quotient, where there is no rest.
+fn whole_quotient(n: i64, by: i64) -> Option<i64>
+    requires positive { pos 0 <ℤ by }
+    requires above_least { unsigned_abs n < 2 ^ 63 }
+    ensures value { IfSome result (λ q. by *ℤ q ≡ n) }
+    ensures above_least { IfSome result (λ q. unsigned_abs q < 2 ^ 63) }
+{
+    if by == 1 {
+        return Some(n);
+    }
+    if n % by != 0 {
+        return None;
+    }
+    Some(n / by)
+}
+
+// The number, where its size is at most `most`.
+fn short_within(z: i64, most: i64) -> Option<i64>
+    requires above_least { unsigned_abs z < 2 ^ 63 }
+    requires not_negative { pos 0 ≤ℤ most }
+    ensures value { IfSome result (λ q. q ≡ z) }
+    ensures within { IfSome result (λ q. unsigned_abs q ≤ unsigned_abs most) }
+{
+    if z > most || z < -most {
+        return None;
+    }
+    Some(z)
+}
+
+// (a*b - c*d) / by in 64 bits.
+fn short_divided_term(a: i64, b: i64, c: i64, d: i64, by: i64, most: i64) -> Option<i64>
+    requires a { unsigned_abs a < 2 ^ 31 }
+    requires b { unsigned_abs b < 2 ^ 31 }
+    requires c { unsigned_abs c < 2 ^ 31 }
+    requires d { unsigned_abs d < 2 ^ 31 }
+    requires positive { pos 0 <ℤ by }
+    requires not_negative { pos 0 ≤ℤ most }
+    ensures value { IfSome result (λ q. by *ℤ q ≡ (a *ℤ b) -ℤ (c *ℤ d)) }
+    ensures within { IfSome result (λ q. unsigned_abs q ≤ unsigned_abs most) }
+{
+    match whole_quotient(difference(a, b, c, d), by) {
+        Some(q) => match short_within(q, most) {
+            Some(z) => Some(z),
+            None => None,
+        },
+        None => None,
+    }
+}
+
+// (a*b - c*d) / by in 128 bits.
+fn long_divided_term(a: i64, b: i64, c: i64, d: i64, by: i64, most: i64) -> Option<i64>
+    requires positive { pos 0 <ℤ by }
+    requires not_negative { pos 0 ≤ℤ most }
+    ensures value { IfSome result (λ q. by *ℤ q ≡ (a *ℤ b) -ℤ (c *ℤ d)) }
+    ensures within { IfSome result (λ q. unsigned_abs q ≤ unsigned_abs most) }
+{
+    match exact_quotient(short_term(a, b, c, d), by) {
+        Some(q) => match kept_within(q, most) {
+            Some(z) => Some(z),
+            None => None,
+        },
+        None => None,
+    }
+}
+
+// (a*b - c*d) / by, where there is no rest and the size is at most `most`. Numbers that are short are multiplied in 64 bits.
+fn divided_term(a: i64, b: i64, c: i64, d: i64, by: i64, most: i64) -> Option<i64>
+    requires positive { pos 0 <ℤ by }
+    requires not_negative { pos 0 ≤ℤ most }
+    ensures value { IfSome result (λ q. by *ℤ q ≡ (a *ℤ b) -ℤ (c *ℤ d)) }
+    ensures within { IfSome result (λ q. unsigned_abs q ≤ unsigned_abs most) }
+{
+    if is_short(a) && is_short(b) && is_short(c) && is_short(d) {
+        short_divided_term(a, b, c, d, by, most)
+    } else {
+        long_divided_term(a, b, c, d, by, most)
+    }
+}
+
+// The number, or its negative.
+fn signed(z: i64, negative: bool, most: i64) -> i64
+    requires small { unsigned_abs z ≤ unsigned_abs most }
+    requires not_negative { pos 0 ≤ℤ most }
+    ensures value { result ≡ (if negative then neg_ℤ z else z) }
+    ensures within { unsigned_abs result ≤ unsigned_abs most }
+{
+    if negative { -z } else { z }
+}
+
+// Whether all numbers are short.
+pub(crate) fn are_short(numbers: &[i64]) -> bool
+    ensures { IsTrue result → AreShort numbers.now }
+{
+    for &number in numbers {
+        if !is_short(number) {
+            return false;
+        }
+    }
+    true
+}
+
+// Whether no number passes `most`.
+fn are_within(numbers: &[i64], most: i64) -> bool
+    requires not_negative { pos 0 ≤ℤ most }
+    ensures { IsTrue result → RowWithin (unsigned_abs most) numbers.now }
+{
+    for &number in numbers {
+        if number > most || number < -most {
+            return false;
+        }
+    }
+    true
+}
+
+// Takes the multiple of the pivot's row away from the row.
+fn subtract(row: &mut [i64], pivot: &[i64], by: i64)
+    requires same_length { length pivot.now ≡ length row.old }
+    requires short { AreShort row.old }
+    requires pivot { AreShort pivot.now }
+    requires by { unsigned_abs by < 2 ^ 31 }
+    ensures { IsSubtracted by pivot.now row.old row.new }
+{
+    for n in 0..row.len() {
+        row[n] = difference(row[n], 1, pivot[n], by);
+    }
+}
+
+// The row after an exchange at which the denominator stays 1. False where a number is larger than `most`; then nothing is
+// said of the row.
+fn renew_whole(row: &mut [i64], pivot: &[i64], p: usize, negative: bool, most: i64) -> bool
+    requires same_length { length pivot.now ≡ length row.old }
+    requires place { p < length row.old }
+    requires one { number_at pivot.now p ≡ pos 1 }
+    requires short { AreShort row.old }
+    requires pivot { AreShort pivot.now }
+    requires not_negative { pos 0 ≤ℤ most }
+    requires within { RowWithin (unsigned_abs most) row.old }
+    ensures renewed { IsTrue result → RowRenewed pivot.now row.old row.new p negative (pos 1) (unsigned_abs most) }
+{
+    let leaving = row[p];
+    subtract(row, pivot, leaving);
+    row[p] = signed(leaving, negative, most);
+    are_within(row, most)
+}
+
+// The row after an exchange, number by number.
+fn renew_each(row: &mut [i64], pivot: &[i64], p: usize, negative: bool, d: i64, most: i64) -> bool
+    requires same_length { length pivot.now ≡ length row.old }
+    requires place { p < length row.old }
+    requires positive { pos 0 <ℤ d }
+    requires not_negative { pos 0 ≤ℤ most }
+    requires within { RowWithin (unsigned_abs most) row.old }
+    ensures renewed { IsTrue result → RowRenewed pivot.now row.old row.new p negative d (unsigned_abs most) }
+{
+    let size = pivot[p];
+    let leaving = row[p];
+    for n in 0..row.len() {
+        match divided_term(row[n], size, pivot[n], leaving, d, most) {
+            Some(q) => row[n] = q,
+            None => return false,
+        }
+    }
+    row[p] = signed(leaving, negative, most);
+    true
+}
+
+/// The row after the exchange of the pivot with the member at place `p`: `pivot` is the pivot's row with the sign at which its
+/// number at `p` is positive, and `negative` says that it was turned for that; where `short` is true its numbers are. False
+/// where a number is larger than `most` or isn't a multiple of `d`; then nothing is said of the row.
+pub(crate) fn renew_row(
+    row: &mut [i64],
+    pivot: &[i64],
+    p: usize,
+    negative: bool,
+    d: i64,
+    most: i64,
+    short: bool,
+) -> bool
+    requires same_length { length pivot.now ≡ length row.old }
+    requires place { p < length row.old }
+    requires positive { pos 0 <ℤ d }
+    requires not_negative { pos 0 ≤ℤ most }
+    requires within { RowWithin (unsigned_abs most) row.old }
+    requires short { IsTrue short → AreShort pivot.now }
+    ensures renewed { IsTrue result → RowRenewed pivot.now row.old row.new p negative d (unsigned_abs most) }
+{
+    let size = pivot[p];
+    if row[p] == 0 && size == d {
+        return true;
+    }
+    if short && size == 1 && d == 1 && are_short(row) {
+        return renew_whole(row, pivot, p, negative, most);
+    }
+    renew_each(row, pivot, p, negative, d, most)
+}

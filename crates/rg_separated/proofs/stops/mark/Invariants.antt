@@ -1,7 +1,0 @@
-use Rattle.rg_net.specs.Shown.{shown_place}
-use Rattle.rg_separated.specs.Stops.{rows_in}
-use Rattle.rg_separated.proofs.Marking.{RowsSoFar}
-use Rattle.rg_separated.proofs.stops.mark.Given as goal
-
-abbrev pub invariant-loop-t : goal.invariant-loop-t
-invariant-loop-t l = RowsSoFar l.lts (shown_place l.place) l.tokens (rows_in l.initial.rows) (rows_in l.rows) l.t

@@ -1,0 +1,104 @@
+-- How `factor FILE [--class CLASS]` ends where FILE spells a system.
+use Rattle.std.specs.Prelude.{◌≡◌, ℕ, ◌<◌, ◌≤◌, List, [], ◌++◌, length, Option, None, Some}
+use Rattle.std.specs.List.{AllZip}
+use Rattle.rg_integers.specs.Range.{greatest}
+use Rattle.rg_theory.specs.System.{System, IsAllReachable, IsLeastUnreachable, IsLeastFork}
+use Rattle.rg_theory.specs.Net.{Place, Net}
+use Rattle.rg_theory.specs.Solves.{Solves}
+use Rattle.rg_theory.specs.declared.Class.{Class}
+use Rattle.rg_theory.specs.Class.{IsBounded, InClass, NoNet}
+use Rattle.rg_net.specs.NetText.{net_text}
+use Rattle.rg_net.specs.Range.{IsNetInRange}
+use Rattle.rg_netfile.specs.Contents.{most_places}
+use Rattle.rg_netfile.specs.Spells.{Spells as NetSpells}
+use Rattle.rg_refuting.specs.Refutes.{Reason}
+use Rattle.rg_order_of_work.specs.Shown.{Shown}
+use Rattle.rg_outcome.specs.Outcome.{Out, Answer.net as of_net, Answer.unsolvable as of_reason, Answer.too_wide as of_term}
+use Rattle.rg_product.specs.declared.Broken.{Broken}
+use Rattle.rg_product.specs.Product.{Factor, IsFactorAt, Product, IsIndivisible}
+use Rattle.rg_product.specs.Factoring.{factors, one_block, fewer, IsFactoring}
+use Rattle.rg_product.specs.Beside.{net_beside}
+use Rattle.rg_factor_nets.specs.Answer.{HasNet, IsBehindNets, IsNetOf}
+use Rattle.rg_separate.specs.View.{shown_of}
+use Rattle.rg_reasons.specs.declared.wide_at.WideAt.{WideAt}
+use Rattle.rg_synth.specs.Answer.{IsOpen, IsSolvingNet}
+use Rattle.rg_messages.specs.FactorTexts.{unreachable_line, fork_line, one_block_text, sizes_line, factors_text, unsolvable_factor_line}
+use Rattle.rg_messages.specs.Wides.{wide_line}
+use Rattle.rg_messages.specs.declared.wide.WideCause.TheVariants as cause
+use Rattle.rg_top.specs.Synthesize.{IsCertificateText, IsShownFor}
+use Rattle.rg_top.specs.declared.status.Status.{Status}
+use Rattle.rg_top.specs.declared.status.Status.TheVariants.{Done, No, TooWide}
+
+-- the factors of the system, with the tuple of each state; it is their product
+pub record AreFactorsOf (lts : System) (fs : List Factor) (tuples : List (List ℕ)) : Type 0 where
+  pub is_open : IsOpen lts
+  pub factoring : IsFactoring lts (factors fs tuples)
+  pub product : Product lts fs tuples
+
+-- the bytes are the text of the nets of all factors side by side: of a net of the class that solves the system. No number of it or of a
+-- reachable marking is above 2^127 - 1, and the bytes are read as that net where a net file may have so many places
+pub record IsNetBeside (class : Class) (lts : System) (out : List ℕ) : Type 0 where
+  pub fs : List Factor
+  pub tuples : List (List ℕ)
+  pub are : AreFactorsOf lts fs tuples
+  pub nets : List Net
+  pub each : AllZip (IsNetOf class) fs nets
+  pub in_range : IsNetInRange (net_beside lts fs nets)
+  pub solves : Solves (net_beside lts fs nets) lts
+  pub in_class : InClass (net_beside lts fs nets) class
+  pub narrow : IsBounded (net_beside lts fs nets) greatest
+  pub text : out ≡ net_text (net_beside lts fs nets) lts
+  pub spelled : length (net_beside lts fs nets).places ≤ most_places → NetSpells out lts (net_beside lts fs nets)
+
+-- the bytes tell the first factor whose answer is no net, and then its certificate; so no net of the class solves the system
+pub record IsFactorCertificate (class : Class) (lts : System) (out : List ℕ) : Type 0 where
+  pub fs : List Factor
+  pub tuples : List (List ℕ)
+  pub are : AreFactorsOf lts fs tuples
+  pub i : ℕ
+  pub f : Factor
+  pub first : IsBehindNets class fs i f
+  pub certificate : List ℕ
+  pub is : IsCertificateText class f.lts certificate
+  pub none : NoNet lts class
+  pub text : out ≡ unsolvable_factor_line i ++ certificate
+
+-- a number that passes in the work on the first factor whose answer is no net
+pub record IsFactorTerm (class : Class) (lts : System) (i : ℕ) (w : Shown) : Type 0 where
+  pub fs : List Factor
+  pub tuples : List (List ℕ)
+  pub are : AreFactorsOf lts fs tuples
+  pub f : Factor
+  pub first : IsBehindNets class fs i f
+  pub shown : IsShownFor class f.lts w
+
+-- the status, and what it writes to out and to err
+pub data FactorEnds (lts : System) : Option Class → Status → List ℕ → List ℕ → Type 0 where
+  a_state : (class : Option Class) (s : ℕ) → IsLeastUnreachable lts s → FactorEnds lts class No (unreachable_line lts s) []
+  a_fork : (class : Option Class) (s t s₁ s₂ : ℕ) → IsAllReachable lts → IsLeastFork lts s t s₁ s₂ → FactorEnds lts class No (fork_line lts s t s₁ s₂) []
+  no_blocks : (class : Option Class) (squares : List Broken) → IsOpen lts → IsFactoring lts (one_block squares) → IsIndivisible lts
+      → FactorEnds lts class No (one_block_text lts squares) []
+  no_product : (class : Option Class) (sizes : List ℕ) → IsOpen lts → IsFactoring lts (fewer sizes) → FactorEnds lts class No (sizes_line lts sizes) []
+  all_factors : (fs : List Factor) (tuples : List (List ℕ)) → AreFactorsOf lts fs tuples → FactorEnds lts None Done (factors_text lts fs tuples) []
+  a_net : (class : Class) (out : List ℕ) → IsNetBeside class lts out → FactorEnds lts (Some class) Done out []
+  a_certificate : (class : Class) (out : List ℕ) → IsFactorCertificate class lts out → FactorEnds lts (Some class) No out []
+  a_term : (class : Class) (i : ℕ) (at : WideAt) → IsFactorTerm class lts i (shown_of at)
+      → FactorEnds lts (Some class) (TooWide (cause.Factor i at)) [] (wide_line (cause.Factor i at))
+
+-- it has these factors, with some tuples
+abbrev pub HasFactors : System → List Factor → Type 0
+HasFactors lts fs = (tuples : List (List ℕ)) × IsOpen lts × IsFactoring lts (factors fs tuples)
+
+-- when each status is due: as the system has an unreachable state, a fork, one block of labels, or parts that don't make it; or factors,
+-- and where a class is asked, as the first one whose answer is no net says, or as each has a net
+pub data FactorIsDue (lts : System) : Option Class → Status → Type 0 where
+  for_a_state : {class : Option Class} (s : ℕ) → IsLeastUnreachable lts s → FactorIsDue lts class No
+  for_a_fork : {class : Option Class} (s t s₁ s₂ : ℕ) → IsAllReachable lts → IsLeastFork lts s t s₁ s₂ → FactorIsDue lts class No
+  for_one_block : {class : Option Class} (squares : List Broken) → IsOpen lts → IsFactoring lts (one_block squares) → FactorIsDue lts class No
+  for_sizes : {class : Option Class} (sizes : List ℕ) → IsOpen lts → IsFactoring lts (fewer sizes) → FactorIsDue lts class No
+  for_factors : (fs : List Factor) → HasFactors lts fs → FactorIsDue lts None Done
+  for_nets : (class : Class) (fs : List Factor) → HasFactors lts fs → ((i : ℕ) (f : Factor) → IsFactorAt fs i f → HasNet class f) → FactorIsDue lts (Some class) Done
+  for_a_reason : (class : Class) (fs : List Factor) (i : ℕ) (f : Factor) (reason : Reason) → HasFactors lts fs → IsBehindNets class fs i f → Out f.lts class (of_reason reason)
+      → FactorIsDue lts (Some class) No
+  for_a_term : (class : Class) (fs : List Factor) (i : ℕ) (f : Factor) (at : WideAt) → HasFactors lts fs → IsBehindNets class fs i f → Out f.lts class (of_term (shown_of at))
+      → FactorIsDue lts (Some class) (TooWide (cause.Factor i at))

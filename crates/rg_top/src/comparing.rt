@@ -1,0 +1,98 @@
+//! The answer to a request for a comparison.
+ghost use Rattle.std.specs.Prelude.{◌≡◌, ℕ, ◌∷◌, [], ◌≤◌, IfOk, IfSome, IfNone, IsErrOf};
+ghost use Rattle.rg_ports.specs.Count.{HasRisen};
+ghost use Rattle.rg_lts.specs.WellFormed.{IsWellFormed};
+ghost use Rattle.rg_isomorphism.specs.Compared.{IsJudged, told_of};
+ghost use Rattle.rg_top.specs.Isomorphic.{IsomorphicEnds, PairEnds, IsUnjudged, told_status};
+ghost use Rattle.rg_top.specs.Requests.{asked_more, ReadsMore};
+ghost use Rattle.rg_top.specs.declared.answer.Stop.TheVariants as stop;
+
+use crate::answer::{Answer, Stop, file_refusal, said};
+use crate::files::{FileStop, read_system};
+use crate::status::Status;
+use rg_checks::{first_fork, first_unreachable};
+use rg_commands::Form;
+use rg_isomorphism::{Same, compare};
+use rg_lts::Lts;
+use rg_memory::NoMemory;
+use rg_messages::{comparison_has_names, fork_text, same_text, unreachable_text};
+use rg_ports::Shelf;
+use std::alloc::Global;
+
+// Whether the system of the file is isomorphic to this one.
+pub(crate) fn comparison_answer<H: Shelf>(
+    alloc: Global,
+    lts: &Lts,
+    name: &str,
+    form: Form,
+    shelf: &mut H,
+) -> Result<Answer, Stop>
+    ensures asked { H.asked shelf.new ≡ asked_more (H.asked shelf.old) (name.now ∷ []) }
+    ensures reads { ReadsMore H.finds H.hands (name.now ∷ []) shelf.old shelf.new }
+    ensures ok { IfOk result (λ a. IsomorphicEnds (H.files shelf.old) name.now form lts.now a.status a.out.items a.err.items) }
+    ensures never_falls { H.faults shelf.old ≤ H.faults shelf.new }
+    ensures fault { IsErrOf result stop.ReadFault → HasRisen (H.faults shelf.old) (H.faults shelf.new) }
+{
+    match read_system(alloc, shelf, name, form) {
+        Ok(other) => Ok(pair_answer(alloc, lts, &other)?),
+        Err(FileStop::Refused(fault)) => Ok(file_refusal(alloc, 2, fault)?),
+        Err(FileStop::Failed) => Err(Stop::ReadFault),
+        Err(FileStop::NoMemory) => Err(Stop::NoMemory),
+    }
+}
+
+// What is said of two systems.
+fn pair_answer(alloc: Global, a: &Lts, b: &Lts) -> Result<Answer, NoMemory>
+    ensures formed { IsWellFormed b.now }
+    ensures ends { IfOk result (λ made. PairEnds a.now b.now made.status made.out.items) }
+    ensures err { IfOk result (λ made. made.err.items ≡ []) }
+{
+    b.is_well_formed();
+    if let Some(out) = unjudged_text(alloc, 1, a)? {
+        return Ok(said(alloc, Status::No, out));
+    }
+    if let Some(out) = unjudged_text(alloc, 2, b)? {
+        return Ok(said(alloc, Status::No, out));
+    }
+    judged_answer(alloc, a, b)
+}
+
+// What is told of two systems that are judged.
+fn judged_answer(alloc: Global, a: &Lts, b: &Lts) -> Result<Answer, NoMemory>
+    requires first { IsJudged a.now }
+    requires second { IsJudged b.now }
+    ensures ends { IfOk result (λ made. PairEnds a.now b.now made.status made.out.items) }
+    ensures err { IfOk result (λ made. made.err.items ≡ []) }
+{
+    a.is_well_formed();
+    b.is_well_formed();
+    comparison_has_names();
+    let same = compare(alloc, a, b)?;
+    let out = same_text(alloc, a, b, &same)?;
+    Ok(said(alloc, status_of(&same), out))
+}
+
+// The status of what is told.
+fn status_of(same: &Same) -> Status
+    ensures { result ≡ told_status (told_of same.now) }
+{
+    match same {
+        Same::Map(_) => Status::Done,
+        _ => Status::No,
+    }
+}
+
+// The line that says why the system of the file with this number isn't judged; None where it is.
+fn unjudged_text(alloc: Global, file: u8, lts: &Lts) -> Result<Option<Vec<u8>>, NoMemory>
+    ensures unjudged { IfOk result (λ o. IfSome o (λ text. IsUnjudged file lts.now text.items)) }
+    ensures judged { IfOk result (λ o. IfNone o (IsJudged lts.now)) }
+{
+    lts.is_well_formed();
+    if let Some(s) = first_unreachable(alloc, lts)? {
+        return Ok(Some(unreachable_text(alloc, file, lts, s)?));
+    }
+    match first_fork(lts) {
+        Some(fork) => Ok(Some(fork_text(alloc, file, lts, fork)?)),
+        None => Ok(None),
+    }
+}

@@ -1,0 +1,72 @@
+//! So many numbers are at work beside each other as the words say, and each is inside the gate while it is.
+use crate::case::{Case, Fails};
+use crate::outside::Outside;
+use crate::stop::Stop;
+use crate::tests::holding::Holding;
+use crate::tests::lines::case_of;
+use std::alloc::Global;
+use std::thread::Threads;
+
+// The word a b a: eleven problems, all in one block.
+const WORD: &str = "file f\n> a b a\nstatus 0\n";
+
+// A ring of nine labels: the first block has 64 problems.
+const RING: &str =
+    "file f\n| .type LTS .states s0[initial]\ncount 1 8 s#\n| .labels\ncount 0 8 a#\n| .arcs\ncount 0 7 s# a# s%\n| s8 a8 s0\nstatus 0\n";
+
+// The same beside a label without arcs: two factors, of which the first is the ring.
+const RING_AND_LABEL: &str =
+    "file f\n| .type LTS .states s0[initial]\ncount 1 8 s#\n| .labels\ncount 0 8 a#\n| x .arcs\ncount 0 7 s# a# s%\n| s8 a8 s0\nstatus 0\n";
+
+// Words and files of a run, and the numbers of the first block that are inside at once: the first of each part.
+const RUNS: [(&str, &str, &[u32]); 7] = [
+    ("words synthesize none f\n", RING, &[0]),
+    ("words synthesize none f --jobs 2\n", RING, &[0, 32]),
+    ("words synthesize none f --jobs 3\n", RING, &[0, 32, 48]),
+    ("words synthesize none f --jobs 4\n", RING, &[0, 16, 32, 48]),
+    ("words split f --jobs 4\n", RING, &[0, 16, 32, 48]),
+    (
+        "words factor f --class none --jobs 2\n",
+        RING_AND_LABEL,
+        &[0, 32],
+    ),
+    (
+        "words synthesize none f --from words --jobs 2\n",
+        WORD,
+        &[0, 10],
+    ),
+];
+
+// The case of these lines.
+fn run_of(alloc: Global, words: &str, files: &str) -> Result<Case, Stop> {
+    let mut text = String::from_str(alloc, "case run\n")?;
+    text.push_str(words)?;
+    text.push_str(files)?;
+    case_of(alloc, &text)
+}
+
+// Whether the run has status 0, through this gate.
+fn is_done<R: Threads + Sync>(
+    rt: &R,
+    alloc: Global,
+    case: &Case,
+    gate: &Holding<'_>,
+) -> Result<bool, Stop> {
+    let Some(words) = case.runs.first() else {
+        return Ok(false);
+    };
+    let mut outside = Outside::new(alloc, case, &Fails::none(alloc), case.room)?;
+    Ok(outside.end(rt, alloc, words, gate) == 0)
+}
+
+#[test]
+fn so_many_numbers_are_at_work(rt: HostRuntime) -> Result<(), Stop> {
+    for (words, files, held) in RUNS {
+        let case = run_of(rt.alloc(), words, files)?;
+        let gate = Holding::new(held);
+        assert!(rt; is_done(&rt, rt.alloc(), &case, &gate)?, "{words}");
+        assert!(rt; gate.were_alone(), "{words}");
+        assert!(rt; files != WORD || gate.has_passed_once(11), "{words}");
+    }
+    Ok(())
+}
