@@ -4,13 +4,16 @@
     bench/families.py write philosophers 6 > philosophers6.apt
     bench/families.py run crates/regions/out/regions [none pure ..]
     bench/families.py beside EARLIER crates/regions/out/regions [none pure ..]
+    bench/families.py speed EARLIER crates/regions/out/regions [none pure ..]
     bench/families.py jobs crates/regions/out/regions [none pure ..]
     bench/families.py blocks crates/solving_bench/out/solving_bench [none pure ..]
 
 `run` prints for each system and class (`none`, `pure`, `safe` and `pure,plain,safe`, unless classes are named) the status, the
 seconds, the peak memory as GNU time tells it, the numbers of states and of separation problems, how many places the net has or how
 many nodes (splits and leaves) the certificate's trees, and what err says. `beside` runs an earlier program first, and prints its
-seconds, memory and places in columns of their own: a program that prunes no places shows how many are found. `jobs` prints the
+seconds, memory and places in columns of their own: a program that prunes no places shows how many are found. `speed` runs both
+five times by turns on the systems of docs/using.md, and prints the least and the middle processor seconds and the peak of memory of
+each, and says so where the bytes differ, which they never may. `jobs` prints the
 seconds and the memory with 1, 2, 4 and 16 jobs, and says so where the bytes differ, which they never may. `blocks` prints how many
 problems all blocks have, as a gate counts them, beside the places of the net: no kept place separated them when their block was
 formed, so no more are solved, and none of these twice but the one that is told. It is run by hand and is no test.
@@ -123,6 +126,11 @@ SIZES = {'grid': (10, 20, 40, 63), 'lock': (2, 3, 4, 5, 6), 'doubling': (20, 40,
          'halves': (42,)}
 
 
+SPEED = (('grid', 63), ('lock', 7), ('philosophers', 8), ('ring', 60), ('ring', 120), ('chain', 60), ('chain', 120), ('star', 120),
+         ('prefixes', 30), ('rings', 5), ('doubling', 100))
+RUNS = 5
+
+
 def text(states, labels, arcs):
     lines = ['.type LTS', '.states', states[0] + '[initial]', *states[1:], '.labels', *labels, '.arcs']
     return '\n'.join(lines + [' '.join(a) for a in arcs]) + '\n'
@@ -195,6 +203,33 @@ def run(programs, classes):
                 print(' | '.join([*line, said]), flush=True)
 
 
+def processor(program, class_word, path):
+    """The status, the processor seconds, the peak of memory in MiB, and the bytes of a run."""
+    words = [program, 'synthesize', class_word, path]
+    child = subprocess.run(['/usr/bin/time', '-q', '-f', '%U %S %M', *words], capture_output=True)
+    user, system, peak = child.stderr.decode().strip().split('\n')[-1].split()
+    return child.returncode, float(user) + float(system), int(peak) / 1024, child.stdout
+
+
+def speed(programs, classes):
+    columns = [f'{what}, {which}' for which in ('earlier', 'new') for what in ('least', 'middle', 'MiB')]
+    print(' | '.join(['family', 'class', 'status', *columns]))
+    with tempfile.TemporaryDirectory() as folder:
+        for family, n in SPEED:
+            path = os.path.join(folder, f'{family}{n}.apt')
+            with open(path, 'w') as file:
+                file.write(written(programs[-1], family, n))
+            for class_word in classes:
+                ran = [[processor(program, class_word, path) for program in programs] for _ in range(RUNS)]
+                line = [f'{family} {n}', class_word, str(ran[0][-1][0])]
+                for k in range(len(programs)):
+                    seconds = sorted(both[k][1] for both in ran)
+                    line += [f'{seconds[0]:.2f}', f'{seconds[RUNS // 2]:.2f}', f'{max(both[k][2] for both in ran):.1f}']
+                if any((one[0], one[3]) != (ran[0][0][0], ran[0][0][3]) for both in ran for one in both):
+                    line.append('THE BYTES DIFFER')
+                print(' | '.join(line), flush=True)
+
+
 def with_jobs(program, classes):
     counts = ('1', '2', '4', '16')
     columns = [f'{what} with {count}' for count in counts for what in ('seconds', 'MiB')]
@@ -233,6 +268,8 @@ def main():
         blocks(words[1], words[2:] or CLASSES)
     elif len(words) >= 3 and words[0] == 'beside':
         run(words[1:3], words[3:] or CLASSES)
+    elif len(words) >= 3 and words[0] == 'speed':
+        speed(words[1:3], words[3:] or CLASSES)
     else:
         sys.exit(__doc__)
 

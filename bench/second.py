@@ -1,28 +1,36 @@
 #!/usr/bin/env python3
-"""A second body of `synthesize`, slow and plain, and a comparison of the program with it.
+"""A second body of the commands, slow and plain, and a comparison of the program's `synthesize` with it.
 
     bench/second.py compare crates/regions/out/regions [SYSTEMS [SEED]]
     bench/second.py answer pure examples/side.apt
+    bench/second.py factor examples/side.apt [CLASS]
+    bench/second.py split examples/side.apt [system]
+    bench/second.py isomorphic examples/side.apt examples/side.apt
+    bench/second.py examine examples/side.apt [json]
     bench/second.py cases 1 1000 > crates/worked_runs/data/random.cases
     bench/second.py cases 2 400 marking > crates/worked_runs/data/random_marking.cases
+    bench/second.py cases 3 800 further > crates/worked_runs/data/random_further.cases
 
-It is written from docs/algorithm.md and docs/formats.md alone: fractions of any size, a problem at a time, each kept place asked, each
+It is written from docs/algorithm.md, docs/theory.md and docs/formats.md alone: fractions of any size, a problem at a time, each kept place asked, each
 dictionary made anew. `compare` makes random systems (2,000 unless a number is named) of up to 6 states and 4 labels, runs the program with 1 and
 with 3 jobs for a random class, and compares status and bytes; it prints each difference, and at last `N systems, M differences`. Where
 the second body forms a number out of 127 bits it can't tell the answer, and stops. It is run by hand and is no test. `cases SEED N`
-prints N random cases of every command but `selftest` and `generate`, in all three forms, for `worked_runs`, with what the second
+prints N random cases of `synthesize`, `verify`, `check` and `convert`, in all three forms, for `worked_runs`, with what the second
 body says is due: nets and certificates of `synthesize`; what `verify` says of those certificates as they are, with a first multiplier
 below zero, and cut after a line; what `check` says of those nets as they are and with a number changed; systems in another form.
-A class of theirs asks no marking, or with the word `marking` each asks one; a third of those of `compare` do.
+A class of theirs asks no marking, or with the word `marking` each asks one; a third of those of `compare` do. With the word `further`
+the cases are of `factor` (random systems and random products), `split` (systems with forks and without), `isomorphic` (a system beside
+another, and beside itself with states and labels in another order, as it is or with an arc changed) and `examine`.
 """
 import itertools
+import json
 import os
 import random
 import subprocess
 import sys
 import tempfile
 from fractions import Fraction
-from math import gcd, lcm
+from math import gcd, lcm, prod
 
 LARGEST = 2 ** 127 - 1
 
@@ -649,6 +657,186 @@ def judged(system, word, places):
     return 'yes\n'
 
 
+# ---- products
+
+def squares_are_broken(system, s, t, u):
+    """Whether the square of two labels is broken at a state."""
+    target = system.targets.get
+    a, b = target((s, t)), target((s, u))
+    if a is not None and b is not None:
+        end = target((a, u))
+        return end is None or target((b, t)) != end
+    if a is not None:
+        return (a, u) in system.targets
+    return b is not None and (b, t) in system.targets
+
+
+def blocks_of(system):
+    """The blocks of labels by their least label, and the broken squares that join labels not joined before."""
+    block, joining = list(range(len(system.labels))), []
+    for s in range(len(system.states)):
+        for t, u in itertools.combinations(range(len(system.labels)), 2):
+            if squares_are_broken(system, s, t, u) and block[t] != block[u]:
+                joining.append((s, t, u))
+                block = [block[t] if b == block[u] else b for b in block]
+    return [[t for t, b in enumerate(block) if b == name] for name in dict.fromkeys(block)], joining
+
+
+def factor_of(system, labels):
+    """The factor over these labels, and the numbers of its states."""
+    reached = [system.initial]
+    for q in reached:
+        reached += [r for r in dict.fromkeys(a[2] for a in system.arcs if a[0] == q and a[1] in labels) if r not in reached]
+    states = sorted(reached)
+    arcs = [(states.index(s), labels.index(t), states.index(r)) for s, t, r in system.arcs if s in reached and t in labels]
+    factor = System([system.states[q] for q in states], [system.labels[t] for t in labels], arcs)
+    factor.initial = states.index(system.initial)
+    return factor, states
+
+
+def entries_of(system, blocks, factors):
+    """For each state the numbers of its entries, one a factor."""
+    entries, order = {system.initial: [f.initial for f, _ in factors]}, [system.initial]
+    for s in order:
+        for _, t, r in (a for a in system.arcs if a[0] == s and a[2] not in entries):
+            i = next(i for i, labels in enumerate(blocks) if t in labels)
+            to = factors[i][0].targets[entries[s][i], blocks[i].index(t)]
+            entries[r] = entries[s][:i] + [to] + entries[s][i + 1:]
+            order.append(r)
+    return [entries[s] for s in range(len(system.states))]
+
+
+def factored(system, word):
+    """Status and text of `factor`, with a class or with None."""
+    early = answer_early(system)
+    if early is not None:
+        return 1, f'no: {early}\n'
+    s, names = system.states, system.labels
+    blocks, joining = blocks_of(system)
+    if len(blocks) < 2:
+        return 1, 'no: one block\n' + ''.join(f'broken {s[q]} {names[t]} {names[u]}\n' for q, t, u in joining)
+    factors = [factor_of(system, labels) for labels in blocks]
+    sizes = [len(states) for _, states in factors]
+    if prod(sizes) != len(s):
+        return 1, f'no: sizes {" ".join(map(str, sizes))} for {len(s)} states\n'
+    if word is not None:
+        return beside(system, blocks, factors, word)
+    lines = [f'factors {len(factors)}']
+    lines += [' '.join([f'factor {i}: labels', *f.labels, 'states', *f.states]) for i, (f, _) in enumerate(factors)]
+    for q, entries in enumerate(entries_of(system, blocks, factors)):
+        lines.append(f'{s[q]}: ' + ' '.join(f.states[k] for (f, _), k in zip(factors, entries)))
+    return 0, '\n'.join(lines) + '\n'
+
+
+def beside(system, blocks, factors, word):
+    """The nets of the factors side by side, or why the first factor without one has none."""
+    places, count = [], len(system.labels)
+    for i, (labels, (factor, _)) in enumerate(zip(blocks, factors)):
+        status, text = answer(factor, word)
+        if status == 1:
+            return 1, f'no: factor {i} unsolvable\n' + text
+        widened = lambda weights: [weights[labels.index(t)] if t in labels else 0 for t in range(count)]
+        places += [({system.initial: start}, widened(takes), widened(puts)) for start, takes, puts in places_of(factor, text)]
+    return 0, net_text(system, places)
+
+
+# ---- labels told apart
+
+def moved_arcs(system):
+    """The label that a round splits, and its arcs that get the new one; None where the system has a net, which is the second answer."""
+    for a, b in zip(system.arcs, system.arcs[1:]):
+        if a[:2] == b[:2]:
+            return (a[1], [b]), None
+    status, text = answer(system, 'none')
+    if status == 0:
+        return None, text
+    counted = {}
+    for line in text.split('\ncase\n')[1].split('\n'):
+        if ' arc ' in line:
+            multiplier, _, s, t, r = line.split()
+            arc = system.states.index(s), system.labels.index(t), system.states.index(r)
+            counted[arc] = counted.get(arc, 0) + int(multiplier)
+    label = min(a[1] for a, n in counted.items() if n)
+    return (label, [a for a, n in counted.items() if n > 0 and a[1] == label]), None
+
+
+def split(system, as_system):
+    """Status and text of `split`."""
+    early = answer_early(system)
+    if early is not None and early.startswith('unreachable'):
+        return 1, f'no: {early}\n'
+    names, old = list(system.labels), list(range(len(system.labels)))
+    while (found := moved_arcs(system))[0] is not None:
+        label, moved = found[0]
+        if len(system.labels) == 256:
+            return 1, 'no: more than 256 labels\n'
+        new = next(name for n in itertools.count(2) if (name := f'{names[old[label]][:250]}_{n}') not in system.labels)
+        arcs = [(s, len(old), r) if (s, t, r) in moved else (s, t, r) for s, t, r in system.arcs]
+        initial = system.initial
+        system, old = System(system.states, [*system.labels, new], arcs), [*old, old[label]]
+        system.initial = initial
+    if as_system:
+        return 0, system_text(system)
+    lines = found[1].replace('.type PN', '.type LPN', 1).split('\n')
+    at = lines.index('.transitions') + 1
+    lines[at:at + len(old)] = [f'{name}[label="{names[t]}"]' for name, t in zip(system.labels, old)]
+    return 0, '\n'.join(lines)
+
+
+# ---- two systems beside each other, and what a system is like
+
+def isomorphic(a, b):
+    """Status and text of `isomorphic`."""
+    for number, system in ((1, a), (2, b)):
+        early = answer_early(system)
+        if early is not None:
+            return 1, f'no: file {number}: {early}\n'
+    for number, system, other in ((1, a, b), (2, b, a)):
+        for name in system.labels:
+            if name not in other.labels:
+                return 1, f'no: label file {number} {name}\n'
+    image, order = {a.initial: b.initial}, [a.initial]
+    for s in order:
+        for t, name in enumerate(a.labels):
+            r, q = a.targets.get((s, t)), b.targets.get((image[s], b.labels.index(name)))
+            if r is None and q is None:
+                continue
+            if q is None:
+                return 1, f'no: step file 1 {a.states[s]} {name}\n'
+            if r is None:
+                return 1, f'no: step file 2 {b.states[image[s]]} {name}\n'
+            if r in image and image[r] != q or r not in image and q in image.values():
+                return 1, f'no: target {a.states[s]} {name}\n'
+            if r not in image:
+                image[r] = q
+                order.append(r)
+    return 0, 'yes\n' + ''.join(f'{name} {b.states[image[s]]}\n' for s, name in enumerate(a.states))
+
+
+def reached_from(system, start):
+    reached = [start]
+    for q in reached:
+        reached += [r for r in dict.fromkeys(a[2] for a in system.arcs if a[0] == q) if r not in reached]
+    return reached
+
+
+def examined(system, as_json):
+    """The text of `examine`."""
+    s, names, arcs = system.states, system.labels, system.arcs
+    reached = reached_from(system, system.initial)
+    unreached = next(([s[q]] for q in range(len(s)) if q not in reached), True)
+    fork = next(([s[a[0]], names[a[1]], s[a[2]], s[b[2]]] for a, b in zip(arcs, arcs[1:]) if a[:2] == b[:2]), True)
+    lost = sorted((a[0], a[1], b[1], a[2]) for a in arcs for b in arcs
+                  if a[0] == b[0] and a[1] != b[1] and not any(c[:2] == (a[2], b[1]) for c in arcs))
+    lost = [s[lost[0][0]], names[lost[0][1]], names[lost[0][2]], s[lost[0][3]]] if lost else True
+    gone = next(([s[q]] for q in sorted(reached) if system.initial not in reached_from(system, q)), True)
+    told = [('reachable', unreached), ('deterministic', fork), ('persistent', lost), ('reversible', gone)]
+    counts = [('states', len(s)), ('labels', len(names)), ('arcs', len(arcs))]
+    if as_json:
+        return json.dumps(dict(counts + told), separators=(',', ':'), sort_keys=True) + '\n'
+    return ''.join(f'{name} {n}\n' for name, n in counts) + ''.join(f'{name} {"yes" if t is True else "no " + " ".join(t)}\n' for name, t in told)
+
+
 # ---- cases of whole runs
 
 def told(name, words, files, status, text):
@@ -729,12 +917,135 @@ def random_case(rng, number, a_class):
     return told(f'{number}: check', ['check', word, 'f', 'n', *form], {'f': text, 'n': net}, int(line != 'yes\n'), line)
 
 
-def cases(seed, count, marked):
+def product_of(rng, parts):
+    """The product of systems with labels of their own, its states in a random order."""
+    names, labels = [], []
+    tuples = list(itertools.product(*(range(len(p.states)) for p in parts)))
+    rng.shuffle(tuples)
+    named = [(i, t) for i, p in enumerate(parts) for t in range(len(p.labels))]
+    rng.shuffle(named)
+    labels = [f'{"uvw"[i]}{t}' for i, t in named]
+    names = ['_'.join(f'{"pqr"[i]}{k}' for i, k in enumerate(entries)) for entries in tuples]
+    arcs = [(n, named.index((i, t)), tuples.index(entries[:i] + (r,) + entries[i + 1:]))
+            for n, entries in enumerate(tuples) for i, p in enumerate(parts) for s, t, r in p.arcs if entries[i] == s]
+    system = System(names, labels, arcs)
+    system.initial = tuples.index(tuple(p.initial for p in parts))
+    return system
+
+
+def judged_system(rng):
+    """A random system without an unreachable state or a fork, of at most four states."""
+    while True:
+        system = random_system(rng) if rng.random() < 0.5 else net_system(rng)
+        if system is not None and len(system.states) <= 4 and answer_early(system) is None:
+            return system
+
+
+def renamed(rng, system):
+    """The system with other names of states, and with states and labels in another order."""
+    states, labels = list(range(len(system.states))), list(range(len(system.labels)))
+    rng.shuffle(states)
+    rng.shuffle(labels)
+    arcs = [(states.index(s), labels.index(t), states.index(r)) for s, t, r in system.arcs]
+    made = System([f'z{i}' for i in range(len(states))], [system.labels[t] for t in labels], arcs)
+    made.initial = states.index(system.initial)
+    return made
+
+
+def with_a_change(rng, system):
+    """The system with one arc that leads elsewhere, has another label, or is gone."""
+    arcs = list(system.arcs)
+    if not arcs:
+        return system
+    s, t, r = arcs.pop(rng.randrange(len(arcs)))
+    what = rng.random()
+    if what < 0.5:
+        arcs.append((s, t, rng.randrange(len(system.states))))
+    elif what < 0.8:
+        arcs.append((s, rng.randrange(len(system.labels)), r))
+    changed = System(system.states, system.labels, set(arcs))
+    changed.initial = system.initial
+    return changed
+
+
+def forked(rng):
+    """A random system with some forks."""
+    system = random_system(rng)
+    arcs = set(system.arcs)
+    for s, t, _ in system.arcs:
+        if rng.random() < 0.2:
+            arcs.add((s, t, rng.randrange(len(system.states))))
+    return System(system.states, system.labels, arcs)
+
+
+def read_again(system):
+    return system, system_text(system), []
+
+
+def is_passed_over(rng, *systems):
+    """Four of five systems that aren't reached whole are passed over, so that most cases say more."""
+    return any((answer_early(s) or '').startswith('unreachable') for s in systems) and rng.random() < 0.8
+
+
+def factor_case(rng, number):
+    what = rng.random()
+    if what < 0.6:
+        system, text, form = read_again(product_of(rng, [judged_system(rng) for _ in range(rng.choice((2, 2, 3)))]))
+        if len(system.states) > 24:
+            return None
+    else:
+        system, text, form = in_a_form(rng, random_system(rng))
+    if is_passed_over(rng, system):
+        return None
+    word = random_class(rng) if rng.random() < 0.6 else None
+    status, out = factored(system, word)
+    jobs = rng.choice([[], [], ['--jobs', '3']])
+    asked = [] if word is None else rng.choice([['--class', word], ['--class=' + word]])
+    return told(f'{number}: factor', ['factor', 'f', *form, *asked, *jobs], {'f': text}, status, out)
+
+
+def split_case(rng, number):
+    system, text, form = in_a_form(rng, forked(rng) if rng.random() < 0.5 else random_system(rng))
+    if is_passed_over(rng, system):
+        return None
+    as_system = rng.random() < 0.5
+    status, out = split(system, as_system)
+    jobs = rng.choice([[], [], ['--jobs', '2']])
+    return told(f'{number}: split', ['split', 'f', *form, *['--system'] * as_system, *jobs], {'f': text}, status, out)
+
+
+def isomorphic_case(rng, number):
+    system, text, form = in_a_form(rng, random_system(rng) if rng.random() < 0.5 else judged_system(rng))
+    what = rng.random()
+    other = random_system(rng) if what < 0.15 else renamed(rng, system if what < 0.45 else with_a_change(rng, system))
+    second, data, second_form = (other, graph_text(other), ['--from2=graph']) if what < 0.3 and graph_text(other) else read_again(other)
+    second = as_read_from_graph(second) if second_form else second
+    if is_passed_over(rng, system, second):
+        return None
+    status, out = isomorphic(system, second)
+    return told(f'{number}: isomorphic', ['isomorphic', 'f', 'g', *form, *second_form], {'f': text, 'g': data}, status, out)
+
+
+def examine_case(rng, number):
+    system, text, form = in_a_form(rng, forked(rng) if rng.random() < 0.3 else random_system(rng) if rng.random() < 0.5 else judged_system(rng))
+    as_json = rng.random() < 0.5
+    return told(f'{number}: examine', ['examine', 'f', *form, *['--json'] * as_json], {'f': text}, 0, examined(system, as_json))
+
+
+def further_case(rng, number):
+    return rng.choice((factor_case, split_case, isomorphic_case, examine_case))(rng, number)
+
+
+def cases(seed, count, kind):
     rng, made = random.Random(seed), 0
-    print(f'# {count} random cases of seed {seed}{", over classes with a marking" * marked}, which bench/second.py has written.')
+    of = {'': '', 'marking': ', over classes with a marking', 'further': ' of factor, split, isomorphic and examine'}[kind]
+    print(f'# {count} random cases{of if kind == "further" else ""} of seed {seed}{of if kind == "marking" else ""}, which bench/second.py has written.')
     while made < count:
         try:
-            case = random_case(rng, made + 1, marked_class if marked else random_class)
+            if kind == 'further':
+                case = further_case(rng, made + 1)
+            else:
+                case = random_case(rng, made + 1, marked_class if kind == 'marking' else random_class)
         except OutOfRange:
             continue
         if case is not None:
@@ -747,7 +1058,9 @@ def read(path):
         lines = [line.strip() for line in file]
     states, labels, arcs = (lines.index(section) for section in ('.states', '.labels', '.arcs'))
     names, words = [line.removesuffix('[initial]') for line in lines[states + 1:labels]], lines[labels + 1:arcs]
-    return System(names, words, [(names.index(a), words.index(b), names.index(c)) for a, b, c in (line.split() for line in lines[arcs + 1:] if line)])
+    system = System(names, words, [(names.index(a), words.index(b), names.index(c)) for a, b, c in (line.split() for line in lines[arcs + 1:] if line)])
+    system.initial = next(i for i, line in enumerate(lines[states + 1:labels]) if line.endswith('[initial]'))
+    return system
 
 
 def main():
@@ -758,9 +1071,24 @@ def main():
         return status
     if 2 <= len(words) <= 4 and words[0] == 'compare':
         return not compare(os.path.abspath(words[1]), int(words[2]) if len(words) > 2 else 2000, int(words[3]) if len(words) > 3 else 1)
-    if len(words) in (3, 4) and words[0] == 'cases' and words[3:] in ([], ['marking']):
-        cases(int(words[1]), int(words[2]), len(words) == 4)
+    if len(words) in (3, 4) and words[0] == 'cases' and words[3:] in ([], ['marking'], ['further']):
+        cases(int(words[1]), int(words[2]), ''.join(words[3:]))
         return 0
+    status, text = further_answer(words)
+    sys.stdout.write(text)
+    return status
+
+
+def further_answer(words):
+    """Status and text of one of the four further commands; ends the program where the words ask for none."""
+    if len(words) in (2, 3) and words[0] == 'factor':
+        return factored(read(words[1]), words[2] if len(words) == 3 else None)
+    if len(words) in (2, 3) and words[0] == 'split' and words[2:] in ([], ['system']):
+        return split(read(words[1]), len(words) == 3)
+    if len(words) == 3 and words[0] == 'isomorphic':
+        return isomorphic(read(words[1]), read(words[2]))
+    if len(words) in (2, 3) and words[0] == 'examine' and words[2:] in ([], ['json']):
+        return 0, examined(read(words[1]), len(words) == 3)
     sys.exit(__doc__)
 
 
