@@ -1,20 +1,14 @@
 -- The first label that is lost.
-use Rattle.std.proofs.Common.{◌≡◌, ◌≢◌, ◌⊎◌, inl, inr, ℕ, ◌+◌, ◌<◌, ◌≤◌, Bool, true, false, true≢false, List, length, Option, Some, None, IfSome, IfNone, is_some, not, get_or, slice_index_or, Contains, AllPairs, sym, ap, subst, ◌∙◌, arith}
+use Rattle.std.proofs.Common.{◌≡◌, ◌≢◌, ◌⊎◌, inl, inr, ℕ, ◌+◌, ◌<◌, ◌≤◌, Bool, true, false, true≢false, List, length, Option, Some, None, IfSome, IfNone, is_some, not, get_or, slice_index_or, Contains, sym, ap, subst, ◌∙◌, arith}
 use Rattle.std.proofs.lemmas.Bool.{cases_lt, cases_eq}
 use Rattle.std.proofs.lemmas.List.{get_or_default}
 use Rattle.rg_theory.specs.declared.Arc.{Arc}
 use Rattle.rg_theory.specs.System.{System, arc, states, labels, HasArc, IsInRange}
 use Rattle.rg_theory.proofs.Arcs.{arc_in_range, find_arc}
 use Rattle.rg_checks.specs.Persistent.{HasStep, IsLost, IsPersistent, IsLostBefore, IsLeastLost}
-use Rattle.rg_checks.specs.Lost.{IsLeastLostTo, IsLeastLostBy, IsLeastLostAt}
+use Rattle.rg_checks.specs.Lost.{AreLabelled, IsLeastLostTo, IsLeastLostBy, IsLeastLostAt}
 
 -- ---- the state that is entered
-
--- the arcs of label t that leave s, by the state that they enter
-pub record AreLabelled (lts : System) (s t : ℕ) (steps : List Arc) : Type 0 where
-  pub members : (a : Arc) → (Contains steps a → Contains lts.arcs a × (a.from ≡ s) × (a.label ≡ t))
-  pub every : (to : ℕ) → HasArc lts s t to → Contains steps (arc s t to)
-  pub order : AllPairs (λ (a b : Arc). a.to < b.to) steps
 
 -- u has an arc at the targets so far
 abbrev pub AreKept : System → ℕ → List Arc → ℕ → Type 0
@@ -68,6 +62,10 @@ not_lost lts s t u n steps are kept all to lost = by (are.every to lost.step)
   where
     by : Contains steps (arc s t to) → ⊥
     by (k, in_k, at) = lost.after (subst (λ (x : Arc). HasStep lts x.to u) at (kept k (arc s t to) (omega (arith, in_k, all))))
+
+-- where no arc leads on, nothing is lost
+pub no_steps : (lts : System) (s t u to : ℕ) (steps : List Arc) → AreLabelled lts s t steps → length steps ≡ 0 → IsLost lts s t u to → ⊥
+no_steps lts s t u to steps are none lost = let (k, lt, at) = are.every to lost.step in omega (arith, none, lt)
 
 pub kept_more : (lts : System) (u i : ℕ) (d : Arc) (steps : List Arc) → i < length steps → AreKept lts u steps i → HasStep lts (slice_index_or steps i d).to u
     → AreKept lts u steps (i + 1)

@@ -1,5 +1,5 @@
 -- The first state that is reached and doesn't lead back is the least, and where there is none each leads back.
-use Rattle.std.proofs.Common.{◌≡◌, true, false, true≢false, sym, ◌∙◌, arith}
+use Rattle.std.proofs.Common.{true≢false, sym, ◌∙◌, arith}
 use Rattle.rg_checks.proofs.Walking.{met_reached, reached_is_met}
 use Rattle.rg_checks.proofs.Returning.{least_stranded, none_stranded_more, reversible}
 use Rattle.rg_checks.proofs.stranded.first_stranded.Goals as goal
