@@ -288,6 +288,36 @@ fn no_split_is_due(rt: HostRuntime) -> Result<(), Fail> {
     branches(&rt, &refuted, &[], Answer::Tree(&[Ok(&[(0, 1), (1, 1)])]))
 }
 
+// x, 2*x - 1, 1 - x, 3 - 4*x + 4*y and y + MOST: the point (1/2, 0) is split
+const PASSES_BELOW: [Row; 5] = [
+    ([1, 0], 0),
+    ([2, 0], -1),
+    ([-1, 0], 1),
+    ([-4, 4], 3),
+    ([0, 1], MOST),
+];
+
+// On the low side row 1 refutes. On the high side x is 1 + r, with r the row of the split, and so row 3 is -1 + 4*y - 4*r: its exchange with
+// y has the constant of row 4 times 4.
+const PASSING_BELOW: PivotWide = PivotWide {
+    pivot: 5,
+    leaves: 1,
+    target: 6,
+    entry: 1,
+    wide: Wide {
+        a: MOST,
+        b: 4,
+        c: -1,
+        d: 1,
+    },
+};
+
+#[test]
+fn a_term_passes_below_a_split(rt: HostRuntime) -> Result<(), Fail> {
+    let wide = Answer::Wide(&[(0, 0, true)], &[1, 7], PASSING_BELOW);
+    branches(&rt, &PASSES_BELOW, &HALF_FORMS, wide)
+}
+
 // 2*x - 1, 1 - 2*x, x and 2^60 - 2^60*x: the point 1/2 is split. The last row is so long that no number of the revised dictionary may pass
 // 3. At the root none does; below it the row of the split brings 2^60.
 const LONG: i128 = 1152921504606846976;

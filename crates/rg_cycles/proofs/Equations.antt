@@ -1,7 +1,7 @@
 -- What a basis of vectors says of the values of the columns.
 use Rattle.std.proofs.lemmas.Bool.{false≢true}
 use Rattle.std.proofs.lemmas.List.Elements.{Contains-get_or}
-use Rattle.std.proofs.Common.{◌≡◌, ◌⊎◌, ⊎_elim, ◌↔◌, ℕ, ◌+◌, ◌-◌, ◌<◌, ◌≤◌, Bool, true, false, not, ◌&&◌, nat_lt, List, [], filter, length, Contains, inl, inr, ap, ap₂, refl, subst, sym, ◌∙◌, arith}
+use Rattle.std.proofs.Common.{◌≡◌, ◌⊎◌, ⊎_elim, ◌↔◌, ℕ, ◌+◌, ◌-◌, ◌<◌, ◌≤◌, Bool, true, false, not, ◌&&◌, nat_lt, List, [], filter, length, Contains, inl, inr, ap, ap₂, refl, subst, sym, ◌∙◌, arith, Result, Err}
 use Rattle.std.specs.Prelude.{ℤ, pos, ◌+ℤ◌, ◌*ℤ◌, ◌<ℤ◌, slice_index}
 use Rattle.std.specs.Ordering.{int_eq}
 use Rattle.std.proofs.Math.IntN.{zero-*ℤ}
@@ -16,8 +16,6 @@ use Rattle.rg_linear.specs.System.{LinearRow, entry}
 use Rattle.rg_linear.specs.Dictionary.{Relation, DictionaryRow, numbers_from}
 use Rattle.rg_linear.specs.Descent.{WideAt}
 use Rattle.rg_linear.specs.Cycle.{CycleOutcome.free_set, CycleOutcome.too_wide, CycleWalk, RowsAreZero, FollowsRelations, vector_at, IsZeroVector, KeepsVectors, vector_system, CycleBasis, IsCycleBasis}
-use Rattle.rg_dictionary.specs.Contents.{Contents, IsDictionary}
-use Rattle.rg_cycles.specs.Walk.{IsSolved}
 use Rattle.rg_linear.proofs.Members.{length-numbers_from, Contains-numbers_from, IsInOrder, order_from_increasing}
 use Rattle.rg_linear.proofs.Columns.{values_of, values_of-column, values_of-point, below_test, past_test}
 use Rattle.rg_linear.proofs.Unique.{same_relation}
@@ -236,14 +234,14 @@ module _ (labels : ℕ) (vectors : List (List ℤ)) (cycle : CycleBasis) (basis 
       differ : free_set cycle.members ≡ too_wide at → ⊥
       differ e = cc
 
--- ---- from the walk to the basis
-
-pub solved : (labels : ℕ) (vectors : List (List ℤ)) (kept : List ℕ) (d : Contents) → KeepsVectors vectors kept → IsDictionary (vector_system labels vectors kept) d → CycleWalk (vector_system labels vectors kept) (free_set d.members) → IsSolved vectors kept d
-solved labels vectors kept d keeps whole walk = record {
-  keeps = keeps;
-  dictionary = subst (λ n. IsDictionary (vector_system n vectors kept) d) (sym whole.columns) whole;
-  walk = subst (λ n. CycleWalk (vector_system n vectors kept) (free_set d.members)) (sym whole.columns) walk;
-}
+-- ---- how many are kept
 
 pub kept_few : (vectors : List (List ℤ)) (kept : List ℕ) → KeepsVectors vectors kept → length kept ≤ length vectors
 kept_few vectors kept k = let h = kept_count (vector_at vectors) (λ i. IsZeroVector (vector_at vectors i)) [] (numbers_from 0 (length vectors)) kept k in let e = length-numbers_from 0 (length vectors) in omega arith
+
+-- an error that is handed on is the same error
+pub error_is : {T U E : Type 0} (r : Result T E) (s : Result U E) (e f : E) → r ≡ Err e → s ≡ Err e → s ≡ Err f → r ≡ Err f
+error_is r s e f was same is = was ∙ ap Err inner
+  where
+    inner : e ≡ f
+    inner = cc

@@ -1,17 +1,15 @@
 -- The steps of a fold over labels.
 use Rattle.std.proofs.lemmas.List.Elements.{Contains-get_or}
-use Rattle.std.proofs.lemmas.List.{append-nil, drop_all, get_or-map}
-use Rattle.std.proofs.Common.{◌≡◌, ◌≢◌, ℕ, suc, ◌+◌, ◌-◌, ◌<◌, ◌≤◌, Bool, true, false, not, Contains, if◌then◌else◌, List, [], ◌∷◌, ◌++◌, length, drop, Result, Ok, Err, ap, refl, subst, sym, ◌∙◌, inl, inr, arith, add-one, append_assoc}
+use Rattle.std.proofs.lemmas.List.{drop_all, get_or-map}
+use Rattle.std.proofs.Common.{◌≡◌, ◌≢◌, ℕ, ◌+◌, ◌<◌, ◌≤◌, true, false, not, Contains, List, [], ◌∷◌, ◌++◌, length, drop, Result, Ok, Err, ap, refl, subst, sym, ◌∙◌, inl, inr, arith, add-one}
 use Rattle.std.specs.Prelude.{ℤ, pos, slice_index}
-use Rattle.std.proofs.lemmas.Int.{ints}
 use Rattle.std.proofs.lemmas.List.{length-map}
-use Rattle.std.proofs.Math.Nat.{one-dvd}
 use Rattle.std.proofs.Math.Seq.{drop-cons}
 use Rattle.rg_integers.specs.declared.term.Wide.{Wide}
 use Rattle.rg_fraction.specs.declared.fraction.Fraction.{Fraction}
 use Rattle.rg_fraction.specs.Fractions.{numerator_of, denominator_of, IsValue, IsProduct}
-use Rattle.rg_order_of_work.specs.Fold.{and_then, each, further, Ratio, whole, ratio_of, shown_result, IsRatio, quotient, add, mul}
-use Rattle.rg_order_of_work.specs.Rewriting.{is_in, numbers_where, free_labels, dependent_labels, dependent_term, coefficient_fold}
+use Rattle.rg_order_of_work.specs.Fold.{and_then, each, further, Ratio, whole, ratio_of, shown_result, quotient, add, mul}
+use Rattle.rg_order_of_work.specs.Rewriting.{is_in, free_labels, dependent_labels, dependent_term, coefficient_fold}
 use Rattle.rg_integers.specs.Sum.{number_at}
 use Rattle.rg_linear.specs.Cycle.{CycleBasis}
 use Rattle.rg_cycles.specs.declared.relation.Relation.{Relation}

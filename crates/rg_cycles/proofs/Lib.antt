@@ -2,7 +2,9 @@ pub mod Firsts
 pub mod Steps
 pub mod Numbers
 pub mod Labels
-pub mod Relations
+pub mod RelationTold
+pub mod Related
+pub mod Walking
 pub mod Showing
 pub mod Filling
 pub mod Equations

@@ -1,4 +1,4 @@
--- The relations that are read off a dictionary are those of its system.
+-- The relations that are read are those of the system.
 use Rattle.std.proofs.Common.{true≢false}
 use Rattle.std.proofs.lemmas.Bool.{false≢true}
 use Rattle.std.proofs.lemmas.List.Elements.{Contains-get_or}
@@ -26,12 +26,13 @@ use Rattle.rg_linear.proofs.Cycles.{no_constant}
 use Rattle.rg_linear.specs.Table.{number_beside}
 use Rattle.rg_linear.proofs.TableLemmas.{beside_map}
 use Rattle.rg_order_of_work.specs.Rewriting.{is_in, free_labels}
-use Rattle.rg_dictionary.specs.Contents.{Contents, row_of}
 use Rattle.rg_cycles.specs.declared.relation.Relation.{Relation}
 use Rattle.rg_cycles.specs.Basis.{vector_numbers, ShowsRelation, IsRelationInRange, number_with, row_number, relation_of, cycle_basis, AreRelations}
 use Rattle.rg_cycles.specs.Reading.{HasNumbers, IsRead, AreRead}
-use Rattle.rg_cycles.specs.Walk.{IsSolved}
+use Rattle.rg_cycles.specs.declared.relations.Relations.{Relations}
+use Rattle.rg_cycles.specs.Relating.{IsSolved, columns_of, members_of}
 use Rattle.rg_dictionary.proofs.RowTerms.{shown_number}
+use Rattle.rg_cycles.proofs.Related.{relations_free}
 use Rattle.rg_cycles.proofs.Labels.{in_set, not_in_set, filter_has, filter_from, free_members}
 
 -- ---- the kept indices
@@ -171,74 +172,74 @@ pairs_in_range g f [] each n = omega arith
 pairs_in_range g f (x ∷ xs) each zero = each x (Contains-here x xs)
 pairs_in_range g f (x ∷ xs) each (suc n) = pairs_in_range g f xs (λ m has. each m (Contains-there x m xs has)) n
 
-module _ (vectors : List (List ℤ)) (kept : List ℕ) (d : Contents) (solved : IsSolved vectors kept d) (free : List ℕ) (listed : free ≡ filter (λ m. nat_lt m d.columns) d.members) where
-  order : IsInOrder d.members
-  order = order_from_increasing d.members solved.dictionary.free.ordered
+module _ (vectors : List (List ℤ)) (kept : List ℕ) (d : Relations) (solved : IsSolved vectors kept d) (free : List ℕ) (listed : free ≡ filter (λ m. nat_lt m (columns_of d)) (members_of d)) where
+  order : IsInOrder (members_of d)
+  order = order_from_increasing (members_of d) (relations_free (vector_system (columns_of d) vectors kept) d solved.are).ordered
 
   kept_in_order : IsInOrder kept
   kept_in_order = kept_order (vector_at vectors) (λ i. IsZeroVector (vector_at vectors i)) [] 0 (length vectors) kept solved.keeps
 
-  told : (t : ℕ) (r : Relation) → t < d.columns → IsRead d kept t (Some r) → Told d.columns vectors kept d.members free t r
-  told t r lt (lacks, range, numbers) = record {
-    lacks = lacks;
+  told : (t : ℕ) (r : Relation) → t < (columns_of d) → IsRead d kept t (Some r) → Told (columns_of d) vectors kept (members_of d) free t r
+  told t r lt at_label = record {
+    lacks = at_label.lacks;
     k = shows.k;
     row = shows.row;
     has = has;
-    is = relation_is d.columns vectors kept d.members kept_in_order t shows.k shows.row free r listed has;
+    is = relation_is (columns_of d) vectors kept (members_of d) kept_in_order t shows.k shows.row free r listed has;
     range = record {
       positive = subst (λ z. pos 0 <ℤ z) (sym has.d) shows.row.positive;
-      d = subst InRange (ap (λ l. number_at l 0) shows.shown ∙ sym has.d) (range 0);
-      free = λ n. subst (λ l. InRange (number_at l n)) (sym has.free) (map_in_range shows.k.coefficient (filter (λ m. nat_lt m d.columns) d.members) (λ m h. each m (filter_from (λ u. nat_lt u d.columns) d.members m h).0) n);
+      d = subst InRange (ap (λ l. number_at l 0) shows.shown ∙ sym has.d) (at_label.in_range 0);
+      free = λ n. subst (λ l. InRange (number_at l n)) (sym has.free) (map_in_range shows.k.coefficient (filter (λ m. nat_lt m (columns_of d)) (members_of d)) (λ m h. each m (filter_from (λ u. nat_lt u (columns_of d)) (members_of d) m h).0) n);
       chords = λ n. subst (λ l. InRange (slice_index_or {A = ℕ × ℤ} l n (0, pos 0)).1) (sym has.chords)
-          (pairs_in_range (λ m. slice_index kept (m - d.columns)) shows.k.coefficient
-          (filter (λ m. not (nat_lt m d.columns) && not (int_eq (shows.k.coefficient m) (pos 0))) d.members)
-          (λ m h. each m (filter_from (λ u. not (nat_lt u d.columns) && not (int_eq (shows.k.coefficient u) (pos 0))) d.members m h).0) n);
+          (pairs_in_range (λ m. slice_index kept (m - (columns_of d))) shows.k.coefficient
+          (filter (λ m. not (nat_lt m (columns_of d)) && not (int_eq (shows.k.coefficient m) (pos 0))) (members_of d))
+          (λ m h. each m (filter_from (λ u. not (nat_lt u (columns_of d)) && not (int_eq (shows.k.coefficient u) (pos 0))) (members_of d) m h).0) n);
     };
   }
     where
-      shows : ShowsRow (vector_system d.columns vectors kept) d.members t (row_of d t)
-      shows = solved.dictionary.table.rows t (omega arith) lacks
+      shows : ShowsRow (vector_system (columns_of d) vectors kept) (members_of d) t at_label.numbers
+      shows = at_label.shows (vector_system (columns_of d) vectors kept) solved.are
 
-      has : HasNumbers d.columns kept d.members shows.k r
-      has = numbers shows.k shows.shown
+      has : HasNumbers (columns_of d) kept (members_of d) shows.k r
+      has = at_label.has shows.k shows.shown
 
-      each : (m : ℕ) → Contains d.members m → InRange (shows.k.coefficient m)
-      each m (p, below, at) = subst InRange (shown_number d.members shows.k (row_of d t) p shows.shown below ∙ ap shows.k.coefficient (get_or_default d.members p 0 m below ∙ at)) (range (p + 2))
+      each : (m : ℕ) → Contains (members_of d) m → InRange (shows.k.coefficient m)
+      each m (p, below, at) = subst InRange (shown_number (members_of d) shows.k at_label.numbers p shows.shown below ∙ ap shows.k.coefficient (get_or_default (members_of d) p 0 m below ∙ at)) (at_label.in_range (p + 2))
 
-  module _ (relations : List (Option Relation)) (read : (t : ℕ) → t < d.columns → IsRead d kept t (slice_index_or relations t None)) (size : length relations ≡ d.columns) where
-    inside : (t : ℕ) (r : Relation) → slice_index_or relations t None ≡ Some r → t < d.columns
-    inside t r e = ⊎_elim (λ lt. lt) (λ past. absurd (nothing (sym (get_or_past relations t None (omega arith)) ∙ e))) (cases_lt t d.columns)
+  module _ (relations : List (Option Relation)) (read : (t : ℕ) → t < (columns_of d) → IsRead d kept t (slice_index_or relations t None)) (size : length relations ≡ (columns_of d)) where
+    inside : (t : ℕ) (r : Relation) → slice_index_or relations t None ≡ Some r → t < (columns_of d)
+    inside t r e = ⊎_elim (λ lt. lt) (λ past. absurd (nothing (sym (get_or_past relations t None (omega arith)) ∙ e))) (cases_lt t (columns_of d))
       where
         nothing : None ≡ Some r → ⊥
         nothing p = cc
 
-    at : (t : ℕ) (r : Relation) → slice_index_or relations t None ≡ Some r → Told d.columns vectors kept d.members free t r
+    at : (t : ℕ) (r : Relation) → slice_index_or relations t None ≡ Some r → Told (columns_of d) vectors kept (members_of d) free t r
     at t r e = told t r (inside t r e) (subst (IsRead d kept t) e (read t (inside t r e)))
 
-    free_is : free ≡ free_labels d.columns (read_cycle d.columns kept d.members free relations)
-    free_is = listed ∙ free_members d.members d.columns order
+    free_is : free ≡ free_labels (columns_of d) (read_cycle (columns_of d) kept (members_of d) free relations)
+    free_is = listed ∙ free_members (members_of d) (columns_of d) order
 
-    relation_at : (t : ℕ) (r : Relation) (e : slice_index_or relations t None ≡ Some r) → relation_of d.columns kept free (slice_index_or relations t None) ≡ (at t r e).k
-    relation_at t r e = ap (relation_of d.columns kept free) e ∙ (at t r e).is
+    relation_at : (t : ℕ) (r : Relation) (e : slice_index_or relations t None ≡ Some r) → relation_of (columns_of d) kept free (slice_index_or relations t None) ≡ (at t r e).k
+    relation_at t r e = ap (relation_of (columns_of d) kept free) e ∙ (at t r e).is
 
-    shown : (t : ℕ) (r : Relation) → slice_index_or relations t None ≡ Some r → ShowsRelation d.columns (read_cycle d.columns kept d.members free relations) t r
+    shown : (t : ℕ) (r : Relation) → slice_index_or relations t None ≡ Some r → ShowsRelation (columns_of d) (read_cycle (columns_of d) kept (members_of d) free relations) t r
     shown t r e = record {
       d = (at t r e).has.d ∙ ap (λ k. k.d) (sym (relation_at t r e));
-      free = (at t r e).has.free ∙ ap (map (at t r e).k.coefficient) (sym listed ∙ free_is) ∙ ap (λ (k : LinearRelation). map k.coefficient (free_labels d.columns (read_cycle d.columns kept d.members free relations))) (sym (relation_at t r e));
-      chords = (at t r e).has.chords ∙ ap (vector_numbers d.columns kept d.members) (sym (relation_at t r e));
+      free = (at t r e).has.free ∙ ap (map (at t r e).k.coefficient) (sym listed ∙ free_is) ∙ ap (λ (k : LinearRelation). map k.coefficient (free_labels (columns_of d) (read_cycle (columns_of d) kept (members_of d) free relations))) (sym (relation_at t r e));
+      chords = (at t r e).has.chords ∙ ap (vector_numbers (columns_of d) kept (members_of d)) (sym (relation_at t r e));
     }
 
-    dependent : (t : ℕ) → t < d.columns → is_some (slice_index_or relations t None) ≡ not (is_in d.members t)
+    dependent : (t : ℕ) → t < (columns_of d) → is_some (slice_index_or relations t None) ≡ not (is_in (members_of d) t)
     dependent t lt = go (slice_index_or relations t None) (read t lt)
       where
-        go : (o : Option Relation) → IsRead d kept t o → is_some o ≡ not (is_in d.members t)
-        go None has = rw (in_set d.members t has) refl
-        go (Some r) has = rw (not_in_set d.members t has.0) refl
+        go : (o : Option Relation) → IsRead d kept t o → is_some o ≡ not (is_in (members_of d) t)
+        go None has = rw (in_set (members_of d) t has) refl
+        go (Some r) has = rw (not_in_set (members_of d) t has.lacks) refl
 
-    read_relations : AreRelations d.columns (read_cycle d.columns kept d.members free relations) relations
+    read_relations : AreRelations (columns_of d) (read_cycle (columns_of d) kept (members_of d) free relations) relations
     read_relations = record { dependent = dependent; shown = shown; in_range = λ t r e. (at t r e).range }
 
-    is_basis : IsCycleBasis d.columns vectors (read_cycle d.columns kept d.members free relations)
+    is_basis : IsCycleBasis (columns_of d) vectors (read_cycle (columns_of d) kept (members_of d) free relations)
     is_basis = record {
       kept = solved.keeps;
       cycle = solved.walk;
@@ -246,23 +247,23 @@ module _ (vectors : List (List ℤ)) (kept : List ℕ) (d : Contents) (solved : 
       others = λ t out. other t out (slice_index_or relations t None) refl;
     }
       where
-        relation : (t : ℕ) → t < d.columns → ¬ Contains d.members t → (o : Option Relation) → slice_index_or relations t None ≡ o → DictionaryRow (vector_system d.columns vectors kept) d.members t (relation_of d.columns kept free (slice_index_or relations t None))
+        relation : (t : ℕ) → t < (columns_of d) → ¬ Contains (members_of d) t → (o : Option Relation) → slice_index_or relations t None ≡ o → DictionaryRow (vector_system (columns_of d) vectors kept) (members_of d) t (relation_of (columns_of d) kept free (slice_index_or relations t None))
         relation t lt lacks None e = absurd (lacks (subst (IsRead d kept t) e (read t lt)))
-        relation t lt lacks (Some r) e = subst (DictionaryRow (vector_system d.columns vectors kept) d.members t) (sym (relation_at t r e)) (at t r e).row
+        relation t lt lacks (Some r) e = subst (DictionaryRow (vector_system (columns_of d) vectors kept) (members_of d) t) (sym (relation_at t r e)) (at t r e).row
 
-        other : (t : ℕ) → (d.columns ≤ t) ⊎ Contains d.members t → (o : Option Relation) → slice_index_or relations t None ≡ o → relation_of d.columns kept free (slice_index_or relations t None) ≡ no_relation
-        other t out None e = ap (relation_of d.columns kept free) e
+        other : (t : ℕ) → ((columns_of d) ≤ t) ⊎ Contains (members_of d) t → (o : Option Relation) → slice_index_or relations t None ≡ o → relation_of (columns_of d) kept free (slice_index_or relations t None) ≡ no_relation
+        other t out None e = ap (relation_of (columns_of d) kept free) e
         other t out (Some r) e = absurd (⊎_elim (λ past. (let lt = inside t r e in omega arith)) (at t r e).lacks out)
 
     -- over the number of relations in place of the number of columns
-    pub read_free : free ≡ free_labels (length relations) (cycle_basis kept d.members free relations)
-    read_free = subst (λ n. free ≡ free_labels n (read_cycle n kept d.members free relations)) (sym size) free_is
+    pub read_free : free ≡ free_labels (length relations) (cycle_basis kept (members_of d) free relations)
+    read_free = subst (λ n. free ≡ free_labels n (read_cycle n kept (members_of d) free relations)) (sym size) free_is
 
-    pub read_are_relations : AreRelations (length relations) (cycle_basis kept d.members free relations) relations
-    read_are_relations = subst (λ n. AreRelations n (read_cycle n kept d.members free relations) relations) (sym size) read_relations
+    pub read_are_relations : AreRelations (length relations) (cycle_basis kept (members_of d) free relations) relations
+    read_are_relations = subst (λ n. AreRelations n (read_cycle n kept (members_of d) free relations) relations) (sym size) read_relations
 
-    pub read_is_basis : IsCycleBasis d.columns vectors (cycle_basis kept d.members free relations)
-    read_is_basis = subst (λ n. IsCycleBasis d.columns vectors (read_cycle n kept d.members free relations)) (sym size) is_basis
+    pub read_is_basis : IsCycleBasis (columns_of d) vectors (cycle_basis kept (members_of d) free relations)
+    read_is_basis = subst (λ n. IsCycleBasis (columns_of d) vectors (read_cycle n kept (members_of d) free relations)) (sym size) is_basis
 
 -- what is kept of a dictionary with which the walk has ended
 pub record ReadWhole (labels : ℕ) (vectors : List (List ℤ)) (kept members free : List ℕ) (relations : List (Option Relation)) : Type 0 where
@@ -270,13 +271,13 @@ pub record ReadWhole (labels : ℕ) (vectors : List (List ℤ)) (kept members fr
   pub are : AreRelations (length relations) (cycle_basis kept members free relations) relations
   pub basis : IsCycleBasis labels vectors (cycle_basis kept members free relations)
 
-pub read_whole : (vectors : List (List ℤ)) (kept : List ℕ) (d : Contents) (members free : List ℕ) (relations : List (Option Relation)) → IsSolved vectors kept d
-    → members ≡ d.members → free ≡ filter (λ m. nat_lt m d.columns) members → AreRead d kept relations → ReadWhole d.columns vectors kept members free relations
-read_whole vectors kept d members free relations solved same listed read = subst (λ ms. ReadWhole d.columns vectors kept ms free relations) (sym same) (record {
+pub read_whole : (vectors : List (List ℤ)) (kept : List ℕ) (d : Relations) (members free : List ℕ) (relations : List (Option Relation)) → IsSolved vectors kept d
+    → members ≡ (members_of d) → free ≡ filter (λ m. nat_lt m (columns_of d)) members → AreRead d kept relations → ReadWhole (columns_of d) vectors kept members free relations
+read_whole vectors kept d members free relations solved same listed read = subst (λ ms. ReadWhole (columns_of d) vectors kept ms free relations) (sym same) (record {
   listed = read_free vectors kept d solved free listed' relations read.each read.one_each;
   are = read_are_relations vectors kept d solved free listed' relations read.each read.one_each;
   basis = read_is_basis vectors kept d solved free listed' relations read.each read.one_each;
 })
   where
-    listed' : free ≡ filter (λ m. nat_lt m d.columns) d.members
-    listed' = listed ∙ ap (filter (λ m. nat_lt m d.columns)) same
+    listed' : free ≡ filter (λ m. nat_lt m (columns_of d)) (members_of d)
+    listed' = listed ∙ ap (filter (λ m. nat_lt m (columns_of d))) same

@@ -4,4 +4,5 @@ pub mod Solutions
 pub mod Refusal
 pub mod View
 pub mod Walk
+pub mod Relating
 pub mod Reading

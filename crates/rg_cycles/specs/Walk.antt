@@ -2,7 +2,6 @@
 use Rattle.std.specs.Prelude.{◌≢◌, ℕ, ◌+◌, ◌<◌, List, length, Contains, slice_index, pos, ℤ}
 use Rattle.rg_integers.specs.Sum.{number_at}
 use Rattle.rg_linear.specs.System.{LinearSystem}
-use Rattle.rg_linear.specs.Cycle.{CycleOutcome.free_set, CycleWalk, KeepsVectors, vector_system}
 use Rattle.rg_dictionary.specs.Contents.{Contents, IsDictionary}
 
 -- the member at this index is a label that the relation with these numbers names
@@ -18,9 +17,3 @@ IsWhole d = (system : LinearSystem) × IsDictionary system d
 -- the row variables from row i on are no members
 abbrev pub RowsAhead : Contents → ℕ → Type 0
 RowsAhead d i = (m : ℕ) → Contains d.members m → m < d.columns + i
-
--- it is the dictionary with which the walk over these vectors ends
-pub record IsSolved (vectors : List (List ℤ)) (kept : List ℕ) (d : Contents) : Type 0 where
-  pub keeps : KeepsVectors vectors kept
-  pub dictionary : IsDictionary (vector_system d.columns vectors kept) d
-  pub walk : CycleWalk (vector_system d.columns vectors kept) (free_set d.members)

@@ -2,12 +2,12 @@
 ghost use Rattle.std.specs.Prelude.{◌≡◌, ◌<◌, ◌^◌, nat_lt, filter, List, ℤ, length, Contains, MatchOption, IfSome, IfOk};
 ghost use Rattle.rg_linear.specs.Cycle.{IsCycleBasis};
 ghost use Rattle.rg_order_of_work.specs.Rewriting.{free_labels};
-ghost use Rattle.rg_cycles.specs.Walk.{IsSolved};
+ghost use Rattle.rg_cycles.specs.Relating.{IsSolved, columns_of};
 ghost use Rattle.rg_cycles.specs.Basis.{ShowsRelation, IsRelationInRange, cycle_basis, AreRelations};
 
 use crate::reading::relations;
 use crate::relation::Relation;
-use rg_dictionary::Dictionary;
+use crate::relations::Relations;
 use std::alloc::{AllocError, Global};
 
 /// A basis of the solutions of cycle equations: the labels whose effects can be chosen freely, and for
@@ -26,19 +26,19 @@ pub struct Basis {
 impl Basis {
     ghost use Rattle.rg_cycles.specs.View.{labels_of, cycle_of};
 
-    // The basis that a dictionary shows with which the walk has ended.
+    // The basis that the relations show with which the walk has ended.
     pub(crate) fn read(
         alloc: Global,
-        dictionary: &Dictionary,
+        found: Relations<'_>,
         kept: Vec<u32>,
     ) -> Result<Basis, AllocError>
-        requires { (vectors : List (List ℤ)) × IsSolved vectors kept.items dictionary.now }
-        ensures labels { IfOk result (λ b. labels_of b ≡ dictionary.now.columns) }
-        ensures basis { IfOk result (λ b. (vectors : List (List ℤ)) → IsSolved vectors kept.items dictionary.now → IsCycleBasis dictionary.now.columns vectors (cycle_of b)) }
+        requires solved { (vectors : List (List ℤ)) × IsSolved vectors kept.items found }
+        ensures labels { IfOk result (λ b. labels_of b ≡ columns_of found.entry) }
+        ensures basis { IfOk result (λ b. (vectors : List (List ℤ)) → IsSolved vectors kept.items found.entry → IsCycleBasis (columns_of found.entry) vectors (cycle_of b)) }
     {
-        let labels = dictionary.columns();
-        let relations = relations(alloc, dictionary, &kept)?;
-        let members = dictionary.members().to_vec(alloc)?;
+        let labels = found.columns();
+        let relations = relations(alloc, found, &kept)?;
+        let members = found.members().to_vec(alloc)?;
         let free = labels_among(alloc, labels, &members)?;
         Ok(Basis {
             kept,

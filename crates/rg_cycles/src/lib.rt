@@ -6,9 +6,11 @@
 #![tactic(auto)]
 
 mod basis;
+mod columns;
 mod distinct;
 mod reading;
 mod relation;
+mod relations;
 mod solving;
 mod stop;
 mod substitution;

@@ -1,30 +1,32 @@
-//! Reading the relations off a dictionary.
+//! Reading the relations of the labels.
 ghost use Rattle.std.specs.Prelude.{◌≡◌, ℕ, ◌+◌, ◌<◌, nat_lt, length, map, filter, Contains, IfOk};
 ghost use Rattle.rg_integers.specs.Range.{InRange};
 ghost use Rattle.rg_integers.specs.Sum.{number_at};
 ghost use Rattle.rg_linear.specs.Dictionary.{Relation as LinearRelation};
+ghost use Rattle.rg_linear.specs.System.{LinearSystem};
 ghost use Rattle.rg_linear.specs.Table.{numbers_of};
 ghost use Rattle.rg_cycles.specs.Basis.{vector_numbers};
-ghost use Rattle.rg_cycles.specs.Walk.{IsWhole};
-ghost use Rattle.rg_cycles.specs.Reading.{AreRead, IsRead};
+ghost use Rattle.rg_cycles.specs.Relating.{AreRelationsOf, columns_of, members_of};
+ghost use Rattle.rg_cycles.specs.Reading.{HasNumbers, AreRead, IsRead};
 
 use crate::relation::Relation;
-use rg_dictionary::Dictionary;
+use crate::relations::Relations;
 use std::alloc::{AllocError, Global};
 
 // The relations of the labels; None for those in the set.
 pub(crate) fn relations(
     alloc: Global,
-    dictionary: &Dictionary,
+    found: Relations<'_>,
     kept: &[u32],
 ) -> Result<Vec<Option<Relation>>, AllocError>
-    requires whole { IsWhole dictionary.now }
-    requires kept { length kept.now ≡ dictionary.now.rows }
-    ensures { IfOk result (λ v. AreRead dictionary.now kept.now v.items) }
+    requires are { (system : LinearSystem) × AreRelationsOf system found }
+    requires kept { (m : ℕ) → Contains (members_of found) m → m < columns_of found + length kept.now }
+    requires count { length (members_of found) ≡ columns_of found }
+    ensures { IfOk result (λ v. AreRead found.entry kept.now v.items) }
 {
     let mut relations = Vec::new(alloc);
-    for t in 0..dictionary.columns() {
-        let relation = relation_at(alloc, dictionary, kept, t)?;
+    for t in 0..found.columns() {
+        let relation = relation_at(alloc, found, kept, t)?;
         relations.push(relation)?;
     }
     Ok(relations)
@@ -33,28 +35,46 @@ pub(crate) fn relations(
 // The relation of label t; None where it is in the set.
 fn relation_at(
     alloc: Global,
-    dictionary: &Dictionary,
+    found: Relations<'_>,
     kept: &[u32],
     t: u32,
 ) -> Result<Option<Relation>, AllocError>
-    requires whole { IsWhole dictionary.now }
-    requires kept { length kept.now ≡ dictionary.now.rows }
-    requires label { t < dictionary.now.columns }
-    ensures { IfOk result (IsRead dictionary.now kept.now t) }
+    requires are { (system : LinearSystem) × AreRelationsOf system found }
+    requires kept { (m : ℕ) → Contains (members_of found) m → m < columns_of found + length kept.now }
+    requires count { length (members_of found) ≡ columns_of found }
+    requires label { t < columns_of found }
+    ensures { IfOk result (IsRead found.entry kept.now t) }
 {
-    if dictionary.contains(t) {
+    if found.contains(t) {
         return Ok(None);
     }
-    let labels = dictionary.columns();
-    let members = dictionary.members();
-    let numbers = dictionary.numbers(t);
+    let labels = found.columns();
+    let members = found.members();
+    let numbers = found.numbers(alloc, t)?;
+    let relation = relation_with(alloc, labels, kept, members, &numbers)?;
+    Ok(Some(relation))
+}
+
+// The relation with these numbers.
+fn relation_with(
+    alloc: Global,
+    labels: u32,
+    kept: &[u32],
+    members: &[u32],
+    numbers: &[i128],
+) -> Result<Relation, AllocError>
+    requires lengths { length numbers.now ≡ length members.now + 2 }
+    requires in_range { (n : ℕ) → InRange (number_at numbers.now n) }
+    requires rows { (m : ℕ) → Contains members.now m → m < labels + length kept.now }
+    ensures { IfOk result (λ r. (k : LinearRelation) → numbers.now ≡ numbers_of members.now k → HasNumbers labels kept.now members.now k r) }
+{
     let free = free_numbers(alloc, labels, members, numbers)?;
     let chords = chord_numbers(alloc, labels, kept, members, numbers)?;
-    Ok(Some(Relation {
+    Ok(Relation {
         d: numbers[0],
         free,
         chords,
-    }))
+    })
 }
 
 // The numbers of the labels among the members.

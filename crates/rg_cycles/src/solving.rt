@@ -1,7 +1,7 @@
 //! The walk over the chords.
 ghost use Rattle.std.specs.Prelude.{◌≡◌, ◌↔◌, ℕ, ℤ, ◌+◌, ◌<◌, ◌≤◌, ◌^◌, length, Contains, IfOk, IsErrOf};
 ghost use Rattle.rg_theory.specs.Limits.{most_labels, most_arcs};
-ghost use Rattle.rg_linear.specs.Cycle.{IsCycleBasis, vector_system};
+ghost use Rattle.rg_linear.specs.Cycle.{IsCycleBasis, KeepsVectors, vector_system};
 ghost use Rattle.rg_linear.specs.Dictionary.{numbers_from};
 ghost use Rattle.rg_dictionary.specs.Contents.{IsDictionary};
 ghost use Rattle.rg_linear.specs.Descent.{WideAt};
@@ -13,10 +13,13 @@ ghost use Rattle.rg_cycles.specs.View.{labels_of, cycle_of};
 ghost use Rattle.rg_cycles.specs.Refusal.{PassesAt, shown_term};
 
 use crate::basis::Basis;
+use crate::columns::walk_columns;
 use crate::distinct::first_places;
+use crate::relations::Relations;
 use crate::stop::Stop;
 use crate::walk::walk;
 use rg_dictionary::Dictionary;
+use rg_revised::RevisedWalk;
 use std::alloc::{AllocError, Global};
 
 /// Solves the equations that each chord has the value 0, over the effects of so many labels. A chord has
@@ -38,9 +41,49 @@ pub fn reduce(alloc: Global, labels: u32, chords: &[Vec<i128>]) -> Result<Basis,
     ensures wide { (w : CycleWide) → IsErrOf result (stop.Wide w) → PassesAt labels (numbers_in chords.now) (shown_term w) }
 {
     let kept = first_places(alloc, chords)?;
-    let mut dictionary = filled(alloc, labels, chords, &kept)?;
+    let basis = basis_of(alloc, labels, chords, kept)?;
+    Ok(basis)
+}
+
+// The basis of the vectors, of which these are kept.
+fn basis_of(
+    alloc: Global,
+    labels: u32,
+    vectors: &[Vec<i128>],
+    kept: Vec<u32>,
+) -> Result<Basis, Stop>
+    requires few { labels + length kept.items < 2 ^ 32 }
+    requires keeps { KeepsVectors (numbers_in vectors.now) kept.items }
+    requires vectors { AreVectors labels (numbers_in vectors.now) }
+    ensures labels { IfOk result (λ b. labels_of b ≡ labels) }
+    ensures basis { IfOk result (λ b. IsCycleBasis labels (numbers_in vectors.now) (cycle_of b)) }
+    ensures wide { (w : CycleWide) → IsErrOf result (stop.Wide w) → PassesAt labels (numbers_in vectors.now) (shown_term w) }
+{
+    let mut columns = RevisedWalk::new(alloc, labels)?;
+    if walk_columns(&mut columns, labels, vectors, &kept) {
+        let basis = Basis::read(alloc, Relations::OfColumns(&columns), kept)?;
+        return Ok(basis);
+    }
+    full_basis(alloc, labels, vectors, kept)
+}
+
+// The same with a dictionary that has a row for each variable.
+fn full_basis(
+    alloc: Global,
+    labels: u32,
+    vectors: &[Vec<i128>],
+    kept: Vec<u32>,
+) -> Result<Basis, Stop>
+    requires few { labels + length kept.items < 2 ^ 32 }
+    requires keeps { KeepsVectors (numbers_in vectors.now) kept.items }
+    requires vectors { AreVectors labels (numbers_in vectors.now) }
+    ensures labels { IfOk result (λ b. labels_of b ≡ labels) }
+    ensures basis { IfOk result (λ b. IsCycleBasis labels (numbers_in vectors.now) (cycle_of b)) }
+    ensures wide { (w : CycleWide) → IsErrOf result (stop.Wide w) → PassesAt labels (numbers_in vectors.now) (shown_term w) }
+{
+    let mut dictionary = filled(alloc, labels, vectors, &kept)?;
     walk(alloc, &mut dictionary)?;
-    let basis = Basis::read(alloc, &dictionary, kept)?;
+    let basis = Basis::read(alloc, Relations::OfAll(&dictionary), kept)?;
     Ok(basis)
 }
 

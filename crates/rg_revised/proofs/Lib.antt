@@ -21,3 +21,6 @@ pub mod Multipliers
 pub mod Factors
 pub mod Ended
 pub mod Products
+pub mod Walking
+pub mod Primitives
+pub mod WalkStates

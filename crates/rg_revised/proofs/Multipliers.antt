@@ -86,7 +86,7 @@ module _ (slots : List ℕ) (d : ℤ) (numbers : List ℤ) (k : Relation) (disti
             let e = turned (unsigned_abs factor) (unsigned_abs reduced.factor) q (div-mul_cancel (unsigned_abs reduced.factor) h) in
             same_size factor reduced.factor q common.positive reduced.positive (one_left q e) e
 
-    quotient_is : (raw part z : ℤ) → raw ≡ reduced.factor *ℤ part → factor *ℤ z ≡ raw → z ≡ part
+    pub quotient_is : (raw part z : ℤ) → raw ≡ reduced.factor *ℤ part → factor *ℤ z ≡ raw → z ≡ part
     quotient_is raw part z is e = mul-cancel_left reduced.factor z part (positive_differs reduced.factor reduced.positive) (ap (λ f. f *ℤ z) (sym factor_is) ∙ e ∙ is)
 
     pub own_multiplier : (z : ℤ) → factor *ℤ z ≡ d → z ≡ k.d

@@ -7,3 +7,4 @@ pub mod Ending
 pub mod Starting
 pub mod View
 pub mod Settling
+pub mod Walk

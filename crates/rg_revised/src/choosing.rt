@@ -41,7 +41,7 @@ fn is_fixed(columns: u32, stack: &[u32], variable: u32) -> bool
 }
 
 // Whether the variable of the slot is less than the best one, if there is one.
-fn is_less(slots: &[u32], best: Option<usize>, s: usize) -> bool
+pub(crate) fn is_less(slots: &[u32], best: Option<usize>, s: usize) -> bool
     requires s { s < length slots.now }
     requires best { IfSome best (λ p. p < length slots.now) }
     ensures less { IfSome best (λ p. IsTrue result ↔ (slice_index slots.now s < slice_index slots.now p)) }

@@ -9,6 +9,7 @@ mod descent;
 mod factor;
 mod naming;
 mod pivot;
+mod primitive;
 mod reading;
 mod revised;
 mod row;
@@ -16,6 +17,7 @@ mod starting;
 mod step;
 mod table;
 mod value;
+mod walk;
 
 ghost use Rattle.std.specs.Prelude.{◌≡◌, ◌≢◌, ◌↔◌, ℕ, ◌+◌, ◌<◌, List, length, Contains, ℤ, pos, ◌<ℤ◌, ◌≤ℤ◌};
 ghost use Rattle.rg_integers.specs.Sign.{size};
@@ -28,6 +30,7 @@ ghost use Rattle.rg_revised.specs.Basis.{IsRelationOf, itself, IsBasis, row_over
 
 pub use descent::Descent;
 pub use revised::Revised;
+pub use walk::{RevisedWalk, Taken};
 
 /// A relation of a variable outside the set is a multiple of its primitive one, by a positive number.
 pub fn multiples_are_reduced()

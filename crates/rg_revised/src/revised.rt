@@ -46,7 +46,7 @@ impl Model for Revised {
 }
 
 // The greatest size that the numbers of the table may have where no row's norm passes `norm`.
-fn most_for(norm: u64) -> Option<i64>
+pub(crate) fn most_for(norm: u64) -> Option<i64>
     ensures some { IfSome result (λ most. (1 ≤ unsigned_abs most) × ((norm + 1) * unsigned_abs most < 2 ^ 63)) }
     ensures not_negative { IfSome result (λ most. pos 0 ≤ℤ most) }
 {
@@ -196,7 +196,7 @@ impl Revised {
 }
 
 // The slot of the variable.
-fn slot_of(slots: &[u32], variable: u32) -> Option<usize>
+pub(crate) fn slot_of(slots: &[u32], variable: u32) -> Option<usize>
     ensures found { IfSome result (λ s. (s < length slots.now) × (slice_index slots.now s ≡ variable)) }
     ensures none { IfNone result (Contains slots.now variable → ⊥) }
 {

@@ -13,3 +13,4 @@ mod Sharing
 mod Dividing
 mod Forming
 mod Counted
+mod Hashing

@@ -3,3 +3,4 @@ pub mod Sharing
 pub mod Shown
 pub mod Forms
 pub mod Making
+pub mod Hashing

@@ -4,6 +4,7 @@ ghost use Rattle.std.specs.Arc.{arc_slice_items};
 ghost use Rattle.rg_integers.specs.Range.{InRange};
 ghost use Rattle.rg_linear.specs.Norm.{row_norm, kept_norm};
 
+use crate::row_numbers::RowNumbers;
 use rg_fraction::Fraction;
 use rg_reasons::RowName;
 use std::sync::ArcSlice;
@@ -17,9 +18,18 @@ pub(crate) struct CaseRow {
     pub(crate) constant: i128,
     pub(crate) norm: u64,
     pub(crate) factor: Fraction,
-    pub(crate) numbers: Vec<i128>,
+    pub(crate) numbers: RowNumbers,
     pub ghost coeffs_in_range: { All InRange (arc_slice_items coeffs) },
     pub ghost constant_in_range: { InRange constant },
     pub ghost norm_is: { norm ≡ kept_norm (row_norm (arc_slice_items coeffs) constant) },
-    pub ghost numbers_are: { numbers.items ≡ arc_slice_items coeffs ++ constant ∷ [] },
+    pub ghost numbers_are: { numbers ≡ arc_slice_items coeffs ++ constant ∷ [] },
+}
+
+impl CaseRow {
+    // The numbers, by which rows are told apart.
+    pub(crate) fn key(&self) -> &RowNumbers
+        ensures { result.now ≡ self.now.numbers }
+    {
+        &self.numbers
+    }
 }

@@ -39,7 +39,7 @@ pub(crate) fn firsts(alloc: Global, all: &[HeldRow<'_>]) -> Result<(CaseRows, Ve
             places.push(0)?;
             continue;
         }
-        let (place, is_new) = seen.insert_full(row.numbers.as_slice())?;
+        let (place, is_new) = seen.insert_full(row.key())?;
         if is_new {
             kept.push(row)?;
         }

@@ -18,6 +18,7 @@ mod named_system;
 mod names;
 mod problem_names;
 mod rewriting;
+mod row_numbers;
 
 pub use case::cases;
 pub use common::Common;

@@ -19,6 +19,7 @@ ghost use Rattle.rg_rows.specs.View.{kept_row};
 
 use crate::case_row::CaseRow;
 use crate::counts::counts;
+use crate::row_numbers::RowNumbers;
 use rg_case_parts::{Columns, Scaled, start, without_denominators};
 use rg_cycles::{Basis, substitute};
 use rg_fraction::{FoldStop, Fraction, reduce, row_gcd};
@@ -97,7 +98,7 @@ fn divided(
         constant,
         norm,
         factor: Fraction::new(multiple, divisor.max(1)),
-        numbers,
+        numbers: RowNumbers::new(numbers),
     })
 }
 

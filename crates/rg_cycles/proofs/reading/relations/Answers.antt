@@ -10,6 +10,6 @@ loop-t-preserved c =
     record {
       one_each = search rules;
       each = below_more _ _
-          (λ t lt. rw items (subst (λ o. IsRead c.args.dictionary.now c.args.kept.now t o) (sym (get_or_append_left c.loop-t.relations.items _ None t (omega arith))) (c.loop-t.invariant.each t lt)))
-          (rw items (subst (λ o. IsRead c.args.dictionary.now c.args.kept.now c.loop-t.t o) (sym (get_or_push c.loop-t.relations.items _ None c.loop-t.t size)) c.in_ok-relation.ensures));
+          (λ t lt. rw items (subst (λ o. IsRead c.args.found c.args.kept.now t o) (sym (get_or_append_left c.loop-t.relations.items _ None t (omega arith))) (c.loop-t.invariant.each t lt)))
+          (rw items (subst (λ o. IsRead c.args.found c.args.kept.now c.loop-t.t o) (sym (get_or_push c.loop-t.relations.items _ None c.loop-t.t size)) c.in_ok-relation.ensures));
     }

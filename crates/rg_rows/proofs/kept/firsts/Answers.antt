@@ -45,8 +45,8 @@ overflow_cast-place c =
     let at = held_is c.args.all.now c.loop-held.held-index c.held-item.result row c.loop-held-test.true c.held-item.is c.row-row.ensures in
     let (k, stored, equal) = c.in_ok-place.ensures.stored in
     let lt = place_fits all c.loop-held.held-index kept c.loop-held.seen.keys c.loop-held.places.items places (kept_row row)
-    (row_got rows c.loop-held.held-index row below at) c.insert_full.new.self.keys c.as_slice.result k c.in_ok-place.place
-    (c.as_slice.ensures.value ∙ row.numbers_are) c.in_ok-place.is_new c.in_ok-place.ensures.added c.in_ok-place.ensures.keys stored equal in
+    (row_got rows c.loop-held.held-index row below at) c.insert_full.new.self.keys c.key.result k c.in_ok-place.place
+    (c.key.ensures ∙ row.numbers_are) c.in_ok-place.is_new c.in_ok-place.ensures.added c.in_ok-place.ensures.keys stored equal in
     let below = c.loop-held-test.true in
     let few = c.requires.few in
     omega arith
@@ -61,29 +61,29 @@ loop-held-preserved c =
     let at = held_is c.args.all.now c.loop-held.held-index c.held-item.result row c.loop-held-test.true c.held-item.is c.row-row.ensures in
     let next = row_next rows c.loop-held.held-index row below at in
     let got = row_got rows c.loop-held.held-index row below at in
-    let is = c.as_slice.ensures.value ∙ row.numbers_are in
+    let is = c.key.ensures ∙ row.numbers_are in
     let (k, stored, equal) = c.in_ok-place.ensures.stored in
     let pushed = sym c.in_ok-push-3.ensures.items in
     elim c.if-is_new.branch [
       | then-is_new+in_ok-push-2 w ↦ rw w.kept-is (
         kept ++ kept_row row ∷ [],
         w.in_ok-push-2.ensures kept shows,
-        asked-new all c.loop-held.held-index kept _ _ c.as_slice.result so_far (kept_row row) next is c.in_ok-place.is_new c.in_ok-place.ensures.added (λ idle. false≢true (sym c.if-is_idle.false ∙ c.is_idle.ensures.1 idle)) w.if-is_new.true c.in_ok-place.ensures.updates.0,
+        asked-new all c.loop-held.held-index kept _ _ c.key.result so_far (kept_row row) next is c.in_ok-place.is_new c.in_ok-place.ensures.added (λ idle. false≢true (sym c.if-is_idle.false ∙ c.is_idle.ensures.1 idle)) w.if-is_new.true c.in_ok-place.ensures.updates.0,
         subst (PlacesSoFar all (c.loop-held.held-index + 1) (kept ++ kept_row row ∷ []) c.insert_full.new.self.keys) pushed
             (places-new all c.loop-held.held-index kept c.loop-held.seen.keys c.loop-held.places.items places
-            (kept_row row) got c.insert_full.new.self.keys c.as_slice.result k c.in_ok-place.place is c.in_ok-place.is_new c.in_ok-place.ensures.added
+            (kept_row row) got c.insert_full.new.self.keys c.key.result k c.in_ok-place.place is c.in_ok-place.is_new c.in_ok-place.ensures.added
             c.in_ok-place.ensures.keys stored equal w.if-is_new.true),
       )
       | else-is_new w ↦ rw w.kept-is (
         kept,
         shows,
-        asked-old all c.loop-held.held-index kept _ _ c.as_slice.result so_far (kept_row row) next is c.in_ok-place.is_new c.in_ok-place.ensures.added w.if-is_new.false
+        asked-old all c.loop-held.held-index kept _ _ c.key.result so_far (kept_row row) next is c.in_ok-place.is_new c.in_ok-place.ensures.added w.if-is_new.false
             (keys_stay all c.loop-held.held-index kept c.loop-held.seen.keys c.loop-held.places.items places
-            (kept_row row) got c.insert_full.new.self.keys c.as_slice.result k c.in_ok-place.place is c.in_ok-place.is_new c.in_ok-place.ensures.added
+            (kept_row row) got c.insert_full.new.self.keys c.key.result k c.in_ok-place.place is c.in_ok-place.is_new c.in_ok-place.ensures.added
             c.in_ok-place.ensures.keys stored equal w.if-is_new.false),
         subst (PlacesSoFar all (c.loop-held.held-index + 1) kept c.insert_full.new.self.keys) pushed
             (places-old all c.loop-held.held-index kept c.loop-held.seen.keys c.loop-held.places.items places
-            (kept_row row) got c.insert_full.new.self.keys c.as_slice.result k c.in_ok-place.place is c.in_ok-place.is_new c.in_ok-place.ensures.added
+            (kept_row row) got c.insert_full.new.self.keys c.key.result k c.in_ok-place.place is c.in_ok-place.is_new c.in_ok-place.ensures.added
             c.in_ok-place.ensures.keys stored equal w.if-is_new.false),
       )
     ]

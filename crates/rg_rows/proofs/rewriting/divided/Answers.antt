@@ -30,7 +30,7 @@ invariant_of-result c =
       constant_in_range = subst InRange (sym (back constant_is constant)) constant;
       norm_is = c.norm-norm.ensures
           ∙ ap (λ xs. kept_norm (row_norm xs (cast_signed w128 (cast_unsigned w128 constant_is)))) c.deref-3.ensures.value;
-      numbers_are = sym (ap (λ z. coeffs_are ++ z ∷ []) (back constant_is constant) ∙ c.in_ok-coeffs.ensures ∙ c.deref-2.ensures.value);
+      numbers_are = c.new-2.ensures ∙ sym (ap (λ z. coeffs_are ++ z ∷ []) (back constant_is constant) ∙ c.in_ok-coeffs.ensures ∙ c.deref-2.ensures.value);
     }
 
 pub returns-clause-value : goal.returns-clause-value

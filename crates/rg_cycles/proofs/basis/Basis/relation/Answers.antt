@@ -1,5 +1,5 @@
 use Rattle.rg_cycles.specs.View.{labels_of, cycle_of}
-use Rattle.rg_cycles.proofs.Relations.{relation_told}
+use Rattle.rg_cycles.proofs.RelationTold.{relation_told}
 use Rattle.rg_cycles.proofs.basis.Basis.relation.Goals as goal
 
 pub returns-clause-exact : goal.returns-clause-exact

@@ -1,0 +1,23 @@
+use Rattle.std.proofs.Common.{ap, sym, ◌∙◌, arith}
+use Rattle.std.specs.Prelude.{pos, slice_index}
+use Rattle.std.proofs.lemmas.List.Elements.{Contains-get_or}
+use Rattle.rg_linear.specs.Norm.{row_norm, kept_norm}
+use Rattle.rg_cycles.specs.Vectors.{numbers_in}
+use Rattle.rg_cycles.proofs.Firsts.{vector_is}
+use Rattle.rg_cycles.proofs.Walking.{norms_more, norms_are}
+use Rattle.rg_cycles.proofs.columns.greatest_norm.Goals as goal
+
+pub bounds-vectors-index : goal.bounds-vectors-index
+bounds-vectors-index c = c.requires.kept (slice_index c.args.kept.now c.loop-index.index-index) (Contains-get_or c.args.kept.now c.loop-index.index-index 0 c.loop-index-test.true)
+
+pub loop-index-preserved : goal.loop-index-preserved
+loop-index-preserved c =
+    let at = slice_index c.args.kept.now c.loop-index.index-index in
+    let lt = c.requires.kept at (Contains-get_or c.args.kept.now c.loop-index.index-index 0 c.loop-index-test.true) in
+    let is = vector_is c.args.vectors.now at c.index-vectors-index.result lt c.index-vectors-index.is ∙ sym c.deref.ensures.value in
+    norms_more (numbers_in c.args.vectors.now) c.args.kept.now c.loop-index.index-index c.norm.result c.loop-index.greatest c.max-greatest.result
+    (c.norm.ensures ∙ ap (λ xs. kept_norm (row_norm xs (pos 0))) (sym is)) c.max-greatest.ensures c.loop-index.invariant
+
+pub returns : goal.returns
+returns c = λ labels small. norms_are labels (numbers_in c.args.vectors.now) c.args.kept.now c.loop-index.greatest
+    (λ k lt. c.loop-index.invariant small k (let end = c.loop-index-test.false in omega arith))

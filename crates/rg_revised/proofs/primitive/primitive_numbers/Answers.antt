@@ -1,0 +1,74 @@
+use Rattle.std.proofs.Common.{rules, suc, length, List, [], ◌∷◌, map, ap, ap₂, ◌∙◌, arith}
+use Rattle.std.specs.Prelude.{ℤ, FitsSigned}
+use Rattle.std.specs.Int.{w64}
+use Rattle.std.proofs.lemmas.Int.{to_z-of_z}
+use Rattle.std.proofs.lemmas.List.{take_all}
+use Rattle.std.proofs.lemmas.List.Elements.{Contains-get_or}
+use Rattle.rg_integers.specs.Sum.{number_at}
+use Rattle.rg_integers.proofs.Casts.{back}
+use Rattle.rg_revised.proofs.Primitives.{d_shown, constant_shown, member_shown, first_shown, range_two, shown_more, range_more, length_more}
+use Rattle.rg_revised.proofs.primitive.primitive_numbers.Goals as goal
+
+pub divided-requires-clause-divides : goal.divided-requires-clause-divides
+divided-requires-clause-divides c =
+    let fits : FitsSigned w64 c.args.d = search rules in
+    let common = rw (to_z-of_z w64 c.args.d fits) at c.common_factor-factor.ensures.factor in
+    rw (back c.common_factor-factor.result c.common_factor-factor.ensures.in_range, to_z-of_z w64 c.args.d fits) (common.greatest.divides 0 (omega arith))
+
+pub divided-requires-2-clause-divides : goal.divided-requires-2-clause-divides
+divided-requires-2-clause-divides c =
+    let fits : FitsSigned w64 c.args.d = search rules in
+    let fr : FitsSigned w64 (number_at c.args.row.now (length c.args.slots.now)) = search rules in
+    let common = rw (to_z-of_z w64 c.args.d fits) at c.common_factor-factor.ensures.factor in
+    let width = c.requires.row in
+    rw (back c.common_factor-factor.result c.common_factor-factor.ensures.in_range, to_z-of_z w64 (number_at c.args.row.now (length c.args.slots.now)) fr)
+    (common.greatest.divides (suc (length c.args.slots.now)) (omega arith))
+
+pub loop-member-init : goal.loop-member-init
+loop-member-init c =
+    let fits : FitsSigned w64 c.args.d = search rules in
+    let d = to_z-of_z w64 c.args.d fits in
+    let fr : FitsSigned w64 (number_at c.args.row.now (length c.args.slots.now)) = search rules in
+    let common = rw d at c.common_factor-factor.ensures.factor in
+    let factor = back c.common_factor-factor.result c.common_factor-factor.ensures.in_range in
+    let a = back c.divided.result c.divided.ensures.in_range in
+    let b = back c.divided-2.result c.divided-2.ensures.in_range in
+    let first = rw (factor, d) at c.divided.ensures.value in
+    let second = rw (factor, to_z-of_z w64 (number_at c.args.row.now (length c.args.slots.now)) fr) at c.divided-2.ensures.value in
+    let one = rw a at c.in_ok-push.ensures.items in
+    let two = rw b at c.in_ok-push-2.ensures.items in
+    let items = first_shown c.new-numbers.result.items c.push.new.self.items c.push-2.new.self.items c.divided.result c.divided-2.result c.new-numbers.ensures.items one two in
+    record {
+      size = ap (λ (xs : List ℤ). length xs) items;
+      in_range = range_two c.push-2.new.self.items c.divided.result c.divided-2.result items c.divided.ensures.in_range c.divided-2.ensures.in_range;
+      shown = rw d (λ k distinct reduced. items ∙ ap₂ (λ (x : ℤ) (y : ℤ). x ∷ y ∷ [])
+          (d_shown c.args.slots.now c.args.d c.args.row.now c.requires.row c.common_factor-factor.result common k distinct reduced c.divided.result first)
+          (constant_shown c.args.slots.now c.args.d c.args.row.now c.requires.row c.common_factor-factor.result common k distinct reduced c.divided-2.result second));
+    }
+
+pub primitive_number-number-requires-clause-slot : goal.primitive_number-number-requires-clause-slot
+primitive_number-number-requires-clause-slot c = c.requires.members _ (Contains-get_or c.args.members.now c.loop-member.member-index 0 c.loop-member-test.true)
+
+pub loop-member-preserved : goal.loop-member-preserved
+loop-member-preserved c =
+    let fits : FitsSigned w64 c.args.d = search rules in
+    let d = to_z-of_z w64 c.args.d fits in
+    let common = rw d at c.common_factor-factor.ensures.factor in
+    let factor = back c.common_factor-factor.result c.common_factor-factor.ensures.in_range in
+    let z = back c.primitive_number-number.result c.primitive_number-number.ensures.in_range in
+    let value = rw factor at c.primitive_number-number.ensures.value in
+    let items = rw z at c.in_ok-push-3.ensures.items in
+    let shown = rw d at c.loop-member.invariant.shown in
+    record {
+      size = length_more c.loop-member.numbers.items c.push-in-loop-member.new.self.items _ c.loop-member.member-index items c.loop-member.invariant.size;
+      in_range = rw items (range_more c.loop-member.numbers.items c.primitive_number-number.result c.loop-member.invariant.in_range c.primitive_number-number.ensures.in_range);
+      shown = rw d (λ k distinct reduced. items ∙ shown_more k.coefficient k.d k.constant c.args.members.now c.loop-member.member-index c.loop-member.numbers.items c.primitive_number-number.result
+          c.loop-member-test.true (shown k distinct reduced)
+          (member_shown c.args.slots.now c.args.d c.args.row.now c.requires.row c.common_factor-factor.result common k distinct reduced _ c.primitive_number-number.result value));
+    }
+
+pub returns-clause-numbers : goal.returns-clause-numbers
+returns-clause-numbers c = λ k distinct reduced.
+    let fits : FitsSigned w64 c.args.d = search rules in
+    let shown = rw (to_z-of_z w64 c.args.d fits) at c.loop-member.invariant.shown in
+    shown k distinct reduced ∙ ap (λ ms. k.d ∷ k.constant ∷ map k.coefficient ms) (take_all c.loop-member.member-index c.args.members.now c.loop-member-test.false)

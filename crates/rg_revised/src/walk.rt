@@ -1,0 +1,244 @@
+//! The walk over rows without constants, on which each row is taken once.
+
+ghost use Rattle.std.specs.Prelude.{◌≡◌, ◌↔◌, ℕ, ◌+◌, ◌*◌, ◌^◌, ◌<◌, ◌≤◌, List, length, Contains, slice_index, IsTrue, IfOk, IfSome, IfNone, ℤ, pos, ◌≤ℤ◌, unsigned_abs};
+ghost use Rattle.std.specs.List.Sorted.{IsStrictlyIncreasing};
+ghost use Rattle.rg_integers.specs.Range.{InRange};
+ghost use Rattle.rg_integers.specs.Sum.{number_at};
+ghost use Rattle.rg_linear.specs.System.{LinearSystem, row_at as row_of};
+ghost use Rattle.rg_linear.specs.Dictionary.{numbers_from};
+ghost use Rattle.rg_linear.specs.Exchange.{exchanged};
+ghost use Rattle.rg_linear.specs.Table.{ShowsRow};
+ghost use Rattle.rg_revised.specs.Basis.{HasNorms};
+ghost use Rattle.rg_revised.specs.State.{IsSmallHeld, HasRoom};
+ghost use Rattle.rg_revised.specs.Walk.{IsWalkOf, NamesColumn, TakenTells, WalkTells};
+
+use crate::basis::Basis;
+use crate::choosing::is_less;
+use crate::primitive::primitive_numbers;
+use crate::revised::{most_for, slot_of};
+use crate::starting::number_slots;
+use std::alloc::{AllocError, Global};
+use std::marker::Model;
+
+/// What comes of a row on the walk.
+#[derive(Clone, Copy, PartialEq, Eq, Debug)]
+pub enum Taken {
+    /// Its relation names no column.
+    Skipped,
+    /// It is a member now, in place of the least column that its relation named.
+    Exchanged,
+    /// A number is too large for 64 bits, and nothing is said of the walk any more.
+    Large,
+}
+
+/// The relations of the columns of a system whose rows have no constant, over a free set, on a walk on which rows are taken
+/// in order, each once. One whose relation names a column is exchanged with the least such column.
+///
+/// The contracts speak of the systems whose relations it has, by `IsWalkOf system w`.
+#[derive(Drop)]
+pub struct RevisedWalk {
+    basis: Basis,
+    members: Vec<u32>,
+    most: i64,
+}
+
+impl Model for RevisedWalk {
+    ghost use Rattle.std.specs.Prelude.{length, unsigned_abs};
+    ghost use Rattle.rg_revised.specs.Walk.{WalkState, IsWalkStored};
+
+    ghost Value = { WalkState };
+
+    ghost view = { λ a. record { columns = length a.basis.slots.items; members = a.members.items; slots = a.basis.slots.items; d = a.basis.d; table = a.basis.table.items; most = unsigned_abs a.most } };
+
+    ghost invariant = { λ a. IsWalkStored (record { columns = length a.basis.slots.items; members = a.members.items; slots = a.basis.slots.items; d = a.basis.d; table = a.basis.table.items; most = unsigned_abs a.most }) a.basis.numbers.items a.most };
+}
+
+// Whether a member is a column. Members are in order.
+fn has_column(members: &[u32], columns: u32) -> bool
+    requires ordered { IsStrictlyIncreasing members.now }
+    ensures { IsTrue result ↔ ((m : ℕ) × Contains members.now m × (m < columns)) }
+{
+    !members.is_empty() && members[0] < columns
+}
+
+// Whether the variable of the slot is a column, and the numbers name it.
+fn names_column(columns: u32, slots: &[u32], numbers: &[i64], s: usize) -> bool
+    requires slot { s < length slots.now }
+    requires numbers { length slots.now < length numbers.now }
+    ensures { IsTrue result ↔ NamesColumn columns slots.now numbers.now s }
+{
+    numbers[s] != 0 && slots[s] < columns
+}
+
+// The slot of the least column that the numbers name.
+fn least_column(columns: u32, slots: &[u32], numbers: &[i64]) -> Option<usize>
+    requires numbers { length slots.now < length numbers.now }
+    ensures is { IfSome result (NamesColumn columns slots.now numbers.now) }
+    ensures least { IfSome result (λ p. (q : ℕ) → NamesColumn columns slots.now numbers.now q → slice_index slots.now p ≤ slice_index slots.now q) }
+    ensures none { IfNone result ((q : ℕ) → ¬ NamesColumn columns slots.now numbers.now q) }
+{
+    let mut best = None;
+    for s in 0..slots.len() {
+        if is_less(slots, best, s) && names_column(columns, slots, numbers, s) {
+            best = Some(s);
+        }
+    }
+    best
+}
+
+// Puts a variable that is greater than every member in the place of one.
+fn replace(members: &mut Vec<u32>, leaves: u32, enters: u32)
+    requires ordered { IsStrictlyIncreasing members.old.items }
+    requires member { Contains members.old.items leaves }
+    requires last { (m : ℕ) → Contains members.old.items m → m < enters }
+    ensures exchanged { members.new.items ≡ exchanged members.old.items enters leaves }
+    ensures length { length members.new.items ≡ length members.old.items }
+{
+    let Some(place) = slot_of(members, leaves) else {
+        unreachable!()
+    };
+    members.remove(place);
+    match members.push(enters) {
+        Ok(()) => {}
+        Err(_) => unreachable!(),
+    }
+}
+
+// Takes row `i`, which has these coefficients.
+fn take_vector(
+    basis: &mut Basis,
+    members: &mut Vec<u32>,
+    coeffs: &[i128],
+    columns: u32,
+    i: u32,
+    most: i64,
+) -> Taken
+    requires whole { (system : LinearSystem) × IsSmallHeld system members.old.items basis.old.slots.items basis.old.d basis.old.table.items (unsigned_abs most) × HasRoom system (unsigned_abs most) × (i < length system.rows) × ((row_of system i).coeffs ≡ coeffs.now) × ((row_of system i).constant ≡ pos 0) }
+    requires ahead { (m : ℕ) → Contains members.old.items m → m < columns + i }
+    requires columns { length basis.old.slots.items ≡ columns }
+    requires width { length basis.old.numbers.items ≡ length basis.old.slots.items + 1 }
+    requires each { length coeffs.now ≡ columns }
+    requires few { columns + i < 2 ^ 32 }
+    requires not_negative { pos 0 ≤ℤ most }
+    ensures told { (system : LinearSystem) → IsSmallHeld system members.old.items basis.old.slots.items basis.old.d basis.old.table.items (unsigned_abs most) → HasRoom system (unsigned_abs most) → i < length system.rows → (row_of system i).coeffs ≡ coeffs.now → (row_of system i).constant ≡ pos 0
+        → TakenTells system members.old.items i (unsigned_abs most) members.new.items basis.new.slots.items basis.new.d basis.new.table.items result }
+    ensures members { length members.new.items ≡ length members.old.items }
+    ensures columns { length basis.new.slots.items ≡ length basis.old.slots.items }
+    ensures width { length basis.new.numbers.items ≡ length basis.old.numbers.items }
+    ensures size { length basis.new.table.items ≡ length basis.old.table.items }
+{
+    if !has_column(members, columns) {
+        return Taken::Skipped;
+    }
+    basis.read(coeffs, 0);
+    let Some(p) = least_column(columns, &basis.slots, &basis.numbers) else {
+        return Taken::Skipped;
+    };
+    let leaves = basis.slots[p];
+    if !basis.exchange(p, columns + i, most) {
+        return Taken::Large;
+    }
+    replace(members, leaves, columns + i);
+    Taken::Exchanged
+}
+
+impl RevisedWalk {
+    /// One for systems of so many columns. It takes all memory that a walk needs. `AllocError` where there is none.
+    pub fn new(alloc: Global, columns: u32) -> Result<RevisedWalk, AllocError>
+        ensures { IfOk result (λ w. w.columns ≡ columns) }
+    {
+        let width = columns as usize + 1;
+        let Some(size) = width.checked_mul(columns as usize) else {
+            return Err(AllocError);
+        };
+        let slots = vec![in alloc; 0u32; columns as usize]?;
+        let members = vec![in alloc; 0u32; columns as usize]?;
+        let table = vec![in alloc; 0i64; size]?;
+        let numbers = vec![in alloc; 0i64; width]?;
+        let basis = Basis {
+            d: 1,
+            slots,
+            table,
+            numbers,
+            constants: Vec::new(alloc),
+            named: Vec::new(alloc),
+        };
+        Ok(RevisedWalk {
+            basis,
+            members,
+            most: 0,
+        })
+    }
+
+    /// Makes the columns the set, for systems of which no row's norm passes `norm`. False where it is too large for numbers of
+    /// 64 bits. It may be called again.
+    pub fn start(&mut self, norm: u64) -> bool
+        ensures small { IsTrue result → norm < 2 ^ 63 }
+        ensures held { IsTrue result → (system : LinearSystem) → system.columns ≡ self.new.columns → HasNorms system norm → IsWalkOf system self.new }
+        ensures members { IsTrue result → self.new.members ≡ numbers_from 0 self.new.columns }
+        ensures columns { self.new.columns ≡ self.old.columns }
+    {
+        let Some(most) = most_for(norm) else {
+            return false;
+        };
+        self.basis.restart();
+        number_slots(&mut self.members);
+        self.most = most;
+        true
+    }
+
+    /// Takes row `i`, which has these coefficients and no constant.
+    pub fn take(&mut self, coeffs: &[i128], i: u32) -> Taken
+        requires whole { (system : LinearSystem) × IsWalkOf system self.old × (i < length system.rows) × ((row_of system i).coeffs ≡ coeffs.now) × ((row_of system i).constant ≡ pos 0) }
+        requires ahead { (m : ℕ) → Contains self.old.members m → m < self.old.columns + i }
+        requires each { length coeffs.now ≡ self.old.columns }
+        requires few { self.old.columns + i < 2 ^ 32 }
+        ensures told { (system : LinearSystem) → IsWalkOf system self.old → i < length system.rows → (row_of system i).coeffs ≡ coeffs.now → (row_of system i).constant ≡ pos 0 → WalkTells system self.old i self.new result }
+        ensures columns { self.new.columns ≡ self.old.columns }
+    {
+        let columns = self.basis.slots.len() as u32;
+        take_vector(
+            &mut self.basis,
+            &mut self.members,
+            coeffs,
+            columns,
+            i,
+            self.most,
+        )
+    }
+
+    /// How many columns the systems have.
+    pub fn columns(&self) -> u32
+        ensures { result ≡ self.now.columns }
+    {
+        self.basis.slots.len() as u32
+    }
+
+    /// The members of the set, in order.
+    pub fn members(&self) -> &[u32]
+        ensures { result.now ≡ self.now.members }
+    {
+        &self.members
+    }
+
+    /// The relation of column `t`, which is outside the set: its `d`, which is positive, the constant, and the coefficients of
+    /// the members in order. No number divides them all.
+    pub fn numbers(&self, alloc: Global, t: u32) -> Result<Vec<i128>, AllocError>
+        requires held { (system : LinearSystem) × IsWalkOf system self.now }
+        requires column { t < self.now.columns }
+        requires outside { ¬ Contains self.now.members t }
+        ensures shows { IfOk result (λ v. (system : LinearSystem) → IsWalkOf system self.now → ShowsRow system self.now.members t v.items) }
+        ensures length { IfOk result (λ v. length v.items ≡ self.now.columns + 2) }
+        ensures in_range { IfOk result (λ v. (n : ℕ) → InRange (number_at v.items n)) }
+    {
+        let width = self.basis.slots.len() + 1;
+        let start = t as usize * width;
+        primitive_numbers(
+            alloc,
+            &self.members,
+            &self.basis.slots,
+            self.basis.d,
+            &self.basis.table[start..start + width],
+        )
+    }
+}
