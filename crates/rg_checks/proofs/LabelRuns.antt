@@ -1,10 +1,11 @@
 -- The arcs of one label at one state.
-use Rattle.std.proofs.Common.{◌≡◌, ◌⊎◌, ◌↔◌, ℕ, ◌+◌, ◌<◌, ◌≤◌, List, length, get_or, slice_index_or, Contains, AllPairs, inl, inr, sym, subst, ◌∙◌, arith}
+use Rattle.std.proofs.Common.{◌≡◌, ◌⊎◌, ◌↔◌, ℕ, ◌+◌, ◌<◌, ◌≤◌, true, false, IsTrue, ltb, nat_eq, nat_lt, eqb-true, List, length, get_or, slice_index_or, Contains, AllPairs, inl, inr, sym, ap, subst, ◌∙◌, arith}
 use Rattle.std.specs.List.Sorted.{IsNonDecreasingBy}
-use Rattle.std.proofs.lemmas.Bool.{cases_lt}
+use Rattle.std.proofs.lemmas.Bool.{cases_lt, ltb-true, ltb-false, eq-eqb}
+use Rattle.std.proofs.lemmas.List.{get_or_default}
 use Rattle.std.proofs.lemmas.List.Elements.{Contains-get_or}
 use Rattle.rg_theory.specs.declared.Arc.{Arc}
-use Rattle.rg_theory.specs.System.{System, IsArcBefore}
+use Rattle.rg_theory.specs.System.{System, arc, IsArcBefore}
 use Rattle.rg_checks.proofs.Runs.{IsRun, part, part_at, part_short, run_members}
 
 -- the arcs leave the state
@@ -68,3 +69,43 @@ module _ (s t : ℕ) (arcs : List Arc) (start end : ℕ) (leaves : AreLeaving s 
 
       back : Contains lts.arcs a × (a.from ≡ s) × (a.label ≡ t) → Contains (part arcs start end) a
       back (of_lts, from, label) = m.1 ((leaving a).1 (of_lts, from), label)
+
+-- where the lesser labels end, the label stands exactly where it is there
+pub stands_there : (arcs : List Arc) (t index : ℕ) → IsNonDecreasingBy (λ (a : Arc). a.label) arcs
+    → ((k : ℕ) (d : Arc) → k < index → ltb (slice_index_or arcs k d).label t ≡ true)
+    → ((k : ℕ) (d : Arc) → index ≤ k → k < length arcs → ltb (slice_index_or arcs k d).label t ≡ false) → index < length arcs
+    → IsTrue (nat_eq (slice_index_or arcs index (arc 0 0 0)).label t) ↔ ((a : Arc) × Contains arcs a × (a.label ≡ t))
+stands_there arcs t index rises less reached lt = (forth, back)
+  where
+    one : Arc
+    one = get_or arcs index (arc 0 0 0)
+
+    forth : IsTrue (nat_eq one.label t) → (a : Arc) × Contains arcs a × (a.label ≡ t)
+    forth is = (one, Contains-get_or arcs index (arc 0 0 0) lt, eqb-true one.label t is)
+
+    back : (a : Arc) × Contains arcs a × (a.label ≡ t) → IsTrue (nat_eq one.label t)
+    back (a, (k, in_k, at), label) = eq-eqb one.label t (omega (arith, low, high, is))
+      where
+        is : (get_or arcs k (arc 0 0 0)).label ≡ t
+        is = ap (λ (x : Arc). x.label) (get_or_default arcs k (arc 0 0 0) a in_k ∙ at) ∙ label
+
+        late : (k < index) ⊎ (index ≤ k) → index ≤ k
+        late (inl early) = let m = ltb-true (get_or arcs k (arc 0 0 0)).label t (less k (arc 0 0 0) early) in absurd (omega (arith, m, is))
+        late (inr le) = le
+
+        low : t ≤ one.label
+        low = ltb-false one.label t (reached index (arc 0 0 0) (omega arith) lt)
+
+        high : one.label ≤ (get_or arcs k (arc 0 0 0)).label
+        high = rises index k (arc 0 0 0) (late (cases_lt k index)) in_k
+
+-- where all labels are lesser, it isn't there
+pub stands_nowhere : (arcs : List Arc) (t index : ℕ) → ((k : ℕ) (d : Arc) → k < index → ltb (slice_index_or arcs k d).label t ≡ true) → length arcs ≤ index
+    → IsTrue (nat_lt index (length arcs)) ↔ ((a : Arc) × Contains arcs a × (a.label ≡ t))
+stands_nowhere arcs t index less past = (λ is. let m = ltb-true index (length arcs) is in absurd (omega (arith, m, past)), back)
+  where
+    back : (a : Arc) × Contains arcs a × (a.label ≡ t) → IsTrue (nat_lt index (length arcs))
+    back (a, (k, in_k, at), label) =
+        let is : (get_or arcs k a).label ≡ t = ap (λ (x : Arc). x.label) at ∙ label in
+        let m = ltb-true (get_or arcs k a).label t (less k a (omega (arith, in_k, past))) in
+        absurd (omega (arith, m, is))

@@ -1,106 +1,205 @@
 -- The first label that is lost.
-use Rattle.std.proofs.Common.{◌≡◌, ◌≢◌, ◌⊎◌, inl, inr, ℕ, ◌+◌, ◌<◌, ◌≤◌, Bool, true, false, true≢false, List, length, Option, Some, None, IfSome, IfNone, is_some, not, get_or, slice_index_or, Contains, sym, ap, subst, ◌∙◌, arith}
+use Rattle.std.proofs.Common.{◌≡◌, ◌≢◌, ◌⊎◌, ◌↔◌, inl, inr, ℕ, ◌+◌, ◌<◌, ◌≤◌, List, length, Option, Some, None, IfSome, IfNone, get_or, slice_index_or, Contains, sym, refl, ap, subst, ◌∙◌, arith}
 use Rattle.std.proofs.lemmas.Bool.{cases_lt, cases_eq}
 use Rattle.std.proofs.lemmas.List.{get_or_default}
+use Rattle.std.specs.List.Sorted.{IsNonDecreasingBy}
 use Rattle.rg_theory.specs.declared.Arc.{Arc}
 use Rattle.rg_theory.specs.System.{System, arc, states, labels, HasArc, IsInRange}
 use Rattle.rg_theory.proofs.Arcs.{arc_in_range, find_arc}
 use Rattle.rg_checks.specs.Persistent.{HasStep, IsLost, IsPersistent, IsLostBefore, IsLeastLost}
 use Rattle.rg_checks.specs.Lost.{AreLabelled, IsLeastLostTo, IsLeastLostBy, IsLeastLostAt}
 
--- ---- the state that is entered
+-- an arc of the label at the state
+pub step_of : (lts : System) (s t : ℕ) (a : Arc) → Contains lts.arcs a → a.from ≡ s → a.label ≡ t → HasStep lts s t
+step_of lts s t a has from label = (a.to, subst (Contains lts.arcs) (λ i. record { from = from i; label = label i; to = a.to }) has)
 
--- u has an arc at the targets so far
-abbrev pub AreKept : System → ℕ → List Arc → ℕ → Type 0
-AreKept lts u steps n = (k : ℕ) (d : Arc) → k < n → HasStep lts (slice_index_or steps k d).to u
+-- ---- the label that is lost at one state that is entered
 
--- the first target at which u has no arc is the least at which it is lost
-pub lost_here : (lts : System) (s t u i : ℕ) (d : Arc) (steps : List Arc) → AreLabelled lts s t steps → AreKept lts u steps i → i < length steps
-    → t ≢ u → HasStep lts s u → (HasStep lts (slice_index_or steps i d).to u → ⊥) → IsLeastLostTo lts s t u (slice_index_or steps i d).to
-lost_here lts s t u i d steps are kept lt other before after = record {
-  lost = record { other = other; step = step; before = before; after = after };
-  least = least;
-}
+-- the labels of the arcs so far are t, or have an arc at the state that is entered
+abbrev pub AreKept : System → ℕ → ℕ → List Arc → ℕ → Type 0
+AreKept lts t to here n = (k : ℕ) (d : Arc) → k < n → ((slice_index_or here k d).label ≡ t) ⊎ HasStep lts to (slice_index_or here k d).label
+
+pub kept_more : (lts : System) (t to i : ℕ) (d : Arc) (here : List Arc) → i < length here → AreKept lts t to here i
+    → ((slice_index_or here i d).label ≡ t) ⊎ HasStep lts to (slice_index_or here i d).label → AreKept lts t to here (i + 1)
+kept_more lts t to i d here lt kept next k e less = go (cases_eq k i)
   where
-    here : Arc
-    here = get_or steps i d
-
-    own : Contains lts.arcs here × (here.from ≡ s) × (here.label ≡ t)
-    own = are.members here (i, lt, get_or_default steps i here d lt)
-
-    step : HasArc lts s t here.to
-    step = subst (Contains lts.arcs) (λ i. record { from = own.1 i; label = own.2 i; to = here.to }) own.0
-
-    least : (q' : ℕ) → q' < here.to → IsLost lts s t u q' → ⊥
-    least q' less lost = by (are.every q' lost.step)
-      where
-        by : Contains steps (arc s t q') → ⊥
-        by (k, in_k, at) = go (cases_lt k i)
-          where
-            to_is : (get_or steps k (arc s t q')).to ≡ q'
-            to_is = ap (λ (x : Arc). x.to) at
-
-            go : (k < i) ⊎ (i ≤ k) → ⊥
-            go (inl early) = lost.after (subst (λ n. HasStep lts n u) to_is (kept k (arc s t q') early))
-            go (inr late) = after_all (cases_eq i k)
-              where
-                same_here : (get_or steps i (arc s t q')).to ≡ here.to
-                same_here = ap (λ (x : Arc). x.to) (get_or_default steps i (arc s t q') d lt)
-
-                after_all : (i ≡ k) ⊎ (i ≡ k → ⊥) → ⊥
-                after_all (inl e) =
-                    let one = ap (λ n. (get_or steps n (arc s t q')).to) e in
-                    omega (arith, one, same_here, to_is, less)
-                after_all (inr ne) =
-                    let rises : (get_or steps i (arc s t q')).to < (get_or steps k (arc s t q')).to = are.order i k (arc s t q') (omega (arith, late, ne)) in_k in
-                    omega (arith, rises, same_here, to_is, less)
-
--- where u has an arc at each target, it isn't lost
-pub not_lost : (lts : System) (s t u n : ℕ) (steps : List Arc) → AreLabelled lts s t steps → AreKept lts u steps n → length steps ≤ n
-    → (to : ℕ) → IsLost lts s t u to → ⊥
-not_lost lts s t u n steps are kept all to lost = by (are.every to lost.step)
-  where
-    by : Contains steps (arc s t to) → ⊥
-    by (k, in_k, at) = lost.after (subst (λ (x : Arc). HasStep lts x.to u) at (kept k (arc s t to) (omega (arith, in_k, all))))
-
--- where no arc leads on, nothing is lost
-pub no_steps : (lts : System) (s t u to : ℕ) (steps : List Arc) → AreLabelled lts s t steps → length steps ≡ 0 → IsLost lts s t u to → ⊥
-no_steps lts s t u to steps are none lost = let (k, lt, at) = are.every to lost.step in omega (arith, none, lt)
-
-pub kept_more : (lts : System) (u i : ℕ) (d : Arc) (steps : List Arc) → i < length steps → AreKept lts u steps i → HasStep lts (slice_index_or steps i d).to u
-    → AreKept lts u steps (i + 1)
-kept_more lts u i d steps lt kept here k e less = go (cases_eq k i)
-  where
-    go : (k ≡ i) ⊎ (k ≡ i → ⊥) → HasStep lts (slice_index_or steps k e).to u
+    go : (k ≡ i) ⊎ (k ≡ i → ⊥) → ((slice_index_or here k e).label ≡ t) ⊎ HasStep lts to (slice_index_or here k e).label
     go (inl same) =
-        subst (λ n. HasStep lts (slice_index_or steps n e).to u) (sym same)
-        (subst (λ (x : Arc). HasStep lts x.to u) (get_or_default steps i d e lt) here)
+        subst (λ n. ((slice_index_or here n e).label ≡ t) ⊎ HasStep lts to (slice_index_or here n e).label) (sym same)
+        (subst (λ (x : Arc). (x.label ≡ t) ⊎ HasStep lts to x.label) (get_or_default here i d e lt) next)
     go (inr ne) = kept k e (omega (arith, less, ne))
 
--- ---- the label that is lost, the one that leads on, the state
+module _ (lts : System) (s t to : ℕ) (here : List Arc) (leaving : (a : Arc) → Contains here a ↔ (Contains lts.arcs a × (a.from ≡ s))) where
+  -- a label that is lost has an arc that isn't kept
+  pub not_kept : (n w : ℕ) → AreKept lts t to here n → IsLost lts s t w to → (k : ℕ) × (k < length here) × (n ≤ k) × ((d : Arc) → (slice_index_or here k d).label ≡ w)
+  not_kept n w kept lost = by ((leaving (arc s w lost.before.0)).1 (lost.before.1, refl))
+    where
+      by : Contains here (arc s w lost.before.0) → (k : ℕ) × (k < length here) × (n ≤ k) × ((d : Arc) → (slice_index_or here k d).label ≡ w)
+      by (k, in_k, at) = go (cases_lt k n)
+        where
+          is_w : (d : Arc) → (slice_index_or here k d).label ≡ w
+          is_w d = ap (λ (x : Arc). x.label) (get_or_default here k d (arc s w lost.before.0) in_k ∙ at)
 
--- none is lost before u
-abbrev pub NoneLostBy : System → ℕ → ℕ → ℕ → Type 0
-NoneLostBy lts s t u = (w to : ℕ) → w < u → IsLost lts s t w to → ⊥
+          go : (k < n) ⊎ (n ≤ k) → (k : ℕ) × (k < length here) × (n ≤ k) × ((d : Arc) → (slice_index_or here k d).label ≡ w)
+          go (inl early) = absurd (refuse (kept k (arc 0 0 0) early))
+            where
+              refuse : ((slice_index_or here k (arc 0 0 0)).label ≡ t) ⊎ HasStep lts to (slice_index_or here k (arc 0 0 0)).label → ⊥
+              refuse (inl same) = lost.other (sym same ∙ is_w (arc 0 0 0))
+              refuse (inr has) = lost.after (subst (HasStep lts to) (is_w (arc 0 0 0)) has)
+          go (inr late) = (k, in_k, late, is_w)
 
-pub least_by : (lts : System) (s t u to : ℕ) → NoneLostBy lts s t u → IsLeastLostTo lts s t u to → IsLeastLostBy lts s t u to
-least_by lts s t u to none least = record { lost = least.lost; first = first }
-  where
-    first : (w q' : ℕ) → (w < u) ⊎ ((w ≡ u) × (q' < to)) → IsLost lts s t w q' → ⊥
-    first w q' (inl less) lost = none w q' less lost
-    first w q' (inr (same, less)) lost = least.least q' less (subst (λ x. IsLost lts s t x q') same lost)
+  pub none_kept : (n : ℕ) → length here ≤ n → AreKept lts t to here n → (w : ℕ) → IsLost lts s t w to → ⊥
+  none_kept n all kept w lost = let (k, in_k, late, is) = not_kept n w kept lost in omega (arith, all, in_k, late)
 
-pub none_by_more : (lts : System) (s t u : ℕ) → NoneLostBy lts s t u → ((to : ℕ) → IsLost lts s t u to → ⊥) → NoneLostBy lts s t (u + 1)
-none_by_more lts s t u none here w to less lost = go (cases_eq w u)
-  where
-    go : (w ≡ u) ⊎ (w ≡ u → ⊥) → ⊥
-    go (inl same) = here to (subst (λ x. IsLost lts s t x to) same lost)
-    go (inr ne) = none w to (omega (arith, less, ne)) lost
+  -- the first label that isn't kept is the least that is lost
+  pub first_lost : (i : ℕ) (d : Arc) → i < length here → IsNonDecreasingBy (λ (a : Arc). a.label) here → AreKept lts t to here i → HasArc lts s t to
+      → ((slice_index_or here i d).label ≡ t → ⊥) → (HasStep lts to (slice_index_or here i d).label → ⊥)
+      → IsLeastLostTo lts s t (slice_index_or here i d).label to
+  first_lost i d lt rises kept step other after = record {
+    lost = record { other = λ e. other (sym e); step = step; before = before; after = after };
+    least = least;
+  }
+    where
+      one : Arc
+      one = get_or here i d
 
-pub none_by : (lts : System) (s t n : ℕ) → IsInRange lts → labels lts ≤ n → NoneLostBy lts s t n → (u to : ℕ) → IsLost lts s t u to → ⊥
-none_by lts s t n fine all none u to lost =
-    let range = arc_in_range lts fine s u lost.before.0 lost.before.1 in
-    none u to (omega (arith, range.1, all)) lost
+      own : Contains lts.arcs one × (one.from ≡ s)
+      own = (leaving one).0 (i, lt, get_or_default here i one d lt)
+
+      before : HasStep lts s one.label
+      before = step_of lts s one.label one own.0 own.1 refl
+
+      least : (w : ℕ) → w < one.label → IsLost lts s t w to → ⊥
+      least w less lost =
+          let (k, in_k, late, is) = not_kept i w kept lost in
+          let rise = rises i k d late in_k in
+          omega (arith, less, rise, is d)
+
+-- ---- the label that is lost, then the state that is entered
+
+-- the loss that comes first at the states that are entered so far, and it comes before those at states behind them
+abbrev pub IsFirstSoFar : System → ℕ → ℕ → List Arc → ℕ → Option (ℕ × ℕ) → Type 0
+IsFirstSoFar lts s t steps n None = (k : ℕ) (d : Arc) → k < n → (w : ℕ) → IsLost lts s t w (slice_index_or steps k d).to → ⊥
+IsFirstSoFar lts s t steps n (Some l) =
+    IsLost lts s t l.0 l.1
+    × ((k : ℕ) (d : Arc) → k < n → (w : ℕ) → (w < l.0) ⊎ ((w ≡ l.0) × ((slice_index_or steps k d).to < l.1)) → IsLost lts s t w (slice_index_or steps k d).to → ⊥)
+    × ((k : ℕ) (d : Arc) → n ≤ k → k < length steps → l.1 < (slice_index_or steps k d).to)
+
+module _ (lts : System) (s t : ℕ) (steps : List Arc) (are : AreLabelled lts s t steps) where
+  same_target : (k i : ℕ) (d e : Arc) → k ≡ i → i < length steps → (slice_index_or steps k d).to ≡ (slice_index_or steps i e).to
+  same_target k i d e same lt = ap (λ n. (get_or steps n d).to) same ∙ ap (λ (x : Arc). x.to) (get_or_default steps i d e lt)
+
+  -- each step leads from the state by the label
+  pub steps_lead : (i : ℕ) (d : Arc) → i < length steps → HasArc lts s t (slice_index_or steps i d).to
+  steps_lead i d lt =
+      let one = get_or steps i d in
+      let own = are.members one (i, lt, get_or_default steps i one d lt) in
+      subst (Contains lts.arcs) (λ j. record { from = own.1 j; label = own.2 j; to = one.to }) own.0
+
+  pub none_more_to : (i : ℕ) (d : Arc) (o : Option (ℕ × ℕ)) → i < length steps → IsFirstSoFar lts s t steps i o
+      → ((w : ℕ) → IsLost lts s t w (slice_index_or steps i d).to → ⊥) → IsFirstSoFar lts s t steps (i + 1) o
+  none_more_to i d None lt first none = before
+    where
+      before : (k : ℕ) (e : Arc) → k < i + 1 → (w : ℕ) → IsLost lts s t w (slice_index_or steps k e).to → ⊥
+      before k e less w lost = go (cases_eq k i)
+        where
+          go : (k ≡ i) ⊎ (k ≡ i → ⊥) → ⊥
+          go (inl same) = none w (subst (IsLost lts s t w) (same_target k i e d same lt) lost)
+          go (inr ne) = first k e (omega (arith, less, ne)) w lost
+  none_more_to i d (Some l) lt first none = (first.0, before, λ k e le short. first.2 k e (omega arith) short)
+    where
+      before : (k : ℕ) (e : Arc) → k < i + 1 → (w : ℕ) → (w < l.0) ⊎ ((w ≡ l.0) × ((slice_index_or steps k e).to < l.1))
+          → IsLost lts s t w (slice_index_or steps k e).to → ⊥
+      before k e less w earlier lost = go (cases_eq k i)
+        where
+          go : (k ≡ i) ⊎ (k ≡ i → ⊥) → ⊥
+          go (inl same) = none w (subst (IsLost lts s t w) (same_target k i e d same lt) lost)
+          go (inr ne) = first.1 k e (omega (arith, less, ne)) w earlier lost
+
+  -- the loss at the next state that is entered, where no label up to its own is lost before
+  pub new_first : (i u : ℕ) (d : Arc) → i < length steps → IsLeastLostTo lts s t u (slice_index_or steps i d).to
+      → ((k : ℕ) (e : Arc) → k < i → (w : ℕ) → w ≤ u → IsLost lts s t w (slice_index_or steps k e).to → ⊥)
+      → IsFirstSoFar lts s t steps (i + 1) (Some (u, (slice_index_or steps i d).to))
+  new_first i u d lt least none = (least.lost, before, behind)
+    where
+      to : ℕ
+      to = (get_or steps i d).to
+
+      before : (k : ℕ) (e : Arc) → k < i + 1 → (w : ℕ) → (w < u) ⊎ ((w ≡ u) × ((slice_index_or steps k e).to < to))
+          → IsLost lts s t w (slice_index_or steps k e).to → ⊥
+      before k e less w earlier lost = go (cases_eq k i)
+        where
+          low : (w < u) ⊎ ((w ≡ u) × ((slice_index_or steps k e).to < to)) → w ≤ u
+          low (inl l) = omega arith
+          low (inr l) = let m = l.0 in omega (arith, m)
+
+          at_one : (k ≡ i) → (w < u) ⊎ ((w ≡ u) × ((slice_index_or steps k e).to < to)) → ⊥
+          at_one same (inl l) = least.least w l (subst (IsLost lts s t w) (same_target k i e d same lt) lost)
+          at_one same (inr l) = let m = same_target k i e d same lt in let n = l.1 in omega (arith, m, n)
+
+          go : (k ≡ i) ⊎ (k ≡ i → ⊥) → ⊥
+          go (inl same) = at_one same earlier
+          go (inr ne) = none k e (omega (arith, less, ne)) w (low earlier) lost
+
+      behind : (k : ℕ) (e : Arc) → i + 1 ≤ k → k < length steps → to < (slice_index_or steps k e).to
+      behind k e le short =
+          let rise = are.order i k e (omega arith) short in
+          let m = ap (λ (x : Arc). x.to) (get_or_default steps i e d lt) in
+          omega (arith, rise, m)
+
+  -- the loss that was first stays so where its label is no greater
+  pub old_first : (i u : ℕ) (d : Arc) (l : ℕ × ℕ) → i < length steps → IsFirstSoFar lts s t steps i (Some l)
+      → IsLeastLostTo lts s t u (slice_index_or steps i d).to → l.0 ≤ u → IsFirstSoFar lts s t steps (i + 1) (Some l)
+  old_first i u d l lt first least small = (first.0, before, λ k e le short. first.2 k e (omega arith) short)
+    where
+      before : (k : ℕ) (e : Arc) → k < i + 1 → (w : ℕ) → (w < l.0) ⊎ ((w ≡ l.0) × ((slice_index_or steps k e).to < l.1))
+          → IsLost lts s t w (slice_index_or steps k e).to → ⊥
+      before k e less w earlier lost = go (cases_eq k i)
+        where
+          at_one : (k ≡ i) → (w < l.0) ⊎ ((w ≡ l.0) × ((slice_index_or steps k e).to < l.1)) → ⊥
+          at_one same (inl m) = least.least w (omega (arith, m, small)) (subst (IsLost lts s t w) (same_target k i e d same lt) lost)
+          at_one same (inr m) =
+              let late = first.2 i d (omega arith) lt in
+              let one = same_target k i e d same lt in
+              let n = m.1 in
+              omega (arith, late, one, n)
+
+          go : (k ≡ i) ⊎ (k ≡ i → ⊥) → ⊥
+          go (inl same) = at_one same earlier
+          go (inr ne) = first.1 k e (omega (arith, less, ne)) w earlier lost
+
+  pub next_first : (i u : ℕ) (d : Arc) (o : Option (ℕ × ℕ)) (r : ℕ × ℕ) → i < length steps → IsFirstSoFar lts s t steps i o
+      → IsLeastLostTo lts s t u (slice_index_or steps i d).to
+      → IfSome o (λ f. f.0 ≤ u → r ≡ f) → IfSome o (λ f. u < f.0 → r ≡ (u, (slice_index_or steps i d).to)) → IfNone o (r ≡ (u, (slice_index_or steps i d).to))
+      → IsFirstSoFar lts s t steps (i + 1) (Some r)
+  next_first i u d None r lt first least stays changes only =
+      subst (λ x. IsFirstSoFar lts s t steps (i + 1) (Some x)) (sym only) (new_first i u d lt least (λ k e less w small lost. first k e less w lost))
+  next_first i u d (Some f) r lt first least stays changes only = go (cases_lt u f.0)
+    where
+      go : (u < f.0) ⊎ (f.0 ≤ u) → IsFirstSoFar lts s t steps (i + 1) (Some r)
+      go (inl less) =
+          subst (λ x. IsFirstSoFar lts s t steps (i + 1) (Some x)) (sym (changes less))
+          (new_first i u d lt least (λ k e early w small lost. first.1 k e early w (inl (omega (arith, small, less))) lost))
+      go (inr le) = subst (λ x. IsFirstSoFar lts s t steps (i + 1) (Some x)) (sym (stays le)) (old_first i u d f lt first least le)
+
+  -- the state that a lost label's step enters is among the steps
+  among : (n w q : ℕ) → length steps ≤ n → IsLost lts s t w q → (k : ℕ) × (k < n) × ((slice_index_or steps k (arc s t q)).to ≡ q)
+  among n w q all lost = let (k, in_k, at) = are.every q lost.step in (k, omega (arith, all, in_k), ap (λ (x : Arc). x.to) at)
+
+  pub first_by : (n : ℕ) (o : Option (ℕ × ℕ)) → length steps ≤ n → IsFirstSoFar lts s t steps n o → IfSome o (λ l. IsLeastLostBy lts s t l.0 l.1)
+  first_by n None all first = tt
+  first_by n (Some l) all first = record { lost = first.0; first = before }
+    where
+      before : (w q : ℕ) → (w < l.0) ⊎ ((w ≡ l.0) × (q < l.1)) → IsLost lts s t w q → ⊥
+      before w q earlier lost =
+          let (k, less, is) = among n w q all lost in
+          first.1 k (arc s t q) less w (subst (λ x. (w < l.0) ⊎ ((w ≡ l.0) × (x < l.1))) (sym is) earlier) (subst (IsLost lts s t w) (sym is) lost)
+
+  pub none_by : (n : ℕ) (o : Option (ℕ × ℕ)) → length steps ≤ n → IsFirstSoFar lts s t steps n o → IfNone o ((u to : ℕ) → IsLost lts s t u to → ⊥)
+  none_by n None all first = λ u to lost. let (k, less, is) = among n u to all lost in first k (arc s t to) less u (subst (IsLost lts s t u) (sym is) lost)
+  none_by n (Some l) all first = tt
+
+-- ---- the label that leads on, the state
 
 abbrev pub NoneLostAt : System → ℕ → ℕ → Type 0
 NoneLostAt lts s t = (v w to : ℕ) → v < t → IsLost lts s v w to → ⊥
@@ -157,16 +256,6 @@ persistent lts n fine all none = record { kept = kept }
 -- a label that is lost shows that it isn't
 pub lost_not_persistent : (lts : System) (s t u s' : ℕ) → IsLost lts s t u s' → IsPersistent lts → ⊥
 lost_not_persistent lts s t u s' lost kept = lost.after (kept.kept s t u s' lost.before.0 lost.step lost.before.1 lost.other)
-
--- ---- what a look-up says
-
-pub no_step : (lts : System) (s t : ℕ) (o : Option ℕ) (b : Bool) → IfNone o ((to : ℕ) → HasArc lts s t to → ⊥) → is_some o ≡ not b → b ≡ true → HasStep lts s t → ⊥
-no_step lts s t None b none is lacks has = none has.0 has.1
-no_step lts s t (Some to) b none is lacks has = true≢false (is ∙ ap not lacks)
-
-pub some_step : (lts : System) (s t : ℕ) (o : Option ℕ) (b : Bool) → IfSome o (λ to. HasArc lts s t to) → is_some o ≡ not b → b ≡ false → HasStep lts s t
-some_step lts s t None b some is has = absurd (true≢false (sym (is ∙ ap not has)))
-some_step lts s t (Some to) b some is has = (to, some)
 
 -- each target is a state of the system
 pub target_in_range : (lts : System) (s t i : ℕ) (d : Arc) (steps : List Arc) → IsInRange lts → AreLabelled lts s t steps → i < length steps → (slice_index_or steps i d).to < states lts

@@ -1,40 +1,49 @@
--- The first target without the label is the least at which it is lost.
-use Rattle.std.proofs.Common.{sym, arith, get_or}
+-- The first label that isn't kept is the least that is lost.
+use Rattle.std.proofs.Common.{◌∙◌, inl, inr, get_or, refl, sym, true≢false, arith}
+use Rattle.std.specs.List.Sorted.{IsNonDecreasingBy}
+use Rattle.rg_theory.specs.declared.Arc.{Arc}
 use Rattle.rg_theory.specs.System.{arc}
-use Rattle.rg_checks.proofs.Losing.{lost_here, not_lost, kept_more, some_step, no_step, target_in_range}
+use Rattle.rg_checks.proofs.LabelRuns.{labels_rise}
+use Rattle.rg_checks.proofs.Losing.{step_of, kept_more, none_kept, first_lost}
 use Rattle.rg_checks.proofs.lost.lost_to.Goals as goal
-use Rattle.rg_checks.proofs.lost.lost_to.Goals.{then-u-t-via-then-u-t, then-u-t-via-else-u-t+then-is_none}
+use Rattle.rg_checks.proofs.lost.lost_to.Goals.{After-arcs_from-entered, else-arc-t-via-then-arc-t+else-not-has_label, else-arc-t-via-else-arc-t}
 
-pub returns-then-u-t-clause-none : goal.returns-then-u-t-clause-none
-returns-then-u-t-clause-none c = λ to lost. elim c.then-u-t.branch [
-  | then-u-t-via-then-u-t w ↦ lost.other (sym w.if-u-t.true)
-  | then-u-t-via-else-u-t+then-is_none w ↦ no_step c.args.lts.now c.args.s c.args.u w.arc_at.result w.is_none.result w.arc_at.ensures.none w.is_none.ensures w.if-is_none.true lost.before
-]
+entered_rise : (c : After-arcs_from-entered) → IsNonDecreasingBy (λ (a : Arc). a.label) c.arcs_from-entered.result.now
+entered_rise c =
+    let arcs = c.arcs_from-entered in
+    labels_rise c.args.to arcs.result.now (λ a has. ((arcs.ensures.members a).0 has).1) arcs.ensures.order
 
-pub arc_at-requires-in-loop-arc-clause-state : goal.arc_at-requires-in-loop-arc-clause-state
-arc_at-requires-in-loop-arc-clause-state c =
-    target_in_range c.args.lts.now c.args.s c.args.t c.loop-arc.arc-index (arc 0 0 0) c.args.steps.now c.is_well_formed.ensures.in_range
-    c.requires.steps c.loop-arc-test.true
+leaving_rise : (c : After-arcs_from-entered) → IsNonDecreasingBy (λ (a : Arc). a.label) c.arcs_from-leaving.result.now
+leaving_rise c =
+    let arcs = c.arcs_from-leaving in
+    labels_rise c.args.s arcs.result.now (λ a has. ((arcs.ensures.members a).0 has).1) arcs.ensures.order
 
-pub returns-then-is_none-2-clause-least : goal.returns-then-is_none-2-clause-least
-returns-then-is_none-2-clause-least c =
+pub has_label-requires : goal.has_label-requires
+has_label-requires c = entered_rise (goal.at.has_label-requires c).After-arcs_from-entered
+
+pub returns-then-not-has_label-clause-least : goal.returns-then-not-has_label-clause-least
+returns-then-not-has_label-clause-least c =
     let lts = c.args.lts.now in
-    let steps = c.args.steps.now in
-    let to = (get_or steps c.loop-arc.arc-index (arc 0 0 0)).to in
-    lost_here lts c.args.s c.args.t c.args.u c.loop-arc.arc-index (arc 0 0 0) steps c.requires.steps
-    c.loop-arc.invariant c.loop-arc-test.true (λ e. c.if-u-t.false (sym e))
-    (some_step lts c.args.s c.args.u c.arc_at.result c.is_none.result c.arc_at.ensures.found c.is_none.ensures c.if-is_none.false)
-    (no_step lts to c.args.u c.arc_at-in-loop-arc.result c.is_none-in-loop-arc.result c.arc_at-in-loop-arc.ensures.none c.is_none-in-loop-arc.ensures c.if-is_none-2.true)
+    let arcs = c.arcs_from-leaving in
+    let entered = c.arcs_from-entered in
+    first_lost lts c.args.s c.args.t c.args.to arcs.result.now arcs.ensures.members c.loop-arc.arc-index (arc 0 0 0) c.loop-arc-test.true
+    (leaving_rise (goal.at.returns-then-not-has_label-clause-least c).After-arcs_from-entered) c.loop-arc.invariant c.requires.step c.if-arc-t.true
+    (λ has. true≢false (sym (c.has_label.ensures.1 (arc c.args.to (get_or arcs.result.now c.loop-arc.arc-index (arc 0 0 0)).label has.0, (entered.ensures.members _).1 (has.1, refl), refl)) ∙ c.if-not-has_label.true))
 
 pub loop-arc-preserved : goal.loop-arc-preserved
 loop-arc-preserved c =
     let lts = c.args.lts.now in
-    let steps = c.args.steps.now in
-    let to = (get_or steps c.loop-arc.arc-index (arc 0 0 0)).to in
-    kept_more lts c.args.u c.loop-arc.arc-index (arc 0 0 0) steps c.loop-arc-test.true c.loop-arc.invariant
-    (some_step lts to c.args.u c.arc_at-in-loop-arc.result c.is_none-in-loop-arc.result c.arc_at-in-loop-arc.ensures.found c.is_none-in-loop-arc.ensures c.if-is_none-2.false)
+    let here = c.arcs_from-leaving.result.now in
+    let add = kept_more lts c.args.t c.args.to c.loop-arc.arc-index (arc 0 0 0) here c.loop-arc-test.true c.loop-arc.invariant in
+    elim c.else-arc-t.branch [
+      | else-arc-t-via-then-arc-t+else-not-has_label w ↦
+          let (a, in_entered, label) = w.has_label.ensures.0 w.if-not-has_label.false in
+          let (of_lts, from) = (c.arcs_from-entered.ensures.members a).0 in_entered in
+          add (inr (step_of lts c.args.to _ a of_lts from label))
+      | else-arc-t-via-else-arc-t w ↦ add (inl w.if-arc-t.false)
+    ]
 
 pub returns-clause-none : goal.returns-clause-none
 returns-clause-none c =
-    not_lost c.args.lts.now c.args.s c.args.t c.args.u c.loop-arc.arc-index c.args.steps.now c.requires.steps
-    c.loop-arc.invariant (let n = c.loop-arc-test.false in omega (arith, n))
+    none_kept c.args.lts.now c.args.s c.args.t c.args.to c.arcs_from-leaving.result.now c.arcs_from-leaving.ensures.members c.loop-arc.arc-index
+    (let n = c.loop-arc-test.false in omega (arith, n)) c.loop-arc.invariant
