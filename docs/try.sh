@@ -107,9 +107,11 @@ for page in README.md docs/using.md docs/formats.md examples/README.md; do
   [ -z "$command" ] || try "$command" "$wanted" "$page"
 done
 
-# what no page shows: a word that isn't UTF-8, a folder in a file's place, output that isn't taken
+# what no page shows: a word that isn't UTF-8, a folder in a file's place, output that isn't taken, or in part alone, a line to err and not to out
 try "regions \$'\\xff' # status 9" '' docs/try.sh
 try "regions examine examples # status 5" '' docs/try.sh
 try "regions generate grid 1 > /dev/full # status 6" '' docs/try.sh
+try "(trap '' XFSZ; ulimit -f 1; regions generate grid 63 > big) # status 6" '' docs/try.sh
+try "regions examine nowhere 2> /dev/null # status 3" '' docs/try.sh
 echo "$passed passed, $failed failed"
 [ "$failed" = 0 ]

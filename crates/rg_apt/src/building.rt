@@ -1,11 +1,11 @@
 //! The system of what a file declares.
-ghost use Rattle.std.specs.Prelude.{◌≡◌, ◌≢◌, ◌++◌, ◌∷◌, [], ℕ, List, All, map, string_bytes, ◌⊎◌, Contains, IsTrue, IsErrOf, ◌≤◌, length, IfOk, IfErr, OnOk, Option, None, Some};
+ghost use Rattle.std.specs.Prelude.{◌≡◌, ◌≢◌, ◌++◌, ◌∷◌, [], ℕ, List, All, map, string_bytes, ◌⊎◌, Contains, IsErrOf, ◌≤◌, length, IfOk, IfErr, OnOk, Option, None, Some};
 ghost use Rattle.rg_text.specs.Byte.{IsName};
 ghost use Rattle.rg_theory.specs.declared.Arc.{Arc};
 ghost use Rattle.rg_lexer.specs.Lexeme.{Lexeme, lexeme};
 ghost use Rattle.rg_items.specs.Entry.{IsNameOf};
 ghost use Rattle.rg_theory.specs.Limits.{most_states, most_labels};
-ghost use Rattle.rg_lts.specs.Draft.{Draft, blank, HasNames, IsOtherInitial, IsStateNamed, AddsArc, IsWellFormedDraft};
+ghost use Rattle.rg_lts.specs.Draft.{Draft, blank, IsArcNamed, IsOtherInitial, IsStateNamed, AddsArc, IsWellFormedDraft};
 ghost use Rattle.rg_apt.specs.Contents.{StateEntry, ArcNames, Declared, state_fault, label_fault, arc_fault, faults, IsSystemOf};
 ghost use Rattle.rg_text.specs.Faults.{faults_after, IsFirst, AreNone};
 ghost use Rattle.rg_apt.specs.FoundView.{state_in, states_in, labels_in, arc_in, arcs_in, found_in, IsStateOf, IsArcOf, HoldsNames};
@@ -16,7 +16,7 @@ use crate::fault::TextFault;
 use crate::found::{Found, FoundArc, FoundState};
 use rg_items::name_of;
 use rg_lexer::Token;
-use rg_lts::{BuildFault, Lts, LtsBuilder};
+use rg_lts::{Arc, BuildFault, Lts, LtsBuilder};
 use std::alloc::Global;
 
 // Adds a state of this name, which stands at a position.
@@ -119,49 +119,27 @@ fn add_labels(builder: &mut LtsBuilder, bytes: &[u8], labels: &[Token]) -> Resul
     Ok(())
 }
 
-// Whether a state of this name is there.
-fn has_state(builder: &LtsBuilder, name: &str) -> bool
-    ensures yes { IsTrue result → Contains builder.now.state_names name.now }
-    ensures no { Contains builder.now.state_names name.now → IsTrue result }
-{
-    match builder.state_number(name) {
-        Some(_) => true,
-        None => false,
-    }
-}
-
-// Whether a label of this name is there.
-fn has_label(builder: &LtsBuilder, name: &str) -> bool
-    ensures yes { IsTrue result → Contains builder.now.label_names name.now }
-    ensures no { Contains builder.now.label_names name.now → IsTrue result }
-{
-    match builder.label_number(name) {
-        Some(_) => true,
-        None => false,
-    }
-}
-
-// Tells the first of an arc's names that isn't there.
-fn known(
+// The arc with these names, or the fault of the first of them that isn't there.
+fn known_arc(
     builder: &LtsBuilder,
     from: &str,
     label: &str,
     to: &str,
     arc: FoundArc,
-) -> Result<(), TextFault>
-    ensures ok { OnOk result (HasNames builder.now from.now label.now to.now) }
+) -> Result<Arc, TextFault>
+    ensures ok { IfOk result (IsArcNamed builder.now from.now label.now to.now) }
     ensures fault { IfErr result (λ f. IsUnknown builder.now from.now label.now to.now arc.from.from arc.label.from arc.to.from f) }
 {
-    if !has_state(builder, from) {
+    let Some(from) = builder.state_number(from) else {
         return Err(TextFault::UnknownState(arc.from.from));
-    }
-    if !has_label(builder, label) {
+    };
+    let Some(label) = builder.label_number(label) else {
         return Err(TextFault::UnknownLabel(arc.label.from));
-    }
-    if !has_state(builder, to) {
+    };
+    let Some(to) = builder.state_number(to) else {
         return Err(TextFault::UnknownState(arc.to.from));
-    }
-    Ok(())
+    };
+    Ok(Arc { from, label, to })
 }
 
 // Adds a declared arc.
@@ -179,8 +157,8 @@ fn add_arc(builder: &mut LtsBuilder, bytes: &[u8], arc: FoundArc) -> Result<(), 
     let from = name_of(bytes, arc.from);
     let label = name_of(bytes, arc.label);
     let to = name_of(bytes, arc.to);
-    known(builder, from, label, to, arc)?;
-    match builder.arc(from, label, to) {
+    let known = known_arc(builder, from, label, to, arc)?;
+    match builder.arc_between(known) {
         Ok(()) => Ok(()),
         Err(BuildFault::TooManyArcs) => Err(TextFault::TooManyArcs(arc.from.from)),
         Err(BuildFault::NoMemory) => Err(TextFault::NoMemory),

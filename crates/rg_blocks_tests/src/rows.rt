@@ -3,12 +3,11 @@ ghost use Rattle.std.specs.Prelude.{◌≤◌};
 
 use crate::answers::{Answers, Counts, Given};
 use crate::places::{Places, is_single};
-use rg_apt::read_lts;
 use rg_blocks::{SeparationOutcome, separate_all};
 use rg_lts::Lts;
 use rg_marks::RegionPlace;
 use rg_ports::Gate;
-use rg_text::MOST_BYTES;
+use rg_samples::system;
 use rg_theory::Problem;
 use std::alloc::{AllocError, Global};
 use std::sync::atomic::{AtomicU64, Ordering};
@@ -180,16 +179,13 @@ const ROWS: [(&[Given], Option<SeparationOutcome>, &[usize], u64, u64, u64); 16]
 ];
 
 // The system with one state, so many labels and no arc.
-fn system(alloc: Global, labels: usize) -> Option<Lts> {
+fn labelled(alloc: Global, labels: usize) -> Option<Lts> {
     let mut text = String::from_str(alloc, ".type LTS .states s[initial] .labels").ok()?;
     for t in 0..labels {
         let label = format!(in alloc; " t{t}").ok()?;
         text.push_str(&label).ok()?;
     }
-    if text.len() > MOST_BYTES {
-        return None;
-    }
-    read_lts(alloc, text.as_bytes()).ok()
+    system(alloc, text.as_str())
 }
 
 // What all problems come to, and the places that are kept.
@@ -243,7 +239,7 @@ struct Seen {
 fn see<R: Threads + Sync>(rt: &R, alloc: Global, given: &[Given], jobs: u8) -> Option<Seen>
     requires { 1 ≤ jobs }
 {
-    let lts = system(alloc, given.len())?;
+    let lts = labelled(alloc, given.len())?;
     let gate = Counts::new();
     let answers = Answers {
         alloc,

@@ -8,14 +8,10 @@ mod classes;
 #[cfg(test)]
 mod laws;
 #[cfg(test)]
-mod limits;
-#[cfg(test)]
 mod outside;
 #[cfg(test)]
 mod samples;
 #[cfg(test)]
 mod trees;
-#[cfg(test)]
-mod verdicts;
 #[cfg(test)]
 mod walks;

@@ -11,14 +11,6 @@ pub(crate) const FORKED: &str =
 /// Two states without an arc.
 pub(crate) const APART: &str = ".type LTS .states s0[initial] s1 .labels a .arcs";
 
-/// The label a leads from each of two states to the other.
-pub(crate) const THERE_AND_BACK: &str =
-    ".type LTS .states s0[initial] s1 .labels a .arcs s0 a s1 s1 a s0";
-
-/// The cycle of a, a and b.
-pub(crate) const RING: &str =
-    ".type LTS .states s0[initial] s1 s2 .labels a b .arcs s0 a s1 s1 a s2 s2 b s0";
-
 /// Two users who ask for a lock, get it and put it back. A state says what each does: i is idle, w waits, c has the lock.
 pub(crate) const LOCK: &str =
     ".type LTS .states ii[initial] iw ic wi ww wc ci cw .labels ask1 get1 put1 ask2 get2 put2 .arcs ii ask1 wi iw ask1 ww ic ask1 wc wi get1 ci ww get1 cw ci put1 ii cw put1 iw ii ask2 iw wi ask2 ww ci ask2 cw iw get2 ic ww get2 wc ic put2 ii wc put2 wi";

@@ -1,4 +1,4 @@
-//! How many states and arcs the systems have, and the numbers that are none.
+//! How many states and arcs the systems have.
 use rg_families::{Kind, MOST_DOUBLING, MOST_GRID, MOST_LOCK, generate, is_family_number};
 use std::test::Fail;
 
@@ -24,24 +24,6 @@ fn counts(rt: HostRuntime) -> Result<(), Fail> {
         assert!(rt; lts.states() == states, "{kind:?} {n}");
         assert!(rt; lts.labels() == labels, "{kind:?} {n}");
         assert!(rt; lts.arcs().len() == arcs, "{kind:?} {n}");
-    }
-    Ok(())
-}
-
-// A family and a number that is none of it.
-const NONE: [(Kind, u32); 6] = [
-    (Kind::Grid, 0),
-    (Kind::Grid, 64),
-    (Kind::Doubling, 0),
-    (Kind::Doubling, 256),
-    (Kind::Lock, 0),
-    (Kind::Lock, 10),
-];
-
-#[test]
-fn none(rt: HostRuntime) -> Result<(), Fail> {
-    for (kind, n) in NONE {
-        assert!(rt; !is_family_number(kind, n), "{kind:?} {n}");
     }
     Ok(())
 }

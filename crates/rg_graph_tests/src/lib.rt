@@ -1,22 +1,7 @@
-//! Tests of single calls of the crates of state graphs, word lists and families: their tables, each fault once, and limits
-//! just met and just passed, with values from outside.
+//! Tests of single calls of the crates of state graphs, word lists and families: their laws, and the sizes of the systems of families.
 #![tactic(auto)]
 
 #[cfg(test)]
 mod family_counts;
 #[cfg(test)]
-mod graph_faults;
-#[cfg(test)]
-mod graph_limits;
-#[cfg(test)]
-mod graphs;
-#[cfg(test)]
-mod least_families;
-#[cfg(test)]
-mod printed;
-#[cfg(test)]
-mod samples;
-#[cfg(test)]
-mod word_limits;
-#[cfg(test)]
-mod words;
+mod laws;

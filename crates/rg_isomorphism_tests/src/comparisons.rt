@@ -1,17 +1,11 @@
 //! What is told of two systems, each worked by hand.
-use crate::samples::{LOOP_AND_STEP, RING, STILL, system};
+use crate::samples::STILL;
 use rg_checks::{first_fork, first_unreachable};
 use rg_isomorphism::{Same, compare};
+use rg_samples::{ABA, CHOICE, DEAD, LOOP, LOOP_AND_STEP, THERE_AND_BACK, system};
 use std::alloc::Global;
 
-const DEAD: &str = ".type LTS .states s0[initial] .labels a .arcs";
-
-const LOOP: &str = ".type LTS .states s0[initial] .labels a .arcs s0 a s0";
-
 const RING_3: &str = ".type LTS .states s0[initial] s1 s2 .labels a .arcs s0 a s1 s1 a s2 s2 a s0";
-
-const ABA: &str =
-    ".type LTS .states s0[initial] s1 s2 s3 .labels a b .arcs s0 a s1 s1 b s2 s2 a s3";
 
 const ABBAA: &str =
     ".type LTS .states s0[initial] s1 s2 s3 s4 s5 .labels a b .arcs s0 a s1 s1 b s2 s2 b s3 s3 a s4 s4 a s5";
@@ -23,8 +17,6 @@ const BACK: &str = ".type LTS .states x y[initial] .labels b a .arcs y a x x b y
 const FIRST: &str = ".type LTS .states p[initial] .labels a b .arcs p a p";
 
 const BOTH: &str = ".type LTS .states x[initial] .labels b a .arcs x a x x b x";
-
-const CHOICE: &str = ".type LTS .states s0[initial] s1 s2 .labels a b .arcs s0 a s1 s0 b s2";
 
 const MERGE: &str = ".type LTS .states t0[initial] t1 .labels a b .arcs t0 a t1 t0 b t1";
 
@@ -86,10 +78,10 @@ const DIFFERENCES: [(&str, &str, Same); 13] = [
     (ABBAA, ABA, Same::Step(2, 2, 0)),
     (FIRST, BOTH, Same::Step(2, 0, 0)),
     (BOTH, FIRST, Same::Step(1, 0, 0)),
-    (RING, LOOP, Same::Target(0, 0)),
-    (LOOP, RING, Same::Target(0, 0)),
-    (RING, RING_3, Same::Target(1, 0)),
-    (RING_3, RING, Same::Target(1, 0)),
+    (THERE_AND_BACK, LOOP, Same::Target(0, 0)),
+    (LOOP, THERE_AND_BACK, Same::Target(0, 0)),
+    (THERE_AND_BACK, RING_3, Same::Target(1, 0)),
+    (RING_3, THERE_AND_BACK, Same::Target(1, 0)),
     (CHOICE, MERGE, Same::Target(0, 1)),
     (MERGE, CHOICE, Same::Target(0, 1)),
 ];

@@ -1,6 +1,7 @@
 //! The first label that is lost, and the first state from which there is no way back.
-use crate::samples::{APART, FORK, LOOP_AND_STEP, RING, STILL, system};
+use crate::samples::{APART, FORK, STILL};
 use rg_checks::{persistent, reversible};
+use rg_samples::{LOOP_AND_STEP, THERE_AND_BACK, system};
 use std::alloc::Global;
 
 // Whether this label is the first that is lost in the system of the text.
@@ -15,7 +16,7 @@ fn is_lost(alloc: Global, text: &str, wanted: Option<(u32, u32, u32, u32)>) -> b
 fn losses(rt: HostRuntime) {
     for (text, wanted) in [
         (STILL, None),
-        (RING, None),
+        (THERE_AND_BACK, None),
         (LOOP_AND_STEP, Some((0, 1, 0, 1))),
         (FORK, Some((0, 0, 1, 2))),
         (APART, Some((1, 0, 1, 2))),
@@ -36,7 +37,7 @@ fn is_stranded(alloc: Global, text: &str, wanted: Option<u32>) -> bool {
 fn stranded(rt: HostRuntime) {
     for (text, wanted) in [
         (STILL, None),
-        (RING, None),
+        (THERE_AND_BACK, None),
         (LOOP_AND_STEP, Some(1)),
         (FORK, Some(1)),
         (APART, None),

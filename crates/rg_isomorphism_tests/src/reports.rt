@@ -1,6 +1,7 @@
 //! Reports on systems, each worked by hand.
-use crate::samples::{APART, FORK, LOOP_AND_STEP, STILL, system};
+use crate::samples::{APART, FORK, STILL};
 use rg_report::{examine, json_text, lines_text, report_on};
+use rg_samples::{LOOP_AND_STEP, system};
 use std::alloc::Global;
 
 // Whether these are the two texts of the report on the system.

@@ -1,18 +1,7 @@
-//! Systems from texts.
-use rg_apt::read_lts;
-use rg_lts::Lts;
-use rg_text::MOST_BYTES;
-use std::alloc::Global;
+//! Systems as texts.
 
 /// One state without labels.
 pub(crate) const STILL: &str = ".type LTS .states s0[initial] .labels .arcs";
-
-/// A cycle of two steps.
-pub(crate) const RING: &str = ".type LTS .states s0[initial] s1 .labels a .arcs s0 a s1 s1 a s0";
-
-/// The label a loops at s0, and b leads from s0 to s1, where a is lost.
-pub(crate) const LOOP_AND_STEP: &str =
-    ".type LTS .states s0[initial] s1 .labels a b .arcs s0 a s0 s0 b s1";
 
 /// The label a leads from s0 to two states: b is lost at the one, c at the other.
 pub(crate) const FORK: &str =
@@ -21,11 +10,3 @@ pub(crate) const FORK: &str =
 /// A loop, and two states that can't be reached, at the first of which a label is lost.
 pub(crate) const APART: &str =
     ".type LTS .states s0[initial] s1 s2 .labels a b .arcs s0 a s0 s1 a s2 s1 b s2";
-
-/// The system that the text spells.
-pub(crate) fn system(alloc: Global, text: &str) -> Option<Lts> {
-    if text.len() > MOST_BYTES {
-        return None;
-    }
-    read_lts(alloc, text.as_bytes()).ok()
-}

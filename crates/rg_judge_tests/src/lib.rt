@@ -13,5 +13,3 @@ mod laws;
 mod samples;
 #[cfg(test)]
 mod second;
-#[cfg(test)]
-mod verdicts;

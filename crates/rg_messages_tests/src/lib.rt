@@ -1,23 +1,9 @@
-//! Tests of the lines of out and err: each line once, as docs/formats.md has it.
+//! Tests of the lines of out and err that no whole run shows; the others stand in cases of whole runs.
 #![tactic(auto)]
 
 #[cfg(test)]
-mod differences;
-#[cfg(test)]
 mod files;
-#[cfg(test)]
-mod losses;
-#[cfg(test)]
-mod nets;
-#[cfg(test)]
-mod numbers;
 #[cfg(test)]
 mod samples;
 #[cfg(test)]
-mod systems;
-#[cfg(test)]
 mod trials;
-#[cfg(test)]
-mod verdicts;
-#[cfg(test)]
-mod words;

@@ -1,7 +1,6 @@
 //! A system to tell names of, and texts that are told.
 use rg_apt::read_lts;
 use rg_lts::Lts;
-use rg_messages::{FileFault, file_text};
 use rg_text::MOST_BYTES;
 use std::alloc::{AllocError, Global};
 
@@ -23,9 +22,4 @@ pub(crate) fn is_line(text: Result<Vec<u8>, AllocError>, wanted: &str) -> bool {
         Ok(text) => text.as_slice() == wanted.as_bytes(),
         Err(_) => false,
     }
-}
-
-/// Whether the fault of a file is told by this line.
-pub(crate) fn is_refused(alloc: Global, fault: FileFault, wanted: &str) -> bool {
-    is_line(file_text(alloc, fault), wanted)
 }

@@ -1,4 +1,4 @@
-//! The lines of `selftest`.
+//! The lines of `selftest` for systems without a net.
 ghost use Rattle.std.specs.Prelude.{IfSome};
 ghost use Rattle.rg_reasons.specs.Certificates.{IsCertificateOf};
 
@@ -6,42 +6,14 @@ use crate::samples::{TOGGLE, is_line, system};
 use rg_cert::read;
 use rg_families::Kind;
 use rg_lts::Lts;
-use rg_messages::{solved_text, unsolvable_text, yes_text};
+use rg_messages::unsolvable_text;
 use rg_reasons::Certificate;
 use rg_text::MOST_BYTES;
 use std::alloc::Global;
 use std::test::Fail;
 
-// A family, a number, how many places a net has, and the line.
-const SOLVED: [(Kind, u32, usize, &str); 4] = [
-    (
-        Kind::Grid,
-        1,
-        0,
-        "grid 1: states 3 arcs 3 places 0 check yes\n",
-    ),
-    (
-        Kind::Doubling,
-        40,
-        2,
-        "doubling 40: states 3 arcs 3 places 2 check yes\n",
-    ),
-    (
-        Kind::Lock,
-        2,
-        7260,
-        "lock 2: states 3 arcs 3 places 7260 check yes\n",
-    ),
-    (
-        Kind::Lock,
-        4294967295,
-        10,
-        "lock 4294967295: states 3 arcs 3 places 10 check yes\n",
-    ),
-];
-
 // A family, a number, the text of a certificate, and the line.
-const UNSOLVABLE: [(Kind, u32, &[u8], &str); 4] = [
+const UNSOLVABLE: [(Kind, u32, &[u8], &str); 3] = [
     (
         Kind::Grid,
         3,
@@ -55,45 +27,12 @@ const UNSOLVABLE: [(Kind, u32, &[u8], &str); 4] = [
         "doubling 1: states 3 arcs 3 unsolvable fork off hit on broken verify yes\n",
     ),
     (
-        Kind::Doubling,
-        40,
-        b"certificate 1\nclass none\nevent off hit\ncase\nleaf\nend\n",
-        "doubling 40: states 3 arcs 3 unsolvable event off hit verify yes\n",
-    ),
-    (
         Kind::Lock,
         1,
         b"certificate 1\nclass none\nstates on broken\ncase\nleaf\ncase\nleaf\nend\n",
         "lock 1: states 3 arcs 3 unsolvable states on broken verify yes\n",
     ),
 ];
-
-// Whether the trial of a family whose system has a net is told by this line.
-fn is_solved_told(
-    alloc: Global,
-    lts: &Lts,
-    kind: Kind,
-    n: u32,
-    places: usize,
-    wanted: &str,
-) -> bool {
-    match yes_text(alloc) {
-        Ok(verdict) => is_line(solved_text(alloc, kind, n, lts, places, &verdict), wanted),
-        Err(_) => false,
-    }
-}
-
-#[test]
-fn solved_systems(rt: HostRuntime) -> Result<(), Fail> {
-    let lts = system(rt.alloc(), TOGGLE).ok_or("a system")?;
-    for (kind, n, places, wanted) in SOLVED {
-        assert!(rt;
-            is_solved_told(rt.alloc(), &lts, kind, n, places, wanted),
-            "{wanted}"
-        );
-    }
-    Ok(())
-}
 
 // The certificate that the text spells for the system.
 fn certificate(alloc: Global, bytes: &[u8], lts: &Lts) -> Option<Certificate>

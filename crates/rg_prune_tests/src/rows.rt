@@ -2,31 +2,13 @@
 ghost use Rattle.std.specs.Prelude.{◌≡◌, map, IfOk};
 ghost use Rattle.rg_net.specs.Shown.{shown_place};
 
-use rg_apt::read_lts;
 use rg_lts::Lts;
-use rg_net::{Class, Net, Place};
+use rg_net::{Net, Place};
 use rg_net_verdict::{NetVerdict, check_net, verdict_is_sound};
-use rg_netfile::read_net;
 use rg_prune::prune;
-use rg_text::MOST_BYTES;
+use rg_samples::{CHOICE, CHOICE_NET, LOOP, NONE, STEP, net, system};
 use rg_theory::solved_is_separated;
 use std::alloc::{AllocError, Global};
-
-const NONE: Class = Class {
-    pure: false,
-    plain: false,
-    bound: None,
-    marking: None,
-    nonbranching: false,
-};
-
-const CHOICE: &str = ".type LTS .states s0[initial] s1 s2 .labels a b .arcs s0 a s1 s0 b s2";
-
-/// Two places for the choice. One keeps its token when b fires, the other when a does.
-const TWO: &str =
-    ".type PN .places p q .transitions a b .flows a: {p, q} -> {q} b: {p, q} -> {p} .initial_marking {p, q}";
-
-const STEP: &str = ".type LTS .states s0[initial] s1 .labels a .arcs s0 a s1";
 
 const STEPS: &str = ".type LTS .states s0[initial] s1 s2 .labels a .arcs s0 a s1 s1 a s2";
 
@@ -50,36 +32,32 @@ const CHOICES: [(&str, &str, &str); 6] = [
     (
         CHOICE,
         ".type PN .places x p q .transitions a b .flows a: {x, p, q} -> {q} b: {p, q} -> {p} .initial_marking {x, p, q}",
-        TWO,
+        CHOICE_NET,
     ),
     (
         CHOICE,
         ".type PN .places p q r .transitions a b .flows a: {p, q, r} -> {q} b: {p, q, r} -> {p} .initial_marking {p, q, r}",
-        TWO,
+        CHOICE_NET,
     ),
     (
         CHOICE,
         ".type PN .places p q r .transitions a b .flows a: {p, q, r} -> {q} b: {p, q, r} -> {p, r} .initial_marking {p, q, r}",
-        TWO,
+        CHOICE_NET,
     ),
     (
         CHOICE,
         ".type PN .places p r q .transitions a b .flows a: {p, r, q} -> {q} b: {p, r, q} -> {p, r} .initial_marking {p, r, q}",
-        TWO,
+        CHOICE_NET,
     ),
     (
         CHOICE,
         ".type PN .places x p y q z .transitions a b .flows a: {p, q} -> {q} b: {p, q} -> {p} .initial_marking {p, q}",
-        TWO,
+        CHOICE_NET,
     ),
 ];
 
 const STEPS_AND_LOOPS: [(&str, &str, &str); 6] = [
-    (
-        ".type LTS .states s0[initial] .labels a .arcs s0 a s0",
-        ".type PN .transitions a",
-        ".type PN .transitions a",
-    ),
+    (LOOP, ".type PN .transitions a", ".type PN .transitions a"),
     (
         ".type LTS .states s0[initial] .labels a",
         ".type PN .places u v .transitions a .flows a: {u, v} -> {}",
@@ -106,22 +84,6 @@ const STEPS_AND_LOOPS: [(&str, &str, &str); 6] = [
         ONE_TAKEN,
     ),
 ];
-
-/// The system that the text spells.
-pub(crate) fn system(alloc: Global, text: &str) -> Option<Lts> {
-    if text.len() > MOST_BYTES {
-        return None;
-    }
-    read_lts(alloc, text.as_bytes()).ok()
-}
-
-// The net for the system that the text spells.
-fn net(alloc: Global, lts: &Lts, text: &str) -> Option<Net> {
-    if text.len() > MOST_BYTES {
-        return None;
-    }
-    read_net(alloc, text.as_bytes(), lts).ok()
-}
 
 // The same places.
 fn copied(alloc: Global, places: &[Place]) -> Result<Vec<Place>, AllocError>

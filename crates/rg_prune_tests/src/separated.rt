@@ -7,10 +7,10 @@ ghost use Rattle.rg_net.specs.Shown.{shown_place};
 ghost use Rattle.rg_marks.specs.Separated.{AreSome};
 ghost use Rattle.rg_prune_tests.specs.Regions.{Moves, IsRegionBy};
 
-use crate::rows::system;
 use rg_lts::{Arc, Lts};
 use rg_marks::Separated;
 use rg_net::Place;
+use rg_samples::{ABA, system};
 use rg_spanning::Tree;
 use rg_theory::Problem::{self, Event, States};
 use std::alloc::{AllocError, Global};
@@ -18,10 +18,6 @@ use std::test::Fail;
 
 /// The greatest number of tokens.
 const GREATEST: u128 = 170141183460469231731687303715884105727;
-
-/// The word a b a.
-const ABA: &str =
-    ".type LTS .states s0[initial] s1 s2 s3 .labels a b .arcs s0 a s1 s1 b s2 s2 a s3";
 
 // A place of a and b, with its tokens at the states of the word.
 #[derive(Clone, Copy)]

@@ -1,10 +1,10 @@
 //! Rows and counts of the word a b a.
-use crate::systems::{ABA, NONBRANCHING, NONE, system};
 use rg_case_parts::{count, start};
 use rg_lts::Lts;
 use rg_reasons::Term::{Minus, Plus};
 use rg_reasons::Variable::{Effect, Tokens};
 use rg_reasons::{Expression, Form, ProblemCase, RowName, Side, expression};
+use rg_samples::{ABA, NONBRANCHING, NONE, system};
 use rg_spanning::Tree;
 use rg_theory::Problem::{Event, States};
 use std::alloc::Global;

@@ -2,6 +2,8 @@
 #![tactic(auto)]
 
 #[cfg(test)]
+mod asked;
+#[cfg(test)]
 mod bases;
 #[cfg(test)]
 mod expressions;
@@ -13,5 +15,3 @@ mod places;
 mod rows;
 #[cfg(test)]
 mod separations;
-#[cfg(test)]
-mod systems;

@@ -5,11 +5,8 @@ ghost use Rattle.rg_spanning.specs.Spanning.{IsTreeOf};
 ghost use Rattle.rg_order_of_work.specs.Rewriting.{column_count};
 ghost use Rattle.rg_cycles.specs.View.{labels_of, cycle_of};
 
+use crate::asked::{PLAIN_ONE_MARKING, PLAIN_TWO_MARKING, PURE_PLAIN, is_asked};
 use crate::bases::basis;
-use crate::systems::{
-    ABA, CHOICE, NONBRANCHING, NONE, PLAIN, PLAIN_ONE_MARKING, PLAIN_TWO_MARKING, PURE, PURE_PLAIN,
-    RING, SIDE, STEP, TWO_BOUNDED, TWO_MARKING, is_asked, system,
-};
 use rg_case_parts::{Columns, has_start, used_labels};
 use rg_cycles::Basis;
 use rg_fraction::{FoldStop, Fraction};
@@ -17,6 +14,10 @@ use rg_integers::Wide;
 use rg_lts::Lts;
 use rg_marks::RegionPlace;
 use rg_places::make_place;
+use rg_samples::{
+    ABA, CHOICE, CYCLE, LOOP_AND_STEP, NONBRANCHING, NONE, PLAIN, PURE, STEP, TWO_BOUNDED,
+    TWO_MARKING, system,
+};
 use rg_spanning::Tree;
 use rg_theory::Class;
 use rg_theory::Problem::{self, Event, States};
@@ -147,7 +148,7 @@ fn are_made(rt: &(impl Abort + AllocGlobal), points: &[Worked]) {
 const TWO_LABELS: [Worked; 7] = [
     // b takes the token that a needs and gives back
     Worked {
-        text: SIDE,
+        text: LOOP_AND_STEP,
         class: NONE,
         problem: Event(1, 0),
         numbers: &[(-1, 2)],
@@ -157,7 +158,7 @@ const TWO_LABELS: [Worked; 7] = [
         tokens: None,
     },
     Worked {
-        text: SIDE,
+        text: LOOP_AND_STEP,
         class: NONE,
         problem: States(0, 1),
         numbers: &[(-1, 2)],
@@ -248,7 +249,7 @@ const WITH_TOKENS: [Worked; 6] = [
     },
     // the stopped label of a plain class takes 1, and the tokens of a bounded one stay
     Worked {
-        text: SIDE,
+        text: LOOP_AND_STEP,
         class: PLAIN,
         problem: Event(1, 0),
         numbers: &[(1, 1), (-1, 1)],
@@ -258,7 +259,7 @@ const WITH_TOKENS: [Worked; 6] = [
         tokens: Some(&[1, 0]),
     },
     Worked {
-        text: RING,
+        text: CYCLE,
         class: TWO_BOUNDED,
         problem: Event(0, 1),
         numbers: &[(0, 1), (-2, 1)],

@@ -5,18 +5,20 @@ ghost use Rattle.rg_spanning.specs.Spanning.{IsTreeOf};
 ghost use Rattle.rg_cycles.specs.View.{labels_of, cycle_of};
 ghost use Rattle.rg_rows.specs.Sharing.{IsCommonOf};
 
-use crate::bases::basis;
-use crate::systems::{
-    ABA, CHOICE, NONBRANCHING, NONE, PLAIN, PLAIN_NONBRANCHING, PLAIN_TWO_MARKING, PURE,
-    PURE_NONBRANCHING, PURE_PLAIN, PURE_PLAIN_SAFE, RING, SAFE, SIDE, STEP,
-    TWO_BOUNDED_TWO_MARKING, is_asked, system,
+use crate::asked::{
+    PLAIN_NONBRANCHING, PLAIN_TWO_MARKING, PURE_NONBRANCHING, PURE_PLAIN, PURE_PLAIN_SAFE,
+    TWO_BOUNDED_TWO_MARKING, is_asked,
 };
+use crate::bases::basis;
 use rg_cycles::Basis;
 use rg_fraction::Fraction;
 use rg_linear::Row;
 use rg_lts::Lts;
 use rg_reasons::RowName;
 use rg_rows::{Common, NamedForm, NamedSystem, cases, system_with};
+use rg_samples::{
+    ABA, CHOICE, CYCLE, IN_TURN, LOOP_AND_STEP, NONBRANCHING, NONE, PLAIN, PURE, SAFE, STEP, system,
+};
 use rg_spanning::Tree;
 use rg_theory::Class;
 use rg_theory::Problem::{self, Event, States};
@@ -26,9 +28,6 @@ use std::test::Fail;
 // Each of two users is idle, asks for the lock, gets it and puts it back.
 const LOCK: &str =
     ".type LTS .states ii[initial] wi iw ww ic wc ci cw .labels ask1 ask2 get2 put2 get1 put1 .arcs ii ask1 wi ii ask2 iw iw ask1 ww iw get2 ic ic ask1 wc ic put2 ii wi get1 ci wi ask2 ww ww get1 cw ww get2 wc wc put2 wi ci put1 ii ci ask2 cw cw put1 iw";
-
-// Two states, and a label from each to the other.
-const PAIR: &str = ".type LTS .states s0[initial] s1 .labels a b .arcs s0 a s1 s1 b s0";
 
 // One a or two b lead from s0 to s1.
 const TWICE: &str = ".type LTS .states s0[initial] s1 s2 .labels a b .arcs s0 a s1 s0 b s2 s2 b s1";
@@ -133,14 +132,14 @@ fn text_of(alloc: Global, cases: u32, named: &NamedSystem) -> Result<String, All
 // Texts, classes, problems, cases, and what their systems say.
 const SYSTEMS: [(&str, Class, Problem, u32, &str); 19] = [
     (
-        SIDE,
+        LOOP_AND_STEP,
         PURE,
         Event(1, 0),
         0,
         "1 2; Block [-1, -1] -1 1/1; Tokens(0) [1, 0] 0 1/1; Tokens(1) [1, 1] 0 1/1",
     ),
     (
-        SIDE,
+        LOOP_AND_STEP,
         PURE,
         States(0, 1),
         1,
@@ -153,7 +152,7 @@ const SYSTEMS: [(&str, Class, Problem, u32, &str); 19] = [
         0,
         "1 2; Stop(0) [-1, 0] -1 1/1; Stop(2) [0, 1] -1 1/1",
     ),
-    (PAIR, NONE, States(0, 1), 0, "2 1; Apart [-1] -1 1/1"),
+    (IN_TURN, NONE, States(0, 1), 0, "2 1; Apart [-1] -1 1/1"),
     (
         CHOICE,
         NONBRANCHING,
@@ -176,7 +175,7 @@ const SYSTEMS: [(&str, Class, Problem, u32, &str); 19] = [
         1,
         "4 1; Apart [2] -1 1/1; Makes(0) [1] 0 1/2",
     ),
-    (RING, NONE, States(0, 1), 0, "2 1; Apart [-1] -2 2/1"),
+    (CYCLE, NONE, States(0, 1), 0, "2 1; Apart [-1] -2 2/1"),
     // idle and equal rows are left out
     (
         IDLE,
@@ -187,21 +186,21 @@ const SYSTEMS: [(&str, Class, Problem, u32, &str); 19] = [
     ),
     // the forms of plain and of bounded classes
     (
-        RING,
+        CYCLE,
         PLAIN,
         Event(0, 1),
         0,
         "1 2; Empty [-1, 0] 0 1/1; Full(2) [1, -1] -1 1/1; Keep [0, -1] 0 1/1; Tokens(0) [1, 0] 0 1/1; Tokens(1) [2, -1] 0 2/1; Tokens(2) [1, -1] 0 1/1; Up(0) [0, 1] 2 2/1; Up(1) [0, -1] 1 1/1; Down(0) [0, -1] 2 2/1; Down(1) [0, 1] 1 1/1; Effect(0) 2 [0, -1] -1 1 8 1; Effect(1) 1 [0, 1] -1 1 9 1",
     ),
     (
-        RING,
+        CYCLE,
         SAFE,
         Event(0, 1),
         0,
         "1 2; Stop(2) [0, -1] -1 1/1; Tokens(0) [1, 0] 0 1/1; Tokens(1) [2, -1] 0 2/1; Tokens(2) [1, -1] 0 1/1; Cap(0) [-1, 0] 1 1/1; Cap(1) [-2, 1] 2 2/1; Cap(2) [-1, 1] 1 1/1; Tokens(0) 1 [1, 0] 0 1 1 1; Tokens(1) 2 [2, -1] 0 1 2 1; Tokens(2) 1 [1, -1] 0 1 3 1",
     ),
     (
-        SIDE,
+        LOOP_AND_STEP,
         PLAIN,
         Event(1, 0),
         0,
@@ -309,7 +308,7 @@ fn all_told(
 // Texts, classes, problems, and what their systems say.
 const SHARED: [(&str, Class, [(Problem, u32); 3], &str); 5] = [
     (
-        RING,
+        CYCLE,
         PLAIN,
         [(Event(0, 1), 0), (Event(1, 1), 0), (States(0, 1), 0)],
         "1 2; Empty [-1, 0] 0 1/1; Full(2) [1, -1] -1 1/1; Keep [0, -1] 0 1/1; Tokens(0) [1, 0] 0 1/1; Tokens(1) [2, -1] 0 2/1; Tokens(2) [1, -1] 0 1/1; Up(0) [0, 1] 2 2/1; Up(1) [0, -1] 1 1/1; Down(0) [0, -1] 2 2/1; Down(1) [0, 1] 1 1/1; Effect(0) 2 [0, -1] -1 1 8 1; Effect(1) 1 [0, 1] -1 1 9 1
@@ -318,7 +317,7 @@ const SHARED: [(&str, Class, [(Problem, u32); 3], &str); 5] = [
 ",
     ),
     (
-        RING,
+        CYCLE,
         SAFE,
         [(Event(0, 1), 0), (States(0, 1), 1), (Event(0, 1), 0)],
         "1 2; Stop(2) [0, -1] -1 1/1; Tokens(0) [1, 0] 0 1/1; Tokens(1) [2, -1] 0 2/1; Tokens(2) [1, -1] 0 1/1; Cap(0) [-1, 0] 1 1/1; Cap(1) [-2, 1] 2 2/1; Cap(2) [-1, 1] 1 1/1; Tokens(0) 1 [1, 0] 0 1 1 1; Tokens(1) 2 [2, -1] 0 1 2 1; Tokens(2) 1 [1, -1] 0 1 3 1
@@ -328,7 +327,7 @@ const SHARED: [(&str, Class, [(Problem, u32); 3], &str); 5] = [
     ),
     // Down(1) differs from Apart by its constant alone
     (
-        SIDE,
+        LOOP_AND_STEP,
         PLAIN,
         [(Event(1, 0), 0), (Event(1, 1), 0), (States(0, 1), 0)],
         "1 2; Empty [-1, -1] 0 1/1; Full(0) [1, 0] -1 1/1; Tokens(0) [1, 0] 0 1/1; Tokens(1) [1, 1] 0 1/1; Up(1) [0, -1] 1 1/1; Down(1) [0, 1] 1 1/1; Effect(0) 1 [0, 0] -1 1 0 0; Effect(1) 1 [0, 1] -1 1 5 1
@@ -348,7 +347,7 @@ const SHARED: [(&str, Class, [(Problem, u32); 3], &str); 5] = [
     ),
     // `makes` is equal to Keep in the events, and no row of the states
     (
-        PAIR,
+        IN_TURN,
         PLAIN_NONBRANCHING,
         [(Event(0, 1), 0), (Event(1, 0), 0), (States(0, 1), 1)],
         "1 2; Empty [-1, 0] 0 1/1; Full(1) [1, -1] -1 1/1; Keep [0, -1] 0 1/1; Tokens(0) [1, 0] 0 1/1; Tokens(1) [1, -1] 0 1/1; Up(0) [0, 1] 1 1/1; Up(1) [0, -1] 1 1/1; Effect(0) 1 [0, -1] -1 1 6 1; Effect(1) 1 [0, 1] -1 1 5 1

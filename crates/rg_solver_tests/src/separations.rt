@@ -2,9 +2,9 @@
 ghost use Rattle.std.specs.Prelude.{◌≤◌};
 ghost use Rattle.rg_theory.specs.ClassWords.{HasNumbersInRange};
 
-use crate::systems::{ABA, CHOICE, NONBRANCHING, NONE, RING, SAFE, TWO_BOUNDED, system};
 use rg_lts::Lts;
 use rg_ports::NoGate;
+use rg_samples::{ABA, CHOICE, CYCLE, DEAD, NONBRANCHING, NONE, SAFE, TWO_BOUNDED, system};
 use rg_separate::{Separation, separate};
 use rg_spanning::Tree;
 use rg_theory::Class;
@@ -55,9 +55,6 @@ fn has_places<R: Threads + Sync>(
     }
 }
 
-// A label without an arc.
-const STILL: &str = ".type LTS .states s0[initial] .labels a .arcs";
-
 #[test]
 fn places_are_counted(rt: HostRuntime) {
     for jobs in [1u8, 2, 7, 16] {
@@ -65,9 +62,9 @@ fn places_are_counted(rt: HostRuntime) {
             (ABA, NONE, Some(3)),
             (CHOICE, NONE, Some(3)),
             (CHOICE, NONBRANCHING, None),
-            (RING, SAFE, None),
-            (RING, TWO_BOUNDED, Some(2)),
-            (STILL, NONE, Some(1)),
+            (CYCLE, SAFE, None),
+            (CYCLE, TWO_BOUNDED, Some(2)),
+            (DEAD, NONE, Some(1)),
         ] {
             assert!(rt;
                 has_places(&rt, rt.alloc(), text, class, jobs, count),

@@ -5,18 +5,12 @@
 #[cfg(test)]
 mod bytes;
 #[cfg(test)]
-mod net_faults;
-#[cfg(test)]
-mod net_limits;
+mod net_items;
 #[cfg(test)]
 mod nets;
 #[cfg(test)]
 mod options;
 #[cfg(test)]
 mod samples;
-#[cfg(test)]
-mod system_faults;
-#[cfg(test)]
-mod system_limits;
 #[cfg(test)]
 mod systems;
