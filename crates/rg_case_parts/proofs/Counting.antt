@@ -6,9 +6,10 @@ use Rattle.std.proofs.lemmas.List.Elements.{All-head, All-tail}
 use Rattle.std.proofs.lemmas.Option.{same_Some, none-some}
 use Rattle.rg_theory.specs.declared.Arc.{Arc}
 use Rattle.rg_integers.specs.Range.{InRange}
-use Rattle.rg_refuting.specs.Expression.{Term as SumTerm, Variable, same_variable, coefficient_in}
+use Rattle.rg_refuting.specs.Expression.{Term as SumTerm, same_variable, coefficient_in}
+use Rattle.rg_refuting.specs.declared.Variable.{Variable}
 use Rattle.rg_order_of_work.specs.Rewriting.{variable_start, variable_count, start_of, count_of}
-use Rattle.rg_reasons.specs.declared.variable.Term.{Term}
+use Rattle.rg_reasons.specs.declared.term.Term.{Term}
 use Rattle.rg_reasons.specs.Sums.{term_of, terms_in}
 
 part : (a b c : ℤ) → (a +ℤ b) +ℤ c ≡ a +ℤ (b +ℤ c)

@@ -1,11 +1,13 @@
 -- Which states terms may name.
 use Rattle.std.specs.Prelude.{ℕ, ◌<◌}
-use Rattle.rg_refuting.specs.Expression.{Term, Variable, Variable.tokens_at, Variable.effect_of}
+use Rattle.rg_refuting.specs.Expression.{Term}
+use Rattle.rg_refuting.specs.declared.Variable.{Variable}
+use Rattle.rg_refuting.specs.declared.Variable.TheVariants.{Tokens, Effect}
 
 -- a state that the variable names is one of so many
 abbrev pub NamesStateBelow : ℕ → Variable → Type 0
-NamesStateBelow states (tokens_at q) = q < states
-NamesStateBelow states (effect_of t) = Unit {0}
+NamesStateBelow states (Tokens q) = q < states
+NamesStateBelow states (Effect t) = Unit {0}
 
 -- a state that the term names is one of so many
 abbrev pub TermNamesStateBelow : ℕ → Term → Type 0

@@ -2,11 +2,12 @@
 ghost use Rattle.std.specs.Prelude.{◌≡◌, ◌<◌, ◌^◌, pos, negsuc, neg_ℤ, ◌*ℤ◌, ◌≤ℤ◌, ◌<ℤ◌, All};
 ghost use Rattle.rg_integers.specs.Range.{InRange};
 ghost use Rattle.rg_order_of_work.specs.Rewriting.{variable_start, variable_count, start_of, count_of};
-ghost use Rattle.rg_reasons.specs.Sums.{variable_of, term_of, expression_of};
+ghost use Rattle.rg_reasons.specs.Sums.{term_of, expression_of};
 ghost use Rattle.rg_case_parts.specs.StatesNamed.{NamesStateBelow, TermNamesStateBelow};
 
 use rg_reasons::Term::{self, Minus, Plus};
-use rg_reasons::{Expression, Variable};
+use rg_reasons::Expression;
+use rg_refuting::Variable;
 use rg_spanning::Tree;
 
 /// How often Start, the tokens of the initial state, counts in the terms: once in the tokens at each state, and
@@ -69,8 +70,8 @@ fn count_in(tree: &Tree, term: Term, t: u32) -> i128
 // How often label t counts in the tokens at a state or the effect of a label.
 fn variable_count(tree: &Tree, variable: Variable, t: u32) -> i128
     requires label { t < tree.now.labels }
-    requires within { NamesStateBelow tree.now.states (variable_of variable) }
-    ensures value { result ≡ variable_count tree.now.arcs (variable_of variable) t }
+    requires within { NamesStateBelow tree.now.states variable }
+    ensures value { result ≡ variable_count tree.now.arcs variable t }
     ensures bounds { (pos 0 ≤ℤ result) × (result <ℤ pos (2 ^ 32)) }
 {
     match variable {

@@ -12,21 +12,22 @@ use Rattle.rg_theory.specs.declared.Class.{Class}
 use Rattle.rg_theory.specs.declared.Problem.TheVariants.{Event, States}
 use Rattle.rg_theory.specs.ClassWords.{NamesClass}
 use Rattle.rg_lts.specs.WellFormed.{AreNames, IsWellFormed}
-use Rattle.rg_refuting.specs.Row.{Form, Form.on_tokens, Form.on_effect, Form.on_start}
-use Rattle.rg_refuting.specs.Row.{RowName, RowName.arc_row, RowName.tokens_row, RowName.cap_row, RowName.up_row, RowName.down_row, RowName.makes_row, RowName.stop_row, RowName.block_row, RowName.empty_row, RowName.full_row, RowName.keep_row, RowName.apart_row, RowName.above_row}
+use Rattle.rg_refuting.specs.declared.Form.{Form}
 use Rattle.rg_refuting.specs.Refutes as refutes
 use Rattle.rg_refuting.specs.Refutes.{NamedRow, Tree, Tree.leaf, Tree.split}
 use Rattle.rg_reasons.specs.Trees.{TreeNode, leaf_node, split_node, preorder}
-use Rattle.rg_reasons.specs.Certificates.{Claim, IsRowOf, IsNodeOf, IsTreeOf, IsReasonOf}
-use Rattle.rg_cert.specs.Text.{Version, version_one, version_two, heading, class_version, splits_start, reason_nodes, asks_two, state_name, label_name, named_fields, form_fields, node_lines, case_lines, reason_lines, spaced, cert_lines}
+use Rattle.rg_reasons.specs.Certificates.{Claim, IsMultiplierInRange, IsRowOf, IsNodeOf, IsTreeOf, IsReasonOf}
+use Rattle.rg_cert.specs.Text.{Version, version_one, version_two, heading, class_version, splits_start, reason_nodes, asks_two, state_name, label_name, Subject, of_none, of_arc, of_state, of_label, of_depth, word_and_subject, subject_fields, named_fields, form_fields, node_lines, case_lines, reason_lines, spaced, cert_lines}
 use Rattle.rg_cert.specs.Lines.{HasFieldForm, AreAsked, LineForm, heading_line, class_line, unreachable_line, fork_line, event_line, states_line, case_line}
-use Rattle.rg_cert.specs.Lines.{split_tokens_line, split_effect_line, split_start_line, leaf_line, row_line, end_line, arc_form, tokens_form, cap_form, up_form}
-use Rattle.rg_cert.specs.Lines.{down_form, makes_form, stop_form, block_form, empty_form, full_form, keep_form, apart_form, above_form, fields_of, Count, one, several}
+use Rattle.rg_cert.specs.Lines.{split_tokens_line, split_effect_line, split_start_line, leaf_line, row_line, end_line, lone_form, arc_form, state_form, label_form, depth_form}
+use Rattle.rg_cert.specs.Lines.{fields_of, Count, one, several}
 use Rattle.rg_cert.specs.Lines.{Position, at_heading, at_class, at_reason, at_last, at_one_case, at_cases, at_node, at_row, at_end, Next, to, if_two, follows}
 use Rattle.rg_cert.specs.Faults.{IsRight, LineLeads, LinesLead}
 use Rattle.rg_cert.specs.Drafts.{Head, of_unreachable, of_fork, of_event, of_states, head_fields, IsHeadOf, after_head, IsClassIn, IsNodeIn}
 use Rattle.rg_cert.proofs.Decimal.{written_numeral}
 use Rattle.rg_cert.proofs.LineTexts.{fields_are}
+use Rattle.rg_cert.proofs.Words.{IsSubjectOf, IsWordOf, word_of, subject_is}
+use Rattle.rg_refuting.specs.declared.Form.TheVariants as split_form
 
 -- the line with these texts is right in itself, and leads from a position to the next
 pub record TextsLead (lts : System) (position : Position) (texts : List (List ℕ)) (next : Position) : Type 0 where
@@ -122,92 +123,49 @@ small_depth d small = omega arith
 small_split : (z : ℤ) → nat_abs z < 2 ^ 63 → nat_abs z < 10 ^ 64
 small_split z small = omega arith
 
--- a row of a leaf
-row_leads : (lts : System) (version : Version) (count : Count) (due : ℕ) (m : ℤ) (name : RowName) → IsWellFormed lts → IsRowOf lts (record { multiplier = m; name = name })
-    → TextsLead lts (at_row version count due) (named_fields lts (record { multiplier = m; name = name })) (at_row version count due)
-row_leads lts version count due m (arc_row q t q') fine is = record {
+-- a row of a leaf, by its word and what it speaks of
+subject_leads : (lts : System) (version : Version) (count : Count) (due : ℕ) (m : ℤ) (w : List ℕ) (subject : Subject) → IsWellFormed lts → IsMultiplierInRange m → IsWordOf subject w → IsSubjectOf lts subject
+    → TextsLead lts (at_row version count due) (signed_decimal m ∷ w ∷ subject_fields lts subject) (at_row version count due)
+subject_leads lts version count due m w of_none fine small word is = record {
+  form = row_line lone_form;
+  fields = ((m, written_numeral m (small_multiplier m small)), (word, tt));
+  right = (((m, written_numeral m (small_multiplier m small), small), (tt, tt)), (tt, (tt, tt)));
+  leads = refl;
+}
+subject_leads lts version count due m w (of_arc a) fine small word is = record {
   form = row_line arc_form;
-  fields = ((m, written_numeral m (small_multiplier m is.multiplier)), (refl, (state_is lts q fine is.name.0, (label_is lts t fine is.name.1, (state_is lts q' fine is.name.2, tt)))));
-  right = (((m, written_numeral m (small_multiplier m is.multiplier), is.multiplier), (tt, (tt, (tt, (tt, tt))))), (tt, (tt, (there_at lts.state_names q is.name.0, (there_at lts.label_names t is.name.1, (there_at lts.state_names q' is.name.2, tt))))));
+  fields = ((m, written_numeral m (small_multiplier m small)), (word, (state_is lts a.from fine is.0, (label_is lts a.label fine is.1, (state_is lts a.to fine is.2, tt)))));
+  right = (((m, written_numeral m (small_multiplier m small), small), (tt, (tt, (tt, (tt, tt))))), (tt, (tt, (there_at lts.state_names a.from is.0, (there_at lts.label_names a.label is.1, (there_at lts.state_names a.to is.2, tt))))));
   leads = refl;
 }
-row_leads lts version count due m (tokens_row q) fine is = record {
-  form = row_line tokens_form;
-  fields = ((m, written_numeral m (small_multiplier m is.multiplier)), (refl, (state_is lts q fine is.name, tt)));
-  right = (((m, written_numeral m (small_multiplier m is.multiplier), is.multiplier), (tt, (tt, tt))), (tt, (tt, (there_at lts.state_names q is.name, tt))));
+subject_leads lts version count due m w (of_state q) fine small word is = record {
+  form = row_line state_form;
+  fields = ((m, written_numeral m (small_multiplier m small)), (word, (state_is lts q fine is, tt)));
+  right = (((m, written_numeral m (small_multiplier m small), small), (tt, (tt, tt))), (tt, (tt, (there_at lts.state_names q is, tt))));
   leads = refl;
 }
-row_leads lts version count due m (cap_row q) fine is = record {
-  form = row_line cap_form;
-  fields = ((m, written_numeral m (small_multiplier m is.multiplier)), (refl, (state_is lts q fine is.name, tt)));
-  right = (((m, written_numeral m (small_multiplier m is.multiplier), is.multiplier), (tt, (tt, tt))), (tt, (tt, (there_at lts.state_names q is.name, tt))));
+subject_leads lts version count due m w (of_label t) fine small word is = record {
+  form = row_line label_form;
+  fields = ((m, written_numeral m (small_multiplier m small)), (word, (label_is lts t fine is, tt)));
+  right = (((m, written_numeral m (small_multiplier m small), small), (tt, (tt, tt))), (tt, (tt, (there_at lts.label_names t is, tt))));
   leads = refl;
 }
-row_leads lts version count due m (up_row t) fine is = record {
-  form = row_line up_form;
-  fields = ((m, written_numeral m (small_multiplier m is.multiplier)), (refl, (label_is lts t fine is.name, tt)));
-  right = (((m, written_numeral m (small_multiplier m is.multiplier), is.multiplier), (tt, (tt, tt))), (tt, (tt, (there_at lts.label_names t is.name, tt))));
+subject_leads lts version count due m w (of_depth d) fine small word is = record {
+  form = row_line depth_form;
+  fields = ((m, written_numeral m (small_multiplier m small)), (word, ((pos d, written_numeral (pos d) (small_depth d is)), tt)));
+  right = (((m, written_numeral m (small_multiplier m small), small), (tt, ((pos d, written_numeral (pos d) (small_depth d is), (d, refl, is)), tt))), (tt, (tt, (tt, tt))));
   leads = refl;
 }
-row_leads lts version count due m (down_row t) fine is = record {
-  form = row_line down_form;
-  fields = ((m, written_numeral m (small_multiplier m is.multiplier)), (refl, (label_is lts t fine is.name, tt)));
-  right = (((m, written_numeral m (small_multiplier m is.multiplier), is.multiplier), (tt, (tt, tt))), (tt, (tt, (there_at lts.label_names t is.name, tt))));
-  leads = refl;
-}
-row_leads lts version count due m (makes_row t) fine is = record {
-  form = row_line makes_form;
-  fields = ((m, written_numeral m (small_multiplier m is.multiplier)), (refl, (label_is lts t fine is.name, tt)));
-  right = (((m, written_numeral m (small_multiplier m is.multiplier), is.multiplier), (tt, (tt, tt))), (tt, (tt, (there_at lts.label_names t is.name, tt))));
-  leads = refl;
-}
-row_leads lts version count due m (stop_row q) fine is = record {
-  form = row_line stop_form;
-  fields = ((m, written_numeral m (small_multiplier m is.multiplier)), (refl, (state_is lts q fine is.name, tt)));
-  right = (((m, written_numeral m (small_multiplier m is.multiplier), is.multiplier), (tt, (tt, tt))), (tt, (tt, (there_at lts.state_names q is.name, tt))));
-  leads = refl;
-}
-row_leads lts version count due m block_row fine is = record {
-  form = row_line block_form;
-  fields = ((m, written_numeral m (small_multiplier m is.multiplier)), (refl, tt));
-  right = (((m, written_numeral m (small_multiplier m is.multiplier), is.multiplier), (tt, tt)), (tt, (tt, tt)));
-  leads = refl;
-}
-row_leads lts version count due m empty_row fine is = record {
-  form = row_line empty_form;
-  fields = ((m, written_numeral m (small_multiplier m is.multiplier)), (refl, tt));
-  right = (((m, written_numeral m (small_multiplier m is.multiplier), is.multiplier), (tt, tt)), (tt, (tt, tt)));
-  leads = refl;
-}
-row_leads lts version count due m (full_row q) fine is = record {
-  form = row_line full_form;
-  fields = ((m, written_numeral m (small_multiplier m is.multiplier)), (refl, (state_is lts q fine is.name, tt)));
-  right = (((m, written_numeral m (small_multiplier m is.multiplier), is.multiplier), (tt, (tt, tt))), (tt, (tt, (there_at lts.state_names q is.name, tt))));
-  leads = refl;
-}
-row_leads lts version count due m keep_row fine is = record {
-  form = row_line keep_form;
-  fields = ((m, written_numeral m (small_multiplier m is.multiplier)), (refl, tt));
-  right = (((m, written_numeral m (small_multiplier m is.multiplier), is.multiplier), (tt, tt)), (tt, (tt, tt)));
-  leads = refl;
-}
-row_leads lts version count due m apart_row fine is = record {
-  form = row_line apart_form;
-  fields = ((m, written_numeral m (small_multiplier m is.multiplier)), (refl, tt));
-  right = (((m, written_numeral m (small_multiplier m is.multiplier), is.multiplier), (tt, tt)), (tt, (tt, tt)));
-  leads = refl;
-}
-row_leads lts version count due m (above_row d) fine is = record {
-  form = row_line above_form;
-  fields = ((m, written_numeral m (small_multiplier m is.multiplier)), (refl, ((pos d, written_numeral (pos d) (small_depth d is.name)), tt)));
-  right = (((m, written_numeral m (small_multiplier m is.multiplier), is.multiplier), (tt, ((pos d, written_numeral (pos d) (small_depth d is.name), (d, refl, is.name)), tt))), (tt, (tt, (tt, tt))));
-  leads = refl;
-}
+
+row_leads : (lts : System) (version : Version) (count : Count) (due : ℕ) (r : NamedRow) → IsWellFormed lts → IsRowOf lts r
+    → TextsLead lts (at_row version count due) (named_fields lts r) (at_row version count due)
+row_leads lts version count due r fine is =
+    subject_leads lts version count due r.multiplier (word_and_subject r.name).0 (word_and_subject r.name).1 fine is.multiplier (word_of r.name) (subject_is lts r.name is.name)
 
 rows_lead : (lts : System) (version : Version) (count : Count) (due : ℕ) (rows : List NamedRow) → IsWellFormed lts → All (IsRowOf lts) rows → TextsLeadAll lts (at_row version count due) (map (named_fields lts) rows) (at_row version count due)
 rows_lead lts version count due [] fine are = refl
 rows_lead lts version count due (r ∷ rows) fine are =
-    (at_row version count due, row_leads lts version count due r.multiplier r.name fine (All-head (IsRowOf lts) r rows are), rows_lead lts version count due rows fine (All-tail (IsRowOf lts) r rows are))
+    (at_row version count due, row_leads lts version count due r fine (All-head (IsRowOf lts) r rows are), rows_lead lts version count due rows fine (All-tail (IsRowOf lts) r rows are))
 
 -- a node is due at the position, and so many after it
 record IsDue (position : Position) (version : Version) (count : Count) (due : ℕ) : Type 0 where
@@ -232,19 +190,19 @@ must_two version_two fits = refl
 
 split_leads : (lts : System) (position : Position) (version : Version) (count : Count) (due : ℕ) (form : Form) (at : ℤ) → IsWellFormed lts → IsDue position version count due → IsNodeIn lts version (split_node form at)
     → TextsLead lts position (codes "split" ∷ (form_fields lts form ++ signed_decimal at ∷ [])) (at_node version count (suc due))
-split_leads lts position version count due (on_tokens q) at fine is is_in = record {
+split_leads lts position version count due (split_form.Tokens q) at fine is is_in = record {
   form = split_tokens_line;
   fields = (refl, (refl, (state_is lts q fine is_in.of_system.0, ((at, written_numeral at (small_split at is_in.of_system.1)), tt))));
   right = ((tt, (tt, (tt, ((at, written_numeral at (small_split at is_in.of_system.1), is_in.of_system.1), tt)))), (tt, (tt, (there_at lts.state_names q is_in.of_system.0, (tt, tt)))));
   leads = is.tokens;
 }
-split_leads lts position version count due (on_effect t) at fine is is_in = record {
+split_leads lts position version count due (split_form.Effect t) at fine is is_in = record {
   form = split_effect_line;
   fields = (refl, (refl, (label_is lts t fine is_in.of_system.0, ((at, written_numeral at (small_split at is_in.of_system.1)), tt))));
   right = ((tt, (tt, (tt, ((at, written_numeral at (small_split at is_in.of_system.1), is_in.of_system.1), tt)))), (tt, (tt, (there_at lts.label_names t is_in.of_system.0, (tt, tt)))));
   leads = is.effect;
 }
-split_leads lts position version count due on_start at fine is is_in = record {
+split_leads lts position version count due split_form.Start at fine is is_in = record {
   form = split_start_line;
   fields = (refl, (refl, ((at, written_numeral at (small_split at is_in.of_system.1)), tt)));
   right = ((tt, (tt, ((at, written_numeral at (small_split at is_in.of_system.1), is_in.of_system.1), tt))), (tt, (tt, (tt, tt))));

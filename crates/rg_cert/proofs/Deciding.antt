@@ -13,7 +13,7 @@ use Rattle.rg_theory.proofs.ClassTold.{one_class}
 use Rattle.rg_theory.proofs.ClassDecided.{Decided, same_bytes, class_of_text}
 use Rattle.rg_cert.specs.Text.{Version, version_one, version_two, class_version}
 use Rattle.rg_cert.specs.Numerals.{IsPlain, IsNumeral}
-use Rattle.rg_cert.specs.Lines.{Range, multiplier, split_value, depth, IsIn, Field, word, class_words, state, label, number, HasFieldForm, IsFieldInRange, IsFieldKnown, AreAsked}
+use Rattle.rg_cert.specs.Lines.{Range, multiplier, split_value, depth, IsIn, Field, word, one_of, class_words, state, label, number, HasFieldForm, IsFieldInRange, IsFieldKnown, AreAsked}
 use Rattle.rg_cert.proofs.Cuts.{Lacks}
 use Rattle.rg_cert.proofs.Decimal.{one_number}
 use Rattle.rg_cert.proofs.Digits.{plain_numeral, minus_numeral, after_minus}
@@ -96,6 +96,7 @@ class_decided version text (inl (class, named)) = by (version_decided (class_ver
 
 form_decided : (field : Field) (text : List ℕ) → Decided (HasFieldForm field text)
 form_decided (word w) text = same_bytes text w
+form_decided (one_of words) text = contains_decided words text
 form_decided (class_words version) text = class_decided version text (class_of_text text)
 form_decided state text = name_decided text
 form_decided label text = name_decided text
@@ -103,6 +104,7 @@ form_decided (number range) text = numeral_decided text
 
 in_range_decided : (field : Field) (text : List ℕ) → Decided (IsFieldInRange field text)
 in_range_decided (word w) text = inl tt
+in_range_decided (one_of words) text = inl tt
 in_range_decided (class_words version) text = inl tt
 in_range_decided state text = inl tt
 in_range_decided label text = inl tt
@@ -118,6 +120,7 @@ in_range_decided (number range) text = by (numeral_decided text)
 
 known_decided : (lts : System) (field : Field) (text : List ℕ) → Decided (IsFieldKnown lts field text)
 known_decided lts (word w) text = inl tt
+known_decided lts (one_of words) text = inl tt
 known_decided lts (class_words version) text = inl tt
 known_decided lts state text = contains_decided lts.state_names text
 known_decided lts label text = contains_decided lts.label_names text

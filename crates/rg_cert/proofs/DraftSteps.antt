@@ -8,7 +8,7 @@ use Rattle.std.proofs.lemmas.Grind.{flat_map-append}
 use Rattle.std.proofs.lemmas.List.{map-append}
 use Rattle.std.proofs.lemmas.List.Elements.{All-push, All-nil}
 use Rattle.rg_theory.specs.System.{System}
-use Rattle.rg_refuting.specs.Row.{Form, Form.on_tokens, Form.on_effect, Form.on_start}
+use Rattle.rg_refuting.specs.declared.Form.{Form}
 use Rattle.rg_refuting.specs.Refutes.{NamedRow}
 use Rattle.rg_reasons.specs.Trees.{TreeNode, leaf_node, split_node}
 use Rattle.rg_reasons.specs.Certificates.{IsRowOf}
@@ -18,6 +18,7 @@ use Rattle.rg_cert.specs.Lines.{split_tokens_line, split_effect_line, split_star
 use Rattle.rg_cert.specs.Lines.{at_heading, at_class, at_reason, at_last, at_one_case, at_cases, at_node, at_row, at_end, Next, to, long, if_two, follows}
 use Rattle.rg_cert.specs.Drafts.{Head, of_unreachable, of_fork, of_event, of_states, after_head, Draft, blank, leaf_closed, case_closed, with_split, IsSplitLine, Adds, nodes_lines, draft_lines, IsNodeIn, IsCase, IsCount, IsInTree, HasCases, IsDraftAt, due_at}
 use Rattle.rg_cert.proofs.Opened.{open_start, open_leaf, open_split, open_whole}
+use Rattle.rg_refuting.specs.declared.Form.TheVariants as split_form
 
 -- the draft is right at the position, and has these lines
 abbrev pub IsDrafted : System → Version → Head → Position → Draft → List (List (List ℕ)) → Type 0
@@ -201,18 +202,18 @@ other_words v w other e = true≢false (sym ((bytes_eq-Decides v w).1 e) ∙ oth
 -- a split with another word is none on the start
 fits_tokens : (lts : System) (version : Version) (texts : List (List ℕ)) (form : Form) (at : ℤ) → AreAsked HasFieldForm (fields_of split_tokens_line) texts → IsSplitLine lts texts form at
     → version ≡ version_one → splits_start (split_node form at) ≡ false
-fits_tokens lts version texts (on_tokens q) at asked line first = refl
-fits_tokens lts version texts (on_effect t) at asked line first = refl
-fits_tokens lts version texts on_start at asked line first =
+fits_tokens lts version texts (split_form.Tokens q) at asked line first = refl
+fits_tokens lts version texts (split_form.Effect t) at asked line first = refl
+fits_tokens lts version texts split_form.Start at asked line first =
     let are = subst (AreAsked HasFieldForm (fields_of split_tokens_line)) line.are asked in
     let same : codes "start" ≡ codes "tokens" = are.1.0 in
     absurd (other_words (codes "start") (codes "tokens") refl same)
 
 fits_effect : (lts : System) (version : Version) (texts : List (List ℕ)) (form : Form) (at : ℤ) → AreAsked HasFieldForm (fields_of split_effect_line) texts → IsSplitLine lts texts form at
     → version ≡ version_one → splits_start (split_node form at) ≡ false
-fits_effect lts version texts (on_tokens q) at asked line first = refl
-fits_effect lts version texts (on_effect t) at asked line first = refl
-fits_effect lts version texts on_start at asked line first =
+fits_effect lts version texts (split_form.Tokens q) at asked line first = refl
+fits_effect lts version texts (split_form.Effect t) at asked line first = refl
+fits_effect lts version texts split_form.Start at asked line first =
     let are = subst (AreAsked HasFieldForm (fields_of split_effect_line)) line.are asked in
     let same : codes "start" ≡ codes "effect" = are.1.0 in
     absurd (other_words (codes "start") (codes "effect") refl same)
@@ -223,18 +224,7 @@ of_one_case : (lts : System) (version : Version) (head : Head) (form : LineForm)
 of_one_case lts version head case_line texts next d new is asked leads adds =
     drafted_to lts version head (at_node version one 0) next new (texts ∷ []) leads
     (drafted_by lts version head (at_node version one 0) blank new (texts ∷ []) (adds ∙ is.1) (first_case lts version head one texts (one_is version head is.0) (one_word (codes "case") texts asked)))
-of_one_case lts version head (heading_line w) texts next d new is asked leads adds = absurd cc
-of_one_case lts version head (class_line w) texts next d new is asked leads adds = absurd cc
-of_one_case lts version head unreachable_line texts next d new is asked leads adds = absurd cc
-of_one_case lts version head fork_line texts next d new is asked leads adds = absurd cc
-of_one_case lts version head event_line texts next d new is asked leads adds = absurd cc
-of_one_case lts version head states_line texts next d new is asked leads adds = absurd cc
-of_one_case lts version head split_tokens_line texts next d new is asked leads adds = absurd cc
-of_one_case lts version head split_effect_line texts next d new is asked leads adds = absurd cc
-of_one_case lts version head split_start_line texts next d new is asked leads adds = absurd cc
-of_one_case lts version head leaf_line texts next d new is asked leads adds = absurd cc
-of_one_case lts version head (row_line row) texts next d new is asked leads adds = absurd cc
-of_one_case lts version head end_line texts next d new is asked leads adds = absurd cc
+of_one_case lts version head form texts next d new is asked leads adds = absurd cc
 
 of_cases : (lts : System) (version : Version) (head : Head) (form : LineForm) (texts : List (List ℕ)) (next : Position) (d new : Draft) → IsDraftAt lts version head (at_cases version) d
     → AreAsked HasFieldForm (fields_of form) texts → follows (at_cases version) form ≡ to next → Adds lts (at_cases version) form texts d new → IsDrafted lts version head next new (draft_lines lts (at_cases version) d ++ texts ∷ [])
@@ -243,17 +233,7 @@ of_cases lts version head case_line texts next d new is asked leads adds =
     (drafted_by lts version head (at_node version several 0) blank new (texts ∷ []) (adds ∙ is.1) (first_case lts version head several texts (several_is version head is.0) (one_word (codes "case") texts asked)))
 of_cases lts version head end_line texts next d new is asked leads adds =
     drafted_to lts version head at_end next new (texts ∷ []) leads (drafted_by lts version head at_end blank new (texts ∷ []) (adds ∙ is.1) (end_of_cases lts version head texts is.0 (one_word (codes "end") texts asked)))
-of_cases lts version head (heading_line w) texts next d new is asked leads adds = absurd cc
-of_cases lts version head (class_line w) texts next d new is asked leads adds = absurd cc
-of_cases lts version head unreachable_line texts next d new is asked leads adds = absurd cc
-of_cases lts version head fork_line texts next d new is asked leads adds = absurd cc
-of_cases lts version head event_line texts next d new is asked leads adds = absurd cc
-of_cases lts version head states_line texts next d new is asked leads adds = absurd cc
-of_cases lts version head split_tokens_line texts next d new is asked leads adds = absurd cc
-of_cases lts version head split_effect_line texts next d new is asked leads adds = absurd cc
-of_cases lts version head split_start_line texts next d new is asked leads adds = absurd cc
-of_cases lts version head leaf_line texts next d new is asked leads adds = absurd cc
-of_cases lts version head (row_line row) texts next d new is asked leads adds = absurd cc
+of_cases lts version head form texts next d new is asked leads adds = absurd cc
 
 of_node : (lts : System) (version : Version) (head : Head) (count : Count) (due : ℕ) (form : LineForm) (texts : List (List ℕ)) (next : Position) (d new : Draft) → IsDraftAt lts version head (at_node version count due) d
     → AreAsked HasFieldForm (fields_of form) texts → follows (at_node version count due) form ≡ to next → Adds lts (at_node version count due) form texts d new → IsDrafted lts version head next new (draft_lines lts (at_node version count due) d ++ texts ∷ [])
@@ -270,15 +250,7 @@ of_node lts version head count due split_start_line texts next d new is asked le
 of_node lts version head count due leaf_line texts next d new is asked leads adds =
     drafted_to lts version head (at_row version count due) next new (draft_lines lts (at_node version count due) d ++ texts ∷ []) leads
     (drafted_by lts version head (at_row version count due) d new (draft_lines lts (at_node version count due) d ++ texts ∷ []) adds (node_leaf lts version head count due texts d is.1 is.2 (one_word (codes "leaf") texts asked)))
-of_node lts version head count due (heading_line w) texts next d new is asked leads adds = absurd cc
-of_node lts version head count due (class_line w) texts next d new is asked leads adds = absurd cc
-of_node lts version head count due unreachable_line texts next d new is asked leads adds = absurd cc
-of_node lts version head count due fork_line texts next d new is asked leads adds = absurd cc
-of_node lts version head count due event_line texts next d new is asked leads adds = absurd cc
-of_node lts version head count due states_line texts next d new is asked leads adds = absurd cc
-of_node lts version head count due case_line texts next d new is asked leads adds = absurd cc
-of_node lts version head count due (row_line row) texts next d new is asked leads adds = absurd cc
-of_node lts version head count due end_line texts next d new is asked leads adds = absurd cc
+of_node lts version head count due form texts next d new is asked leads adds = absurd cc
 
 of_row : (lts : System) (version : Version) (head : Head) (count : Count) (due : ℕ) (form : LineForm) (texts : List (List ℕ)) (next : Position) (d new : Draft) → IsDraftAt lts version head (at_row version count due) d
     → AreAsked HasFieldForm (fields_of form) texts → follows (at_row version count due) form ≡ to next → Adds lts (at_row version count due) form texts d new → IsDrafted lts version head next new (draft_lines lts (at_row version count due) d ++ texts ∷ [])
@@ -306,44 +278,20 @@ of_row lts version head count (suc due) leaf_line texts next d new is asked lead
     drafted_to lts version head (at_row version count due) next new (draft_lines lts (at_row version count (suc due)) d ++ texts ∷ []) leads
     (drafted_by lts version head (at_row version count due) closed new (draft_lines lts (at_row version count (suc due)) d ++ texts ∷ []) adds
     (node_leaf lts version head count due texts closed (in_leaf lts version head count d (suc due) is.1 is.2) refl (one_word (codes "leaf") texts asked)))
-of_row lts version head count (suc due) (heading_line w) texts next d new is asked leads adds = absurd cc
-of_row lts version head count (suc due) (class_line w) texts next d new is asked leads adds = absurd cc
-of_row lts version head count (suc due) unreachable_line texts next d new is asked leads adds = absurd cc
-of_row lts version head count (suc due) fork_line texts next d new is asked leads adds = absurd cc
-of_row lts version head count (suc due) event_line texts next d new is asked leads adds = absurd cc
-of_row lts version head count (suc due) states_line texts next d new is asked leads adds = absurd cc
-of_row lts version head count (suc due) case_line texts next d new is asked leads adds = absurd cc
-of_row lts version head count (suc due) end_line texts next d new is asked leads adds = absurd cc
+of_row lts version head count (suc due) form texts next d new is asked leads adds = absurd cc
 of_row lts version head one zero end_line texts next d new is asked leads adds =
     drafted_to lts version head at_end next new (draft_lines lts (at_row version one zero) d ++ texts ∷ []) leads
     (drafted_by lts version head at_end (case_closed (at_row version one zero) d) new (draft_lines lts (at_row version one zero) d ++ texts ∷ []) adds (last_case lts version head one texts d is.1 is.2 (one_word (codes "end") texts asked)))
+of_row lts version head one zero split_start_line texts next d new is asked leads adds = let two = two_leads version long next leads in let both : long ≡ to next = two.1 in absurd cc
+of_row lts version head one zero form texts next d new is asked leads adds = absurd cc
 of_row lts version head several zero end_line texts next d new is asked leads adds =
     drafted_to lts version head at_end next new (draft_lines lts (at_row version several zero) d ++ texts ∷ []) leads
     (drafted_by lts version head at_end (case_closed (at_row version several zero) d) new (draft_lines lts (at_row version several zero) d ++ texts ∷ []) adds (last_case lts version head several texts d is.1 is.2 (one_word (codes "end") texts asked)))
 of_row lts version head several zero case_line texts next d new is asked leads adds =
     drafted_to lts version head (at_node version several 0) next new (draft_lines lts (at_row version several zero) d ++ texts ∷ []) leads
     (drafted_by lts version head (at_node version several 0) (case_closed (at_row version several zero) d) new (draft_lines lts (at_row version several zero) d ++ texts ∷ []) adds (next_case lts version head texts d is.1 is.2 (one_word (codes "case") texts asked)))
-of_row lts version head several zero (heading_line w) texts next d new is asked leads adds = absurd cc
-of_row lts version head several zero (class_line w) texts next d new is asked leads adds = absurd cc
-of_row lts version head several zero unreachable_line texts next d new is asked leads adds = absurd cc
-of_row lts version head several zero fork_line texts next d new is asked leads adds = absurd cc
-of_row lts version head several zero event_line texts next d new is asked leads adds = absurd cc
-of_row lts version head several zero states_line texts next d new is asked leads adds = absurd cc
-of_row lts version head several zero split_tokens_line texts next d new is asked leads adds = absurd cc
-of_row lts version head several zero split_effect_line texts next d new is asked leads adds = absurd cc
 of_row lts version head several zero split_start_line texts next d new is asked leads adds = let two = two_leads version long next leads in let both : long ≡ to next = two.1 in absurd cc
-of_row lts version head several zero leaf_line texts next d new is asked leads adds = absurd cc
-of_row lts version head one zero (heading_line w) texts next d new is asked leads adds = absurd cc
-of_row lts version head one zero (class_line w) texts next d new is asked leads adds = absurd cc
-of_row lts version head one zero unreachable_line texts next d new is asked leads adds = absurd cc
-of_row lts version head one zero fork_line texts next d new is asked leads adds = absurd cc
-of_row lts version head one zero event_line texts next d new is asked leads adds = absurd cc
-of_row lts version head one zero states_line texts next d new is asked leads adds = absurd cc
-of_row lts version head one zero case_line texts next d new is asked leads adds = absurd cc
-of_row lts version head one zero split_tokens_line texts next d new is asked leads adds = absurd cc
-of_row lts version head one zero split_effect_line texts next d new is asked leads adds = absurd cc
-of_row lts version head one zero split_start_line texts next d new is asked leads adds = let two = two_leads version long next leads in let both : long ≡ to next = two.1 in absurd cc
-of_row lts version head one zero leaf_line texts next d new is asked leads adds = absurd cc
+of_row lts version head several zero form texts next d new is asked leads adds = absurd cc
 
 of_one_case_is : (same version : Version) (head : Head) → at_one_case same ≡ after_head version head → same ≡ version
 of_one_case_is same version (of_unreachable s) at = absurd cc
@@ -365,31 +313,8 @@ drafted lts version head (at_class v) form texts next d new is asked leads adds 
 drafted lts version head (at_reason v) form texts next d new is asked leads adds = absurd ((not_early version head (at_reason v) is.0).2 v refl)
 drafted lts version head at_last end_line texts next d new is asked leads adds =
     drafted_to lts version head at_end next new (texts ∷ []) leads (drafted_by lts version head at_end blank new (texts ∷ []) (adds ∙ is.1) (no_cases lts version head texts is.0 (one_word (codes "end") texts asked)))
-drafted lts version head at_last (heading_line w) texts next d new is asked leads adds = absurd cc
-drafted lts version head at_last (class_line w) texts next d new is asked leads adds = absurd cc
-drafted lts version head at_last unreachable_line texts next d new is asked leads adds = absurd cc
-drafted lts version head at_last fork_line texts next d new is asked leads adds = absurd cc
-drafted lts version head at_last event_line texts next d new is asked leads adds = absurd cc
-drafted lts version head at_last states_line texts next d new is asked leads adds = absurd cc
-drafted lts version head at_last case_line texts next d new is asked leads adds = absurd cc
-drafted lts version head at_last split_tokens_line texts next d new is asked leads adds = absurd cc
-drafted lts version head at_last split_effect_line texts next d new is asked leads adds = absurd cc
-drafted lts version head at_last split_start_line texts next d new is asked leads adds = absurd cc
-drafted lts version head at_last leaf_line texts next d new is asked leads adds = absurd cc
-drafted lts version head at_last (row_line row) texts next d new is asked leads adds = absurd cc
-drafted lts version head at_end (heading_line w) texts next d new is asked leads adds = absurd cc
-drafted lts version head at_end (class_line w) texts next d new is asked leads adds = absurd cc
-drafted lts version head at_end unreachable_line texts next d new is asked leads adds = absurd cc
-drafted lts version head at_end fork_line texts next d new is asked leads adds = absurd cc
-drafted lts version head at_end event_line texts next d new is asked leads adds = absurd cc
-drafted lts version head at_end states_line texts next d new is asked leads adds = absurd cc
-drafted lts version head at_end case_line texts next d new is asked leads adds = absurd cc
-drafted lts version head at_end split_tokens_line texts next d new is asked leads adds = absurd cc
-drafted lts version head at_end split_effect_line texts next d new is asked leads adds = absurd cc
-drafted lts version head at_end split_start_line texts next d new is asked leads adds = absurd cc
-drafted lts version head at_end leaf_line texts next d new is asked leads adds = absurd cc
-drafted lts version head at_end (row_line row) texts next d new is asked leads adds = absurd cc
-drafted lts version head at_end end_line texts next d new is asked leads adds = absurd cc
+drafted lts version head at_last form texts next d new is asked leads adds = absurd cc
+drafted lts version head at_end form texts next d new is asked leads adds = absurd cc
 drafted lts version head (at_one_case same) form texts next d new is asked leads adds =
     let e = of_one_case_is same version head is.0 in
     of_one_case lts version head form texts next d new (subst (λ v. (at_one_case v) ≡ after_head version head) e is.0, is.1) asked (subst (λ v. follows (at_one_case v) form ≡ to next) e leads) (subst (λ v. Adds lts (at_one_case v) form texts d new) e adds)
@@ -409,146 +334,40 @@ due_is p next e = ap due_at (sym (to_is p next e))
 -- a line makes at most one more node due
 pub few_due : (position : Position) (form : LineForm) (next : Position) → follows position form ≡ to next → due_at next ≤ suc (due_at position)
 few_due at_heading (heading_line w) next e = omega (arith, due_is (at_class w) next e)
-few_due at_heading (class_line w) next e = absurd cc
-few_due at_heading unreachable_line next e = absurd cc
-few_due at_heading fork_line next e = absurd cc
-few_due at_heading event_line next e = absurd cc
-few_due at_heading states_line next e = absurd cc
-few_due at_heading case_line next e = absurd cc
-few_due at_heading split_tokens_line next e = absurd cc
-few_due at_heading split_effect_line next e = absurd cc
-few_due at_heading split_start_line next e = absurd cc
-few_due at_heading leaf_line next e = absurd cc
-few_due at_heading (row_line row) next e = absurd cc
-few_due at_heading end_line next e = absurd cc
-few_due (at_class v) (heading_line w) next e = absurd cc
+few_due at_heading form next e = absurd cc
 few_due (at_class v) (class_line version_one) next e = omega (arith, due_is (at_reason v) next e)
 few_due (at_class v) (class_line version_two) next e = omega (arith, due_is (at_reason v) next (two_leads v (to (at_reason v)) next e).1)
-few_due (at_class v) unreachable_line next e = absurd cc
-few_due (at_class v) fork_line next e = absurd cc
-few_due (at_class v) event_line next e = absurd cc
-few_due (at_class v) states_line next e = absurd cc
-few_due (at_class v) case_line next e = absurd cc
-few_due (at_class v) split_tokens_line next e = absurd cc
-few_due (at_class v) split_effect_line next e = absurd cc
-few_due (at_class v) split_start_line next e = absurd cc
-few_due (at_class v) leaf_line next e = absurd cc
-few_due (at_class v) (row_line row) next e = absurd cc
-few_due (at_class v) end_line next e = absurd cc
-few_due (at_reason v) (heading_line w) next e = absurd cc
-few_due (at_reason v) (class_line w) next e = absurd cc
+few_due (at_class v) form next e = absurd cc
 few_due (at_reason v) unreachable_line next e = omega (arith, due_is at_last next e)
 few_due (at_reason v) fork_line next e = omega (arith, due_is at_last next e)
 few_due (at_reason v) event_line next e = omega (arith, due_is (at_one_case v) next e)
 few_due (at_reason v) states_line next e = omega (arith, due_is (at_cases v) next e)
-few_due (at_reason v) case_line next e = absurd cc
-few_due (at_reason v) split_tokens_line next e = absurd cc
-few_due (at_reason v) split_effect_line next e = absurd cc
-few_due (at_reason v) split_start_line next e = absurd cc
-few_due (at_reason v) leaf_line next e = absurd cc
-few_due (at_reason v) (row_line row) next e = absurd cc
-few_due (at_reason v) end_line next e = absurd cc
-few_due at_last (heading_line w) next e = absurd cc
-few_due at_last (class_line w) next e = absurd cc
-few_due at_last unreachable_line next e = absurd cc
-few_due at_last fork_line next e = absurd cc
-few_due at_last event_line next e = absurd cc
-few_due at_last states_line next e = absurd cc
-few_due at_last case_line next e = absurd cc
-few_due at_last split_tokens_line next e = absurd cc
-few_due at_last split_effect_line next e = absurd cc
-few_due at_last split_start_line next e = absurd cc
-few_due at_last leaf_line next e = absurd cc
-few_due at_last (row_line row) next e = absurd cc
+few_due (at_reason v) form next e = absurd cc
 few_due at_last end_line next e = omega (arith, due_is at_end next e)
-few_due (at_one_case v) (heading_line w) next e = absurd cc
-few_due (at_one_case v) (class_line w) next e = absurd cc
-few_due (at_one_case v) unreachable_line next e = absurd cc
-few_due (at_one_case v) fork_line next e = absurd cc
-few_due (at_one_case v) event_line next e = absurd cc
-few_due (at_one_case v) states_line next e = absurd cc
+few_due at_last form next e = absurd cc
 few_due (at_one_case v) case_line next e = omega (arith, due_is (at_node v one 0) next e)
-few_due (at_one_case v) split_tokens_line next e = absurd cc
-few_due (at_one_case v) split_effect_line next e = absurd cc
-few_due (at_one_case v) split_start_line next e = absurd cc
-few_due (at_one_case v) leaf_line next e = absurd cc
-few_due (at_one_case v) (row_line row) next e = absurd cc
-few_due (at_one_case v) end_line next e = absurd cc
-few_due (at_cases v) (heading_line w) next e = absurd cc
-few_due (at_cases v) (class_line w) next e = absurd cc
-few_due (at_cases v) unreachable_line next e = absurd cc
-few_due (at_cases v) fork_line next e = absurd cc
-few_due (at_cases v) event_line next e = absurd cc
-few_due (at_cases v) states_line next e = absurd cc
+few_due (at_one_case v) form next e = absurd cc
 few_due (at_cases v) case_line next e = omega (arith, due_is (at_node v several 0) next e)
-few_due (at_cases v) split_tokens_line next e = absurd cc
-few_due (at_cases v) split_effect_line next e = absurd cc
-few_due (at_cases v) split_start_line next e = absurd cc
-few_due (at_cases v) leaf_line next e = absurd cc
-few_due (at_cases v) (row_line row) next e = absurd cc
 few_due (at_cases v) end_line next e = omega (arith, due_is at_end next e)
-few_due (at_node v count due) (heading_line w) next e = absurd cc
-few_due (at_node v count due) (class_line w) next e = absurd cc
-few_due (at_node v count due) unreachable_line next e = absurd cc
-few_due (at_node v count due) fork_line next e = absurd cc
-few_due (at_node v count due) event_line next e = absurd cc
-few_due (at_node v count due) states_line next e = absurd cc
-few_due (at_node v count due) case_line next e = absurd cc
+few_due (at_cases v) form next e = absurd cc
 few_due (at_node v count due) split_tokens_line next e = omega (arith, due_is (at_node v count (suc due)) next e)
 few_due (at_node v count due) split_effect_line next e = omega (arith, due_is (at_node v count (suc due)) next e)
 few_due (at_node v count due) split_start_line next e = omega (arith, due_is (at_node v count (suc due)) next (two_leads v (to (at_node v count (suc due))) next e).1)
 few_due (at_node v count due) leaf_line next e = omega (arith, due_is (at_row v count due) next e)
-few_due (at_node v count due) (row_line row) next e = absurd cc
-few_due (at_node v count due) end_line next e = absurd cc
-few_due (at_row v count (suc due)) (heading_line w) next e = absurd cc
-few_due (at_row v count (suc due)) (class_line w) next e = absurd cc
-few_due (at_row v count (suc due)) unreachable_line next e = absurd cc
-few_due (at_row v count (suc due)) fork_line next e = absurd cc
-few_due (at_row v count (suc due)) event_line next e = absurd cc
-few_due (at_row v count (suc due)) states_line next e = absurd cc
-few_due (at_row v count (suc due)) case_line next e = absurd cc
+few_due (at_node v count due) form next e = absurd cc
 few_due (at_row v count (suc due)) split_tokens_line next e = omega (arith, due_is (at_node v count (suc due)) next e)
 few_due (at_row v count (suc due)) split_effect_line next e = omega (arith, due_is (at_node v count (suc due)) next e)
 few_due (at_row v count (suc due)) split_start_line next e = omega (arith, due_is (at_node v count (suc due)) next (two_leads v (to (at_node v count (suc due))) next e).1)
 few_due (at_row v count (suc due)) leaf_line next e = omega (arith, due_is (at_row v count due) next e)
 few_due (at_row v count (suc due)) (row_line row) next e = omega (arith, due_is (at_row v count (suc due)) next e)
-few_due (at_row v count (suc due)) end_line next e = absurd cc
-few_due (at_row v several zero) (heading_line w) next e = absurd cc
-few_due (at_row v several zero) (class_line w) next e = absurd cc
-few_due (at_row v several zero) unreachable_line next e = absurd cc
-few_due (at_row v several zero) fork_line next e = absurd cc
-few_due (at_row v several zero) event_line next e = absurd cc
-few_due (at_row v several zero) states_line next e = absurd cc
+few_due (at_row v count (suc due)) form next e = absurd cc
 few_due (at_row v several zero) case_line next e = omega (arith, due_is (at_node v several 0) next e)
-few_due (at_row v several zero) split_tokens_line next e = absurd cc
-few_due (at_row v several zero) split_effect_line next e = absurd cc
 few_due (at_row v several zero) split_start_line next e = let two = two_leads v long next e in let both : long ≡ to next = two.1 in absurd cc
-few_due (at_row v several zero) leaf_line next e = absurd cc
 few_due (at_row v several zero) (row_line row) next e = omega (arith, due_is (at_row v several zero) next e)
 few_due (at_row v several zero) end_line next e = omega (arith, due_is at_end next e)
-few_due (at_row v one zero) (heading_line w) next e = absurd cc
-few_due (at_row v one zero) (class_line w) next e = absurd cc
-few_due (at_row v one zero) unreachable_line next e = absurd cc
-few_due (at_row v one zero) fork_line next e = absurd cc
-few_due (at_row v one zero) event_line next e = absurd cc
-few_due (at_row v one zero) states_line next e = absurd cc
-few_due (at_row v one zero) case_line next e = absurd cc
-few_due (at_row v one zero) split_tokens_line next e = absurd cc
-few_due (at_row v one zero) split_effect_line next e = absurd cc
+few_due (at_row v several zero) form next e = absurd cc
 few_due (at_row v one zero) split_start_line next e = let two = two_leads v long next e in let both : long ≡ to next = two.1 in absurd cc
-few_due (at_row v one zero) leaf_line next e = absurd cc
 few_due (at_row v one zero) (row_line row) next e = omega (arith, due_is (at_row v one zero) next e)
 few_due (at_row v one zero) end_line next e = omega (arith, due_is at_end next e)
-few_due at_end (heading_line w) next e = absurd cc
-few_due at_end (class_line w) next e = absurd cc
-few_due at_end unreachable_line next e = absurd cc
-few_due at_end fork_line next e = absurd cc
-few_due at_end event_line next e = absurd cc
-few_due at_end states_line next e = absurd cc
-few_due at_end case_line next e = absurd cc
-few_due at_end split_tokens_line next e = absurd cc
-few_due at_end split_effect_line next e = absurd cc
-few_due at_end split_start_line next e = absurd cc
-few_due at_end leaf_line next e = absurd cc
-few_due at_end (row_line row) next e = absurd cc
-few_due at_end end_line next e = absurd cc
+few_due (at_row v one zero) form next e = absurd cc
+few_due at_end form next e = absurd cc

@@ -1,5 +1,5 @@
 -- A line has one form: the key of its fields.
-use Rattle.std.proofs.Common.{◌≡◌, inl, inr, ℤ, ◌&&◌, ℕ, nat_lt, Bool, true, false, List, [], ◌∷◌, Option, None, Some, codes, cond, refl, sym, ap, ◌∙◌, arith}
+use Rattle.std.proofs.Common.{◌≡◌, inl, inr, ℤ, ◌&&◌, ℕ, nat_lt, Bool, true, false, List, [], ◌∷◌, Option, None, Some, codes, cond, Contains, refl, sym, ap, ◌∙◌, arith}
 use Rattle.std.specs.List.{list_all}
 use Rattle.std.specs.Char.{is_ascii_digit}
 use Rattle.std.specs.Str.{bytes_eq}
@@ -10,8 +10,8 @@ use Rattle.rg_theory.proofs.ClassTold.{one_class}
 use Rattle.rg_theory.proofs.ClassDecided.{Decided, class_of_text}
 use Rattle.rg_cert.specs.Text.{version_one, version_two, class_version}
 use Rattle.rg_cert.specs.Numerals.{IsPlain, IsNumeral}
-use Rattle.rg_cert.specs.Lines.{HasFieldForm, AreAsked, RowForm.arc_form, RowForm.tokens_form, RowForm.cap_form, RowForm.up_form, RowForm.down_form, RowForm.makes_form}
-use Rattle.rg_cert.specs.Lines.{RowForm.stop_form, RowForm.block_form, RowForm.empty_form, RowForm.full_form, RowForm.keep_form, RowForm.apart_form, RowForm.above_form}
+use Rattle.rg_cert.proofs.Words.{each_word}
+use Rattle.rg_cert.specs.Lines.{HasFieldForm, AreAsked, lone_form, arc_form, state_form, label_form, depth_form, lone_words, state_words, label_words}
 use Rattle.rg_cert.specs.Lines.{LineForm, LineForm.heading_line, LineForm.class_line, LineForm.unreachable_line, LineForm.fork_line, LineForm.event_line}
 use Rattle.rg_cert.specs.Lines.{LineForm.states_line, LineForm.case_line, LineForm.split_tokens_line, LineForm.split_effect_line, LineForm.split_start_line}
 use Rattle.rg_cert.specs.Lines.{LineForm.leaf_line, LineForm.row_line, LineForm.end_line, fields_of}
@@ -52,20 +52,15 @@ word_key w more = cond (bytes_eq w (codes "split")) (split_key more)
     (cond (bytes_eq w (codes "states")) (Some states_line)
     (cond (bytes_eq w (codes "case")) (Some case_line) (cond (bytes_eq w (codes "leaf")) (Some leaf_line) (cond (bytes_eq w (codes "end")) (Some end_line) (None))))))))))
 
+abbrev is_among : List ℕ → List (List ℕ) → Bool
+is_among w [] = false
+is_among w (v ∷ vs) = cond (bytes_eq w v) true (is_among w vs)
+
 abbrev row_key : List (List ℕ) → Option LineForm
 row_key [] = None
 row_key (w ∷ more) = cond (bytes_eq w (codes "arc")) (Some (row_line arc_form))
-    (cond (bytes_eq w (codes "tokens")) (Some (row_line tokens_form))
-    (cond (bytes_eq w (codes "cap")) (Some (row_line cap_form))
-    (cond (bytes_eq w (codes "up")) (Some (row_line up_form))
-    (cond (bytes_eq w (codes "down")) (Some (row_line down_form))
-    (cond (bytes_eq w (codes "makes")) (Some (row_line makes_form))
-    (cond (bytes_eq w (codes "stop")) (Some (row_line stop_form))
-    (cond (bytes_eq w (codes "block")) (Some (row_line block_form))
-    (cond (bytes_eq w (codes "empty")) (Some (row_line empty_form))
-    (cond (bytes_eq w (codes "full")) (Some (row_line full_form))
-    (cond (bytes_eq w (codes "keep")) (Some (row_line keep_form))
-    (cond (bytes_eq w (codes "apart")) (Some (row_line apart_form)) (cond (bytes_eq w (codes "above")) (Some (row_line above_form)) (None)))))))))))))
+    (cond (bytes_eq w (codes "above")) (Some (row_line depth_form))
+    (cond (is_among w lone_words) (Some (row_line lone_form)) (cond (is_among w state_words) (Some (row_line state_form)) (cond (is_among w label_words) (Some (row_line label_form)) (None)))))
 
 -- the one form that fields may have
 abbrev pub form_key : List (List ℕ) → Option LineForm
@@ -88,8 +83,17 @@ numeral_low text z (inl (plain, value)) = plain_low text plain
 numeral_low text z (inr (ds, is, plain, other, value)) = ap begins_word is
 
 -- a row is told by its word
-row_keyed : (m w : List ℕ) (more : List (List ℕ)) (v : List ℕ) → ((z : ℤ) × IsNumeral m z) → w ≡ v → form_key (m ∷ w ∷ more) ≡ row_key (v ∷ more)
-row_keyed m w more v (z, is) same = ap (λ b. cond b (word_key m (w ∷ more)) (row_key (w ∷ more))) (numeral_low m z is) ∙ ap (λ t. row_key (t ∷ more)) same
+row_keyed : (m : List ℕ) (more : List (List ℕ)) → ((z : ℤ) × IsNumeral m z) → form_key (m ∷ more) ≡ row_key more
+row_keyed m more (z, is) = ap (λ b. cond b (word_key m more) (row_key more)) (numeral_low m z is)
+
+lone_keyed : (w : List ℕ) (more : List (List ℕ)) → Contains lone_words w → row_key (w ∷ more) ≡ Some (row_line lone_form)
+lone_keyed w more has = each_word (λ v. row_key (v ∷ more) ≡ Some (row_line lone_form)) lone_words w (refl, (refl, (refl, (refl, tt)))) has
+
+state_keyed : (w : List ℕ) (more : List (List ℕ)) → Contains state_words w → row_key (w ∷ more) ≡ Some (row_line state_form)
+state_keyed w more has = each_word (λ v. row_key (v ∷ more) ≡ Some (row_line state_form)) state_words w (refl, (refl, (refl, (refl, tt)))) has
+
+label_keyed : (w : List ℕ) (more : List (List ℕ)) → Contains label_words w → row_key (w ∷ more) ≡ Some (row_line label_form)
+label_keyed w more has = each_word (λ v. row_key (v ∷ more) ≡ Some (row_line label_form)) label_words w (refl, (refl, (refl, tt))) has
 
 pub keyed : (form : LineForm) (texts : List (List ℕ)) → AreAsked HasFieldForm (fields_of form) texts → form_key texts ≡ Some form
 keyed (heading_line version_one) (w ∷ []) are = absurd are.1
@@ -113,32 +117,16 @@ keyed split_effect_line (w ∷ []) are = absurd are.1
 keyed split_effect_line (w ∷ v ∷ more) are = ap (λ t. form_key (t ∷ v ∷ more)) are.0 ∙ ap (λ t. form_key (codes "split" ∷ t ∷ more)) are.1.0
 keyed split_start_line (w ∷ []) are = absurd are.1
 keyed split_start_line (w ∷ v ∷ more) are = ap (λ t. form_key (t ∷ v ∷ more)) are.0 ∙ ap (λ t. form_key (codes "split" ∷ t ∷ more)) are.1.0
+keyed (row_line lone_form) (m ∷ []) are = absurd are.1
+keyed (row_line lone_form) (m ∷ w ∷ more) are = row_keyed m (w ∷ more) are.0 ∙ lone_keyed w more are.1.0
 keyed (row_line arc_form) (m ∷ []) are = absurd are.1
-keyed (row_line arc_form) (m ∷ w ∷ more) are = row_keyed m w more (codes "arc") are.0 are.1.0
-keyed (row_line tokens_form) (m ∷ []) are = absurd are.1
-keyed (row_line tokens_form) (m ∷ w ∷ more) are = row_keyed m w more (codes "tokens") are.0 are.1.0
-keyed (row_line cap_form) (m ∷ []) are = absurd are.1
-keyed (row_line cap_form) (m ∷ w ∷ more) are = row_keyed m w more (codes "cap") are.0 are.1.0
-keyed (row_line up_form) (m ∷ []) are = absurd are.1
-keyed (row_line up_form) (m ∷ w ∷ more) are = row_keyed m w more (codes "up") are.0 are.1.0
-keyed (row_line down_form) (m ∷ []) are = absurd are.1
-keyed (row_line down_form) (m ∷ w ∷ more) are = row_keyed m w more (codes "down") are.0 are.1.0
-keyed (row_line makes_form) (m ∷ []) are = absurd are.1
-keyed (row_line makes_form) (m ∷ w ∷ more) are = row_keyed m w more (codes "makes") are.0 are.1.0
-keyed (row_line stop_form) (m ∷ []) are = absurd are.1
-keyed (row_line stop_form) (m ∷ w ∷ more) are = row_keyed m w more (codes "stop") are.0 are.1.0
-keyed (row_line block_form) (m ∷ []) are = absurd are.1
-keyed (row_line block_form) (m ∷ w ∷ more) are = row_keyed m w more (codes "block") are.0 are.1.0
-keyed (row_line empty_form) (m ∷ []) are = absurd are.1
-keyed (row_line empty_form) (m ∷ w ∷ more) are = row_keyed m w more (codes "empty") are.0 are.1.0
-keyed (row_line full_form) (m ∷ []) are = absurd are.1
-keyed (row_line full_form) (m ∷ w ∷ more) are = row_keyed m w more (codes "full") are.0 are.1.0
-keyed (row_line keep_form) (m ∷ []) are = absurd are.1
-keyed (row_line keep_form) (m ∷ w ∷ more) are = row_keyed m w more (codes "keep") are.0 are.1.0
-keyed (row_line apart_form) (m ∷ []) are = absurd are.1
-keyed (row_line apart_form) (m ∷ w ∷ more) are = row_keyed m w more (codes "apart") are.0 are.1.0
-keyed (row_line above_form) (m ∷ []) are = absurd are.1
-keyed (row_line above_form) (m ∷ w ∷ more) are = row_keyed m w more (codes "above") are.0 are.1.0
+keyed (row_line arc_form) (m ∷ w ∷ more) are = row_keyed m (w ∷ more) are.0 ∙ ap (λ v. row_key (v ∷ more)) are.1.0
+keyed (row_line state_form) (m ∷ []) are = absurd are.1
+keyed (row_line state_form) (m ∷ w ∷ more) are = row_keyed m (w ∷ more) are.0 ∙ state_keyed w more are.1.0
+keyed (row_line label_form) (m ∷ []) are = absurd are.1
+keyed (row_line label_form) (m ∷ w ∷ more) are = row_keyed m (w ∷ more) are.0 ∙ label_keyed w more are.1.0
+keyed (row_line depth_form) (m ∷ []) are = absurd are.1
+keyed (row_line depth_form) (m ∷ w ∷ more) are = row_keyed m (w ∷ more) are.0 ∙ ap (λ v. row_key (v ∷ more)) are.1.0
 keyed (heading_line version) [] are = absurd are
 keyed (class_line version) [] are = absurd are
 keyed unreachable_line [] are = absurd are
@@ -151,19 +139,11 @@ keyed split_effect_line [] are = absurd are
 keyed split_start_line [] are = absurd are
 keyed leaf_line [] are = absurd are
 keyed end_line [] are = absurd are
+keyed (row_line lone_form) [] are = absurd are
 keyed (row_line arc_form) [] are = absurd are
-keyed (row_line tokens_form) [] are = absurd are
-keyed (row_line cap_form) [] are = absurd are
-keyed (row_line up_form) [] are = absurd are
-keyed (row_line down_form) [] are = absurd are
-keyed (row_line makes_form) [] are = absurd are
-keyed (row_line stop_form) [] are = absurd are
-keyed (row_line block_form) [] are = absurd are
-keyed (row_line empty_form) [] are = absurd are
-keyed (row_line full_form) [] are = absurd are
-keyed (row_line keep_form) [] are = absurd are
-keyed (row_line apart_form) [] are = absurd are
-keyed (row_line above_form) [] are = absurd are
+keyed (row_line state_form) [] are = absurd are
+keyed (row_line label_form) [] are = absurd are
+keyed (row_line depth_form) [] are = absurd are
 
 -- fields have one form
 pub one_form : (f g : LineForm) (texts : List (List ℕ)) → AreAsked HasFieldForm (fields_of f) texts → AreAsked HasFieldForm (fields_of g) texts → f ≡ g

@@ -2,15 +2,14 @@
 use Rattle.std.proofs.Common.{◌≡◌, ℕ, ◌<◌, List, [], ◌∷◌, get_or, refl, arith}
 use Rattle.rg_cert.specs.declared.table.LineForm.{LineForm}
 use Rattle.rg_cert.specs.declared.table.LineForm.TheVariants.{Unreachable, Fork, Event, States, Case, SplitTokens, SplitEffect, SplitStart, Leaf, Row, End}
-use Rattle.rg_cert.specs.declared.table.RowForm.TheVariants.{Arc, Tokens, Cap, Up, Down, Makes, Stop, Block, Empty, Full, Keep, Apart, Above}
+use Rattle.rg_cert.specs.declared.table.RowForm.TheVariants as of_row
 
 abbrev pub all_forms : List LineForm
-all_forms = Unreachable ∷ Fork ∷ Event ∷ States ∷ Case ∷ SplitTokens ∷ SplitEffect ∷ SplitStart ∷ Leaf ∷ Row Arc ∷ Row Tokens ∷ Row Cap ∷ Row Up ∷ Row Down ∷ Row Makes
-    ∷ Row Stop ∷ Row Block ∷ Row Empty ∷ Row Full ∷ Row Keep ∷ Row Apart ∷ Row Above ∷ End ∷ []
+all_forms = Unreachable ∷ Fork ∷ Event ∷ States ∷ Case ∷ SplitTokens ∷ SplitEffect ∷ SplitStart ∷ Leaf ∷ Row of_row.Lone ∷ Row of_row.Arc ∷ Row of_row.State ∷ Row of_row.Label ∷ Row of_row.Depth ∷ End ∷ []
 
 -- each form stands in the list
 abbrev pub IsListed : LineForm → Type 0
-IsListed form = (k : ℕ) × (k < 23) × (get_or all_forms k form ≡ form)
+IsListed form = (k : ℕ) × (k < 15) × (get_or all_forms k form ≡ form)
 
 pub listed : (form : LineForm) → IsListed form
 listed Unreachable = (0, omega arith, refl)
@@ -22,17 +21,9 @@ listed SplitTokens = (5, omega arith, refl)
 listed SplitEffect = (6, omega arith, refl)
 listed SplitStart = (7, omega arith, refl)
 listed Leaf = (8, omega arith, refl)
-listed (Row Arc) = (9, omega arith, refl)
-listed (Row Tokens) = (10, omega arith, refl)
-listed (Row Cap) = (11, omega arith, refl)
-listed (Row Up) = (12, omega arith, refl)
-listed (Row Down) = (13, omega arith, refl)
-listed (Row Makes) = (14, omega arith, refl)
-listed (Row Stop) = (15, omega arith, refl)
-listed (Row Block) = (16, omega arith, refl)
-listed (Row Empty) = (17, omega arith, refl)
-listed (Row Full) = (18, omega arith, refl)
-listed (Row Keep) = (19, omega arith, refl)
-listed (Row Apart) = (20, omega arith, refl)
-listed (Row Above) = (21, omega arith, refl)
-listed End = (22, omega arith, refl)
+listed (Row of_row.Lone) = (9, omega arith, refl)
+listed (Row of_row.Arc) = (10, omega arith, refl)
+listed (Row of_row.State) = (11, omega arith, refl)
+listed (Row of_row.Label) = (12, omega arith, refl)
+listed (Row of_row.Depth) = (13, omega arith, refl)
+listed End = (14, omega arith, refl)

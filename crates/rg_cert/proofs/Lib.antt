@@ -22,3 +22,4 @@ pub mod OneClaim
 pub mod Deciding
 pub mod SomeAnswer
 pub mod Going
+pub mod Words

@@ -1,5 +1,5 @@
 -- The lines of certificates hold no line feeds, and their fields no spaces.
-use Rattle.std.proofs.Common.{◌≡◌, ◌≢◌, ℕ, suc, ◌<◌, ◌≤◌, nat_lt, nat_le, length, take, Bool, true, false, ◌&&◌, List, [], ◌∷◌, All, refl, sym, ap, subst, ◌∙◌, arith}
+use Rattle.std.proofs.Common.{◌≡◌, ◌≢◌, ℕ, suc, ◌<◌, ◌≤◌, nat_lt, nat_le, length, take, Bool, true, false, ◌&&◌, List, [], ◌∷◌, All, Contains, ⊎_elim, refl, sym, ap, subst, ◌∙◌, arith}
 use Rattle.std.specs.List.{list_all}
 use Rattle.std.proofs.lemmas.Bool.Decides.{nat_tests}
 use Rattle.std.proofs.lemmas.List.{length-take, take_all}
@@ -7,10 +7,10 @@ use Rattle.std.proofs.lemmas.List.Elements.{All-append, All-cons, All-head, All-
 use Rattle.std.proofs.lemmas.List.Sums.{AllPass-from_list_all}
 use Rattle.rg_text.specs.Line.{fields}
 use Rattle.rg_theory.proofs.ClassBytes.{is_shown, named_shown}
+use Rattle.rg_theory.proofs.Lists.{Contains-cons_cases}
 use Rattle.rg_cert.specs.Text.{version_one, version_two, spaced}
-use Rattle.rg_cert.specs.Lines.{Field, Field.word, Field.class_words, Field.state, Field.label, Field.number, HasFieldForm, AreAsked, RowForm, RowForm.arc_form}
-use Rattle.rg_cert.specs.Lines.{RowForm.tokens_form, RowForm.cap_form, RowForm.up_form, RowForm.down_form, RowForm.makes_form, RowForm.stop_form, RowForm.block_form}
-use Rattle.rg_cert.specs.Lines.{RowForm.empty_form, RowForm.full_form, RowForm.keep_form, RowForm.apart_form, RowForm.above_form, LineForm, LineForm.heading_line}
+use Rattle.rg_cert.specs.Lines.{Field, Field.word, Field.class_words, Field.state, Field.label, Field.number, HasFieldForm, AreAsked, RowForm, lone_form, arc_form, state_form, label_form, depth_form, one_of}
+use Rattle.rg_cert.specs.Lines.{LineForm, LineForm.heading_line}
 use Rattle.rg_cert.specs.Lines.{LineForm.class_line, LineForm.unreachable_line, LineForm.fork_line, LineForm.event_line, LineForm.states_line, LineForm.case_line}
 use Rattle.rg_cert.specs.Lines.{LineForm.split_tokens_line, LineForm.split_effect_line, LineForm.split_start_line, LineForm.leaf_line, LineForm.row_line}
 use Rattle.rg_cert.specs.Lines.{LineForm.end_line, fields_of, HasForm}
@@ -30,6 +30,7 @@ is_above b = nat_lt 32 b
 -- a word is above, and so is what else has the form of a field
 abbrev is_fine : Field → Bool
 is_fine (word w) = list_all is_above w
+is_fine (one_of words) = list_all (λ w. list_all is_above w) words
 is_fine _ = true
 
 passes_above : (b : ℕ) → is_above b ≡ true → 32 < b
@@ -38,16 +39,26 @@ passes_above b is = grind (arith, nat_tests)
 shown_above : (b : ℕ) → is_shown b ≡ true → 32 < b
 shown_above b is = grind (arith, nat_tests)
 
-field_above : (field : Field) (text : List ℕ) → is_fine field ≡ true → HasFieldForm field text → IsAbove text
-field_above (word w) text fine is = subst IsAbove (sym is) (All-weaker (λ b. is_above b ≡ true) (λ b. 32 < b) passes_above w (AllPass-from_list_all is_above w fine))
-field_above (class_words version) text fine (class, named, first) = All-weaker (λ b. is_shown b ≡ true) (λ b. 32 < b) shown_above text (AllPass-from_list_all is_shown text (named_shown text class named))
-field_above state text fine is = name_above text is
-field_above label text fine is = name_above text is
-field_above (number range) text fine (z, is) = All-weaker (λ b. (32 < b) × (b < 128)) (λ b. 32 < b) (λ b h. h.0) text (numeral_shown text z is)
+word_above : (w text : List ℕ) → list_all is_above w ≡ true → text ≡ w → IsAbove text
+word_above w text fine is = subst IsAbove (sym is) (All-weaker (λ b. is_above b ≡ true) (λ b. 32 < b) passes_above w (AllPass-from_list_all is_above w fine))
 
 both : (a b : Bool) → (a && b) ≡ true → (a ≡ true) × (b ≡ true)
 both true b h = (refl, h)
 both false b h = absurd cc
+
+words_above : (words : List (List ℕ)) (text : List ℕ) → list_all (λ w. list_all is_above w) words ≡ true → Contains words text → IsAbove text
+words_above [] text fine (k, less, is) = absurd (omega arith)
+words_above (w ∷ words) text fine has =
+    let parts = both (list_all is_above w) (list_all (λ w. list_all is_above w) words) fine in
+    ⊎_elim (λ same. word_above w text parts.0 (sym same)) (λ more. words_above words text parts.1 more) (Contains-cons_cases w text words has)
+
+field_above : (field : Field) (text : List ℕ) → is_fine field ≡ true → HasFieldForm field text → IsAbove text
+field_above (word w) text fine is = word_above w text fine is
+field_above (one_of words) text fine has = words_above words text fine has
+field_above (class_words version) text fine (class, named, first) = All-weaker (λ b. is_shown b ≡ true) (λ b. 32 < b) shown_above text (AllPass-from_list_all is_shown text (named_shown text class named))
+field_above state text fine is = name_above text is
+field_above label text fine is = name_above text is
+field_above (number range) text fine (z, is) = All-weaker (λ b. (32 < b) × (b < 128)) (λ b. 32 < b) (λ b h. h.0) text (numeral_shown text z is)
 
 texts_above : (fields : List Field) (texts : List (List ℕ)) → list_all is_fine fields ≡ true → AreAsked HasFieldForm fields texts → All IsAbove texts
 texts_above [] [] fine are = All-nil IsAbove
@@ -58,19 +69,11 @@ texts_above (field ∷ fields) (text ∷ texts) fine are =
     All-cons IsAbove text texts (field_above field text parts.0 are.0) (texts_above fields texts parts.1 are.1)
 
 row_fine : (row : RowForm) → list_all is_fine (fields_of (row_line row)) ≡ true
+row_fine lone_form = refl
 row_fine arc_form = refl
-row_fine tokens_form = refl
-row_fine cap_form = refl
-row_fine up_form = refl
-row_fine down_form = refl
-row_fine makes_form = refl
-row_fine stop_form = refl
-row_fine block_form = refl
-row_fine empty_form = refl
-row_fine full_form = refl
-row_fine keep_form = refl
-row_fine apart_form = refl
-row_fine above_form = refl
+row_fine state_form = refl
+row_fine label_form = refl
+row_fine depth_form = refl
 
 form_fine : (form : LineForm) → list_all is_fine (fields_of form) ≡ true
 form_fine (heading_line version_one) = refl
@@ -137,19 +140,11 @@ abbrev is_few : LineForm → Bool
 is_few form = nat_le (length (fields_of form)) 5
 
 row_few : (row : RowForm) → is_few (row_line row) ≡ true
+row_few lone_form = refl
 row_few arc_form = refl
-row_few tokens_form = refl
-row_few cap_form = refl
-row_few up_form = refl
-row_few down_form = refl
-row_few makes_form = refl
-row_few stop_form = refl
-row_few block_form = refl
-row_few empty_form = refl
-row_few full_form = refl
-row_few keep_form = refl
-row_few apart_form = refl
-row_few above_form = refl
+row_few state_form = refl
+row_few label_form = refl
+row_few depth_form = refl
 
 form_few : (form : LineForm) → is_few form ≡ true
 form_few (heading_line version) = refl

@@ -15,8 +15,8 @@ use Rattle.rg_cert.specs.declared.position.Next.{Next as NextOfCode}
 use Rattle.rg_cert.specs.declared.position.Next.TheVariants as of_next
 use Rattle.rg_cert.specs.Text.{Version}
 use Rattle.rg_cert.specs.Lines.{HasFieldForm, AreAsked, LineForm, heading_line, class_line, unreachable_line, fork_line, event_line, states_line, case_line}
-use Rattle.rg_cert.specs.Lines.{split_tokens_line, split_effect_line, split_start_line, leaf_line, row_line, end_line, RowForm, arc_form, tokens_form, cap_form, up_form}
-use Rattle.rg_cert.specs.Lines.{down_form, makes_form, stop_form, block_form, empty_form, full_form, keep_form, apart_form, above_form, fields_of, HasForm, Position}
+use Rattle.rg_cert.specs.Lines.{split_tokens_line, split_effect_line, split_start_line, leaf_line, row_line, end_line, RowForm, lone_form, arc_form, state_form, label_form, depth_form}
+use Rattle.rg_cert.specs.Lines.{fields_of, HasForm, Position}
 use Rattle.rg_cert.specs.Lines.{at_heading, at_class, at_reason, at_last, at_one_case, at_cases, at_node, at_row, at_end, refused, follows}
 use Rattle.rg_cert.specs.Faults.{BeginsWith, BreaksAt, IsFaultAt}
 use Rattle.rg_cert.specs.Drafts.{IsWrong}
@@ -27,19 +27,11 @@ use Rattle.rg_cert.proofs.FormKeys.{one_form}
 
 -- each row is one of the code's
 row_image : (row : RowForm) → (r : RowOfCode) × (row_form_in r ≡ row)
+row_image lone_form = (of_row.Lone, refl)
 row_image arc_form = (of_row.Arc, refl)
-row_image tokens_form = (of_row.Tokens, refl)
-row_image cap_form = (of_row.Cap, refl)
-row_image up_form = (of_row.Up, refl)
-row_image down_form = (of_row.Down, refl)
-row_image makes_form = (of_row.Makes, refl)
-row_image stop_form = (of_row.Stop, refl)
-row_image block_form = (of_row.Block, refl)
-row_image empty_form = (of_row.Empty, refl)
-row_image full_form = (of_row.Full, refl)
-row_image keep_form = (of_row.Keep, refl)
-row_image apart_form = (of_row.Apart, refl)
-row_image above_form = (of_row.Above, refl)
+row_image state_form = (of_row.State, refl)
+row_image label_form = (of_row.Label, refl)
+row_image depth_form = (of_row.Depth, refl)
 
 -- the form is one of the code's, or that of the first or second line
 abbrev IsImage : LineForm → Type 0

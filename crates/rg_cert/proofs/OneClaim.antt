@@ -10,13 +10,13 @@ use Rattle.std.proofs.lemmas.Grind.{flat_map-append}
 use Rattle.std.proofs.lemmas.List.{append_cancel_right}
 use Rattle.std.proofs.lemmas.List.Elements.{All-head, All-tail}
 use Rattle.rg_text.specs.Line.{fed, fields}
-use Rattle.rg_theory.specs.System.{System}
+use Rattle.rg_theory.specs.System.{arc, System}
 use Rattle.rg_theory.specs.declared.Problem.TheVariants.{Event, States}
 use Rattle.rg_theory.specs.ClassWords.{NamesClass}
 use Rattle.rg_theory.proofs.ClassTold.{one_class}
 use Rattle.rg_lts.specs.WellFormed.{AreNames, IsWellFormed}
-use Rattle.rg_refuting.specs.Row.{Form, Form.on_tokens, Form.on_effect, Form.on_start}
-use Rattle.rg_refuting.specs.Row.{RowName, RowName.arc_row, RowName.tokens_row, RowName.cap_row, RowName.up_row, RowName.down_row, RowName.makes_row, RowName.stop_row, RowName.block_row, RowName.empty_row, RowName.full_row, RowName.keep_row, RowName.apart_row, RowName.above_row}
+use Rattle.rg_refuting.specs.declared.Form.{Form}
+use Rattle.rg_refuting.specs.declared.RowName.{RowName}
 use Rattle.rg_refuting.specs.Refutes as refutes
 use Rattle.rg_refuting.specs.Refutes.{NamedRow, Tree, Tree.leaf, Tree.split}
 use Rattle.rg_reasons.specs.Trees.{leaf_node, split_node, preorder}
@@ -32,6 +32,8 @@ use Rattle.rg_cert.specs.declared.fault.CertFault.{CertFault}
 use Rattle.rg_cert.specs.Faults.{FirstFault}
 use Rattle.rg_cert.proofs.OneFault.{one_walk, no_fault}
 use Rattle.rg_cert.proofs.Printed.{text_spells}
+use Rattle.rg_refuting.specs.declared.RowName.TheVariants as row_name
+use Rattle.rg_refuting.specs.declared.Form.TheVariants as split_form
 
 told_back : (xs : List (List (List ℕ))) → All IsTold xs → map fields (map spaced xs) ≡ xs
 told_back [] told = refl
@@ -61,186 +63,31 @@ first_same : {X : Type 0} (x : X) (xs : List X) (y : X) (ys : List X) → x ∷ 
 first_same x xs y ys e = cc
 
 -- fields that begin with other words
-other_words : (v w : List ℕ) (a b : List (List ℕ)) → bytes_eq v w ≡ false → v ∷ a ≡ w ∷ b → ⊥
-other_words v w a b other e = true≢false (sym ((bytes_eq-Decides v w).1 (first_same v a w b e)) ∙ other)
+other_words : (v w : List ℕ) (a b : List (List ℕ)) → v ∷ a ≡ w ∷ b → bytes_eq v w ≡ false → ⊥
+other_words v w a b e other = true≢false (sym ((bytes_eq-Decides v w).1 (first_same v a w b e)) ∙ other)
 
 one_name : (lts : System) (m n : RowName) → IsWellFormed lts → IsRowNameOf lts m → IsRowNameOf lts n → row_fields lts m ≡ row_fields lts n → m ≡ n
-one_name lts (arc_row q t q') (arc_row r u r') fine x y e =
-    let a : state_name lts q ≡ state_name lts r = cc in
-    let b : label_name lts t ≡ label_name lts u = cc in
-    let c : state_name lts q' ≡ state_name lts r' = cc in
-    let i = one_number lts.state_names q r fine.state_names x.0 y.0 a in
-    let j = one_number lts.label_names t u fine.label_names x.1 y.1 b in
-    let k = one_number lts.state_names q' r' fine.state_names x.2 y.2 c in
-    (λ n. arc_row (i n) (j n) (k n))
-one_name lts (tokens_row q) (tokens_row r) fine x y e = let same : state_name lts q ≡ state_name lts r = cc in ap tokens_row (one_number lts.state_names q r fine.state_names x y same)
-one_name lts (cap_row q) (cap_row r) fine x y e = let same : state_name lts q ≡ state_name lts r = cc in ap cap_row (one_number lts.state_names q r fine.state_names x y same)
-one_name lts (up_row t) (up_row u) fine x y e = let same : label_name lts t ≡ label_name lts u = cc in ap up_row (one_number lts.label_names t u fine.label_names x y same)
-one_name lts (down_row t) (down_row u) fine x y e = let same : label_name lts t ≡ label_name lts u = cc in ap down_row (one_number lts.label_names t u fine.label_names x y same)
-one_name lts (makes_row t) (makes_row u) fine x y e = let same : label_name lts t ≡ label_name lts u = cc in ap makes_row (one_number lts.label_names t u fine.label_names x y same)
-one_name lts (stop_row q) (stop_row r) fine x y e = let same : state_name lts q ≡ state_name lts r = cc in ap stop_row (one_number lts.state_names q r fine.state_names x y same)
-one_name lts block_row block_row fine x y e = refl
-one_name lts empty_row empty_row fine x y e = refl
-one_name lts (full_row q) (full_row r) fine x y e = let same : state_name lts q ≡ state_name lts r = cc in ap full_row (one_number lts.state_names q r fine.state_names x y same)
-one_name lts keep_row keep_row fine x y e = refl
-one_name lts apart_row apart_row fine x y e = refl
-one_name lts (above_row d) (above_row c) fine x y e = let same : decimal d ≡ decimal c = cc in ap above_row (one_decimal d c (omega (arith, x)) (omega (arith, y)) same)
-one_name lts (arc_row q t q') (tokens_row r) fine x y e = absurd (other_words (codes "arc") (codes "tokens") _ _ refl e)
-one_name lts (arc_row q t q') (cap_row r) fine x y e = absurd (other_words (codes "arc") (codes "cap") _ _ refl e)
-one_name lts (arc_row q t q') (up_row u) fine x y e = absurd (other_words (codes "arc") (codes "up") _ _ refl e)
-one_name lts (arc_row q t q') (down_row u) fine x y e = absurd (other_words (codes "arc") (codes "down") _ _ refl e)
-one_name lts (arc_row q t q') (makes_row u) fine x y e = absurd (other_words (codes "arc") (codes "makes") _ _ refl e)
-one_name lts (arc_row q t q') (stop_row r) fine x y e = absurd (other_words (codes "arc") (codes "stop") _ _ refl e)
-one_name lts (arc_row q t q') block_row fine x y e = absurd (other_words (codes "arc") (codes "block") _ _ refl e)
-one_name lts (arc_row q t q') empty_row fine x y e = absurd (other_words (codes "arc") (codes "empty") _ _ refl e)
-one_name lts (arc_row q t q') (full_row r) fine x y e = absurd (other_words (codes "arc") (codes "full") _ _ refl e)
-one_name lts (arc_row q t q') keep_row fine x y e = absurd (other_words (codes "arc") (codes "keep") _ _ refl e)
-one_name lts (arc_row q t q') apart_row fine x y e = absurd (other_words (codes "arc") (codes "apart") _ _ refl e)
-one_name lts (arc_row q t q') (above_row c) fine x y e = absurd (other_words (codes "arc") (codes "above") _ _ refl e)
-one_name lts (tokens_row q) (arc_row r u r') fine x y e = absurd (other_words (codes "tokens") (codes "arc") _ _ refl e)
-one_name lts (tokens_row q) (cap_row r) fine x y e = absurd (other_words (codes "tokens") (codes "cap") _ _ refl e)
-one_name lts (tokens_row q) (up_row u) fine x y e = absurd (other_words (codes "tokens") (codes "up") _ _ refl e)
-one_name lts (tokens_row q) (down_row u) fine x y e = absurd (other_words (codes "tokens") (codes "down") _ _ refl e)
-one_name lts (tokens_row q) (makes_row u) fine x y e = absurd (other_words (codes "tokens") (codes "makes") _ _ refl e)
-one_name lts (tokens_row q) (stop_row r) fine x y e = absurd (other_words (codes "tokens") (codes "stop") _ _ refl e)
-one_name lts (tokens_row q) block_row fine x y e = absurd (other_words (codes "tokens") (codes "block") _ _ refl e)
-one_name lts (tokens_row q) empty_row fine x y e = absurd (other_words (codes "tokens") (codes "empty") _ _ refl e)
-one_name lts (tokens_row q) (full_row r) fine x y e = absurd (other_words (codes "tokens") (codes "full") _ _ refl e)
-one_name lts (tokens_row q) keep_row fine x y e = absurd (other_words (codes "tokens") (codes "keep") _ _ refl e)
-one_name lts (tokens_row q) apart_row fine x y e = absurd (other_words (codes "tokens") (codes "apart") _ _ refl e)
-one_name lts (tokens_row q) (above_row c) fine x y e = absurd (other_words (codes "tokens") (codes "above") _ _ refl e)
-one_name lts (cap_row q) (arc_row r u r') fine x y e = absurd (other_words (codes "cap") (codes "arc") _ _ refl e)
-one_name lts (cap_row q) (tokens_row r) fine x y e = absurd (other_words (codes "cap") (codes "tokens") _ _ refl e)
-one_name lts (cap_row q) (up_row u) fine x y e = absurd (other_words (codes "cap") (codes "up") _ _ refl e)
-one_name lts (cap_row q) (down_row u) fine x y e = absurd (other_words (codes "cap") (codes "down") _ _ refl e)
-one_name lts (cap_row q) (makes_row u) fine x y e = absurd (other_words (codes "cap") (codes "makes") _ _ refl e)
-one_name lts (cap_row q) (stop_row r) fine x y e = absurd (other_words (codes "cap") (codes "stop") _ _ refl e)
-one_name lts (cap_row q) block_row fine x y e = absurd (other_words (codes "cap") (codes "block") _ _ refl e)
-one_name lts (cap_row q) empty_row fine x y e = absurd (other_words (codes "cap") (codes "empty") _ _ refl e)
-one_name lts (cap_row q) (full_row r) fine x y e = absurd (other_words (codes "cap") (codes "full") _ _ refl e)
-one_name lts (cap_row q) keep_row fine x y e = absurd (other_words (codes "cap") (codes "keep") _ _ refl e)
-one_name lts (cap_row q) apart_row fine x y e = absurd (other_words (codes "cap") (codes "apart") _ _ refl e)
-one_name lts (cap_row q) (above_row c) fine x y e = absurd (other_words (codes "cap") (codes "above") _ _ refl e)
-one_name lts (up_row t) (arc_row r u r') fine x y e = absurd (other_words (codes "up") (codes "arc") _ _ refl e)
-one_name lts (up_row t) (tokens_row r) fine x y e = absurd (other_words (codes "up") (codes "tokens") _ _ refl e)
-one_name lts (up_row t) (cap_row r) fine x y e = absurd (other_words (codes "up") (codes "cap") _ _ refl e)
-one_name lts (up_row t) (down_row u) fine x y e = absurd (other_words (codes "up") (codes "down") _ _ refl e)
-one_name lts (up_row t) (makes_row u) fine x y e = absurd (other_words (codes "up") (codes "makes") _ _ refl e)
-one_name lts (up_row t) (stop_row r) fine x y e = absurd (other_words (codes "up") (codes "stop") _ _ refl e)
-one_name lts (up_row t) block_row fine x y e = absurd (other_words (codes "up") (codes "block") _ _ refl e)
-one_name lts (up_row t) empty_row fine x y e = absurd (other_words (codes "up") (codes "empty") _ _ refl e)
-one_name lts (up_row t) (full_row r) fine x y e = absurd (other_words (codes "up") (codes "full") _ _ refl e)
-one_name lts (up_row t) keep_row fine x y e = absurd (other_words (codes "up") (codes "keep") _ _ refl e)
-one_name lts (up_row t) apart_row fine x y e = absurd (other_words (codes "up") (codes "apart") _ _ refl e)
-one_name lts (up_row t) (above_row c) fine x y e = absurd (other_words (codes "up") (codes "above") _ _ refl e)
-one_name lts (down_row t) (arc_row r u r') fine x y e = absurd (other_words (codes "down") (codes "arc") _ _ refl e)
-one_name lts (down_row t) (tokens_row r) fine x y e = absurd (other_words (codes "down") (codes "tokens") _ _ refl e)
-one_name lts (down_row t) (cap_row r) fine x y e = absurd (other_words (codes "down") (codes "cap") _ _ refl e)
-one_name lts (down_row t) (up_row u) fine x y e = absurd (other_words (codes "down") (codes "up") _ _ refl e)
-one_name lts (down_row t) (makes_row u) fine x y e = absurd (other_words (codes "down") (codes "makes") _ _ refl e)
-one_name lts (down_row t) (stop_row r) fine x y e = absurd (other_words (codes "down") (codes "stop") _ _ refl e)
-one_name lts (down_row t) block_row fine x y e = absurd (other_words (codes "down") (codes "block") _ _ refl e)
-one_name lts (down_row t) empty_row fine x y e = absurd (other_words (codes "down") (codes "empty") _ _ refl e)
-one_name lts (down_row t) (full_row r) fine x y e = absurd (other_words (codes "down") (codes "full") _ _ refl e)
-one_name lts (down_row t) keep_row fine x y e = absurd (other_words (codes "down") (codes "keep") _ _ refl e)
-one_name lts (down_row t) apart_row fine x y e = absurd (other_words (codes "down") (codes "apart") _ _ refl e)
-one_name lts (down_row t) (above_row c) fine x y e = absurd (other_words (codes "down") (codes "above") _ _ refl e)
-one_name lts (makes_row t) (arc_row r u r') fine x y e = absurd (other_words (codes "makes") (codes "arc") _ _ refl e)
-one_name lts (makes_row t) (tokens_row r) fine x y e = absurd (other_words (codes "makes") (codes "tokens") _ _ refl e)
-one_name lts (makes_row t) (cap_row r) fine x y e = absurd (other_words (codes "makes") (codes "cap") _ _ refl e)
-one_name lts (makes_row t) (up_row u) fine x y e = absurd (other_words (codes "makes") (codes "up") _ _ refl e)
-one_name lts (makes_row t) (down_row u) fine x y e = absurd (other_words (codes "makes") (codes "down") _ _ refl e)
-one_name lts (makes_row t) (stop_row r) fine x y e = absurd (other_words (codes "makes") (codes "stop") _ _ refl e)
-one_name lts (makes_row t) block_row fine x y e = absurd (other_words (codes "makes") (codes "block") _ _ refl e)
-one_name lts (makes_row t) empty_row fine x y e = absurd (other_words (codes "makes") (codes "empty") _ _ refl e)
-one_name lts (makes_row t) (full_row r) fine x y e = absurd (other_words (codes "makes") (codes "full") _ _ refl e)
-one_name lts (makes_row t) keep_row fine x y e = absurd (other_words (codes "makes") (codes "keep") _ _ refl e)
-one_name lts (makes_row t) apart_row fine x y e = absurd (other_words (codes "makes") (codes "apart") _ _ refl e)
-one_name lts (makes_row t) (above_row c) fine x y e = absurd (other_words (codes "makes") (codes "above") _ _ refl e)
-one_name lts (stop_row q) (arc_row r u r') fine x y e = absurd (other_words (codes "stop") (codes "arc") _ _ refl e)
-one_name lts (stop_row q) (tokens_row r) fine x y e = absurd (other_words (codes "stop") (codes "tokens") _ _ refl e)
-one_name lts (stop_row q) (cap_row r) fine x y e = absurd (other_words (codes "stop") (codes "cap") _ _ refl e)
-one_name lts (stop_row q) (up_row u) fine x y e = absurd (other_words (codes "stop") (codes "up") _ _ refl e)
-one_name lts (stop_row q) (down_row u) fine x y e = absurd (other_words (codes "stop") (codes "down") _ _ refl e)
-one_name lts (stop_row q) (makes_row u) fine x y e = absurd (other_words (codes "stop") (codes "makes") _ _ refl e)
-one_name lts (stop_row q) block_row fine x y e = absurd (other_words (codes "stop") (codes "block") _ _ refl e)
-one_name lts (stop_row q) empty_row fine x y e = absurd (other_words (codes "stop") (codes "empty") _ _ refl e)
-one_name lts (stop_row q) (full_row r) fine x y e = absurd (other_words (codes "stop") (codes "full") _ _ refl e)
-one_name lts (stop_row q) keep_row fine x y e = absurd (other_words (codes "stop") (codes "keep") _ _ refl e)
-one_name lts (stop_row q) apart_row fine x y e = absurd (other_words (codes "stop") (codes "apart") _ _ refl e)
-one_name lts (stop_row q) (above_row c) fine x y e = absurd (other_words (codes "stop") (codes "above") _ _ refl e)
-one_name lts block_row (arc_row r u r') fine x y e = absurd (other_words (codes "block") (codes "arc") _ _ refl e)
-one_name lts block_row (tokens_row r) fine x y e = absurd (other_words (codes "block") (codes "tokens") _ _ refl e)
-one_name lts block_row (cap_row r) fine x y e = absurd (other_words (codes "block") (codes "cap") _ _ refl e)
-one_name lts block_row (up_row u) fine x y e = absurd (other_words (codes "block") (codes "up") _ _ refl e)
-one_name lts block_row (down_row u) fine x y e = absurd (other_words (codes "block") (codes "down") _ _ refl e)
-one_name lts block_row (makes_row u) fine x y e = absurd (other_words (codes "block") (codes "makes") _ _ refl e)
-one_name lts block_row (stop_row r) fine x y e = absurd (other_words (codes "block") (codes "stop") _ _ refl e)
-one_name lts block_row empty_row fine x y e = absurd (other_words (codes "block") (codes "empty") _ _ refl e)
-one_name lts block_row (full_row r) fine x y e = absurd (other_words (codes "block") (codes "full") _ _ refl e)
-one_name lts block_row keep_row fine x y e = absurd (other_words (codes "block") (codes "keep") _ _ refl e)
-one_name lts block_row apart_row fine x y e = absurd (other_words (codes "block") (codes "apart") _ _ refl e)
-one_name lts block_row (above_row c) fine x y e = absurd (other_words (codes "block") (codes "above") _ _ refl e)
-one_name lts empty_row (arc_row r u r') fine x y e = absurd (other_words (codes "empty") (codes "arc") _ _ refl e)
-one_name lts empty_row (tokens_row r) fine x y e = absurd (other_words (codes "empty") (codes "tokens") _ _ refl e)
-one_name lts empty_row (cap_row r) fine x y e = absurd (other_words (codes "empty") (codes "cap") _ _ refl e)
-one_name lts empty_row (up_row u) fine x y e = absurd (other_words (codes "empty") (codes "up") _ _ refl e)
-one_name lts empty_row (down_row u) fine x y e = absurd (other_words (codes "empty") (codes "down") _ _ refl e)
-one_name lts empty_row (makes_row u) fine x y e = absurd (other_words (codes "empty") (codes "makes") _ _ refl e)
-one_name lts empty_row (stop_row r) fine x y e = absurd (other_words (codes "empty") (codes "stop") _ _ refl e)
-one_name lts empty_row block_row fine x y e = absurd (other_words (codes "empty") (codes "block") _ _ refl e)
-one_name lts empty_row (full_row r) fine x y e = absurd (other_words (codes "empty") (codes "full") _ _ refl e)
-one_name lts empty_row keep_row fine x y e = absurd (other_words (codes "empty") (codes "keep") _ _ refl e)
-one_name lts empty_row apart_row fine x y e = absurd (other_words (codes "empty") (codes "apart") _ _ refl e)
-one_name lts empty_row (above_row c) fine x y e = absurd (other_words (codes "empty") (codes "above") _ _ refl e)
-one_name lts (full_row q) (arc_row r u r') fine x y e = absurd (other_words (codes "full") (codes "arc") _ _ refl e)
-one_name lts (full_row q) (tokens_row r) fine x y e = absurd (other_words (codes "full") (codes "tokens") _ _ refl e)
-one_name lts (full_row q) (cap_row r) fine x y e = absurd (other_words (codes "full") (codes "cap") _ _ refl e)
-one_name lts (full_row q) (up_row u) fine x y e = absurd (other_words (codes "full") (codes "up") _ _ refl e)
-one_name lts (full_row q) (down_row u) fine x y e = absurd (other_words (codes "full") (codes "down") _ _ refl e)
-one_name lts (full_row q) (makes_row u) fine x y e = absurd (other_words (codes "full") (codes "makes") _ _ refl e)
-one_name lts (full_row q) (stop_row r) fine x y e = absurd (other_words (codes "full") (codes "stop") _ _ refl e)
-one_name lts (full_row q) block_row fine x y e = absurd (other_words (codes "full") (codes "block") _ _ refl e)
-one_name lts (full_row q) empty_row fine x y e = absurd (other_words (codes "full") (codes "empty") _ _ refl e)
-one_name lts (full_row q) keep_row fine x y e = absurd (other_words (codes "full") (codes "keep") _ _ refl e)
-one_name lts (full_row q) apart_row fine x y e = absurd (other_words (codes "full") (codes "apart") _ _ refl e)
-one_name lts (full_row q) (above_row c) fine x y e = absurd (other_words (codes "full") (codes "above") _ _ refl e)
-one_name lts keep_row (arc_row r u r') fine x y e = absurd (other_words (codes "keep") (codes "arc") _ _ refl e)
-one_name lts keep_row (tokens_row r) fine x y e = absurd (other_words (codes "keep") (codes "tokens") _ _ refl e)
-one_name lts keep_row (cap_row r) fine x y e = absurd (other_words (codes "keep") (codes "cap") _ _ refl e)
-one_name lts keep_row (up_row u) fine x y e = absurd (other_words (codes "keep") (codes "up") _ _ refl e)
-one_name lts keep_row (down_row u) fine x y e = absurd (other_words (codes "keep") (codes "down") _ _ refl e)
-one_name lts keep_row (makes_row u) fine x y e = absurd (other_words (codes "keep") (codes "makes") _ _ refl e)
-one_name lts keep_row (stop_row r) fine x y e = absurd (other_words (codes "keep") (codes "stop") _ _ refl e)
-one_name lts keep_row block_row fine x y e = absurd (other_words (codes "keep") (codes "block") _ _ refl e)
-one_name lts keep_row empty_row fine x y e = absurd (other_words (codes "keep") (codes "empty") _ _ refl e)
-one_name lts keep_row (full_row r) fine x y e = absurd (other_words (codes "keep") (codes "full") _ _ refl e)
-one_name lts keep_row apart_row fine x y e = absurd (other_words (codes "keep") (codes "apart") _ _ refl e)
-one_name lts keep_row (above_row c) fine x y e = absurd (other_words (codes "keep") (codes "above") _ _ refl e)
-one_name lts apart_row (arc_row r u r') fine x y e = absurd (other_words (codes "apart") (codes "arc") _ _ refl e)
-one_name lts apart_row (tokens_row r) fine x y e = absurd (other_words (codes "apart") (codes "tokens") _ _ refl e)
-one_name lts apart_row (cap_row r) fine x y e = absurd (other_words (codes "apart") (codes "cap") _ _ refl e)
-one_name lts apart_row (up_row u) fine x y e = absurd (other_words (codes "apart") (codes "up") _ _ refl e)
-one_name lts apart_row (down_row u) fine x y e = absurd (other_words (codes "apart") (codes "down") _ _ refl e)
-one_name lts apart_row (makes_row u) fine x y e = absurd (other_words (codes "apart") (codes "makes") _ _ refl e)
-one_name lts apart_row (stop_row r) fine x y e = absurd (other_words (codes "apart") (codes "stop") _ _ refl e)
-one_name lts apart_row block_row fine x y e = absurd (other_words (codes "apart") (codes "block") _ _ refl e)
-one_name lts apart_row empty_row fine x y e = absurd (other_words (codes "apart") (codes "empty") _ _ refl e)
-one_name lts apart_row (full_row r) fine x y e = absurd (other_words (codes "apart") (codes "full") _ _ refl e)
-one_name lts apart_row keep_row fine x y e = absurd (other_words (codes "apart") (codes "keep") _ _ refl e)
-one_name lts apart_row (above_row c) fine x y e = absurd (other_words (codes "apart") (codes "above") _ _ refl e)
-one_name lts (above_row d) (arc_row r u r') fine x y e = absurd (other_words (codes "above") (codes "arc") _ _ refl e)
-one_name lts (above_row d) (tokens_row r) fine x y e = absurd (other_words (codes "above") (codes "tokens") _ _ refl e)
-one_name lts (above_row d) (cap_row r) fine x y e = absurd (other_words (codes "above") (codes "cap") _ _ refl e)
-one_name lts (above_row d) (up_row u) fine x y e = absurd (other_words (codes "above") (codes "up") _ _ refl e)
-one_name lts (above_row d) (down_row u) fine x y e = absurd (other_words (codes "above") (codes "down") _ _ refl e)
-one_name lts (above_row d) (makes_row u) fine x y e = absurd (other_words (codes "above") (codes "makes") _ _ refl e)
-one_name lts (above_row d) (stop_row r) fine x y e = absurd (other_words (codes "above") (codes "stop") _ _ refl e)
-one_name lts (above_row d) block_row fine x y e = absurd (other_words (codes "above") (codes "block") _ _ refl e)
-one_name lts (above_row d) empty_row fine x y e = absurd (other_words (codes "above") (codes "empty") _ _ refl e)
-one_name lts (above_row d) (full_row r) fine x y e = absurd (other_words (codes "above") (codes "full") _ _ refl e)
-one_name lts (above_row d) keep_row fine x y e = absurd (other_words (codes "above") (codes "keep") _ _ refl e)
-one_name lts (above_row d) apart_row fine x y e = absurd (other_words (codes "above") (codes "apart") _ _ refl e)
+one_name lts (row_name.Arc one) (row_name.Arc other) fine x y e =
+    let a : state_name lts one.from ≡ state_name lts other.from = cc in
+    let b : label_name lts one.label ≡ label_name lts other.label = cc in
+    let c : state_name lts one.to ≡ state_name lts other.to = cc in
+    let i = one_number lts.state_names one.from other.from fine.state_names x.0 y.0 a in
+    let j = one_number lts.label_names one.label other.label fine.label_names x.1 y.1 b in
+    let k = one_number lts.state_names one.to other.to fine.state_names x.2 y.2 c in
+    (λ n. row_name.Arc (arc (i n) (j n) (k n)))
+one_name lts (row_name.Tokens q) (row_name.Tokens r) fine x y e = let same : state_name lts q ≡ state_name lts r = cc in ap row_name.Tokens (one_number lts.state_names q r fine.state_names x y same)
+one_name lts (row_name.Cap q) (row_name.Cap r) fine x y e = let same : state_name lts q ≡ state_name lts r = cc in ap row_name.Cap (one_number lts.state_names q r fine.state_names x y same)
+one_name lts (row_name.Up t) (row_name.Up u) fine x y e = let same : label_name lts t ≡ label_name lts u = cc in ap row_name.Up (one_number lts.label_names t u fine.label_names x y same)
+one_name lts (row_name.Down t) (row_name.Down u) fine x y e = let same : label_name lts t ≡ label_name lts u = cc in ap row_name.Down (one_number lts.label_names t u fine.label_names x y same)
+one_name lts (row_name.Makes t) (row_name.Makes u) fine x y e = let same : label_name lts t ≡ label_name lts u = cc in ap row_name.Makes (one_number lts.label_names t u fine.label_names x y same)
+one_name lts (row_name.Stop q) (row_name.Stop r) fine x y e = let same : state_name lts q ≡ state_name lts r = cc in ap row_name.Stop (one_number lts.state_names q r fine.state_names x y same)
+one_name lts row_name.Block row_name.Block fine x y e = refl
+one_name lts row_name.Empty row_name.Empty fine x y e = refl
+one_name lts (row_name.Full q) (row_name.Full r) fine x y e = let same : state_name lts q ≡ state_name lts r = cc in ap row_name.Full (one_number lts.state_names q r fine.state_names x y same)
+one_name lts row_name.Keep row_name.Keep fine x y e = refl
+one_name lts row_name.Apart row_name.Apart fine x y e = refl
+one_name lts (row_name.Above d) (row_name.Above c) fine x y e = let same : decimal d ≡ decimal c = cc in ap row_name.Above (one_decimal d c (omega (arith, x)) (omega (arith, y)) same)
+one_name lts m n fine x y e = absurd (other_words _ _ _ _ e refl)
 
 one_row : (lts : System) (r s : NamedRow) → IsWellFormed lts → IsRowOf lts r → IsRowOf lts s → named_fields lts r ≡ named_fields lts s → r ≡ s
 one_row lts r s fine x y e =
@@ -252,17 +99,12 @@ one_row lts r s fine x y e =
 
 one_form_of_split : (lts : System) (v w : Form) (a b : List ℕ) → IsWellFormed lts → IsFormOf lts v → IsFormOf lts w
     → form_fields lts v ++ a ∷ [] ≡ form_fields lts w ++ b ∷ [] → (v ≡ w) × (a ≡ b)
-one_form_of_split lts (on_tokens q) (on_tokens r) a b fine x y e =
-    let same : state_name lts q ≡ state_name lts r = cc in (ap on_tokens (one_number lts.state_names q r fine.state_names x y same), cc)
-one_form_of_split lts (on_tokens q) (on_effect u) a b fine x y e = absurd (other_words (codes "tokens") (codes "effect") _ _ refl e)
-one_form_of_split lts (on_effect t) (on_tokens r) a b fine x y e = absurd (other_words (codes "effect") (codes "tokens") _ _ refl e)
-one_form_of_split lts (on_effect t) (on_effect u) a b fine x y e =
-    let same : label_name lts t ≡ label_name lts u = cc in (ap on_effect (one_number lts.label_names t u fine.label_names x y same), cc)
-one_form_of_split lts on_start on_start a b fine x y e = (refl, cc)
-one_form_of_split lts on_start (on_tokens r) a b fine x y e = absurd (other_words (codes "start") (codes "tokens") _ _ refl e)
-one_form_of_split lts on_start (on_effect u) a b fine x y e = absurd (other_words (codes "start") (codes "effect") _ _ refl e)
-one_form_of_split lts (on_tokens q) on_start a b fine x y e = absurd (other_words (codes "tokens") (codes "start") _ _ refl e)
-one_form_of_split lts (on_effect t) on_start a b fine x y e = absurd (other_words (codes "effect") (codes "start") _ _ refl e)
+one_form_of_split lts (split_form.Tokens q) (split_form.Tokens r) a b fine x y e =
+    let same : state_name lts q ≡ state_name lts r = cc in (ap split_form.Tokens (one_number lts.state_names q r fine.state_names x y same), cc)
+one_form_of_split lts (split_form.Effect t) (split_form.Effect u) a b fine x y e =
+    let same : label_name lts t ≡ label_name lts u = cc in (ap split_form.Effect (one_number lts.label_names t u fine.label_names x y same), cc)
+one_form_of_split lts split_form.Start split_form.Start a b fine x y e = (refl, cc)
+one_form_of_split lts v w a b fine x y e = absurd (other_words _ _ _ _ e refl)
 
 -- the lines don't begin with a row
 abbrev starts_word : List (List ℕ) → Bool
@@ -316,8 +158,8 @@ one_tree lts (leaf rows) (leaf others) xs ys fine x y nx ny e =
     let tail : map (named_fields lts) rows ++ xs ≡ map (named_fields lts) others ++ ys = cc in
     let more = one_leaf lts rows others xs ys fine (All-head (IsNodeOf lts) (leaf_node rows) [] x) (All-head (IsNodeOf lts) (leaf_node others) [] y) nx ny tail in
     (ap leaf more.0, more.1)
-one_tree lts (leaf rows) (split form at low high) xs ys fine x y nx ny e = absurd (other_words (codes "leaf") (codes "split") _ _ refl (first_same _ _ _ _ e))
-one_tree lts (split form at low high) (leaf rows) xs ys fine x y nx ny e = absurd (other_words (codes "split") (codes "leaf") _ _ refl (first_same _ _ _ _ e))
+one_tree lts (leaf rows) (split form at low high) xs ys fine x y nx ny e = absurd (other_words _ _ _ _ (first_same _ _ _ _ e) refl)
+one_tree lts (split form at low high) (leaf rows) xs ys fine x y nx ny e = absurd (other_words _ _ _ _ (first_same _ _ _ _ e) refl)
 one_tree lts (split f a low high) (split g b low' high') xs ys fine x y nx ny e =
     let first : form_fields lts f ++ signed_decimal a ∷ [] ≡ form_fields lts g ++ signed_decimal b ∷ [] = cc in
     let rest : flat_map (node_lines lts) (preorder low ++ preorder high) ++ xs ≡ flat_map (node_lines lts) (preorder low' ++ preorder high') ++ ys = cc in
@@ -375,18 +217,18 @@ one_reason lts (refutes.refuted (States s s') ts) (refutes.refuted (States r r')
     let j = one_number lts.state_names s' r' fine.state_names x.1 y.1 q in
     let trees = one_cases lts ts us fine x.2 y.2 rest in
     (λ k. refutes.refuted (States (i k) (j k)) (trees k))
-one_reason lts (refutes.unreachable s) (refutes.fork r u r₁ r₂) fine x y e = absurd (other_words (codes "unreachable") (codes "fork") _ _ refl (first_same _ _ _ _ e))
-one_reason lts (refutes.unreachable s) (refutes.refuted (Event r u) us) fine x y e = absurd (other_words (codes "unreachable") (codes "event") _ _ refl (first_same _ _ _ _ e))
-one_reason lts (refutes.unreachable s) (refutes.refuted (States r r') us) fine x y e = absurd (other_words (codes "unreachable") (codes "states") _ _ refl (first_same _ _ _ _ e))
-one_reason lts (refutes.fork s t s₁ s₂) (refutes.unreachable r) fine x y e = absurd (other_words (codes "fork") (codes "unreachable") _ _ refl (first_same _ _ _ _ e))
-one_reason lts (refutes.fork s t s₁ s₂) (refutes.refuted (Event r u) us) fine x y e = absurd (other_words (codes "fork") (codes "event") _ _ refl (first_same _ _ _ _ e))
-one_reason lts (refutes.fork s t s₁ s₂) (refutes.refuted (States r r') us) fine x y e = absurd (other_words (codes "fork") (codes "states") _ _ refl (first_same _ _ _ _ e))
-one_reason lts (refutes.refuted (Event s t) ts) (refutes.unreachable r) fine x y e = absurd (other_words (codes "event") (codes "unreachable") _ _ refl (first_same _ _ _ _ e))
-one_reason lts (refutes.refuted (Event s t) ts) (refutes.fork r u r₁ r₂) fine x y e = absurd (other_words (codes "event") (codes "fork") _ _ refl (first_same _ _ _ _ e))
-one_reason lts (refutes.refuted (Event s t) ts) (refutes.refuted (States r r') us) fine x y e = absurd (other_words (codes "event") (codes "states") _ _ refl (first_same _ _ _ _ e))
-one_reason lts (refutes.refuted (States s s') ts) (refutes.unreachable r) fine x y e = absurd (other_words (codes "states") (codes "unreachable") _ _ refl (first_same _ _ _ _ e))
-one_reason lts (refutes.refuted (States s s') ts) (refutes.fork r u r₁ r₂) fine x y e = absurd (other_words (codes "states") (codes "fork") _ _ refl (first_same _ _ _ _ e))
-one_reason lts (refutes.refuted (States s s') ts) (refutes.refuted (Event r u) us) fine x y e = absurd (other_words (codes "states") (codes "event") _ _ refl (first_same _ _ _ _ e))
+one_reason lts (refutes.unreachable s) (refutes.fork r u r₁ r₂) fine x y e = absurd (other_words _ _ _ _ (first_same _ _ _ _ e) refl)
+one_reason lts (refutes.unreachable s) (refutes.refuted (Event r u) us) fine x y e = absurd (other_words _ _ _ _ (first_same _ _ _ _ e) refl)
+one_reason lts (refutes.unreachable s) (refutes.refuted (States r r') us) fine x y e = absurd (other_words _ _ _ _ (first_same _ _ _ _ e) refl)
+one_reason lts (refutes.fork s t s₁ s₂) (refutes.unreachable r) fine x y e = absurd (other_words _ _ _ _ (first_same _ _ _ _ e) refl)
+one_reason lts (refutes.fork s t s₁ s₂) (refutes.refuted (Event r u) us) fine x y e = absurd (other_words _ _ _ _ (first_same _ _ _ _ e) refl)
+one_reason lts (refutes.fork s t s₁ s₂) (refutes.refuted (States r r') us) fine x y e = absurd (other_words _ _ _ _ (first_same _ _ _ _ e) refl)
+one_reason lts (refutes.refuted (Event s t) ts) (refutes.unreachable r) fine x y e = absurd (other_words _ _ _ _ (first_same _ _ _ _ e) refl)
+one_reason lts (refutes.refuted (Event s t) ts) (refutes.fork r u r₁ r₂) fine x y e = absurd (other_words _ _ _ _ (first_same _ _ _ _ e) refl)
+one_reason lts (refutes.refuted (Event s t) ts) (refutes.refuted (States r r') us) fine x y e = absurd (other_words _ _ _ _ (first_same _ _ _ _ e) refl)
+one_reason lts (refutes.refuted (States s s') ts) (refutes.unreachable r) fine x y e = absurd (other_words _ _ _ _ (first_same _ _ _ _ e) refl)
+one_reason lts (refutes.refuted (States s s') ts) (refutes.fork r u r₁ r₂) fine x y e = absurd (other_words _ _ _ _ (first_same _ _ _ _ e) refl)
+one_reason lts (refutes.refuted (States s s') ts) (refutes.refuted (Event r u) us) fine x y e = absurd (other_words _ _ _ _ (first_same _ _ _ _ e) refl)
 
 -- the class and the reason of lines
 line_parts : (lts : System) (v w : Version) (m n : List ℕ) (a b : refutes.Reason) → cert_lines v m lts a ≡ cert_lines w n lts b → (m ≡ n) × (reason_lines lts a ≡ reason_lines lts b)

@@ -2,7 +2,7 @@
 use Rattle.std.proofs.Common.{ℕ, suc, List, [], ◌∷◌, ◌++◌, append-nil, append_assoc, refl, sym, ap, ◌∙◌, arith}
 use Rattle.std.specs.List.{flat_map}
 use Rattle.std.specs.Prelude.{ℤ}
-use Rattle.rg_refuting.specs.Row.{Form}
+use Rattle.rg_refuting.specs.declared.Form.{Form}
 use Rattle.rg_refuting.specs.Refutes.{NamedRow, Tree, Tree.leaf, Tree.split}
 use Rattle.rg_reasons.specs.Trees.{TreeNode, TreeNode.leaf_node, TreeNode.split_node, preorder, IsWholeTree}
 use Rattle.rg_cert.specs.Drafts.{IsOpen}

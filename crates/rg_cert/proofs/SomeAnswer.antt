@@ -7,24 +7,22 @@ use Rattle.std.proofs.lemmas.List.Folds.{list_any-append, list_any_none}
 use Rattle.std.specs.Fmt.{signed_decimal}
 use Rattle.std.proofs.lemmas.List.Elements.{All-head, All-tail, All-nil, All-cons, All-weaker}
 use Rattle.rg_text.specs.Line.{fed, fields}
-use Rattle.rg_theory.specs.System.{System}
+use Rattle.rg_theory.specs.System.{arc, System}
 use Rattle.rg_theory.specs.declared.Class.{Class}
 use Rattle.rg_theory.specs.declared.Problem.TheVariants.{Event, States}
 use Rattle.rg_theory.specs.ClassWords.{NamesClass}
 use Rattle.rg_theory.proofs.ClassBytes.{named_bound}
 use Rattle.rg_theory.proofs.ClassDecided.{Decided}
-use Rattle.rg_refuting.specs.Row.{Form, Form.on_tokens, Form.on_effect, Form.on_start}
-use Rattle.rg_refuting.specs.Row.{RowName.arc_row, RowName.tokens_row, RowName.cap_row, RowName.up_row, RowName.down_row, RowName.makes_row, RowName.stop_row, RowName.block_row, RowName.empty_row, RowName.full_row, RowName.keep_row, RowName.apart_row, RowName.above_row}
+use Rattle.rg_refuting.specs.declared.Form.{Form}
 use Rattle.rg_refuting.specs.Refutes as refutes
 use Rattle.rg_refuting.specs.Refutes.{NamedRow, Tree}
 use Rattle.rg_cert.specs.declared.fault.CertFault.{CertFault}
 use Rattle.rg_cert.specs.declared.fault.CertFault.TheVariants.{Expected, UnknownName, NumberPasses, TreeShort, TreeLong}
 use Rattle.rg_reasons.specs.Trees.{TreeNode, preorder}
 use Rattle.rg_reasons.specs.Certificates.{Claim, IsMultiplierInRange, IsSplitInRange, IsRowOf, IsNodeOf, IsTreeOf, IsReasonOf}
-use Rattle.rg_cert.specs.Text.{Version, version_one, version_two, heading, splits_start, reason_nodes, asks_two, named_fields, node_lines, case_lines, reason_lines, spaced, cert_lines, text_with}
+use Rattle.rg_cert.specs.Text.{Version, version_one, version_two, heading, splits_start, reason_nodes, asks_two, Subject, of_none, of_arc, of_state, of_label, of_depth, subject_fields, named_fields, node_lines, case_lines, reason_lines, spaced, cert_lines, text_with}
 use Rattle.rg_cert.specs.Spells.{Spells}
-use Rattle.rg_cert.specs.Lines.{multiplier, split_value, depth, word, state, label, number, HasFieldForm, IsFieldInRange, IsFieldKnown, AreAsked, RowForm, arc_form}
-use Rattle.rg_cert.specs.Lines.{tokens_form, cap_form, up_form, down_form, makes_form, stop_form, block_form, empty_form, full_form, keep_form, apart_form, above_form}
+use Rattle.rg_cert.specs.Lines.{multiplier, split_value, depth, word, state, label, number, HasFieldForm, IsFieldInRange, IsFieldKnown, AreAsked, RowForm, lone_form, arc_form, state_form, label_form, depth_form, one_of, lone_words, state_words, label_words}
 use Rattle.rg_cert.specs.Lines.{LineForm, heading_line, class_line, unreachable_line, fork_line, event_line, states_line, case_line, split_tokens_line, split_effect_line}
 use Rattle.rg_cert.specs.Lines.{split_start_line, leaf_line, row_line, end_line, fields_of, HasForm, Position, at_heading, at_class, at_reason, at_last, at_one_case}
 use Rattle.rg_cert.specs.Lines.{at_cases, at_node, at_row, at_end, Next, to, short, long, refused, follows}
@@ -33,12 +31,15 @@ use Rattle.rg_cert.specs.Drafts.{Head, of_unreachable, of_fork, of_event, of_sta
 use Rattle.rg_cert.proofs.Decimal.{numeral_text}
 use Rattle.rg_cert.proofs.LineTexts.{fields_are, from_fields}
 use Rattle.rg_cert.proofs.FormKeys.{form_key, keyed}
+use Rattle.rg_cert.proofs.Words.{IsSubjectOf, name_is, IsNamed, lone_named, state_named, label_named}
 use Rattle.rg_cert.proofs.NextLines.{breaks, no_line, same_line, refused_form, begins_with}
 use Rattle.rg_cert.proofs.Good.{good_at, two_texts, three_texts, four_texts, five_texts}
 use Rattle.rg_cert.proofs.ClassLines.{class_texts}
 use Rattle.rg_cert.proofs.Walks.{start, fault_before}
 use Rattle.rg_cert.proofs.DraftSteps.{drafted}
 use Rattle.rg_cert.proofs.Deciding.{forms_decided, ranges_decided, names_decided, IsCut, cut_or_not}
+use Rattle.rg_refuting.specs.declared.RowName.TheVariants as row_name
+use Rattle.rg_refuting.specs.declared.Form.TheVariants as split_form
 
 other_default : (xs : List (List ℕ)) (k : ℕ) (d e : List ℕ) → k < length xs → get_or xs k d ≡ get_or xs k e
 other_default [] k d e less = absurd (omega arith)
@@ -60,74 +61,48 @@ depth_there text (z, is, within) =
     let size = ap nat_abs within.1 in
     (within.0, within.2, numeral_text text z is (omega (arith, size, within.2)) ∙ ap signed_decimal within.1)
 
+-- a row whose name has the word and the subject
+row_made : (lts : System) (z : ℤ) (w : List ℕ) (subject : Subject) (texts : List (List ℕ)) → IsNamed w subject → IsMultiplierInRange z → IsSubjectOf lts subject
+    → texts ≡ signed_decimal z ∷ w ∷ subject_fields lts subject → (r : NamedRow) × IsRowOf lts r × (texts ≡ named_fields lts r)
+row_made lts z w subject texts (name, is) small of_system are = (
+  record { multiplier = z; name = name },
+  record { multiplier = small; name = name_is lts name (subst (λ (p : List ℕ × Subject). IsSubjectOf lts p.1) (sym is) of_system) },
+  are ∙ ap (λ (p : List ℕ × Subject). signed_decimal z ∷ p.0 ∷ subject_fields lts p.1) (sym is),
+)
+
 -- the row of a right line
 row_there : (lts : System) (row : RowForm) (texts : List (List ℕ)) → IsGood lts (row_line row) texts → (r : NamedRow) × IsRowOf lts r × (texts ≡ named_fields lts r)
+row_there lts lone_form texts good =
+    let m = multiplier_there (get_or texts 0 []) (good_at lts (row_line lone_form) texts 0 (number multiplier) good refl).in_range in
+    let v = (good_at lts (row_line lone_form) texts 1 (one_of lone_words) good refl).form in
+    row_made lts m.0 (get_or texts 1 []) of_none texts (lone_named (get_or texts 1 []) v) m.1 tt
+    (two_texts HasFieldForm (number multiplier) (one_of lone_words) texts good.fields ∙ (λ i. m.2 i ∷ get_or texts 1 [] ∷ []))
 row_there lts arc_form texts good =
     let m = multiplier_there (get_or texts 0 []) (good_at lts (row_line arc_form) texts 0 (number multiplier) good refl).in_range in
     let v = (good_at lts (row_line arc_form) texts 1 (word (codes "arc")) good refl).form in
     let a = name_there lts.state_names (get_or texts 2 []) (good_at lts (row_line arc_form) texts 2 state good refl).known in
     let b = name_there lts.label_names (get_or texts 3 []) (good_at lts (row_line arc_form) texts 3 label good refl).known in
-    let c = name_there lts.state_names (get_or texts 4 []) (good_at lts (row_line arc_form) texts 4 state good refl).known in (
-      record { multiplier = m.0; name = arc_row a.0 b.0 c.0 },
-      record { multiplier = m.1; name = (a.1, b.1, c.1) },
-      five_texts HasFieldForm (number multiplier) (word (codes "arc")) state label state texts good.fields ∙ (λ i. m.2 i ∷ v i ∷ a.2 i ∷ b.2 i ∷ c.2 i ∷ []),
-    )
-row_there lts tokens_form texts good =
-    let m = multiplier_there (get_or texts 0 []) (good_at lts (row_line tokens_form) texts 0 (number multiplier) good refl).in_range in
-    let v = (good_at lts (row_line tokens_form) texts 1 (word (codes "tokens")) good refl).form in
-    let n = name_there lts.state_names (get_or texts 2 []) (good_at lts (row_line tokens_form) texts 2 state good refl).known in
-    (record { multiplier = m.0; name = tokens_row n.0 }, record { multiplier = m.1; name = n.1 }, three_texts HasFieldForm (number multiplier) (word (codes "tokens")) state texts good.fields ∙ (λ i. m.2 i ∷ v i ∷ n.2 i ∷ []))
-row_there lts cap_form texts good =
-    let m = multiplier_there (get_or texts 0 []) (good_at lts (row_line cap_form) texts 0 (number multiplier) good refl).in_range in
-    let v = (good_at lts (row_line cap_form) texts 1 (word (codes "cap")) good refl).form in
-    let n = name_there lts.state_names (get_or texts 2 []) (good_at lts (row_line cap_form) texts 2 state good refl).known in
-    (record { multiplier = m.0; name = cap_row n.0 }, record { multiplier = m.1; name = n.1 }, three_texts HasFieldForm (number multiplier) (word (codes "cap")) state texts good.fields ∙ (λ i. m.2 i ∷ v i ∷ n.2 i ∷ []))
-row_there lts up_form texts good =
-    let m = multiplier_there (get_or texts 0 []) (good_at lts (row_line up_form) texts 0 (number multiplier) good refl).in_range in
-    let v = (good_at lts (row_line up_form) texts 1 (word (codes "up")) good refl).form in
-    let n = name_there lts.label_names (get_or texts 2 []) (good_at lts (row_line up_form) texts 2 label good refl).known in
-    (record { multiplier = m.0; name = up_row n.0 }, record { multiplier = m.1; name = n.1 }, three_texts HasFieldForm (number multiplier) (word (codes "up")) label texts good.fields ∙ (λ i. m.2 i ∷ v i ∷ n.2 i ∷ []))
-row_there lts down_form texts good =
-    let m = multiplier_there (get_or texts 0 []) (good_at lts (row_line down_form) texts 0 (number multiplier) good refl).in_range in
-    let v = (good_at lts (row_line down_form) texts 1 (word (codes "down")) good refl).form in
-    let n = name_there lts.label_names (get_or texts 2 []) (good_at lts (row_line down_form) texts 2 label good refl).known in
-    (record { multiplier = m.0; name = down_row n.0 }, record { multiplier = m.1; name = n.1 }, three_texts HasFieldForm (number multiplier) (word (codes "down")) label texts good.fields ∙ (λ i. m.2 i ∷ v i ∷ n.2 i ∷ []))
-row_there lts makes_form texts good =
-    let m = multiplier_there (get_or texts 0 []) (good_at lts (row_line makes_form) texts 0 (number multiplier) good refl).in_range in
-    let v = (good_at lts (row_line makes_form) texts 1 (word (codes "makes")) good refl).form in
-    let n = name_there lts.label_names (get_or texts 2 []) (good_at lts (row_line makes_form) texts 2 label good refl).known in
-    (record { multiplier = m.0; name = makes_row n.0 }, record { multiplier = m.1; name = n.1 }, three_texts HasFieldForm (number multiplier) (word (codes "makes")) label texts good.fields ∙ (λ i. m.2 i ∷ v i ∷ n.2 i ∷ []))
-row_there lts stop_form texts good =
-    let m = multiplier_there (get_or texts 0 []) (good_at lts (row_line stop_form) texts 0 (number multiplier) good refl).in_range in
-    let v = (good_at lts (row_line stop_form) texts 1 (word (codes "stop")) good refl).form in
-    let n = name_there lts.state_names (get_or texts 2 []) (good_at lts (row_line stop_form) texts 2 state good refl).known in
-    (record { multiplier = m.0; name = stop_row n.0 }, record { multiplier = m.1; name = n.1 }, three_texts HasFieldForm (number multiplier) (word (codes "stop")) state texts good.fields ∙ (λ i. m.2 i ∷ v i ∷ n.2 i ∷ []))
-row_there lts block_form texts good =
-    let m = multiplier_there (get_or texts 0 []) (good_at lts (row_line block_form) texts 0 (number multiplier) good refl).in_range in
-    let v = (good_at lts (row_line block_form) texts 1 (word (codes "block")) good refl).form in
-    (record { multiplier = m.0; name = block_row }, record { multiplier = m.1; name = tt }, two_texts HasFieldForm (number multiplier) (word (codes "block")) texts good.fields ∙ (λ i. m.2 i ∷ v i ∷ []))
-row_there lts empty_form texts good =
-    let m = multiplier_there (get_or texts 0 []) (good_at lts (row_line empty_form) texts 0 (number multiplier) good refl).in_range in
-    let v = (good_at lts (row_line empty_form) texts 1 (word (codes "empty")) good refl).form in
-    (record { multiplier = m.0; name = empty_row }, record { multiplier = m.1; name = tt }, two_texts HasFieldForm (number multiplier) (word (codes "empty")) texts good.fields ∙ (λ i. m.2 i ∷ v i ∷ []))
-row_there lts full_form texts good =
-    let m = multiplier_there (get_or texts 0 []) (good_at lts (row_line full_form) texts 0 (number multiplier) good refl).in_range in
-    let v = (good_at lts (row_line full_form) texts 1 (word (codes "full")) good refl).form in
-    let n = name_there lts.state_names (get_or texts 2 []) (good_at lts (row_line full_form) texts 2 state good refl).known in
-    (record { multiplier = m.0; name = full_row n.0 }, record { multiplier = m.1; name = n.1 }, three_texts HasFieldForm (number multiplier) (word (codes "full")) state texts good.fields ∙ (λ i. m.2 i ∷ v i ∷ n.2 i ∷ []))
-row_there lts keep_form texts good =
-    let m = multiplier_there (get_or texts 0 []) (good_at lts (row_line keep_form) texts 0 (number multiplier) good refl).in_range in
-    let v = (good_at lts (row_line keep_form) texts 1 (word (codes "keep")) good refl).form in
-    (record { multiplier = m.0; name = keep_row }, record { multiplier = m.1; name = tt }, two_texts HasFieldForm (number multiplier) (word (codes "keep")) texts good.fields ∙ (λ i. m.2 i ∷ v i ∷ []))
-row_there lts apart_form texts good =
-    let m = multiplier_there (get_or texts 0 []) (good_at lts (row_line apart_form) texts 0 (number multiplier) good refl).in_range in
-    let v = (good_at lts (row_line apart_form) texts 1 (word (codes "apart")) good refl).form in
-    (record { multiplier = m.0; name = apart_row }, record { multiplier = m.1; name = tt }, two_texts HasFieldForm (number multiplier) (word (codes "apart")) texts good.fields ∙ (λ i. m.2 i ∷ v i ∷ []))
-row_there lts above_form texts good =
-    let m = multiplier_there (get_or texts 0 []) (good_at lts (row_line above_form) texts 0 (number multiplier) good refl).in_range in
-    let v = (good_at lts (row_line above_form) texts 1 (word (codes "above")) good refl).form in
-    let d = depth_there (get_or texts 2 []) (good_at lts (row_line above_form) texts 2 (number depth) good refl).in_range in
-    (record { multiplier = m.0; name = above_row d.0 }, record { multiplier = m.1; name = d.1 }, three_texts HasFieldForm (number multiplier) (word (codes "above")) (number depth) texts good.fields ∙ (λ i. m.2 i ∷ v i ∷ d.2 i ∷ []))
+    let c = name_there lts.state_names (get_or texts 4 []) (good_at lts (row_line arc_form) texts 4 state good refl).known in
+    row_made lts m.0 (codes "arc") (of_arc (arc a.0 b.0 c.0)) texts (row_name.Arc (arc a.0 b.0 c.0), refl) m.1 (a.1, b.1, c.1)
+    (five_texts HasFieldForm (number multiplier) (word (codes "arc")) state label state texts good.fields ∙ (λ i. m.2 i ∷ v i ∷ a.2 i ∷ b.2 i ∷ c.2 i ∷ []))
+row_there lts state_form texts good =
+    let m = multiplier_there (get_or texts 0 []) (good_at lts (row_line state_form) texts 0 (number multiplier) good refl).in_range in
+    let v = (good_at lts (row_line state_form) texts 1 (one_of state_words) good refl).form in
+    let n = name_there lts.state_names (get_or texts 2 []) (good_at lts (row_line state_form) texts 2 state good refl).known in
+    row_made lts m.0 (get_or texts 1 []) (of_state n.0) texts (state_named (get_or texts 1 []) n.0 v) m.1 n.1
+    (three_texts HasFieldForm (number multiplier) (one_of state_words) state texts good.fields ∙ (λ i. m.2 i ∷ get_or texts 1 [] ∷ n.2 i ∷ []))
+row_there lts label_form texts good =
+    let m = multiplier_there (get_or texts 0 []) (good_at lts (row_line label_form) texts 0 (number multiplier) good refl).in_range in
+    let v = (good_at lts (row_line label_form) texts 1 (one_of label_words) good refl).form in
+    let n = name_there lts.label_names (get_or texts 2 []) (good_at lts (row_line label_form) texts 2 label good refl).known in
+    row_made lts m.0 (get_or texts 1 []) (of_label n.0) texts (label_named (get_or texts 1 []) n.0 v) m.1 n.1
+    (three_texts HasFieldForm (number multiplier) (one_of label_words) label texts good.fields ∙ (λ i. m.2 i ∷ get_or texts 1 [] ∷ n.2 i ∷ []))
+row_there lts depth_form texts good =
+    let m = multiplier_there (get_or texts 0 []) (good_at lts (row_line depth_form) texts 0 (number multiplier) good refl).in_range in
+    let v = (good_at lts (row_line depth_form) texts 1 (word (codes "above")) good refl).form in
+    let d = depth_there (get_or texts 2 []) (good_at lts (row_line depth_form) texts 2 (number depth) good refl).in_range in
+    row_made lts m.0 (codes "above") (of_depth d.0) texts (row_name.Above d.0, refl) m.1 d.1
+    (three_texts HasFieldForm (number multiplier) (word (codes "above")) (number depth) texts good.fields ∙ (λ i. m.2 i ∷ v i ∷ d.2 i ∷ []))
 
 split_tokens_there : (lts : System) (texts : List (List ℕ)) → IsGood lts split_tokens_line texts → (form : Form) × (at : ℤ) × IsSplitLine lts texts form at
 split_tokens_there lts texts good =
@@ -135,7 +110,7 @@ split_tokens_there lts texts good =
     let v = (good_at lts split_tokens_line texts 1 (word (codes "tokens")) good refl).form in
     let n = name_there lts.state_names (get_or texts 2 []) (good_at lts split_tokens_line texts 2 state good refl).known in
     let z = split_there (get_or texts 3 []) (good_at lts split_tokens_line texts 3 (number split_value) good refl).in_range in (
-      on_tokens n.0,
+      split_form.Tokens n.0,
       z.0,
       record {
         variable = n.1;
@@ -150,7 +125,7 @@ split_effect_there lts texts good =
     let v = (good_at lts split_effect_line texts 1 (word (codes "effect")) good refl).form in
     let n = name_there lts.label_names (get_or texts 2 []) (good_at lts split_effect_line texts 2 label good refl).known in
     let z = split_there (get_or texts 3 []) (good_at lts split_effect_line texts 3 (number split_value) good refl).in_range in (
-      on_effect n.0,
+      split_form.Effect n.0,
       z.0,
       record {
         variable = n.1;
@@ -164,7 +139,7 @@ split_start_there lts texts good =
     let u = (good_at lts split_start_line texts 0 (word (codes "split")) good refl).form in
     let v = (good_at lts split_start_line texts 1 (word (codes "start")) good refl).form in
     let z = split_there (get_or texts 2 []) (good_at lts split_start_line texts 2 (number split_value) good refl).in_range in (
-      on_start,
+      split_form.Start,
       z.0,
       record {
         variable = tt;

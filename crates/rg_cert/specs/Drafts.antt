@@ -4,7 +4,7 @@ use Rattle.std.specs.List.{flat_map}
 use Rattle.std.specs.Fmt.{signed_decimal}
 use Rattle.rg_theory.specs.System.{System, states, labels}
 use Rattle.rg_theory.specs.declared.Class.{Class}
-use Rattle.rg_refuting.specs.Row.{Form}
+use Rattle.rg_refuting.specs.declared.Form.{Form}
 use Rattle.rg_refuting.specs.Refutes.{NamedRow, Tree}
 use Rattle.rg_reasons.specs.Trees.{TreeNode, leaf_node, split_node, preorder, IsWholeTree}
 use Rattle.rg_reasons.specs.Certificates.{IsRowOf, IsFormOf, IsSplitInRange, IsNodeOf}

@@ -23,14 +23,16 @@ IsIn depth z = (d : ℕ) × (z ≡ pos d) × (d < 2 ^ 32)
 -- what a field of a line must be
 pub data Field : Type 0 where
   word : List ℕ → Field
+  one_of : List (List ℕ) → Field  -- one of these words
   class_words : Version → Field  -- the first version whose texts have the class
   state : Field
   label : Field
   number : Range → Field
 
--- the field has the form that is due: a word, what names a class, a name, or a number
+-- the field has the form that is due: a word, one of some words, what names a class, a name, or a number
 abbrev pub HasFieldForm : Field → List ℕ → Type 0
 HasFieldForm (word w) text = text ≡ w
+HasFieldForm (one_of words) text = Contains words text
 HasFieldForm (class_words version) text = (class : Class) × NamesClass text class × (class_version class ≡ version)
 HasFieldForm state text = IsName text
 HasFieldForm label text = IsName text
@@ -54,21 +56,23 @@ AreAsked P [] (text ∷ texts) = ⊥
 AreAsked P (field ∷ fields) [] = ⊥
 AreAsked P (field ∷ fields) (text ∷ texts) = P field text × AreAsked P fields texts
 
--- the rows of a leaf
+-- the words of rows that speak of nothing, of a state, and of a label
+abbrev pub lone_words : List (List ℕ)
+lone_words = codes "block" ∷ codes "empty" ∷ codes "keep" ∷ codes "apart" ∷ []
+
+abbrev pub state_words : List (List ℕ)
+state_words = codes "tokens" ∷ codes "cap" ∷ codes "stop" ∷ codes "full" ∷ []
+
+abbrev pub label_words : List (List ℕ)
+label_words = codes "up" ∷ codes "down" ∷ codes "makes" ∷ []
+
+-- the rows of a leaf, by what they speak of: nothing, an arc, a state, a label, or the depth of a split
 pub data RowForm : Type 0 where
+  lone_form : RowForm
   arc_form : RowForm
-  tokens_form : RowForm
-  cap_form : RowForm
-  up_form : RowForm
-  down_form : RowForm
-  makes_form : RowForm
-  stop_form : RowForm
-  block_form : RowForm
-  empty_form : RowForm
-  full_form : RowForm
-  keep_form : RowForm
-  apart_form : RowForm
-  above_form : RowForm
+  state_form : RowForm
+  label_form : RowForm
+  depth_form : RowForm
 
 -- the forms of lines
 pub data LineForm : Type 0 where
@@ -88,19 +92,11 @@ pub data LineForm : Type 0 where
 
 -- the fields of a row's name
 abbrev pub row_form_fields : RowForm → List Field
+row_form_fields lone_form = one_of lone_words ∷ []
 row_form_fields arc_form = word (codes "arc") ∷ state ∷ label ∷ state ∷ []
-row_form_fields tokens_form = word (codes "tokens") ∷ state ∷ []
-row_form_fields cap_form = word (codes "cap") ∷ state ∷ []
-row_form_fields up_form = word (codes "up") ∷ label ∷ []
-row_form_fields down_form = word (codes "down") ∷ label ∷ []
-row_form_fields makes_form = word (codes "makes") ∷ label ∷ []
-row_form_fields stop_form = word (codes "stop") ∷ state ∷ []
-row_form_fields block_form = word (codes "block") ∷ []
-row_form_fields empty_form = word (codes "empty") ∷ []
-row_form_fields full_form = word (codes "full") ∷ state ∷ []
-row_form_fields keep_form = word (codes "keep") ∷ []
-row_form_fields apart_form = word (codes "apart") ∷ []
-row_form_fields above_form = word (codes "above") ∷ number depth ∷ []
+row_form_fields state_form = one_of state_words ∷ state ∷ []
+row_form_fields label_form = one_of label_words ∷ label ∷ []
+row_form_fields depth_form = word (codes "above") ∷ number depth ∷ []
 
 -- the fields of a line
 abbrev pub fields_of : LineForm → List Field

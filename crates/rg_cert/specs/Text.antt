@@ -5,15 +5,18 @@ use Rattle.std.specs.Fmt.{signed_decimal}
 use Rattle.rg_text.specs.Line.{fed}
 use Rattle.rg_theory.specs.System.{System}
 use Rattle.rg_theory.specs.ClassWords.{class_text}
+use Rattle.rg_theory.specs.declared.Arc.{Arc}
 use Rattle.rg_theory.specs.declared.Class.{Class}
 use Rattle.rg_theory.specs.declared.Problem.{Problem}
 use Rattle.rg_theory.specs.declared.Problem.TheVariants.{Event, States}
-use Rattle.rg_refuting.specs.Row.{Form, Form.on_tokens, Form.on_effect, Form.on_start}
-use Rattle.rg_refuting.specs.Row as row
+use Rattle.rg_refuting.specs.declared.Form.{Form}
 use Rattle.rg_refuting.specs.Refutes as refutes
 use Rattle.rg_refuting.specs.Refutes.{NamedRow, Tree}
 use Rattle.rg_reasons.specs.Trees.{TreeNode, TreeNode.leaf_node, TreeNode.split_node, preorder}
 use Rattle.rg_reasons.specs.Certificates.{Claim}
+use Rattle.rg_refuting.specs.declared.RowName.{RowName}
+use Rattle.rg_refuting.specs.declared.RowName.TheVariants as row_name
+use Rattle.rg_refuting.specs.declared.Form.TheVariants as split_form
 
 -- the versions of texts: the second one has classes with a marking, and splits on the start
 pub data Version : Type 0 where
@@ -33,9 +36,9 @@ abbrev pub class_version : Class → Version
 class_version class = if is_some class.marking then version_two else version_one
 
 abbrev pub is_start : Form → Bool
-is_start (on_tokens q) = false
-is_start (on_effect t) = false
-is_start on_start = true
+is_start (split_form.Tokens q) = false
+is_start (split_form.Effect t) = false
+is_start split_form.Start = true
 
 -- the node is a split on the start
 abbrev pub splits_start : TreeNode → Bool
@@ -62,30 +65,49 @@ state_name lts s = slice_index_or lts.state_names s []
 abbrev pub label_name : System → ℕ → List ℕ
 label_name lts t = slice_index_or lts.label_names t []
 
+-- what a row's name speaks of
+pub data Subject : Type 0 where
+  of_none : Subject
+  of_arc : Arc → Subject
+  of_state : ℕ → Subject
+  of_label : ℕ → Subject
+  of_depth : ℕ → Subject
+
+-- the word of a row's name, and what it speaks of
+abbrev pub word_and_subject : RowName → List ℕ × Subject
+word_and_subject (row_name.Arc a) = (codes "arc", of_arc a)
+word_and_subject (row_name.Tokens q) = (codes "tokens", of_state q)
+word_and_subject (row_name.Cap q) = (codes "cap", of_state q)
+word_and_subject (row_name.Up t) = (codes "up", of_label t)
+word_and_subject (row_name.Down t) = (codes "down", of_label t)
+word_and_subject (row_name.Makes t) = (codes "makes", of_label t)
+word_and_subject (row_name.Stop q) = (codes "stop", of_state q)
+word_and_subject row_name.Block = (codes "block", of_none)
+word_and_subject row_name.Empty = (codes "empty", of_none)
+word_and_subject (row_name.Full q) = (codes "full", of_state q)
+word_and_subject row_name.Keep = (codes "keep", of_none)
+word_and_subject row_name.Apart = (codes "apart", of_none)
+word_and_subject (row_name.Above d) = (codes "above", of_depth d)
+
+abbrev pub subject_fields : System → Subject → List (List ℕ)
+subject_fields lts of_none = []
+subject_fields lts (of_arc a) = state_name lts a.from ∷ label_name lts a.label ∷ state_name lts a.to ∷ []
+subject_fields lts (of_state q) = state_name lts q ∷ []
+subject_fields lts (of_label t) = label_name lts t ∷ []
+subject_fields lts (of_depth d) = decimal d ∷ []
+
 -- the fields of a row's name: its word, and what it speaks of
-abbrev pub row_fields : System → row.RowName → List (List ℕ)
-row_fields lts (row.arc_row q t q') = codes "arc" ∷ state_name lts q ∷ label_name lts t ∷ state_name lts q' ∷ []
-row_fields lts (row.tokens_row q) = codes "tokens" ∷ state_name lts q ∷ []
-row_fields lts (row.cap_row q) = codes "cap" ∷ state_name lts q ∷ []
-row_fields lts (row.up_row t) = codes "up" ∷ label_name lts t ∷ []
-row_fields lts (row.down_row t) = codes "down" ∷ label_name lts t ∷ []
-row_fields lts (row.makes_row t) = codes "makes" ∷ label_name lts t ∷ []
-row_fields lts (row.stop_row q) = codes "stop" ∷ state_name lts q ∷ []
-row_fields lts row.block_row = codes "block" ∷ []
-row_fields lts row.empty_row = codes "empty" ∷ []
-row_fields lts (row.full_row q) = codes "full" ∷ state_name lts q ∷ []
-row_fields lts row.keep_row = codes "keep" ∷ []
-row_fields lts row.apart_row = codes "apart" ∷ []
-row_fields lts (row.above_row d) = codes "above" ∷ decimal d ∷ []
+abbrev pub row_fields : System → RowName → List (List ℕ)
+row_fields lts name = (word_and_subject name).0 ∷ subject_fields lts (word_and_subject name).1
 
 -- the fields of a row: its multiplier and its name
 abbrev pub named_fields : System → NamedRow → List (List ℕ)
 named_fields lts r = signed_decimal r.multiplier ∷ row_fields lts r.name
 
 abbrev pub form_fields : System → Form → List (List ℕ)
-form_fields lts (on_tokens q) = codes "tokens" ∷ state_name lts q ∷ []
-form_fields lts (on_effect t) = codes "effect" ∷ label_name lts t ∷ []
-form_fields lts on_start = codes "start" ∷ []
+form_fields lts (split_form.Tokens q) = codes "tokens" ∷ state_name lts q ∷ []
+form_fields lts (split_form.Effect t) = codes "effect" ∷ label_name lts t ∷ []
+form_fields lts split_form.Start = codes "start" ∷ []
 
 -- the fields of the lines of a node
 abbrev pub node_lines : System → TreeNode → List (List (List ℕ))

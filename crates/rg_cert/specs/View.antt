@@ -32,26 +32,23 @@ range_in range.Multiplier = line.multiplier
 range_in range.Split = line.split_value
 range_in range.Depth = line.depth
 
+-- texts that are borrowed
+abbrev pub texts_in : List (Bor (List ℕ)) → List (List ℕ)
+texts_in items = map (λ w. w.now) items
+
 abbrev pub field_in : Field → line.Field
 field_in (field.Word w) = line.word w.now
+field_in (field.OneOf words) = line.one_of (texts_in words.now)
 field_in field.State = line.state
 field_in field.Label = line.label
 field_in (field.Number range) = line.number (range_in range)
 
 abbrev pub row_form_in : RowForm → line.RowForm
+row_form_in of_row.Lone = line.lone_form
 row_form_in of_row.Arc = line.arc_form
-row_form_in of_row.Tokens = line.tokens_form
-row_form_in of_row.Cap = line.cap_form
-row_form_in of_row.Up = line.up_form
-row_form_in of_row.Down = line.down_form
-row_form_in of_row.Makes = line.makes_form
-row_form_in of_row.Stop = line.stop_form
-row_form_in of_row.Block = line.block_form
-row_form_in of_row.Empty = line.empty_form
-row_form_in of_row.Full = line.full_form
-row_form_in of_row.Keep = line.keep_form
-row_form_in of_row.Apart = line.apart_form
-row_form_in of_row.Above = line.above_form
+row_form_in of_row.State = line.state_form
+row_form_in of_row.Label = line.label_form
+row_form_in of_row.Depth = line.depth_form
 
 abbrev pub line_form_in : LineForm → line.LineForm
 line_form_in of_line.Unreachable = line.unreachable_line
@@ -101,10 +98,6 @@ head_in (head.States s s') = draft.of_states s s'
 
 abbrev pub draft_in : Draft → draft.Draft
 draft_in d = record { cases = map nodes_of d.cases.items; nodes = map node_of d.nodes.items; rows = map named_row d.rows.items }
-
--- texts that are borrowed
-abbrev pub texts_in : List (Bor (List ℕ)) → List (List ℕ)
-texts_in items = map (λ w. w.now) items
 
 -- the head and the cases of a reason
 abbrev pub reason_head : Reason → draft.Head

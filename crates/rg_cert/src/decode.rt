@@ -1,11 +1,11 @@
 //! What right lines say.
-ghost use Rattle.std.specs.Prelude.{◌≡◌, ◌<◌, ◌++◌, ◌∷◌, [], length, slice_index_or};
+ghost use Rattle.std.specs.Prelude.{◌≡◌, ◌<◌, ◌++◌, ◌∷◌, [], length, slice_index_or, Contains};
 ghost use Rattle.std.specs.Fmt.{signed_decimal};
 ghost use Rattle.rg_theory.specs.System.{states, labels};
-ghost use Rattle.rg_reasons.specs.Trees.{row_name_of, named_row, form_of};
+ghost use Rattle.rg_reasons.specs.Trees.{named_row};
 ghost use Rattle.rg_reasons.specs.Certificates.{IsMultiplierInRange, IsSplitInRange, IsRowNameOf, IsRowOf};
-ghost use Rattle.rg_cert.specs.Text.{Version, state_name, label_name, row_fields, named_fields};
-ghost use Rattle.rg_cert.specs.Lines.{Position.at_reason, Next.to, follows, Field.state as state_field, Field.label as label_field, Field.number as number_field, Range.multiplier as multiplier_range, Range.split_value as split_range, Range.depth as depth_range};
+ghost use Rattle.rg_cert.specs.Text.{Version, Subject.of_none, Subject.of_state, Subject.of_label, state_name, label_name, word_and_subject, row_fields, named_fields};
+ghost use Rattle.rg_cert.specs.Lines.{lone_words, state_words, label_words, Position.at_reason, Next.to, follows, Field.state as state_field, Field.label as label_field, Field.number as number_field, Range.multiplier as multiplier_range, Range.split_value as split_range, Range.depth as depth_range};
 ghost use Rattle.rg_cert.specs.Drafts.{IsGoodAt, IsGood, IsSplitLine, head_fields, IsHeadOf, IsHeadForm, after_head};
 ghost use Rattle.rg_cert.specs.View.{texts_in, line_form_in, head_in};
 ghost use Rattle.rg_cert.specs.declared.table.LineForm.TheVariants as of_line;
@@ -15,7 +15,7 @@ use crate::names::{label_of, state_of};
 use crate::numerals::{depth, multiplier, split_value};
 use crate::table::{LineForm, RowForm};
 use rg_lts::Lts;
-use rg_reasons::{Form, RowName};
+use rg_refuting::{Form, RowName};
 use rg_theory::Arc;
 
 // A field.
@@ -42,30 +42,68 @@ pub(crate) fn label_at(texts: &[&[u8]], i: usize, lts: &Lts) -> u32
     label_of(text_at(texts, i), lts)
 }
 
+// The row with this word, which speaks of nothing.
+fn lone_row(word: &[u8]) -> RowName
+    requires { Contains lone_words word.now }
+    ensures { word_and_subject result ≡ (word.now, of_none) }
+{
+    if word == b"block".as_slice() {
+        RowName::Block
+    } else if word == b"empty".as_slice() {
+        RowName::Empty
+    } else if word == b"keep".as_slice() {
+        RowName::Keep
+    } else {
+        RowName::Apart
+    }
+}
+
+// The row with this word, which speaks of a state.
+fn state_row(word: &[u8], q: u32) -> RowName
+    requires { Contains state_words word.now }
+    ensures { word_and_subject result ≡ (word.now, of_state q) }
+{
+    if word == b"tokens".as_slice() {
+        RowName::Tokens(q)
+    } else if word == b"cap".as_slice() {
+        RowName::Cap(q)
+    } else if word == b"stop".as_slice() {
+        RowName::Stop(q)
+    } else {
+        RowName::Full(q)
+    }
+}
+
+// The row with this word, which speaks of a label.
+fn label_row(word: &[u8], t: u32) -> RowName
+    requires { Contains label_words word.now }
+    ensures { word_and_subject result ≡ (word.now, of_label t) }
+{
+    if word == b"up".as_slice() {
+        RowName::Up(t)
+    } else if word == b"down".as_slice() {
+        RowName::Down(t)
+    } else {
+        RowName::Makes(t)
+    }
+}
+
 // The row that a line names.
 fn row_name(row: RowForm, texts: &[&[u8]], lts: &Lts) -> RowName
     requires { IsGood lts.now (line_form_in (of_line.Row row)) (texts_in texts.now) }
-    ensures names { IsRowNameOf lts.now (row_name_of result) }
-    ensures fields { texts_in texts.now ≡ slice_index_or (texts_in texts.now) 0 [] ∷ row_fields lts.now (row_name_of result) }
+    ensures names { IsRowNameOf lts.now result }
+    ensures fields { texts_in texts.now ≡ slice_index_or (texts_in texts.now) 0 [] ∷ row_fields lts.now result }
 {
     match row {
+        RowForm::Lone => lone_row(text_at(texts, 1)),
         RowForm::Arc => RowName::Arc(Arc {
             from: state_at(texts, 2, lts),
             label: label_at(texts, 3, lts),
             to: state_at(texts, 4, lts),
         }),
-        RowForm::Tokens => RowName::Tokens(state_at(texts, 2, lts)),
-        RowForm::Cap => RowName::Cap(state_at(texts, 2, lts)),
-        RowForm::Up => RowName::Up(label_at(texts, 2, lts)),
-        RowForm::Down => RowName::Down(label_at(texts, 2, lts)),
-        RowForm::Makes => RowName::Makes(label_at(texts, 2, lts)),
-        RowForm::Stop => RowName::Stop(state_at(texts, 2, lts)),
-        RowForm::Block => RowName::Block,
-        RowForm::Empty => RowName::Empty,
-        RowForm::Full => RowName::Full(state_at(texts, 2, lts)),
-        RowForm::Keep => RowName::Keep,
-        RowForm::Apart => RowName::Apart,
-        RowForm::Above => RowName::Above(depth(text_at(texts, 2))),
+        RowForm::State => state_row(text_at(texts, 1), state_at(texts, 2, lts)),
+        RowForm::Label => label_row(text_at(texts, 1), label_at(texts, 2, lts)),
+        RowForm::Depth => RowName::Above(depth(text_at(texts, 2))),
     }
 }
 
@@ -81,7 +119,7 @@ pub(crate) fn row_of(row: RowForm, texts: &[&[u8]], lts: &Lts) -> (RowName, i128
 // What a split of tokens says.
 pub(crate) fn tokens_split(texts: &[&[u8]], lts: &Lts) -> (Form, i64)
     requires { IsGood lts.now (line_form_in of_line.SplitTokens) (texts_in texts.now) }
-    ensures { IsSplitLine lts.now (texts_in texts.now) (form_of result.0) result.1 }
+    ensures { IsSplitLine lts.now (texts_in texts.now) result.0 result.1 }
 {
     (
         Form::Tokens(state_at(texts, 2, lts)),
@@ -92,7 +130,7 @@ pub(crate) fn tokens_split(texts: &[&[u8]], lts: &Lts) -> (Form, i64)
 // What a split of an effect says.
 pub(crate) fn effect_split(texts: &[&[u8]], lts: &Lts) -> (Form, i64)
     requires { IsGood lts.now (line_form_in of_line.SplitEffect) (texts_in texts.now) }
-    ensures { IsSplitLine lts.now (texts_in texts.now) (form_of result.0) result.1 }
+    ensures { IsSplitLine lts.now (texts_in texts.now) result.0 result.1 }
 {
     (
         Form::Effect(label_at(texts, 2, lts)),
@@ -103,7 +141,7 @@ pub(crate) fn effect_split(texts: &[&[u8]], lts: &Lts) -> (Form, i64)
 // What a split of the start says.
 pub(crate) fn start_split(texts: &[&[u8]], lts: &Lts) -> (Form, i64)
     requires { IsGood lts.now (line_form_in of_line.SplitStart) (texts_in texts.now) }
-    ensures { IsSplitLine lts.now (texts_in texts.now) (form_of result.0) result.1 }
+    ensures { IsSplitLine lts.now (texts_in texts.now) result.0 result.1 }
 {
     (Form::Start, split_value(text_at(texts, 2)))
 }

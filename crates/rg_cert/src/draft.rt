@@ -2,7 +2,6 @@
 ghost use Rattle.std.specs.Prelude.{◌≡◌, OnOk};
 ghost use Rattle.rg_cert.specs.Drafts.{after_head, blank, leaf_closed, case_closed, with_split, IsGood, AddsRow, Adds};
 ghost use Rattle.rg_cert.specs.View.{texts_in, line_form_in, version_in, position_in, HasFewDue, head_in, draft_in};
-ghost use Rattle.rg_reasons.specs.Trees.{form_of};
 ghost use Rattle.rg_cert.specs.declared.table.LineForm.TheVariants as of_line;
 
 use crate::decode::{effect_split, row_of, start_split, tokens_split};
@@ -11,7 +10,8 @@ use crate::table::{LineForm, RowForm};
 use crate::version::Version;
 use rg_lts::Lts;
 use rg_memory::NoMemory;
-use rg_reasons::{Case, Form, Node, RowName};
+use rg_reasons::{Case, Node};
+use rg_refuting::{Form, RowName};
 use std::alloc::Global;
 use std::mem;
 
@@ -104,7 +104,7 @@ impl Draft {
 
     // One more node.
     fn push_split(&mut self, split: (Form, i64)) -> Result<(), NoMemory>
-        ensures { OnOk result (draft_in self.new ≡ with_split (draft_in self.old) (form_of split.0) split.1) }
+        ensures { OnOk result (draft_in self.new ≡ with_split (draft_in self.old) split.0 split.1) }
     {
         self.nodes.push(Node::Split(split.0, split.1))?;
         Ok(())

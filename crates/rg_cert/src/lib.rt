@@ -20,4 +20,5 @@ pub use laws::{certificate_is_told, lines_go_on, one_answer};
 pub use printing::print;
 pub use reading::read;
 pub use rg_memory::NoMemory;
-pub use rg_reasons::{Case, Certificate, Form, Node, Problem, Reason, RowName};
+pub use rg_reasons::{Case, Certificate, Node, Problem, Reason};
+pub use rg_refuting::{Form, RowName};

@@ -4,7 +4,7 @@ ghost use Rattle.std.specs.List.{flat_map, list_any};
 ghost use Rattle.std.specs.Fmt.{signed_decimal};
 ghost use Rattle.rg_text.specs.Line.{fed};
 ghost use Rattle.rg_theory.specs.System.{states, labels};
-ghost use Rattle.rg_reasons.specs.Trees.{TreeNode.split_node, row_name_of, form_of, named_row, node_of, nodes_of};
+ghost use Rattle.rg_reasons.specs.Trees.{TreeNode.split_node, named_row, node_of, nodes_of};
 ghost use Rattle.rg_reasons.specs.Certificates.{claim_of, HasWholeCases, IsCertificateOf, IsRowNameOf, IsFormOf, IsRowOf, IsNodeOf};
 ghost use Rattle.rg_cert.specs.Text.{version_one, version_two, heading, splits_start, asks_two, state_name, label_name, row_fields, named_fields, form_fields, node_lines, spaced, cert_text};
 ghost use Rattle.rg_cert.specs.Spells.{Spells};
@@ -14,7 +14,8 @@ ghost use Rattle.rg_cert.specs.View.{reason_head, reason_cases};
 use itoa::Buffer;
 use rg_lts::Lts;
 use rg_memory::NoMemory;
-use rg_reasons::{Case, Certificate, Form, Node, Reason, RowName};
+use rg_reasons::{Case, Certificate, Node, Reason};
+use rg_refuting::{Form, RowName};
 use rg_theory::class_text;
 use std::alloc::Global;
 
@@ -175,8 +176,8 @@ fn push_node(text: &mut Vec<u8>, node: &Node, lts: &Lts) -> Result<(), NoMemory>
 
 // The line of a split.
 fn push_split(text: &mut Vec<u8>, form: Form, at: i64, lts: &Lts) -> Result<(), NoMemory>
-    requires { IsFormOf lts.now (form_of form) }
-    ensures { OnOk result (text.new.items ≡ text.old.items ++ fed (map spaced (node_lines lts.now (split_node (form_of form) at)))) }
+    requires { IsFormOf lts.now form }
+    ensures { OnOk result (text.new.items ≡ text.old.items ++ fed (map spaced (node_lines lts.now (split_node form at)))) }
 {
     let mut buffer = Buffer::new();
     push_form(text, form, lts)?;
@@ -188,8 +189,8 @@ fn push_split(text: &mut Vec<u8>, form: Form, at: i64, lts: &Lts) -> Result<(), 
 
 // What a split speaks of.
 fn push_form(text: &mut Vec<u8>, form: Form, lts: &Lts) -> Result<(), NoMemory>
-    requires { IsFormOf lts.now (form_of form) }
-    ensures { OnOk result (text.new.items ≡ text.old.items ++ spaced (codes "split" ∷ form_fields lts.now (form_of form))) }
+    requires { IsFormOf lts.now form }
+    ensures { OnOk result (text.new.items ≡ text.old.items ++ spaced (codes "split" ∷ form_fields lts.now form)) }
 {
     match form {
         Form::Tokens(q) => push_with_state(text, b"split tokens", lts, q),
@@ -211,8 +212,8 @@ fn push_rows(text: &mut Vec<u8>, rows: &[(RowName, i128)], lts: &Lts) -> Result<
 
 // The line of a row.
 fn push_row(text: &mut Vec<u8>, name: RowName, multiplier: i128, lts: &Lts) -> Result<(), NoMemory>
-    requires { IsRowNameOf lts.now (row_name_of name) }
-    ensures { OnOk result (text.new.items ≡ text.old.items ++ (spaced (signed_decimal multiplier ∷ row_fields lts.now (row_name_of name)) ++ 10 ∷ [])) }
+    requires { IsRowNameOf lts.now name }
+    ensures { OnOk result (text.new.items ≡ text.old.items ++ (spaced (signed_decimal multiplier ∷ row_fields lts.now name) ++ 10 ∷ [])) }
 {
     let mut buffer = Buffer::new();
     text.extend_from_slice(buffer.format(multiplier).as_bytes())?;
@@ -224,8 +225,8 @@ fn push_row(text: &mut Vec<u8>, name: RowName, multiplier: i128, lts: &Lts) -> R
 
 // The name of a row.
 fn push_row_name(text: &mut Vec<u8>, name: RowName, lts: &Lts) -> Result<(), NoMemory>
-    requires { IsRowNameOf lts.now (row_name_of name) }
-    ensures { OnOk result (text.new.items ≡ text.old.items ++ spaced (row_fields lts.now (row_name_of name))) }
+    requires { IsRowNameOf lts.now name }
+    ensures { OnOk result (text.new.items ≡ text.old.items ++ spaced (row_fields lts.now name)) }
 {
     match name {
         RowName::Arc(arc) => {

@@ -1,9 +1,9 @@
 //! The forms of the lines after the second, as a table.
-ghost use Rattle.std.specs.Prelude.{◌≡◌, map, IsTrue, ◌↔◌, IfSome, IfNone};
+ghost use Rattle.std.specs.Prelude.{◌≡◌, map, Contains, IsTrue, ◌↔◌, IfSome, IfNone};
 ghost use Rattle.rg_cert.specs.declared.table.LineForm.{LineForm};
 ghost use Rattle.rg_cert.specs.declared.table.LineForm.TheVariants as of_line;
 ghost use Rattle.rg_cert.specs.Lines.{fields_of, IsIn, HasFieldForm, IsFieldInRange, IsFieldKnown, AreAsked};
-ghost use Rattle.rg_cert.specs.View.{range_in, field_in, line_form_in};
+ghost use Rattle.rg_cert.specs.View.{range_in, texts_in, field_in, line_form_in};
 
 use crate::names::{label_in, state_in};
 use crate::numerals::{is_numeral, number};
@@ -22,27 +22,21 @@ pub(crate) enum Range {
 #[derive(Clone, Copy, Debug)]
 pub(crate) enum Field {
     Word(&'static [u8]),
+    /// One of these words.
+    OneOf(&'static [&'static [u8]]),
     State,
     Label,
     Number(Range),
 }
 
-/// The rows of a leaf.
+/// The rows of a leaf, by what they speak of: nothing, an arc, a state, a label, or the depth of a split.
 #[derive(Clone, Copy, Debug, PartialEq, Eq)]
 pub(crate) enum RowForm {
+    Lone,
     Arc,
-    Tokens,
-    Cap,
-    Up,
-    Down,
-    Makes,
-    Stop,
-    Block,
-    Empty,
-    Full,
-    Keep,
-    Apart,
-    Above,
+    State,
+    Label,
+    Depth,
 }
 
 /// The forms of lines.
@@ -61,7 +55,7 @@ pub(crate) enum LineForm {
     End,
 }
 
-const FORMS: [LineForm; 23] = [
+const FORMS: [LineForm; 15] = [
     LineForm::Unreachable,
     LineForm::Fork,
     LineForm::Event,
@@ -71,19 +65,11 @@ const FORMS: [LineForm; 23] = [
     LineForm::SplitEffect,
     LineForm::SplitStart,
     LineForm::Leaf,
+    LineForm::Row(RowForm::Lone),
     LineForm::Row(RowForm::Arc),
-    LineForm::Row(RowForm::Tokens),
-    LineForm::Row(RowForm::Cap),
-    LineForm::Row(RowForm::Up),
-    LineForm::Row(RowForm::Down),
-    LineForm::Row(RowForm::Makes),
-    LineForm::Row(RowForm::Stop),
-    LineForm::Row(RowForm::Block),
-    LineForm::Row(RowForm::Empty),
-    LineForm::Row(RowForm::Full),
-    LineForm::Row(RowForm::Keep),
-    LineForm::Row(RowForm::Apart),
-    LineForm::Row(RowForm::Above),
+    LineForm::Row(RowForm::State),
+    LineForm::Row(RowForm::Label),
+    LineForm::Row(RowForm::Depth),
     LineForm::End,
 ];
 
@@ -134,6 +120,10 @@ impl RowForm {
         ensures { map field_in result.now ≡ fields_of (line_form_in (of_line.Row self)) }
     {
         match self {
+            RowForm::Lone => &[
+                Field::Number(Range::Multiplier),
+                Field::OneOf(&[b"block", b"empty", b"keep", b"apart"]),
+            ],
             RowForm::Arc => &[
                 Field::Number(Range::Multiplier),
                 Field::Word(b"arc"),
@@ -141,46 +131,17 @@ impl RowForm {
                 Field::Label,
                 Field::State,
             ],
-            RowForm::Tokens => &[
+            RowForm::State => &[
                 Field::Number(Range::Multiplier),
-                Field::Word(b"tokens"),
+                Field::OneOf(&[b"tokens", b"cap", b"stop", b"full"]),
                 Field::State,
             ],
-            RowForm::Cap => &[
+            RowForm::Label => &[
                 Field::Number(Range::Multiplier),
-                Field::Word(b"cap"),
-                Field::State,
-            ],
-            RowForm::Up => &[
-                Field::Number(Range::Multiplier),
-                Field::Word(b"up"),
+                Field::OneOf(&[b"up", b"down", b"makes"]),
                 Field::Label,
             ],
-            RowForm::Down => &[
-                Field::Number(Range::Multiplier),
-                Field::Word(b"down"),
-                Field::Label,
-            ],
-            RowForm::Makes => &[
-                Field::Number(Range::Multiplier),
-                Field::Word(b"makes"),
-                Field::Label,
-            ],
-            RowForm::Stop => &[
-                Field::Number(Range::Multiplier),
-                Field::Word(b"stop"),
-                Field::State,
-            ],
-            RowForm::Block => &[Field::Number(Range::Multiplier), Field::Word(b"block")],
-            RowForm::Empty => &[Field::Number(Range::Multiplier), Field::Word(b"empty")],
-            RowForm::Full => &[
-                Field::Number(Range::Multiplier),
-                Field::Word(b"full"),
-                Field::State,
-            ],
-            RowForm::Keep => &[Field::Number(Range::Multiplier), Field::Word(b"keep")],
-            RowForm::Apart => &[Field::Number(Range::Multiplier), Field::Word(b"apart")],
-            RowForm::Above => &[
+            RowForm::Depth => &[
                 Field::Number(Range::Multiplier),
                 Field::Word(b"above"),
                 Field::Number(Range::Depth),
@@ -196,9 +157,20 @@ impl Field {
     {
         match self {
             Field::Word(word) => text == word,
+            Field::OneOf(words) => is_one_of(words, text),
             Field::State | Field::Label => is_name(text),
             Field::Number(_) => is_numeral(text),
         }
+    }
+}
+
+// Whether the text is one of the words.
+fn is_one_of(words: &[&[u8]], text: &[u8]) -> bool
+    ensures { IsTrue result ↔ Contains (texts_in words.now) text.now }
+{
+    match words {
+        [] => false,
+        [word, words @ ..] => text == *word || is_one_of(words, text),
     }
 }
 

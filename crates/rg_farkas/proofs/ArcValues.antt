@@ -11,8 +11,10 @@ use Rattle.rg_theory.specs.Tree.{KeepsArcs, parikh}
 use Rattle.rg_integers.specs.Sum.{sum_below, dot}
 use Rattle.rg_linear.specs.Cycle.{FollowsRelations, CycleBasis}
 use Rattle.rg_linear.proofs.Firsts.{kept_is}
-use Rattle.rg_refuting.specs.Expression.{Variable, Variable.tokens_at, Variable.effect_of, Term, value_in}
-use Rattle.rg_refuting.specs.Row.{RowName, row_expression}
+use Rattle.rg_refuting.specs.Expression.{Term, value_in}
+use Rattle.rg_refuting.specs.declared.Variable.{Variable}
+use Rattle.rg_refuting.specs.Row.{row_expression}
+use Rattle.rg_refuting.specs.declared.RowName.{RowName}
 use Rattle.rg_order_of_work.specs.Chords.{chord_system}
 use Rattle.rg_order_of_work.specs.Rewriting.{has_label, has_start, names_of, KeptRow, IsIdle, row_fold, CaseSystem, system_fold}
 use Rattle.rg_order_of_work.specs.Values.{numbers_along, column_values, UnusedAreZero}
@@ -27,6 +29,7 @@ use Rattle.rg_order_of_work.proofs.CaseRows.{name_no_tokens}
 use Rattle.rg_order_of_work.proofs.Shifts.{same_value}
 use Rattle.rg_farkas.specs.Refuting.{KeepsEachArc}
 use Rattle.rg_farkas.proofs.Names.{IsUsed, NamesUsed, names_used}
+use Rattle.rg_refuting.specs.declared.Variable.TheVariants.{Tokens, Effect}
 
 -- ---- the rows of a case's system
 
@@ -53,36 +56,36 @@ used_value lts x y (t ∷ terms) same used = ap₂ (λ a b. (t.coefficient *ℤ 
 
 module _ (lts : System) (tree : List Arc) (basis : CycleBasis) (class : Class) (problem : Problem) (number : ℕ) (case : CaseSystem) (c : IsCaseOver lts tree basis class problem number case) (live : IsLive lts problem) (x : Variable → ℤ) (keeps : KeepsEachArc lts x) where
   abbrev pub own_effect : ℕ → ℤ
-  own_effect t = if has_label t lts.arcs then x (effect_of t) else pos 0
+  own_effect t = if has_label t lts.arcs then x (Effect t) else pos 0
 
-  pub used_keeps : KeepsArcs lts (λ q. x (tokens_at q)) own_effect
-  used_keeps a has = ap (λ b. x (tokens_at a.from) +ℤ (if b then x (effect_of a.label) else pos 0)) (finds_label a lts.arcs has) ∙ keeps a has
+  pub used_keeps : KeepsArcs lts (λ q. x (Tokens q)) own_effect
+  used_keeps a has = ap (λ b. x (Tokens a.from) +ℤ (if b then x (Effect a.label) else pos 0)) (finds_label a lts.arcs has) ∙ keeps a has
 
   pub follows : FollowsRelations (chord_system lts tree basis.kept) basis.members own_effect
-  follows = own_effects lts tree basis (λ q. x (tokens_at q)) own_effect c.in_range c.reachable c.is_tree c.is_basis used_keeps
+  follows = own_effects lts tree basis (λ q. x (Tokens q)) own_effect c.in_range c.reachable c.is_tree c.is_basis used_keeps
 
   pub unused : UnusedAreZero lts own_effect
-  unused t e = ap (λ b. if b then x (effect_of t) else pos 0) e
+  unused t e = ap (λ b. if b then x (Effect t) else pos 0) e
 
-  pub same_used : (v : Variable) → IsUsed lts v → x v ≡ numbers_along lts tree (x (tokens_at lts.initial)) own_effect v
-  same_used (tokens_at q) lt = own_number lts tree (λ q. x (tokens_at q)) own_effect q c.in_range c.reachable c.is_tree used_keeps lt
-  same_used (effect_of t) (lt, used) = sym (ap (λ b. if b then x (effect_of t) else pos 0) used)
+  pub same_used : (v : Variable) → IsUsed lts v → x v ≡ numbers_along lts tree (x (Tokens lts.initial)) own_effect v
+  same_used (Tokens q) lt = own_number lts tree (λ q. x (Tokens q)) own_effect q c.in_range c.reachable c.is_tree used_keeps lt
+  same_used (Effect t) (lt, used) = sym (ap (λ b. if b then x (Effect t) else pos 0) used)
 
   pub own_given : AreEffects lts tree basis own_effect
   own_given = record { follows = follows; unused = unused }
 
   -- Start, where it is a column
   abbrev pub own_start : ℤ
-  own_start = if has_start class then x (tokens_at lts.initial) else pos 0
+  own_start = if has_start class then x (Tokens lts.initial) else pos 0
 
   -- the value of a named row is that at the columns' values
   row_value : (name : RowName) → Contains (names_of lts class problem number) name → value_in x (row_expression lts class problem number [] name).terms ≡ value_in (numbers_along lts tree own_start own_effect) (row_expression lts class problem number [] name).terms
-  row_value name has = used_value lts x (numbers_along lts tree (x (tokens_at lts.initial)) own_effect) (row_expression lts class problem number [] name).terms same_used (names_used lts class problem number name c.asked live has) ∙ go (has_start class) refl
+  row_value name has = used_value lts x (numbers_along lts tree (x (Tokens lts.initial)) own_effect) (row_expression lts class problem number [] name).terms same_used (names_used lts class problem number name c.asked live has) ∙ go (has_start class) refl
     where
-      from_zero : has_start class ≡ false → value_over (pos 0) (numbers_along lts tree (pos 0) own_effect) (row_expression lts class problem number [] name) ≡ value_over (pos 0) (numbers_along lts tree (x (tokens_at lts.initial)) own_effect) (row_expression lts class problem number [] name)
-      from_zero e = same_value lts class problem number (pos 0) (x (tokens_at lts.initial)) (numbers_along lts tree (pos 0) own_effect)
-          (numbers_along lts tree (x (tokens_at lts.initial)) own_effect) name e
-          ((λ q. turn (x (tokens_at lts.initial)) (sum_below (labels lts) (λ t. pos (parikh tree q t) *ℤ own_effect t))), (λ t. refl))
+      from_zero : has_start class ≡ false → value_over (pos 0) (numbers_along lts tree (pos 0) own_effect) (row_expression lts class problem number [] name) ≡ value_over (pos 0) (numbers_along lts tree (x (Tokens lts.initial)) own_effect) (row_expression lts class problem number [] name)
+      from_zero e = same_value lts class problem number (pos 0) (x (Tokens lts.initial)) (numbers_along lts tree (pos 0) own_effect)
+          (numbers_along lts tree (x (Tokens lts.initial)) own_effect) name e
+          ((λ q. turn (x (Tokens lts.initial)) (sum_below (labels lts) (λ t. pos (parikh tree q t) *ℤ own_effect t))), (λ t. refl))
           (names_stand lts class problem number name has) (name_no_tokens lts class problem number name e has)
         where
           turn : (s z : ℤ) → s +ℤ z ≡ (pos 0 +ℤ z) +ℤ s
@@ -91,16 +94,16 @@ module _ (lts : System) (tree : List Arc) (basis : CycleBasis) (class : Class) (
       close : (a b k : ℤ) → a +ℤ (k *ℤ pos 0) ≡ b +ℤ (k *ℤ pos 0) → b ≡ a
       close a b k e = omega (arith, ints)
 
-      go : (b : Bool) → has_start class ≡ b → value_in (numbers_along lts tree (x (tokens_at lts.initial)) own_effect)
-          (row_expression lts class problem number [] name).terms ≡ value_in (numbers_along lts tree (if b then x (tokens_at lts.initial) else pos 0) own_effect)
+      go : (b : Bool) → has_start class ≡ b → value_in (numbers_along lts tree (x (Tokens lts.initial)) own_effect)
+          (row_expression lts class problem number [] name).terms ≡ value_in (numbers_along lts tree (if b then x (Tokens lts.initial) else pos 0) own_effect)
           (row_expression lts class problem number [] name).terms
       go true e = refl
       go false e = close (value_in (numbers_along lts tree (pos 0) own_effect) (row_expression lts class problem number [] name).terms)
-          (value_in (numbers_along lts tree (x (tokens_at lts.initial)) own_effect) (row_expression lts class problem number [] name).terms)
+          (value_in (numbers_along lts tree (x (Tokens lts.initial)) own_effect) (row_expression lts class problem number [] name).terms)
           (row_expression lts class problem number [] name).constant (from_zero e)
 
   no_start : has_start class ≡ false → own_start ≡ pos 0
-  no_start e = ap (λ b. if b then x (tokens_at lts.initial) else pos 0) e
+  no_start e = ap (λ b. if b then x (Tokens lts.initial) else pos 0) e
 
   -- the value of a row of the system, times the factor's bottom
   pub kept_value : (scale : ℤ) (k : KeptRow) → Contains case.kept k

@@ -11,9 +11,10 @@ use Rattle.rg_integers.specs.Range.{InRange}
 use Rattle.rg_fraction.specs.declared.fraction.Fraction.{Fraction}
 use Rattle.rg_linear.specs.Cycle.{CycleBasis}
 use Rattle.rg_refuting.specs.Expression.{Expression}
-use Rattle.rg_refuting.specs.Row.{Side, RowName, RowStands, row_expression}
+use Rattle.rg_refuting.specs.Row.{RowStands, row_expression}
+use Rattle.rg_refuting.specs.declared.Side.{Side}
+use Rattle.rg_refuting.specs.declared.RowName.{RowName}
 use Rattle.rg_refuting.specs.Refutes.{NamedRow, IsSeparationProblem}
-use Rattle.rg_reasons.specs.declared.certificate.RowName.{RowName as CodeName}
 use Rattle.rg_reasons.specs.Trees.{named_row}
 use Rattle.rg_reasons.specs.Certificates.{IsFormOf, IsRowNameOf, IsRowOf, IsTermWithin}
 use Rattle.rg_reasons.proofs.Within.{row_within}
@@ -74,9 +75,9 @@ module _ (lts : System) where
 
 -- ---- the numbers of the code's rows
 
-pub row_numbers : (rows : List (CodeName × ℤ)) → All (λ r. InRange r.1) rows → All (λ (r : NamedRow). InRange r.multiplier) (map named_row rows)
+pub row_numbers : (rows : List (RowName × ℤ)) → All (λ r. InRange r.1) rows → All (λ (r : NamedRow). InRange r.multiplier) (map named_row rows)
 row_numbers rows all = All-map (λ (r : NamedRow). InRange r.multiplier) named_row rows all
 
-pub bottoms : (named : List (CodeName × Fraction)) → All (λ s. pos 0 <ℤ s.multiplier.bottom) (map share_of named)
+pub bottoms : (named : List (RowName × Fraction)) → All (λ s. pos 0 <ℤ s.multiplier.bottom) (map share_of named)
 bottoms [] = All-nil (λ s. pos 0 <ℤ s.multiplier.bottom)
 bottoms (r ∷ named) = All-cons (λ s. pos 0 <ℤ s.multiplier.bottom) (share_of r) (map share_of named) r.1.positive (bottoms named)

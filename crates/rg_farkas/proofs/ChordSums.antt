@@ -13,8 +13,9 @@ use Rattle.rg_integers.proofs.Ring.{ring, mul-add, add-mul, mul-neg, mul_assoc, 
 use Rattle.rg_integers.proofs.Order.{mul-cancel, mul-cancel_left, mul_positive, positive_differs}
 use Rattle.rg_integers.proofs.ListSums.{sum_over-same, sum_over-append, sum_over-map, sum_over-plus, sum_over-times, sum_over-swap}
 use Rattle.rg_integers.specs.declared.term.Wide.{Wide}
-use Rattle.rg_refuting.specs.Expression.{Variable, Expression, value_in}
-use Rattle.rg_refuting.specs.Row.{RowName}
+use Rattle.rg_refuting.specs.Expression.{Expression, value_in}
+use Rattle.rg_refuting.specs.declared.Variable.{Variable}
+use Rattle.rg_refuting.specs.declared.RowName.{RowName}
 use Rattle.rg_refuting.specs.Refutes.{NamedRow}
 use Rattle.rg_linear.specs.Cycle.{CycleBasis}
 use Rattle.rg_order_of_work.specs.Fold.{each, further, joined, Ratio, whole, add}

@@ -14,9 +14,8 @@ use Rattle.rg_linear.specs.Cycle.{CycleBasis}
 use Rattle.rg_integers.specs.declared.term.Wide.{Wide}
 use Rattle.rg_fraction.specs.declared.fraction.Fraction.{Fraction}
 use Rattle.rg_refuting.specs.Expression.{Expression}
-use Rattle.rg_refuting.specs.Row.{RowName}
+use Rattle.rg_refuting.specs.declared.RowName.{RowName}
 use Rattle.rg_refuting.specs.Refutes.{NamedRow}
-use Rattle.rg_reasons.specs.declared.certificate.RowName.{RowName as CodeName}
 use Rattle.rg_reasons.specs.Trees.{named_row}
 use Rattle.rg_order_of_work.specs.Fold.{each, joined, add, whole, Ratio, ratio_of}
 use Rattle.rg_order_of_work.specs.Chords.{IsBasis, chord_vectors, chord_at}
@@ -144,25 +143,25 @@ pub arcs_range : (system arcs : List Arc) (zs : List ℤ) → All InRange zs →
 arcs_range [] arcs zs all = All-nil (λ r. InRange r.multiplier)
 arcs_range (a ∷ system) arcs zs all = All-cons (λ r. InRange r.multiplier) (record { multiplier = multiplier_among arcs zs a; name = arc_name a }) (map (λ a. record { multiplier = multiplier_among arcs zs a; name = arc_name a }) system) (among_range arcs zs a all) (arcs_range system arcs zs all)
 
-pub rows_range : (rows : List (CodeName × ℤ)) (l : List NamedRow) → map named_row rows ≡ l → All (λ r. InRange r.multiplier) l → All (λ r. InRange r.1) rows
+pub rows_range : (rows : List (RowName × ℤ)) (l : List NamedRow) → map named_row rows ≡ l → All (λ r. InRange r.multiplier) l → All (λ r. InRange r.1) rows
 rows_range rows l e all = go rows (subst (All (λ r. InRange r.multiplier)) (sym e) all)
   where
-    go : (rows : List (CodeName × ℤ)) → All (λ r. InRange r.multiplier) (map named_row rows) → All (λ r. InRange r.1) rows
+    go : (rows : List (RowName × ℤ)) → All (λ r. InRange r.multiplier) (map named_row rows) → All (λ r. InRange r.1) rows
     go [] all = All-nil (λ r. InRange r.1)
     go (r ∷ rows) all = All-cons (λ r. InRange r.1) r rows (All-head (λ r. InRange r.multiplier) (named_row r) (map named_row rows) all) (go rows (All-tail (λ r. InRange r.multiplier) (named_row r) (map named_row rows) all))
 
 -- ---- the named rows of the shares
 
-pub shared_names : (named : List (CodeName × Fraction)) → map ratio_of (map (λ r. r.1) named) ≡ map (λ s. s.multiplier) (map share_of named)
+pub shared_names : (named : List (RowName × Fraction)) → map ratio_of (map (λ r. r.1) named) ≡ map (λ s. s.multiplier) (map share_of named)
 shared_names [] = refl
 shared_names (r ∷ named) = ap (λ l. ratio_of r.1 ∷ l) (shared_names named)
 
 -- ---- what the code has at each step
 
-pub fractions_are : (named : List (CodeName × Fraction)) (seen shares fs seen' : List Fraction) → seen ≡ shares → fs ≡ map (λ r. r.1) named ++ seen → seen' ≡ fs → map ratio_of seen' ≡ map (λ s. s.multiplier) (map share_of named) ++ map ratio_of shares
+pub fractions_are : (named : List (RowName × Fraction)) (seen shares fs seen' : List Fraction) → seen ≡ shares → fs ≡ map (λ r. r.1) named ++ seen → seen' ≡ fs → map ratio_of seen' ≡ map (λ s. s.multiplier) (map share_of named) ++ map ratio_of shares
 fractions_are named seen shares fs seen' e made e' = ap (map ratio_of) (e' ∙ made ∙ ap (λ l. map (λ r. r.1) named ++ l) e) ∙ map-append ratio_of (map (λ r. r.1) named) shares ∙ ap (λ l. l ++ map ratio_of shares) (shared_names named)
 
-pub numbered_length : (named : List (CodeName × Fraction)) (lts : System) (tree : List Arc) (basis : CycleBasis) (seen used : List ℕ)
+pub numbered_length : (named : List (RowName × Fraction)) (lts : System) (tree : List Arc) (basis : CycleBasis) (seen used : List ℕ)
     (shares seen' fs seen'' : List Fraction) (numbers numbers' : List ℤ) (chords chords' : List Arc) → length shares ≡ length seen → seen ≡ used
     → used ≡ used_chords lts basis → seen' ≡ shares → fs ≡ map (λ r. r.1) named ++ seen' → seen'' ≡ fs → length numbers ≡ length seen'' → numbers' ≡ numbers
     → chords ≡ chord_arcs lts tree basis → chords' ≡ chords → length numbers' ≡ length named + length chords'
@@ -172,19 +171,19 @@ numbered_length named lts tree basis seen used shares seen' fs seen'' numbers nu
 pub shares_length : (lts : System) (basis : CycleBasis) (counts : List LabelCount) (used : List ℕ) (shares : List Fraction) → each (λ c. counts_fold basis counts (labels lts + c)) used (Ok (map ratio_of shares)) → length shares ≡ length used
 shares_length lts basis counts used shares h = sym (length-map shares ratio_of) ∙ each_length (λ c. counts_fold basis counts (labels lts + c)) used (map ratio_of shares) h
 
-module _ (lts : System) (tree : List Arc) (basis : CycleBasis) (named : List (CodeName × Fraction)) where
+module _ (lts : System) (tree : List Arc) (basis : CycleBasis) (named : List (RowName × Fraction)) where
   abbrev names : List RowName
   names = map (λ s. s.name) (map share_of named)
 
-  pub listed_are : (chords chords' : List Arc) (numbers numbers' : List ℤ) (listed : List (CodeName × ℤ)) → chords' ≡ chords → chords ≡ chord_arcs lts tree basis
+  pub listed_are : (chords chords' : List Arc) (numbers numbers' : List ℤ) (listed : List (RowName × ℤ)) → chords' ≡ chords → chords ≡ chord_arcs lts tree basis
       → numbers' ≡ numbers → map named_row listed ≡ named_from (map (λ s. s.name) (map share_of named) ++ map arc_name chords') numbers'
       → map named_row listed ≡ named_from (map (λ s. s.name) (map share_of named) ++ map arc_name (chord_arcs lts tree basis)) numbers
   listed_are chords chords' numbers numbers' listed a b c d = d ∙ ap₂ (λ l n. named_from (names ++ map arc_name l) n) (a ∙ b) c
 
-  pub listed_range : (numbers : List ℤ) (listed listed' : List (CodeName × ℤ)) → listed' ≡ listed → map named_row listed ≡ named_from (map (λ s. s.name) (map share_of named) ++ map arc_name (chord_arcs lts tree basis)) numbers → All InRange numbers → All (λ r. InRange r.1) listed'
+  pub listed_range : (numbers : List ℤ) (listed listed' : List (RowName × ℤ)) → listed' ≡ listed → map named_row listed ≡ named_from (map (λ s. s.name) (map share_of named) ++ map arc_name (chord_arcs lts tree basis)) numbers → All InRange numbers → All (λ r. InRange r.1) listed'
   listed_range numbers listed listed' e is all = rows_range listed' (named_from (names ++ map arc_name (chord_arcs lts tree basis)) numbers) (ap (map named_row) e ∙ is) (named_range (names ++ map arc_name (chord_arcs lts tree basis)) numbers all)
 
-  pub tree_made : (expression : RowName → Expression) (listed listed' : List (CodeName × ℤ)) (rows rows' : List Row) (tree' : List Arc) (numbers : List ℤ)
+  pub tree_made : (expression : RowName → Expression) (listed listed' : List (RowName × ℤ)) (rows rows' : List Row) (tree' : List Arc) (numbers : List ℤ)
       → listed' ≡ listed → map named_row listed ≡ named_from (map (λ s. s.name) (map share_of named) ++ map arc_name (chord_arcs lts tree basis)) numbers
       → map named_of rows ≡ map named_row listed' → All (Tells expression) rows → rows' ≡ rows → tree' ≡ tree → (r : Result (List ArcTimes) Wide)
       → ((e : RowName → Expression) → All (Tells e) rows' → tree_fold e (map named_of rows') [] (reverse tree') r)
@@ -196,7 +195,7 @@ module _ (lts : System) (tree : List Arc) (basis : CycleBasis) (named : List (Co
   pub parted : (tree' : List Arc) (numbers numbers' ms ms' parts : List ℤ) → tree' ≡ tree → numbers' ≡ numbers → ms' ≡ ms → length ms ≡ length tree' → IsParts (numbers' ++ ms') parts → IsParts (numbers ++ map (λ x. x.multiplier) (arc_times tree ms)) parts
   parted tree' numbers numbers' ms ms' parts e a b same h = subst (λ l. IsParts (numbers ++ l) parts) (b ∙ sym (times_numbers tree ms (same ∙ ap length e))) (subst (λ l. IsParts (l ++ ms') parts) a h)
 
-  pub leaf_is : (tree' tree'' arcs arcs' cs cs' system : List Arc) (ms parts parts' parts'' : List ℤ) (leaf done : List (CodeName × ℤ)) → tree' ≡ tree → tree'' ≡ tree
+  pub leaf_is : (tree' tree'' arcs arcs' cs cs' system : List Arc) (ms parts parts' parts'' : List ℤ) (leaf done : List (RowName × ℤ)) → tree' ≡ tree → tree'' ≡ tree
       → length ms ≡ length tree' → cs' ≡ cs → cs ≡ chord_arcs lts tree basis → arcs ≡ cs' ++ tree'' → arcs' ≡ arcs → system ≡ lts.arcs → parts' ≡ parts → parts'' ≡ parts
       → map named_row leaf ≡ not_zero (named_from (map (λ s. s.name) (map share_of named)) parts')
       → map named_row done ≡ map named_row leaf ++ not_zero (map (λ a. record { multiplier = multiplier_among arcs' (take (length parts'' - length named) (drop (length named) parts'')) a; name = arc_name a }) system)
@@ -227,7 +226,7 @@ module _ (lts : System) (tree : List Arc) (basis : CycleBasis) (named : List (Co
             name = arc_name a;
           })) s
 
-  pub leaf_range : (arcs : List Arc) (parts zs : List ℤ) (leaf : List (CodeName × ℤ))
+  pub leaf_range : (arcs : List Arc) (parts zs : List ℤ) (leaf : List (RowName × ℤ))
       → map named_row leaf ≡ not_zero (named_from (map (λ s. s.name) (map share_of named)) parts ++ map
       (λ a. record { multiplier = multiplier_among arcs (drop (length (map share_of named)) parts) a; name = arc_name a }) lts.arcs) → All InRange parts
       → All (λ r. InRange r.1) leaf
@@ -237,13 +236,13 @@ module _ (lts : System) (tree : List Arc) (basis : CycleBasis) (named : List (Co
       (map (λ a. record { multiplier = multiplier_among arcs (drop (length (map share_of named)) parts) a; name = arc_name a }) lts.arcs)
       (named_range names parts all) (arcs_range lts.arcs arcs (drop (length (map share_of named)) parts) (All-drop InRange (length (map share_of named)) parts all))))
 
-  pub checked_as : (expression : RowName → Expression) (done done' : List (CodeName × ℤ)) (rows rows' : List Row) (l : List NamedRow) → map named_row done ≡ l
+  pub checked_as : (expression : RowName → Expression) (done done' : List (RowName × ℤ)) (rows rows' : List Row) (l : List NamedRow) → map named_row done ≡ l
       → done' ≡ done → map named_of rows ≡ map named_row done' → rows' ≡ rows → All (Tells expression) rows → (r : Result (List NamedRow) Wide)
       → ((e : RowName → Expression) → All (Tells e) rows' → checked_leaf lts e (map named_of rows') r) → checked_leaf lts expression l r
   checked_as expression done done' rows rows' l is a b c told r h = subst (λ x. checked_leaf lts expression x r) (ap (map named_of) c ∙ b ∙ ap (map named_row) a ∙ is) (h expression (subst (All (Tells expression)) (sym c) told))
 
 -- the arcs' parts are enough
-pub enough_parts : (named : List (CodeName × Fraction)) (tree' tree'' arcs arcs' chords chords' chords'' : List Arc)
+pub enough_parts : (named : List (RowName × Fraction)) (tree' tree'' arcs arcs' chords chords' chords'' : List Arc)
     (numbers numbers' numbers'' ms ms' parts parts' : List ℤ) → length numbers'' ≡ length named + length chords'' → numbers'' ≡ numbers → chords'' ≡ chords
     → numbers' ≡ numbers → ms' ≡ ms → length ms ≡ length tree' → tree' ≡ tree'' → IsParts (numbers' ++ ms') parts → chords' ≡ chords → arcs ≡ chords' ++ tree''
     → arcs' ≡ arcs → parts' ≡ parts → length arcs' ≤ length (take (length parts' - length named) (drop (length named) parts'))

@@ -11,7 +11,7 @@ use Rattle.rg_theory.proofs.Lists.{Contains-cons_cases}
 use Rattle.rg_integers.specs.Sum.{sum_over}
 use Rattle.rg_integers.proofs.Ring.{ring}
 use Rattle.rg_integers.proofs.ListSums.{sum_over-same, sum_over-zero, sum_over-append, sum_over-map, sum_over-plus}
-use Rattle.rg_refuting.specs.Row.{RowName}
+use Rattle.rg_refuting.specs.declared.RowName.{RowName}
 use Rattle.rg_refuting.specs.Refutes.{NamedRow}
 use Rattle.rg_order_of_work.specs.Spreading.{named_from, not_zero, multiplier_among, arc_name}
 use Rattle.rg_order_of_work.proofs.Potentials.{among_is}

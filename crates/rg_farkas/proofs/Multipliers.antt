@@ -19,8 +19,12 @@ use Rattle.rg_linear.specs.Cycle.{CycleBasis}
 use Rattle.rg_linear.specs.Branching.{weights_from, Form, form_at, SplitSide, side_row, node_system}
 use Rattle.rg_linear.proofs.Columns.{below_test, past_test}
 use Rattle.rg_linear.proofs.Splits.{index-front}
-use Rattle.rg_refuting.specs.Expression.{Variable, Variable.tokens_at, Expression, plus, minus, sum_of, value_in}
-use Rattle.rg_refuting.specs.Row.{Form as SplitForm, Form.on_tokens, Form.on_effect, Form.on_start, form_variable, step_of, FormStands, RowName, RowName.above_row, Side, RowStands, row_expression, side_expression}
+use Rattle.rg_refuting.specs.Expression.{Expression, plus, minus, sum_of, value_in}
+use Rattle.rg_refuting.specs.declared.Variable.{Variable}
+use Rattle.rg_refuting.specs.Row.{form_variable, step_of, FormStands, RowStands, row_expression, side_expression}
+use Rattle.rg_refuting.specs.declared.Form.{Form as SplitForm}
+use Rattle.rg_refuting.specs.declared.RowName.{RowName}
+use Rattle.rg_refuting.specs.declared.Side.{Side}
 use Rattle.rg_refuting.specs.Refutes.{NamedRow, constant_sum}
 use Rattle.rg_order_of_work.specs.Fold.{each, whole, Ratio}
 use Rattle.rg_order_of_work.specs.Rewriting.{has_start, split_forms, form_fold, KeptRow, CaseSystem, rows_of}
@@ -39,6 +43,9 @@ use Rattle.rg_farkas.proofs.Names.{IsUsed, names_in_range}
 use Rattle.rg_farkas.proofs.ArcValues.{IsRowOf, kept_row, own_start, own_effect, own_given, same_used, kept_value}
 use Rattle.rg_farkas.proofs.Shares.{names_all, shares_positive, shares_sum}
 use Rattle.rg_farkas.proofs.Sides.{same_expression, stands_below, above_expression, above_stands, get-map, dot-neg, form_used}
+use Rattle.rg_refuting.specs.declared.RowName.TheVariants as row_name
+use Rattle.rg_refuting.specs.declared.Form.TheVariants as split_form
+use Rattle.rg_refuting.specs.declared.Variable.TheVariants.{Tokens}
 
 -- ---- the rows of a node
 
@@ -50,7 +57,7 @@ module _ (lts : System) (tree : List Arc) (basis : CycleBasis) (class : Class) (
   named = named_sides lts class problem sides
 
   abbrev no_row : KeptRow
-  no_row = record { name = above_row 0; row = record { coeffs = []; constant = pos 0 }; factor = whole (pos 1) }
+  no_row = record { name = row_name.Above 0; row = record { coeffs = []; constant = pos 0 }; factor = whole (pos 1) }
 
   abbrev no_side : SplitSide
   no_side = record { form = 0; at = pos 0; high = false }
@@ -78,7 +85,7 @@ module _ (lts : System) (tree : List Arc) (basis : CycleBasis) (class : Class) (
 
   -- what the split of a side is on
   abbrev split_at : ℕ → SplitForm
-  split_at d = slice_index_or (split_forms lts class problem) (side_at sides d).form (on_tokens 0)
+  split_at d = slice_index_or (split_forms lts class problem) (side_at sides d).form (split_form.Tokens 0)
 
   side_there : (d : ℕ) → d < length sides → (side_at sides d).form < length case.forms
   side_there d lt = All-get_or (λ side. side.form < length case.forms) sides d no_side lt within
@@ -87,7 +94,7 @@ module _ (lts : System) (tree : List Arc) (basis : CycleBasis) (class : Class) (
   side_used d lt = form_used lts class problem (split_at d) c.in_range.initial (form_named lts tree basis class problem number case (side_at sides d).form c.is_case (side_there d lt)).1
 
   named_is : (d : ℕ) → d < length sides → (named_at named d).form ≡ split_at d
-  named_is d lt = ap (λ (w : Side). w.form) (get_or-map (named_side lts class problem) sides d no_side (record { form = on_tokens 0; at = pos 0; high = false }) lt)
+  named_is d lt = ap (λ (w : Side). w.form) (get_or-map (named_side lts class problem) sides d no_side (record { form = split_form.Tokens 0; at = pos 0; high = false }) lt)
 
   -- what the factor of a split is: its row is the factor times the named row
   record IsFactor (w : SplitForm) (form : Form) : Type 0 where
@@ -97,27 +104,27 @@ module _ (lts : System) (tree : List Arc) (basis : CycleBasis) (class : Class) (
     pub value : (z y : ℤ) → pos (step_of class w) *ℤ z ≡ form.scale *ℤ y → z ≡ (split_factor w form).top *ℤ y
 
   split_factor_is : (w : SplitForm) (form : Form) → form_fold lts tree basis class w (Ok form) → IsFactor w form
-  split_factor_is (on_tokens q) form made = record { positive = form_positive lts tree basis class problem number case c (on_tokens q) form made; bottom = refl; scale = one form.scale; value = λ z y e. once z ∙ e }
+  split_factor_is (split_form.Tokens q) form made = record { positive = form_positive lts tree basis class problem number case c (split_form.Tokens q) form made; bottom = refl; scale = one form.scale; value = λ z y e. once z ∙ e }
     where
       one : (z : ℤ) → z ≡ z *ℤ pos 1
       one z = omega (arith, ints)
 
       once : (z : ℤ) → z ≡ pos 1 *ℤ z
       once z = omega (arith, ints)
-  split_factor_is (on_effect t) form made = record { positive = form_positive lts tree basis class problem number case c (on_effect t) form made; bottom = refl; scale = one form.scale; value = λ z y e. once z ∙ e }
+  split_factor_is (split_form.Effect t) form made = record { positive = form_positive lts tree basis class problem number case c (split_form.Effect t) form made; bottom = refl; scale = one form.scale; value = λ z y e. once z ∙ e }
     where
       one : (z : ℤ) → z ≡ z *ℤ pos 1
       one z = omega (arith, ints)
 
       once : (z : ℤ) → z ≡ pos 1 *ℤ z
       once z = omega (arith, ints)
-  split_factor_is on_start form made = record {
+  split_factor_is split_form.Start form made = record {
     positive = (omega (arith, ints));
     bottom = refl;
-    scale = start_scale lts tree basis class form c.is_tree made ∙ once (pos (step_of class on_start));
-    value = λ z y e. mul-cancel_left (pos (step_of class on_start)) z (pos 1 *ℤ y)
-        (positive_differs (pos (step_of class on_start)) (above (step_of class on_start) (step_positive class on_start c.numbers)))
-        (e ∙ ap (λ m. m *ℤ y) (start_scale lts tree basis class form c.is_tree made) ∙ ap (λ m. pos (step_of class on_start) *ℤ m) (once y));
+    scale = start_scale lts tree basis class form c.is_tree made ∙ once (pos (step_of class split_form.Start));
+    value = λ z y e. mul-cancel_left (pos (step_of class split_form.Start)) z (pos 1 *ℤ y)
+        (positive_differs (pos (step_of class split_form.Start)) (above (step_of class split_form.Start) (step_positive class split_form.Start c.numbers)))
+        (e ∙ ap (λ m. m *ℤ y) (start_scale lts tree basis class form c.is_tree made) ∙ ap (λ m. pos (step_of class split_form.Start) *ℤ m) (once y));
   }
     where
       once : (z : ℤ) → z ≡ pos 1 *ℤ z
@@ -127,10 +134,10 @@ module _ (lts : System) (tree : List Arc) (basis : CycleBasis) (class : Class) (
       above n h = omega (arith, ints)
 
   -- what holds of the names of both kinds of rows
-  name_told : (P : RowName → Type 0) → ((i : ℕ) → i < length case.kept → P (kept_at case i).name) → ((d : ℕ) → d < length sides → P (above_row d)) → (i : ℕ) → i < length case.kept + length sides → P (name_of case i)
+  name_told : (P : RowName → Type 0) → ((i : ℕ) → i < length case.kept → P (kept_at case i).name) → ((d : ℕ) → d < length sides → P (row_name.Above d)) → (i : ℕ) → i < length case.kept + length sides → P (name_of case i)
   name_told P kept above i lt = ⊎_elim
-      (λ front. subst (λ b. P (if b then (kept_at case i).name else above_row (i - length case.kept))) (sym (below_test i (length case.kept) front)) (kept i front))
-      (λ back. subst (λ b. P (if b then (kept_at case i).name else above_row (i - length case.kept))) (sym (past_test i (length case.kept) back)) (above (i - length case.kept) (omega arith)))
+      (λ front. subst (λ b. P (if b then (kept_at case i).name else row_name.Above (i - length case.kept))) (sym (below_test i (length case.kept) front)) (kept i front))
+      (λ back. subst (λ b. P (if b then (kept_at case i).name else row_name.Above (i - length case.kept))) (sym (past_test i (length case.kept) back)) (above (i - length case.kept) (omega arith)))
       (cases_lt i (length case.kept))
 
   pub node_names_stand : (multiplier : ℕ → ℤ) (shares : List Share) → each (share_fold case sides named) (weights_from multiplier 0 (length node.rows)) (Ok shares) → All (λ s. RowStands lts class problem number named s.name) shares
@@ -228,7 +235,7 @@ module _ (lts : System) (tree : List Arc) (basis : CycleBasis) (class : Class) (
       is : IsFactor split form
       is = split_factor_is split form made
 
-      expression : row_expression lts class problem number named (above_row d) ≡ side_expression class lts.initial (Some (named_side lts class problem side))
+      expression : row_expression lts class problem number named (row_name.Above d) ≡ side_expression class lts.initial (Some (named_side lts class problem side))
       expression = above_expression lts class problem number named d ∙ ap (side_expression class lts.initial) (get-map (named_side lts class problem) sides d no_side lt)
 
       form_is : (x : Variable → ℤ) (keeps : KeepsEachArc lts x) → dot form.coeffs (columns x keeps) ≡ factor *ℤ x v
@@ -237,7 +244,7 @@ module _ (lts : System) (tree : List Arc) (basis : CycleBasis) (class : Class) (
           (own_effect lts tree basis class problem number case c live x keeps) made
           (form_named lts tree basis class problem number case side.form c.is_case (side_there d lt)).0 (λ none. absurd (true≢false (sym (side_used d lt).1 ∙ none)))
           (own_given lts tree basis class problem number case c live x keeps)
-          ∙ ap (λ b. form.scale *ℤ numbers_along lts tree (if b then x (tokens_at lts.initial) else pos 0) (own_effect lts tree basis class problem number case c live x keeps) v) (side_used d lt).1
+          ∙ ap (λ b. form.scale *ℤ numbers_along lts tree (if b then x (Tokens lts.initial) else pos 0) (own_effect lts tree basis class problem number case c live x keeps) v) (side_used d lt).1
           ∙ ap (λ z. form.scale *ℤ z) (sym (same_used lts tree basis class problem number case c live x keeps v (side_used d lt).0)))
 
       side_value : (x : Variable → ℤ) (keeps : KeepsEachArc lts x) (b : Bool) → pos 1 *ℤ dot (row_on b).coeffs (columns x keeps) ≡ factor *ℤ value_in x (said_on b).terms
@@ -272,27 +279,27 @@ module _ (lts : System) (tree : List Arc) (basis : CycleBasis) (class : Class) (
           turn : (f n u : ℤ) → pos 1 *ℤ ((f *ℤ n) *ℤ u) ≡ f *ℤ (n *ℤ u)
           turn f n u = simp ring
 
-      own_told : Told (above_row d) (split_factor split form) (side_row case.forms side)
+      own_told : Told (row_name.Above d) (split_factor split form) (side_row case.forms side)
       own_told = (
         is.positive,
         subst (λ b. pos 0 <ℤ b) (sym is.bottom) (omega (arith, ints)),
-        (λ x keeps. subst (λ b. b *ℤ dot (side_row case.forms side).coeffs (columns x keeps) ≡ factor *ℤ value_in x (row_expression lts class problem number named (above_row d)).terms) (sym is.bottom) (side_value x keeps side.high ∙ ap (λ e. factor *ℤ value_in x e.terms) (sym expression))),
-        subst (λ b. b *ℤ (side_row case.forms side).constant ≡ factor *ℤ (row_expression lts class problem number named (above_row d)).constant) (sym is.bottom) (side_number side.high ∙ ap (λ e. factor *ℤ e.constant) (sym expression)),
+        (λ x keeps. subst (λ b. b *ℤ dot (side_row case.forms side).coeffs (columns x keeps) ≡ factor *ℤ value_in x (row_expression lts class problem number named (row_name.Above d)).terms) (sym is.bottom) (side_value x keeps side.high ∙ ap (λ e. factor *ℤ value_in x e.terms) (sym expression))),
+        subst (λ b. b *ℤ (side_row case.forms side).constant ≡ factor *ℤ (row_expression lts class problem number named (row_name.Above d)).constant) (sym is.bottom) (side_number side.high ∙ ap (λ e. factor *ℤ e.constant) (sym expression)),
       )
 
-      side_told : Told (above_row d) (split_factor (named_at named d).form (form_at case.forms (side_at sides d).form)) (side_row case.forms (side_at sides d))
-      side_told = subst (λ w. Told (above_row d) (split_factor w form) (side_row case.forms side)) (sym (named_is d lt)) own_told
+      side_told : Told (row_name.Above d) (split_factor (named_at named d).form (form_at case.forms (side_at sides d).form)) (side_row case.forms (side_at sides d))
+      side_told = subst (λ w. Told (row_name.Above d) (split_factor w form) (side_row case.forms side)) (sym (named_is d lt)) own_told
 
     row_told : (i : ℕ) → i < length case.kept + length sides → Told (name_of case i) (factor_of case sides named i) (row_at node i)
     row_told i lt = ⊎_elim
-        (λ front. subst (λ b. Told (if b then (kept_at case i).name else above_row (i - length case.kept))
+        (λ front. subst (λ b. Told (if b then (kept_at case i).name else row_name.Above (i - length case.kept))
         (if b then (kept_at case i).factor else split_factor (named_at named (i - length case.kept)).form
         (form_at case.forms (side_at sides (i - length case.kept)).form)) (row_at node i)) (sym (below_test i (length case.kept) front))
         (subst (Told (kept_at case i).name (kept_at case i).factor) (sym (front_row i front)) (kept_told i front)))
-        (λ back. subst (λ b. Told (if b then (kept_at case i).name else above_row (i - length case.kept))
+        (λ back. subst (λ b. Told (if b then (kept_at case i).name else row_name.Above (i - length case.kept))
         (if b then (kept_at case i).factor else split_factor (named_at named (i - length case.kept)).form
         (form_at case.forms (side_at sides (i - length case.kept)).form)) (row_at node i)) (sym (past_test i (length case.kept) back))
-        (subst (Told (above_row (i - length case.kept))
+        (subst (Told (row_name.Above (i - length case.kept))
         (split_factor (named_at named (i - length case.kept)).form (form_at case.forms (side_at sides (i - length case.kept)).form))) (sym (back_row i back lt))
         (side_told (i - length case.kept) (omega arith))))
         (cases_lt i (length case.kept))

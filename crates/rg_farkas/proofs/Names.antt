@@ -6,8 +6,10 @@ use Rattle.rg_theory.specs.declared.Problem.{Problem}
 use Rattle.rg_theory.specs.declared.Problem.TheVariants.{Event, States}
 use Rattle.rg_theory.specs.System.{System, states, labels}
 use Rattle.rg_theory.proofs.Lists.{Contains-cons_cases}
-use Rattle.rg_refuting.specs.Expression.{Variable, Variable.tokens_at, Variable.effect_of, Term, plus, minus}
-use Rattle.rg_refuting.specs.Row.{RowName, RowName.apart_row, row_expression, apart_expression, order_of}
+use Rattle.rg_refuting.specs.Expression.{Term, plus, minus}
+use Rattle.rg_refuting.specs.declared.Variable.{Variable}
+use Rattle.rg_refuting.specs.Row.{row_expression, apart_expression, order_of}
+use Rattle.rg_refuting.specs.declared.RowName.{RowName}
 use Rattle.rg_refuting.specs.Refutes.{IsSeparationProblem}
 use Rattle.rg_order_of_work.specs.Rewriting.{has_label, has_label_at, states_with, names_of}
 use Rattle.rg_order_of_work.specs.Shown.{IsLive}
@@ -15,11 +17,13 @@ use Rattle.rg_order_of_work.proofs.Lists.{nothing, where_is}
 use Rattle.rg_order_of_work.proofs.Names.{each_problem_name, each_name}
 use Rattle.rg_order_of_work.proofs.Kept.{live_label}
 use Rattle.rg_reasons.specs.Certificates.{IsRowNameOf}
+use Rattle.rg_refuting.specs.declared.RowName.TheVariants as row_name
+use Rattle.rg_refuting.specs.declared.Variable.TheVariants.{Tokens, Effect}
 
 -- a state, or a label with an arc
 abbrev pub IsUsed : System → Variable → Type 0
-IsUsed lts (tokens_at q) = q < states lts
-IsUsed lts (effect_of t) = (t < labels lts) × (has_label t lts.arcs ≡ true)
+IsUsed lts (Tokens q) = q < states lts
+IsUsed lts (Effect t) = (t < labels lts) × (has_label t lts.arcs ≡ true)
 
 -- its terms are those of states and labels with an arc
 abbrev pub NamesUsed : System → List Term → Type 0
@@ -35,7 +39,7 @@ names_in_range lts class (Event s t) number name has = each_name lts class (Even
     state : (q : ℕ) → Contains (states_with lts t) q → q < states lts
     state q has' = let (_, _, lt) = where_is (λ q. has_label_at q t lts.arcs) 0 (states lts) q has' in omega arith
 names_in_range lts class (States s s') number name has = each_name lts class (States s s') number (IsRowNameOf lts)
-    (λ n h. ⊎_elim (λ is. subst (IsRowNameOf lts) is tt) (λ there. absurd (nothing n there)) (Contains-cons_cases apart_row n [] h)) (λ _ q lt. lt) (λ _ q lt. lt)
+    (λ n h. ⊎_elim (λ is. subst (IsRowNameOf lts) is tt) (λ there. absurd (nothing n there)) (Contains-cons_cases row_name.Apart n [] h)) (λ _ q lt. lt) (λ _ q lt. lt)
     (λ _ u lt _. lt) (λ _ u lt _. lt) (λ _ u lt _ _. lt) name has
 
 -- ---- used
@@ -47,33 +51,33 @@ two_used : (lts : System) (t u : Term) → IsUsed lts t.variable → IsUsed lts 
 two_used lts t u h k = All-cons (λ w. IsUsed lts w.variable) t (u ∷ []) h (one_used lts u k)
 
 apart_used : (lts : System) (s s' order : ℕ) → s < states lts → s' < states lts → NamesUsed lts (apart_expression s s' order).terms
-apart_used lts s s' zero lt lt' = two_used lts (plus (tokens_at s')) (minus (tokens_at s)) lt' lt
-apart_used lts s s' (suc order) lt lt' = two_used lts (plus (tokens_at s)) (minus (tokens_at s')) lt lt'
+apart_used lts s s' zero lt lt' = two_used lts (plus (Tokens s')) (minus (Tokens s)) lt' lt
+apart_used lts s s' (suc order) lt lt' = two_used lts (plus (Tokens s)) (minus (Tokens s')) lt lt'
 
 pub names_used : (lts : System) (class : Class) (problem : Problem) (number : ℕ) (name : RowName) → IsSeparationProblem lts problem → IsLive lts problem → Contains (names_of lts class problem number) name → NamesUsed lts (row_expression lts class problem number [] name).terms
 names_used lts class (Event s t) number name (lt, lt', _) live has =
     each_name lts class (Event s t) number (λ n. NamesUsed lts (row_expression lts class (Event s t) number [] n).terms)
     (each_problem_name lts class s t (λ n. NamesUsed lts (row_expression lts class (Event s t) number [] n).terms)
-    (λ _. two_used lts (minus (tokens_at s)) (minus (effect_of t)) lt (lt', live_label lts t live))
-    (λ _ _. one_used lts (minus (tokens_at s)) lt)
-    (λ _ _ q has'. one_used lts (plus (tokens_at q)) (state q has'))
-    (λ _ _. one_used lts (minus (effect_of t)) (lt', live_label lts t live))
-    (λ _ _ q has'. two_used lts (plus (tokens_at q)) (minus (tokens_at s)) (state q has') lt))
-    (λ _ q lt. one_used lts (plus (tokens_at q)) lt)
-    (λ _ q lt. one_used lts (minus (tokens_at q)) lt)
-    (λ _ u lt e. one_used lts (minus (effect_of u)) (lt, e))
-    (λ _ u lt e. one_used lts (plus (effect_of u)) (lt, e))
-    (λ _ u lt e _. one_used lts (plus (effect_of u)) (lt, e))
+    (λ _. two_used lts (minus (Tokens s)) (minus (Effect t)) lt (lt', live_label lts t live))
+    (λ _ _. one_used lts (minus (Tokens s)) lt)
+    (λ _ _ q has'. one_used lts (plus (Tokens q)) (state q has'))
+    (λ _ _. one_used lts (minus (Effect t)) (lt', live_label lts t live))
+    (λ _ _ q has'. two_used lts (plus (Tokens q)) (minus (Tokens s)) (state q has') lt))
+    (λ _ q lt. one_used lts (plus (Tokens q)) lt)
+    (λ _ q lt. one_used lts (minus (Tokens q)) lt)
+    (λ _ u lt e. one_used lts (minus (Effect u)) (lt, e))
+    (λ _ u lt e. one_used lts (plus (Effect u)) (lt, e))
+    (λ _ u lt e _. one_used lts (plus (Effect u)) (lt, e))
     name has
   where
     state : (q : ℕ) → Contains (states_with lts t) q → q < states lts
     state q has' = let (_, _, lt) = where_is (λ q. has_label_at q t lts.arcs) 0 (states lts) q has' in omega arith
 names_used lts class (States s s') number name (lt, lt', _) live has =
     each_name lts class (States s s') number (λ n. NamesUsed lts (row_expression lts class (States s s') number [] n).terms)
-    (λ n h. ⊎_elim (λ is. subst (λ k. NamesUsed lts (row_expression lts class (States s s') number [] k).terms) is (apart_used lts s s' (order_of lts class number) lt lt')) (λ there. absurd (nothing n there)) (Contains-cons_cases apart_row n [] h))
-    (λ _ q lt. one_used lts (plus (tokens_at q)) lt)
-    (λ _ q lt. one_used lts (minus (tokens_at q)) lt)
-    (λ _ u lt e. one_used lts (minus (effect_of u)) (lt, e))
-    (λ _ u lt e. one_used lts (plus (effect_of u)) (lt, e))
-    (λ _ u lt e _. one_used lts (plus (effect_of u)) (lt, e))
+    (λ n h. ⊎_elim (λ is. subst (λ k. NamesUsed lts (row_expression lts class (States s s') number [] k).terms) is (apart_used lts s s' (order_of lts class number) lt lt')) (λ there. absurd (nothing n there)) (Contains-cons_cases row_name.Apart n [] h))
+    (λ _ q lt. one_used lts (plus (Tokens q)) lt)
+    (λ _ q lt. one_used lts (minus (Tokens q)) lt)
+    (λ _ u lt e. one_used lts (minus (Effect u)) (lt, e))
+    (λ _ u lt e. one_used lts (plus (Effect u)) (lt, e))
+    (λ _ u lt e _. one_used lts (plus (Effect u)) (lt, e))
     name has

@@ -22,9 +22,9 @@ use Rattle.rg_integers.proofs.Sums.{sum_below-zero, sum_below-only}
 use Rattle.rg_integers.proofs.ListSums.{sum_over-same, sum_over-zero, sum_over-append, sum_over-map}
 use Rattle.rg_linear.specs.Cycle.{CycleBasis}
 use Rattle.rg_linear.proofs.Unique.{sum_one}
-use Rattle.rg_refuting.specs.Expression.{Variable, Variable.tokens_at, Variable.effect_of, Expression, plus, minus, coefficient_in, value_in}
-use Rattle.rg_refuting.specs.Row.{RowName}
-use Rattle.rg_refuting.specs.Row.RowName.{arc_row, tokens_row, cap_row, up_row, down_row, makes_row, stop_row, block_row, empty_row, full_row, keep_row, apart_row, above_row}
+use Rattle.rg_refuting.specs.Expression.{Expression, plus, minus, coefficient_in, value_in}
+use Rattle.rg_refuting.specs.declared.Variable.{Variable}
+use Rattle.rg_refuting.specs.declared.RowName.{RowName}
 use Rattle.rg_refuting.specs.Refutes.{NamedRow, IsMultiplier, LeafRefutes, coefficient_sum, constant_sum}
 use Rattle.rg_order_of_work.specs.Fold.{each, Ratio}
 use Rattle.rg_order_of_work.specs.Potentials.{chord_sum, potential}
@@ -48,6 +48,8 @@ use Rattle.rg_farkas.proofs.Variables.{RowsWithin, by_variable, terms_split, out
 use Rattle.rg_farkas.proofs.Distinct.{given_differ, given_inside}
 use Rattle.rg_farkas.proofs.Small.{is_small}
 use Rattle.rg_order_of_work.proofs.Items.{each_length}
+use Rattle.rg_refuting.specs.declared.RowName.TheVariants as row_name
+use Rattle.rg_refuting.specs.declared.Variable.TheVariants.{Tokens, Effect}
 
 -- ---- what holds of all rows of a leaf
 
@@ -69,19 +71,19 @@ all_arcs P number [] has = All-nil P
 all_arcs P number (a ∷ arcs) has = All-cons P (record { multiplier = number a; name = arc_name a }) (map (λ u. record { multiplier = number u; name = arc_name u }) arcs) (has a (0, omega arith, refl)) (all_arcs P number arcs (λ u (k, lt, e). has u (suc k, omega arith, e)))
 
 is_multiplier : (k : ℤ) (name : RowName) → pos 1 ≤ℤ k → IsMultiplier k name
-is_multiplier k (arc_row q t q') h = tt
-is_multiplier k (tokens_row q) h = h
-is_multiplier k (cap_row q) h = h
-is_multiplier k (up_row t) h = h
-is_multiplier k (down_row t) h = h
-is_multiplier k (makes_row t) h = h
-is_multiplier k (stop_row q) h = h
-is_multiplier k block_row h = h
-is_multiplier k empty_row h = h
-is_multiplier k (full_row q) h = h
-is_multiplier k keep_row h = h
-is_multiplier k apart_row h = h
-is_multiplier k (above_row d) h = h
+is_multiplier k (row_name.Arc a) h = tt
+is_multiplier k (row_name.Tokens q) h = h
+is_multiplier k (row_name.Cap q) h = h
+is_multiplier k (row_name.Up t) h = h
+is_multiplier k (row_name.Down t) h = h
+is_multiplier k (row_name.Makes t) h = h
+is_multiplier k (row_name.Stop q) h = h
+is_multiplier k row_name.Block h = h
+is_multiplier k row_name.Empty h = h
+is_multiplier k (row_name.Full q) h = h
+is_multiplier k row_name.Keep h = h
+is_multiplier k row_name.Apart h = h
+is_multiplier k (row_name.Above d) h = h
 
 at_least_one : (d z y : ℤ) → pos 0 <ℤ d → y ≡ d *ℤ z → pos 0 <ℤ y → pos 1 ≤ℤ z
 at_least_one d z y positive e h = one z (factor_positive d z (weaker d positive) (subst (λ x. pos 0 <ℤ x) e h))
@@ -169,9 +171,9 @@ arc_within : (lts : System) (expression : RowName → Expression) → IsInRange 
 arc_within lts expression fine says a has =
     let ranges = arc_in_range lts fine a.from a.label a.to has in
     subst (λ (e : Expression). All (IsTermWithin (states lts) (labels lts)) e.terms) (sym (says a))
-    (All-cons (IsTermWithin (states lts) (labels lts)) (plus (tokens_at a.from)) (plus (effect_of a.label) ∷ minus (tokens_at a.to) ∷ []) ranges.0
-    (All-cons (IsTermWithin (states lts) (labels lts)) (plus (effect_of a.label)) (minus (tokens_at a.to) ∷ []) ranges.1
-    (All-cons (IsTermWithin (states lts) (labels lts)) (minus (tokens_at a.to)) [] ranges.2 (All-nil (IsTermWithin (states lts) (labels lts))))))
+    (All-cons (IsTermWithin (states lts) (labels lts)) (plus (Tokens a.from)) (plus (Effect a.label) ∷ minus (Tokens a.to) ∷ []) ranges.0
+    (All-cons (IsTermWithin (states lts) (labels lts)) (plus (Effect a.label)) (minus (Tokens a.to) ∷ []) ranges.1
+    (All-cons (IsTermWithin (states lts) (labels lts)) (minus (Tokens a.to)) [] ranges.2 (All-nil (IsTermWithin (states lts) (labels lts))))))
 
 all_of : (arcs : List ArcTimes) (P : Arc → Type 0) → ((x : ArcTimes) → Contains arcs x → P x.arc) → All (λ x. P x.arc) arcs
 all_of [] P has = All-nil (λ x. P x.arc)
@@ -255,11 +257,11 @@ module _ (lts : System) (tree : List Arc) (basis : CycleBasis) (expression : Row
   along_split : (start : ℤ) (effect : ℕ → ℤ) → by_variable (states lts) (labels lts) left_over (numbers_along lts tree start effect) ≡ pos 0
   along_split start effect = sym (terms_split (states lts) (labels lts) expression (numbers_along lts tree start effect) all_rows rows_within) ∙ cancel_along start effect
 
-  other_state : (q : ℕ) → q < states lts → q ≢ lts.initial → left_over (tokens_at q) ≡ pos 0
+  other_state : (q : ℕ) → q < states lts → q ≢ lts.initial → left_over (Tokens q) ≡ pos 0
   other_state q lt ne =
-      sum_over-append (λ r. r.multiplier *ℤ coefficient_in (expression r.name).terms (tokens_at q)) rows_before (tree_rows arcs)
-      ∙ ap (λ z. coefficient_sum expression rows_before (tokens_at q) +ℤ z)
-      (sum_over-map (λ r. r.multiplier *ℤ coefficient_in (expression r.name).terms (tokens_at q))
+      sum_over-append (λ r. r.multiplier *ℤ coefficient_in (expression r.name).terms (Tokens q)) rows_before (tree_rows arcs)
+      ∙ ap (λ z. coefficient_sum expression rows_before (Tokens q) +ℤ z)
+      (sum_over-map (λ r. r.multiplier *ℤ coefficient_in (expression r.name).terms (Tokens q))
       (λ x. record { multiplier = x.multiplier; name = arc_name x.arc }) arcs ∙ sum_over-same _ (λ x. x.multiplier *ℤ arc_at q x.arc) arcs
       (λ x has. ap (λ z. x.multiplier *ℤ z) (arc_coefficient expression says x.arc q)))
       ∙ state_sum lts expression rows_before (lts.initial ∷ []) q arcs (subst (Grows lts (lts.initial ∷ [])) (sym runs.arcs_are) g) runs.balanced lacks (subst (λ l. Contains (map (λ a. a.to) l) q) (sym runs.arcs_are) entered)
@@ -270,10 +272,10 @@ module _ (lts : System) (tree : List Arc) (basis : CycleBasis) (expression : Row
       entered : Contains (map (λ a. a.to) tree) q
       entered = ⊎_elim (λ e. absurd (ne (sym e))) (λ h. h) (Contains-cons_cases lts.initial q (map (λ a. a.to) tree) (reachable_is_met lts tree q g (reached.each q lt)))
 
-  initial_state : left_over (tokens_at lts.initial) ≡ pos 0
-  initial_state = close (left_over (tokens_at lts.initial)) _ _ one
-      (sym (sum_below-only (states lts) lts.initial (λ q. left_over (tokens_at q) *ℤ potential lts tree (pos 1) (λ t. pos 0) q) fine.initial (λ q lt ne. ap (λ z. z *ℤ potential lts tree (pos 1) (λ t. pos 0) q) (other_state q lt ne) ∙ zero-*ℤ (potential lts tree (pos 1) (λ t. pos 0) q)))
-      ∙ last _ ∙ ap (λ z. sum_below (states lts) (λ q. left_over (tokens_at q) *ℤ potential lts tree (pos 1) (λ t. pos 0) q) +ℤ z) (sym (sum_below-zero (labels lts) (λ u. left_over (effect_of u) *ℤ pos 0) (λ u lt. *ℤ-zero (left_over (effect_of u)))))
+  initial_state : left_over (Tokens lts.initial) ≡ pos 0
+  initial_state = close (left_over (Tokens lts.initial)) _ _ one
+      (sym (sum_below-only (states lts) lts.initial (λ q. left_over (Tokens q) *ℤ potential lts tree (pos 1) (λ t. pos 0) q) fine.initial (λ q lt ne. ap (λ z. z *ℤ potential lts tree (pos 1) (λ t. pos 0) q) (other_state q lt ne) ∙ zero-*ℤ (potential lts tree (pos 1) (λ t. pos 0) q)))
+      ∙ last _ ∙ ap (λ z. sum_below (states lts) (λ q. left_over (Tokens q) *ℤ potential lts tree (pos 1) (λ t. pos 0) q) +ℤ z) (sym (sum_below-zero (labels lts) (λ u. left_over (Effect u) *ℤ pos 0) (λ u lt. *ℤ-zero (left_over (Effect u)))))
       ∙ along_split (pos 1) (λ t. pos 0))
     where
       one : potential lts tree (pos 1) (λ t. pos 0) lts.initial ≡ pos 1
@@ -288,15 +290,15 @@ module _ (lts : System) (tree : List Arc) (basis : CycleBasis) (expression : Row
           times_one : (c : ℤ) → c ≡ c *ℤ pos 1
           times_one c = omega (arith, ints)
 
-  state_cancels : (q : ℕ) → q < states lts → left_over (tokens_at q) ≡ pos 0
-  state_cancels q lt = ⊎_elim (λ e. subst (λ u. left_over (tokens_at u) ≡ pos 0) (sym e) initial_state) (λ ne. other_state q lt ne) (cases_eq q lts.initial)
+  state_cancels : (q : ℕ) → q < states lts → left_over (Tokens q) ≡ pos 0
+  state_cancels q lt = ⊎_elim (λ e. subst (λ u. left_over (Tokens u) ≡ pos 0) (sym e) initial_state) (λ ne. other_state q lt ne) (cases_eq q lts.initial)
 
-  label_cancels : (u : ℕ) → u < labels lts → left_over (effect_of u) ≡ pos 0
+  label_cancels : (u : ℕ) → u < labels lts → left_over (Effect u) ≡ pos 0
   label_cancels u lt =
-      sym (sum_one (labels lts) u (λ t. left_over (effect_of t)) lt)
+      sym (sum_one (labels lts) u (λ t. left_over (Effect t)) lt)
       ∙ first _
-      ∙ ap (λ z. z +ℤ sum_below (labels lts) (λ t. left_over (effect_of t) *ℤ only u (pos 1) t))
-      (sym (sum_below-zero (states lts) (λ q. left_over (tokens_at q) *ℤ potential lts tree (pos 0) (only u (pos 1)) q)
+      ∙ ap (λ z. z +ℤ sum_below (labels lts) (λ t. left_over (Effect t) *ℤ only u (pos 1) t))
+      (sym (sum_below-zero (states lts) (λ q. left_over (Tokens q) *ℤ potential lts tree (pos 0) (only u (pos 1)) q)
       (λ q lt'. ap (λ z. z *ℤ potential lts tree (pos 0) (only u (pos 1)) q) (state_cancels q lt') ∙ zero-*ℤ (potential lts tree (pos 0) (only u (pos 1)) q))))
       ∙ along_split (pos 0) (only u (pos 1))
     where
@@ -304,8 +306,8 @@ module _ (lts : System) (tree : List Arc) (basis : CycleBasis) (expression : Row
       first z = omega (arith, ints)
 
   pub all_cancel : (v : Variable) → left_over v ≡ pos 0
-  all_cancel (tokens_at q) = ⊎_elim (λ lt. state_cancels q lt) (λ le. outside_sum (states lts) (labels lts) expression all_rows (tokens_at q) rows_within (λ lt. omega arith)) (cases_lt q (states lts))
-  all_cancel (effect_of u) = ⊎_elim (λ lt. label_cancels u lt) (λ le. outside_sum (states lts) (labels lts) expression all_rows (effect_of u) rows_within (λ lt. omega arith)) (cases_lt u (labels lts))
+  all_cancel (Tokens q) = ⊎_elim (λ lt. state_cancels q lt) (λ le. outside_sum (states lts) (labels lts) expression all_rows (Tokens q) rows_within (λ lt. omega arith)) (cases_lt q (states lts))
+  all_cancel (Effect u) = ⊎_elim (λ lt. label_cancels u lt) (λ le. outside_sum (states lts) (labels lts) expression all_rows (Effect u) rows_within (λ lt. omega arith)) (cases_lt u (labels lts))
 
   -- the constants are those of the named rows
   pub constants_are : constant_sum expression all_rows ≡ constant_sum expression (weighted m shares)

@@ -4,13 +4,13 @@ use Rattle.std.specs.Prelude.{ℤ, pos, slice_index_or}
 use Rattle.std.proofs.lemmas.List.{length-map, get_or-map, drop_all}
 use Rattle.rg_theory.specs.declared.Arc.{Arc}
 use Rattle.rg_integers.specs.declared.term.Wide.{Wide}
-use Rattle.rg_refuting.specs.Expression.{Variable.tokens_at}
 use Rattle.rg_order_of_work.specs.Fold.{further, whole_sum, whole_product}
 use Rattle.rg_order_of_work.specs.Spreading.{Addend.number, addend_fold, leaving}
 use Rattle.rg_farkas.specs.declared.multiplied.Row.{Row}
 use Rattle.rg_farkas.specs.View.{row_addend, size_fold, coefficient_at, arc_times}
 use Rattle.rg_order_of_work.proofs.Items.{from_place}
 use Rattle.rg_farkas.proofs.Steps.{sum_next, sum_unmade, sum_unjoined, sum_ends}
+use Rattle.rg_refuting.specs.declared.Variable.TheVariants.{Tokens}
 
 -- ---- absolute values
 
@@ -41,16 +41,16 @@ module _ (s : ℕ) (rows : List Row) (i : ℕ) (r : Row) (lt : i < length rows) 
   within : i < length (map (row_addend s) rows)
   within = subst (λ n. i < n) (sym (length-map rows (row_addend s))) lt
 
-  product_made : (res : Result ℤ Wide) → whole_product r.multiplier (coefficient_at (tokens_at s) r) res → addend_fold (slice_index_or (map (row_addend s) rows) i (row_addend s r)) res
+  product_made : (res : Result ℤ Wide) → whole_product r.multiplier (coefficient_at (Tokens s) r) res → addend_fold (slice_index_or (map (row_addend s) rows) i (row_addend s r)) res
   product_made res product = subst (λ a. addend_fold a res) (sym item) product
 
-  pub row_unmade : (w : Wide) → whole_product r.multiplier (coefficient_at (tokens_at s) r) (Err w) → further whole_sum addend_fold (pos 0) (map (row_addend s) rows) (Err w)
+  pub row_unmade : (w : Wide) → whole_product r.multiplier (coefficient_at (Tokens s) r) (Err w) → further whole_sum addend_fold (pos 0) (map (row_addend s) rows) (Err w)
   row_unmade w product = sum_unmade whole_sum addend_fold (map (row_addend s) rows) i (row_addend s r) within sum (further whole_sum addend_fold (pos 0) (map (row_addend s) rows)) so_far w (product_made (Err w) product)
 
-  pub row_unjoined : (z : ℤ) (w : Wide) → whole_product r.multiplier (coefficient_at (tokens_at s) r) (Ok z) → whole_sum sum z (Err w) → further whole_sum addend_fold (pos 0) (map (row_addend s) rows) (Err w)
+  pub row_unjoined : (z : ℤ) (w : Wide) → whole_product r.multiplier (coefficient_at (Tokens s) r) (Ok z) → whole_sum sum z (Err w) → further whole_sum addend_fold (pos 0) (map (row_addend s) rows) (Err w)
   row_unjoined z w product joins = sum_unjoined whole_sum addend_fold (map (row_addend s) rows) i (row_addend s r) within sum (further whole_sum addend_fold (pos 0) (map (row_addend s) rows)) so_far z w (product_made (Ok z) product) joins
 
-  pub row_next : (z more : ℤ) → whole_product r.multiplier (coefficient_at (tokens_at s) r) (Ok z) → whole_sum sum z (Ok more) → (res : Result ℤ Wide)
+  pub row_next : (z more : ℤ) → whole_product r.multiplier (coefficient_at (Tokens s) r) (Ok z) → whole_sum sum z (Ok more) → (res : Result ℤ Wide)
       → further whole_sum addend_fold more (drop (i + 1) (map (row_addend s) rows)) res → further whole_sum addend_fold (pos 0) (map (row_addend s) rows) res
   row_next z more product joins = sum_next whole_sum addend_fold (map (row_addend s) rows) i (row_addend s r) within sum (further whole_sum addend_fold (pos 0) (map (row_addend s) rows)) so_far z more (product_made (Ok z) product) joins
 

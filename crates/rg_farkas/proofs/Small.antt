@@ -11,8 +11,9 @@ use Rattle.rg_integers.specs.Range.{InRange, greatest}
 use Rattle.rg_integers.specs.Sign.{size}
 use Rattle.rg_integers.specs.Sum.{sum_over}
 use Rattle.rg_integers.specs.declared.term.Wide.{Wide}
-use Rattle.rg_refuting.specs.Expression.{Variable, Variable.tokens_at, Variable.effect_of, Expression, coefficient_in}
-use Rattle.rg_refuting.specs.Row.{RowName}
+use Rattle.rg_refuting.specs.Expression.{Expression, coefficient_in}
+use Rattle.rg_refuting.specs.declared.Variable.{Variable}
+use Rattle.rg_refuting.specs.declared.RowName.{RowName}
 use Rattle.rg_refuting.specs.Refutes.{NamedRow, IsSmall}
 use Rattle.rg_order_of_work.specs.Fold.{and_then, gives, each, further, whole_sum, whole_product}
 use Rattle.rg_order_of_work.specs.Rewriting.{all_numbers}
@@ -21,6 +22,7 @@ use Rattle.rg_order_of_work.proofs.Lists.{Contains-map, where_has}
 use Rattle.rg_reasons.specs.Certificates.{IsVariableWithin, IsTermWithin}
 use Rattle.rg_farkas.proofs.TreeSums.{whole_product_is, joined_whole}
 use Rattle.rg_farkas.proofs.Variables.{outside, RowsWithin}
+use Rattle.rg_refuting.specs.declared.Variable.TheVariants.{Tokens, Effect}
 
 pub each_made : {A X : Type 0} (make : A → Result X Wide → Type 0) (items : List A) (ys : List X) (a : A) → each make items (Ok ys) → Contains items a → (y : X) × make a (Ok y)
 each_made make [] ys a e (k, lt, at) = absurd (omega arith)
@@ -62,8 +64,8 @@ size_fits c rows h fold =
 
 -- a variable of the system is among all of them
 pub has_variable : (lts : System) (v : Variable) → IsVariableWithin (states lts) (labels lts) v → Contains (variables_of lts) v
-has_variable lts (tokens_at q) lt = Contains-append_left (map tokens_at (all_numbers (states lts))) (map effect_of (all_numbers (labels lts))) (tokens_at q) (Contains-map tokens_at (all_numbers (states lts)) q (where_has (λ i. true) 0 (states lts) q refl (omega arith) (omega arith)))
-has_variable lts (effect_of u) lt = Contains-append_right (map tokens_at (all_numbers (states lts))) (map effect_of (all_numbers (labels lts))) (effect_of u) (Contains-map effect_of (all_numbers (labels lts)) u (where_has (λ i. true) 0 (labels lts) u refl (omega arith) (omega arith)))
+has_variable lts (Tokens q) lt = Contains-append_left (map Tokens (all_numbers (states lts))) (map Effect (all_numbers (labels lts))) (Tokens q) (Contains-map Tokens (all_numbers (states lts)) q (where_has (λ i. true) 0 (states lts) q refl (omega arith) (omega arith)))
+has_variable lts (Effect u) lt = Contains-append_right (map Tokens (all_numbers (states lts))) (map Effect (all_numbers (labels lts))) (Effect u) (Contains-map Effect (all_numbers (labels lts)) u (where_has (λ i. true) 0 (labels lts) u refl (omega arith) (omega arith)))
 
 -- other variables have no coefficients
 none_outside : (n l : ℕ) (expression : RowName → Expression) (rows : List NamedRow) (v : Variable) → RowsWithin n l expression rows → ¬ IsVariableWithin n l v → sum_by (λ r. nat_abs (r.multiplier *ℤ coefficient_in (expression r.name).terms v)) rows ≡ 0
@@ -81,8 +83,8 @@ below_or_not : (a b : ℕ) → (a < b) ⊎ ¬ (a < b)
 below_or_not a b = ⊎_elim (λ lt. inl lt) (λ le. inr (λ lt. omega arith)) (cases_lt a b)
 
 within_or_not : (n l : ℕ) (v : Variable) → IsVariableWithin n l v ⊎ ¬ IsVariableWithin n l v
-within_or_not n l (tokens_at q) = below_or_not q n
-within_or_not n l (effect_of u) = below_or_not u l
+within_or_not n l (Tokens q) = below_or_not q n
+within_or_not n l (Effect u) = below_or_not u l
 
 pub is_small : (lts : System) (expression : RowName → Expression) (rows all : List NamedRow) → RowsWithin (states lts) (labels lts) expression rows → All (λ r. InRange r.multiplier) rows → checked_leaf lts expression rows (Ok all) → IsSmall expression rows
 is_small lts expression rows all within range (sums, each_is, (sum, constants, e)) = record {

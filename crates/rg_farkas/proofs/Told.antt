@@ -12,19 +12,19 @@ use Rattle.rg_integers.specs.Range.{InRange}
 use Rattle.rg_integers.specs.Sign.{size}
 use Rattle.rg_integers.proofs.Ranges.{in_range-neg}
 use Rattle.rg_integers.specs.declared.term.Wide.{Wide}
-use Rattle.rg_refuting.specs.Expression.{Variable, Variable.tokens_at, Expression, coefficient_in}
-use Rattle.rg_refuting.specs.Row.{RowName}
+use Rattle.rg_refuting.specs.Expression.{Expression, coefficient_in}
+use Rattle.rg_refuting.specs.declared.Variable.{Variable}
+use Rattle.rg_refuting.specs.declared.RowName.{RowName}
 use Rattle.rg_refuting.specs.Refutes.{NamedRow}
 use Rattle.rg_order_of_work.specs.Fold.{gives, and_then, each, further, joined, whole_sum, whole_product}
 use Rattle.rg_order_of_work.specs.Spreading.{ArcTimes, Addend, Addend.number, Addend.product, addend_fold, leaving, addends_at, tree_fold, sizes_fold, variables_of, checked_leaf}
-use Rattle.rg_reasons.specs.Trees.{row_name_of}
 use Rattle.rg_farkas.specs.declared.multiplied.Row.{Row}
-use Rattle.rg_reasons.specs.Sums.{expression_of, variable_of}
+use Rattle.rg_reasons.specs.Sums.{expression_of}
 use Rattle.rg_farkas.specs.View.{named_of, Tells, row_addend, size_fold, coefficient_at, arc_times}
 use Rattle.rg_order_of_work.proofs.Items.{from_place, item_next, item_fails, items_end}
 use Rattle.rg_farkas.proofs.Steps.{from_neutral}
 use Rattle.rg_order_of_work.proofs.Folding.{behind}
-use Rattle.rg_reasons.specs.declared.variable.Variable.{Variable as CodeVariable}
+use Rattle.rg_refuting.specs.declared.Variable.TheVariants.{Tokens}
 
 -- ---- sums over other items
 
@@ -86,11 +86,11 @@ in_leaving s (b ∷ arcs) (z ∷ zs) a x range has made = go (b.from == s) has (
 
 row_range : (s : ℕ) (rows : List Row) (a : Addend) (x : ℤ) → Contains (map (row_addend s) rows) a → addend_fold a (Ok x) → InRange x
 row_range s [] a x (k, lt, e) made = absurd (omega arith)
-row_range s (r ∷ rows) a x has made = ⊎_elim (λ e. product_range r.multiplier (coefficient_at (tokens_at s) r) x (subst (λ u. addend_fold u (Ok x)) (sym e) made)) (λ there. row_range s rows a x there made) (Contains-cons_cases (row_addend s r) a (map (row_addend s) rows) has)
+row_range s (r ∷ rows) a x has made = ⊎_elim (λ e. product_range r.multiplier (coefficient_at (Tokens s) r) x (subst (λ u. addend_fold u (Ok x)) (sym e) made)) (λ there. row_range s rows a x there made) (Contains-cons_cases (row_addend s r) a (map (row_addend s) rows) has)
 
-addends_told : (expression : RowName → Expression) (s : ℕ) (rows : List Row) → All (Tells expression) rows → map (row_addend s) rows ≡ map (λ r. product r.multiplier (coefficient_in (expression r.name).terms (tokens_at s))) (map named_of rows)
+addends_told : (expression : RowName → Expression) (s : ℕ) (rows : List Row) → All (Tells expression) rows → map (row_addend s) rows ≡ map (λ r. product r.multiplier (coefficient_in (expression r.name).terms (Tokens s))) (map named_of rows)
 addends_told expression s [] told = refl
-addends_told expression s (r ∷ rows) told = ap₂ (λ e l. product r.multiplier (coefficient_in e.terms (tokens_at s)) ∷ l) (All-head (Tells expression) r rows told) (addends_told expression s rows (All-tail (Tells expression) r rows told))
+addends_told expression s (r ∷ rows) told = ap₂ (λ e l. product r.multiplier (coefficient_in e.terms (Tokens s)) ∷ l) (All-head (Tells expression) r rows told) (addends_told expression s rows (All-tail (Tells expression) r rows told))
 
 pub sum_told : (expression : RowName → Expression) (rows : List Row) (s : ℕ) (arcs : List Arc) (zs : List ℤ) (r : Result ℤ Wide) → All (Tells expression) rows
     → All InRange zs → further whole_sum addend_fold (pos 0) (map (row_addend s) rows ++ leaving s (arc_times arcs zs)) r
@@ -134,19 +134,19 @@ tree_ends expression rows tree ms so_far = so_far (Ok (arc_times tree ms)) refl
 
 -- ---- the sums of absolute values
 
-size_told : (c : RowName → ℤ) (value : Row → ℤ) (r : Row) → value r ≡ c (row_name_of r.name) → (res : Result ℤ Wide) → size_fold value r res → and_then (whole_product r.multiplier (c (row_name_of r.name))) (λ z. gives (size z)) res
+size_told : (c : RowName → ℤ) (value : Row → ℤ) (r : Row) → value r ≡ c r.name → (res : Result ℤ Wide) → size_fold value r res → and_then (whole_product r.multiplier (c r.name)) (λ z. gives (size z)) res
 size_told c value r e res made = subst (λ z. and_then (whole_product r.multiplier z) (λ y. gives (size y)) res) e made
 
 size_made_range : (value : Row → ℤ) (r : Row) (x : ℤ) → size_fold value r (Ok x) → InRange x
 size_made_range value r x (z, made, e) = subst InRange (sym e) (product_range r.multiplier (value r) z made)
 
-pub sizes_told : (c : RowName → ℤ) (value : Row → ℤ) (rows : List Row) → ((r : Row) → Contains rows r → value r ≡ c (row_name_of r.name)) → (res : Result ℤ Wide) → further whole_sum (size_fold value) (pos 0) rows res → sizes_fold c (map named_of rows) res
+pub sizes_told : (c : RowName → ℤ) (value : Row → ℤ) (rows : List Row) → ((r : Row) → Contains rows r → value r ≡ c r.name) → (res : Result ℤ Wide) → further whole_sum (size_fold value) (pos 0) rows res → sizes_fold c (map named_of rows) res
 sizes_told c value rows same res h = joined_told whole_sum (size_fold value) (λ r. and_then (whole_product r.multiplier (c r.name)) (λ z. gives (size z))) named_of
     (pos 0) rows (λ r has. size_told c value r (same r has)) res
     (from_neutral whole_sum (size_fold value) (pos 0) rows (λ r x has made. neutral_sum x (size_made_range value r x made)) res h)
 
 module _ (expression : RowName → Expression) (rows : List Row) (told : All (Tells expression) rows) where
-  row_told : (r : Row) → Contains rows r → expression_of r.expression ≡ expression (row_name_of r.name)
+  row_told : (r : Row) → Contains rows r → expression_of r.expression ≡ expression r.name
   row_told r has = All-contains (Tells expression) rows r told has
 
   pub coefficient_sizes_told : (v : Variable) (res : Result ℤ Wide) → further whole_sum (size_fold (coefficient_at v)) (pos 0) rows res → sizes_fold (λ name. coefficient_in (expression name).terms v) (map named_of rows) res
@@ -214,22 +214,19 @@ module _ (rows : List Row) (tree : List Arc) (ms : List ℤ) (i : ℕ) (d : Arc)
 
 -- ---- the sums of absolute values in code
 
-module _ (rows : List Row) (variables : List CodeVariable) (i : ℕ) (d : CodeVariable) (lt : i < length variables) (sums : List ℤ)
-    (so_far : (r : Result (List ℤ) Wide) → each (λ v. further whole_sum (size_fold (coefficient_at v)) (pos 0) rows) (drop i (map variable_of variables)) r
-    → each (λ v. further whole_sum (size_fold (coefficient_at v)) (pos 0) rows) (map variable_of variables) (behind sums r)) where
-  variable_is : variable_of (slice_index_or variables i d) ≡ slice_index_or (map variable_of variables) i (variable_of d)
-  variable_is = sym (get_or-map variable_of variables i d (variable_of d) lt)
+module _ (rows : List Row) (variables : List Variable) (i : ℕ) (d : Variable) (lt : i < length variables) (sums : List ℤ)
+    (so_far : (r : Result (List ℤ) Wide) → each (λ v. further whole_sum (size_fold (coefficient_at v)) (pos 0) rows) (drop i variables) r
+    → each (λ v. further whole_sum (size_fold (coefficient_at v)) (pos 0) rows) variables (behind sums r)) where
+  pub variable_fails : (w : Wide) → further whole_sum (size_fold (coefficient_at (slice_index_or variables i d))) (pos 0) rows (Err w) → each (λ v. further whole_sum (size_fold (coefficient_at v)) (pos 0) rows) variables (Err w)
+  variable_fails w made = item_fails (λ v. further whole_sum (size_fold (coefficient_at v)) (pos 0) rows) variables i d sums so_far lt w made
 
-  pub variable_fails : (w : Wide) → further whole_sum (size_fold (coefficient_at (variable_of (slice_index_or variables i d)))) (pos 0) rows (Err w) → each (λ v. further whole_sum (size_fold (coefficient_at v)) (pos 0) rows) (map variable_of variables) (Err w)
-  variable_fails w made = item_fails (λ v. further whole_sum (size_fold (coefficient_at v)) (pos 0) rows) (map variable_of variables) i (variable_of d) sums so_far (simp length-map lt) w (subst (λ v. further whole_sum (size_fold (coefficient_at v)) (pos 0) rows (Err w)) variable_is made)
+  pub variable_next : (x : ℤ) → further whole_sum (size_fold (coefficient_at (slice_index_or variables i d))) (pos 0) rows (Ok x)
+      → (r : Result (List ℤ) Wide) → each (λ v. further whole_sum (size_fold (coefficient_at v)) (pos 0) rows) (drop (i + 1) variables) r
+      → each (λ v. further whole_sum (size_fold (coefficient_at v)) (pos 0) rows) variables (behind (sums ++ x ∷ []) r)
+  variable_next x made = item_next (λ v. further whole_sum (size_fold (coefficient_at v)) (pos 0) rows) variables i d sums so_far lt x made
 
-  pub variable_next : (x : ℤ) → further whole_sum (size_fold (coefficient_at (variable_of (slice_index_or variables i d)))) (pos 0) rows (Ok x)
-      → (r : Result (List ℤ) Wide) → each (λ v. further whole_sum (size_fold (coefficient_at v)) (pos 0) rows) (drop (i + 1) (map variable_of variables)) r
-      → each (λ v. further whole_sum (size_fold (coefficient_at v)) (pos 0) rows) (map variable_of variables) (behind (sums ++ x ∷ []) r)
-  variable_next x made = item_next (λ v. further whole_sum (size_fold (coefficient_at v)) (pos 0) rows) (map variable_of variables) i (variable_of d) sums so_far (simp length-map lt) x (subst (λ v. further whole_sum (size_fold (coefficient_at v)) (pos 0) rows (Ok x)) variable_is made)
-
-pub variables_end : (rows : List Row) (variables : List CodeVariable) (i : ℕ) (sums : List ℤ)
-    → ((r : Result (List ℤ) Wide) → each (λ v. further whole_sum (size_fold (coefficient_at v)) (pos 0) rows) (drop i (map variable_of variables)) r
-    → each (λ v. further whole_sum (size_fold (coefficient_at v)) (pos 0) rows) (map variable_of variables) (behind sums r)) → length variables ≤ i
-    → each (λ v. further whole_sum (size_fold (coefficient_at v)) (pos 0) rows) (map variable_of variables) (Ok sums)
-variables_end rows variables i sums so_far past = items_end (λ v. further whole_sum (size_fold (coefficient_at v)) (pos 0) rows) (map variable_of variables) i (tokens_at 0) sums so_far (simp length-map past)
+pub variables_end : (rows : List Row) (variables : List Variable) (i : ℕ) (sums : List ℤ)
+    → ((r : Result (List ℤ) Wide) → each (λ v. further whole_sum (size_fold (coefficient_at v)) (pos 0) rows) (drop i variables) r
+    → each (λ v. further whole_sum (size_fold (coefficient_at v)) (pos 0) rows) variables (behind sums r)) → length variables ≤ i
+    → each (λ v. further whole_sum (size_fold (coefficient_at v)) (pos 0) rows) variables (Ok sums)
+variables_end rows variables i sums so_far past = items_end (λ v. further whole_sum (size_fold (coefficient_at v)) (pos 0) rows) variables i (Tokens 0) sums so_far past

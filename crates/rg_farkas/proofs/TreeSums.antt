@@ -6,18 +6,19 @@ use Rattle.std.proofs.lemmas.Bool.{cases_eq}
 use Rattle.std.proofs.lemmas.List.{append-nil, reverse-append, reverse-reverse}
 use Rattle.std.proofs.lemmas.List.Elements.{Contains-push, Contains-push_cases, Contains-append_left}
 use Rattle.rg_theory.specs.declared.Arc.{Arc}
-use Rattle.rg_theory.specs.System.{System}
+use Rattle.rg_theory.specs.System.{arc, System}
 use Rattle.rg_theory.specs.Tree.{Grows}
 use Rattle.rg_theory.proofs.Lists.{Contains-cons_cases}
 use Rattle.rg_theory.proofs.Trees.{source_met}
 use Rattle.rg_integers.specs.Sum.{sum_over}
 use Rattle.rg_integers.proofs.ListSums.{sum_over-append, sum_over-map}
 use Rattle.rg_integers.specs.declared.term.Wide.{Wide}
-use Rattle.rg_refuting.specs.Expression.{Variable.tokens_at, Variable.effect_of, Expression, plus, minus, sum_of, coefficient_in}
-use Rattle.rg_refuting.specs.Row.{RowName}
+use Rattle.rg_refuting.specs.Expression.{Expression, plus, minus, sum_of, coefficient_in}
+use Rattle.rg_refuting.specs.declared.RowName.{RowName}
 use Rattle.rg_refuting.specs.Refutes.{NamedRow}
 use Rattle.rg_order_of_work.specs.Fold.{further, joined, whole_sum, whole_product}
 use Rattle.rg_order_of_work.specs.Spreading.{ArcTimes, arc_name, Addend, Addend.number, Addend.product, addend_fold, leaving, addends_at, tree_fold}
+use Rattle.rg_refuting.specs.declared.Variable.TheVariants.{Tokens, Effect}
 
 -- ---- sums of whole numbers
 
@@ -84,14 +85,14 @@ tree_runs expression rows tree arcs h =
 
 -- the row of an arc says what the arc does
 abbrev pub SaysArcs : (RowName → Expression) → Type 0
-SaysArcs expression = (a : Arc) → expression (arc_name a) ≡ sum_of (plus (tokens_at a.from) ∷ plus (effect_of a.label) ∷ minus (tokens_at a.to) ∷ []) (pos 0)
+SaysArcs expression = (a : Arc) → expression (arc_name a) ≡ sum_of (plus (Tokens a.from) ∷ plus (Effect a.label) ∷ minus (Tokens a.to) ∷ []) (pos 0)
 
 -- what the arc's row has for the tokens at s
 abbrev pub arc_at : ℕ → Arc → ℤ
 arc_at s a = (if a.from == s then pos 1 else pos 0) -ℤ (if a.to == s then pos 1 else pos 0)
 
-pub arc_coefficient : (expression : RowName → Expression) → SaysArcs expression → (a : Arc) (s : ℕ) → coefficient_in (expression (arc_name a)).terms (tokens_at s) ≡ arc_at s a
-arc_coefficient expression says a s = ap (λ (e : Expression). coefficient_in e.terms (tokens_at s)) (says a) ∙ close (a.from == s) (a.to == s)
+pub arc_coefficient : (expression : RowName → Expression) → SaysArcs expression → (a : Arc) (s : ℕ) → coefficient_in (expression (arc_name a)).terms (Tokens s) ≡ arc_at s a
+arc_coefficient expression says a s = ap (λ (e : Expression). coefficient_in e.terms (Tokens s)) (says a) ∙ close (a.from == s) (a.to == s)
   where
     close : (b c : Bool) → (if b then pos 1 else pos 0) +ℤ (pos 0 +ℤ ((if c then negsuc 0 else pos 0) +ℤ pos 0)) ≡ (if b then pos 1 else pos 0) -ℤ (if c then pos 1 else pos 0)
     close true true = refl
@@ -132,23 +133,23 @@ later_sum lts met s (x ∷ arcs) (j, g) has = ap₂ ◌+ℤ◌
 
 -- the sum of rows at a state, and the multipliers of the arcs that leave and enter it
 pub state_sum : (lts : System) (expression : RowName → Expression) (rows : List NamedRow) (met : List ℕ) (s : ℕ) (arcs : List ArcTimes) → Grows lts met (map (λ x. x.arc) arcs) → Balanced expression rows arcs → ¬ Contains met s → Contains (map (λ a. a.to) (map (λ x. x.arc) arcs)) s
-    → sum_over (λ r. r.multiplier *ℤ coefficient_in (expression r.name).terms (tokens_at s)) rows +ℤ sum_over (λ x. x.multiplier *ℤ arc_at s x.arc) arcs ≡ pos 0
+    → sum_over (λ r. r.multiplier *ℤ coefficient_in (expression r.name).terms (Tokens s)) rows +ℤ sum_over (λ x. x.multiplier *ℤ arc_at s x.arc) arcs ≡ pos 0
 state_sum lts expression rows met s [] g balanced lacks (k, lt, e) = absurd (omega arith)
 state_sum lts expression rows met s (x ∷ arcs) (j, g) (own, balanced) lacks has = ⊎_elim here (λ ne. other ne (state_sum lts expression rows (met ++ x.arc.to ∷ []) s arcs g balanced (lacks' ne) (has' ne))) (cases_eq x.arc.to s)
   where
     from_differs : x.arc.from ≢ s
     from_differs e = lacks (subst (Contains met) e (source_met lts met x.arc j))
 
-    here : x.arc.to ≡ s → sum_over (λ r. r.multiplier *ℤ coefficient_in (expression r.name).terms (tokens_at s)) rows +ℤ ((x.multiplier *ℤ arc_at s x.arc) +ℤ sum_over (λ y. y.multiplier *ℤ arc_at s y.arc) arcs) ≡ pos 0
+    here : x.arc.to ≡ s → sum_over (λ r. r.multiplier *ℤ coefficient_in (expression r.name).terms (Tokens s)) rows +ℤ ((x.multiplier *ℤ arc_at s x.arc) +ℤ sum_over (λ y. y.multiplier *ℤ arc_at s y.arc) arcs) ≡ pos 0
     here e = close _ _ _ _ _ own_sum (ap₂ (λ b c. x.multiplier *ℤ ((if b then pos 1 else pos 0) -ℤ (if c then pos 1 else pos 0))) (ne_eqb x.arc.from s from_differs)
         (eq-eqb x.arc.to s e)) (later_sum lts (met ++ x.arc.to ∷ []) s arcs g (subst (Contains (met ++ x.arc.to ∷ [])) e (Contains-push met x.arc.to)))
       where
-        own_sum : x.multiplier ≡ sum_over (λ r. r.multiplier *ℤ coefficient_in (expression r.name).terms (tokens_at s)) rows +ℤ sum_over (λ y. y.multiplier *ℤ (if y.arc.from == s then pos 1 else pos 0)) arcs
+        own_sum : x.multiplier ≡ sum_over (λ r. r.multiplier *ℤ coefficient_in (expression r.name).terms (Tokens s)) rows +ℤ sum_over (λ y. y.multiplier *ℤ (if y.arc.from == s then pos 1 else pos 0)) arcs
         own_sum =
             own
             ∙ ap (λ u. sum_over addend_value (addends_at expression rows arcs u)) e
-            ∙ sum_over-append addend_value (map (λ r. product r.multiplier (coefficient_in (expression r.name).terms (tokens_at s))) rows) (leaving s arcs)
-            ∙ ap₂ ◌+ℤ◌ (sum_over-map addend_value (λ r. product r.multiplier (coefficient_in (expression r.name).terms (tokens_at s))) rows) (leaving_sum s arcs)
+            ∙ sum_over-append addend_value (map (λ r. product r.multiplier (coefficient_in (expression r.name).terms (Tokens s))) rows) (leaving s arcs)
+            ∙ ap₂ ◌+ℤ◌ (sum_over-map addend_value (λ r. product r.multiplier (coefficient_in (expression r.name).terms (Tokens s))) rows) (leaving_sum s arcs)
 
         close : (m rows later arc l : ℤ) → m ≡ rows +ℤ l → arc ≡ m *ℤ (pos 0 -ℤ pos 1) → later ≡ l → rows +ℤ (arc +ℤ later) ≡ pos 0
         close m rows later arc l p q r = let e : m *ℤ (pos 0 -ℤ pos 1) ≡ neg_ℤ m = omega (arith, ints) in omega (arith, ints)
@@ -159,8 +160,8 @@ state_sum lts expression rows met s (x ∷ arcs) (j, g) (own, balanced) lacks ha
     has' : x.arc.to ≢ s → Contains (map (λ a. a.to) (map (λ y. y.arc) arcs)) s
     has' ne = ⊎_elim (λ e. absurd (ne e)) (λ h. h) (Contains-cons_cases x.arc.to s (map (λ a. a.to) (map (λ y. y.arc) arcs)) has)
 
-    other : x.arc.to ≢ s → sum_over (λ r. r.multiplier *ℤ coefficient_in (expression r.name).terms (tokens_at s)) rows +ℤ sum_over
-        (λ y. y.multiplier *ℤ arc_at s y.arc) arcs ≡ pos 0 → sum_over (λ r. r.multiplier *ℤ coefficient_in (expression r.name).terms (tokens_at s)) rows +ℤ
+    other : x.arc.to ≢ s → sum_over (λ r. r.multiplier *ℤ coefficient_in (expression r.name).terms (Tokens s)) rows +ℤ sum_over
+        (λ y. y.multiplier *ℤ arc_at s y.arc) arcs ≡ pos 0 → sum_over (λ r. r.multiplier *ℤ coefficient_in (expression r.name).terms (Tokens s)) rows +ℤ
         ((x.multiplier *ℤ arc_at s x.arc) +ℤ sum_over (λ y. y.multiplier *ℤ arc_at s y.arc) arcs) ≡ pos 0
     other ne ih = close _ _ _ (ap₂ (λ b c. x.multiplier *ℤ ((if b then pos 1 else pos 0) -ℤ (if c then pos 1 else pos 0))) (ne_eqb x.arc.from s from_differs) (ne_eqb x.arc.to s ne) ∙ none x.multiplier) ih
       where

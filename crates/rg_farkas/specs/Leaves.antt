@@ -7,21 +7,20 @@ use Rattle.rg_refuting.specs.Row.{RowStands, row_expression, cases_of}
 use Rattle.rg_refuting.specs.Refutes.{NamedRow, IsSeparationProblem}
 use Rattle.rg_spanning.specs.Spanning.{Spanning, IsTreeOf}
 use Rattle.rg_fraction.specs.declared.fraction.Fraction.{Fraction}
-use Rattle.rg_reasons.specs.declared.certificate.RowName.{RowName}
-use Rattle.rg_reasons.specs.Trees.{TreeNode, TreeNode.leaf_node, TreeNode.split_node, row_name_of}
+use Rattle.rg_reasons.specs.Trees.{TreeNode, TreeNode.leaf_node, TreeNode.split_node}
 use Rattle.rg_reasons.specs.Certificates.{IsFormOf, IsRowNameOf}
-use Rattle.rg_reasons.specs.declared.side.Side.{Side}
-use Rattle.rg_reasons.specs.Sums.{side_of}
 use Rattle.rg_cycles.specs.declared.basis.Basis.{Basis}
 use Rattle.rg_cycles.specs.View.{labels_of, cycle_of}
 use Rattle.rg_order_of_work.specs.Chords.{IsBasis}
 use Rattle.rg_order_of_work.specs.Fold.{ratio_of}
 use Rattle.rg_order_of_work.specs.Spreading.{Share}
 use Rattle.rg_farkas.specs.Refuting.{SharesRefute}
+use Rattle.rg_refuting.specs.declared.RowName.{RowName}
+use Rattle.rg_refuting.specs.declared.Side.{Side}
 
 -- a named row times a fraction
 abbrev pub share_of : RowName × Fraction → Share
-share_of r = record { name = row_name_of r.0; multiplier = ratio_of r.1 }
+share_of r = record { name = r.0; multiplier = ratio_of r.1 }
 
 -- the node is a leaf, and its rows are such
 abbrev pub IsLeafWith : (List NamedRow → Type 0) → TreeNode → Type 0
@@ -37,9 +36,9 @@ pub record RefutesCase (lts : System) (spanning : Spanning) (cycles : Basis) (cl
   pub basis : IsBasis lts spanning.arcs (cycle_of cycles)
   pub asked : IsSeparationProblem lts problem
   pub case : number < cases_of lts class problem
-  pub sides : All (λ s. IsFormOf lts s.form) (map side_of above)
-  pub stand : All (λ s. RowStands lts class problem number (map side_of above) s.name) (map share_of named)
+  pub sides : All (λ s. IsFormOf lts s.form) above
+  pub stand : All (λ s. RowStands lts class problem number above s.name) (map share_of named)
   pub names : All (λ s. IsRowNameOf lts s.name) (map share_of named)
-  pub refute : SharesRefute lts (row_expression lts class problem number (map side_of above)) (map share_of named)
+  pub refute : SharesRefute lts (row_expression lts class problem number above) (map share_of named)
   pub few_rows : length named < 2 ^ 32
   pub few_sides : length above < 2 ^ 32

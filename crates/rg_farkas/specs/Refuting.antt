@@ -3,14 +3,16 @@ use Rattle.std.specs.Prelude.{◌≡◌, List, [], ◌∷◌, All, ℤ, pos, ◌
 use Rattle.rg_theory.specs.System.{System}
 use Rattle.rg_theory.specs.Tree.{KeepsArcs}
 use Rattle.rg_integers.specs.Sum.{sum_over}
-use Rattle.rg_refuting.specs.Expression.{Variable, Variable.tokens_at, Variable.effect_of, Expression, value_in}
-use Rattle.rg_refuting.specs.Row.{RowName}
+use Rattle.rg_refuting.specs.Expression.{Expression, value_in}
+use Rattle.rg_refuting.specs.declared.Variable.{Variable}
+use Rattle.rg_refuting.specs.declared.RowName.{RowName}
 use Rattle.rg_refuting.specs.Refutes.{NamedRow, constant_sum}
 use Rattle.rg_order_of_work.specs.Spreading.{Share}
+use Rattle.rg_refuting.specs.declared.Variable.TheVariants.{Tokens, Effect}
 
 -- each arc moves the tokens by its label's effect
 abbrev pub KeepsEachArc : System → (Variable → ℤ) → Type 0
-KeepsEachArc lts x = KeepsArcs lts (λ q. x (tokens_at q)) (λ t. x (effect_of t))
+KeepsEachArc lts x = KeepsArcs lts (λ q. x (Tokens q)) (λ t. x (Effect t))
 
 -- what the terms of the rows add up to, each row times its multiplier
 abbrev pub terms_sum : (RowName → Expression) → List NamedRow → (Variable → ℤ) → ℤ

@@ -4,12 +4,12 @@ use Rattle.rg_theory.specs.declared.Arc.{Arc}
 use Rattle.rg_theory.specs.System.{System, states, labels}
 use Rattle.rg_integers.specs.declared.term.Wide.{Wide}
 use Rattle.rg_linear.specs.Cycle.{CycleBasis}
-use Rattle.rg_refuting.specs.Expression.{Variable, Variable.tokens_at, Term as SumTerm, Expression as Sum, coefficient_in}
-use Rattle.rg_refuting.specs.Row.{RowName}
+use Rattle.rg_refuting.specs.Expression.{Term as SumTerm, Expression as Sum, coefficient_in}
+use Rattle.rg_refuting.specs.declared.Variable.{Variable}
+use Rattle.rg_refuting.specs.declared.RowName.{RowName}
 use Rattle.rg_refuting.specs.Refutes.{NamedRow}
 use Rattle.rg_integers.specs.Sign.{size}
 use Rattle.rg_reasons.specs.Certificates.{IsTermWithin}
-use Rattle.rg_reasons.specs.Trees.{row_name_of}
 use Rattle.rg_order_of_work.specs.Fold.{gives, and_then, joined, Ratio, whole, ratio_of, quotient, add, mul, whole_product}
 use Rattle.rg_order_of_work.specs.Rewriting.{count_of}
 use Rattle.rg_order_of_work.specs.Placing.{negated}
@@ -17,6 +17,7 @@ use Rattle.rg_order_of_work.specs.Spreading.{Share, Pair, ArcTimes, Addend, Adde
 use Rattle.rg_reasons.specs.Sums.{terms_in, expression_of}
 use Rattle.rg_farkas.specs.declared.multiplied.Row.{Row}
 use Rattle.rg_farkas.specs.declared.multiplied.Counted.{Counted}
+use Rattle.rg_refuting.specs.declared.Variable.TheVariants.{Tokens}
 
 -- the terms of the shares' rows name states and labels of the system
 abbrev pub AreRowsWithin : System → (RowName → Sum) → List Share → Type 0
@@ -54,15 +55,15 @@ counts_fold basis counts c = and_then (joined add (count_fold basis c) (whole (p
 -- ---- rows
 
 abbrev pub named_of : Row → NamedRow
-named_of r = record { multiplier = r.multiplier; name = row_name_of r.name }
+named_of r = record { multiplier = r.multiplier; name = r.name }
 
 -- the row has what its name says
 abbrev pub Tells : (RowName → Sum) → Row → Type 0
-Tells expression r = expression_of r.expression ≡ expression (row_name_of r.name)
+Tells expression r = expression_of r.expression ≡ expression r.name
 
 -- what the row gives the tokens at the state
 abbrev pub row_addend : ℕ → Row → Addend
-row_addend s r = product r.multiplier (coefficient_in (terms_in r.expression.terms) (tokens_at s))
+row_addend s r = product r.multiplier (coefficient_in (terms_in r.expression.terms) (Tokens s))
 
 -- the absolute value of the row's multiplied number
 abbrev pub size_fold : (Row → ℤ) → Row → Result ℤ Wide → Type 0

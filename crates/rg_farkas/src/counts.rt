@@ -7,8 +7,7 @@ ghost use Rattle.rg_cycles.specs.View.{labels_of, cycle_of};
 ghost use Rattle.rg_order_of_work.specs.Fold.{ratio_of};
 ghost use Rattle.rg_order_of_work.specs.Rewriting.{dependent_labels};
 ghost use Rattle.rg_order_of_work.specs.Spreading.{pairs_of};
-ghost use Rattle.rg_reasons.specs.Trees.{row_name_of};
-ghost use Rattle.rg_reasons.specs.Sums.{side_of, expression_of};
+ghost use Rattle.rg_reasons.specs.Sums.{expression_of};
 ghost use Rattle.rg_farkas.specs.Leaves.{share_of};
 ghost use Rattle.rg_farkas.specs.View.{counted_of, pair_count, label_count, AreRowsWithin};
 ghost use Rattle.rg_reasons.specs.Certificates.{IsTermWithin};
@@ -18,7 +17,8 @@ use rg_case_parts::count;
 use rg_cycles::{Basis, dependent};
 use rg_fraction::Fraction;
 use rg_lts::Lts;
-use rg_reasons::{Expression, ProblemCase, RowName, Side, expression};
+use rg_reasons::{Expression, ProblemCase, expression};
+use rg_refuting::{RowName, Side};
 use rg_spanning::Tree;
 use std::alloc::{AllocError, Global};
 
@@ -34,8 +34,8 @@ pub(crate) fn row_counts(
 ) -> Result<Vec<Counted>, AllocError>
     requires tree { IsTreeOf lts.now tree.now }
     requires labels { labels_of basis.now ≡ labels lts.now }
-    requires within { AreRowsWithin lts.now (row_expression lts.now case.class case.problem case.number (map side_of above.now)) (map share_of named.now) }
-    ensures { IfOk result (λ v. map counted_of v.items ≡ map (pair_count tree.now.arcs (row_expression lts.now case.class case.problem case.number (map side_of above.now))) (pairs_of (map share_of named.now) (dependent_labels (labels lts.now) (cycle_of basis.now)))) }
+    requires within { AreRowsWithin lts.now (row_expression lts.now case.class case.problem case.number above.now) (map share_of named.now) }
+    ensures { IfOk result (λ v. map counted_of v.items ≡ map (pair_count tree.now.arcs (row_expression lts.now case.class case.problem case.number above.now)) (pairs_of (map share_of named.now) (dependent_labels (labels lts.now) (cycle_of basis.now)))) }
 {
     let labels = dependent(alloc, basis, lts.labels())?;
     let mut counts = Vec::new(alloc);

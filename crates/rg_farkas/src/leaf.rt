@@ -11,7 +11,6 @@ ghost use Rattle.rg_order_of_work.specs.Chords.{IsBasis};
 ghost use Rattle.rg_order_of_work.specs.Spreading.{leaf_fold};
 ghost use Rattle.rg_reasons.specs.Trees.{named_row, node_of};
 ghost use Rattle.rg_reasons.specs.Certificates.{IsFormOf, IsRowNameOf, IsNodeOf};
-ghost use Rattle.rg_reasons.specs.Sums.{side_of};
 ghost use Rattle.rg_farkas.specs.Leaves.{share_of, IsLeafWith, RefutesCase};
 ghost use Rattle.rg_integers.specs.Range.{InRange};
 ghost use Rattle.rg_farkas.specs.Refuting.{SharesRefute};
@@ -28,7 +27,8 @@ use rg_case_parts::without_denominators;
 use rg_cycles::Basis;
 use rg_fraction::{FoldStop, Fraction};
 use rg_lts::Lts;
-use rg_reasons::{Node, ProblemCase, RowName, Side};
+use rg_reasons::{Node, ProblemCase};
+use rg_refuting::{RowName, Side};
 use rg_spanning::Tree;
 use rg_theory::{Arc, Class, Problem};
 use std::alloc::{AllocError, Global};
@@ -58,10 +58,10 @@ pub fn spread(
     above: &[Side],
 ) -> Result<Node, FoldStop>
     requires { RefutesCase lts.now tree.now basis.now class problem case named.now above.now }
-    ensures leaf { IfOk result (λ node. IsLeafWith (λ rows. leaf_fold lts.now tree.now.arcs (cycle_of basis.now) (row_expression lts.now class problem case (map side_of above.now)) (map share_of named.now) (Ok rows)) (node_of node)) }
-    ensures refutes { IfOk result (λ node. IsLeafWith (LeafRefutes (RowStands lts.now class problem case (map side_of above.now)) (row_expression lts.now class problem case (map side_of above.now))) (node_of node)) }
+    ensures leaf { IfOk result (λ node. IsLeafWith (λ rows. leaf_fold lts.now tree.now.arcs (cycle_of basis.now) (row_expression lts.now class problem case above.now) (map share_of named.now) (Ok rows)) (node_of node)) }
+    ensures refutes { IfOk result (λ node. IsLeafWith (LeafRefutes (RowStands lts.now class problem case above.now) (row_expression lts.now class problem case above.now)) (node_of node)) }
     ensures in_range { IfOk result (λ node. IsNodeOf lts.now (node_of node)) }
-    ensures wide { (w : Wide) → IsErrOf result (stop.Wide w) → leaf_fold lts.now tree.now.arcs (cycle_of basis.now) (row_expression lts.now class problem case (map side_of above.now)) (map share_of named.now) (Err w) }
+    ensures wide { (w : Wide) → IsErrOf result (stop.Wide w) → leaf_fold lts.now tree.now.arcs (cycle_of basis.now) (row_expression lts.now class problem case above.now) (map share_of named.now) (Err w) }
 {
     lts.is_well_formed();
     let case = ProblemCase {
@@ -86,10 +86,10 @@ pub(crate) fn leaf_rows(
     requires tree { IsTreeOf lts.now tree.now }
     requires labels { labels_of basis.now ≡ labels lts.now }
     requires basis { IsBasis lts.now tree.now.arcs (cycle_of basis.now) }
-    requires within { AreRowsWithin lts.now (row_expression lts.now case.class case.problem case.number (map side_of above.now)) (map share_of named.now) }
-    ensures leaf { IfOk result (λ v. leaf_fold lts.now tree.now.arcs (cycle_of basis.now) (row_expression lts.now case.class case.problem case.number (map side_of above.now)) (map share_of named.now) (Ok (map named_row v.items))) }
+    requires within { AreRowsWithin lts.now (row_expression lts.now case.class case.problem case.number above.now) (map share_of named.now) }
+    ensures leaf { IfOk result (λ v. leaf_fold lts.now tree.now.arcs (cycle_of basis.now) (row_expression lts.now case.class case.problem case.number above.now) (map share_of named.now) (Ok (map named_row v.items))) }
     ensures in_range { IfOk result (λ v. All (λ r. InRange r.1) v.items) }
-    ensures wide { (w : Wide) → IsErrOf result (stop.Wide w) → leaf_fold lts.now tree.now.arcs (cycle_of basis.now) (row_expression lts.now case.class case.problem case.number (map side_of above.now)) (map share_of named.now) (Err w) }
+    ensures wide { (w : Wide) → IsErrOf result (stop.Wide w) → leaf_fold lts.now tree.now.arcs (cycle_of basis.now) (row_expression lts.now case.class case.problem case.number above.now) (map share_of named.now) (Err w) }
 {
     let system = lts.arcs();
     let counts = row_counts(alloc, lts, tree, basis, case, named, above)?;

@@ -6,7 +6,7 @@ ghost use Rattle.rg_order_of_work.specs.Spreading.{named_from, not_zero, multipl
 ghost use Rattle.rg_farkas.specs.Leaves.{share_of};
 
 use rg_fraction::Fraction;
-use rg_reasons::RowName;
+use rg_refuting::RowName;
 use rg_theory::Arc;
 use std::alloc::{AllocError, Global};
 

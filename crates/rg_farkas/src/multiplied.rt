@@ -2,7 +2,8 @@
 ghost use Rattle.rg_integers.specs.Range.{InRange};
 
 use rg_fraction::Fraction;
-use rg_reasons::{Expression, RowName};
+use rg_reasons::Expression;
+use rg_refuting::RowName;
 
 /// A named row times a number, with what the row says.
 #[derive(Drop)]

@@ -3,16 +3,16 @@ ghost use Rattle.std.specs.Prelude.{◌≡◌, ◌<◌, ◌+◌, ◌++◌, lengt
 ghost use Rattle.rg_theory.specs.System.{labels};
 ghost use Rattle.rg_integers.specs.Range.{InRange};
 ghost use Rattle.rg_refuting.specs.Row.{row_expression};
-ghost use Rattle.rg_reasons.specs.Trees.{row_name_of, named_row};
+ghost use Rattle.rg_reasons.specs.Trees.{named_row};
 ghost use Rattle.rg_order_of_work.specs.Spreading.{named_from, arc_name};
-ghost use Rattle.rg_reasons.specs.Sums.{side_of};
 ghost use Rattle.rg_farkas.specs.Leaves.{share_of};
 ghost use Rattle.rg_farkas.specs.View.{named_of, Tells};
 
 use crate::multiplied::Row;
 use rg_fraction::Fraction;
 use rg_lts::Lts;
-use rg_reasons::{ProblemCase, RowName, Side, expression};
+use rg_reasons::{ProblemCase, expression};
+use rg_refuting::{RowName, Side};
 use rg_theory::Arc;
 use std::alloc::{AllocError, Global};
 
@@ -46,7 +46,7 @@ pub(crate) fn with_expressions(
 ) -> Result<Vec<Row>, AllocError>
     requires { All (λ r. InRange r.1) listed.now }
     ensures rows { IfOk result (λ v. map named_of v.items ≡ map named_row listed.now) }
-    ensures told { IfOk result (λ v. All (Tells (row_expression lts.now case.class case.problem case.number (map side_of above.now))) v.items) }
+    ensures told { IfOk result (λ v. All (Tells (row_expression lts.now case.class case.problem case.number above.now)) v.items) }
 {
     let mut rows = Vec::new(alloc);
     for &(name, multiplier) in listed {

@@ -2,8 +2,7 @@
 ghost use Rattle.std.specs.Prelude.{◌≡◌, pos, map, All, Ok, Err, IfOk, IsErrOf};
 ghost use Rattle.rg_integers.specs.declared.term.Wide.{Wide};
 ghost use Rattle.rg_refuting.specs.Expression.{Expression};
-ghost use Rattle.rg_refuting.specs.Row.{RowName};
-ghost use Rattle.rg_reasons.specs.Sums.{variable_of};
+ghost use Rattle.rg_refuting.specs.declared.RowName.{RowName};
 ghost use Rattle.rg_order_of_work.specs.Fold.{further, whole_sum};
 ghost use Rattle.rg_order_of_work.specs.Spreading.{variables_of, checked_leaf};
 ghost use Rattle.rg_fraction.specs.declared.fold_stop.FoldStop.TheVariants as stop;
@@ -14,7 +13,7 @@ use crate::sums::{coefficient, size_times};
 use rg_fraction::{FoldStop, whole_sum};
 use rg_integers::Wide;
 use rg_lts::Lts;
-use rg_reasons::Variable;
+use rg_refuting::Variable;
 use std::alloc::{AllocError, Global};
 
 // Refused where for some state or label, or for the constants, the sum of the absolute values of the rows'
@@ -33,7 +32,7 @@ pub(crate) fn check_sizes(alloc: Global, lts: &Lts, rows: &[Row]) -> Result<(), 
 
 // The states and the labels.
 fn variables(alloc: Global, lts: &Lts) -> Result<Vec<Variable>, AllocError>
-    ensures { IfOk result (λ v. map variable_of v.items ≡ variables_of lts.now) }
+    ensures { IfOk result (λ v. v.items ≡ variables_of lts.now) }
 {
     let mut variables = Vec::new(alloc);
     for q in 0..lts.states() {
@@ -47,7 +46,7 @@ fn variables(alloc: Global, lts: &Lts) -> Result<Vec<Variable>, AllocError>
 
 // The sum of the absolute values of the variable's multiplied coefficients.
 fn coefficient_sizes(rows: &[Row], variable: Variable) -> Result<i128, Wide>
-    ensures { further whole_sum (size_fold (coefficient_at (variable_of variable))) (pos 0) rows.now result }
+    ensures { further whole_sum (size_fold (coefficient_at variable)) (pos 0) rows.now result }
 {
     let mut sum = 0;
     for row in rows {

@@ -4,18 +4,19 @@ ghost use Rattle.rg_integers.specs.Range.{InRange};
 ghost use Rattle.rg_integers.specs.Sign.{size};
 ghost use Rattle.rg_integers.specs.declared.term.Wide.{Wide};
 ghost use Rattle.rg_refuting.specs.Expression.{Expression as Sum, same_variable, coefficient_in};
-ghost use Rattle.rg_refuting.specs.Row.{RowName};
+ghost use Rattle.rg_refuting.specs.declared.RowName.{RowName};
 ghost use Rattle.rg_fraction.specs.declared.fold_stop.FoldStop.TheVariants as stop;
 ghost use Rattle.rg_order_of_work.specs.Fold.{gives, and_then, further, whole_sum, whole_product};
 ghost use Rattle.rg_order_of_work.specs.Spreading.{tree_fold, addend_fold, leaving};
-ghost use Rattle.rg_reasons.specs.Sums.{variable_of, term_of, expression_of};
+ghost use Rattle.rg_reasons.specs.Sums.{term_of, expression_of};
 ghost use Rattle.rg_farkas.specs.View.{named_of, Tells, arc_times, row_addend};
 
 use crate::multiplied::Row;
 use rg_fraction::{FoldStop, whole_product, whole_sum};
 use rg_integers::Wide;
 use rg_reasons::Term::{self, Minus, Plus};
-use rg_reasons::{Expression, Variable};
+use rg_reasons::Expression;
+use rg_refuting::Variable;
 use rg_theory::Arc;
 use std::alloc::Global;
 
@@ -84,7 +85,7 @@ fn leaving_sum(start: i128, arcs: &[Arc], multipliers: &[i128], state: u32) -> R
 
 // The coefficient of the variable in the terms.
 pub(crate) fn coefficient(expression: &Expression, variable: Variable) -> i128
-    ensures value { result ≡ coefficient_in (expression_of expression.now).terms (variable_of variable) }
+    ensures value { result ≡ coefficient_in (expression_of expression.now).terms variable }
     ensures in_range { InRange result }
 {
     let mut sum = 0;
@@ -98,7 +99,7 @@ pub(crate) fn coefficient(expression: &Expression, variable: Variable) -> i128
 
 // The coefficient of the variable in the term.
 fn coefficient_of(term: Term, variable: Variable) -> i128
-    ensures value { result ≡ (if same_variable (term_of term).variable (variable_of variable) then (term_of term).coefficient else pos 0) }
+    ensures value { result ≡ (if same_variable (term_of term).variable variable then (term_of term).coefficient else pos 0) }
     ensures low { neg_ℤ (pos 1) ≤ℤ result }
     ensures high { result ≤ℤ pos 1 }
 {

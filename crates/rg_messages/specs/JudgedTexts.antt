@@ -7,11 +7,10 @@ use Rattle.rg_cert.specs.declared.fault.CertFault.{CertFault}
 use Rattle.rg_cert.specs.declared.fault.CertFault.TheVariants.{Expected, UnknownName, NumberPasses, TreeShort, TreeLong, NoMemory}
 use Rattle.rg_reasons.specs.Certificates.{IsVariableOf}
 use Rattle.rg_cert.specs.Text.{state_name, label_name}
-use Rattle.rg_reasons.specs.declared.variable.Variable.{Variable}
-use Rattle.rg_reasons.specs.declared.variable.Variable.TheVariants.{Tokens, Effect}
-use Rattle.rg_reasons.specs.Sums.{variable_of}
 use Rattle.rg_verify.specs.declared.verdict.Defect.{Defect}
 use Rattle.rg_verify.specs.declared.verdict.Defect.TheVariants.{WrongRow, NotPositive, LeftOver, SumPasses, WrongForm, CaseMissing, NotSo}
+use Rattle.rg_refuting.specs.declared.Variable.{Variable}
+use Rattle.rg_refuting.specs.declared.Variable.TheVariants.{Tokens, Effect}
 
 -- the certificate holds, so there is no net of its class
 abbrev pub accepted_line : Class → List ℕ
@@ -33,7 +32,7 @@ variable_text lts (Effect t) = codes "effect " ++ label_name lts t
 
 -- the variable that is left over is the system's
 abbrev pub HasName : System → Defect → Type 0
-HasName lts (LeftOver v) = IsVariableOf lts (variable_of v)
+HasName lts (LeftOver v) = IsVariableOf lts v
 HasName lts defect = Unit {0}
 
 -- what is wrong with a node

@@ -10,8 +10,10 @@ use Rattle.rg_theory.specs.declared.Problem.TheVariants.{Event, States}
 use Rattle.rg_theory.specs.System.{System, states, labels}
 use Rattle.rg_theory.specs.Tree.{parikh}
 use Rattle.rg_integers.specs.Sum.{sum_below}
-use Rattle.rg_refuting.specs.Expression.{Variable, Variable.tokens_at, Expression, value_in, value_of}
-use Rattle.rg_refuting.specs.Row.{RowName, RowName.arc_row, RowName.tokens_row, RowStands, row_expression, Says, KeepsRows}
+use Rattle.rg_refuting.specs.Expression.{Expression, value_in, value_of}
+use Rattle.rg_refuting.specs.declared.Variable.{Variable}
+use Rattle.rg_refuting.specs.Row.{RowStands, row_expression, Says, KeepsRows}
+use Rattle.rg_refuting.specs.declared.RowName.{RowName}
 use Rattle.rg_linear.specs.Cycle.{CycleBasis}
 use Rattle.rg_order_of_work.specs.Potentials.{potential}
 use Rattle.rg_order_of_work.specs.Rewriting.{has_label, free_labels, has_start, names_of, CaseSystem}
@@ -23,6 +25,8 @@ use Rattle.rg_order_of_work.proofs.LeftOut.{left_out}
 use Rattle.rg_order_of_work.proofs.Along.{number_at_first, number_past}
 use Rattle.rg_order_of_work.proofs.Shifts.{IsShift, shifted_is_shift, same_value}
 use Rattle.rg_order_of_work.proofs.CaseRows.{IsArcRow, says, said, arc_stands, name_no_arc, name_no_tokens, arcs_hold, effect_holds, tokens_row_holds, each_kind}
+use Rattle.rg_refuting.specs.declared.RowName.TheVariants as row_name
+use Rattle.rg_refuting.specs.declared.Variable.TheVariants.{Tokens}
 
 abbrev pub MeetsNames : System → List Arc → Class → Problem → ℕ → ℤ → (ℕ → ℤ) → ℤ → Type 0
 MeetsNames lts tree class problem number start effect scale = (name : RowName) → Contains (names_of lts class problem number) name → NameIsMet lts tree start effect scale (row_expression lts class problem number [] name)
@@ -53,15 +57,15 @@ all_rows lts tree basis class problem number case start effect scale c e positiv
     named name has = says name (value_over scale (numbers_along lts tree start effect) (row_expression lts class problem number [] name)) (name_no_arc lts class problem number name has) (met name has)
 
     of_arc : (name : RowName) → IsArcRow name → RowStands lts class problem number [] name → RowHolds lts class problem number scale (numbers_along lts tree start effect) name
-    of_arc (arc_row q t q') is stands = arcs_hold lts tree basis class problem number case start effect scale q t q' c e (arc_stands lts class problem number q t q' stands)
+    of_arc (row_name.Arc a) is stands = arcs_hold lts tree basis class problem number case start effect scale a.from a.label a.to c e (arc_stands lts class problem number a.from a.label a.to stands)
     of_arc name is stands = absurd is
 
     at_state : (q : ℕ) → q < states lts → pos 0 ≤ℤ potential lts tree start effect q
     at_state q lt = (tokens_row_holds lts class problem number scale (numbers_along lts tree start effect) q).1
-        (⊎_elim (λ has. named (tokens_row q) has) (λ out. absurd (⊎_elim (λ none. true≢false (sym starts ∙ none)) (λ le. too_far lt le) out))
-        (left_out lts class problem number (tokens_row q) c.in_range (tokens_stand problem)))
+        (⊎_elim (λ has. named (row_name.Tokens q) has) (λ out. absurd (⊎_elim (λ none. true≢false (sym starts ∙ none)) (λ le. too_far lt le) out))
+        (left_out lts class problem number (row_name.Tokens q) c.in_range (tokens_stand problem)))
       where
-        tokens_stand : (p : Problem) → RowStands lts class p number [] (tokens_row q)
+        tokens_stand : (p : Problem) → RowStands lts class p number [] (row_name.Tokens q)
         tokens_stand (Event s t) = tt
         tokens_stand (States s s') = tt
 
@@ -69,7 +73,7 @@ all_rows lts tree basis class problem number case start effect scale c e positiv
         too_far lt le = omega arith
 
     of_tokens : (name : RowName) → IsTokensRow name → RowStands lts class problem number [] name → RowHolds lts class problem number scale (numbers_along lts tree start effect) name
-    of_tokens (tokens_row q) is stands = (tokens_row_holds lts class problem number scale (numbers_along lts tree start effect) q).0
+    of_tokens (row_name.Tokens q) is stands = (tokens_row_holds lts class problem number scale (numbers_along lts tree start effect) q).0
         (⊎_elim (λ lt. at_state q lt) (λ le. subst (λ z. pos 0 ≤ℤ z) (sym (tokens_past lts tree basis class problem number case start effect q c le))
         (at_state lts.initial c.in_range.initial)) (cases_lt q (states lts)))
     of_tokens name is stands = absurd is
@@ -112,7 +116,7 @@ no_start_rows lts tree basis class problem number case start effect scale c e po
         (from_zero lts tree start effect) stands other) (met name has))
 
     of_arc : (name : RowName) → IsArcRow name → RowStands lts class problem number [] name → ¬ IsTokensRow name → RowHolds lts class problem number scale (numbers_along lts tree start effect) name
-    of_arc (arc_row q t q') is stands other = arcs_hold lts tree basis class problem number case start effect scale q t q' c e (arc_stands lts class problem number q t q' stands)
+    of_arc (row_name.Arc a) is stands other = arcs_hold lts tree basis class problem number case start effect scale a.from a.label a.to c e (arc_stands lts class problem number a.from a.label a.to stands)
     of_arc name is stands other = absurd is
 
 pub no_start_means : (lts : System) (tree : List Arc) (basis : CycleBasis) (class : Class) (problem : Problem) (number : ℕ) (case : CaseSystem) (start : ℤ)
@@ -135,7 +139,7 @@ no_start_means lts tree basis class problem number case start effect scale c e p
 -- a shift that leaves no state below 0 keeps the rows of tokens too
 pub shift_means : (lts : System) (tree : List Arc) (basis : CycleBasis) (class : Class) (problem : Problem) (number : ℕ) (case : CaseSystem) (start : ℤ) (effect : ℕ → ℤ)
     (scale by : ℤ) → IsCaseOver lts tree basis class problem number case → has_start class ≡ false → KeepsAllButTokens lts class problem number scale
-    (numbers_along lts tree start effect) → ((q : ℕ) → q < states lts → pos 0 ≤ℤ shifted by (numbers_along lts tree start effect) (tokens_at q))
+    (numbers_along lts tree start effect) → ((q : ℕ) → q < states lts → pos 0 ≤ℤ shifted by (numbers_along lts tree start effect) (Tokens q))
     → KeepsRowsOver lts class problem number scale (shifted by (numbers_along lts tree start effect))
 shift_means lts tree basis class problem number case start effect scale by c none keeps above =
     each_kind (λ name. RowStands lts class problem number [] name → RowHolds lts class problem number scale (shifted by (numbers_along lts tree start effect)) name)
@@ -144,14 +148,14 @@ shift_means lts tree basis class problem number case start effect scale by c non
     (λ name no_arc other stands. moved name stands other)
   where
     no_tokens : (name : RowName) → IsArcRow name → ¬ IsTokensRow name
-    no_tokens (arc_row q t q') is h = h
+    no_tokens (row_name.Arc a) is h = h
     no_tokens name is h = is
 
     moved : (name : RowName) → RowStands lts class problem number [] name → ¬ IsTokensRow name → RowHolds lts class problem number scale (shifted by (numbers_along lts tree start effect)) name
     moved name stands other = subst (Says name) (same_value lts class problem number scale by (numbers_along lts tree start effect) (shifted by (numbers_along lts tree start effect)) name none (shifted_is_shift by (numbers_along lts tree start effect)) stands other) (keeps name stands other)
 
     of_tokens : (name : RowName) → IsTokensRow name → RowStands lts class problem number [] name → RowHolds lts class problem number scale (shifted by (numbers_along lts tree start effect)) name
-    of_tokens (tokens_row q) is stands = (tokens_row_holds lts class problem number scale (shifted by (numbers_along lts tree start effect)) q).0
+    of_tokens (row_name.Tokens q) is stands = (tokens_row_holds lts class problem number scale (shifted by (numbers_along lts tree start effect)) q).0
         (⊎_elim (λ lt. above q lt) (λ le. subst (λ z. pos 0 ≤ℤ (z +ℤ by)) (sym (tokens_past lts tree basis class problem number case start effect q c le))
         (above lts.initial c.in_range.initial)) (cases_lt q (states lts)))
     of_tokens name is stands = absurd is

@@ -9,8 +9,9 @@ use Rattle.rg_theory.specs.declared.Problem.{Problem}
 use Rattle.rg_theory.specs.declared.Problem.TheVariants.{Event, States}
 use Rattle.rg_theory.specs.System.{System, arc, HasArc}
 use Rattle.rg_theory.proofs.Lists.{Contains-cons_cases}
-use Rattle.rg_refuting.specs.Expression.{Variable, Variable.tokens_at}
-use Rattle.rg_refuting.specs.Row.{RowName, RowName.arc_row, RowName.tokens_row, RowName.up_row, RowName.down_row, RowName.makes_row, RowName.apart_row, RowStands, Says}
+use Rattle.rg_refuting.specs.declared.Variable.{Variable}
+use Rattle.rg_refuting.specs.Row.{RowStands, Says}
+use Rattle.rg_refuting.specs.declared.RowName.{RowName}
 use Rattle.rg_order_of_work.specs.Potentials.{potential}
 use Rattle.rg_linear.specs.Cycle.{CycleBasis}
 use Rattle.rg_order_of_work.specs.Rewriting.{has_start, problem_rows, names_of, CaseSystem}
@@ -19,26 +20,28 @@ use Rattle.rg_order_of_work.proofs.ChordRows.{effects_exact}
 use Rattle.rg_order_of_work.specs.Meaning.{IsLeftOut, RowHolds, IsTokensRow, IsCaseOver, AreEffects}
 use Rattle.rg_order_of_work.proofs.Lists.{nothing}
 use Rattle.rg_order_of_work.proofs.Names.{each_problem_name, each_name}
+use Rattle.rg_refuting.specs.declared.RowName.TheVariants as row_name
+use Rattle.rg_refuting.specs.declared.Variable.TheVariants.{Tokens}
 
 -- ---- what rows say
 
 abbrev pub IsArcRow : RowName → Type 0
-IsArcRow (arc_row q t q') = Unit {0}
+IsArcRow (row_name.Arc a) = Unit {0}
 IsArcRow name = ⊥
 
 -- of a row but an arc's: its value is at least 0
 pub says : (name : RowName) (z : ℤ) → ¬ IsArcRow name → pos 0 ≤ℤ z → Says name z
-says (arc_row q t q') z not_arc h = absurd (not_arc tt)
+says (row_name.Arc a) z not_arc h = absurd (not_arc tt)
 says name z not_arc h = h
 
 pub said : (name : RowName) (z : ℤ) → Says name z → pos 0 ≤ℤ z
-said (arc_row q t q') z h = omega (arith, ints)
+said (row_name.Arc a) z h = omega (arith, ints)
 said name z h = h
 
 -- the names of a case's rows are not of arcs
 problem_name_no_arc : (lts : System) (class : Class) (problem : Problem) (name : RowName) → Contains (problem_rows lts class problem) name → ¬ IsArcRow name
 problem_name_no_arc lts class (Event s t) name has = each_problem_name lts class s t (λ n. ¬ IsArcRow n) (λ pure h. h) (λ pure plain h. h) (λ pure plain q has h. h) (λ pure plain h. h) (λ pure plain q has h. h) name has
-problem_name_no_arc lts class (States s s') name has = ⊎_elim (λ is. subst (λ n. ¬ IsArcRow n) is (λ h. h)) (λ there. absurd (nothing name there)) (Contains-cons_cases apart_row name [] has)
+problem_name_no_arc lts class (States s s') name has = ⊎_elim (λ is. subst (λ n. ¬ IsArcRow n) is (λ h. h)) (λ there. absurd (nothing name there)) (Contains-cons_cases row_name.Apart name [] has)
 
 pub name_no_arc : (lts : System) (class : Class) (problem : Problem) (number : ℕ) (name : RowName) → Contains (names_of lts class problem number) name → ¬ IsArcRow name
 name_no_arc lts class problem number name has = each_name lts class problem number (λ n. ¬ IsArcRow n) (problem_name_no_arc lts class problem) (λ c q lt h. h) (λ c q lt h. h) (λ c u lt used h. h) (λ c u lt used h. h) (λ c u lt used differ h. h) name has
@@ -46,20 +49,20 @@ name_no_arc lts class problem number name has = each_name lts class problem numb
 -- where Start is no column they are not of tokens
 problem_name_no_tokens : (lts : System) (class : Class) (problem : Problem) (name : RowName) → Contains (problem_rows lts class problem) name → ¬ IsTokensRow name
 problem_name_no_tokens lts class (Event s t) name has = each_problem_name lts class s t (λ n. ¬ IsTokensRow n) (λ pure h. h) (λ pure plain h. h) (λ pure plain q has h. h) (λ pure plain h. h) (λ pure plain q has h. h) name has
-problem_name_no_tokens lts class (States s s') name has = ⊎_elim (λ is. subst (λ n. ¬ IsTokensRow n) is (λ h. h)) (λ there. absurd (nothing name there)) (Contains-cons_cases apart_row name [] has)
+problem_name_no_tokens lts class (States s s') name has = ⊎_elim (λ is. subst (λ n. ¬ IsTokensRow n) is (λ h. h)) (λ there. absurd (nothing name there)) (Contains-cons_cases row_name.Apart name [] has)
 
 pub name_no_tokens : (lts : System) (class : Class) (problem : Problem) (number : ℕ) (name : RowName) → has_start class ≡ false → Contains (names_of lts class problem number) name → ¬ IsTokensRow name
 name_no_tokens lts class problem number name none has = each_name lts class problem number (λ n. ¬ IsTokensRow n) (problem_name_no_tokens lts class problem) (λ c q lt h. true≢false (sym c ∙ none)) (λ c q lt h. h) (λ c u lt used h. h) (λ c u lt used h. h) (λ c u lt used differ h. h) name has
 
 -- ---- rows of arcs
 
-pub arc_stands : (lts : System) (class : Class) (problem : Problem) (number q t q' : ℕ) → RowStands lts class problem number [] (arc_row q t q') → HasArc lts q t q'
+pub arc_stands : (lts : System) (class : Class) (problem : Problem) (number q t q' : ℕ) → RowStands lts class problem number [] (row_name.Arc (arc q t q')) → HasArc lts q t q'
 arc_stands lts class (Event s u) number q t q' h = h
 arc_stands lts class (States s s') number q t q' h = h
 
 pub arcs_hold : (lts : System) (tree : List Arc) (basis : CycleBasis) (class : Class) (problem : Problem) (number : ℕ) (case : CaseSystem) (start : ℤ) (effect : ℕ → ℤ)
     (scale : ℤ) (q t q' : ℕ) → IsCaseOver lts tree basis class problem number case → AreEffects lts tree basis effect → HasArc lts q t q'
-    → RowHolds lts class problem number scale (numbers_along lts tree start effect) (arc_row q t q')
+    → RowHolds lts class problem number scale (numbers_along lts tree start effect) (row_name.Arc (arc q t q'))
 arcs_hold lts tree basis class problem number case start effect scale q t q' c e has = by problem
   where
     kept : potential lts tree start effect q +ℤ effect t ≡ potential lts tree start effect q'
@@ -68,7 +71,7 @@ arcs_hold lts tree basis class problem number case start effect scale q t q' c e
     zero_row : (a e b k : ℤ) → a +ℤ e ≡ b → ((pos 1 *ℤ a) +ℤ ((pos 1 *ℤ e) +ℤ ((negsuc 0 *ℤ b) +ℤ pos 0))) +ℤ (pos 0 *ℤ k) ≡ pos 0
     zero_row a e b k p = omega (arith, ints)
 
-    by : (p : Problem) → RowHolds lts class p number scale (numbers_along lts tree start effect) (arc_row q t q')
+    by : (p : Problem) → RowHolds lts class p number scale (numbers_along lts tree start effect) (row_name.Arc (arc q t q'))
     by (Event s u) = zero_row (potential lts tree start effect q) (effect t) (potential lts tree start effect q') scale kept
     by (States s s') = zero_row (potential lts tree start effect q) (effect t) (potential lts tree start effect q') scale kept
 
@@ -78,26 +81,26 @@ arcs_hold lts tree basis class problem number case start effect scale q t q' c e
 pub effect_holds : (lts : System) (tree : List Arc) (class : Class) (problem : Problem) (number : ℕ) (start : ℤ) (effect : ℕ → ℤ) (scale : ℤ) (name : RowName)
     → UnusedAreZero lts effect → pos 0 <ℤ scale → RowStands lts class problem number [] name → IsLeftOut lts class name → ¬ IsArcRow name → ¬ IsTokensRow name
     → RowHolds lts class problem number scale (numbers_along lts tree start effect) name
-effect_holds lts tree class (Event s u) number start effect scale (up_row t) unused positive stands out no_arc no_tokens = let e = unused t out in omega (arith, ints)
-effect_holds lts tree class (Event s u) number start effect scale (down_row t) unused positive stands out no_arc no_tokens = let e = unused t out in omega (arith, ints)
-effect_holds lts tree class (Event s u) number start effect scale (makes_row t) unused positive stands out no_arc no_tokens = let e = unused t out in omega (arith, ints)
-effect_holds lts tree class (States s s') number start effect scale (up_row t) unused positive stands out no_arc no_tokens = let e = unused t out in omega (arith, ints)
-effect_holds lts tree class (States s s') number start effect scale (down_row t) unused positive stands out no_arc no_tokens = let e = unused t out in omega (arith, ints)
-effect_holds lts tree class (States s s') number start effect scale (makes_row t) unused positive stands out no_arc no_tokens = let e = unused t out in omega (arith, ints)
-effect_holds lts tree class problem number start effect scale (arc_row q t q') unused positive stands out no_arc no_tokens = absurd (no_arc tt)
-effect_holds lts tree class problem number start effect scale (tokens_row q) unused positive stands out no_arc no_tokens = absurd (no_tokens tt)
+effect_holds lts tree class (Event s u) number start effect scale (row_name.Up t) unused positive stands out no_arc no_tokens = let e = unused t out in omega (arith, ints)
+effect_holds lts tree class (Event s u) number start effect scale (row_name.Down t) unused positive stands out no_arc no_tokens = let e = unused t out in omega (arith, ints)
+effect_holds lts tree class (Event s u) number start effect scale (row_name.Makes t) unused positive stands out no_arc no_tokens = let e = unused t out in omega (arith, ints)
+effect_holds lts tree class (States s s') number start effect scale (row_name.Up t) unused positive stands out no_arc no_tokens = let e = unused t out in omega (arith, ints)
+effect_holds lts tree class (States s s') number start effect scale (row_name.Down t) unused positive stands out no_arc no_tokens = let e = unused t out in omega (arith, ints)
+effect_holds lts tree class (States s s') number start effect scale (row_name.Makes t) unused positive stands out no_arc no_tokens = let e = unused t out in omega (arith, ints)
+effect_holds lts tree class problem number start effect scale (row_name.Arc a) unused positive stands out no_arc no_tokens = absurd (no_arc tt)
+effect_holds lts tree class problem number start effect scale (row_name.Tokens q) unused positive stands out no_arc no_tokens = absurd (no_tokens tt)
 effect_holds lts tree class problem number start effect scale name unused positive stands out no_arc no_tokens = absurd out
 
 -- the row of the tokens of q
-pub tokens_row_holds : (lts : System) (class : Class) (problem : Problem) (number : ℕ) (scale : ℤ) (x : Variable → ℤ) (q : ℕ) → (pos 0 ≤ℤ x (tokens_at q)) ↔ RowHolds lts class problem number scale x (tokens_row q)
-tokens_row_holds lts class (Event s t) number scale x q = (there (x (tokens_at q)) scale, back (x (tokens_at q)) scale)
+pub tokens_row_holds : (lts : System) (class : Class) (problem : Problem) (number : ℕ) (scale : ℤ) (x : Variable → ℤ) (q : ℕ) → (pos 0 ≤ℤ x (Tokens q)) ↔ RowHolds lts class problem number scale x (row_name.Tokens q)
+tokens_row_holds lts class (Event s t) number scale x q = (there (x (Tokens q)) scale, back (x (Tokens q)) scale)
   where
     there : (z k : ℤ) → pos 0 ≤ℤ z → pos 0 ≤ℤ (((pos 1 *ℤ z) +ℤ pos 0) +ℤ (pos 0 *ℤ k))
     there z k h = omega (arith, ints)
 
     back : (z k : ℤ) → pos 0 ≤ℤ (((pos 1 *ℤ z) +ℤ pos 0) +ℤ (pos 0 *ℤ k)) → pos 0 ≤ℤ z
     back z k h = omega (arith, ints)
-tokens_row_holds lts class (States s s') number scale x q = (there (x (tokens_at q)) scale, back (x (tokens_at q)) scale)
+tokens_row_holds lts class (States s s') number scale x q = (there (x (Tokens q)) scale, back (x (Tokens q)) scale)
   where
     there : (z k : ℤ) → pos 0 ≤ℤ z → pos 0 ≤ℤ (((pos 1 *ℤ z) +ℤ pos 0) +ℤ (pos 0 *ℤ k))
     there z k h = omega (arith, ints)
@@ -107,6 +110,6 @@ tokens_row_holds lts class (States s s') number scale x q = (there (x (tokens_at
 
 -- by kinds: of arcs, of tokens, and others
 pub each_kind : (P : RowName → Type 0) → ((name : RowName) → IsArcRow name → P name) → ((name : RowName) → IsTokensRow name → P name) → ((name : RowName) → ¬ IsArcRow name → ¬ IsTokensRow name → P name) → (name : RowName) → P name
-each_kind P arcs tokens rest (arc_row q t q') = arcs (arc_row q t q') tt
-each_kind P arcs tokens rest (tokens_row q) = tokens (tokens_row q) tt
+each_kind P arcs tokens rest (row_name.Arc a) = arcs (row_name.Arc a) tt
+each_kind P arcs tokens rest (row_name.Tokens q) = tokens (row_name.Tokens q) tt
 each_kind P arcs tokens rest name = rest name (λ h. h) (λ h. h)

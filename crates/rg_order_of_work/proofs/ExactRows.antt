@@ -9,7 +9,7 @@ use Rattle.rg_theory.specs.declared.Class.{Class}
 use Rattle.rg_theory.specs.System.{System, labels}
 use Rattle.rg_theory.proofs.Lists.{Contains-cons_cases}
 use Rattle.rg_refuting.specs.Expression.{Term, Expression, value_in}
-use Rattle.rg_refuting.specs.Row.{RowName}
+use Rattle.rg_refuting.specs.declared.RowName.{RowName}
 use Rattle.rg_integers.specs.Sum.{sum_below, dot, sum_over}
 use Rattle.rg_linear.specs.Cycle.{FollowsRelations, CycleBasis}
 use Rattle.rg_integers.proofs.Ring.{ring, add-mul, mul-add}

@@ -14,8 +14,10 @@ use Rattle.rg_linear.specs.System.{IsPoint, MeetsRows}
 use Rattle.rg_linear.specs.Branching.{Form, form_at, scaled_value, AreBounded}
 use Rattle.rg_linear.specs.Cycle.{CycleBasis}
 use Rattle.rg_linear.proofs.Branches.{positive_times_less, positive_times_most}
-use Rattle.rg_refuting.specs.Expression.{Variable, Variable.tokens_at, Variable.effect_of, plus}
-use Rattle.rg_refuting.specs.Row.{Form as SplitForm, Form.on_tokens, Form.on_effect, Form.on_start, form_variable, step_of, RowName.tokens_row, RowName.cap_row, RowName.up_row, RowName.down_row}
+use Rattle.rg_refuting.specs.Expression.{plus}
+use Rattle.rg_refuting.specs.declared.Variable.{Variable}
+use Rattle.rg_refuting.specs.Row.{form_variable, step_of}
+use Rattle.rg_refuting.specs.declared.Form.{Form as SplitForm}
 use Rattle.rg_order_of_work.specs.Rewriting.{splits_start, split_forms, form_fold, form_low, form_high, CaseSystem, rows_of}
 use Rattle.rg_order_of_work.specs.Values.{NamesLabels, numbers_along}
 use Rattle.rg_order_of_work.specs.Meaning.{IsCaseOver, KeepsRowsOver}
@@ -26,6 +28,9 @@ use Rattle.rg_order_of_work.proofs.Forms.{form_there, form_positive, form_value,
 use Rattle.rg_order_of_work.proofs.Along.{number_at_first}
 use Rattle.rg_order_of_work.proofs.StartBounds.{start_bounded}
 use Rattle.rg_refuting.specs.Refutes.{IsSeparationProblem}
+use Rattle.rg_refuting.specs.declared.RowName.TheVariants as row_name
+use Rattle.rg_refuting.specs.declared.Form.TheVariants as split_form
+use Rattle.rg_refuting.specs.declared.Variable.TheVariants.{Tokens, Effect}
 
 -- the bounds of a variable are those of its form
 bounds_of : (t s f z v low high : ℤ) → pos 0 <ℤ t → pos 0 <ℤ f → f *ℤ z ≡ t *ℤ v → (low *ℤ (t *ℤ s)) ≤ℤ z → z ≤ℤ (high *ℤ (t *ℤ s)) → ((low *ℤ (f *ℤ s)) ≤ℤ v) × (v ≤ℤ (high *ℤ (f *ℤ s)))
@@ -105,17 +110,17 @@ module _ (lts : System) (tree : List Arc) (basis : CycleBasis) (class : Class) (
       effect_both : (z : ℤ) → pos 0 ≤ℤ (((negsuc 0 *ℤ z) +ℤ pos 0) +ℤ (pos 1 *ℤ k)) → pos 0 ≤ℤ (((pos 1 *ℤ z) +ℤ pos 0) +ℤ (pos 1 *ℤ k)) → ((negsuc 0 *ℤ k) ≤ℤ z) × (z ≤ℤ (pos 1 *ℤ k))
       effect_both z h g = (omega (arith, ints), omega (arith, ints))
 
-      by_low : (p : Problem) → KeepsRowsOver lts class p n k x → (q : ℕ) → (pos 0 *ℤ k) ≤ℤ x (tokens_at q)
-      by_low (Event s t) kept q = tokens_low (x (tokens_at q)) (kept (tokens_row q) tt)
-      by_low (States s s') kept q = tokens_low (x (tokens_at q)) (kept (tokens_row q) tt)
+      by_low : (p : Problem) → KeepsRowsOver lts class p n k x → (q : ℕ) → (pos 0 *ℤ k) ≤ℤ x (Tokens q)
+      by_low (Event s t) kept q = tokens_low (x (Tokens q)) (kept (row_name.Tokens q) tt)
+      by_low (States s s') kept q = tokens_low (x (Tokens q)) (kept (row_name.Tokens q) tt)
 
-      by_high : (p : Problem) → KeepsRowsOver lts class p n k x → (q : ℕ) → is_some class.bound ≡ true → q < states lts → x (tokens_at q) ≤ℤ (pos (unwrap_or class.bound 0) *ℤ k)
-      by_high (Event s t) kept q bound lt = tokens_high (x (tokens_at q)) (pos (unwrap_or class.bound 0)) (kept (cap_row q) (lt, bound))
-      by_high (States s s') kept q bound lt = tokens_high (x (tokens_at q)) (pos (unwrap_or class.bound 0)) (kept (cap_row q) (lt, bound))
+      by_high : (p : Problem) → KeepsRowsOver lts class p n k x → (q : ℕ) → is_some class.bound ≡ true → q < states lts → x (Tokens q) ≤ℤ (pos (unwrap_or class.bound 0) *ℤ k)
+      by_high (Event s t) kept q bound lt = tokens_high (x (Tokens q)) (pos (unwrap_or class.bound 0)) (kept (row_name.Cap q) (lt, bound))
+      by_high (States s s') kept q bound lt = tokens_high (x (Tokens q)) (pos (unwrap_or class.bound 0)) (kept (row_name.Cap q) (lt, bound))
 
-      by_effect : (p : Problem) → KeepsRowsOver lts class p n k x → (t : ℕ) → class.plain ≡ true → t < labels lts → ((negsuc 0 *ℤ k) ≤ℤ x (effect_of t)) × (x (effect_of t) ≤ℤ (pos 1 *ℤ k))
-      by_effect (Event s u) kept t plain lt = effect_both (x (effect_of t)) (kept (up_row t) (lt, plain)) (kept (down_row t) (lt, plain))
-      by_effect (States s s') kept t plain lt = effect_both (x (effect_of t)) (kept (up_row t) (lt, plain)) (kept (down_row t) (lt, plain))
+      by_effect : (p : Problem) → KeepsRowsOver lts class p n k x → (t : ℕ) → class.plain ≡ true → t < labels lts → ((negsuc 0 *ℤ k) ≤ℤ x (Effect t)) × (x (Effect t) ≤ℤ (pos 1 *ℤ k))
+      by_effect (Event s u) kept t plain lt = effect_both (x (Effect t)) (kept (row_name.Up t) (lt, plain)) (kept (row_name.Down t) (lt, plain))
+      by_effect (States s s') kept t plain lt = effect_both (x (Effect t)) (kept (row_name.Up t) (lt, plain)) (kept (row_name.Down t) (lt, plain))
 
       -- the bound of the start
       of_bound : is_some class.bound ≡ true → pos (unwrap_or class.bound 0) ≡ pos (unwrap_or class.bound (states lts))
@@ -135,8 +140,8 @@ module _ (lts : System) (tree : List Arc) (basis : CycleBasis) (class : Class) (
       from_first : (z s b : ℤ) → z ≡ s → s ≤ℤ (b *ℤ k) → z ≤ℤ (b *ℤ k)
       from_first z s b e h = omega (arith, ints)
 
-      by_event : (p : Problem) → IsSeparationProblem lts p → KeepsRowsOver lts class p n k x → class.plain ≡ true → (s t : ℕ) → p ≡ Event s t → x (tokens_at lts.initial) ≤ℤ (pos (states lts) *ℤ k)
-      by_event (Event s t) asked kept plain s' t' same = from_first (x (tokens_at lts.initial)) start (pos (states lts)) (number_at_first lts tree start effect c.is_tree) (start_bounded lts tree class s t n k start effect c.in_range c.is_tree (c.reachable.each s asked.0) asked.1 plain scale kept)
+      by_event : (p : Problem) → IsSeparationProblem lts p → KeepsRowsOver lts class p n k x → class.plain ≡ true → (s t : ℕ) → p ≡ Event s t → x (Tokens lts.initial) ≤ℤ (pos (states lts) *ℤ k)
+      by_event (Event s t) asked kept plain s' t' same = from_first (x (Tokens lts.initial)) start (pos (states lts)) (number_at_first lts tree start effect c.is_tree) (start_bounded lts tree class s t n k start effect c.in_range c.is_tree (c.reachable.each s asked.0) asked.1 plain scale kept)
       by_event (States s s') asked kept plain s'' t' same = absurd (is_event (States s s') (Event s'' t') same tt)
         where
           IsStates : Problem → Type 0
@@ -146,30 +151,30 @@ module _ (lts : System) (tree : List Arc) (basis : CycleBasis) (class : Class) (
           is_event : (a b : Problem) → a ≡ b → IsStates a → IsStates b
           is_event a b e h = subst IsStates e h
 
-      start_high : splits_start class problem ≡ true → x (tokens_at lts.initial) ≤ℤ (pos (unwrap_or class.bound (states lts)) *ℤ k)
+      start_high : splits_start class problem ≡ true → x (Tokens lts.initial) ≤ℤ (pos (unwrap_or class.bound (states lts)) *ℤ k)
       start_high splits = by_cases (cases_Bool (is_some class.bound)) (start_split class problem splits).1
         where
-          by_cases : (is_some class.bound ≡ true) ⊎ (is_some class.bound ≡ false) → (is_some class.bound ≡ true) ⊎ ((class.plain ≡ true) × ((s : ℕ) × (t : ℕ) × (problem ≡ Event s t))) → x (tokens_at lts.initial) ≤ℤ (pos (unwrap_or class.bound (states lts)) *ℤ k)
-          by_cases (inl bound) _ = subst (λ b. x (tokens_at lts.initial) ≤ℤ (b *ℤ k)) (of_bound bound) (by_high problem keeps lts.initial bound c.in_range.initial)
+          by_cases : (is_some class.bound ≡ true) ⊎ (is_some class.bound ≡ false) → (is_some class.bound ≡ true) ⊎ ((class.plain ≡ true) × ((s : ℕ) × (t : ℕ) × (problem ≡ Event s t))) → x (Tokens lts.initial) ≤ℤ (pos (unwrap_or class.bound (states lts)) *ℤ k)
+          by_cases (inl bound) _ = subst (λ b. x (Tokens lts.initial) ≤ℤ (b *ℤ k)) (of_bound bound) (by_high problem keeps lts.initial bound c.in_range.initial)
           by_cases (inr none) (inl bound) = absurd (true≢false (sym bound ∙ none))
-          by_cases (inr none) (inr (plain, (s, t, same))) = subst (λ b. x (tokens_at lts.initial) ≤ℤ (b *ℤ k)) (of_none none) (by_event problem c.asked keeps plain s t same)
+          by_cases (inr none) (inr (plain, (s, t, same))) = subst (λ b. x (Tokens lts.initial) ≤ℤ (b *ℤ k)) (of_none none) (by_event problem c.asked keeps plain s t same)
 
       by : (split : SplitForm) → IsSplitOf lts class problem split → ((form_low split *ℤ k) ≤ℤ x (form_variable lts.initial split)) × (x (form_variable lts.initial split) ≤ℤ (form_high lts class split *ℤ k))
-      by (on_tokens q) (bound, lt) = (by_low problem keeps q, by_high problem keeps q bound lt)
-      by (on_effect t) (bound, plain, used, lt) = by_effect problem keeps t plain lt
-      by on_start splits = (by_low problem keeps lts.initial, start_high splits)
+      by (split_form.Tokens q) (bound, lt) = (by_low problem keeps q, by_high problem keeps q bound lt)
+      by (split_form.Effect t) (bound, plain, used, lt) = by_effect problem keeps t plain lt
+      by split_form.Start splits = (by_low problem keeps lts.initial, start_high splits)
 
   -- the bounds of the variable are those of its form, by steps of any number where the least is 0
   form_bounds : (split : SplitForm) (t s f z v high : ℤ) → pos 0 <ℤ t → pos 0 <ℤ f → f *ℤ z ≡ pos (step_of class split) *ℤ (t *ℤ v) → (form_low split *ℤ (t *ℤ s)) ≤ℤ z → z ≤ℤ (high *ℤ (t *ℤ s)) → ((form_low split *ℤ (f *ℤ s)) ≤ℤ v) × (v ≤ℤ (high *ℤ (f *ℤ s)))
-  form_bounds (on_tokens q) t s f z v high ht hf e below above = bounds_of t s f z v (pos 0) high ht hf (e ∙ one (t *ℤ v)) below above
+  form_bounds (split_form.Tokens q) t s f z v high ht hf e below above = bounds_of t s f z v (pos 0) high ht hf (e ∙ one (t *ℤ v)) below above
     where
       one : (z : ℤ) → pos 1 *ℤ z ≡ z
       one z = omega (arith, ints)
-  form_bounds (on_effect u) t s f z v high ht hf e below above = bounds_of t s f z v (negsuc 0) high ht hf (e ∙ one (t *ℤ v)) below above
+  form_bounds (split_form.Effect u) t s f z v high ht hf e below above = bounds_of t s f z v (negsuc 0) high ht hf (e ∙ one (t *ℤ v)) below above
     where
       one : (z : ℤ) → pos 1 *ℤ z ≡ z
       one z = omega (arith, ints)
-  form_bounds on_start t s f z v high ht hf e below above = start_bounds (step_of class on_start) t s f z v high (step_positive class on_start c.numbers) ht hf e below above
+  form_bounds split_form.Start t s f z v high ht hf e below above = start_bounds (step_of class split_form.Start) t s f z v high (step_positive class split_form.Start c.numbers) ht hf e below above
 
   pub forms_bounded : AreBounded (rows_of case) case.forms
   forms_bounded = record {

@@ -1,5 +1,5 @@
 -- Each form of a case is a multiple of the row that stays for the tokens of its state or for `down` of its label.
-use Rattle.std.proofs.Common.{◌≡◌, ◌⊎◌, ⊎_elim, ℕ, zero, suc, max, ◌<◌, ◌≤◌, is_some, unwrap_or, Option, Some, None, IfSome, true, false, if◌then◌else◌, List, [], ◌∷◌, map, length, Ok, Contains, All, inl, inr, refl, sym, ap, subst, ◌∙◌, arith}
+use Rattle.std.proofs.Common.{◌≡◌, ◌⊎◌, ⊎_elim, ℕ, zero, suc, max, ◌<◌, ◌≤◌, is_some, unwrap_or, Option, Some, None, IfSome, true, List, [], ◌∷◌, map, length, Ok, Contains, All, inl, inr, refl, sym, ap, subst, ◌∙◌, arith}
 use Rattle.std.specs.Prelude.{ℤ, pos, negsuc, ◌*ℤ◌, int_div, slice_index_or}
 use Rattle.std.proofs.Math.IntN.{*ℤ-zero}
 use Rattle.std.proofs.lemmas.Int.{ints}
@@ -23,7 +23,9 @@ use Rattle.rg_linear.specs.Branching.{Form, form_at}
 use Rattle.rg_linear.specs.Cycle.{CycleBasis}
 use Rattle.rg_linear.proofs.Firsts.{item_stays}
 use Rattle.rg_refuting.specs.Expression.{Term, Expression, plus, minus}
-use Rattle.rg_refuting.specs.Row.{RowName, RowName.cap_row, RowName.tokens_row, RowName.down_row, RowStands, row_expression, Form as SplitForm, Form.on_tokens, Form.on_effect, Form.on_start, form_variable, step_of}
+use Rattle.rg_refuting.specs.Row.{RowStands, row_expression, form_variable, step_of}
+use Rattle.rg_refuting.specs.declared.RowName.{RowName}
+use Rattle.rg_refuting.specs.declared.Form.{Form as SplitForm}
 use Rattle.rg_order_of_work.specs.Fold.{Ratio, whole, mul}
 use Rattle.rg_order_of_work.specs.Rewriting.{Scaled, has_start, terms_fold, form_fold, row_fold, split_forms, form_low, form_high, names_of, KeptRow, IsIdle, CaseSystem, rows_of, system_fold}
 use Rattle.rg_order_of_work.specs.Meaning.{IsCaseOver}
@@ -36,15 +38,17 @@ use Rattle.rg_order_of_work.proofs.SystemRows.{made_of}
 use Rattle.rg_order_of_work.proofs.Forms.{form_named, start_of_bound, plain_has, IsSplitOf, split_is, split_starts}
 use Rattle.rg_order_of_work.proofs.StartAlone.{start_alone}
 use Rattle.rg_integers.proofs.Signs.{abs-times}
+use Rattle.rg_refuting.specs.declared.RowName.TheVariants as row_name
+use Rattle.rg_refuting.specs.declared.Form.TheVariants as split_form
 
 -- the row has the terms of the form
 pub same_terms : (lts : System) (class : Class) (problem : Problem) (n : ℕ) (split : SplitForm) → (row_expression lts class problem n [] (form_row lts.initial split)).terms ≡ plus (form_variable lts.initial split) ∷ []
-same_terms lts class (Event s t) n (on_tokens q) = refl
-same_terms lts class (Event s t) n (on_effect u) = refl
-same_terms lts class (Event s t) n on_start = refl
-same_terms lts class (States s s') n (on_tokens q) = refl
-same_terms lts class (States s s') n (on_effect u) = refl
-same_terms lts class (States s s') n on_start = refl
+same_terms lts class (Event s t) n (split_form.Tokens q) = refl
+same_terms lts class (Event s t) n (split_form.Effect u) = refl
+same_terms lts class (Event s t) n split_form.Start = refl
+same_terms lts class (States s s') n (split_form.Tokens q) = refl
+same_terms lts class (States s s') n (split_form.Effect u) = refl
+same_terms lts class (States s s') n split_form.Start = refl
 
 -- the form is the row, times what the row was divided by
 pub form_over_row : (lts : System) (tree : List Arc) (basis : CycleBasis) (class : Class) (problem : Problem) (n : ℕ) (split : SplitForm) (form : Form) (k : KeptRow)
@@ -59,21 +63,21 @@ form_over_row lts tree basis class problem n split form k (scaled, fold, e) (sca
 pub form_row_named : (lts : System) (class : Class) (problem : Problem) (n : ℕ) (split : SplitForm) → IsInRange lts → Contains (split_forms lts class problem) split → Contains (names_of lts class problem n) (form_row lts.initial split)
 form_row_named lts class problem n split fine has = by split (split_is lts class problem split has)
   where
-    tokens_stand : (p : Problem) (q : ℕ) → RowStands lts class p n [] (tokens_row q)
+    tokens_stand : (p : Problem) (q : ℕ) → RowStands lts class p n [] (row_name.Tokens q)
     tokens_stand (Event s t) q = tt
     tokens_stand (States s s') q = tt
 
-    down_stands : (p : Problem) (t : ℕ) → t < labels lts → class.plain ≡ true → RowStands lts class p n [] (down_row t)
+    down_stands : (p : Problem) (t : ℕ) → t < labels lts → class.plain ≡ true → RowStands lts class p n [] (row_name.Down t)
     down_stands (Event s u) t lt plain = (lt, plain)
     down_stands (States s s') t lt plain = (lt, plain)
 
-    tokens_named : (q : ℕ) → q < states lts → has_start class ≡ true → Contains (names_of lts class problem n) (tokens_row q)
-    tokens_named q lt starts = ⊎_elim (λ named. named) (⊎_elim (λ none. absurd (true≢false (sym starts ∙ none))) (λ past. absurd (omega arith))) (left_out lts class problem n (tokens_row q) fine (tokens_stand problem q))
+    tokens_named : (q : ℕ) → q < states lts → has_start class ≡ true → Contains (names_of lts class problem n) (row_name.Tokens q)
+    tokens_named q lt starts = ⊎_elim (λ named. named) (⊎_elim (λ none. absurd (true≢false (sym starts ∙ none))) (λ past. absurd (omega arith))) (left_out lts class problem n (row_name.Tokens q) fine (tokens_stand problem q))
 
     by : (split : SplitForm) → IsSplitOf lts class problem split → Contains (names_of lts class problem n) (form_row lts.initial split)
-    by (on_tokens q) (bound, lt) = tokens_named q lt (start_of_bound class bound)
-    by (on_effect t) (bound, plain, used, lt) = ⊎_elim (λ named. named) (λ none. absurd (true≢false (sym used ∙ none))) (left_out lts class problem n (down_row t) fine (down_stands problem t lt plain))
-    by on_start splits = tokens_named lts.initial fine.initial (split_starts lts class problem on_start splits)
+    by (split_form.Tokens q) (bound, lt) = tokens_named q lt (start_of_bound class bound)
+    by (split_form.Effect t) (bound, plain, used, lt) = ⊎_elim (λ named. named) (λ none. absurd (true≢false (sym used ∙ none))) (left_out lts class problem n (row_name.Down t) fine (down_stands problem t lt plain))
+    by split_form.Start splits = tokens_named lts.initial fine.initial (split_starts lts class problem split_form.Start splits)
 
 pub number_times : (d : ℤ) (xs : List ℤ) (j : ℕ) → number_at (map (λ z. d *ℤ z) xs) j ≡ d *ℤ number_at xs j
 number_times d [] j = sym (*ℤ-zero d)
@@ -117,7 +121,7 @@ form_multiple lts tree basis class problem n case c f lt = from c.is_case
   where
     from : system_fold lts tree basis class problem n (Ok case) → (row : ℕ) × (times : ℤ) × IsMultipleOfRow (rows_of case) (form_at case.forms f) row times
     from (all, made, (forms, forms_made, (columns, keeps, form_list))) =
-        let split = slice_index_or (split_forms lts class problem) f (on_tokens 0) in
+        let split = slice_index_or (split_forms lts class problem) f (split_form.Tokens 0) in
         let (names, has, fold) = form_named lts tree basis class problem n case f c.is_case lt in
         let (k, in_all, row) = made_of (λ name. row_fold lts tree basis class name (row_expression lts class problem n [] name)) (names_of lts class problem n) all (form_row lts.initial split) made (form_row_named lts class problem n split c.in_range has) in
         let (divisor, e) = form_over_row lts tree basis class problem n split (form_at case.forms f) k fold row in
@@ -163,8 +167,8 @@ fits_opposite lts tree basis class split form name e k step (scaled, fold, is) o
     (subst (λ (ts : List Term). terms_fold lts tree basis class ts (Ok scaled')) opposite fold') ∙ by_one (step_of class split) scaled.multiple step
     ∙ ap (λ (f : Form). f.scale) (sym is)) (product_in_range e.constant scaled'.multiple constant product)
 
-pub start_scale : (lts : System) (tree : List Arc) (basis : CycleBasis) (class : Class) (form : Form) → IsTree lts tree → form_fold lts tree basis class on_start (Ok form) → form.scale ≡ pos (step_of class on_start)
-start_scale lts tree basis class form g (scaled, fold, e) = ap (λ (f : Form). f.scale) e ∙ ap (λ m. pos (step_of class on_start) *ℤ m) (start_alone lts tree basis class scaled g fold) ∙ once (pos (step_of class on_start))
+pub start_scale : (lts : System) (tree : List Arc) (basis : CycleBasis) (class : Class) (form : Form) → IsTree lts tree → form_fold lts tree basis class split_form.Start (Ok form) → form.scale ≡ pos (step_of class split_form.Start)
+start_scale lts tree basis class form g (scaled, fold, e) = ap (λ (f : Form). f.scale) e ∙ ap (λ m. pos (step_of class split_form.Start) *ℤ m) (start_alone lts tree basis class scaled g fold) ∙ once (pos (step_of class split_form.Start))
   where
     once : (z : ℤ) → z *ℤ pos 1 ≡ z
     once z = omega (arith, ints)
@@ -187,10 +191,10 @@ form_fits lts tree basis class problem n case c few f lt = from c.is_case
         less s h = omega (arith, ints)
 
     -- of the start a step is at most 255, and there are at most 4,096 states
-    start_fits : (form : Form) → form_fold lts tree basis class on_start (Ok form) → InRange (form.scale *ℤ form_high lts class on_start)
-    start_fits form (scaled, fold, e) = subst (λ (x : Form). InRange (x.scale *ℤ form_high lts class on_start)) (sym e)
-        (subst (λ m. InRange ((pos (step_of class on_start) *ℤ m) *ℤ form_high lts class on_start)) (sym (start_alone lts tree basis class scaled c.is_tree fold))
-        (by_numbers (step_of class on_start) (unwrap_or class.bound (states lts)) (step_few class.marking c.numbers.marking) (high_few class.bound c.numbers.bound)))
+    start_fits : (form : Form) → form_fold lts tree basis class split_form.Start (Ok form) → InRange (form.scale *ℤ form_high lts class split_form.Start)
+    start_fits form (scaled, fold, e) = subst (λ (x : Form). InRange (x.scale *ℤ form_high lts class split_form.Start)) (sym e)
+        (subst (λ m. InRange ((pos (step_of class split_form.Start) *ℤ m) *ℤ form_high lts class split_form.Start)) (sym (start_alone lts tree basis class scaled c.is_tree fold))
+        (by_numbers (step_of class split_form.Start) (unwrap_or class.bound (states lts)) (step_few class.marking c.numbers.marking) (high_few class.bound c.numbers.bound)))
       where
         by_numbers : (n h : ℕ) → n ≤ 255 → h ≤ 4096 → InRange ((pos n *ℤ pos 1) *ℤ pos h)
         by_numbers n h few low = let most = abs-times (pos n *ℤ pos 1) (pos h) 255 4096 (omega (arith, ints)) (omega (arith, ints)) in omega (arith, most)
@@ -205,36 +209,36 @@ form_fits lts tree basis class problem n case c few f lt = from c.is_case
 
     from : system_fold lts tree basis class problem n (Ok case) → InRange ((form_at case.forms f).scale *ℤ (form_at case.forms f).low) × InRange ((form_at case.forms f).scale *ℤ (form_at case.forms f).high)
     from (all, made, rest) =
-        let split = slice_index_or (split_forms lts class problem) f (on_tokens 0) in
+        let split = slice_index_or (split_forms lts class problem) f (split_form.Tokens 0) in
         let (names, has, fold) = form_named lts tree basis class problem n case f c.is_case lt in
         with_bounds split (form_at case.forms f) fold (bounds split (form_at case.forms f) (split_is lts class problem split has) fold)
       where
         row_of : (name : RowName) → Contains (names_of lts class problem n) name → (k : KeptRow) × row_fold lts tree basis class name (row_expression lts class problem n [] name) (Ok k)
         row_of name has = let (k, in_all, row) = made_of (λ m. row_fold lts tree basis class m (row_expression lts class problem n [] m)) (names_of lts class problem n) all name made has in (k, row)
 
-        tokens_of : (q : ℕ) (form : Form) (p : Problem) → form_fold lts tree basis class (on_tokens q) (Ok form) → (k : KeptRow) → row_fold lts tree basis class (cap_row q) (row_expression lts class p n [] (cap_row q)) (Ok k) → InRange (pos (unwrap_or class.bound 0) *ℤ form.scale)
-        tokens_of q form (Event s t) fold k row = fits_opposite lts tree basis class (on_tokens q) form (cap_row q) (row_expression lts class (Event s t) n [] (cap_row q)) k refl fold refl row
-        tokens_of q form (States s s') fold k row = fits_opposite lts tree basis class (on_tokens q) form (cap_row q) (row_expression lts class (States s s') n [] (cap_row q)) k refl fold refl row
+        tokens_of : (q : ℕ) (form : Form) (p : Problem) → form_fold lts tree basis class (split_form.Tokens q) (Ok form) → (k : KeptRow) → row_fold lts tree basis class (row_name.Cap q) (row_expression lts class p n [] (row_name.Cap q)) (Ok k) → InRange (pos (unwrap_or class.bound 0) *ℤ form.scale)
+        tokens_of q form (Event s t) fold k row = fits_opposite lts tree basis class (split_form.Tokens q) form (row_name.Cap q) (row_expression lts class (Event s t) n [] (row_name.Cap q)) k refl fold refl row
+        tokens_of q form (States s s') fold k row = fits_opposite lts tree basis class (split_form.Tokens q) form (row_name.Cap q) (row_expression lts class (States s s') n [] (row_name.Cap q)) k refl fold refl row
 
-        effect_of_label : (t : ℕ) (form : Form) (p : Problem) → form_fold lts tree basis class (on_effect t) (Ok form) → (k : KeptRow) → row_fold lts tree basis class (down_row t) (row_expression lts class p n [] (down_row t)) (Ok k) → InRange (pos 1 *ℤ form.scale)
-        effect_of_label t form (Event s u) fold k row = fits_one lts tree basis class (on_effect t) form (down_row t) (row_expression lts class (Event s u) n [] (down_row t)) k refl fold refl row
-        effect_of_label t form (States s s') fold k row = fits_one lts tree basis class (on_effect t) form (down_row t) (row_expression lts class (States s s') n [] (down_row t)) k refl fold refl row
+        effect_of_label : (t : ℕ) (form : Form) (p : Problem) → form_fold lts tree basis class (split_form.Effect t) (Ok form) → (k : KeptRow) → row_fold lts tree basis class (row_name.Down t) (row_expression lts class p n [] (row_name.Down t)) (Ok k) → InRange (pos 1 *ℤ form.scale)
+        effect_of_label t form (Event s u) fold k row = fits_one lts tree basis class (split_form.Effect t) form (row_name.Down t) (row_expression lts class (Event s u) n [] (row_name.Down t)) k refl fold refl row
+        effect_of_label t form (States s s') fold k row = fits_one lts tree basis class (split_form.Effect t) form (row_name.Down t) (row_expression lts class (States s s') n [] (row_name.Down t)) k refl fold refl row
 
-        cap_stands : (p : Problem) (q : ℕ) → q < states lts → is_some class.bound ≡ true → RowStands lts class p n [] (cap_row q)
+        cap_stands : (p : Problem) (q : ℕ) → q < states lts → is_some class.bound ≡ true → RowStands lts class p n [] (row_name.Cap q)
         cap_stands (Event s t) q lt bound = (lt, bound)
         cap_stands (States s s') q lt bound = (lt, bound)
 
-        cap_named : (q : ℕ) → q < states lts → is_some class.bound ≡ true → Contains (names_of lts class problem n) (cap_row q)
-        cap_named q lt bound = ⊎_elim (λ named. named) (λ none. absurd none) (left_out lts class problem n (cap_row q) c.in_range (cap_stands problem q lt bound))
+        cap_named : (q : ℕ) → q < states lts → is_some class.bound ≡ true → Contains (names_of lts class problem n) (row_name.Cap q)
+        cap_named q lt bound = ⊎_elim (λ named. named) (λ none. absurd none) (left_out lts class problem n (row_name.Cap q) c.in_range (cap_stands problem q lt bound))
 
         bounds : (split : SplitForm) (form : Form) → IsSplitOf lts class problem split → form_fold lts tree basis class split (Ok form) → InRange (form.scale *ℤ form_low split) × InRange (form.scale *ℤ form_high lts class split)
-        bounds (on_tokens q) form (bound, lt) fold =
-            let (k, row) = row_of (cap_row q) (cap_named q lt bound) in
+        bounds (split_form.Tokens q) form (bound, lt) fold =
+            let (k, row) = row_of (row_name.Cap q) (cap_named q lt bound) in
             (zero_low form.scale, subst InRange (turn (pos (unwrap_or class.bound 0)) form.scale) (tokens_of q form problem fold k row))
-        bounds (on_effect t) form (bound, plain, used, lt) fold =
-            let (k, row) = row_of (down_row t) (form_row_named lts class problem n (on_effect t) c.in_range (plain_has lts class problem t bound plain lt used)) in
+        bounds (split_form.Effect t) form (bound, plain, used, lt) fold =
+            let (k, row) = row_of (row_name.Down t) (form_row_named lts class problem n (split_form.Effect t) c.in_range (plain_has lts class problem t bound plain lt used)) in
             plainly form.scale (effect_of_label t form problem fold k row)
-        bounds on_start form splits fold = (zero_low form.scale, start_fits form fold)
+        bounds split_form.Start form splits fold = (zero_low form.scale, start_fits form fold)
 
         with_bounds : (split : SplitForm) (form : Form) → form_fold lts tree basis class split (Ok form) → InRange (form.scale *ℤ form_low split) × InRange (form.scale *ℤ form_high lts class split) → InRange (form.scale *ℤ form.low) × InRange (form.scale *ℤ form.high)
         with_bounds split form (scaled, fold, e) fits =

@@ -20,7 +20,8 @@ use Rattle.rg_integers.specs.declared.term.Wide.{Wide}
 use Rattle.rg_linear.specs.Branching.{Form, form_at, scaled_value, FormsWhole}
 use Rattle.rg_linear.specs.Cycle.{CycleBasis}
 use Rattle.rg_refuting.specs.Expression.{plus}
-use Rattle.rg_refuting.specs.Row.{Form as SplitForm, Form.on_tokens, Form.on_effect, Form.on_start, form_variable, step_of}
+use Rattle.rg_refuting.specs.Row.{form_variable, step_of}
+use Rattle.rg_refuting.specs.declared.Form.{Form as SplitForm}
 use Rattle.rg_order_of_work.specs.Fold.{each}
 use Rattle.rg_order_of_work.specs.Rewriting.{has_label, has_start, splits_start, split_forms, form_fold, CaseSystem, rows_of, system_fold, used_labels, all_numbers}
 use Rattle.rg_order_of_work.specs.Values.{NamesLabels, numbers_along, column_values}
@@ -29,6 +30,7 @@ use Rattle.rg_order_of_work.proofs.Signs.{terms_positive}
 use Rattle.rg_order_of_work.specs.Meaning.{IsCaseOver, AreEffects, AreGivenBy}
 use Rattle.rg_order_of_work.proofs.Lists.{first, nothing, Contains-map, Contains-of_map, where_is, where_has, if_true, if_false, of_if, of_optional}
 use Rattle.rg_order_of_work.proofs.ColumnValues.{row_sum}
+use Rattle.rg_refuting.specs.declared.Form.TheVariants as split_form
 
 -- ---- the forms are those of the variables, in order
 
@@ -61,9 +63,9 @@ form_of_variable lts tree basis class problem n case split (all, made, (forms, f
 -- ---- its value
 
 pub step_positive : (class : Class) (split : SplitForm) → HasNumbersInRange class → 0 < step_of class split
-step_positive class (on_tokens q) numbers = omega arith
-step_positive class (on_effect t) numbers = omega arith
-step_positive class on_start numbers = by class.marking numbers.marking
+step_positive class (split_form.Tokens q) numbers = omega arith
+step_positive class (split_form.Effect t) numbers = omega arith
+step_positive class split_form.Start numbers = by class.marking numbers.marking
   where
     by : (o : Option ℕ) → IfSome o (λ n. (0 < n) × (n ≤ 255)) → 0 < unwrap_or o 1
     by None h = omega arith
@@ -162,39 +164,42 @@ start_of_plain class e = go class.pure class.plain (is_some class.bound) e
     go false true d e = refl
     go false false d e = absurd (true≢false (sym e))
 
-pub bounded_has : (lts : System) (class : Class) (problem : Problem) (q : ℕ) → is_some class.bound ≡ true → q < states lts → Contains (split_forms lts class problem) (on_tokens q)
-bounded_has lts class problem q bound lt = Contains-append_left (if is_some class.bound then map on_tokens (all_numbers (states lts)) else (if class.plain then map on_effect (used_labels lts) else [])) (if splits_start class problem then (on_start ∷ []) else []) (on_tokens q)
-    (if_true (is_some class.bound) (map on_tokens (all_numbers (states lts))) (if class.plain then map on_effect (used_labels lts) else []) (on_tokens q) bound (Contains-map on_tokens (all_numbers (states lts)) q (where_has (λ q. true) 0 (states lts) q refl (omega arith) (omega arith))))
+pub bounded_has : (lts : System) (class : Class) (problem : Problem) (q : ℕ) → is_some class.bound ≡ true → q < states lts → Contains (split_forms lts class problem) (split_form.Tokens q)
+bounded_has lts class problem q bound lt = Contains-append_left (if is_some class.bound then map split_form.Tokens (all_numbers (states lts)) else (if class.plain then map split_form.Effect (used_labels lts) else []))
+    (if splits_start class problem then (split_form.Start ∷ []) else []) (split_form.Tokens q)
+    (if_true (is_some class.bound) (map split_form.Tokens (all_numbers (states lts))) (if class.plain then map split_form.Effect (used_labels lts) else []) (split_form.Tokens q) bound
+    (Contains-map split_form.Tokens (all_numbers (states lts)) q (where_has (λ q. true) 0 (states lts) q refl (omega arith) (omega arith))))
 
-pub plain_has : (lts : System) (class : Class) (problem : Problem) (t : ℕ) → is_some class.bound ≡ false → class.plain ≡ true → t < labels lts → has_label t lts.arcs ≡ true → Contains (split_forms lts class problem) (on_effect t)
-plain_has lts class problem t bound plain lt used = Contains-append_left (if is_some class.bound then map on_tokens (all_numbers (states lts)) else (if class.plain then map on_effect (used_labels lts) else [])) (if splits_start class problem then (on_start ∷ []) else []) (on_effect t)
-    (if_false (is_some class.bound) (map on_tokens (all_numbers (states lts))) (if class.plain then map on_effect (used_labels lts) else []) (on_effect t) bound
-    (if_true class.plain (map on_effect (used_labels lts)) [] (on_effect t) plain
-    (Contains-map on_effect (used_labels lts) t (where_has (λ t. has_label t lts.arcs) 0 (labels lts) t used (omega arith) (omega arith)))))
+pub plain_has : (lts : System) (class : Class) (problem : Problem) (t : ℕ) → is_some class.bound ≡ false → class.plain ≡ true → t < labels lts → has_label t lts.arcs ≡ true → Contains (split_forms lts class problem) (split_form.Effect t)
+plain_has lts class problem t bound plain lt used = Contains-append_left (if is_some class.bound then map split_form.Tokens (all_numbers (states lts)) else (if class.plain then map split_form.Effect (used_labels lts) else []))
+    (if splits_start class problem then (split_form.Start ∷ []) else []) (split_form.Effect t)
+    (if_false (is_some class.bound) (map split_form.Tokens (all_numbers (states lts))) (if class.plain then map split_form.Effect (used_labels lts) else []) (split_form.Effect t) bound
+    (if_true class.plain (map split_form.Effect (used_labels lts)) [] (split_form.Effect t) plain
+    (Contains-map split_form.Effect (used_labels lts) t (where_has (λ t. has_label t lts.arcs) 0 (labels lts) t used (omega arith) (omega arith)))))
 
-pub start_has : (lts : System) (class : Class) (problem : Problem) → splits_start class problem ≡ true → Contains (split_forms lts class problem) on_start
-start_has lts class problem splits = Contains-append_right (if is_some class.bound then map on_tokens (all_numbers (states lts)) else (if class.plain then map on_effect (used_labels lts) else [])) (if splits_start class problem then (on_start ∷ []) else []) on_start
-    (if_true (splits_start class problem) (on_start ∷ []) [] on_start splits (first on_start []))
+pub start_has : (lts : System) (class : Class) (problem : Problem) → splits_start class problem ≡ true → Contains (split_forms lts class problem) split_form.Start
+start_has lts class problem splits = Contains-append_right (if is_some class.bound then map split_form.Tokens (all_numbers (states lts)) else (if class.plain then map split_form.Effect (used_labels lts) else [])) (if splits_start class problem then (split_form.Start ∷ []) else []) split_form.Start
+    (if_true (splits_start class problem) (split_form.Start ∷ []) [] split_form.Start splits (first split_form.Start []))
 
 -- what a split may be on, by kinds
 abbrev pub IsSplitOf : System → Class → Problem → SplitForm → Type 0
-IsSplitOf lts class problem (on_tokens q) = (is_some class.bound ≡ true) × (q < states lts)
-IsSplitOf lts class problem (on_effect t) = (is_some class.bound ≡ false) × (class.plain ≡ true) × (has_label t lts.arcs ≡ true) × (t < labels lts)
-IsSplitOf lts class problem on_start = splits_start class problem ≡ true
+IsSplitOf lts class problem (split_form.Tokens q) = (is_some class.bound ≡ true) × (q < states lts)
+IsSplitOf lts class problem (split_form.Effect t) = (is_some class.bound ≡ false) × (class.plain ≡ true) × (has_label t lts.arcs ≡ true) × (t < labels lts)
+IsSplitOf lts class problem split_form.Start = splits_start class problem ≡ true
 
 pub split_is : (lts : System) (class : Class) (problem : Problem) (split : SplitForm) → Contains (split_forms lts class problem) split → IsSplitOf lts class problem split
 split_is lts class problem split has = ⊎_elim
     (λ front. ⊎_elim
-    (λ (bound, tokens). (let (q, at, is) = Contains-of_map on_tokens (all_numbers (states lts)) split tokens in
+    (λ (bound, tokens). (let (q, at, is) = Contains-of_map split_form.Tokens (all_numbers (states lts)) split tokens in
     subst (IsSplitOf lts class problem) is (bound, (let w = (where_is (λ q. true) 0 (states lts) q at).2 in omega arith))))
-    (λ (bound, rest). (let (plain, effects) = of_optional class.plain (map on_effect (used_labels lts)) split rest in
-    let (t, at, is) = Contains-of_map on_effect (used_labels lts) split effects in
+    (λ (bound, rest). (let (plain, effects) = of_optional class.plain (map split_form.Effect (used_labels lts)) split rest in
+    let (t, at, is) = Contains-of_map split_form.Effect (used_labels lts) split effects in
     let (used, low, lt) = where_is (λ t. has_label t lts.arcs) 0 (labels lts) t at in
     subst (IsSplitOf lts class problem) is (bound, plain, used, omega arith)))
-    (of_if (is_some class.bound) (map on_tokens (all_numbers (states lts))) (if class.plain then map on_effect (used_labels lts) else []) split front))
-    (λ back. (let (splits, alone) = of_optional (splits_start class problem) (on_start ∷ []) split back in
-    ⊎_elim (λ is. subst (IsSplitOf lts class problem) is splits) (λ none. absurd (nothing split none)) (Contains-cons_cases on_start split [] alone)))
-    (Contains-append_cases (if is_some class.bound then map on_tokens (all_numbers (states lts)) else (if class.plain then map on_effect (used_labels lts) else [])) (if splits_start class problem then (on_start ∷ []) else []) split has)
+    (of_if (is_some class.bound) (map split_form.Tokens (all_numbers (states lts))) (if class.plain then map split_form.Effect (used_labels lts) else []) split front))
+    (λ back. (let (splits, alone) = of_optional (splits_start class problem) (split_form.Start ∷ []) split back in
+    ⊎_elim (λ is. subst (IsSplitOf lts class problem) is splits) (λ none. absurd (nothing split none)) (Contains-cons_cases split_form.Start split [] alone)))
+    (Contains-append_cases (if is_some class.bound then map split_form.Tokens (all_numbers (states lts)) else (if class.plain then map split_form.Effect (used_labels lts) else [])) (if splits_start class problem then (split_form.Start ∷ []) else []) split has)
 
 -- where the start is split on it has to be a multiple, and has a bound: that of the class, or that of an event in a plain one
 pub start_split : (class : Class) (problem : Problem) → splits_start class problem ≡ true → (is_some class.marking ≡ true) × ((is_some class.bound ≡ true) ⊎ ((class.plain ≡ true) × ((s : ℕ) × (t : ℕ) × (problem ≡ Event s t))))
@@ -214,33 +219,33 @@ start_split class (States s s') e = by (is_some class.marking) (is_some class.bo
 
 -- such a class has Start
 pub split_starts : (lts : System) (class : Class) (problem : Problem) (split : SplitForm) → IsSplitOf lts class problem split → has_start class ≡ true
-split_starts lts class problem (on_tokens q) (bound, lt) = start_of_bound class bound
-split_starts lts class problem (on_effect t) (bound, plain, used, lt) = start_of_plain class plain
-split_starts lts class problem on_start splits = ⊎_elim (start_of_bound class) (λ (plain, event). start_of_plain class plain) (start_split class problem splits).1
+split_starts lts class problem (split_form.Tokens q) (bound, lt) = start_of_bound class bound
+split_starts lts class problem (split_form.Effect t) (bound, plain, used, lt) = start_of_plain class plain
+split_starts lts class problem split_form.Start splits = ⊎_elim (start_of_bound class) (λ (plain, event). start_of_plain class plain) (start_split class problem splits).1
 
 -- the variable of a form names a label of the system
 pub form_names : (lts : System) (class : Class) (problem : Problem) (split : SplitForm) → Contains (split_forms lts class problem) split → NamesLabels (labels lts) (plus (form_variable lts.initial split) ∷ [])
 form_names lts class problem split has = by split (split_is lts class problem split has)
   where
     by : (split : SplitForm) → IsSplitOf lts class problem split → NamesLabels (labels lts) (plus (form_variable lts.initial split) ∷ [])
-    by (on_tokens q) h = tt
-    by (on_effect t) (bound, plain, used, lt) = (lt, tt)
-    by on_start h = tt
+    by (split_form.Tokens q) h = tt
+    by (split_form.Effect t) (bound, plain, used, lt) = (lt, tt)
+    by split_form.Start h = tt
 
 -- the variable that names form f
 pub form_named : (lts : System) (tree : List Arc) (basis : CycleBasis) (class : Class) (problem : Problem) (n : ℕ) (case : CaseSystem) (f : ℕ)
     → system_fold lts tree basis class problem n (Ok case) → f < length case.forms
-    → NamesLabels (labels lts) (plus (form_variable lts.initial (slice_index_or (split_forms lts class problem) f (on_tokens 0))) ∷ [])
-    × Contains (split_forms lts class problem) (slice_index_or (split_forms lts class problem) f (on_tokens 0))
-    × form_fold lts tree basis class (slice_index_or (split_forms lts class problem) f (on_tokens 0)) (Ok (form_at case.forms f))
+    → NamesLabels (labels lts) (plus (form_variable lts.initial (slice_index_or (split_forms lts class problem) f (split_form.Tokens 0))) ∷ [])
+    × Contains (split_forms lts class problem) (slice_index_or (split_forms lts class problem) f (split_form.Tokens 0))
+    × form_fold lts tree basis class (slice_index_or (split_forms lts class problem) f (split_form.Tokens 0)) (Ok (form_at case.forms f))
 form_named lts tree basis class problem n case f (all, made, (forms, forms_made, (columns, keeps, form_list))) lt =
     let within : f < length (split_forms lts class problem) = subst (λ k. f < k) (ap length form_list ∙ each_length (form_fold lts tree basis class) (split_forms lts class problem) forms forms_made) lt in
-    let split = slice_index_or (split_forms lts class problem) f (on_tokens 0) in
-    let has : Contains (split_forms lts class problem) split = (f, within, get_or_default (split_forms lts class problem) f split (on_tokens 0) within) in (
+    let split = slice_index_or (split_forms lts class problem) f (split_form.Tokens 0) in
+    let has : Contains (split_forms lts class problem) split = (f, within, get_or_default (split_forms lts class problem) f split (split_form.Tokens 0) within) in (
       form_names lts class problem split has,
       has,
       subst (λ (fs : List Form). form_fold lts tree basis class split (Ok (form_at fs f))) (sym form_list)
-          (each_at (form_fold lts tree basis class) (split_forms lts class problem) forms f (on_tokens 0)
+          (each_at (form_fold lts tree basis class) (split_forms lts class problem) forms f (split_form.Tokens 0)
           (record { scale = pos 1; coeffs = []; low = pos 0; high = pos 0 }) forms_made within),
     )
 
@@ -249,7 +254,7 @@ pub form_there : (lts : System) (tree : List Arc) (basis : CycleBasis) (class : 
     → system_fold lts tree basis class problem n (Ok case) → f < length case.forms → (split : SplitForm)
     × NamesLabels (labels lts) (plus (form_variable lts.initial split) ∷ []) × Contains (split_forms lts class problem) split
     × form_fold lts tree basis class split (Ok (form_at case.forms f))
-form_there lts tree basis class problem n case f made lt = let (names, has, fold) = form_named lts tree basis class problem n case f made lt in (slice_index_or (split_forms lts class problem) f (on_tokens 0), names, has, fold)
+form_there lts tree basis class problem n case f made lt = let (names, has, fold) = form_named lts tree basis class problem n case f made lt in (slice_index_or (split_forms lts class problem) f (split_form.Tokens 0), names, has, fold)
 
 -- as many forms as variables
 pub form_count : (lts : System) (tree : List Arc) (basis : CycleBasis) (class : Class) (problem : Problem) (n : ℕ) (case : CaseSystem) → system_fold lts tree basis class problem n (Ok case) → length case.forms ≡ length (split_forms lts class problem)

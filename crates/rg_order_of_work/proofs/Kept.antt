@@ -7,12 +7,12 @@ use Rattle.rg_theory.specs.declared.Arc.{Arc}
 use Rattle.rg_theory.specs.declared.Class.{Class}
 use Rattle.rg_theory.specs.declared.Problem.{Problem}
 use Rattle.rg_theory.specs.declared.Problem.TheVariants.{Event, States}
-use Rattle.rg_theory.specs.System.{System, IsInRange, states, HasArc}
+use Rattle.rg_theory.specs.System.{arc, System, IsInRange, states, HasArc}
 use Rattle.rg_theory.specs.Tree.{KeepsArcs}
 use Rattle.rg_theory.proofs.Arcs.{arc_in_range}
-use Rattle.rg_refuting.specs.Expression.{Variable, Variable.tokens_at, Variable.effect_of}
-use Rattle.rg_refuting.specs.Row.{RowName, RowName.arc_row, RowName.tokens_row, RowName.cap_row, RowName.up_row, RowName.down_row, RowName.makes_row, RowName.stop_row}
-use Rattle.rg_refuting.specs.Row.{RowName.block_row, RowName.empty_row, RowName.full_row, RowName.keep_row, RowName.apart_row, RowName.above_row, SharedStands, RowStands}
+use Rattle.rg_refuting.specs.declared.Variable.{Variable}
+use Rattle.rg_refuting.specs.declared.RowName.{RowName}
+use Rattle.rg_refuting.specs.Row.{SharedStands, RowStands}
 use Rattle.rg_refuting.specs.Row.{shared_expression, apart_expression, order_of, consumer_of, Says}
 use Rattle.rg_refuting.specs.Refutes.{IsSeparationProblem}
 use Rattle.rg_linear.specs.Cycle.{FollowsRelations, CycleBasis}
@@ -27,62 +27,64 @@ use Rattle.rg_order_of_work.proofs.Along.{number_past}
 use Rattle.rg_order_of_work.proofs.Given.{own_number, own_effects}
 use Rattle.rg_order_of_work.proofs.CaseRows.{tokens_row_holds}
 use Rattle.rg_order_of_work.proofs.CaseMeaning.{start_means, no_start_means}
+use Rattle.rg_refuting.specs.declared.RowName.TheVariants as row_name
+use Rattle.rg_refuting.specs.declared.Variable.TheVariants.{Tokens, Effect}
 
 -- the numbers keep every arc
-pub arc_value : (lts : System) (class : Class) (problem : Problem) (number : ℕ) (scale : ℤ) (x : Variable → ℤ) (q t q' : ℕ) → KeepsRowsOver lts class problem number scale x → HasArc lts q t q' → x (tokens_at q) +ℤ x (effect_of t) ≡ x (tokens_at q')
-arc_value lts class problem number scale x q t q' keeps has = close (x (tokens_at q)) (x (effect_of t)) (x (tokens_at q')) scale (by problem keeps)
+pub arc_value : (lts : System) (class : Class) (problem : Problem) (number : ℕ) (scale : ℤ) (x : Variable → ℤ) (q t q' : ℕ) → KeepsRowsOver lts class problem number scale x → HasArc lts q t q' → x (Tokens q) +ℤ x (Effect t) ≡ x (Tokens q')
+arc_value lts class problem number scale x q t q' keeps has = close (x (Tokens q)) (x (Effect t)) (x (Tokens q')) scale (by problem keeps)
   where
-    by : (p : Problem) → KeepsRowsOver lts class p number scale x → ((pos 1 *ℤ x (tokens_at q)) +ℤ ((pos 1 *ℤ x (effect_of t)) +ℤ ((negsuc 0 *ℤ x (tokens_at q')) +ℤ pos 0))) +ℤ (pos 0 *ℤ scale) ≡ pos 0
-    by (Event s u) keeps = keeps (arc_row q t q') has
-    by (States s s') keeps = keeps (arc_row q t q') has
+    by : (p : Problem) → KeepsRowsOver lts class p number scale x → ((pos 1 *ℤ x (Tokens q)) +ℤ ((pos 1 *ℤ x (Effect t)) +ℤ ((negsuc 0 *ℤ x (Tokens q')) +ℤ pos 0))) +ℤ (pos 0 *ℤ scale) ≡ pos 0
+    by (Event s u) keeps = keeps (row_name.Arc (arc q t q')) has
+    by (States s s') keeps = keeps (row_name.Arc (arc q t q')) has
 
     close : (a e b k : ℤ) → ((pos 1 *ℤ a) +ℤ ((pos 1 *ℤ e) +ℤ ((negsuc 0 *ℤ b) +ℤ pos 0))) +ℤ (pos 0 *ℤ k) ≡ pos 0 → a +ℤ e ≡ b
     close a e b k p = omega (arith, ints)
 
-keeps_arcs : (lts : System) (class : Class) (problem : Problem) (number : ℕ) (scale : ℤ) (x : Variable → ℤ) (effect : ℕ → ℤ) → KeepsRowsOver lts class problem number scale x → AgreeOnUsed lts x effect → KeepsArcs lts (λ q. x (tokens_at q)) effect
-keeps_arcs lts class problem number scale x effect keeps agree a has = ap (λ z. x (tokens_at a.from) +ℤ z) (agree a.label (finds_label a lts.arcs has)) ∙ arc_value lts class problem number scale x a.from a.label a.to keeps has
+keeps_arcs : (lts : System) (class : Class) (problem : Problem) (number : ℕ) (scale : ℤ) (x : Variable → ℤ) (effect : ℕ → ℤ) → KeepsRowsOver lts class problem number scale x → AgreeOnUsed lts x effect → KeepsArcs lts (λ q. x (Tokens q)) effect
+keeps_arcs lts class problem number scale x effect keeps agree a has = ap (λ z. x (Tokens a.from) +ℤ z) (agree a.label (finds_label a lts.arcs has)) ∙ arc_value lts class problem number scale x a.from a.label a.to keeps has
 
 pub follow_given : (lts : System) (tree : List Arc) (basis : CycleBasis) (class : Class) (problem : Problem) (number : ℕ) (case : CaseSystem) (x : Variable → ℤ)
     (effect : ℕ → ℤ) (scale : ℤ) → IsCaseOver lts tree basis class problem number case → KeepsRowsOver lts class problem number scale x → AgreeOnUsed lts x effect
     → FollowsRelations (chord_system lts tree basis.kept) basis.members effect
-follow_given lts tree basis class problem number case x effect scale c keeps agree = own_effects lts tree basis (λ q. x (tokens_at q)) effect c.in_range c.reachable c.is_tree c.is_basis (keeps_arcs lts class problem number scale x effect keeps agree)
+follow_given lts tree basis class problem number case x effect scale c keeps agree = own_effects lts tree basis (λ q. x (Tokens q)) effect c.in_range c.reachable c.is_tree c.is_basis (keeps_arcs lts class problem number scale x effect keeps agree)
 
 pub numbers_given : (lts : System) (tree : List Arc) (basis : CycleBasis) (class : Class) (problem : Problem) (number : ℕ) (case : CaseSystem) (x : Variable → ℤ)
     (effect : ℕ → ℤ) (scale : ℤ) (q : ℕ) → IsCaseOver lts tree basis class problem number case → KeepsRowsOver lts class problem number scale x
-    → AgreeOnUsed lts x effect → q < states lts → x (tokens_at q) ≡ potential lts tree (x (tokens_at lts.initial)) effect q
-numbers_given lts tree basis class problem number case x effect scale q c keeps agree lt = own_number lts tree (λ q. x (tokens_at q)) effect q c.in_range c.reachable c.is_tree (keeps_arcs lts class problem number scale x effect keeps agree) lt
+    → AgreeOnUsed lts x effect → q < states lts → x (Tokens q) ≡ potential lts tree (x (Tokens lts.initial)) effect q
+numbers_given lts tree basis class problem number case x effect scale q c keeps agree lt = own_number lts tree (λ q. x (Tokens q)) effect q c.in_range c.reachable c.is_tree (keeps_arcs lts class problem number scale x effect keeps agree) lt
 
 pub used_agrees : (lts : System) (x : Variable → ℤ) → AgreeOnUsed lts x (used_effect lts x)
-used_agrees lts x t e = ap (λ b. if b then x (effect_of t) else pos 0) e
+used_agrees lts x t e = ap (λ b. if b then x (Effect t) else pos 0) e
 
 pub effects_given : (lts : System) (tree : List Arc) (basis : CycleBasis) (class : Class) (problem : Problem) (number : ℕ) (case : CaseSystem) (x : Variable → ℤ)
     (scale : ℤ) → IsCaseOver lts tree basis class problem number case → KeepsRowsOver lts class problem number scale x → AreEffects lts tree basis (used_effect lts x)
 effects_given lts tree basis class problem number case x scale c keeps =
     record {
       follows = follow_given lts tree basis class problem number case x (used_effect lts x) scale c keeps (used_agrees lts x);
-      unused = λ t e. ap (λ b. if b then x (effect_of t) else pos 0) e;
+      unused = λ t e. ap (λ b. if b then x (Effect t) else pos 0) e;
     }
 
 -- ---- the rows
 
 -- the numbers are the same at states, and at effects of labels with an arc; the others are 0
 record SameUsed (lts : System) (x y : Variable → ℤ) : Type 0 where
-  tokens : (q : ℕ) → q < states lts → x (tokens_at q) ≡ y (tokens_at q)
-  past : (q : ℕ) → states lts ≤ q → y (tokens_at q) ≡ x (tokens_at lts.initial)
-  used : (t : ℕ) → has_label t lts.arcs ≡ true → x (effect_of t) ≡ y (effect_of t)
-  unused : (t : ℕ) → has_label t lts.arcs ≡ false → y (effect_of t) ≡ pos 0
+  tokens : (q : ℕ) → q < states lts → x (Tokens q) ≡ y (Tokens q)
+  past : (q : ℕ) → states lts ≤ q → y (Tokens q) ≡ x (Tokens lts.initial)
+  used : (t : ℕ) → has_label t lts.arcs ≡ true → x (Effect t) ≡ y (Effect t)
+  unused : (t : ℕ) → has_label t lts.arcs ≡ false → y (Effect t) ≡ pos 0
 
 -- the label of an event is used
 pub live_label : (lts : System) (t : ℕ) → ¬ ((s s' : ℕ) → ¬ HasArc lts s t s') → has_label t lts.arcs ≡ true
 live_label lts t live = ⊎_elim (λ e. e) (λ e. absurd (live (λ s s' has. true≢false (sym (finds_label (record { from = s; label = t; to = s' }) lts.arcs has) ∙ e)))) (cases_Bool (has_label t lts.arcs))
 
-tokens_stay : (lts : System) (class : Class) (problem : Problem) (number : ℕ) (scale : ℤ) (x y : Variable → ℤ) (q : ℕ) → lts.initial < states lts → SameUsed lts x y → KeepsRowsOver lts class problem number scale x → pos 0 ≤ℤ y (tokens_at q)
+tokens_stay : (lts : System) (class : Class) (problem : Problem) (number : ℕ) (scale : ℤ) (x y : Variable → ℤ) (q : ℕ) → lts.initial < states lts → SameUsed lts x y → KeepsRowsOver lts class problem number scale x → pos 0 ≤ℤ y (Tokens q)
 tokens_stay lts class problem number scale x y q initial same keeps = ⊎_elim (λ lt. subst (λ z. pos 0 ≤ℤ z) (same.tokens q lt) (at q)) (λ le. subst (λ z. pos 0 ≤ℤ z) (sym (same.past q le)) (at lts.initial)) (cases_lt q (states lts))
   where
-    at : (r : ℕ) → pos 0 ≤ℤ x (tokens_at r)
-    at r = (tokens_row_holds lts class problem number scale x r).1 (keeps (tokens_row r) (stand problem))
+    at : (r : ℕ) → pos 0 ≤ℤ x (Tokens r)
+    at r = (tokens_row_holds lts class problem number scale x r).1 (keeps (row_name.Tokens r) (stand problem))
       where
-        stand : (p : Problem) → RowStands lts class p number [] (tokens_row r)
+        stand : (p : Problem) → RowStands lts class p number [] (row_name.Tokens r)
         stand (Event s t) = tt
         stand (States s s') = tt
 
@@ -99,50 +101,50 @@ arc_terms k a b e f m n p q r h = omega (arith, ints)
 
 -- ---- each row
 
-effect_stays : (lts : System) (c k : ℤ) (x y : Variable → ℤ) (t : ℕ) → SameUsed lts x y → pos 0 ≤ℤ k → pos 0 ≤ℤ (((c *ℤ x (effect_of t)) +ℤ pos 0) +ℤ k) → pos 0 ≤ℤ (((c *ℤ y (effect_of t)) +ℤ pos 0) +ℤ k)
-effect_stays lts c k x y t same weak h = ⊎_elim (λ e. one_term c k (x (effect_of t)) (y (effect_of t)) (same.used t e) h) (λ e. subst (λ z. pos 0 ≤ℤ (((c *ℤ z) +ℤ pos 0) +ℤ k)) (sym (same.unused t e)) (none c k weak)) (cases_Bool (has_label t lts.arcs))
+effect_stays : (lts : System) (c k : ℤ) (x y : Variable → ℤ) (t : ℕ) → SameUsed lts x y → pos 0 ≤ℤ k → pos 0 ≤ℤ (((c *ℤ x (Effect t)) +ℤ pos 0) +ℤ k) → pos 0 ≤ℤ (((c *ℤ y (Effect t)) +ℤ pos 0) +ℤ k)
+effect_stays lts c k x y t same weak h = ⊎_elim (λ e. one_term c k (x (Effect t)) (y (Effect t)) (same.used t e) h) (λ e. subst (λ z. pos 0 ≤ℤ (((c *ℤ z) +ℤ pos 0) +ℤ k)) (sym (same.unused t e)) (none c k weak)) (cases_Bool (has_label t lts.arcs))
   where
     none : (c k : ℤ) → pos 0 ≤ℤ k → pos 0 ≤ℤ (((c *ℤ pos 0) +ℤ pos 0) +ℤ k)
     none c k h = omega (arith, ints)
 
 shared_stays : (lts : System) (class : Class) (consumer : ℕ) (scale : ℤ) (x y : Variable → ℤ) (name : RowName) → IsInRange lts → SameUsed lts x y → pos 0 <ℤ scale
-    → ((q : ℕ) → pos 0 ≤ℤ y (tokens_at q)) → SharedStands lts class consumer [] name → Says name (value_over scale x (shared_expression lts class [] name))
+    → ((q : ℕ) → pos 0 ≤ℤ y (Tokens q)) → SharedStands lts class consumer [] name → Says name (value_over scale x (shared_expression lts class [] name))
     → Says name (value_over scale y (shared_expression lts class [] name))
-shared_stays lts class consumer scale x y (arc_row q t q') fine same positive tokens has h =
-    let ranges = arc_in_range lts fine q t q' has in
-    arc_terms (pos 0 *ℤ scale) (x (tokens_at q)) (y (tokens_at q)) (x (effect_of t)) (y (effect_of t)) (x (tokens_at q')) (y (tokens_at q')) (same.tokens q ranges.0) (same.used t (finds_label (record { from = q; label = t; to = q' }) lts.arcs has)) (same.tokens q' ranges.2) h
-shared_stays lts class consumer scale x y (tokens_row q) fine same positive tokens stands h = let above = tokens q in omega (arith, ints)
-shared_stays lts class consumer scale x y (cap_row q) fine same positive tokens (lt, some) h = one_term (negsuc 0) (pos (unwrap_or class.bound 0) *ℤ scale) (x (tokens_at q)) (y (tokens_at q)) (same.tokens q lt) h
-shared_stays lts class consumer scale x y (up_row t) fine same positive tokens stands h = effect_stays lts (negsuc 0) (pos 1 *ℤ scale) x y t same (omega (arith, ints)) h
-shared_stays lts class consumer scale x y (down_row t) fine same positive tokens stands h = effect_stays lts (pos 1) (pos 1 *ℤ scale) x y t same (omega (arith, ints)) h
-shared_stays lts class consumer scale x y (makes_row t) fine same positive tokens stands h = effect_stays lts (pos 1) (pos 0 *ℤ scale) x y t same (omega (arith, ints)) h
-shared_stays lts class consumer scale x y (above_row d) fine same positive tokens stands h = absurd stands
-shared_stays lts class consumer scale x y (stop_row q) fine same positive tokens stands h = absurd stands
-shared_stays lts class consumer scale x y block_row fine same positive tokens stands h = absurd stands
-shared_stays lts class consumer scale x y empty_row fine same positive tokens stands h = absurd stands
-shared_stays lts class consumer scale x y (full_row q) fine same positive tokens stands h = absurd stands
-shared_stays lts class consumer scale x y keep_row fine same positive tokens stands h = absurd stands
-shared_stays lts class consumer scale x y apart_row fine same positive tokens stands h = absurd stands
+shared_stays lts class consumer scale x y (row_name.Arc a) fine same positive tokens has h =
+    let ranges = arc_in_range lts fine a.from a.label a.to has in
+    arc_terms (pos 0 *ℤ scale) (x (Tokens a.from)) (y (Tokens a.from)) (x (Effect a.label)) (y (Effect a.label)) (x (Tokens a.to)) (y (Tokens a.to)) (same.tokens a.from ranges.0) (same.used a.label (finds_label a lts.arcs has)) (same.tokens a.to ranges.2) h
+shared_stays lts class consumer scale x y (row_name.Tokens q) fine same positive tokens stands h = let above = tokens q in omega (arith, ints)
+shared_stays lts class consumer scale x y (row_name.Cap q) fine same positive tokens (lt, some) h = one_term (negsuc 0) (pos (unwrap_or class.bound 0) *ℤ scale) (x (Tokens q)) (y (Tokens q)) (same.tokens q lt) h
+shared_stays lts class consumer scale x y (row_name.Up t) fine same positive tokens stands h = effect_stays lts (negsuc 0) (pos 1 *ℤ scale) x y t same (omega (arith, ints)) h
+shared_stays lts class consumer scale x y (row_name.Down t) fine same positive tokens stands h = effect_stays lts (pos 1) (pos 1 *ℤ scale) x y t same (omega (arith, ints)) h
+shared_stays lts class consumer scale x y (row_name.Makes t) fine same positive tokens stands h = effect_stays lts (pos 1) (pos 0 *ℤ scale) x y t same (omega (arith, ints)) h
+shared_stays lts class consumer scale x y (row_name.Above d) fine same positive tokens stands h = absurd stands
+shared_stays lts class consumer scale x y (row_name.Stop q) fine same positive tokens stands h = absurd stands
+shared_stays lts class consumer scale x y row_name.Block fine same positive tokens stands h = absurd stands
+shared_stays lts class consumer scale x y row_name.Empty fine same positive tokens stands h = absurd stands
+shared_stays lts class consumer scale x y (row_name.Full q) fine same positive tokens stands h = absurd stands
+shared_stays lts class consumer scale x y row_name.Keep fine same positive tokens stands h = absurd stands
+shared_stays lts class consumer scale x y row_name.Apart fine same positive tokens stands h = absurd stands
 
 event_stays : (lts : System) (class : Class) (s t number : ℕ) (scale : ℤ) (x y : Variable → ℤ) (name : RowName) → IsInRange lts → s < states lts
-    → has_label t lts.arcs ≡ true → SameUsed lts x y → pos 0 <ℤ scale → ((q : ℕ) → pos 0 ≤ℤ y (tokens_at q)) → RowStands lts class (Event s t) number [] name
+    → has_label t lts.arcs ≡ true → SameUsed lts x y → pos 0 <ℤ scale → ((q : ℕ) → pos 0 ≤ℤ y (Tokens q)) → RowStands lts class (Event s t) number [] name
     → RowHolds lts class (Event s t) number scale x name → RowHolds lts class (Event s t) number scale y name
-event_stays lts class s t number scale x y (stop_row q) fine lt live same positive tokens (pure, plain, (q', has)) h = two_terms (pos 1) (negsuc 0) (negsuc 0 *ℤ scale)
-    (x (tokens_at q)) (y (tokens_at q)) (x (tokens_at s)) (y (tokens_at s)) (same.tokens q (arc_in_range lts fine q t q' has).0) (same.tokens s lt) h
-event_stays lts class s t number scale x y block_row fine lt live same positive tokens stands h = two_terms (negsuc 0) (negsuc 0) (negsuc 0 *ℤ scale) (x (tokens_at s)) (y (tokens_at s)) (x (effect_of t)) (y (effect_of t)) (same.tokens s lt) (same.used t live) h
-event_stays lts class s t number scale x y empty_row fine lt live same positive tokens stands h = one_term (negsuc 0) (pos 0 *ℤ scale) (x (tokens_at s)) (y (tokens_at s)) (same.tokens s lt) h
-event_stays lts class s t number scale x y (full_row q) fine lt live same positive tokens (plain, pure, (q', has)) h = one_term (pos 1) (negsuc 0 *ℤ scale) (x (tokens_at q)) (y (tokens_at q)) (same.tokens q (arc_in_range lts fine q t q' has).0) h
-event_stays lts class s t number scale x y keep_row fine lt live same positive tokens stands h = one_term (negsuc 0) (pos 0 *ℤ scale) (x (effect_of t)) (y (effect_of t)) (same.used t live) h
+event_stays lts class s t number scale x y (row_name.Stop q) fine lt live same positive tokens (pure, plain, (q', has)) h = two_terms (pos 1) (negsuc 0) (negsuc 0 *ℤ scale)
+    (x (Tokens q)) (y (Tokens q)) (x (Tokens s)) (y (Tokens s)) (same.tokens q (arc_in_range lts fine q t q' has).0) (same.tokens s lt) h
+event_stays lts class s t number scale x y row_name.Block fine lt live same positive tokens stands h = two_terms (negsuc 0) (negsuc 0) (negsuc 0 *ℤ scale) (x (Tokens s)) (y (Tokens s)) (x (Effect t)) (y (Effect t)) (same.tokens s lt) (same.used t live) h
+event_stays lts class s t number scale x y row_name.Empty fine lt live same positive tokens stands h = one_term (negsuc 0) (pos 0 *ℤ scale) (x (Tokens s)) (y (Tokens s)) (same.tokens s lt) h
+event_stays lts class s t number scale x y (row_name.Full q) fine lt live same positive tokens (plain, pure, (q', has)) h = one_term (pos 1) (negsuc 0 *ℤ scale) (x (Tokens q)) (y (Tokens q)) (same.tokens q (arc_in_range lts fine q t q' has).0) h
+event_stays lts class s t number scale x y row_name.Keep fine lt live same positive tokens stands h = one_term (negsuc 0) (pos 0 *ℤ scale) (x (Effect t)) (y (Effect t)) (same.used t live) h
 event_stays lts class s t number scale x y name fine lt live same positive tokens stands h = shared_stays lts class t scale x y name fine same positive tokens stands h
 
 apart_stays : (lts : System) (s s' order : ℕ) (scale : ℤ) (x y : Variable → ℤ) → s < states lts → s' < states lts → SameUsed lts x y → pos 0 ≤ℤ value_over scale x (apart_expression s s' order) → pos 0 ≤ℤ value_over scale y (apart_expression s s' order)
-apart_stays lts s s' zero scale x y lt lt' same h = two_terms (pos 1) (negsuc 0) (negsuc 0 *ℤ scale) (x (tokens_at s')) (y (tokens_at s')) (x (tokens_at s)) (y (tokens_at s)) (same.tokens s' lt') (same.tokens s lt) h
-apart_stays lts s s' (suc order) scale x y lt lt' same h = two_terms (pos 1) (negsuc 0) (negsuc 0 *ℤ scale) (x (tokens_at s)) (y (tokens_at s)) (x (tokens_at s')) (y (tokens_at s')) (same.tokens s lt) (same.tokens s' lt') h
+apart_stays lts s s' zero scale x y lt lt' same h = two_terms (pos 1) (negsuc 0) (negsuc 0 *ℤ scale) (x (Tokens s')) (y (Tokens s')) (x (Tokens s)) (y (Tokens s)) (same.tokens s' lt') (same.tokens s lt) h
+apart_stays lts s s' (suc order) scale x y lt lt' same h = two_terms (pos 1) (negsuc 0) (negsuc 0 *ℤ scale) (x (Tokens s)) (y (Tokens s)) (x (Tokens s')) (y (Tokens s')) (same.tokens s lt) (same.tokens s' lt') h
 
 state_stays : (lts : System) (class : Class) (s s' number : ℕ) (scale : ℤ) (x y : Variable → ℤ) (name : RowName) → IsInRange lts → s < states lts → s' < states lts
-    → SameUsed lts x y → pos 0 <ℤ scale → ((q : ℕ) → pos 0 ≤ℤ y (tokens_at q)) → RowStands lts class (States s s') number [] name
+    → SameUsed lts x y → pos 0 <ℤ scale → ((q : ℕ) → pos 0 ≤ℤ y (Tokens q)) → RowStands lts class (States s s') number [] name
     → RowHolds lts class (States s s') number scale x name → RowHolds lts class (States s s') number scale y name
-state_stays lts class s s' number scale x y apart_row fine lt lt' same positive tokens stands h = apart_stays lts s s' (order_of lts class number) scale x y lt lt' same h
+state_stays lts class s s' number scale x y row_name.Apart fine lt lt' same positive tokens stands h = apart_stays lts s s' (order_of lts class number) scale x y lt lt' same h
 state_stays lts class s s' number scale x y name fine lt lt' same positive tokens stands h = shared_stays lts class (consumer_of lts number) scale x y name fine same positive tokens stands h
 
 rows_stay : (lts : System) (class : Class) (problem : Problem) (number : ℕ) (scale : ℤ) (x y : Variable → ℤ) → IsInRange lts → IsSeparationProblem lts problem
@@ -153,24 +155,24 @@ rows_stay lts class (States s s') number scale x y fine (lt, lt', _) live same p
 
 pub rows_given : (lts : System) (tree : List Arc) (basis : CycleBasis) (class : Class) (problem : Problem) (number : ℕ) (case : CaseSystem) (x : Variable → ℤ)
     (scale : ℤ) → IsCaseOver lts tree basis class problem number case → IsLive lts problem → pos 0 <ℤ scale → KeepsRowsOver lts class problem number scale x
-    → KeepsRowsOver lts class problem number scale (numbers_along lts tree (x (tokens_at lts.initial)) (used_effect lts x))
+    → KeepsRowsOver lts class problem number scale (numbers_along lts tree (x (Tokens lts.initial)) (used_effect lts x))
 rows_given lts tree basis class problem number case x scale c live positive keeps =
-    rows_stay lts class problem number scale x (numbers_along lts tree (x (tokens_at lts.initial)) (used_effect lts x)) c.in_range c.asked live
+    rows_stay lts class problem number scale x (numbers_along lts tree (x (Tokens lts.initial)) (used_effect lts x)) c.in_range c.asked live
     (record {
       tokens = λ q lt. numbers_given lts tree basis class problem number case x (used_effect lts x) scale q c keeps (used_agrees lts x) lt;
-      past = λ q le. number_past lts tree (x (tokens_at lts.initial)) (used_effect lts x) q c.in_range c.is_tree le;
+      past = λ q le. number_past lts tree (x (Tokens lts.initial)) (used_effect lts x) q c.in_range c.is_tree le;
       used = λ t e. sym (used_agrees lts x t e);
-      unused = λ t e. ap (λ b. if b then x (effect_of t) else pos 0) e;
+      unused = λ t e. ap (λ b. if b then x (Effect t) else pos 0) e;
     })
     positive keeps
 
 pub meets_given : (lts : System) (tree : List Arc) (basis : CycleBasis) (class : Class) (problem : Problem) (number : ℕ) (case : CaseSystem) (x : Variable → ℤ)
     (scale : ℤ) → IsCaseOver lts tree basis class problem number case → IsLive lts problem → pos 0 <ℤ scale → KeepsRowsOver lts class problem number scale x
-    → MeetsCase lts basis class case (x (tokens_at lts.initial)) (used_effect lts x) scale
+    → MeetsCase lts basis class case (x (Tokens lts.initial)) (used_effect lts x) scale
 meets_given lts tree basis class problem number case x scale c live positive keeps =
     let e = effects_given lts tree basis class problem number case x scale c keeps in
     let rows = rows_given lts tree basis class problem number case x scale c live positive keeps in
     ⊎_elim
-    (λ starts. (start_means lts tree basis class problem number case (x (tokens_at lts.initial)) (used_effect lts x) scale c e positive starts).1 rows)
-    (λ none. (no_start_means lts tree basis class problem number case (x (tokens_at lts.initial)) (used_effect lts x) scale c e positive none).1 (λ name stands other. rows name stands))
+    (λ starts. (start_means lts tree basis class problem number case (x (Tokens lts.initial)) (used_effect lts x) scale c e positive starts).1 rows)
+    (λ none. (no_start_means lts tree basis class problem number case (x (Tokens lts.initial)) (used_effect lts x) scale c e positive none).1 (λ name stands other. rows name stands))
     (cases_Bool (has_start class))

@@ -14,8 +14,9 @@ use Rattle.rg_theory.specs.Net.{Place}
 use Rattle.rg_theory.specs.Region.{RegionIn}
 use Rattle.rg_theory.specs.Problem.{Separates}
 use Rattle.rg_theory.proofs.Arcs.{arc_in_range}
-use Rattle.rg_refuting.specs.Expression.{Variable, Variable.tokens_at, Variable.effect_of, numbers_by}
-use Rattle.rg_refuting.specs.Row.{RowName.tokens_row, RowName.stop_row, RowName.block_row, RowName.empty_row, RowName.full_row, RowName.keep_row, RowStands, KeepsRows, consumer_of}
+use Rattle.rg_refuting.specs.Expression.{numbers_by}
+use Rattle.rg_refuting.specs.declared.Variable.{Variable}
+use Rattle.rg_refuting.specs.Row.{RowStands, KeepsRows, consumer_of}
 use Rattle.rg_refuting.specs.Refutes.{IsSeparationProblem}
 use Rattle.rg_refuting.proofs.Making.{place_by, weight_by, Suits, suited_region, Facts, below, event_facts, state_facts, effect_suits, at_label, at_label_other, stopping_suits, state_place}
 use Rattle.rg_integers.specs.Range.{InRange}
@@ -38,20 +39,22 @@ use Rattle.rg_order_of_work.proofs.Moved.{AllWhole, least_is}
 use Rattle.rg_order_of_work.proofs.PlaceKept.{AreKept, lift_kept, kept_is}
 use Rattle.rg_order_of_work.proofs.WholeKept.{whole_kept}
 use Rattle.rg_order_of_work.proofs.PlaceWeights.{taken_down, given_up, opposite_down, opposite_up, more_up, taken_in_range, fits_most, all_most, taken_at, taken_length, given_at, given_length, place_is, region_same}
+use Rattle.rg_refuting.specs.declared.RowName.TheVariants as row_name
+use Rattle.rg_refuting.specs.declared.Variable.TheVariants.{Tokens, Effect}
 
 -- ---- the tokens
 
 -- the tokens and effects of the numbers
 abbrev pub tokens_in : (Variable → ℤ) → ℕ → ℕ
-tokens_in x q = unsigned_abs (x (tokens_at q))
+tokens_in x q = unsigned_abs (x (Tokens q))
 
 abbrev pub effects_in : (Variable → ℤ) → ℕ → ℤ
-effects_in x t = x (effect_of t)
+effects_in x t = x (Effect t)
 
-tokens_are : (lts : System) (class : Class) (problem : Problem) (number : ℕ) (found numbers : List Ratio) (x : Variable → ℤ) (q : ℕ) → AreKept lts class problem number found numbers x → x (tokens_at q) ≡ pos (tokens_in x q)
-tokens_are lts class problem number found numbers x q k = absolute (x (tokens_at q)) ((tokens_row_holds lts class problem number (pos 1) x q).1 (k.keeps (tokens_row q) (stand problem)))
+tokens_are : (lts : System) (class : Class) (problem : Problem) (number : ℕ) (found numbers : List Ratio) (x : Variable → ℤ) (q : ℕ) → AreKept lts class problem number found numbers x → x (Tokens q) ≡ pos (tokens_in x q)
+tokens_are lts class problem number found numbers x q k = absolute (x (Tokens q)) ((tokens_row_holds lts class problem number (pos 1) x q).1 (k.keeps (row_name.Tokens q) (stand problem)))
   where
-    stand : (p : Problem) → RowStands lts class p number [] (tokens_row q)
+    stand : (p : Problem) → RowStands lts class p number [] (row_name.Tokens q)
     stand (Event s t) = tt
     stand (States s s') = tt
 
@@ -59,8 +62,8 @@ rows_kept : (lts : System) (class : Class) (problem : Problem) (number : ℕ) (f
 rows_kept lts class problem number found numbers x k = (whole_means lts class problem number (numbers_by (tokens_in x) (effects_in x))).0 (same_numbers lts class problem number x (numbers_by (tokens_in x) (effects_in x)) same k.keeps)
   where
     same : (v : Variable) → x v ≡ numbers_by (tokens_in x) (effects_in x) v
-    same (tokens_at q) = tokens_are lts class problem number found numbers x q k
-    same (effect_of t) = refl
+    same (Tokens q) = tokens_are lts class problem number found numbers x q k
+    same (Effect t) = refl
 
 same_tokens : (lts : System) (class : Class) (problem : Problem) (number : ℕ) (found numbers : List Ratio) (x : Variable → ℤ) → AreKept lts class problem number found numbers x → (s : ℕ) → s < states lts → tokens_in x s ≡ tokens_of numbers s
 same_tokens lts class problem number found numbers x k s lt = sym (ap (λ (r : Ratio). unsigned_abs r.top) (k.at.1 s lt).0)
@@ -166,7 +169,7 @@ pure_made lts class s t number found numbers x given pure fine asked k made =
     blocked (negsuc n) a h = omega (arith, ints)
 
     blocks : tokens_in x s < down (effects_in x t)
-    blocks = blocked (effects_in x t) (tokens_in x s) (keeps block_row pure)
+    blocks = blocked (effects_in x t) (tokens_in x s) (keeps row_name.Block pure)
 
     some : (a n : ℕ) → a < n → 0 < n
     some a n h = omega arith
@@ -180,8 +183,8 @@ pub record StopsAt (lts : System) (t : ℕ) (numbers : List Ratio) (x : Variable
   pub target : ℕ
   pub has : HasArc lts state t target
   pub below_states : state < states lts
-  pub is : (least_at lts numbers t).top ≡ x (tokens_at state)
-  pub low : (q q' : ℕ) → HasArc lts q t q' → (least_at lts numbers t).top ≤ℤ x (tokens_at q)
+  pub is : (least_at lts numbers t).top ≡ x (Tokens state)
+  pub low : (q q' : ℕ) → HasArc lts q t q' → (least_at lts numbers t).top ≤ℤ x (Tokens q)
 
 stops_at : (lts : System) (class : Class) (problem : Problem) (t number : ℕ) (found numbers : List Ratio) (x : Variable → ℤ) → IsInRange lts → ¬ IsDead lts t → AreKept lts class problem number found numbers x → StopsAt lts t numbers x
 stops_at lts class problem t number found numbers x fine live k =
@@ -250,7 +253,7 @@ stopped_made lts class s t number found numbers x given plain impure fine asked 
     facts : Facts lts class (tokens_in x) (effects_in x) t
     facts = event_facts lts class s t number (tokens_in x) (effects_in x) keeps
 
-    tokens : (q : ℕ) → x (tokens_at q) ≡ pos (tokens_in x q)
+    tokens : (q : ℕ) → x (Tokens q) ≡ pos (tokens_in x q)
     tokens q = tokens_are lts class (Event s t) number found numbers x q k
 
     n_is : n ≡ tokens_in x at.state
@@ -272,7 +275,7 @@ stopped_made lts class s t number found numbers x given plain impure fine asked 
         order a b h = omega (arith, ints)
 
     stops : tokens_in x s < n
-    stops = subst (λ m. tokens_in x s < m) (sym n_is) (less (tokens_in x at.state) (tokens_in x s) (keeps (stop_row at.state) (impure, plain, (at.target, at.has))))
+    stops = subst (λ m. tokens_in x s < m) (sym n_is) (less (tokens_in x at.state) (tokens_in x s) (keeps (row_name.Stop at.state) (impure, plain, (at.target, at.has))))
       where
         less : (a b : ℕ) → pos 0 ≤ℤ (((pos 1 *ℤ pos a) +ℤ ((negsuc 0 *ℤ pos b) +ℤ pos 0)) +ℤ negsuc 0) → b < a
         less a b h = omega (arith, ints)
@@ -297,7 +300,7 @@ plain_made lts class s t number found numbers x given plain impure fine asked k 
     ∙ sym (ap (λ b. if b then (1 + up (effects_in x t) - down (effects_in x t)) else up (effects_in x i)) (eq-eqb i t is)))
     (λ differ. ap (λ z. unsigned_abs (z +ℤ top_at found i)) (other_label lts class s t i found numbers differ) ∙ given_up (top_at found i) ∙ ap up (k.effects i lt) ∙ sym (at_label_other t (1 + up (effects_in x t) - down (effects_in x t)) (λ u. up (effects_in x u)) i differ))
     (cases_eq i t))
-    (stopping_suits lts class (tokens_in x) (effects_in x) t 1 facts k.start impure more enough (λ c. (omega arith, kept_low (effects_in x t) (keeps keep_row (plain, impure)))))
+    (stopping_suits lts class (tokens_in x) (effects_in x) t 1 facts k.start impure more enough (λ c. (omega arith, kept_low (effects_in x t) (keeps row_name.Keep (plain, impure)))))
     (subst (λ m. tokens_in x s < m) (sym (weight_by pre (labels lts) t asked.1 ∙ ap (λ b. if b then 1 else down (effects_in x t)) (eq-eqb t t refl))) stops)
   where
     pre : ℕ → ℕ
@@ -316,13 +319,13 @@ plain_made lts class s t number found numbers x given plain impure fine asked k 
     more = facts.down_small plain t asked.1
 
     enough : (q q' : ℕ) → HasArc lts q t q' → 1 ≤ tokens_in x q
-    enough q q' has = some (tokens_in x q) (keeps (full_row q) (plain, impure, (q', has)))
+    enough q q' has = some (tokens_in x q) (keeps (row_name.Full q) (plain, impure, (q', has)))
       where
         some : (a : ℕ) → pos 0 ≤ℤ (((pos 1 *ℤ pos a) +ℤ pos 0) +ℤ negsuc 0) → 1 ≤ a
         some a h = omega (arith, ints)
 
     stops : tokens_in x s < 1
-    stops = none (tokens_in x s) (keeps empty_row (plain, impure))
+    stops = none (tokens_in x s) (keeps row_name.Empty (plain, impure))
       where
         none : (a : ℕ) → pos 0 ≤ℤ (((negsuc 0 *ℤ pos a) +ℤ pos 0) +ℤ pos 0) → a < 1
         none a h = omega (arith, ints)

@@ -7,14 +7,15 @@ use Rattle.rg_theory.specs.declared.Problem.{Problem}
 use Rattle.rg_theory.specs.declared.Problem.TheVariants.{Event, States}
 use Rattle.rg_theory.specs.System.{System, states, labels}
 use Rattle.rg_theory.proofs.Lists.{Contains-cons_cases}
-use Rattle.rg_refuting.specs.Row.{RowName, RowName.tokens_row, RowName.cap_row, RowName.up_row, RowName.down_row, RowName.makes_row, RowName.stop_row, RowName.block_row}
-use Rattle.rg_refuting.specs.Row.{RowName.empty_row, RowName.full_row, RowName.keep_row, RowName.apart_row, HasArcAt, RowStands, row_expression, apart_expression}
+use Rattle.rg_refuting.specs.declared.RowName.{RowName}
+use Rattle.rg_refuting.specs.Row.{HasArcAt, RowStands, row_expression, apart_expression}
 use Rattle.rg_refuting.specs.Row.{order_of, case_consumer}
 use Rattle.rg_refuting.specs.Refutes.{IsSeparationProblem}
 use Rattle.rg_order_of_work.specs.Rewriting.{numbers_where, has_label, has_label_at, used_labels, has_start, all_numbers, states_with, problem_rows, names_of}
 use Rattle.rg_order_of_work.specs.Values.{NamesLabels}
 use Rattle.std.proofs.lemmas.List.Elements.{Contains-append_cases}
 use Rattle.rg_order_of_work.proofs.Lists.{nothing, first, behind, Contains-of_map, where_is, of_if, of_optional, in_one_of}
+use Rattle.rg_refuting.specs.declared.RowName.TheVariants as row_name
 
 -- a state with an arc of the label
 pub found_at : (q t : ℕ) (arcs : List Arc) → has_label_at q t arcs ≡ true → (q' : ℕ) × Contains arcs (record { from = q; label = t; to = q' })
@@ -32,52 +33,52 @@ found_at q t (a ∷ arcs) e = go ((a.from == q) && (a.label == t)) refl e (λ h.
 
 -- what holds of the rows of the problem holds of each of its names
 pub each_problem_name : (lts : System) (class : Class) (s t : ℕ) (P : RowName → Type 0)
-    → (class.pure ≡ true → P block_row)
-    → (class.pure ≡ false → class.plain ≡ true → P empty_row)
-    → (class.pure ≡ false → class.plain ≡ true → (q : ℕ) → Contains (states_with lts t) q → P (full_row q))
-    → (class.pure ≡ false → class.plain ≡ true → P keep_row)
-    → (class.pure ≡ false → class.plain ≡ false → (q : ℕ) → Contains (states_with lts t) q → P (stop_row q))
+    → (class.pure ≡ true → P row_name.Block)
+    → (class.pure ≡ false → class.plain ≡ true → P row_name.Empty)
+    → (class.pure ≡ false → class.plain ≡ true → (q : ℕ) → Contains (states_with lts t) q → P (row_name.Full q))
+    → (class.pure ≡ false → class.plain ≡ true → P row_name.Keep)
+    → (class.pure ≡ false → class.plain ≡ false → (q : ℕ) → Contains (states_with lts t) q → P (row_name.Stop q))
     → (name : RowName) → Contains (problem_rows lts class (Event s t)) name → P name
 each_problem_name lts class s t P block empty full keep stop name has =
     ⊎_elim
-    (λ (pure, h). subst P (only block_row h) (block pure))
+    (λ (pure, h). subst P (only row_name.Block h) (block pure))
     (λ (pure, h).
     ⊎_elim
     (λ (plain, h'). plain_name pure plain h')
-    (λ (plain, h'). (let (q, has', is) = Contains-of_map stop_row (states_with lts t) name h' in subst P is (stop pure plain q has')))
-    (of_if class.plain (empty_row ∷ map full_row (states_with lts t) ++ keep_row ∷ []) (map stop_row (states_with lts t)) name h))
-    (of_if class.pure (block_row ∷ []) (if class.plain then (empty_row ∷ map full_row (states_with lts t) ++ keep_row ∷ []) else map stop_row (states_with lts t)) name has)
+    (λ (plain, h'). (let (q, has', is) = Contains-of_map row_name.Stop (states_with lts t) name h' in subst P is (stop pure plain q has')))
+    (of_if class.plain (row_name.Empty ∷ map row_name.Full (states_with lts t) ++ row_name.Keep ∷ []) (map row_name.Stop (states_with lts t)) name h))
+    (of_if class.pure (row_name.Block ∷ []) (if class.plain then (row_name.Empty ∷ map row_name.Full (states_with lts t) ++ row_name.Keep ∷ []) else map row_name.Stop (states_with lts t)) name has)
   where
     only : (x : RowName) → Contains (x ∷ []) name → x ≡ name
     only x h = ⊎_elim (λ is. is) (λ there. absurd (nothing name there)) (Contains-cons_cases x name [] h)
 
-    plain_name : class.pure ≡ false → class.plain ≡ true → Contains (empty_row ∷ map full_row (states_with lts t) ++ keep_row ∷ []) name → P name
+    plain_name : class.pure ≡ false → class.plain ≡ true → Contains (row_name.Empty ∷ map row_name.Full (states_with lts t) ++ row_name.Keep ∷ []) name → P name
     plain_name pure plain h =
         ⊎_elim
         (λ is. subst P is (empty pure plain))
         (λ there.
         ⊎_elim
-        (λ among. (let (q, has', is) = Contains-of_map full_row (states_with lts t) name among in subst P is (full pure plain q has')))
-        (λ last. subst P (only keep_row last) (keep pure plain))
-        (Contains-append_cases (map full_row (states_with lts t)) (keep_row ∷ []) name there))
-        (Contains-cons_cases empty_row name (map full_row (states_with lts t) ++ keep_row ∷ []) h)
+        (λ among. (let (q, has', is) = Contains-of_map row_name.Full (states_with lts t) name among in subst P is (full pure plain q has')))
+        (λ last. subst P (only row_name.Keep last) (keep pure plain))
+        (Contains-append_cases (map row_name.Full (states_with lts t)) (row_name.Keep ∷ []) name there))
+        (Contains-cons_cases row_name.Empty name (map row_name.Full (states_with lts t) ++ row_name.Keep ∷ []) h)
 
 -- what holds of each kind of row holds of each name
 pub each_name : (lts : System) (class : Class) (problem : Problem) (number : ℕ) (P : RowName → Type 0)
     → ((name : RowName) → Contains (problem_rows lts class problem) name → P name)
-    → (has_start class ≡ true → (q : ℕ) → q < states lts → P (tokens_row q))
-    → (is_some class.bound ≡ true → (q : ℕ) → q < states lts → P (cap_row q))
-    → (class.plain ≡ true → (u : ℕ) → u < labels lts → has_label u lts.arcs ≡ true → P (up_row u))
-    → (class.plain ≡ true → (u : ℕ) → u < labels lts → has_label u lts.arcs ≡ true → P (down_row u))
-    → (class.nonbranching ≡ true → (u : ℕ) → u < labels lts → has_label u lts.arcs ≡ true → u ≢ case_consumer lts problem number → P (makes_row u))
+    → (has_start class ≡ true → (q : ℕ) → q < states lts → P (row_name.Tokens q))
+    → (is_some class.bound ≡ true → (q : ℕ) → q < states lts → P (row_name.Cap q))
+    → (class.plain ≡ true → (u : ℕ) → u < labels lts → has_label u lts.arcs ≡ true → P (row_name.Up u))
+    → (class.plain ≡ true → (u : ℕ) → u < labels lts → has_label u lts.arcs ≡ true → P (row_name.Down u))
+    → (class.nonbranching ≡ true → (u : ℕ) → u < labels lts → has_label u lts.arcs ≡ true → u ≢ case_consumer lts problem number → P (row_name.Makes u))
     → (name : RowName) → Contains (names_of lts class problem number) name → P name
 each_name lts class problem number P of_problem tokens cap up down makes name has =
     parts
     (in_one_of (problem_rows lts class problem)
-    (if has_start class then map tokens_row (all_numbers (states lts)) else [])
-    (if is_some class.bound then map cap_row (all_numbers (states lts)) else [])
-    (if class.plain then (map up_row (used_labels lts) ++ map down_row (used_labels lts)) else [])
-    (if class.nonbranching then map makes_row (numbers_where (λ u. has_label u lts.arcs && not (u == case_consumer lts problem number)) 0 (labels lts)) else [])
+    (if has_start class then map row_name.Tokens (all_numbers (states lts)) else [])
+    (if is_some class.bound then map row_name.Cap (all_numbers (states lts)) else [])
+    (if class.plain then (map row_name.Up (used_labels lts) ++ map row_name.Down (used_labels lts)) else [])
+    (if class.nonbranching then map row_name.Makes (numbers_where (λ u. has_label u lts.arcs && not (u == case_consumer lts problem number)) 0 (labels lts)) else [])
     name has)
   where
     of_states : (row : ℕ → RowName) → ((q : ℕ) → q < states lts → P (row q)) → Contains (map row (all_numbers (states lts))) name → P name
@@ -96,23 +97,23 @@ each_name lts class problem number P of_problem tokens cap up down makes name ha
     differs u v b e same = let (_, not_equal) = and_parts b (not (u == v)) e in absurd (true≢false (sym not_equal ∙ ap not (eq-eqb u v same)))
 
     parts : Contains (problem_rows lts class problem) name
-        ⊎ (Contains (if has_start class then map tokens_row (all_numbers (states lts)) else []) name
-        ⊎ (Contains (if is_some class.bound then map cap_row (all_numbers (states lts)) else []) name
-        ⊎ (Contains (if class.plain then (map up_row (used_labels lts) ++ map down_row (used_labels lts)) else []) name
-        ⊎ Contains (if class.nonbranching then map makes_row (numbers_where (λ u. has_label u lts.arcs && not (u == case_consumer lts problem number)) 0 (labels lts))
+        ⊎ (Contains (if has_start class then map row_name.Tokens (all_numbers (states lts)) else []) name
+        ⊎ (Contains (if is_some class.bound then map row_name.Cap (all_numbers (states lts)) else []) name
+        ⊎ (Contains (if class.plain then (map row_name.Up (used_labels lts) ++ map row_name.Down (used_labels lts)) else []) name
+        ⊎ Contains (if class.nonbranching then map row_name.Makes (numbers_where (λ u. has_label u lts.arcs && not (u == case_consumer lts problem number)) 0 (labels lts))
         else []) name))) → P name
     parts (inl h) = of_problem name h
-    parts (inr (inl h)) = let (c, h') = of_optional (has_start class) (map tokens_row (all_numbers (states lts))) name h in of_states tokens_row (tokens c) h'
-    parts (inr (inr (inl h))) = let (c, h') = of_optional (is_some class.bound) (map cap_row (all_numbers (states lts))) name h in of_states cap_row (cap c) h'
+    parts (inr (inl h)) = let (c, h') = of_optional (has_start class) (map row_name.Tokens (all_numbers (states lts))) name h in of_states row_name.Tokens (tokens c) h'
+    parts (inr (inr (inl h))) = let (c, h') = of_optional (is_some class.bound) (map row_name.Cap (all_numbers (states lts))) name h in of_states row_name.Cap (cap c) h'
     parts (inr (inr (inr (inl h)))) =
-        let (c, h') = of_optional class.plain (map up_row (used_labels lts) ++ map down_row (used_labels lts)) name h in
+        let (c, h') = of_optional class.plain (map row_name.Up (used_labels lts) ++ map row_name.Down (used_labels lts)) name h in
         ⊎_elim
-        (λ l. of_labels (λ t. has_label t lts.arcs) up_row (up c) l)
-        (λ r. of_labels (λ t. has_label t lts.arcs) down_row (down c) r)
-        (Contains-append_cases (map up_row (used_labels lts)) (map down_row (used_labels lts)) name h')
+        (λ l. of_labels (λ t. has_label t lts.arcs) row_name.Up (up c) l)
+        (λ r. of_labels (λ t. has_label t lts.arcs) row_name.Down (down c) r)
+        (Contains-append_cases (map row_name.Up (used_labels lts)) (map row_name.Down (used_labels lts)) name h')
     parts (inr (inr (inr (inr h)))) =
-        let (c, h') = of_optional class.nonbranching (map makes_row (numbers_where (λ u. has_label u lts.arcs && not (u == case_consumer lts problem number)) 0 (labels lts))) name h in
-        of_labels (λ u. has_label u lts.arcs && not (u == case_consumer lts problem number)) makes_row (λ u lt e. makes c u lt (and_parts (has_label u lts.arcs) (not (u == case_consumer lts problem number)) e).0 (differs u (case_consumer lts problem number) (has_label u lts.arcs) e)) h'
+        let (c, h') = of_optional class.nonbranching (map row_name.Makes (numbers_where (λ u. has_label u lts.arcs && not (u == case_consumer lts problem number)) 0 (labels lts))) name h in
+        of_labels (λ u. has_label u lts.arcs && not (u == case_consumer lts problem number)) row_name.Makes (λ u lt e. makes c u lt (and_parts (has_label u lts.arcs) (not (u == case_consumer lts problem number)) e).0 (differs u (case_consumer lts problem number) (has_label u lts.arcs) e)) h'
 
 -- ---- they stand
 
@@ -141,7 +142,7 @@ names_stand lts class (Event s t) number name has =
     name has
 names_stand lts class (States s s') number name has =
     each_name lts class (States s s') number (λ n. RowStands lts class (States s s') number [] n)
-    (λ n h. ⊎_elim (λ is. subst (λ m. RowStands lts class (States s s') number [] m) is tt) (λ there. absurd (nothing n there)) (Contains-cons_cases apart_row n [] h))
+    (λ n h. ⊎_elim (λ is. subst (λ m. RowStands lts class (States s s') number [] m) is tt) (λ there. absurd (nothing n there)) (Contains-cons_cases row_name.Apart n [] h))
     (λ c q lt. tt)
     (λ c q lt. (lt, c))
     (λ c u lt _. (lt, c))
@@ -167,7 +168,7 @@ names_labels lts class (Event s t) number name (_, label, _) has =
     name has
 names_labels lts class (States s s') number name asked has =
     each_name lts class (States s s') number (λ n. NamesLabels (labels lts) (row_expression lts class (States s s') number [] n).terms)
-    (λ n h. ⊎_elim (λ is. subst (λ m. NamesLabels (labels lts) (row_expression lts class (States s s') number [] m).terms) is (apart_names (labels lts) s s' (order_of lts class number))) (λ there. absurd (nothing n there)) (Contains-cons_cases apart_row n [] h))
+    (λ n h. ⊎_elim (λ is. subst (λ m. NamesLabels (labels lts) (row_expression lts class (States s s') number [] m).terms) is (apart_names (labels lts) s s' (order_of lts class number))) (λ there. absurd (nothing n there)) (Contains-cons_cases row_name.Apart n [] h))
     (λ c q lt. tt)
     (λ c q lt. tt)
     (λ c u lt _. (lt, tt))

@@ -1,18 +1,17 @@
 -- Terms with the opposite signs have the same denominators.
-use Rattle.std.proofs.Common.{◌≡◌, ℕ, Bool, true, false, if◌then◌else◌, List, [], ◌∷◌, ◌++◌, map, Result, Ok, ap, ap₂, refl, subst, sym, ◌∙◌, arith}
+use Rattle.std.proofs.Common.{◌≡◌, ℕ, Bool, true, false, if◌then◌else◌, List, [], ◌∷◌, ◌++◌, map, Ok, ap, ap₂, refl, subst, sym, ◌∙◌, arith}
 use Rattle.std.specs.Prelude.{ℤ, pos, negsuc, neg_ℤ, ◌+ℤ◌, ◌*ℤ◌, unsigned_abs}
 use Rattle.std.specs.Int.{IsGcd}
 use Rattle.std.proofs.lemmas.Int.{ints}
-use Rattle.std.proofs.lemmas.List.{map-append}
 use Rattle.rg_theory.specs.declared.Arc.{Arc}
 use Rattle.rg_theory.specs.declared.Class.{Class}
 use Rattle.rg_theory.specs.System.{System, labels}
 use Rattle.rg_integers.proofs.Ring.{ring}
-use Rattle.rg_integers.specs.declared.term.Wide.{Wide}
 use Rattle.rg_linear.specs.Cycle.{CycleBasis}
-use Rattle.rg_refuting.specs.Expression.{Variable, Term, plus, minus}
-use Rattle.rg_order_of_work.specs.Fold.{each, further, Ratio, whole, IsRatio, quotient, add, mul, multiple_of_all}
-use Rattle.rg_order_of_work.specs.Rewriting.{has_label, free_labels, dependent_labels, variable_count, start_of, count_of, dependent_term, coefficient_fold, substitute_fold, has_start, pick, columns_of, Scaled, terms_fold}
+use Rattle.rg_refuting.specs.Expression.{plus, minus}
+use Rattle.rg_refuting.specs.declared.Variable.{Variable}
+use Rattle.rg_order_of_work.specs.Fold.{each, further, Ratio, whole, IsRatio, add, mul, multiple_of_all}
+use Rattle.rg_order_of_work.specs.Rewriting.{has_label, free_labels, dependent_labels, variable_count, start_of, count_of, dependent_term, coefficient_fold, has_start, pick, columns_of, Scaled, terms_fold}
 use Rattle.rg_order_of_work.specs.Placing.{negated}
 use Rattle.rg_order_of_work.proofs.FoldLemmas.{ratio_one, multiple_one}
 

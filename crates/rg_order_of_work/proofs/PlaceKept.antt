@@ -14,13 +14,12 @@ use Rattle.rg_theory.specs.Class.{IsMultiple, AllowsStart}
 use Rattle.rg_theory.specs.ClassWords.{HasNumbersInRange}
 use Rattle.rg_integers.specs.Sum.{sum_below}
 use Rattle.rg_integers.proofs.Ring.{ring}
-use Rattle.rg_refuting.specs.Row.{RowName.tokens_row}
 use Rattle.rg_order_of_work.proofs.CaseRows.{tokens_row_holds}
 use Rattle.rg_order_of_work.proofs.Lifts.{lifted_keeps}
 use Rattle.rg_order_of_work.proofs.Missing.{missing_is_least}
 use Rattle.rg_order_of_work.proofs.Times.{allows_by, multiple_positive}
 use Rattle.rg_theory.specs.System.{System, IsInRange, states, labels}
-use Rattle.rg_refuting.specs.Expression.{Variable, Variable.tokens_at, Variable.effect_of}
+use Rattle.rg_refuting.specs.declared.Variable.{Variable}
 use Rattle.rg_linear.specs.Cycle.{CycleBasis}
 use Rattle.rg_order_of_work.specs.Fold.{gives, either, each, Ratio, whole, add}
 use Rattle.rg_order_of_work.specs.Potentials.{potential}
@@ -35,6 +34,8 @@ use Rattle.rg_order_of_work.proofs.Items.{each_length}
 use Rattle.rg_order_of_work.proofs.Wholes.{add_whole, each_at}
 use Rattle.rg_order_of_work.proofs.Found.{all_length, all_at, not_bounded, AreFound, AreSteps, found_effect, same_effect, found_effects, found_meets}
 use Rattle.rg_order_of_work.proofs.Moved.{IsWholeAt, along_gives, AllWhole, least_is}
+use Rattle.rg_refuting.specs.declared.RowName.TheVariants as row_name
+use Rattle.rg_refuting.specs.declared.Variable.TheVariants.{Tokens, Effect}
 
 -- ---- the shift
 
@@ -79,14 +80,14 @@ shifted_at list numbers n p some (count, at) made =
 -- before they are moved back
 pub record AreMoved (lts : System) (class : Class) (problem : Problem) (number : ℕ) (found numbers : List Ratio) (x : Variable → ℤ) : Type 0 where
   pub keeps : KeepsRowsOver lts class problem number (pos 1) x
-  pub at : AreWholeAt numbers (states lts) (λ s. x (tokens_at s))
-  pub effects : (t : ℕ) → t < labels lts → top_at found t ≡ x (effect_of t)
+  pub at : AreWholeAt numbers (states lts) (λ s. x (Tokens s))
+  pub effects : (t : ℕ) → t < labels lts → top_at found t ≡ x (Effect t)
 
 pub record AreKept (lts : System) (class : Class) (problem : Problem) (number : ℕ) (found numbers : List Ratio) (x : Variable → ℤ) : Type 0 where
   pub keeps : KeepsRowsOver lts class problem number (pos 1) x
-  pub at : AreWholeAt numbers (states lts) (λ s. x (tokens_at s))
-  pub effects : (t : ℕ) → t < labels lts → top_at found t ≡ x (effect_of t)
-  pub start : AllowsStart class (unsigned_abs (x (tokens_at lts.initial)))
+  pub at : AreWholeAt numbers (states lts) (λ s. x (Tokens s))
+  pub effects : (t : ℕ) → t < labels lts → top_at found t ≡ x (Effect t)
+  pub start : AllowsStart class (unsigned_abs (x (Tokens lts.initial)))
 
 allows_all : (o : Option ℕ) (m : ℕ) → IsMultiple (unwrap_or o 1) m → IfSome o (λ n. IsMultiple n m)
 allows_all None m h = tt
@@ -104,27 +105,27 @@ lift_by lts class problem b moved numbers = either b (each (λ m. add m (whole (
 -- the numbers, moved back until the start is a multiple
 pub lift_kept : (lts : System) (class : Class) (problem : Problem) (number : ℕ) (found moved numbers : List Ratio) (x : Variable → ℤ) → IsInRange lts
     → HasNumbersInRange class → AreMoved lts class problem number found moved x → lift_by lts class problem (is_lifted class problem) moved numbers
-    → (is_lifted class problem ≡ false → AllowsStart class (unsigned_abs (x (tokens_at lts.initial)))) → (y : Variable → ℤ)
+    → (is_lifted class problem ≡ false → AllowsStart class (unsigned_abs (x (Tokens lts.initial)))) → (y : Variable → ℤ)
     × AreKept lts class problem number found numbers y
 lift_kept lts class (Event s t) number found moved numbers x fine in_range k same start =
-    (x, record { keeps = k.keeps; at = subst (λ l. AreWholeAt l (states lts) (λ q. x (tokens_at q))) (sym same) k.at; effects = k.effects; start = start refl })
+    (x, record { keeps = k.keeps; at = subst (λ l. AreWholeAt l (states lts) (λ q. x (Tokens q))) (sym same) k.at; effects = k.effects; start = start refl })
 lift_kept lts class (States s s') number found moved numbers x fine in_range k lift start = ⊎_elim up stays (cases_Bool (is_lifted class (States s s')))
   where
     stays : is_lifted class (States s s') ≡ false → (y : Variable → ℤ) × AreKept lts class (States s s') number found numbers y
     stays e =
         let same : numbers ≡ moved = subst (λ b. lift_by lts class (States s s') b moved numbers) e lift in
-        (x, record { keeps = k.keeps; at = subst (λ l. AreWholeAt l (states lts) (λ q. x (tokens_at q))) (sym same) k.at; effects = k.effects; start = start e })
+        (x, record { keeps = k.keeps; at = subst (λ l. AreWholeAt l (states lts) (λ q. x (Tokens q))) (sym same) k.at; effects = k.effects; start = start e })
 
     n : ℕ
     n = unwrap_or class.marking 1
 
     m : ℕ
-    m = unsigned_abs (x (tokens_at lts.initial))
+    m = unsigned_abs (x (Tokens lts.initial))
 
-    low : x (tokens_at lts.initial) ≡ pos (unsigned_abs (x (tokens_at lts.initial)))
-    low = absolute (x (tokens_at lts.initial)) ((tokens_row_holds lts class (States s s') number (pos 1) x lts.initial).1 (k.keeps (tokens_row lts.initial) tt))
+    low : x (Tokens lts.initial) ≡ pos (unsigned_abs (x (Tokens lts.initial)))
+    low = absolute (x (Tokens lts.initial)) ((tokens_row_holds lts class (States s s') number (pos 1) x lts.initial).1 (k.keeps (row_name.Tokens lts.initial) tt))
 
-    top : unsigned_abs (top_at moved lts.initial) ≡ unsigned_abs (x (tokens_at lts.initial))
+    top : unsigned_abs (top_at moved lts.initial) ≡ unsigned_abs (x (Tokens lts.initial))
     top = ap (λ (r : Ratio). unsigned_abs r.top) (k.at.1 lts.initial fine.initial).0
 
     some : (z : ℕ) → pos 0 <ℤ pos z → 0 < z
@@ -141,17 +142,17 @@ lift_kept lts class (States s s') number found moved numbers x fine in_range k l
         let by = missing (unwrap_or class.marking 1) (unsigned_abs (top_at moved lts.initial)) in
         let bound = lifted_parts (is_some class.marking) class.plain (is_some class.bound) e in
         let made : each (λ r. add r (whole (pos by))) moved (Ok numbers) = subst (λ b. lift_by lts class (States s s') b moved numbers) e lift in
-        let multiple : IsMultiple (unwrap_or class.marking 1) (unsigned_abs (x (tokens_at lts.initial)) + by) =
+        let multiple : IsMultiple (unwrap_or class.marking 1) (unsigned_abs (x (Tokens lts.initial)) + by) =
         subst (λ a. IsMultiple (unwrap_or class.marking 1) (a + by)) top (missing_is_least (unwrap_or class.marking 1) (unsigned_abs (top_at moved lts.initial)) (some (unwrap_or class.marking 1) (multiple_positive class in_range))).0 in (
           shifted (pos by) x,
           record {
             keeps = lifted_keeps lts class bound (pos by) (natural by) x s s' number k.keeps;
             at = (
               each_length (λ r. add r (whole (pos by))) moved numbers made ∙ k.at.0,
-              λ q lt. add_whole (x (tokens_at q)) (pos by) (ratio_at numbers q) (subst (λ f. add f (whole (pos by)) (Ok (ratio_at numbers q))) (k.at.1 q lt).0 (each_at (λ r. add r (whole (pos by))) moved numbers (whole (pos 0)) (whole (pos 0)) q made (subst (λ c. q < c) (sym k.at.0) lt))),
+              λ q lt. add_whole (x (Tokens q)) (pos by) (ratio_at numbers q) (subst (λ f. add f (whole (pos by)) (Ok (ratio_at numbers q))) (k.at.1 q lt).0 (each_at (λ r. add r (whole (pos by))) moved numbers (whole (pos 0)) (whole (pos 0)) q made (subst (λ c. q < c) (sym k.at.0) lt))),
             );
             effects = k.effects;
-            start = allows_all class.marking (unsigned_abs (x (tokens_at lts.initial) +ℤ pos by)) (subst (IsMultiple (unwrap_or class.marking 1)) (sym (more (x (tokens_at lts.initial)) (unsigned_abs (x (tokens_at lts.initial))) by low)) multiple);
+            start = allows_all class.marking (unsigned_abs (x (Tokens lts.initial) +ℤ pos by)) (subst (IsMultiple (unwrap_or class.marking 1)) (sym (more (x (Tokens lts.initial)) (unsigned_abs (x (Tokens lts.initial))) by low)) multiple);
           },
         )
 
@@ -173,7 +174,7 @@ pub kept_is : (lts : System) (tree : List Arc) (basis : CycleBasis) (class : Cla
     → IsCaseOver lts tree basis class problem number case → AreEffects lts tree basis effect → pos 0 <ℤ scale → AreFound lts found first effect scale m
     → AreSteps class found → MeetsCase lts basis class case first effect scale → along_tree (ratio_at found) (λ s. ratio_at found (labels lts)) tree (Ok out)
     → shift_by (is_shifted class) (map out (all_numbers (states lts))) numbers → (x : Variable → ℤ) × AreMoved lts class problem number found numbers x
-    × AllowsStart class (unsigned_abs (x (tokens_at lts.initial)))
+    × AllowsStart class (unsigned_abs (x (Tokens lts.initial)))
 kept_is lts tree basis class problem number case first effect scale m found numbers out plain bound c e positive f steps met made shift = ⊎_elim pure_case other_case (cases_Bool class.pure)
   where
     start : ℤ
@@ -224,7 +225,7 @@ kept_is lts tree basis class problem number case first effect scale m found numb
     moves : (b : Bool) → class.pure ≡ b → is_shifted class ≡ (not false && (false || not b))
     moves b is = ap₂ (λ x y. not x && y) (not_bounded class.bound bound) (ap₂ (λ x y. x || not y) plain is)
 
-    pure_case : class.pure ≡ true → (x : Variable → ℤ) × AreMoved lts class problem number found numbers x × AllowsStart class (unsigned_abs (x (tokens_at lts.initial)))
+    pure_case : class.pure ≡ true → (x : Variable → ℤ) × AreMoved lts class problem number found numbers x × AllowsStart class (unsigned_abs (x (Tokens lts.initial)))
     pure_case pure =
         let stays : numbers ≡ map out (all_numbers (states lts)) = subst (λ b. shift_by b (map out (all_numbers (states lts))) numbers) (moves true pure) shift in (
           numbers_along lts tree (top_at found (labels lts)) (found_effect lts found),
@@ -238,7 +239,7 @@ kept_is lts tree basis class problem number case first effect scale m found numb
           (let (u, is) = steps_at lts.initial in allows_by class (potential lts tree (top_at found (labels lts)) (found_effect lts found) lts.initial) u is),
         )
 
-    other_case : class.pure ≡ false → (x : Variable → ℤ) × AreMoved lts class problem number found numbers x × AllowsStart class (unsigned_abs (x (tokens_at lts.initial)))
+    other_case : class.pure ≡ false → (x : Variable → ℤ) × AreMoved lts class problem number found numbers x × AllowsStart class (unsigned_abs (x (Tokens lts.initial)))
     other_case impure =
         let starts : has_start class ≡ false = ap₂ (λ x y. x || y) impure (ap₂ (λ x y. x || y) plain (not_bounded class.bound bound)) in
         let moved = subst (λ b. shift_by b (map out (all_numbers (states lts))) numbers) (moves false impure) shift in

@@ -9,8 +9,6 @@ use Rattle.rg_theory.specs.declared.Arc.{Arc}
 use Rattle.rg_theory.specs.declared.Class.{Class}
 use Rattle.rg_theory.specs.declared.Problem.{Problem}
 use Rattle.rg_theory.specs.System.{System}
-use Rattle.rg_refuting.specs.Expression.{Variable.tokens_at}
-use Rattle.rg_refuting.specs.Row.{RowName.above_row}
 use Rattle.rg_integers.specs.Sum.{number_at, dot}
 use Rattle.rg_integers.proofs.Order.{mul_positive, mul_not_negative, factor_not_negative}
 use Rattle.rg_integers.proofs.Sums.{sum_below-same}
@@ -27,6 +25,8 @@ use Rattle.rg_order_of_work.proofs.CaseMeaning.{start_means, no_start_means, shi
 use Rattle.rg_order_of_work.proofs.Kept.{effects_given, meets_given}
 use Rattle.rg_order_of_work.proofs.ColumnValues.{row_sum}
 use Rattle.rg_order_of_work.proofs.PointEffects.{point_gives}
+use Rattle.rg_refuting.specs.declared.RowName.TheVariants as row_name
+use Rattle.rg_refuting.specs.declared.Variable.TheVariants.{Tokens}
 
 -- a row's value at the point is its value at the columns
 row_value_at : (lts : System) (tree : List Arc) (basis : CycleBasis) (class : Class) (problem : Problem) (number : ℕ) (case : CaseSystem) (v : ℕ → ℤ)
@@ -55,7 +55,7 @@ point_meets lts tree basis class problem number case v scale times start effect 
 )
   where
     none : KeptRow
-    none = record { name = above_row 0; row = record { coeffs = []; constant = pos 0 }; factor = whole (pos 1) }
+    none = record { name = row_name.Above 0; row = record { coeffs = []; constant = pos 0 }; factor = whole (pos 1) }
 
     weak : (z : ℤ) → pos 0 <ℤ z → pos 0 ≤ℤ z
     weak z h = omega (arith, ints)
@@ -113,12 +113,12 @@ points_exact lts tree basis class problem number case c live = (
   (λ (scale, v, p, meets). (let (times, start, effect, g) = point_gives lts tree basis class problem number case v c in
       solved lts tree basis class problem number case start effect (times *ℤ scale) c g.effects (mul_positive times scale g.positive p.positive) ((point_meets lts tree basis class problem number case v scale times start effect c p g).0 meets))),
   (λ (scale, x, positive, keeps). (let e = effects_given lts tree basis class problem number case x scale c keeps in
-      let (v, p, g) = given_point lts tree basis class problem number case (x (tokens_at lts.initial)) (used_effect lts x) scale c e positive in (
+      let (v, p, g) = given_point lts tree basis class problem number case (x (Tokens lts.initial)) (used_effect lts x) scale c e positive in (
         scale,
         v,
         p,
-        (point_meets lts tree basis class problem number case v scale (pos 1) (x (tokens_at lts.initial)) (used_effect lts x) c p g).1
-            (subst (λ z. MeetsCase lts basis class case (x (tokens_at lts.initial)) (used_effect lts x) z) (sym (one scale))
+        (point_meets lts tree basis class problem number case v scale (pos 1) (x (Tokens lts.initial)) (used_effect lts x) c p g).1
+            (subst (λ z. MeetsCase lts basis class case (x (Tokens lts.initial)) (used_effect lts x) z) (sym (one scale))
             (meets_given lts tree basis class problem number case x scale c live positive keeps)),
       ))),
 )

@@ -4,7 +4,8 @@ use Rattle.std.specs.Prelude.{ℤ, pos, ◌+ℤ◌, ◌*ℤ◌}
 use Rattle.std.proofs.lemmas.Int.{ints}
 use Rattle.rg_theory.specs.declared.Arc.{Arc}
 use Rattle.rg_theory.specs.System.{System, labels}
-use Rattle.rg_refuting.specs.Expression.{Variable, Variable.tokens_at, Variable.effect_of, Term, value_in}
+use Rattle.rg_refuting.specs.Expression.{Term, value_in}
+use Rattle.rg_refuting.specs.declared.Variable.{Variable}
 use Rattle.rg_integers.specs.Sum.{sum_below, sum_over}
 use Rattle.rg_integers.proofs.Ring.{ring, add-mul, mul_assoc, one-mul}
 use Rattle.rg_integers.proofs.Order.{mul-cancel}
@@ -15,6 +16,7 @@ use Rattle.rg_theory.specs.Tree.{parikh}
 use Rattle.rg_linear.specs.Cycle.{CycleBasis}
 use Rattle.rg_order_of_work.specs.Rewriting.{variable_start, variable_count, start_of, count_of, dependent_term, coefficient_fold, dependent_labels}
 use Rattle.rg_order_of_work.specs.Values.{NamesLabels, numbers_along}
+use Rattle.rg_refuting.specs.declared.Variable.TheVariants.{Tokens, Effect}
 
 -- ---- the expression over Start and all labels
 
@@ -22,11 +24,11 @@ use Rattle.rg_order_of_work.specs.Values.{NamesLabels, numbers_along}
 variable_value : (lts : System) (tree : List Arc) (start : ℤ) (effect : ℕ → ℤ) (c : ℤ) (v : Variable) (rest : List Term)
     → NamesLabels (labels lts) (record { coefficient = c; variable = v } ∷ rest) → numbers_along lts tree start effect v ≡ (variable_start v *ℤ start) +ℤ sum_below
     (labels lts) (λ t. variable_count tree v t *ℤ effect t)
-variable_value lts tree start effect c (tokens_at q) rest names = close start (sum_below (labels lts) (λ t. pos (parikh tree q t) *ℤ effect t))
+variable_value lts tree start effect c (Tokens q) rest names = close start (sum_below (labels lts) (λ t. pos (parikh tree q t) *ℤ effect t))
   where
     close : (z s : ℤ) → z +ℤ s ≡ (pos 1 *ℤ z) +ℤ s
     close z s = omega (arith, ints)
-variable_value lts tree start effect c (effect_of u) rest names = close start (effect u) (sum_below (labels lts) (λ t. (if t == u then pos 1 else pos 0) *ℤ effect t)) (sum_below-at (labels lts) u (pos 1) effect names.0 ∙ one-mul (effect u))
+variable_value lts tree start effect c (Effect u) rest names = close start (effect u) (sum_below (labels lts) (λ t. (if t == u then pos 1 else pos 0) *ℤ effect t)) (sum_below-at (labels lts) u (pos 1) effect names.0 ∙ one-mul (effect u))
   where
     close : (z e s : ℤ) → s ≡ e → e ≡ (pos 0 *ℤ z) +ℤ s
     close z e s p = omega (arith, ints)
@@ -35,8 +37,8 @@ names_rest : (n : ℕ) (t : Term) (rest : List Term) → NamesLabels n (t ∷ re
 names_rest n t rest names = go t.variable names
   where
     go : (v : Variable) → NamesLabels n (record { coefficient = t.coefficient; variable = v } ∷ rest) → NamesLabels n rest
-    go (tokens_at q) h = h
-    go (effect_of u) h = h.1
+    go (Tokens q) h = h
+    go (Effect u) h = h.1
 
 -- by M(q) = Start + the sum of parikh(q)[t] * E(t), an expression is worth its coefficient of Start and its counts
 pub rewritten : (lts : System) (tree : List Arc) (start : ℤ) (effect : ℕ → ℤ) (terms : List Term) → NamesLabels (labels lts) terms → value_in (numbers_along lts tree start effect) terms ≡ (start_of terms *ℤ start) +ℤ sum_below (labels lts) (λ t. count_of tree terms t *ℤ effect t)

@@ -7,16 +7,18 @@ use Rattle.rg_theory.specs.declared.Class.{Class}
 use Rattle.rg_theory.specs.declared.Problem.{Problem}
 use Rattle.rg_theory.specs.declared.Problem.TheVariants.{Event, States}
 use Rattle.rg_theory.specs.System.{System, states}
-use Rattle.rg_refuting.specs.Expression.{Variable, Variable.tokens_at, Variable.effect_of}
-use Rattle.rg_refuting.specs.Row.{RowName, RowName.arc_row, RowName.tokens_row, RowName.cap_row, RowName.up_row, RowName.down_row, RowName.makes_row, RowName.stop_row}
-use Rattle.rg_refuting.specs.Row.{RowName.block_row, RowName.empty_row, RowName.full_row, RowName.keep_row, RowName.apart_row, RowName.above_row, SharedStands, RowStands}
+use Rattle.rg_refuting.specs.declared.Variable.{Variable}
+use Rattle.rg_refuting.specs.declared.RowName.{RowName}
+use Rattle.rg_refuting.specs.Row.{SharedStands, RowStands}
 use Rattle.rg_refuting.specs.Row.{shared_expression, row_expression, apart_expression, order_of, consumer_of}
 use Rattle.rg_order_of_work.specs.Rewriting.{has_start}
 use Rattle.rg_order_of_work.specs.Meaning.{value_over, IsTokensRow, shifted}
+use Rattle.rg_refuting.specs.declared.RowName.TheVariants as row_name
+use Rattle.rg_refuting.specs.declared.Variable.TheVariants.{Tokens, Effect}
 
 -- the numbers of the states are one number more, and the effects the same
 abbrev pub IsShift : ℤ → (Variable → ℤ) → (Variable → ℤ) → Type 0
-IsShift by x y = ((q : ℕ) → y (tokens_at q) ≡ x (tokens_at q) +ℤ by) × ((t : ℕ) → y (effect_of t) ≡ x (effect_of t))
+IsShift by x y = ((q : ℕ) → y (Tokens q) ≡ x (Tokens q) +ℤ by) × ((t : ℕ) → y (Effect t) ≡ x (Effect t))
 
 pub shifted_is_shift : (by : ℤ) (x : Variable → ℤ) → IsShift by x (shifted by x)
 shifted_is_shift by x = ((λ q. refl), (λ t. refl))
@@ -43,38 +45,38 @@ one_effect k e f p = omega (arith, ints)
 shared_value : (lts : System) (class : Class) (consumer : ℕ) (scale by : ℤ) (x y : Variable → ℤ) (name : RowName) → has_start class ≡ false → IsShift by x y
     → SharedStands lts class consumer [] name → ¬ IsTokensRow name → value_over scale x (shared_expression lts class [] name) ≡ value_over scale y
     (shared_expression lts class [] name)
-shared_value lts class consumer scale by x y (arc_row q t q') none (tokens, effects) stands other = three (pos 0 *ℤ scale) by (x (tokens_at q)) (x (effect_of t)) (x (tokens_at q')) (y (tokens_at q)) (y (effect_of t)) (y (tokens_at q')) (tokens q) (effects t) (tokens q')
-shared_value lts class consumer scale by x y (tokens_row q) none shift stands other = absurd (other tt)
-shared_value lts class consumer scale by x y (cap_row q) none shift (lt, some) other = both (is_some class.bound) (no_words class none).2 some
-shared_value lts class consumer scale by x y (up_row t) none shift (lt, plain) other = both class.plain (no_words class none).1 plain
-shared_value lts class consumer scale by x y (down_row t) none shift (lt, plain) other = both class.plain (no_words class none).1 plain
-shared_value lts class consumer scale by x y (makes_row t) none (tokens, effects) stands other = one_effect (pos 0 *ℤ scale) (x (effect_of t)) (y (effect_of t)) (effects t)
-shared_value lts class consumer scale by x y (above_row d) none shift stands other = absurd stands
-shared_value lts class consumer scale by x y (stop_row q) none shift stands other = absurd stands
-shared_value lts class consumer scale by x y block_row none shift stands other = absurd stands
-shared_value lts class consumer scale by x y empty_row none shift stands other = absurd stands
-shared_value lts class consumer scale by x y (full_row q) none shift stands other = absurd stands
-shared_value lts class consumer scale by x y keep_row none shift stands other = absurd stands
-shared_value lts class consumer scale by x y apart_row none shift stands other = absurd stands
+shared_value lts class consumer scale by x y (row_name.Arc a) none (tokens, effects) stands other = three (pos 0 *ℤ scale) by (x (Tokens a.from)) (x (Effect a.label)) (x (Tokens a.to)) (y (Tokens a.from)) (y (Effect a.label)) (y (Tokens a.to)) (tokens a.from) (effects a.label) (tokens a.to)
+shared_value lts class consumer scale by x y (row_name.Tokens q) none shift stands other = absurd (other tt)
+shared_value lts class consumer scale by x y (row_name.Cap q) none shift (lt, some) other = both (is_some class.bound) (no_words class none).2 some
+shared_value lts class consumer scale by x y (row_name.Up t) none shift (lt, plain) other = both class.plain (no_words class none).1 plain
+shared_value lts class consumer scale by x y (row_name.Down t) none shift (lt, plain) other = both class.plain (no_words class none).1 plain
+shared_value lts class consumer scale by x y (row_name.Makes t) none (tokens, effects) stands other = one_effect (pos 0 *ℤ scale) (x (Effect t)) (y (Effect t)) (effects t)
+shared_value lts class consumer scale by x y (row_name.Above d) none shift stands other = absurd stands
+shared_value lts class consumer scale by x y (row_name.Stop q) none shift stands other = absurd stands
+shared_value lts class consumer scale by x y row_name.Block none shift stands other = absurd stands
+shared_value lts class consumer scale by x y row_name.Empty none shift stands other = absurd stands
+shared_value lts class consumer scale by x y (row_name.Full q) none shift stands other = absurd stands
+shared_value lts class consumer scale by x y row_name.Keep none shift stands other = absurd stands
+shared_value lts class consumer scale by x y row_name.Apart none shift stands other = absurd stands
 
 apart_value : (s s' order : ℕ) (scale by : ℤ) (x y : Variable → ℤ) → IsShift by x y → value_over scale x (apart_expression s s' order) ≡ value_over scale y (apart_expression s s' order)
-apart_value s s' zero scale by x y (tokens, effects) = two (negsuc 0 *ℤ scale) by (x (tokens_at s')) (x (tokens_at s)) (y (tokens_at s')) (y (tokens_at s)) (tokens s') (tokens s)
-apart_value s s' (suc order) scale by x y (tokens, effects) = two (negsuc 0 *ℤ scale) by (x (tokens_at s)) (x (tokens_at s')) (y (tokens_at s)) (y (tokens_at s')) (tokens s) (tokens s')
+apart_value s s' zero scale by x y (tokens, effects) = two (negsuc 0 *ℤ scale) by (x (Tokens s')) (x (Tokens s)) (y (Tokens s')) (y (Tokens s)) (tokens s') (tokens s)
+apart_value s s' (suc order) scale by x y (tokens, effects) = two (negsuc 0 *ℤ scale) by (x (Tokens s)) (x (Tokens s')) (y (Tokens s)) (y (Tokens s')) (tokens s) (tokens s')
 
 event_value : (lts : System) (class : Class) (s t number : ℕ) (scale by : ℤ) (x y : Variable → ℤ) (name : RowName) → has_start class ≡ false → IsShift by x y
     → RowStands lts class (Event s t) number [] name → ¬ IsTokensRow name → value_over scale x (row_expression lts class (Event s t) number [] name) ≡ value_over scale y
     (row_expression lts class (Event s t) number [] name)
-event_value lts class s t number scale by x y (stop_row q) none (tokens, effects) stands other = two (negsuc 0 *ℤ scale) by (x (tokens_at q)) (x (tokens_at s)) (y (tokens_at q)) (y (tokens_at s)) (tokens q) (tokens s)
-event_value lts class s t number scale by x y block_row none shift pure other = both class.pure (no_words class none).0 pure
-event_value lts class s t number scale by x y empty_row none shift (plain, pure) other = both class.plain (no_words class none).1 plain
-event_value lts class s t number scale by x y (full_row q) none shift (plain, pure, at) other = both class.plain (no_words class none).1 plain
-event_value lts class s t number scale by x y keep_row none shift (plain, pure) other = both class.plain (no_words class none).1 plain
+event_value lts class s t number scale by x y (row_name.Stop q) none (tokens, effects) stands other = two (negsuc 0 *ℤ scale) by (x (Tokens q)) (x (Tokens s)) (y (Tokens q)) (y (Tokens s)) (tokens q) (tokens s)
+event_value lts class s t number scale by x y row_name.Block none shift pure other = both class.pure (no_words class none).0 pure
+event_value lts class s t number scale by x y row_name.Empty none shift (plain, pure) other = both class.plain (no_words class none).1 plain
+event_value lts class s t number scale by x y (row_name.Full q) none shift (plain, pure, at) other = both class.plain (no_words class none).1 plain
+event_value lts class s t number scale by x y row_name.Keep none shift (plain, pure) other = both class.plain (no_words class none).1 plain
 event_value lts class s t number scale by x y name none shift stands other = shared_value lts class t scale by x y name none shift stands other
 
 state_value : (lts : System) (class : Class) (s s' number : ℕ) (scale by : ℤ) (x y : Variable → ℤ) (name : RowName) → has_start class ≡ false → IsShift by x y
     → RowStands lts class (States s s') number [] name → ¬ IsTokensRow name
     → value_over scale x (row_expression lts class (States s s') number [] name) ≡ value_over scale y (row_expression lts class (States s s') number [] name)
-state_value lts class s s' number scale by x y apart_row none shift stands other = apart_value s s' (order_of lts class number) scale by x y shift
+state_value lts class s s' number scale by x y row_name.Apart none shift stands other = apart_value s s' (order_of lts class number) scale by x y shift
 state_value lts class s s' number scale by x y name none shift stands other = shared_value lts class (consumer_of lts number) scale by x y name none shift stands other
 
 -- a shift changes no value of such a row
@@ -102,5 +104,5 @@ enough (suc n) f = let (m, above) = enough n f in go m above (f n) refl
     go m above (pos k) is = (m, last m (pos k) is (omega (arith, ints)) above)
     go m above (negsuc k) is = (m + suc k, last (m + suc k) (negsuc k) is (omega (arith, ints)) (more m (suc k) above))
 
-pub some_shift : (lts : System) (x : Variable → ℤ) → (by : ℤ) × ((q : ℕ) → q < states lts → pos 0 ≤ℤ shifted by x (tokens_at q))
-some_shift lts x = let (m, above) = enough (states lts) (λ q. x (tokens_at q)) in (pos m, above)
+pub some_shift : (lts : System) (x : Variable → ℤ) → (by : ℤ) × ((q : ℕ) → q < states lts → pos 0 ≤ℤ shifted by x (Tokens q))
+some_shift lts x = let (m, above) = enough (states lts) (λ q. x (Tokens q)) in (pos m, above)

@@ -6,7 +6,7 @@ use Rattle.rg_theory.specs.declared.Arc.{Arc}
 use Rattle.rg_theory.specs.declared.Class.{Class}
 use Rattle.rg_theory.specs.System.{System, labels}
 use Rattle.rg_refuting.specs.Expression.{Term, Expression, value_in}
-use Rattle.rg_refuting.specs.Row.{RowName}
+use Rattle.rg_refuting.specs.declared.RowName.{RowName}
 use Rattle.rg_linear.specs.Cycle.{FollowsRelations, CycleBasis}
 use Rattle.std.proofs.Math.IntN.{*ℤ_comm}
 use Rattle.rg_integers.proofs.Order.{mul_positive, factor_positive, quotient_positive, same_sign}

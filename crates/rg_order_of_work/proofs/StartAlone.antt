@@ -14,11 +14,12 @@ use Rattle.rg_integers.specs.declared.term.Wide.{Wide}
 use Rattle.rg_fraction.specs.Terms.{product_term}
 use Rattle.rg_integers.specs.Term.{term_value}
 use Rattle.rg_linear.specs.Cycle.{CycleBasis}
-use Rattle.rg_refuting.specs.Expression.{Variable.tokens_at, plus}
+use Rattle.rg_refuting.specs.Expression.{plus}
 use Rattle.rg_order_of_work.specs.Fold.{further, each, gives, Ratio, whole, IsRatio, add, common_multiple, multiple_of_all}
 use Rattle.rg_order_of_work.specs.Rewriting.{Scaled, has_label, has_start, free_labels, dependent_labels, count_of, start_of, dependent_term, coefficient_fold, pick, terms_fold}
 use Rattle.rg_order_of_work.proofs.FoldLemmas.{quotient_one}
 use Rattle.rg_order_of_work.proofs.Zeros.{zero_ratio}
+use Rattle.rg_refuting.specs.declared.Variable.TheVariants.{Tokens}
 
 -- ---- sums of zeros
 
@@ -76,14 +77,14 @@ multiple_ones (z ∷ zs) m (one, ones) (x, is, h) = further_ones zs x m (is ∙ 
 
 -- ---- the start
 
-pub start_alone : (lts : System) (tree : List Arc) (basis : CycleBasis) (class : Class) (scaled : Scaled) → IsTree lts tree → terms_fold lts tree basis class (plus (tokens_at lts.initial) ∷ []) (Ok scaled) → scaled.multiple ≡ pos 1
+pub start_alone : (lts : System) (tree : List Arc) (basis : CycleBasis) (class : Class) (scaled : Scaled) → IsTree lts tree → terms_fold lts tree basis class (plus (Tokens lts.initial) ∷ []) (Ok scaled) → scaled.multiple ≡ pos 1
 start_alone lts tree basis class scaled g (free, substituted, (m, multiple, (ps, products, e))) =
     ap (λ (s : Scaled). s.multiple) e
-    ∙ multiple_ones _ m (start_ones (has_start class) (start_of (plus (tokens_at lts.initial) ∷ []))
+    ∙ multiple_ones _ m (start_ones (has_start class) (start_of (plus (Tokens lts.initial) ∷ []))
     (pick (λ t. has_label t lts.arcs) (free_labels (labels lts) basis) free)
     (pick_ones (λ t. has_label t lts.arcs) (free_labels (labels lts) basis) free
-    (each_ones (coefficient_fold (labels lts) basis (count_of tree (plus (tokens_at lts.initial) ∷ []))) (free_labels (labels lts) basis) free
-    (λ f r made. coefficient_zero (labels lts) basis (count_of tree (plus (tokens_at lts.initial) ∷ [])) f r none made) substituted))) multiple
+    (each_ones (coefficient_fold (labels lts) basis (count_of tree (plus (Tokens lts.initial) ∷ []))) (free_labels (labels lts) basis) free
+    (λ f r made. coefficient_zero (labels lts) basis (count_of tree (plus (Tokens lts.initial) ∷ [])) f r none made) substituted))) multiple
   where
-    none : (t : ℕ) → count_of tree (plus (tokens_at lts.initial) ∷ []) t ≡ pos 0
+    none : (t : ℕ) → count_of tree (plus (Tokens lts.initial) ∷ []) t ≡ pos 0
     none t = ap (λ ts. (pos 1 *ℤ pos (count t ts)) +ℤ pos 0) (way_of_initial lts tree g)

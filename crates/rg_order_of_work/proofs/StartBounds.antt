@@ -1,5 +1,5 @@
 -- In an event problem of a plain class the tokens at the initial state are at most as many as there are states.
-use Rattle.std.proofs.Common.{◌≡◌, ◌≢◌, ⊎_elim, ℕ, zero, suc, ◌+◌, ◌<◌, ◌≤◌, ◌==◌, Bool, true, false, if◌then◌else◌, List, [], ◌∷◌, ◌++◌, length, Contains, refl, sym, ap, subst, ◌∙◌, arith, length-append}
+use Rattle.std.proofs.Common.{◌≡◌, ⊎_elim, ℕ, zero, suc, ◌+◌, ◌<◌, ◌≤◌, ◌==◌, Bool, true, false, if◌then◌else◌, List, [], ◌∷◌, ◌++◌, length, Contains, refl, sym, ap, subst, arith, length-append}
 use Rattle.std.specs.Prelude.{ℤ, pos, negsuc, ◌+ℤ◌, ◌*ℤ◌, ◌≤ℤ◌}
 use Rattle.std.proofs.lemmas.Int.{ints}
 use Rattle.std.proofs.lemmas.List.Elements.{Contains-push_cases}
@@ -16,12 +16,12 @@ use Rattle.rg_integers.proofs.Ring.{ring}
 use Rattle.rg_linear.specs.Dictionary.{numbers_from}
 use Rattle.rg_linear.proofs.Members.{Contains-numbers_from, length-numbers_from, order_from_increasing, numbers_from-ordered}
 use Rattle.rg_linear.proofs.Stacks.{IsDistinct, no_more}
-use Rattle.rg_refuting.specs.Row.{RowName.down_row, RowName.block_row, RowName.empty_row}
 use Rattle.rg_order_of_work.specs.Potentials.{potential}
 use Rattle.rg_order_of_work.specs.Values.{numbers_along}
 use Rattle.rg_order_of_work.specs.Meaning.{KeepsRowsOver}
 use Rattle.rg_order_of_work.proofs.Lists.{first, behind}
 use Rattle.rg_order_of_work.proofs.Potentials.{AllBelow, counted, led_below}
+use Rattle.rg_refuting.specs.declared.RowName.TheVariants as row_name
 
 -- ---- how long a way is
 
@@ -88,7 +88,7 @@ module _ (lts : System) (tree : List Arc) (class : Class) (s t n : ℕ) (k start
     (reach : IsReachable lts s) (in_range : t < labels lts) (plain : class.plain ≡ true) (scale : pos 0 ≤ℤ k)
     (keeps : KeepsRowsOver lts class (Event s t) n k (numbers_along lts tree start effect)) where
   down : (u : ℕ) → u < labels lts → pos 0 ≤ℤ (effect u +ℤ k)
-  down u lt = close (effect u) (keeps (down_row u) (lt, plain))
+  down u lt = close (effect u) (keeps (row_name.Down u) (lt, plain))
     where
       close : (z : ℤ) → pos 0 ≤ℤ (((pos 1 *ℤ z) +ℤ pos 0) +ℤ (pos 1 *ℤ k)) → pos 0 ≤ℤ (z +ℤ k)
       close z h = omega (arith, ints)
@@ -98,11 +98,11 @@ module _ (lts : System) (tree : List Arc) (class : Class) (s t n : ℕ) (k start
   stopped = by class.pure refl
     where
       by : (b : Bool) → class.pure ≡ b → potential lts tree start effect s ≤ℤ pos 0
-      by true pure = close (potential lts tree start effect s) (effect t) (keeps block_row pure) (down t in_range)
+      by true pure = close (potential lts tree start effect s) (effect t) (keeps row_name.Block pure) (down t in_range)
         where
           close : (m e : ℤ) → pos 0 ≤ℤ (((negsuc 0 *ℤ m) +ℤ ((negsuc 0 *ℤ e) +ℤ pos 0)) +ℤ (negsuc 0 *ℤ k)) → pos 0 ≤ℤ (e +ℤ k) → m ≤ℤ pos 0
           close m e h d = omega (arith, ints)
-      by false unpure = close (potential lts tree start effect s) (keeps empty_row (plain, unpure))
+      by false unpure = close (potential lts tree start effect s) (keeps row_name.Empty (plain, unpure))
         where
           close : (m : ℤ) → pos 0 ≤ℤ (((negsuc 0 *ℤ m) +ℤ pos 0) +ℤ (pos 0 *ℤ k)) → m ≤ℤ pos 0
           close m h = omega (arith, ints)

@@ -10,12 +10,16 @@ use Rattle.rg_theory.specs.ClassWords.{HasNumbersInRange}
 use Rattle.rg_theory.specs.System.{System}
 use Rattle.rg_integers.proofs.Ring.{ring}
 use Rattle.rg_integers.proofs.Order.{mul_positive, mul_not_negative, mul_negative}
-use Rattle.rg_refuting.specs.Expression.{Variable, Variable.tokens_at, Variable.effect_of, Term, value_in, numbers_by}
-use Rattle.rg_refuting.specs.Row.{RowName, RowName.arc_row, RowName.tokens_row, row_expression, Says}
+use Rattle.rg_refuting.specs.Expression.{Term, value_in, numbers_by}
+use Rattle.rg_refuting.specs.declared.Variable.{Variable}
+use Rattle.rg_refuting.specs.Row.{row_expression, Says}
+use Rattle.rg_refuting.specs.declared.RowName.{RowName}
 use Rattle.rg_order_of_work.specs.Meaning.{value_over, KeepsRowsOver, HasSolution, HasWholeSolutionIn}
 use Rattle.rg_order_of_work.proofs.CaseRows.{says, said, tokens_row_holds}
 use Rattle.rg_order_of_work.proofs.CaseMeaning.{whole_means}
 use Rattle.rg_order_of_work.proofs.Whole.{at_one, same_numbers, tokens_stand, absolute}
+use Rattle.rg_refuting.specs.declared.RowName.TheVariants as row_name
+use Rattle.rg_refuting.specs.declared.Variable.TheVariants.{Tokens, Effect}
 
 abbrev pub times : ℤ → (Variable → ℤ) → Variable → ℤ
 times n x v = n *ℤ x v
@@ -31,7 +35,7 @@ value_times : (n scale c v : ℤ) → (n *ℤ v) +ℤ (c *ℤ (n *ℤ scale)) �
 value_times n scale c v = simp ring
 
 says_times : (name : RowName) (n z : ℤ) → pos 0 <ℤ n → Says name z → Says name (n *ℤ z)
-says_times (arc_row q t q') n z positive h = ap (λ w. n *ℤ w) h ∙ *ℤ-zero n
+says_times (row_name.Arc a) n z positive h = ap (λ w. n *ℤ w) h ∙ *ℤ-zero n
 says_times name n z positive h = says name (n *ℤ z) (λ none. none) (mul_not_negative n z (omega (arith, ints)) (said name z h))
 
 pub times_over : (lts : System) (class : Class) (problem : Problem) (number : ℕ) (n scale : ℤ) (x : Variable → ℤ) → pos 0 <ℤ n → KeepsRowsOver lts class problem number scale x → KeepsRowsOver lts class problem number (n *ℤ scale) (times n x)
@@ -84,10 +88,10 @@ multiple_positive class numbers = by class.marking numbers.marking
 -- in a class neither plain nor bounded each solution gives a whole one
 pub whole_of_solution : (lts : System) (class : Class) (problem : Problem) (number : ℕ) → class.plain ≡ false → IsNone class.bound → HasNumbersInRange class → HasSolution lts class problem number → HasWholeSolutionIn lts class problem number
 whole_of_solution lts class problem number plain bound numbers (scale, x, positive, keeps) = (
-  λ q. unsigned_abs (y (tokens_at q)),
-  λ t. y (effect_of t),
-  allows_by class (y (tokens_at lts.initial)) (x (tokens_at lts.initial)) refl,
-  (whole_means lts class problem number (numbers_by (λ q. unsigned_abs (y (tokens_at q))) (λ t. y (effect_of t)))).0 (same_numbers lts class problem number y (numbers_by (λ q. unsigned_abs (y (tokens_at q))) (λ t. y (effect_of t))) same kept),
+  λ q. unsigned_abs (y (Tokens q)),
+  λ t. y (Effect t),
+  allows_by class (y (Tokens lts.initial)) (x (Tokens lts.initial)) refl,
+  (whole_means lts class problem number (numbers_by (λ q. unsigned_abs (y (Tokens q))) (λ t. y (Effect t)))).0 (same_numbers lts class problem number y (numbers_by (λ q. unsigned_abs (y (Tokens q))) (λ t. y (Effect t))) same kept),
 )
   where
     y : Variable → ℤ
@@ -96,9 +100,9 @@ whole_of_solution lts class problem number plain bound numbers (scale, x, positi
     kept : KeepsRowsOver lts class problem number (pos 1) y
     kept = times_keeps lts class problem number (pos (unwrap_or class.marking 1)) scale x plain bound (multiple_positive class numbers) positive keeps
 
-    same : (v : Variable) → y v ≡ numbers_by (λ q. unsigned_abs (y (tokens_at q))) (λ t. y (effect_of t)) v
-    same (tokens_at q) = absolute (y (tokens_at q)) ((tokens_row_holds lts class problem number (pos 1) y q).1 (kept (tokens_row q) (tokens_stand lts class problem number q)))
-    same (effect_of t) = refl
+    same : (v : Variable) → y v ≡ numbers_by (λ q. unsigned_abs (y (Tokens q))) (λ t. y (Effect t)) v
+    same (Tokens q) = absolute (y (Tokens q)) ((tokens_row_holds lts class problem number (pos 1) y q).1 (kept (row_name.Tokens q) (tokens_stand lts class problem number q)))
+    same (Effect t) = refl
 
 -- ---- where the start is whole, no rest is left
 

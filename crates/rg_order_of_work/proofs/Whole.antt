@@ -6,15 +6,17 @@ use Rattle.std.proofs.lemmas.Bool.{true≢false}
 use Rattle.rg_theory.specs.declared.Class.{Class}
 use Rattle.rg_theory.specs.declared.Problem.{Problem}
 use Rattle.rg_theory.specs.declared.Problem.TheVariants.{Event, States}
-use Rattle.rg_theory.specs.System.{System}
-use Rattle.rg_refuting.specs.Expression.{Variable, Term, value_in, numbers_by}
-use Rattle.rg_refuting.specs.Row.{RowName, RowName.arc_row, RowName.tokens_row, RowName.cap_row, RowName.up_row, RowName.down_row, RowName.makes_row, RowName.stop_row}
-use Rattle.rg_refuting.specs.Row.{RowName.block_row, RowName.empty_row, RowName.full_row, RowName.keep_row, RowName.apart_row, RowName.above_row, SharedStands, RowStands}
+use Rattle.rg_theory.specs.System.{arc, System}
+use Rattle.rg_refuting.specs.Expression.{Term, value_in, numbers_by}
+use Rattle.rg_refuting.specs.declared.Variable.{Variable}
+use Rattle.rg_refuting.specs.declared.RowName.{RowName}
+use Rattle.rg_refuting.specs.Row.{SharedStands, RowStands}
 use Rattle.rg_refuting.specs.Row.{shared_expression, row_expression, apart_expression, order_of, consumer_of, Says}
 use Rattle.rg_integers.proofs.ListSums.{sum_over-same}
 use Rattle.rg_order_of_work.specs.Meaning.{value_over, RowHolds, KeepsRowsOver, HasSolution, HasWholeSolutionIn}
 use Rattle.rg_order_of_work.proofs.CaseRows.{IsArcRow, says, said}
 use Rattle.rg_order_of_work.proofs.CaseMeaning.{whole_means}
+use Rattle.rg_refuting.specs.declared.RowName.TheVariants as row_name
 
 pub solution_of_whole : (lts : System) (class : Class) (problem : Problem) (number : ℕ) → HasWholeSolutionIn lts class problem number → HasSolution lts class problem number
 solution_of_whole lts class problem number (tokens, effect, start, keeps) = (pos 1, numbers_by tokens effect, omega (arith, ints), (whole_means lts class problem number (numbers_by tokens effect)).1 keeps)
@@ -29,21 +31,21 @@ abbrev pub IsLow : ℤ → Type 0
 IsLow z = (z ≡ pos 0) ⊎ (z ≡ negsuc 0)
 
 shared_low : (lts : System) (class : Class) (consumer : ℕ) (name : RowName) → class.plain ≡ false → IsNone class.bound → SharedStands lts class consumer [] name → IsLow (shared_expression lts class [] name).constant
-shared_low lts class consumer (arc_row q t q') plain bound stands = inl refl
-shared_low lts class consumer (tokens_row q) plain bound stands = inl refl
-shared_low lts class consumer (cap_row q) plain bound (lt, some) = absurd (not_some class.bound bound some)
-shared_low lts class consumer (up_row t) plain bound (lt, is_plain) = absurd (true≢false (sym is_plain ∙ plain))
-shared_low lts class consumer (down_row t) plain bound (lt, is_plain) = absurd (true≢false (sym is_plain ∙ plain))
-shared_low lts class consumer (makes_row t) plain bound stands = inl refl
-shared_low lts class consumer (above_row d) plain bound stands = absurd stands
+shared_low lts class consumer (row_name.Arc a) plain bound stands = inl refl
+shared_low lts class consumer (row_name.Tokens q) plain bound stands = inl refl
+shared_low lts class consumer (row_name.Cap q) plain bound (lt, some) = absurd (not_some class.bound bound some)
+shared_low lts class consumer (row_name.Up t) plain bound (lt, is_plain) = absurd (true≢false (sym is_plain ∙ plain))
+shared_low lts class consumer (row_name.Down t) plain bound (lt, is_plain) = absurd (true≢false (sym is_plain ∙ plain))
+shared_low lts class consumer (row_name.Makes t) plain bound stands = inl refl
+shared_low lts class consumer (row_name.Above d) plain bound stands = absurd stands
 shared_low lts class consumer name plain bound stands = absurd stands
 
 event_low : (lts : System) (class : Class) (s t number : ℕ) (name : RowName) → class.plain ≡ false → IsNone class.bound → RowStands lts class (Event s t) number [] name → IsLow (row_expression lts class (Event s t) number [] name).constant
-event_low lts class s t number (stop_row q) plain bound stands = inr refl
-event_low lts class s t number block_row plain bound stands = inr refl
-event_low lts class s t number empty_row plain bound stands = inl refl
-event_low lts class s t number (full_row q) plain bound stands = inr refl
-event_low lts class s t number keep_row plain bound stands = inl refl
+event_low lts class s t number (row_name.Stop q) plain bound stands = inr refl
+event_low lts class s t number row_name.Block plain bound stands = inr refl
+event_low lts class s t number row_name.Empty plain bound stands = inl refl
+event_low lts class s t number (row_name.Full q) plain bound stands = inr refl
+event_low lts class s t number row_name.Keep plain bound stands = inl refl
 event_low lts class s t number name plain bound stands = shared_low lts class t name plain bound stands
 
 apart_low : (s s' order : ℕ) → IsLow (apart_expression s s' order).constant
@@ -52,7 +54,7 @@ apart_low s s' (suc order) = inr refl
 
 low : (lts : System) (class : Class) (problem : Problem) (number : ℕ) (name : RowName) → class.plain ≡ false → IsNone class.bound → RowStands lts class problem number [] name → IsLow (row_expression lts class problem number [] name).constant
 low lts class (Event s t) number name plain bound stands = event_low lts class s t number name plain bound stands
-low lts class (States s s') number apart_row plain bound stands = apart_low s s' (order_of lts class number)
+low lts class (States s s') number row_name.Apart plain bound stands = apart_low s s' (order_of lts class number)
 low lts class (States s s') number name plain bound stands = shared_low lts class (consumer_of lts number) name plain bound stands
 
 -- ---- the same numbers, over the scale 1
@@ -67,12 +69,12 @@ not_negative_row v c k (inr e) positive h = subst (λ z. pos 0 ≤ℤ (v +ℤ (z
     close : (v k : ℤ) → pos 0 <ℤ k → pos 0 ≤ℤ (v +ℤ (negsuc 0 *ℤ k)) → pos 0 ≤ℤ (v +ℤ (negsuc 0 *ℤ pos 1))
     close v k positive h = omega (arith, ints)
 
-arc_at_one : (lts : System) (class : Class) (problem : Problem) (number : ℕ) (scale : ℤ) (x : Variable → ℤ) (q t q' : ℕ) → RowHolds lts class problem number scale x (arc_row q t q') → RowHolds lts class problem number (pos 1) x (arc_row q t q')
-arc_at_one lts class (Event s u) number scale x q t q' h = close (value_in x (shared_expression lts class [] (arc_row q t q')).terms) scale h
+arc_at_one : (lts : System) (class : Class) (problem : Problem) (number : ℕ) (scale : ℤ) (x : Variable → ℤ) (q t q' : ℕ) → RowHolds lts class problem number scale x (row_name.Arc (arc q t q')) → RowHolds lts class problem number (pos 1) x (row_name.Arc (arc q t q'))
+arc_at_one lts class (Event s u) number scale x q t q' h = close (value_in x (shared_expression lts class [] (row_name.Arc (arc q t q'))).terms) scale h
   where
     close : (v k : ℤ) → v +ℤ (pos 0 *ℤ k) ≡ pos 0 → v +ℤ (pos 0 *ℤ pos 1) ≡ pos 0
     close v k h = omega (arith, ints)
-arc_at_one lts class (States s s') number scale x q t q' h = close (value_in x (shared_expression lts class [] (arc_row q t q')).terms) scale h
+arc_at_one lts class (States s s') number scale x q t q' h = close (value_in x (shared_expression lts class [] (row_name.Arc (arc q t q'))).terms) scale h
   where
     close : (v k : ℤ) → v +ℤ (pos 0 *ℤ k) ≡ pos 0 → v +ℤ (pos 0 *ℤ pos 1) ≡ pos 0
     close v k h = omega (arith, ints)
@@ -86,7 +88,7 @@ other_at_one lts class problem number scale x name not_arc plain bound positive 
     (low lts class problem number name plain bound stands) positive (said name (value_over scale x (row_expression lts class problem number [] name)) h))
 
 pub at_one : (lts : System) (class : Class) (problem : Problem) (number : ℕ) (scale : ℤ) (x : Variable → ℤ) → class.plain ≡ false → IsNone class.bound → pos 0 <ℤ scale → KeepsRowsOver lts class problem number scale x → KeepsRowsOver lts class problem number (pos 1) x
-at_one lts class problem number scale x plain bound positive keeps (arc_row q t q') stands = arc_at_one lts class problem number scale x q t q' (keeps (arc_row q t q') stands)
+at_one lts class problem number scale x plain bound positive keeps (row_name.Arc a) stands = arc_at_one lts class problem number scale x a.from a.label a.to (keeps (row_name.Arc a) stands)
 at_one lts class problem number scale x plain bound positive keeps name stands = other_at_one lts class problem number scale x name (λ h. h) plain bound positive stands (keeps name stands)
 
 -- ---- tokens that are not negative
@@ -97,7 +99,7 @@ same_numbers lts class problem number x y same keeps name stands = subst (Says n
     (sum_over-same (λ (t : Term). t.coefficient *ℤ x t.variable) (λ (t : Term). t.coefficient *ℤ y t.variable) (row_expression lts class problem number [] name).terms
     (λ t has. ap (λ z. t.coefficient *ℤ z) (same t.variable)))) (keeps name stands)
 
-pub tokens_stand : (lts : System) (class : Class) (problem : Problem) (number q : ℕ) → RowStands lts class problem number [] (tokens_row q)
+pub tokens_stand : (lts : System) (class : Class) (problem : Problem) (number q : ℕ) → RowStands lts class problem number [] (row_name.Tokens q)
 tokens_stand lts class (Event s t) number q = tt
 tokens_stand lts class (States s s') number q = tt
 

@@ -1,5 +1,5 @@
 -- In a class that is plain or bounded, the numbers that a point with whole forms makes are whole and keep all rows of the case.
-use Rattle.std.proofs.Common.{◌≡◌, ⊎_elim, ℕ, ◌*◌, ◌<◌, ◌≤◌, ◌&&◌, ◌||◌, not, is_some, unwrap_or, Option, Some, None, IfSome, Bool, true, false, if◌then◌else◌, List, [], ◌∷◌, ◌++◌, map, length, Contains, Ok, refl, sym, ap, ap₂, subst, ◌∙◌, arith}
+use Rattle.std.proofs.Common.{◌≡◌, ⊎_elim, ℕ, ◌<◌, ◌≤◌, ◌&&◌, ◌||◌, not, is_some, unwrap_or, Option, Some, None, IfSome, Bool, true, false, List, [], ◌∷◌, ◌++◌, map, length, Contains, Ok, refl, sym, ap, ap₂, subst, ◌∙◌, arith}
 use Rattle.std.specs.Prelude.{ℤ, pos, negsuc, neg_ℤ, ◌+ℤ◌, ◌*ℤ◌, ◌<ℤ◌, ◌≤ℤ◌, unsigned_abs}
 use Rattle.std.proofs.Math.IntN.{*ℤ-zero}
 use Rattle.std.proofs.lemmas.Int.{ints, by_lt_z}
@@ -19,8 +19,9 @@ use Rattle.rg_integers.proofs.Order.{mul-cancel_left, positive_differs}
 use Rattle.rg_linear.specs.Branching.{form_at}
 use Rattle.rg_linear.specs.Cycle.{CycleBasis}
 use Rattle.rg_linear.proofs.Branches.{positive_times_less}
-use Rattle.rg_refuting.specs.Expression.{Variable, Variable.tokens_at, Variable.effect_of}
-use Rattle.rg_refuting.specs.Row.{RowName.cap_row, RowName.block_row, RowName.empty_row, RowName.down_row, Form as SplitForm, Form.on_tokens, Form.on_start, form_variable, step_of}
+use Rattle.rg_refuting.specs.declared.Variable.{Variable}
+use Rattle.rg_refuting.specs.Row.{form_variable, step_of}
+use Rattle.rg_refuting.specs.declared.Form.{Form}
 use Rattle.rg_order_of_work.specs.Fold.{each, Ratio, whole, add}
 use Rattle.rg_order_of_work.specs.Rewriting.{has_label, all_numbers, has_start, splits_start, split_forms, CaseSystem}
 use Rattle.rg_order_of_work.specs.Values.{numbers_along}
@@ -45,6 +46,9 @@ use Rattle.rg_order_of_work.proofs.PlaceKept.{AreMoved, shift_by}
 use Rattle.rg_order_of_work.proofs.Overs.{whole_over, sum_in_range, along_gives_over, opposite_over, AreOver, one_value, least_over}
 use Rattle.rg_order_of_work.proofs.Lowered.{lowered, lowered_at, lowered_keeps}
 use Rattle.rg_order_of_work.proofs.Items.{each_length}
+use Rattle.rg_refuting.specs.declared.RowName.TheVariants as row_name
+use Rattle.rg_refuting.specs.declared.Form.TheVariants as split_form
+use Rattle.rg_refuting.specs.declared.Variable.TheVariants.{Tokens, Effect}
 
 module _ (lts : System) (tree : List Arc) (basis : CycleBasis) (class : Class) (problem : Problem) (number : ℕ) (case : CaseSystem) (first : ℤ) (effect : ℕ → ℤ)
     (scale : ℤ) (start : Ratio) (value : ℕ → Ratio) (effects found numbers : List Ratio) (out : ℕ → Ratio) (c : IsCaseOver lts tree basis class problem number case)
@@ -67,7 +71,7 @@ module _ (lts : System) (tree : List Arc) (basis : CycleBasis) (class : Class) (
   keeps = (start_means lts tree basis class problem number case first effect scale c e v.positive starts).0 met
 
   -- a variable that has a form is whole, by its steps
-  variable_steps : (split : SplitForm) → Contains (split_forms lts class problem) split → (u : ℤ) × (x (form_variable lts.initial split) ≡ scale *ℤ (pos (step_of class split) *ℤ u))
+  variable_steps : (split : Form) → Contains (split_forms lts class problem) split → (u : ℤ) × (x (form_variable lts.initial split) ≡ scale *ℤ (pos (step_of class split) *ℤ u))
   variable_steps split has =
       let f = form_of_variable lts tree basis class problem number case split c.is_case has in
       let (u, is) = whole_forms f.number f.within in
@@ -81,11 +85,11 @@ module _ (lts : System) (tree : List Arc) (basis : CycleBasis) (class : Class) (
       turn : (n u f s : ℤ) → n *ℤ (u *ℤ (f *ℤ s)) ≡ f *ℤ (s *ℤ (n *ℤ u))
       turn n u f s = simp ring
 
-  variable_whole : (split : SplitForm) → Contains (split_forms lts class problem) split → (u : ℤ) × (x (form_variable lts.initial split) ≡ scale *ℤ u)
+  variable_whole : (split : Form) → Contains (split_forms lts class problem) split → (u : ℤ) × (x (form_variable lts.initial split) ≡ scale *ℤ u)
   variable_whole split has = let (u, is) = variable_steps split has in (pos (step_of class split) *ℤ u, is)
 
-  start_whole : splits_start class problem ≡ true → (u : ℤ) × (x (tokens_at lts.initial) ≡ scale *ℤ (pos (unwrap_or class.marking 1) *ℤ u))
-  start_whole splits = variable_steps on_start (start_has lts class problem splits)
+  start_whole : splits_start class problem ≡ true → (u : ℤ) × (x (Tokens lts.initial) ≡ scale *ℤ (pos (unwrap_or class.marking 1) *ℤ u))
+  start_whole splits = variable_steps split_form.Start (start_has lts class problem splits)
 
   -- ---- the numbers of the fold
 
@@ -105,7 +109,7 @@ module _ (lts : System) (tree : List Arc) (basis : CycleBasis) (class : Class) (
   start_reduced = subst (λ l. IsReduced (ratio_at l (labels lts))) (sym same) (start_is_reduced lts basis start value first effect scale effects v made)
 
   -- the number of a state, before the shift
-  state_over : (s : ℕ) → s < states lts → IsOverAt scale (out s) (x (tokens_at s)) × IsReduced (out s)
+  state_over : (s : ℕ) → s < states lts → IsOverAt scale (out s) (x (Tokens s)) × IsReduced (out s)
   state_over s lt = along_gives_over lts tree scale (ratio_at found) out (ratio_at found (labels lts)) first effect s c.in_range c.is_tree (c.reachable.each s lt)
       (λ a has. label_over a.label (arc_in_range lts c.in_range a.from a.label a.to (tree_arcs lts (lts.initial ∷ []) tree a c.is_tree has)).1) start_over start_reduced
       along
@@ -122,21 +126,21 @@ module _ (lts : System) (tree : List Arc) (basis : CycleBasis) (class : Class) (
   -- ---- the effects
 
   module _ (y : Variable → ℤ) (parts : AreWholeParts lts scale x y) where
-    effect_whole : (t : ℕ) → t < labels lts → top_at found t ≡ y (effect_of t)
-    effect_whole t lt = ap (λ (r : Ratio). r.top) (whole_over scale (y (effect_of t)) (ratio_at found t) v.positive (subst (IsOverAt scale (ratio_at found t)) times (label_over t lt)) (label_reduced t lt))
+    effect_whole : (t : ℕ) → t < labels lts → top_at found t ≡ y (Effect t)
+    effect_whole t lt = ap (λ (r : Ratio). r.top) (whole_over scale (y (Effect t)) (ratio_at found t) v.positive (subst (IsOverAt scale (ratio_at found t)) times (label_over t lt)) (label_reduced t lt))
       where
         none : (s a b : ℤ) → a ≡ pos 0 → b ≡ pos 0 → a ≡ s *ℤ b
         none s a b p q = p ∙ sym (*ℤ-zero s) ∙ ap (λ z. s *ℤ z) (sym q)
 
-        times : effect t ≡ scale *ℤ y (effect_of t)
-        times = ⊎_elim (λ used. parts.effects t used) (λ unused. none scale (effect t) (y (effect_of t)) (e.unused t unused) (parts.unused t unused)) (cases_Bool (has_label t lts.arcs))
+        times : effect t ≡ scale *ℤ y (Effect t)
+        times = ⊎_elim (λ used. parts.effects t used) (λ unused. none scale (effect t) (y (Effect t)) (e.unused t unused) (parts.unused t unused)) (cases_Bool (has_label t lts.arcs))
 
     keeps_whole : KeepsRowsOver lts class problem number (pos 1) y
     keeps_whole = whole_rows lts class problem number scale x y c.in_range c.asked live parts keeps
 
   -- ---- a bounded class
 
-  bounded_kept : is_some class.bound ≡ true → (y : Variable → ℤ) × AreMoved lts class problem number found numbers y × (is_lifted class problem ≡ false → AllowsStart class (unsigned_abs (y (tokens_at lts.initial))))
+  bounded_kept : is_some class.bound ≡ true → (y : Variable → ℤ) × AreMoved lts class problem number found numbers y × (is_lifted class problem ≡ false → AllowsStart class (unsigned_abs (y (Tokens lts.initial))))
   bounded_kept bound =
       let (y, parts, allowed_start) = bounded_parts lts tree basis class problem number c.in_range c.is_tree scale v.positive first effect e keeps variable_whole start_whole bound in
       let kept = keeps_whole y parts in
@@ -147,7 +151,7 @@ module _ (lts : System) (tree : List Arc) (basis : CycleBasis) (class : Class) (
           at = (
             ap length stays ∙ list_length,
             λ s lt. (
-              ap (λ l. ratio_at l s) stays ∙ list_at s lt ∙ whole_over scale (y (tokens_at s)) (out s) v.positive (subst (IsOverAt scale (out s)) (exact bound y parts s lt) (state_over s lt).0) (state_over s lt).1,
+              ap (λ l. ratio_at l s) stays ∙ list_at s lt ∙ whole_over scale (y (Tokens s)) (out s) v.positive (subst (IsOverAt scale (out s)) (exact bound y parts s lt) (state_over s lt).0) (state_over s lt).1,
               fits y kept s lt (whole_tokens lts class problem number scale x y s parts keeps),
             ),
           );
@@ -156,10 +160,10 @@ module _ (lts : System) (tree : List Arc) (basis : CycleBasis) (class : Class) (
         λ none. allowed_start,
       )
     where
-      exact : is_some class.bound ≡ true → (y : Variable → ℤ) → AreWholeParts lts scale x y → (s : ℕ) → s < states lts → x (tokens_at s) ≡ scale *ℤ y (tokens_at s)
+      exact : is_some class.bound ≡ true → (y : Variable → ℤ) → AreWholeParts lts scale x y → (s : ℕ) → s < states lts → x (Tokens s) ≡ scale *ℤ y (Tokens s)
       exact bound y parts s lt =
-          let (u, is) = variable_whole (on_tokens s) (bounded_has lts class problem s bound lt) in
-          is ∙ ap (λ z. scale *ℤ z) (sym (rest_none scale (y (tokens_at s)) parts.rest u parts.not_negative parts.below (sym (parts.tokens s lt) ∙ is)).1)
+          let (u, is) = variable_whole (split_form.Tokens s) (bounded_has lts class problem s bound lt) in
+          is ∙ ap (λ z. scale *ℤ z) (sym (rest_none scale (y (Tokens s)) parts.rest u parts.not_negative parts.below (sym (parts.tokens s lt) ∙ is)).1)
 
       bound_in_range : InRange (pos (unwrap_or class.bound 0))
       bound_in_range = let h = few class.bound c.numbers.bound in omega (arith, ints, h)
@@ -177,12 +181,12 @@ module _ (lts : System) (tree : List Arc) (basis : CycleBasis) (class : Class) (
           between : (a b n : ℕ) → a ≤ b → b < n → a < n
           between a b n h g = omega arith
 
-      cap : (p : Problem) (y : Variable → ℤ) (s : ℕ) → s < states lts → KeepsRowsOver lts class p number (pos 1) y → pos 0 ≤ℤ (((negsuc 0 *ℤ y (tokens_at s)) +ℤ pos 0) +ℤ (pos (unwrap_or class.bound 0) *ℤ pos 1))
-      cap (Event a b) y s lt kept = kept (cap_row s) (lt, bound)
-      cap (States a b) y s lt kept = kept (cap_row s) (lt, bound)
+      cap : (p : Problem) (y : Variable → ℤ) (s : ℕ) → s < states lts → KeepsRowsOver lts class p number (pos 1) y → pos 0 ≤ℤ (((negsuc 0 *ℤ y (Tokens s)) +ℤ pos 0) +ℤ (pos (unwrap_or class.bound 0) *ℤ pos 1))
+      cap (Event a b) y s lt kept = kept (row_name.Cap s) (lt, bound)
+      cap (States a b) y s lt kept = kept (row_name.Cap s) (lt, bound)
 
-      fits : (y : Variable → ℤ) → KeepsRowsOver lts class problem number (pos 1) y → (s : ℕ) → s < states lts → pos 0 ≤ℤ y (tokens_at s) → InRange (y (tokens_at s))
-      fits y kept s lt low = capped (y (tokens_at s)) (pos (unwrap_or class.bound 0)) low (cap problem y s lt kept) bound_in_range
+      fits : (y : Variable → ℤ) → KeepsRowsOver lts class problem number (pos 1) y → (s : ℕ) → s < states lts → pos 0 ≤ℤ y (Tokens s) → InRange (y (Tokens s))
+      fits y kept s lt low = capped (y (Tokens s)) (pos (unwrap_or class.bound 0)) low (cap problem y s lt kept) bound_in_range
 
   -- ---- a plain class without bound
 
@@ -190,9 +194,9 @@ module _ (lts : System) (tree : List Arc) (basis : CycleBasis) (class : Class) (
   all_over r has =
       let (s, within, is) = Contains-of_map out (all_numbers (states lts)) r has in
       let (_, _, lt) = where_is (λ q. true) 0 (states lts) s within in
-      (x (tokens_at s), subst (λ q. IsOverAt scale q (x (tokens_at s))) is (state_over s (omega arith)).0)
+      (x (Tokens s), subst (λ q. IsOverAt scale q (x (Tokens s))) is (state_over s (omega arith)).0)
 
-  plain_kept : is_some class.bound ≡ false → class.plain ≡ true → (y : Variable → ℤ) × AreMoved lts class problem number found numbers y × (is_lifted class problem ≡ false → AllowsStart class (unsigned_abs (y (tokens_at lts.initial))))
+  plain_kept : is_some class.bound ≡ false → class.plain ≡ true → (y : Variable → ℤ) × AreMoved lts class problem number found numbers y × (is_lifted class problem ≡ false → AllowsStart class (unsigned_abs (y (Tokens lts.initial))))
   plain_kept bound plain =
       let (y, parts, start_steps) = plain_parts lts tree basis class problem number c.in_range c.is_tree scale v.positive first effect e keeps variable_whole start_whole bound plain in
       let kept = keeps_whole y parts in
@@ -202,34 +206,34 @@ module _ (lts : System) (tree : List Arc) (basis : CycleBasis) (class : Class) (
       let (_, _, below) = where_is (λ q. true) 0 (states lts) l within in
       let l_lt : l < states lts = omega arith in
       let over_l = (state_over l l_lt).0 in
-      let order : (s : ℕ) → s < states lts → y (tokens_at l) ≤ℤ y (tokens_at s) = λ s lt. parts_order scale (x (tokens_at l)) (x (tokens_at s)) (y (tokens_at l)) (y (tokens_at s)) parts.rest v.positive (parts.tokens l l_lt) (parts.tokens s lt) (low_at y parts l s l_lt lt is least over low) in
-      let le = down (y (tokens_at l)) (whole_tokens lts class problem number scale x y l parts keeps) in
-      let above : (s : ℕ) → s < states lts → pos 0 ≤ℤ (y (tokens_at s) +ℤ neg_ℤ (y (tokens_at l))) = λ s lt. difference (y (tokens_at l)) (y (tokens_at s)) (order s lt) in (
-        lowered (states lts) (neg_ℤ (y (tokens_at l))) y,
+      let order : (s : ℕ) → s < states lts → y (Tokens l) ≤ℤ y (Tokens s) = λ s lt. parts_order scale (x (Tokens l)) (x (Tokens s)) (y (Tokens l)) (y (Tokens s)) parts.rest v.positive (parts.tokens l l_lt) (parts.tokens s lt) (low_at y parts l s l_lt lt is least over low) in
+      let le = down (y (Tokens l)) (whole_tokens lts class problem number scale x y l parts keeps) in
+      let above : (s : ℕ) → s < states lts → pos 0 ≤ℤ (y (Tokens s) +ℤ neg_ℤ (y (Tokens l))) = λ s lt. difference (y (Tokens l)) (y (Tokens s)) (order s lt) in (
+        lowered (states lts) (neg_ℤ (y (Tokens l))) y,
         record {
-          keeps = lowered_keeps lts class plain bound c.in_range (neg_ℤ (y (tokens_at l))) le y above problem number c.asked kept;
+          keeps = lowered_keeps lts class plain bound c.in_range (neg_ℤ (y (Tokens l))) le y above problem number c.asked kept;
           at = (
             each_length (λ m. add m (negated (least_of list))) list numbers shifts ∙ list_length,
             λ s lt.
                 (let sum = subst (λ r. add r (negated (least_of list)) (Ok (ratio_at numbers s))) (list_at s lt) (each_at (λ m. add m (negated (least_of list))) list numbers (whole (pos 0)) (whole (pos 0)) s shifts (subst (λ k. s < k) (sym list_length) lt)) in
-                let at_l = subst (λ q. IsOverAt scale q (x (tokens_at l))) is over_l in
-                let opposite = opposite_over scale (x (tokens_at l)) (least_of list) at_l in
-                let value_is = whole_over scale (y (tokens_at s) +ℤ neg_ℤ (y (tokens_at l))) (ratio_at numbers s) v.positive
+                let at_l = subst (λ q. IsOverAt scale q (x (Tokens l))) is over_l in
+                let opposite = opposite_over scale (x (Tokens l)) (least_of list) at_l in
+                let value_is = whole_over scale (y (Tokens s) +ℤ neg_ℤ (y (Tokens l))) (ratio_at numbers s) v.positive
                 (subst (IsOverAt scale (ratio_at numbers s))
-                (parts_less scale (x (tokens_at l)) (x (tokens_at s)) (y (tokens_at l)) (y (tokens_at s)) parts.rest (parts.tokens l l_lt) (parts.tokens s lt)) (
-                  add_over scale (out s) (negated (least_of list)) (ratio_at numbers s) (x (tokens_at s)) (neg_ℤ (x (tokens_at l))) sum
+                (parts_less scale (x (Tokens l)) (x (Tokens s)) (y (Tokens l)) (y (Tokens s)) parts.rest (parts.tokens l l_lt) (parts.tokens s lt)) (
+                  add_over scale (out s) (negated (least_of list)) (ratio_at numbers s) (x (Tokens s)) (neg_ℤ (x (Tokens l))) sum
                       (state_over s lt).0.0 opposite.0,
                   sum.2.positive,
                 ))
                 sum.2.reduced in
-                let same_y = lowered_at lts class plain bound c.in_range (neg_ℤ (y (tokens_at l))) le y above s lt in (
+                let same_y = lowered_at lts class plain bound c.in_range (neg_ℤ (y (Tokens l))) le y above s lt in (
                   value_is ∙ ap whole (sym same_y),
-                  subst InRange (sym same_y) (sum_in_range (out s) (negated (least_of list)) (y (tokens_at s) +ℤ neg_ℤ (y (tokens_at l))) (state_over s lt).0.1 opposite.1 (subst (λ r. add (out s) (negated (least_of list)) (Ok r)) value_is sum)),
+                  subst InRange (sym same_y) (sum_in_range (out s) (negated (least_of list)) (y (Tokens s) +ℤ neg_ℤ (y (Tokens l))) (state_over s lt).0.1 opposite.1 (subst (λ r. add (out s) (negated (least_of list)) (Ok r)) value_is sum)),
                 )),
           );
           effects = effect_whole y parts;
         },
-        λ none. subst (λ z. AllowsStart class (unsigned_abs z)) (sym (lowered_at lts class plain bound c.in_range (neg_ℤ (y (tokens_at l))) le y above lts.initial c.in_range.initial))
+        λ none. subst (λ z. AllowsStart class (unsigned_abs z)) (sym (lowered_at lts class plain bound c.in_range (neg_ℤ (y (Tokens l))) le y above lts.initial c.in_range.initial))
             (allowed_by problem y l bound plain c.asked kept (λ s lt. order s lt) (whole_tokens lts class problem number scale x y l parts keeps) start_steps none),
       )
     where
@@ -261,17 +265,17 @@ module _ (lts : System) (tree : List Arc) (basis : CycleBasis) (class : Class) (
           same a l e = omega (arith, ints)
 
       -- of an event the least is 0, at the stopped state; of two states the numbers are moved back
-      allowed_by : (p : Problem) (y : Variable → ℤ) (l : ℕ) → is_some class.bound ≡ false → class.plain ≡ true → IsSeparationProblem lts p → KeepsRowsOver lts class p number (pos 1) y → ((s : ℕ) → s < states lts → y (tokens_at l) ≤ℤ y (tokens_at s)) → pos 0 ≤ℤ y (tokens_at l)
-          → (splits_start class p ≡ true → (u : ℤ) × (y (tokens_at lts.initial) ≡ pos (unwrap_or class.marking 1) *ℤ u)) → is_lifted class p ≡ false → AllowsStart class (unsigned_abs (y (tokens_at lts.initial) +ℤ neg_ℤ (y (tokens_at l))))
+      allowed_by : (p : Problem) (y : Variable → ℤ) (l : ℕ) → is_some class.bound ≡ false → class.plain ≡ true → IsSeparationProblem lts p → KeepsRowsOver lts class p number (pos 1) y → ((s : ℕ) → s < states lts → y (Tokens l) ≤ℤ y (Tokens s)) → pos 0 ≤ℤ y (Tokens l)
+          → (splits_start class p ≡ true → (u : ℤ) × (y (Tokens lts.initial) ≡ pos (unwrap_or class.marking 1) *ℤ u)) → is_lifted class p ≡ false → AllowsStart class (unsigned_abs (y (Tokens lts.initial) +ℤ neg_ℤ (y (Tokens l))))
       allowed_by (Event s t) y l bound plain asked kept order low steps none =
           let least = ⊎_elim
-          (λ pure. low_block (y (tokens_at s)) (y (effect_of t)) (y (tokens_at l)) low (order s asked.0) (kept block_row pure) (kept (down_row t) (asked.1, plain)))
-          (λ impure. low_empty (y (tokens_at s)) (y (tokens_at l)) low (order s asked.0) (kept empty_row (plain, impure)))
+          (λ pure. low_block (y (Tokens s)) (y (Effect t)) (y (Tokens l)) low (order s asked.0) (kept row_name.Block pure) (kept (row_name.Down t) (asked.1, plain)))
+          (λ impure. low_empty (y (Tokens s)) (y (Tokens l)) low (order s asked.0) (kept row_name.Empty (plain, impure)))
           (cases_Bool class.pure) in
-          allowed class.marking (unsigned_abs (y (tokens_at lts.initial) +ℤ neg_ℤ (y (tokens_at l))))
-          (λ some. (let (u, is) = steps (event_splits (is_some class.marking) class.plain (is_some class.bound) some plain) in allows_by class (y (tokens_at lts.initial) +ℤ neg_ℤ (y (tokens_at l))) u (less_none (y (tokens_at lts.initial)) (y (tokens_at l)) (unwrap_or class.marking 1) u least is)))
+          allowed class.marking (unsigned_abs (y (Tokens lts.initial) +ℤ neg_ℤ (y (Tokens l))))
+          (λ some. (let (u, is) = steps (event_splits (is_some class.marking) class.plain (is_some class.bound) some plain) in allows_by class (y (Tokens lts.initial) +ℤ neg_ℤ (y (Tokens l))) u (less_none (y (Tokens lts.initial)) (y (Tokens l)) (unwrap_or class.marking 1) u least is)))
       allowed_by (States s s') y l bound plain asked kept order low steps none =
-          allowed class.marking (unsigned_abs (y (tokens_at lts.initial) +ℤ neg_ℤ (y (tokens_at l)))) (λ some. absurd (true≢false (sym (states_lifts (is_some class.marking) class.plain (is_some class.bound) some plain bound) ∙ none)))
+          allowed class.marking (unsigned_abs (y (Tokens lts.initial) +ℤ neg_ℤ (y (Tokens l)))) (λ some. absurd (true≢false (sym (states_lifts (is_some class.marking) class.plain (is_some class.bound) some plain bound) ∙ none)))
 
       down : (z : ℤ) → pos 0 ≤ℤ z → neg_ℤ z ≤ℤ pos 0
       down z h = omega (arith, ints)
@@ -285,13 +289,13 @@ module _ (lts : System) (tree : List Arc) (basis : CycleBasis) (class : Class) (
       parts_less : (k a b y z r : ℤ) → a ≡ (k *ℤ y) +ℤ r → b ≡ (k *ℤ z) +ℤ r → b +ℤ neg_ℤ a ≡ k *ℤ (z +ℤ neg_ℤ y)
       parts_less k a b y z r p q = let d : k *ℤ (z +ℤ neg_ℤ y) ≡ (k *ℤ z) +ℤ neg_ℤ (k *ℤ y) = simp ring (omega (arith, ints)) in omega (arith, ints)
 
-      low_at : (y : Variable → ℤ) → AreWholeParts lts scale x y → (l s : ℕ) → l < states lts → s < states lts → out l ≡ least_of list → (least : ℤ) → IsOverAt scale (least_of list) least → ((r : Ratio) (z : ℤ) → Contains list r → IsOverAt scale r z → least ≤ℤ z) → x (tokens_at l) ≤ℤ x (tokens_at s)
+      low_at : (y : Variable → ℤ) → AreWholeParts lts scale x y → (l s : ℕ) → l < states lts → s < states lts → out l ≡ least_of list → (least : ℤ) → IsOverAt scale (least_of list) least → ((r : Ratio) (z : ℤ) → Contains list r → IsOverAt scale r z → least ≤ℤ z) → x (Tokens l) ≤ℤ x (Tokens s)
       low_at y parts l s l_lt lt is least over low =
-          let same_l = one_value scale (x (tokens_at l)) least (least_of list) (subst (λ q. IsOverAt scale q (x (tokens_at l))) is (state_over l l_lt).0) over in
-          let h = low (ratio_at list s) (x (tokens_at s)) (Contains-get_or list s (whole (pos 0)) (subst (λ k. s < k) (sym list_length) lt)) (subst (λ q. IsOverAt scale q (x (tokens_at s))) (sym (list_at s lt)) (state_over s lt).0) in
-          subst (λ z. z ≤ℤ x (tokens_at s)) (sym same_l) h
+          let same_l = one_value scale (x (Tokens l)) least (least_of list) (subst (λ q. IsOverAt scale q (x (Tokens l))) is (state_over l l_lt).0) over in
+          let h = low (ratio_at list s) (x (Tokens s)) (Contains-get_or list s (whole (pos 0)) (subst (λ k. s < k) (sym list_length) lt)) (subst (λ q. IsOverAt scale q (x (Tokens s))) (sym (list_at s lt)) (state_over s lt).0) in
+          subst (λ z. z ≤ℤ x (Tokens s)) (sym same_l) h
 
-  pub whole_kept : (y : Variable → ℤ) × AreMoved lts class problem number found numbers y × (is_lifted class problem ≡ false → AllowsStart class (unsigned_abs (y (tokens_at lts.initial))))
+  pub whole_kept : (y : Variable → ℤ) × AreMoved lts class problem number found numbers y × (is_lifted class problem ≡ false → AllowsStart class (unsigned_abs (y (Tokens lts.initial))))
   whole_kept = ⊎_elim bounded_kept (λ bound. plain_kept bound (plainly class.plain (is_some class.bound) whole_class bound)) (cases_Bool (is_some class.bound))
     where
       plainly : (a b : Bool) → (a || b) ≡ true → b ≡ false → a ≡ true

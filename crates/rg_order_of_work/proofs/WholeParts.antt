@@ -2,7 +2,7 @@
 use Rattle.std.proofs.Common.{◌≡◌, ⊎_elim, ℕ, zero, suc, ◌<◌, true, [], sym, subst, unwrap_or, arith}
 use Rattle.std.specs.Prelude.{ℤ, pos, negsuc, neg_ℤ, ◌+ℤ◌, ◌-ℤ◌, ◌*ℤ◌, ◌<ℤ◌, ◌≤ℤ◌}
 use Rattle.std.proofs.lemmas.Int.{ints, by_lt_z}
-use Rattle.std.proofs.lemmas.Bool.{true≢false, cases_lt, cases_Bool}
+use Rattle.std.proofs.lemmas.Bool.{cases_lt, cases_Bool}
 use Rattle.rg_theory.specs.declared.Class.{Class}
 use Rattle.rg_theory.specs.declared.Problem.{Problem}
 use Rattle.rg_theory.specs.declared.Problem.TheVariants.{Event, States}
@@ -11,9 +11,9 @@ use Rattle.rg_theory.proofs.Arcs.{arc_in_range}
 use Rattle.rg_integers.proofs.Ring.{ring}
 use Rattle.rg_integers.proofs.Order.{mul-cancel_left, positive_differs}
 use Rattle.rg_linear.proofs.Branches.{positive_times_most}
-use Rattle.rg_refuting.specs.Expression.{Variable, Variable.tokens_at, Variable.effect_of}
-use Rattle.rg_refuting.specs.Row.{RowName, RowName.arc_row, RowName.tokens_row, RowName.cap_row, RowName.up_row, RowName.down_row, RowName.makes_row, RowName.stop_row}
-use Rattle.rg_refuting.specs.Row.{RowName.block_row, RowName.empty_row, RowName.full_row, RowName.keep_row, RowName.apart_row, RowName.above_row, SharedStands, RowStands}
+use Rattle.rg_refuting.specs.declared.Variable.{Variable}
+use Rattle.rg_refuting.specs.declared.RowName.{RowName}
+use Rattle.rg_refuting.specs.Row.{SharedStands, RowStands}
 use Rattle.rg_refuting.specs.Row.{shared_expression, apart_expression, order_of, consumer_of, Says}
 use Rattle.rg_refuting.specs.Refutes.{IsSeparationProblem}
 use Rattle.rg_order_of_work.specs.Rewriting.{has_label}
@@ -23,6 +23,8 @@ use Rattle.rg_order_of_work.proofs.CaseRows.{tokens_row_holds}
 use Rattle.rg_order_of_work.proofs.Kept.{live_label}
 use Rattle.rg_order_of_work.specs.WholeParts.{AreWholeParts}
 use Rattle.rg_order_of_work.specs.Meaning.{value_over, RowHolds, KeepsRowsOver}
+use Rattle.rg_refuting.specs.declared.RowName.TheVariants as row_name
+use Rattle.rg_refuting.specs.declared.Variable.TheVariants.{Tokens, Effect}
 
 -- ---- one multiple
 
@@ -81,28 +83,28 @@ effect_rest k x y e = omega (arith, ints)
 
 -- ---- each row
 
-pub whole_tokens : (lts : System) (class : Class) (problem : Problem) (number : ℕ) (scale : ℤ) (x y : Variable → ℤ) (q : ℕ) → AreWholeParts lts scale x y → KeepsRowsOver lts class problem number scale x → pos 0 ≤ℤ y (tokens_at q)
+pub whole_tokens : (lts : System) (class : Class) (problem : Problem) (number : ℕ) (scale : ℤ) (x y : Variable → ℤ) (q : ℕ) → AreWholeParts lts scale x y → KeepsRowsOver lts class problem number scale x → pos 0 ≤ℤ y (Tokens q)
 whole_tokens lts class problem number scale x y q parts keeps = ⊎_elim
-    (λ lt. up_to_rest scale (y (tokens_at q)) parts.rest parts.positive parts.below (subst (λ z. pos 0 ≤ℤ z) (parts.tokens q lt) ((tokens_row_holds lts class problem number scale x q).1 (keeps (tokens_row q) (stand problem)))))
+    (λ lt. up_to_rest scale (y (Tokens q)) parts.rest parts.positive parts.below (subst (λ z. pos 0 ≤ℤ z) (parts.tokens q lt) ((tokens_row_holds lts class problem number scale x q).1 (keeps (row_name.Tokens q) (stand problem)))))
     (λ le. parts.others q le)
     (cases_lt q (states lts))
   where
-    stand : (p : Problem) → RowStands lts class p number [] (tokens_row q)
+    stand : (p : Problem) → RowStands lts class p number [] (row_name.Tokens q)
     stand (Event s t) = tt
     stand (States s s') = tt
 
-effect_up : (lts : System) (scale : ℤ) (x y : Variable → ℤ) (t : ℕ) (c : ℤ) → AreWholeParts lts scale x y → pos 0 ≤ℤ c → pos 0 ≤ℤ (((pos 1 *ℤ x (effect_of t)) +ℤ pos 0) +ℤ (c *ℤ scale)) → pos 0 ≤ℤ (((pos 1 *ℤ y (effect_of t)) +ℤ pos 0) +ℤ (c *ℤ pos 1))
+effect_up : (lts : System) (scale : ℤ) (x y : Variable → ℤ) (t : ℕ) (c : ℤ) → AreWholeParts lts scale x y → pos 0 ≤ℤ c → pos 0 ≤ℤ (((pos 1 *ℤ x (Effect t)) +ℤ pos 0) +ℤ (c *ℤ scale)) → pos 0 ≤ℤ (((pos 1 *ℤ y (Effect t)) +ℤ pos 0) +ℤ (c *ℤ pos 1))
 effect_up lts scale x y t c parts weak h = ⊎_elim
-    (λ e. one_up scale (x (effect_of t)) (y (effect_of t)) (pos 0) c parts.positive parts.positive (effect_rest scale (x (effect_of t)) (y (effect_of t)) (parts.effects t e)) h)
+    (λ e. one_up scale (x (Effect t)) (y (Effect t)) (pos 0) c parts.positive parts.positive (effect_rest scale (x (Effect t)) (y (Effect t)) (parts.effects t e)) h)
     (λ e. subst (λ z. pos 0 ≤ℤ (((pos 1 *ℤ z) +ℤ pos 0) +ℤ (c *ℤ pos 1))) (sym (parts.unused t e)) (none c weak))
     (cases_Bool (has_label t lts.arcs))
   where
     none : (c : ℤ) → pos 0 ≤ℤ c → pos 0 ≤ℤ (((pos 1 *ℤ pos 0) +ℤ pos 0) +ℤ (c *ℤ pos 1))
     none c h = let one : c *ℤ pos 1 ≡ c = simp ring in omega (arith, ints)
 
-effect_down : (lts : System) (scale : ℤ) (x y : Variable → ℤ) (t : ℕ) (c : ℤ) → AreWholeParts lts scale x y → pos 0 ≤ℤ c → pos 0 ≤ℤ (((negsuc 0 *ℤ x (effect_of t)) +ℤ pos 0) +ℤ (c *ℤ scale)) → pos 0 ≤ℤ (((negsuc 0 *ℤ y (effect_of t)) +ℤ pos 0) +ℤ (c *ℤ pos 1))
+effect_down : (lts : System) (scale : ℤ) (x y : Variable → ℤ) (t : ℕ) (c : ℤ) → AreWholeParts lts scale x y → pos 0 ≤ℤ c → pos 0 ≤ℤ (((negsuc 0 *ℤ x (Effect t)) +ℤ pos 0) +ℤ (c *ℤ scale)) → pos 0 ≤ℤ (((negsuc 0 *ℤ y (Effect t)) +ℤ pos 0) +ℤ (c *ℤ pos 1))
 effect_down lts scale x y t c parts weak h = ⊎_elim
-    (λ e. one_down scale (x (effect_of t)) (y (effect_of t)) (pos 0) c parts.positive (omega (arith, ints)) (effect_rest scale (x (effect_of t)) (y (effect_of t)) (parts.effects t e)) h)
+    (λ e. one_down scale (x (Effect t)) (y (Effect t)) (pos 0) c parts.positive (omega (arith, ints)) (effect_rest scale (x (Effect t)) (y (Effect t)) (parts.effects t e)) h)
     (λ e. subst (λ z. pos 0 ≤ℤ (((negsuc 0 *ℤ z) +ℤ pos 0) +ℤ (c *ℤ pos 1))) (sym (parts.unused t e)) (none c weak))
     (cases_Bool (has_label t lts.arcs))
   where
@@ -110,42 +112,42 @@ effect_down lts scale x y t c parts weak h = ⊎_elim
     none c h = let one : c *ℤ pos 1 ≡ c = simp ring in omega (arith, ints)
 
 shared_parts : (lts : System) (class : Class) (consumer : ℕ) (scale : ℤ) (x y : Variable → ℤ) (name : RowName) → IsInRange lts → AreWholeParts lts scale x y
-    → ((q : ℕ) → pos 0 ≤ℤ y (tokens_at q)) → SharedStands lts class consumer [] name → Says name (value_over scale x (shared_expression lts class [] name))
+    → ((q : ℕ) → pos 0 ≤ℤ y (Tokens q)) → SharedStands lts class consumer [] name → Says name (value_over scale x (shared_expression lts class [] name))
     → Says name (value_over (pos 1) y (shared_expression lts class [] name))
-shared_parts lts class consumer scale x y (arc_row q t q') fine parts tokens has h =
-    let ranges = arc_in_range lts fine q t q' has in
-    along scale (x (tokens_at q)) (x (effect_of t)) (x (tokens_at q')) (y (tokens_at q)) (y (effect_of t)) (y (tokens_at q')) parts.rest parts.positive (parts.tokens q ranges.0) (parts.effects t (finds_label (record { from = q; label = t; to = q' }) lts.arcs has)) (parts.tokens q' ranges.2) h
-shared_parts lts class consumer scale x y (tokens_row q) fine parts tokens stands h = let above = tokens q in omega (arith, ints)
-shared_parts lts class consumer scale x y (cap_row q) fine parts tokens (lt, some) h = one_down scale (x (tokens_at q)) (y (tokens_at q)) parts.rest (pos (unwrap_or class.bound 0)) parts.positive parts.not_negative (parts.tokens q lt) h
-shared_parts lts class consumer scale x y (up_row t) fine parts tokens stands h = effect_down lts scale x y t (pos 1) parts (omega (arith, ints)) h
-shared_parts lts class consumer scale x y (down_row t) fine parts tokens stands h = effect_up lts scale x y t (pos 1) parts (omega (arith, ints)) h
-shared_parts lts class consumer scale x y (makes_row t) fine parts tokens stands h = effect_up lts scale x y t (pos 0) parts (omega (arith, ints)) h
-shared_parts lts class consumer scale x y (above_row d) fine parts tokens stands h = absurd stands
-shared_parts lts class consumer scale x y (stop_row q) fine parts tokens stands h = absurd stands
-shared_parts lts class consumer scale x y block_row fine parts tokens stands h = absurd stands
-shared_parts lts class consumer scale x y empty_row fine parts tokens stands h = absurd stands
-shared_parts lts class consumer scale x y (full_row q) fine parts tokens stands h = absurd stands
-shared_parts lts class consumer scale x y keep_row fine parts tokens stands h = absurd stands
-shared_parts lts class consumer scale x y apart_row fine parts tokens stands h = absurd stands
+shared_parts lts class consumer scale x y (row_name.Arc a) fine parts tokens has h =
+    let ranges = arc_in_range lts fine a.from a.label a.to has in
+    along scale (x (Tokens a.from)) (x (Effect a.label)) (x (Tokens a.to)) (y (Tokens a.from)) (y (Effect a.label)) (y (Tokens a.to)) parts.rest parts.positive (parts.tokens a.from ranges.0) (parts.effects a.label (finds_label a lts.arcs has)) (parts.tokens a.to ranges.2) h
+shared_parts lts class consumer scale x y (row_name.Tokens q) fine parts tokens stands h = let above = tokens q in omega (arith, ints)
+shared_parts lts class consumer scale x y (row_name.Cap q) fine parts tokens (lt, some) h = one_down scale (x (Tokens q)) (y (Tokens q)) parts.rest (pos (unwrap_or class.bound 0)) parts.positive parts.not_negative (parts.tokens q lt) h
+shared_parts lts class consumer scale x y (row_name.Up t) fine parts tokens stands h = effect_down lts scale x y t (pos 1) parts (omega (arith, ints)) h
+shared_parts lts class consumer scale x y (row_name.Down t) fine parts tokens stands h = effect_up lts scale x y t (pos 1) parts (omega (arith, ints)) h
+shared_parts lts class consumer scale x y (row_name.Makes t) fine parts tokens stands h = effect_up lts scale x y t (pos 0) parts (omega (arith, ints)) h
+shared_parts lts class consumer scale x y (row_name.Above d) fine parts tokens stands h = absurd stands
+shared_parts lts class consumer scale x y (row_name.Stop q) fine parts tokens stands h = absurd stands
+shared_parts lts class consumer scale x y row_name.Block fine parts tokens stands h = absurd stands
+shared_parts lts class consumer scale x y row_name.Empty fine parts tokens stands h = absurd stands
+shared_parts lts class consumer scale x y (row_name.Full q) fine parts tokens stands h = absurd stands
+shared_parts lts class consumer scale x y row_name.Keep fine parts tokens stands h = absurd stands
+shared_parts lts class consumer scale x y row_name.Apart fine parts tokens stands h = absurd stands
 
 event_parts : (lts : System) (class : Class) (s t number : ℕ) (scale : ℤ) (x y : Variable → ℤ) (name : RowName) → IsInRange lts → s < states lts
-    → has_label t lts.arcs ≡ true → AreWholeParts lts scale x y → ((q : ℕ) → pos 0 ≤ℤ y (tokens_at q)) → RowStands lts class (Event s t) number [] name
+    → has_label t lts.arcs ≡ true → AreWholeParts lts scale x y → ((q : ℕ) → pos 0 ≤ℤ y (Tokens q)) → RowStands lts class (Event s t) number [] name
     → RowHolds lts class (Event s t) number scale x name → RowHolds lts class (Event s t) number (pos 1) y name
-event_parts lts class s t number scale x y (stop_row q) fine lt live parts tokens (pure, plain, (q', has)) h = one_less scale (x (tokens_at q)) (x (tokens_at s)) (y (tokens_at q)) (y (tokens_at s)) parts.rest parts.positive (parts.tokens q (arc_in_range lts fine q t q' has).0) (parts.tokens s lt) h
-event_parts lts class s t number scale x y block_row fine lt live parts tokens stands h = both_down scale (x (tokens_at s)) (x (effect_of t)) (y (tokens_at s)) (y (effect_of t)) parts.rest parts.positive parts.not_negative (parts.tokens s lt) (parts.effects t live) h
-event_parts lts class s t number scale x y empty_row fine lt live parts tokens stands h = one_down scale (x (tokens_at s)) (y (tokens_at s)) parts.rest (pos 0) parts.positive parts.not_negative (parts.tokens s lt) h
-event_parts lts class s t number scale x y (full_row q) fine lt live parts tokens (plain, pure, (q', has)) h = one_up scale (x (tokens_at q)) (y (tokens_at q)) parts.rest (negsuc 0) parts.positive parts.below (parts.tokens q (arc_in_range lts fine q t q' has).0) h
-event_parts lts class s t number scale x y keep_row fine lt live parts tokens stands h = one_down scale (x (effect_of t)) (y (effect_of t)) (pos 0) (pos 0) parts.positive (omega (arith, ints)) (effect_rest scale (x (effect_of t)) (y (effect_of t)) (parts.effects t live)) h
+event_parts lts class s t number scale x y (row_name.Stop q) fine lt live parts tokens (pure, plain, (q', has)) h = one_less scale (x (Tokens q)) (x (Tokens s)) (y (Tokens q)) (y (Tokens s)) parts.rest parts.positive (parts.tokens q (arc_in_range lts fine q t q' has).0) (parts.tokens s lt) h
+event_parts lts class s t number scale x y row_name.Block fine lt live parts tokens stands h = both_down scale (x (Tokens s)) (x (Effect t)) (y (Tokens s)) (y (Effect t)) parts.rest parts.positive parts.not_negative (parts.tokens s lt) (parts.effects t live) h
+event_parts lts class s t number scale x y row_name.Empty fine lt live parts tokens stands h = one_down scale (x (Tokens s)) (y (Tokens s)) parts.rest (pos 0) parts.positive parts.not_negative (parts.tokens s lt) h
+event_parts lts class s t number scale x y (row_name.Full q) fine lt live parts tokens (plain, pure, (q', has)) h = one_up scale (x (Tokens q)) (y (Tokens q)) parts.rest (negsuc 0) parts.positive parts.below (parts.tokens q (arc_in_range lts fine q t q' has).0) h
+event_parts lts class s t number scale x y row_name.Keep fine lt live parts tokens stands h = one_down scale (x (Effect t)) (y (Effect t)) (pos 0) (pos 0) parts.positive (omega (arith, ints)) (effect_rest scale (x (Effect t)) (y (Effect t)) (parts.effects t live)) h
 event_parts lts class s t number scale x y name fine lt live parts tokens stands h = shared_parts lts class t scale x y name fine parts tokens stands h
 
 apart_parts : (lts : System) (s s' order : ℕ) (scale : ℤ) (x y : Variable → ℤ) → s < states lts → s' < states lts → AreWholeParts lts scale x y → pos 0 ≤ℤ value_over scale x (apart_expression s s' order) → pos 0 ≤ℤ value_over (pos 1) y (apart_expression s s' order)
-apart_parts lts s s' zero scale x y lt lt' parts h = one_less scale (x (tokens_at s')) (x (tokens_at s)) (y (tokens_at s')) (y (tokens_at s)) parts.rest parts.positive (parts.tokens s' lt') (parts.tokens s lt) h
-apart_parts lts s s' (suc order) scale x y lt lt' parts h = one_less scale (x (tokens_at s)) (x (tokens_at s')) (y (tokens_at s)) (y (tokens_at s')) parts.rest parts.positive (parts.tokens s lt) (parts.tokens s' lt') h
+apart_parts lts s s' zero scale x y lt lt' parts h = one_less scale (x (Tokens s')) (x (Tokens s)) (y (Tokens s')) (y (Tokens s)) parts.rest parts.positive (parts.tokens s' lt') (parts.tokens s lt) h
+apart_parts lts s s' (suc order) scale x y lt lt' parts h = one_less scale (x (Tokens s)) (x (Tokens s')) (y (Tokens s)) (y (Tokens s')) parts.rest parts.positive (parts.tokens s lt) (parts.tokens s' lt') h
 
 state_parts : (lts : System) (class : Class) (s s' number : ℕ) (scale : ℤ) (x y : Variable → ℤ) (name : RowName) → IsInRange lts → s < states lts → s' < states lts
-    → AreWholeParts lts scale x y → ((q : ℕ) → pos 0 ≤ℤ y (tokens_at q)) → RowStands lts class (States s s') number [] name
+    → AreWholeParts lts scale x y → ((q : ℕ) → pos 0 ≤ℤ y (Tokens q)) → RowStands lts class (States s s') number [] name
     → RowHolds lts class (States s s') number scale x name → RowHolds lts class (States s s') number (pos 1) y name
-state_parts lts class s s' number scale x y apart_row fine lt lt' parts tokens stands h = apart_parts lts s s' (order_of lts class number) scale x y lt lt' parts h
+state_parts lts class s s' number scale x y row_name.Apart fine lt lt' parts tokens stands h = apart_parts lts s s' (order_of lts class number) scale x y lt lt' parts h
 state_parts lts class s s' number scale x y name fine lt lt' parts tokens stands h = shared_parts lts class (consumer_of lts number) scale x y name fine parts tokens stands h
 
 pub whole_rows : (lts : System) (class : Class) (problem : Problem) (number : ℕ) (scale : ℤ) (x y : Variable → ℤ) → IsInRange lts → IsSeparationProblem lts problem

@@ -18,8 +18,10 @@ use Rattle.rg_integers.specs.Sum.{sum_below}
 use Rattle.rg_integers.proofs.Ring.{ring}
 use Rattle.rg_integers.proofs.Order.{mul_positive}
 use Rattle.rg_linear.specs.Cycle.{CycleBasis}
-use Rattle.rg_refuting.specs.Expression.{Variable, Variable.tokens_at, Variable.effect_of, numbers_by}
-use Rattle.rg_refuting.specs.Row.{Form as SplitForm, Form.on_tokens, Form.on_effect, Form.on_start, RowName.tokens_row, form_variable, step_of, cases_of}
+use Rattle.rg_refuting.specs.Expression.{numbers_by}
+use Rattle.rg_refuting.specs.declared.Variable.{Variable}
+use Rattle.rg_refuting.specs.Row.{form_variable, step_of, cases_of}
+use Rattle.rg_refuting.specs.declared.Form.{Form}
 use Rattle.rg_refuting.specs.Refutes.{IsSeparationProblem, IsSeparable}
 use Rattle.rg_refuting.proofs.Making.{rows_exact}
 use Rattle.rg_order_of_work.specs.Rewriting.{has_label, has_start, splits_start, split_forms, CaseSystem, used_labels, all_numbers}
@@ -40,6 +42,9 @@ use Rattle.rg_order_of_work.proofs.CaseRows.{tokens_row_holds}
 use Rattle.rg_order_of_work.proofs.Along.{number_at_first}
 use Rattle.rg_order_of_work.proofs.WholeParts.{whole_rows}
 use Rattle.rg_order_of_work.proofs.Forms.{variable_multiple, whole_forms, bounded_has, plain_has, start_has, form_names, form_there, form_count, start_of_bound, start_of_plain}
+use Rattle.rg_refuting.specs.declared.RowName.TheVariants as row_name
+use Rattle.rg_refuting.specs.declared.Form.TheVariants as split_form
+use Rattle.rg_refuting.specs.declared.Variable.TheVariants.{Tokens, Effect}
 
 -- ---- whole parts
 
@@ -96,7 +101,7 @@ label_found t (a ∷ arcs) e = go (a.label == t) refl e (label_found t arcs)
 -- ---- whole numbers, chosen
 
 module _ (lts : System) (k : ℤ) (positive : pos 0 <ℤ k) (x : Variable → ℤ) (rest : ℤ) (not_negative : pos 0 ≤ℤ rest) (below : rest <ℤ k)
-    (tokens : (q : ℕ) → q < states lts → (u : ℤ) × (x (tokens_at q) ≡ (k *ℤ u) +ℤ rest)) (effects : (t : ℕ) → has_label t lts.arcs ≡ true → IsTimes k (x (effect_of t)))
+    (tokens : (q : ℕ) → q < states lts → (u : ℤ) × (x (Tokens q) ≡ (k *ℤ u) +ℤ rest)) (effects : (t : ℕ) → has_label t lts.arcs ≡ true → IsTimes k (x (Effect t)))
   where
     choose_tokens : (q : ℕ) → (q < states lts) ⊎ (states lts ≤ q) → ℤ
     choose_tokens q (inl lt) = (tokens q lt).0
@@ -107,14 +112,14 @@ module _ (lts : System) (k : ℤ) (positive : pos 0 <ℤ k) (x : Variable → �
     choose_effect t (inr e) = pos 0
 
     chosen : Variable → ℤ
-    chosen (tokens_at q) = choose_tokens q (cases_lt q (states lts))
-    chosen (effect_of t) = choose_effect t (cases_Bool (has_label t lts.arcs))
+    chosen (Tokens q) = choose_tokens q (cases_lt q (states lts))
+    chosen (Effect t) = choose_effect t (cases_Bool (has_label t lts.arcs))
 
-    chosen_tokens : (q : ℕ) → q < states lts → x (tokens_at q) ≡ (k *ℤ chosen (tokens_at q)) +ℤ rest
+    chosen_tokens : (q : ℕ) → q < states lts → x (Tokens q) ≡ (k *ℤ chosen (Tokens q)) +ℤ rest
     unfolding chosen choose_tokens
     chosen_tokens q lt = at (cases_lt q (states lts))
       where
-        at : (d : (q < states lts) ⊎ (states lts ≤ q)) → x (tokens_at q) ≡ (k *ℤ choose_tokens q d) +ℤ rest
+        at : (d : (q < states lts) ⊎ (states lts ≤ q)) → x (Tokens q) ≡ (k *ℤ choose_tokens q d) +ℤ rest
         at (inl h) = (tokens q h).1
         at (inr h) = absurd (omega arith)
 
@@ -135,7 +140,7 @@ module _ (lts : System) (k : ℤ) (positive : pos 0 <ℤ k) (x : Variable → �
         past_tokens q le (inl h) = absurd (omega arith)
         past_tokens q le (inr h) = omega (arith, ints)
 
-        at_effect : (t : ℕ) → has_label t lts.arcs ≡ true → (d : (has_label t lts.arcs ≡ true) ⊎ (has_label t lts.arcs ≡ false)) → x (effect_of t) ≡ k *ℤ choose_effect t d
+        at_effect : (t : ℕ) → has_label t lts.arcs ≡ true → (d : (has_label t lts.arcs ≡ true) ⊎ (has_label t lts.arcs ≡ false)) → x (Effect t) ≡ k *ℤ choose_effect t d
         at_effect t e (inl h) = (effects t h).1
         at_effect t e (inr h) = absurd (true≢false (sym e ∙ h))
 
@@ -143,47 +148,47 @@ module _ (lts : System) (k : ℤ) (positive : pos 0 <ℤ k) (x : Variable → �
         past_effect t e (inl h) = absurd (true≢false (sym h ∙ e))
         past_effect t e (inr h) = refl
 
-    pub some_parts : (y : Variable → ℤ) × AreWholeParts lts k x y × ((q : ℕ) → q < states lts → x (tokens_at q) ≡ (k *ℤ y (tokens_at q)) +ℤ rest)
+    pub some_parts : (y : Variable → ℤ) × AreWholeParts lts k x y × ((q : ℕ) → q < states lts → x (Tokens q) ≡ (k *ℤ y (Tokens q)) +ℤ rest)
     some_parts = (chosen, chosen_parts, chosen_tokens)
 
 -- whole numbers that keep the rows are a solution where the class allows their start
-solve_kept : (lts : System) (class : Class) (problem : Problem) (number : ℕ) (y : Variable → ℤ) → AllowsStart class (unsigned_abs (y (tokens_at lts.initial))) → KeepsRowsOver lts class problem number (pos 1) y → HasWholeSolutionIn lts class problem number
+solve_kept : (lts : System) (class : Class) (problem : Problem) (number : ℕ) (y : Variable → ℤ) → AllowsStart class (unsigned_abs (y (Tokens lts.initial))) → KeepsRowsOver lts class problem number (pos 1) y → HasWholeSolutionIn lts class problem number
 solve_kept lts class problem number y allows keeps = (
-  λ q. unsigned_abs (y (tokens_at q)),
-  λ t. y (effect_of t),
+  λ q. unsigned_abs (y (Tokens q)),
+  λ t. y (Effect t),
   allows,
-  (whole_means lts class problem number (numbers_by (λ q. unsigned_abs (y (tokens_at q))) (λ t. y (effect_of t)))).0
-      (same_numbers lts class problem number y (numbers_by (λ q. unsigned_abs (y (tokens_at q))) (λ t. y (effect_of t))) same keeps),
+  (whole_means lts class problem number (numbers_by (λ q. unsigned_abs (y (Tokens q))) (λ t. y (Effect t)))).0
+      (same_numbers lts class problem number y (numbers_by (λ q. unsigned_abs (y (Tokens q))) (λ t. y (Effect t))) same keeps),
 )
   where
-    same : (v : Variable) → y v ≡ numbers_by (λ q. unsigned_abs (y (tokens_at q))) (λ t. y (effect_of t)) v
-    same (tokens_at q) = absolute (y (tokens_at q)) ((tokens_row_holds lts class problem number (pos 1) y q).1 (keeps (tokens_row q) (tokens_stand lts class problem number q)))
-    same (effect_of t) = refl
+    same : (v : Variable) → y v ≡ numbers_by (λ q. unsigned_abs (y (Tokens q))) (λ t. y (Effect t)) v
+    same (Tokens q) = absolute (y (Tokens q)) ((tokens_row_holds lts class problem number (pos 1) y q).1 (keeps (row_name.Tokens q) (tokens_stand lts class problem number q)))
+    same (Effect t) = refl
 
 -- whole parts do
 solve_parts : (lts : System) (class : Class) (problem : Problem) (number : ℕ) (k : ℤ) (x y : Variable → ℤ) → IsInRange lts → IsSeparationProblem lts problem
-    → IsLive lts problem → AllowsStart class (unsigned_abs (y (tokens_at lts.initial))) → AreWholeParts lts k x y → KeepsRowsOver lts class problem number k x
+    → IsLive lts problem → AllowsStart class (unsigned_abs (y (Tokens lts.initial))) → AreWholeParts lts k x y → KeepsRowsOver lts class problem number k x
     → HasWholeSolutionIn lts class problem number
 solve_parts lts class problem number k x y fine asked live allows parts keeps = solve_kept lts class problem number y allows (whole_rows lts class problem number k x y fine asked live parts keeps)
 
 -- in a problem of two states and a class without bound the class allows their start after a lift
 solve_lifted : (lts : System) (class : Class) (s s' number : ℕ) (y : Variable → ℤ) → is_some class.bound ≡ false → HasNumbersInRange class → KeepsRowsOver lts class (States s s') number (pos 1) y → HasWholeSolutionIn lts class (States s s') number
 solve_lifted lts class s s' number y bound numbers keeps =
-    solve_kept lts class (States s s') number (shifted (pos more) y) (subst (λ m. AllowsStart class m) (sum_is (y (tokens_at lts.initial)) more above) (lifted class.marking numbers.marking))
+    solve_kept lts class (States s s') number (shifted (pos more) y) (subst (λ m. AllowsStart class m) (sum_is (y (Tokens lts.initial)) more above) (lifted class.marking numbers.marking))
     (lifted_keeps lts class bound (pos more) (omega (arith, ints)) y s s' number keeps)
   where
     more : ℕ
-    more = missing (unwrap_or class.marking 1) (unsigned_abs (y (tokens_at lts.initial)))
+    more = missing (unwrap_or class.marking 1) (unsigned_abs (y (Tokens lts.initial)))
 
-    above : pos 0 ≤ℤ y (tokens_at lts.initial)
-    above = (tokens_row_holds lts class (States s s') number (pos 1) y lts.initial).1 (keeps (tokens_row lts.initial) tt)
+    above : pos 0 ≤ℤ y (Tokens lts.initial)
+    above = (tokens_row_holds lts class (States s s') number (pos 1) y lts.initial).1 (keeps (row_name.Tokens lts.initial) tt)
 
     sum_is : (z : ℤ) (m : ℕ) → pos 0 ≤ℤ z → unsigned_abs z + m ≡ unsigned_abs (z +ℤ pos m)
     sum_is z m h = omega (arith, ints)
 
-    lifted : (o : Option ℕ) → IfSome o (λ n. (0 < n) × (n ≤ 255)) → IfSome o (λ n. IsMultiple n (unsigned_abs (y (tokens_at lts.initial)) + missing (unwrap_or o 1) (unsigned_abs (y (tokens_at lts.initial)))))
+    lifted : (o : Option ℕ) → IfSome o (λ n. (0 < n) × (n ≤ 255)) → IfSome o (λ n. IsMultiple n (unsigned_abs (y (Tokens lts.initial)) + missing (unwrap_or o 1) (unsigned_abs (y (Tokens lts.initial)))))
     lifted None h = tt
-    lifted (Some n) (some, few) = (missing_is_least n (unsigned_abs (y (tokens_at lts.initial))) some).0
+    lifted (Some n) (some, few) = (missing_is_least n (unsigned_abs (y (Tokens lts.initial))) some).0
 
 -- ---- numbers along the tree whose forms are whole
 
@@ -220,20 +225,20 @@ allowed class m some = by class.marking some
 module _ (lts : System) (tree : List Arc) (basis : CycleBasis) (class : Class) (problem : Problem) (number : ℕ) (fine : IsInRange lts) (g : IsTree lts tree) (k : ℤ)
     (positive : pos 0 <ℤ k) (start : ℤ) (effect : ℕ → ℤ) (e : AreEffects lts tree basis effect)
     (keeps : KeepsRowsOver lts class problem number k (numbers_along lts tree start effect))
-    (whole : (split : SplitForm) → Contains (split_forms lts class problem) split → IsTimes k (numbers_along lts tree start effect (form_variable lts.initial split)))
-    (starts : splits_start class problem ≡ true → (u : ℤ) × (numbers_along lts tree start effect (tokens_at lts.initial) ≡ k *ℤ (pos (unwrap_or class.marking 1) *ℤ u)))
+    (whole : (split : Form) → Contains (split_forms lts class problem) split → IsTimes k (numbers_along lts tree start effect (form_variable lts.initial split)))
+    (starts : splits_start class problem ≡ true → (u : ℤ) × (numbers_along lts tree start effect (Tokens lts.initial) ≡ k *ℤ (pos (unwrap_or class.marking 1) *ℤ u)))
   where
     -- where all tokens are whole
-    pub bounded_parts : is_some class.bound ≡ true → (y : Variable → ℤ) × AreWholeParts lts k (numbers_along lts tree start effect) y × AllowsStart class (unsigned_abs (y (tokens_at lts.initial)))
+    pub bounded_parts : is_some class.bound ≡ true → (y : Variable → ℤ) × AreWholeParts lts k (numbers_along lts tree start effect) y × AllowsStart class (unsigned_abs (y (Tokens lts.initial)))
     bounded_parts bound =
-        let tokens : (q : ℕ) → q < states lts → (u : ℤ) × (numbers_along lts tree start effect (tokens_at q) ≡ (k *ℤ u) +ℤ pos 0) = λ q lt. (let (u, h) = whole (on_tokens q) (bounded_has lts class problem q bound lt) in (u, more _ _ h)) in
+        let tokens : (q : ℕ) → q < states lts → (u : ℤ) × (numbers_along lts tree start effect (Tokens q) ≡ (k *ℤ u) +ℤ pos 0) = λ q lt. (let (u, h) = whole (split_form.Tokens q) (bounded_has lts class problem q bound lt) in (u, more _ _ h)) in
         let effects : (t : ℕ) → has_label t lts.arcs ≡ true → IsTimes k (effect t) = λ t h. of_arc t (label_found t lts.arcs h) in
         let (y, parts, exact) = some_parts lts k positive (numbers_along lts tree start effect) (pos 0) (omega (arith, ints)) positive tokens effects in (
           y,
           parts,
-          allowed class (unsigned_abs (y (tokens_at lts.initial)))
-              (λ some. (let (u, h) = starts (bounded_splits class problem some bound) in allows_by class (y (tokens_at lts.initial)) u
-              (start_steps (unwrap_or class.marking 1) k (numbers_along lts tree start effect (tokens_at lts.initial)) (y (tokens_at lts.initial)) (pos 0) u
+          allowed class (unsigned_abs (y (Tokens lts.initial)))
+              (λ some. (let (u, h) = starts (bounded_splits class problem some bound) in allows_by class (y (Tokens lts.initial)) u
+              (start_steps (unwrap_or class.marking 1) k (numbers_along lts tree start effect (Tokens lts.initial)) (y (Tokens lts.initial)) (pos 0) u
               (omega (arith, ints)) positive (exact lts.initial fine.initial) h))),
         )
       where
@@ -246,25 +251,25 @@ module _ (lts : System) (tree : List Arc) (basis : CycleBasis) (class : Class) (
         of_arc : (t : ℕ) → (a : Arc) × Contains lts.arcs a × (a.label ≡ t) → IsTimes k (effect t)
         of_arc t (a, has, is) =
             let ranges = arc_in_range lts fine a.from a.label a.to has in
-            let (u, h) = whole (on_tokens a.from) (bounded_has lts class problem a.from bound ranges.0) in
-            let (w, h') = whole (on_tokens a.to) (bounded_has lts class problem a.to bound ranges.2) in
+            let (u, h) = whole (split_form.Tokens a.from) (bounded_has lts class problem a.from bound ranges.0) in
+            let (w, h') = whole (split_form.Tokens a.to) (bounded_has lts class problem a.to bound ranges.2) in
             let m = arc_value lts class problem number k (numbers_along lts tree start effect) a.from a.label a.to keeps has in
             (w -ℤ u, subst (λ n. effect n ≡ k *ℤ (w -ℤ u)) is (less k _ _ _ u w h h' m))
 
     -- where all effects of labels with an arc are whole
-    pub plain_parts : is_some class.bound ≡ false → class.plain ≡ true → (y : Variable → ℤ) × AreWholeParts lts k (numbers_along lts tree start effect) y × (splits_start class problem ≡ true → (u : ℤ) × (y (tokens_at lts.initial) ≡ pos (unwrap_or class.marking 1) *ℤ u))
+    pub plain_parts : is_some class.bound ≡ false → class.plain ≡ true → (y : Variable → ℤ) × AreWholeParts lts k (numbers_along lts tree start effect) y × (splits_start class problem ≡ true → (u : ℤ) × (y (Tokens lts.initial) ≡ pos (unwrap_or class.marking 1) *ℤ u))
     plain_parts bound plain =
         let effects : (t : ℕ) → has_label t lts.arcs ≡ true → IsTimes k (effect t) = λ t h. (let (a, has, is) = label_found t lts.arcs h in
         let lt : t < labels lts = subst (λ n. n < labels lts) is (arc_in_range lts fine a.from a.label a.to has).1 in
-        whole (on_effect t) (plain_has lts class problem t bound plain lt h)) in
+        whole (split_form.Effect t) (plain_has lts class problem t bound plain lt h)) in
         let parts = parts_by start k positive in
-        let tokens : (q : ℕ) → q < states lts → (u : ℤ) × (numbers_along lts tree start effect (tokens_at q) ≡ (k *ℤ u) +ℤ parts.rest) = λ q lt.
+        let tokens : (q : ℕ) → q < states lts → (u : ℤ) × (numbers_along lts tree start effect (Tokens q) ≡ (k *ℤ u) +ℤ parts.rest) = λ q lt.
         (let (u, h) = sum_times k (labels lts) (λ t. pos (parikh tree q t) *ℤ effect t)
         (λ t below. scaled k (pos (parikh tree q t)) (effect t)
         (⊎_elim (λ used. effects t used) (λ none. (pos 0, e.unused t none ∙ sym (*ℤ-zero k))) (cases_Bool (has_label t lts.arcs)))) in
         (parts.part +ℤ u, joined k start _ parts.part parts.rest u parts.is h)) in
         let (y, are, exact) = some_parts lts k positive (numbers_along lts tree start effect) parts.rest parts.not_negative parts.below tokens effects in
-        (y, are, λ splits. (let (u, h) = starts splits in (u, start_steps (unwrap_or class.marking 1) k (numbers_along lts tree start effect (tokens_at lts.initial)) (y (tokens_at lts.initial)) parts.rest u parts.not_negative parts.below (exact lts.initial fine.initial) h)))
+        (y, are, λ splits. (let (u, h) = starts splits in (u, start_steps (unwrap_or class.marking 1) k (numbers_along lts tree start effect (Tokens lts.initial)) (y (Tokens lts.initial)) parts.rest u parts.not_negative parts.below (exact lts.initial fine.initial) h)))
       where
         scaled : (k n z : ℤ) → IsTimes k z → IsTimes k (n *ℤ z)
         scaled k n z (u, e) = (n *ℤ u, ap (λ y. n *ℤ y) e ∙ turn n k u)
@@ -278,10 +283,10 @@ module _ (lts : System) (tree : List Arc) (basis : CycleBasis) (class : Class) (
 -- of an event by the form of the start, of two states by a lift
 by_problem : (lts : System) (class : Class) (problem : Problem) (number : ℕ) (k : ℤ) (x y : Variable → ℤ) → IsInRange lts → IsSeparationProblem lts problem
     → IsLive lts problem → HasNumbersInRange class → is_some class.bound ≡ false → class.plain ≡ true → AreWholeParts lts k x y
-    → KeepsRowsOver lts class problem number k x → (splits_start class problem ≡ true → (u : ℤ) × (y (tokens_at lts.initial) ≡ pos (unwrap_or class.marking 1) *ℤ u))
+    → KeepsRowsOver lts class problem number k x → (splits_start class problem ≡ true → (u : ℤ) × (y (Tokens lts.initial) ≡ pos (unwrap_or class.marking 1) *ℤ u))
     → HasWholeSolutionIn lts class problem number
 by_problem lts class (Event s t) number k x y fine asked live numbers bound plain are keeps starts =
-    solve_parts lts class (Event s t) number k x y fine asked live (allowed class (unsigned_abs (y (tokens_at lts.initial))) (λ some. (let (u, h) = starts (plain_splits class s t some plain) in allows_by class (y (tokens_at lts.initial)) u h))) are keeps
+    solve_parts lts class (Event s t) number k x y fine asked live (allowed class (unsigned_abs (y (Tokens lts.initial))) (λ some. (let (u, h) = starts (plain_splits class s t some plain) in allows_by class (y (Tokens lts.initial)) u h))) are keeps
 by_problem lts class (States s s') number k x y fine asked live numbers bound plain are keeps starts =
     solve_lifted lts class s s' number y bound numbers (whole_rows lts class (States s s') number k x y fine asked live are keeps)
 
@@ -289,9 +294,9 @@ by_problem lts class (States s s') number k x y fine asked live numbers bound pl
 
 module _ (lts : System) (tree : List Arc) (basis : CycleBasis) (class : Class) (problem : Problem) (number : ℕ) (case : CaseSystem) (c : IsCaseOver lts tree basis class problem number case) (live : IsLive lts problem) where
   abbrev WholeAt : ℤ → ℤ → (ℕ → ℤ) → Type 0
-  WholeAt k start effect = ((split : SplitForm) → Contains (split_forms lts class problem) split
+  WholeAt k start effect = ((split : Form) → Contains (split_forms lts class problem) split
       → IsTimes k (numbers_along lts tree start effect (form_variable lts.initial split)))
-      × (splits_start class problem ≡ true → (u : ℤ) × (numbers_along lts tree start effect (tokens_at lts.initial) ≡ k *ℤ (pos (unwrap_or class.marking 1) *ℤ u)))
+      × (splits_start class problem ≡ true → (u : ℤ) × (numbers_along lts tree start effect (Tokens lts.initial) ≡ k *ℤ (pos (unwrap_or class.marking 1) *ℤ u)))
 
   -- the point gives numbers along the tree with whole forms
   point_solution : has_start class ≡ true → ((k : ℤ) (start : ℤ) (effect : ℕ → ℤ) → pos 0 <ℤ k → AreEffects lts tree basis effect
@@ -301,11 +306,11 @@ module _ (lts : System) (tree : List Arc) (basis : CycleBasis) (class : Class) (
       let (times, start, effect, g) = point_gives lts tree basis class problem number case v c in
       let k : pos 0 <ℤ (times *ℤ scale) = mul_positive times scale g.positive p.positive in
       let keeps = (start_means lts tree basis class problem number case start effect (times *ℤ scale) c g.effects k starts).0 ((point_meets lts tree basis class problem number case v scale times start effect c p g).0 meets) in
-      let steps : (split : SplitForm) → Contains (split_forms lts class problem) split → (u : ℤ)
+      let steps : (split : Form) → Contains (split_forms lts class problem) split → (u : ℤ)
       × (numbers_along lts tree start effect (form_variable lts.initial split) ≡ (times *ℤ scale) *ℤ (pos (step_of class split) *ℤ u)) = λ split has.
       variable_multiple lts tree basis class problem number case c v scale times start effect split starts whole g (form_names lts class problem split has) has in
       solve (times *ℤ scale) start effect k g.effects keeps
-      ((λ split has. (let (u, h) = steps split has in (pos (step_of class split) *ℤ u, h))), (λ splits. steps on_start (start_has lts class problem splits)))
+      ((λ split has. (let (u, h) = steps split has in (pos (step_of class split) *ℤ u, h))), (λ splits. steps split_form.Start (start_has lts class problem splits)))
 
   bounded_solution : is_some class.bound ≡ true → HasWholePoint case → HasWholeSolutionIn lts class problem number
   bounded_solution bound = point_solution (start_of_bound class bound) (λ k start effect positive e keeps (whole, steps).
@@ -323,24 +328,24 @@ module _ (lts : System) (tree : List Arc) (basis : CycleBasis) (class : Class) (
       let x = numbers_by tokens effect in
       let keeps' = (whole_means lts class problem number x).1 keeps in
       let e = effects_given lts tree basis class problem number case x (pos 1) c keeps' in
-      let (v, p, g) = given_point lts tree basis class problem number case (x (tokens_at lts.initial)) (used_effect lts x) (pos 1) c e (omega (arith, ints)) in (
+      let (v, p, g) = given_point lts tree basis class problem number case (x (Tokens lts.initial)) (used_effect lts x) (pos 1) c e (omega (arith, ints)) in (
         pos 1,
         v,
         p,
-        (point_meets lts tree basis class problem number case v (pos 1) (pos 1) (x (tokens_at lts.initial)) (used_effect lts x) c p g).1
+        (point_meets lts tree basis class problem number case v (pos 1) (pos 1) (x (Tokens lts.initial)) (used_effect lts x) c p g).1
             (meets_given lts tree basis class problem number case x (pos 1) c live (omega (arith, ints)) keeps'),
         λ f lt. (let (var, names, has, made) = form_there lts tree basis class problem number case f c.is_case lt in let (w, is) = steps_of tokens allows
-            (used_effect lts x) var in whole_forms lts tree basis class problem number case c v (x (tokens_at lts.initial))
+            (used_effect lts x) var in whole_forms lts tree basis class problem number case c v (x (Tokens lts.initial))
             (used_effect lts x) f var w starts g names made is),
       )
     where
       one : (z : ℤ) → z ≡ pos 1 *ℤ z
       one z = omega (arith, ints)
 
-      steps_of : (tokens : ℕ → ℕ) → AllowsStart class (tokens lts.initial) → (effect : ℕ → ℤ) (split : SplitForm) → (w : ℤ) × (numbers_along lts tree (pos (tokens lts.initial)) effect (form_variable lts.initial split) ≡ pos (step_of class split) *ℤ w)
-      steps_of tokens allows effect (on_tokens q) = (numbers_along lts tree (pos (tokens lts.initial)) effect (tokens_at q), one (numbers_along lts tree (pos (tokens lts.initial)) effect (tokens_at q)))
-      steps_of tokens allows effect (on_effect t) = (effect t, one (effect t))
-      steps_of tokens allows effect on_start = let (w, is) = steps_by class (tokens lts.initial) allows in (w, number_at_first lts tree (pos (tokens lts.initial)) effect c.is_tree ∙ is)
+      steps_of : (tokens : ℕ → ℕ) → AllowsStart class (tokens lts.initial) → (effect : ℕ → ℤ) (split : Form) → (w : ℤ) × (numbers_along lts tree (pos (tokens lts.initial)) effect (form_variable lts.initial split) ≡ pos (step_of class split) *ℤ w)
+      steps_of tokens allows effect (split_form.Tokens q) = (numbers_along lts tree (pos (tokens lts.initial)) effect (Tokens q), one (numbers_along lts tree (pos (tokens lts.initial)) effect (Tokens q)))
+      steps_of tokens allows effect (split_form.Effect t) = (effect t, one (effect t))
+      steps_of tokens allows effect split_form.Start = let (w, is) = steps_by class (tokens lts.initial) allows in (w, number_at_first lts tree (pos (tokens lts.initial)) effect c.is_tree ∙ is)
 
   -- a class without forms
   no_bound : is_some class.bound ≡ false → IsNone class.bound
@@ -359,9 +364,9 @@ module _ (lts : System) (tree : List Arc) (basis : CycleBasis) (class : Class) (
     where
       no_variable : is_some class.bound ≡ false → class.plain ≡ false → split_forms lts class problem ≡ []
       no_variable b p =
-          ap (λ x. (if x then map on_tokens (all_numbers (states lts)) else (if class.plain then map on_effect (used_labels lts) else [])) ++ (if splits_start class problem then (on_start ∷ []) else [])) b
-          ∙ ap (λ x. (if x then map on_effect (used_labels lts) else []) ++ (if splits_start class problem then (on_start ∷ []) else [])) p
-          ∙ ap (λ x. if x then (on_start ∷ []) else []) (no_splits problem)
+          ap (λ x. (if x then map split_form.Tokens (all_numbers (states lts)) else (if class.plain then map split_form.Effect (used_labels lts) else [])) ++ (if splits_start class problem then (split_form.Start ∷ []) else [])) b
+          ∙ ap (λ x. (if x then map split_form.Effect (used_labels lts) else []) ++ (if splits_start class problem then (split_form.Start ∷ []) else [])) p
+          ∙ ap (λ x. if x then (split_form.Start ∷ []) else []) (no_splits problem)
         where
           no_splits : (p' : Problem) → splits_start class p' ≡ false
           no_splits (Event s t) = by (is_some class.marking) class.plain (is_some class.bound) p b

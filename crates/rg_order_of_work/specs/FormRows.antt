@@ -3,13 +3,16 @@ use Rattle.std.specs.Prelude.{◌≡◌, ◌≢◌, ℕ, ◌<◌, length, ℤ, p
 use Rattle.rg_integers.specs.Sum.{number_at}
 use Rattle.rg_linear.specs.System.{LinearSystem, entry}
 use Rattle.rg_linear.specs.Branching.{Form}
-use Rattle.rg_refuting.specs.Row.{RowName, RowName.tokens_row, RowName.down_row, Form as SplitForm, Form.on_tokens, Form.on_effect, Form.on_start}
+use Rattle.rg_refuting.specs.declared.RowName.{RowName}
+use Rattle.rg_refuting.specs.declared.Form.{Form as SplitForm}
+use Rattle.rg_refuting.specs.declared.RowName.TheVariants as row_name
+use Rattle.rg_refuting.specs.declared.Form.TheVariants as split_form
 
 -- the named row with the terms of the form, where this is the initial state
 abbrev pub form_row : ℕ → SplitForm → RowName
-form_row initial (on_tokens q) = tokens_row q
-form_row initial (on_effect t) = down_row t
-form_row initial on_start = tokens_row initial
+form_row initial (split_form.Tokens q) = row_name.Tokens q
+form_row initial (split_form.Effect t) = row_name.Down t
+form_row initial split_form.Start = row_name.Tokens initial
 
 -- the coefficients of the form are those of the row, so many times; a form without coefficients is no time any row
 pub record IsMultipleOfRow (system : LinearSystem) (form : Form) (row : ℕ) (times : ℤ) : Type 0 where

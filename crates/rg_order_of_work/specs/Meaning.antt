@@ -7,8 +7,10 @@ use Rattle.rg_theory.specs.declared.Class.{Class}
 use Rattle.rg_theory.specs.Class.{AllowsStart}
 use Rattle.rg_theory.specs.ClassWords.{HasNumbersInRange}
 use Rattle.rg_theory.specs.declared.Problem.{Problem}
-use Rattle.rg_refuting.specs.Expression.{Variable, Variable.tokens_at, Variable.effect_of, Expression, value_in, numbers_by}
-use Rattle.rg_refuting.specs.Row.{RowName, RowName.arc_row, RowName.tokens_row, RowName.up_row, RowName.down_row, RowName.makes_row, RowStands, row_expression, Says, KeepsRows}
+use Rattle.rg_refuting.specs.Expression.{Expression, value_in, numbers_by}
+use Rattle.rg_refuting.specs.declared.Variable.{Variable}
+use Rattle.rg_refuting.specs.Row.{RowStands, row_expression, Says, KeepsRows}
+use Rattle.rg_refuting.specs.declared.RowName.{RowName}
 use Rattle.rg_refuting.specs.Refutes.{IsSeparationProblem}
 use Rattle.rg_integers.specs.Sum.{number_at}
 use Rattle.rg_linear.specs.System.{IsPoint, MeetsRows}
@@ -16,15 +18,17 @@ use Rattle.rg_linear.specs.Cycle.{FollowsRelations, CycleBasis}
 use Rattle.rg_order_of_work.specs.Chords.{chord_system, IsBasis}
 use Rattle.rg_order_of_work.specs.Rewriting.{has_label, has_start, KeptRow, CaseSystem, rows_of, system_fold}
 use Rattle.rg_order_of_work.specs.Values.{column_values, UnusedAreZero, RowIsMet}
+use Rattle.rg_refuting.specs.declared.RowName.TheVariants as row_name
+use Rattle.rg_refuting.specs.declared.Variable.TheVariants.{Tokens, Effect}
 
 -- a row that stands in a case and is not among the names of its system: an arc's; the tokens of a state where Start is
 -- no column, or of a number that is no state; and rows of the effect of a label without an arc, which is 0
 abbrev pub IsLeftOut : System → Class → RowName → Type 0
-IsLeftOut lts class (arc_row q t q') = Unit {0}
-IsLeftOut lts class (tokens_row q) = IsFalse (has_start class) ⊎ (states lts ≤ q)
-IsLeftOut lts class (up_row t) = IsFalse (has_label t lts.arcs)
-IsLeftOut lts class (down_row t) = IsFalse (has_label t lts.arcs)
-IsLeftOut lts class (makes_row t) = IsFalse (has_label t lts.arcs)
+IsLeftOut lts class (row_name.Arc a) = Unit {0}
+IsLeftOut lts class (row_name.Tokens q) = IsFalse (has_start class) ⊎ (states lts ≤ q)
+IsLeftOut lts class (row_name.Up t) = IsFalse (has_label t lts.arcs)
+IsLeftOut lts class (row_name.Down t) = IsFalse (has_label t lts.arcs)
+IsLeftOut lts class (row_name.Makes t) = IsFalse (has_label t lts.arcs)
 IsLeftOut lts class name = ⊥
 
 -- ---- rows that hold
@@ -42,7 +46,7 @@ abbrev pub KeepsRowsOver : System → Class → Problem → ℕ → ℤ → (Var
 KeepsRowsOver lts class problem number scale x = (name : RowName) → RowStands lts class problem number [] name → RowHolds lts class problem number scale x name
 
 abbrev pub IsTokensRow : RowName → Type 0
-IsTokensRow (tokens_row q) = Unit {0}
+IsTokensRow (row_name.Tokens q) = Unit {0}
 IsTokensRow name = ⊥
 
 -- every row that stands in the case does, but those of tokens
@@ -51,8 +55,8 @@ KeepsAllButTokens lts class problem number scale x = (name : RowName) → RowSta
 
 -- one number more at every state
 abbrev pub shifted : ℤ → (Variable → ℤ) → Variable → ℤ
-shifted by x (tokens_at q) = x (tokens_at q) +ℤ by
-shifted by x (effect_of t) = x (effect_of t)
+shifted by x (Tokens q) = x (Tokens q) +ℤ by
+shifted by x (Effect t) = x (Effect t)
 
 -- ---- the system of a case
 
@@ -79,11 +83,11 @@ MeetsCase lts basis class case start effect scale = (k : KeptRow) → Contains c
 
 -- the effects are those of the numbers, at labels with an arc
 abbrev pub AgreeOnUsed : System → (Variable → ℤ) → (ℕ → ℤ) → Type 0
-AgreeOnUsed lts x effect = (t : ℕ) → IsTrue (has_label t lts.arcs) → effect t ≡ x (effect_of t)
+AgreeOnUsed lts x effect = (t : ℕ) → IsTrue (has_label t lts.arcs) → effect t ≡ x (Effect t)
 
 -- the effects of the numbers, but 0 for labels without an arc
 abbrev pub used_effect : System → (Variable → ℤ) → ℕ → ℤ
-used_effect lts x t = if has_label t lts.arcs then x (effect_of t) else pos 0
+used_effect lts x t = if has_label t lts.arcs then x (Effect t) else pos 0
 
 -- ---- points
 

@@ -5,10 +5,12 @@ use Rattle.rg_theory.specs.System.{System, states, labels}
 use Rattle.rg_theory.specs.declared.Class.{Class}
 use Rattle.rg_theory.specs.declared.Problem.{Problem}
 use Rattle.rg_theory.specs.declared.Problem.TheVariants.{Event, States}
-use Rattle.rg_refuting.specs.Expression.{Variable, Variable.tokens_at, Variable.effect_of, Term, Expression, plus}
-use Rattle.rg_refuting.specs.Row.{RowName, RowName.tokens_row, RowName.cap_row, RowName.up_row, RowName.down_row, RowName.makes_row, RowName.stop_row, RowName.block_row}
-use Rattle.rg_refuting.specs.Row.{RowName.empty_row, RowName.full_row, RowName.keep_row, RowName.apart_row, row_expression, case_consumer, Form as SplitForm}
-use Rattle.rg_refuting.specs.Row.{Form.on_tokens, Form.on_effect, Form.on_start, form_variable, step_of}
+use Rattle.rg_refuting.specs.Expression.{Term, Expression, plus}
+use Rattle.rg_refuting.specs.declared.Variable.{Variable}
+use Rattle.rg_refuting.specs.declared.RowName.{RowName}
+use Rattle.rg_refuting.specs.Row.{row_expression, case_consumer}
+use Rattle.rg_refuting.specs.declared.Form.{Form as SplitForm}
+use Rattle.rg_refuting.specs.Row.{form_variable, step_of}
 use Rattle.rg_linear.specs.System.{LinearRow, LinearSystem}
 use Rattle.rg_linear.specs.Branching.{Form}
 use Rattle.rg_integers.specs.declared.term.Wide.{Wide}
@@ -17,6 +19,9 @@ use Rattle.rg_order_of_work.specs.Fold.{gives, and_then, each, further, Ratio, w
 use Rattle.rg_theory.specs.Tree.{parikh}
 use Rattle.rg_linear.specs.Cycle.{CycleBasis, IsZeroVector}
 use Rattle.rg_linear.specs.Firsts.{KeepsFirsts}
+use Rattle.rg_refuting.specs.declared.RowName.TheVariants as row_name
+use Rattle.rg_refuting.specs.declared.Form.TheVariants as split_form
+use Rattle.rg_refuting.specs.declared.Variable.TheVariants.{Tokens, Effect}
 
 -- ---- lists of labels
 
@@ -55,12 +60,12 @@ free_columns lts basis = numbers_where (λ t. is_in basis.members t && has_label
 -- ---- an expression, by M(q) = Start + the sum of parikh(q)[t] * E(t)
 
 abbrev pub variable_start : Variable → ℤ
-variable_start (tokens_at q) = pos 1
-variable_start (effect_of u) = pos 0
+variable_start (Tokens q) = pos 1
+variable_start (Effect u) = pos 0
 
 abbrev pub variable_count : List Arc → Variable → ℕ → ℤ
-variable_count tree (tokens_at q) t = pos (parikh tree q t)
-variable_count tree (effect_of u) t = if t == u then pos 1 else pos 0
+variable_count tree (Tokens q) t = pos (parikh tree q t)
+variable_count tree (Effect u) t = if t == u then pos 1 else pos 0
 
 -- the coefficient of Start
 abbrev pub start_of : List Term → ℤ
@@ -149,19 +154,19 @@ states_with lts t = numbers_where (λ q. has_label_at q t lts.arcs) 0 (states lt
 -- the rows of the problem itself
 abbrev pub problem_rows : System → Class → Problem → List RowName
 problem_rows lts class (Event s t) =
-    if class.pure then (block_row ∷ [])
-    else (if class.plain then (empty_row ∷ map full_row (states_with lts t) ++ keep_row ∷ [])
-    else map stop_row (states_with lts t))
-problem_rows lts class (States s s') = apart_row ∷ []
+    if class.pure then (row_name.Block ∷ [])
+    else (if class.plain then (row_name.Empty ∷ map row_name.Full (states_with lts t) ++ row_name.Keep ∷ [])
+    else map row_name.Stop (states_with lts t))
+problem_rows lts class (States s s') = row_name.Apart ∷ []
 
 -- the named rows of a case but arc and above, in their order
 abbrev pub names_of : System → Class → Problem → ℕ → List RowName
 names_of lts class problem number =
     problem_rows lts class problem
-    ++ (if has_start class then map tokens_row (all_numbers (states lts)) else [])
-    ++ (if is_some class.bound then map cap_row (all_numbers (states lts)) else [])
-    ++ (if class.plain then (map up_row (used_labels lts) ++ map down_row (used_labels lts)) else [])
-    ++ (if class.nonbranching then map makes_row (numbers_where (λ u. has_label u lts.arcs && not (u == case_consumer lts problem number)) 0 (labels lts)) else [])
+    ++ (if has_start class then map row_name.Tokens (all_numbers (states lts)) else [])
+    ++ (if is_some class.bound then map row_name.Cap (all_numbers (states lts)) else [])
+    ++ (if class.plain then (map row_name.Up (used_labels lts) ++ map row_name.Down (used_labels lts)) else [])
+    ++ (if class.nonbranching then map row_name.Makes (numbers_where (λ u. has_label u lts.arcs && not (u == case_consumer lts problem number)) 0 (labels lts)) else [])
 
 -- a row without coefficients that always holds
 abbrev pub IsIdle : KeptRow → Type 0
@@ -176,19 +181,19 @@ splits_start class (States s s') = is_some class.marking && is_some class.bound
 -- what the splits of a case may be on, in their order
 abbrev pub split_forms : System → Class → Problem → List SplitForm
 split_forms lts class problem =
-    (if is_some class.bound then map on_tokens (all_numbers (states lts)) else (if class.plain then map on_effect (used_labels lts) else []))
-    ++ (if splits_start class problem then (on_start ∷ []) else [])
+    (if is_some class.bound then map split_form.Tokens (all_numbers (states lts)) else (if class.plain then map split_form.Effect (used_labels lts) else []))
+    ++ (if splits_start class problem then (split_form.Start ∷ []) else [])
 
 abbrev pub form_low : SplitForm → ℤ
-form_low (on_tokens q) = pos 0
-form_low (on_effect t) = negsuc 0
-form_low on_start = pos 0
+form_low (split_form.Tokens q) = pos 0
+form_low (split_form.Effect t) = negsuc 0
+form_low split_form.Start = pos 0
 
 -- without a bound the start has at most as many steps as there are states
 abbrev pub form_high : System → Class → SplitForm → ℤ
-form_high lts class (on_tokens q) = pos (unwrap_or class.bound 0)
-form_high lts class (on_effect t) = pos 1
-form_high lts class on_start = pos (unwrap_or class.bound (states lts))
+form_high lts class (split_form.Tokens q) = pos (unwrap_or class.bound 0)
+form_high lts class (split_form.Effect t) = pos 1
+form_high lts class split_form.Start = pos (unwrap_or class.bound (states lts))
 
 abbrev pub form_fold : System → List Arc → CycleBasis → Class → SplitForm → Result Form Wide → Type 0
 form_fold lts tree basis class form = and_then (terms_fold lts tree basis class (plus (form_variable lts.initial form) ∷ [])) (λ scaled. gives (record { scale = pos (step_of class form) *ℤ scaled.multiple; coeffs = scaled.numbers; low = form_low form; high = form_high lts class form }))

@@ -6,7 +6,8 @@ use Rattle.rg_theory.specs.declared.Class.{Class}
 use Rattle.rg_theory.specs.declared.Problem.{Problem}
 use Rattle.rg_theory.specs.declared.Problem.TheVariants.{Event, States}
 use Rattle.rg_theory.specs.Problem.{IsProblem}
-use Rattle.rg_refuting.specs.Row.{Form.on_tokens, Side, cases_of}
+use Rattle.rg_refuting.specs.Row.{cases_of}
+use Rattle.rg_refuting.specs.declared.Side.{Side}
 use Rattle.rg_linear.specs.System.{LinearSystem}
 use Rattle.rg_linear.specs.Dictionary.{Relation, DictionaryRow}
 use Rattle.rg_linear.specs.Descent.{WideAt}
@@ -19,6 +20,7 @@ use Rattle.rg_order_of_work.specs.Chords.{KeepsChords, chord_system, IsBasis}
 use Rattle.rg_order_of_work.specs.Rewriting.{has_start, free_columns, split_forms, CaseSystem, rows_of, system_fold}
 use Rattle.rg_order_of_work.specs.Placing.{place_fold}
 use Rattle.rg_order_of_work.specs.Spreading.{spread_fold}
+use Rattle.rg_refuting.specs.declared.Form.TheVariants as split_form
 
 pub data Stage : Type 0 where
   cycle : Stage
@@ -71,7 +73,7 @@ pub record StandsIn (lts : System) (class : Class) (w : Shown) (problem : Proble
 
 -- the sides of the splits, their forms by name
 abbrev pub named_side : System → Class → Problem → SplitSide → Side
-named_side lts class problem side = record { form = slice_index_or (split_forms lts class problem) side.form (on_tokens 0); at = side.at; high = side.high }
+named_side lts class problem side = record { form = slice_index_or (split_forms lts class problem) side.form (split_form.Tokens 0); at = side.at; high = side.high }
 
 abbrev pub named_sides : System → Class → Problem → List SplitSide → List Side
 named_sides lts class problem sides = map (named_side lts class problem) sides

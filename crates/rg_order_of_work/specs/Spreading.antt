@@ -4,8 +4,12 @@ use Rattle.rg_theory.specs.declared.Arc.{Arc}
 use Rattle.rg_theory.specs.System.{System, states, labels}
 use Rattle.rg_theory.specs.declared.Class.{Class}
 use Rattle.rg_theory.specs.declared.Problem.{Problem}
-use Rattle.rg_refuting.specs.Expression.{Variable, Variable.tokens_at, Variable.effect_of, Expression, coefficient_in}
-use Rattle.rg_refuting.specs.Row.{RowName, RowName.arc_row, RowName.above_row, Form as SplitForm, Form.on_tokens, Form.on_effect, Form.on_start, Side, row_expression}
+use Rattle.rg_refuting.specs.Expression.{Expression, coefficient_in}
+use Rattle.rg_refuting.specs.declared.Variable.{Variable}
+use Rattle.rg_refuting.specs.Row.{row_expression}
+use Rattle.rg_refuting.specs.declared.RowName.{RowName}
+use Rattle.rg_refuting.specs.declared.Form.{Form as SplitForm}
+use Rattle.rg_refuting.specs.declared.Side.{Side}
 use Rattle.rg_refuting.specs.Refutes.{NamedRow}
 use Rattle.rg_integers.specs.Sign.{size}
 use Rattle.rg_linear.specs.Branching.{Weight, Form, form_at, SplitSide}
@@ -17,6 +21,9 @@ use Rattle.rg_linear.specs.Cycle.{CycleBasis}
 use Rattle.rg_order_of_work.specs.Chords.{chord_at}
 use Rattle.rg_order_of_work.specs.Rewriting.{is_in, numbers_where, dependent_labels, all_numbers, count_of, scaled_fold, KeptRow, CaseSystem}
 use Rattle.rg_order_of_work.specs.Placing.{negated}
+use Rattle.rg_refuting.specs.declared.RowName.TheVariants as row_name
+use Rattle.rg_refuting.specs.declared.Form.TheVariants as split_form
+use Rattle.rg_refuting.specs.declared.Variable.TheVariants.{Tokens, Effect}
 
 -- a named row times a fraction
 pub record Share : Type 0 where
@@ -25,23 +32,23 @@ pub record Share : Type 0 where
 
 -- row number i of a node's system: the rows that are kept, and behind them those of the splits
 abbrev pub kept_at : CaseSystem → ℕ → KeptRow
-kept_at case i = slice_index_or case.kept i (record { name = above_row 0; row = record { coeffs = []; constant = pos 0 }; factor = whole (pos 1) })
+kept_at case i = slice_index_or case.kept i (record { name = row_name.Above 0; row = record { coeffs = []; constant = pos 0 }; factor = whole (pos 1) })
 
 abbrev pub name_of : CaseSystem → ℕ → RowName
-name_of case i = if nat_lt i (length case.kept) then (kept_at case i).name else above_row (i - length case.kept)
+name_of case i = if nat_lt i (length case.kept) then (kept_at case i).name else row_name.Above (i - length case.kept)
 
 abbrev pub side_at : List SplitSide → ℕ → SplitSide
 side_at above d = slice_index_or above d (record { form = 0; at = pos 0; high = Rattle.std.specs.Prelude.false })
 
 abbrev pub named_at : List Side → ℕ → Side
-named_at above d = slice_index_or above d (record { form = on_tokens 0; at = pos 0; high = Rattle.std.specs.Prelude.false })
+named_at above d = slice_index_or above d (record { form = split_form.Tokens 0; at = pos 0; high = Rattle.std.specs.Prelude.false })
 
 -- the factor from the named row of a split to its row: the scale of the form; the start's row is its named row, whose
 -- scale is a step
 abbrev pub split_factor : SplitForm → Form → Ratio
-split_factor (on_tokens q) form = whole form.scale
-split_factor (on_effect t) form = whole form.scale
-split_factor on_start form = whole (pos 1)
+split_factor (split_form.Tokens q) form = whole form.scale
+split_factor (split_form.Effect t) form = whole form.scale
+split_factor split_form.Start form = whole (pos 1)
 
 -- the factor from its named row to row i
 abbrev pub factor_of : CaseSystem → List SplitSide → List Side → ℕ → Ratio
@@ -84,7 +91,7 @@ pub record ArcTimes : Type 0 where
   pub multiplier : ℤ
 
 abbrev pub arc_name : Arc → RowName
-arc_name a = arc_row a.from a.label a.to
+arc_name a = row_name.Arc a
 
 -- a number, or a product of two
 pub data Addend : Type 0 where
@@ -101,7 +108,7 @@ leaving s (x ∷ done) = if x.arc.from == s then (number x.multiplier ∷ leavin
 
 -- what adds up to the multiplier of the tree arc into s: of the rows and chords, and of the tree arcs that leave s
 abbrev pub addends_at : (RowName → Expression) → List NamedRow → List ArcTimes → ℕ → List Addend
-addends_at expression rows done s = map (λ r. product r.multiplier (coefficient_in (expression r.name).terms (tokens_at s))) rows ++ leaving s done
+addends_at expression rows done s = map (λ r. product r.multiplier (coefficient_in (expression r.name).terms (Tokens s))) rows ++ leaving s done
 
 -- the arcs in `last_first` get their multipliers, one after the other; `done` has those behind them in the tree
 abbrev pub tree_fold : (RowName → Expression) → List NamedRow → List ArcTimes → List Arc → Result (List ArcTimes) Wide → Type 0
@@ -139,7 +146,7 @@ abbrev pub sizes_fold : (RowName → ℤ) → List NamedRow → Result ℤ Wide 
 sizes_fold coefficient rows = joined whole_sum (λ r. and_then (whole_product r.multiplier (coefficient r.name)) (λ z. gives (size z))) (pos 0) rows
 
 abbrev pub variables_of : System → List Variable
-variables_of lts = map tokens_at (all_numbers (states lts)) ++ map effect_of (all_numbers (labels lts))
+variables_of lts = map Tokens (all_numbers (states lts)) ++ map Effect (all_numbers (labels lts))
 
 -- the leaf, where no sum of absolute values passes
 abbrev pub checked_leaf : System → (RowName → Expression) → List NamedRow → Result (List NamedRow) Wide → Type 0

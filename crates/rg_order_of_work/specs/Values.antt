@@ -2,22 +2,24 @@
 use Rattle.std.specs.Prelude.{◌≡◌, ℕ, ◌<◌, Bool, false, if◌then◌else◌, List, [], ◌∷◌, ◌++◌, ℤ, pos, ◌+ℤ◌, ◌*ℤ◌, ◌≤ℤ◌}
 use Rattle.rg_theory.specs.declared.Arc.{Arc}
 use Rattle.rg_theory.specs.System.{System, labels}
-use Rattle.rg_refuting.specs.Expression.{Variable, Variable.tokens_at, Variable.effect_of, Term, Expression, value_in}
+use Rattle.rg_refuting.specs.Expression.{Term, Expression, value_in}
+use Rattle.rg_refuting.specs.declared.Variable.{Variable}
 use Rattle.rg_theory.specs.declared.Class.{Class}
 use Rattle.rg_integers.specs.Sum.{dot}
 use Rattle.rg_order_of_work.specs.Potentials.{potential}
 use Rattle.rg_linear.specs.Cycle.{CycleBasis}
 use Rattle.rg_order_of_work.specs.Rewriting.{has_label, free_labels, has_start, KeptRow}
+use Rattle.rg_refuting.specs.declared.Variable.TheVariants.{Tokens, Effect}
 
 -- each state has the number that Start and the effects give along the tree
 abbrev pub numbers_along : System → List Arc → ℤ → (ℕ → ℤ) → Variable → ℤ
-numbers_along lts tree start effect (tokens_at q) = potential lts tree start effect q
-numbers_along lts tree start effect (effect_of t) = effect t
+numbers_along lts tree start effect (Tokens q) = potential lts tree start effect q
+numbers_along lts tree start effect (Effect t) = effect t
 
 -- the effects in the terms are those of labels below n
 abbrev pub NamesVariable : ℕ → Variable → Type 0 → Type 0
-NamesVariable n (tokens_at q) Rest = Rest
-NamesVariable n (effect_of u) Rest = (u < n) × Rest
+NamesVariable n (Tokens q) Rest = Rest
+NamesVariable n (Effect u) Rest = (u < n) × Rest
 
 abbrev pub NamesLabels : ℕ → List Term → Type 0
 NamesLabels n [] = Unit {0}

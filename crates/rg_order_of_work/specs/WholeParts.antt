@@ -1,13 +1,14 @@
 -- Numbers over a scale, and their whole parts.
 use Rattle.std.specs.Prelude.{◌≡◌, ℕ, ◌<◌, ◌≤◌, true, false, ℤ, pos, ◌+ℤ◌, ◌*ℤ◌, ◌<ℤ◌, ◌≤ℤ◌}
 use Rattle.rg_theory.specs.System.{System, states}
-use Rattle.rg_refuting.specs.Expression.{Variable, Variable.tokens_at, Variable.effect_of}
+use Rattle.rg_refuting.specs.declared.Variable.{Variable}
 use Rattle.rg_theory.specs.declared.Class.{Class}
 use Rattle.rg_theory.specs.declared.Problem.{Problem}
 use Rattle.rg_refuting.specs.Row.{cases_of}
 use Rattle.rg_linear.specs.System.{IsPoint, MeetsRows}
 use Rattle.rg_linear.specs.Branching.{FormsWhole}
 use Rattle.rg_order_of_work.specs.Rewriting.{has_label, CaseSystem, rows_of}
+use Rattle.rg_refuting.specs.declared.Variable.TheVariants.{Tokens, Effect}
 
 -- y are the whole numbers of x over the scale: all tokens of states have the same rest
 pub record AreWholeParts (lts : System) (scale : ℤ) (x y : Variable → ℤ) : Type 0 where
@@ -15,10 +16,10 @@ pub record AreWholeParts (lts : System) (scale : ℤ) (x y : Variable → ℤ) :
   pub rest : ℤ
   pub not_negative : pos 0 ≤ℤ rest
   pub below : rest <ℤ scale
-  pub tokens : (q : ℕ) → q < states lts → x (tokens_at q) ≡ (scale *ℤ y (tokens_at q)) +ℤ rest
-  pub others : (q : ℕ) → states lts ≤ q → pos 0 ≤ℤ y (tokens_at q)
-  pub effects : (t : ℕ) → has_label t lts.arcs ≡ true → x (effect_of t) ≡ scale *ℤ y (effect_of t)
-  pub unused : (t : ℕ) → has_label t lts.arcs ≡ false → y (effect_of t) ≡ pos 0
+  pub tokens : (q : ℕ) → q < states lts → x (Tokens q) ≡ (scale *ℤ y (Tokens q)) +ℤ rest
+  pub others : (q : ℕ) → states lts ≤ q → pos 0 ≤ℤ y (Tokens q)
+  pub effects : (t : ℕ) → has_label t lts.arcs ≡ true → x (Effect t) ≡ scale *ℤ y (Effect t)
+  pub unused : (t : ℕ) → has_label t lts.arcs ≡ false → y (Effect t) ≡ pos 0
 
 -- some point over the columns meets every row of the case's system, and its forms are whole
 abbrev pub HasWholePoint : CaseSystem → Type 0

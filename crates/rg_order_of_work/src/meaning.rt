@@ -6,9 +6,12 @@
 //! number, and for the effects that are free, and rows for the named rows of the case.
 ghost use Rattle.std.specs.Prelude.{◌≡◌, ◌⊎◌, ◌↔◌, ℕ, ◌+◌, ◌<◌, ◌≤◌, IsTrue, IsFalse, List, [], ◌∷◌, length, slice_index_or, Contains, Ok, ℤ, pos, ◌*ℤ◌, ◌<ℤ◌, ◌≤ℤ◌};
 ghost use Rattle.rg_theory.specs.Limits.{most_states};
-ghost use Rattle.rg_theory.specs.System.{System, HasArc, IsInRange, IsAllReachable, states, labels};
-ghost use Rattle.rg_refuting.specs.Expression.{Variable, plus};
-ghost use Rattle.rg_refuting.specs.Row.{RowName, RowStands, row_expression, cases_of, KeepsRows, Form as SplitForm, Form.on_start, form_variable, step_of};
+ghost use Rattle.rg_theory.specs.System.{arc, System, HasArc, IsInRange, IsAllReachable, states, labels};
+ghost use Rattle.rg_refuting.specs.Expression.{plus};
+ghost use Rattle.rg_refuting.specs.declared.Variable.{Variable};
+ghost use Rattle.rg_refuting.specs.Row.{RowStands, row_expression, cases_of, KeepsRows, form_variable, step_of};
+ghost use Rattle.rg_refuting.specs.declared.RowName.{RowName};
+ghost use Rattle.rg_refuting.specs.declared.Form.{Form as SplitForm};
 ghost use Rattle.rg_refuting.specs.Refutes.{IsSeparationProblem, IsSeparable};
 ghost use Rattle.rg_integers.specs.Range.{InRange};
 ghost use Rattle.rg_integers.specs.Sum.{sum_below, number_at, dot};
@@ -24,6 +27,9 @@ ghost use Rattle.rg_order_of_work.specs.Values.{NamesLabels, numbers_along, colu
 ghost use Rattle.rg_order_of_work.specs.Meaning.{IsLeftOut, RowHolds, KeepsRowsOver, KeepsAllButTokens, shifted, IsCaseOver, AreEffects, MeetsCase, AgreeOnUsed, used_effect, first_column, AreGivenBy, HasPoint, HasSolution, HasWholeSolutionIn};
 ghost use Rattle.rg_order_of_work.specs.FormRows.{IsMultipleOfRow};
 ghost use Rattle.rg_order_of_work.specs.WholeParts.{AreWholeParts, HasWholePoint, SomeCaseHasWholePoint};
+ghost use Rattle.rg_refuting.specs.declared.RowName.TheVariants as row_name;
+ghost use Rattle.rg_refuting.specs.declared.Form.TheVariants as split_form;
+ghost use Rattle.rg_refuting.specs.declared.Variable.TheVariants.{Tokens};
 
 use rg_theory::{Arc, Class, Problem};
 
@@ -42,7 +48,7 @@ pub fn rows_are_named()
 pub fn start_and_free_effects_mean()
     ensures arcs { (lts : System) (tree : List Arc) (basis : CycleBasis) (class : Class) (problem : Problem) (number : ℕ) (case : CaseSystem) (start : ℤ)
         (effect : ℕ → ℤ) (scale : ℤ) (q t q' : ℕ) → IsCaseOver lts tree basis class problem number case → AreEffects lts tree basis effect → HasArc lts q t q'
-        → RowHolds lts class problem number scale (numbers_along lts tree start effect) (RowName.arc_row q t q') }
+        → RowHolds lts class problem number scale (numbers_along lts tree start effect) (row_name.Arc (arc q t q')) }
     ensures start { (lts : System) (tree : List Arc) (basis : CycleBasis) (class : Class) (problem : Problem) (number : ℕ) (case : CaseSystem) (start : ℤ)
         (effect : ℕ → ℤ) (scale : ℤ) → IsCaseOver lts tree basis class problem number case → AreEffects lts tree basis effect → pos 0 <ℤ scale → IsTrue (has_start class)
         → MeetsCase lts basis class case start effect scale ↔ KeepsRowsOver lts class problem number scale (numbers_along lts tree start effect) }
@@ -53,9 +59,9 @@ pub fn start_and_free_effects_mean()
     ensures shift { (lts : System) (tree : List Arc) (basis : CycleBasis) (class : Class) (problem : Problem) (number : ℕ) (case : CaseSystem) (start : ℤ)
         (effect : ℕ → ℤ) (scale by : ℤ) → IsCaseOver lts tree basis class problem number case → IsFalse (has_start class)
         → KeepsAllButTokens lts class problem number scale (numbers_along lts tree start effect)
-        → ((q : ℕ) → q < states lts → pos 0 ≤ℤ shifted by (numbers_along lts tree start effect) (Variable.tokens_at q))
+        → ((q : ℕ) → q < states lts → pos 0 ≤ℤ shifted by (numbers_along lts tree start effect) (Tokens q))
         → KeepsRowsOver lts class problem number scale (shifted by (numbers_along lts tree start effect)) }
-    ensures some_shift { (lts : System) (x : Variable → ℤ) → (by : ℤ) × ((q : ℕ) → q < states lts → pos 0 ≤ℤ shifted by x (Variable.tokens_at q)) }
+    ensures some_shift { (lts : System) (x : Variable → ℤ) → (by : ℤ) × ((q : ℕ) → q < states lts → pos 0 ≤ℤ shifted by x (Tokens q)) }
     ensures whole { (lts : System) (class : Class) (problem : Problem) (number : ℕ) (x : Variable → ℤ) → KeepsRowsOver lts class problem number (pos 1) x ↔ KeepsRows lts class problem number x }
 {}
 
@@ -74,16 +80,16 @@ pub fn solutions_are_given()
         → FollowsRelations (chord_system lts tree basis.kept) basis.members effect }
     ensures numbers { (lts : System) (tree : List Arc) (basis : CycleBasis) (class : Class) (problem : Problem) (number : ℕ) (case : CaseSystem) (x : Variable → ℤ)
         (effect : ℕ → ℤ) (scale : ℤ) (q : ℕ) → IsCaseOver lts tree basis class problem number case → KeepsRowsOver lts class problem number scale x
-        → AgreeOnUsed lts x effect → q < states lts → x (Variable.tokens_at q) ≡ potential lts tree (x (Variable.tokens_at lts.initial)) effect q }
+        → AgreeOnUsed lts x effect → q < states lts → x (Tokens q) ≡ potential lts tree (x (Tokens lts.initial)) effect q }
     ensures effects { (lts : System) (tree : List Arc) (basis : CycleBasis) (class : Class) (problem : Problem) (number : ℕ) (case : CaseSystem) (x : Variable → ℤ)
         (scale : ℤ) → IsCaseOver lts tree basis class problem number case → KeepsRowsOver lts class problem number scale x
         → AreEffects lts tree basis (used_effect lts x) }
     ensures rows { (lts : System) (tree : List Arc) (basis : CycleBasis) (class : Class) (problem : Problem) (number : ℕ) (case : CaseSystem) (x : Variable → ℤ)
         (scale : ℤ) → IsCaseOver lts tree basis class problem number case → IsLive lts problem → pos 0 <ℤ scale → KeepsRowsOver lts class problem number scale x
-        → KeepsRowsOver lts class problem number scale (numbers_along lts tree (x (Variable.tokens_at lts.initial)) (used_effect lts x)) }
+        → KeepsRowsOver lts class problem number scale (numbers_along lts tree (x (Tokens lts.initial)) (used_effect lts x)) }
     ensures meets { (lts : System) (tree : List Arc) (basis : CycleBasis) (class : Class) (problem : Problem) (number : ℕ) (case : CaseSystem) (x : Variable → ℤ)
         (scale : ℤ) → IsCaseOver lts tree basis class problem number case → IsLive lts problem → pos 0 <ℤ scale → KeepsRowsOver lts class problem number scale x
-        → MeetsCase lts basis class case (x (Variable.tokens_at lts.initial)) (used_effect lts x) scale }
+        → MeetsCase lts basis class case (x (Tokens lts.initial)) (used_effect lts x) scale }
 {}
 
 /// The columns of a case's system are Start, where it is one, and the effects of the free labels with an
@@ -128,7 +134,7 @@ pub fn forms_are_exact()
         → (IsFalse (has_start class) → start ≡ pos 0) → AreEffects lts tree basis effect
         → pos (step_of class split) *ℤ dot form.coeffs (column_values lts basis class start effect) ≡ form.scale *ℤ numbers_along lts tree start effect
         (form_variable lts.initial split) }
-    ensures start { (lts : System) (tree : List Arc) (basis : CycleBasis) (class : Class) (form : Form) → IsTree lts tree → form_fold lts tree basis class on_start (Ok form) → form.scale ≡ pos (step_of class on_start) }
+    ensures start { (lts : System) (tree : List Arc) (basis : CycleBasis) (class : Class) (form : Form) → IsTree lts tree → form_fold lts tree basis class split_form.Start (Ok form) → form.scale ≡ pos (step_of class split_form.Start) }
     ensures bounded { (lts : System) (tree : List Arc) (basis : CycleBasis) (class : Class) (problem : Problem) (number : ℕ) (case : CaseSystem) → IsCaseOver lts tree basis class problem number case → AreBounded (rows_of case) case.forms }
     ensures multiple { (lts : System) (tree : List Arc) (basis : CycleBasis) (class : Class) (problem : Problem) (number : ℕ) (case : CaseSystem)
         → IsCaseOver lts tree basis class problem number case → (f : ℕ) → f < length case.forms → (row : ℕ) × (times : ℤ)

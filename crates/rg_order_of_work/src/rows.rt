@@ -3,7 +3,8 @@
 ghost use Rattle.std.specs.Prelude.{◌≡◌, ◌↔◌, ℕ, ℤ, List, [], Contains, false, Ok, pos, ◌+ℤ◌, ◌*ℤ◌, ◌≤ℤ◌, ◌<ℤ◌};
 ghost use Rattle.rg_theory.specs.System.{System, labels};
 ghost use Rattle.rg_refuting.specs.Expression.{Term, Expression, value_in};
-ghost use Rattle.rg_refuting.specs.Row.{RowName, row_expression};
+ghost use Rattle.rg_refuting.specs.Row.{row_expression};
+ghost use Rattle.rg_refuting.specs.declared.RowName.{RowName};
 ghost use Rattle.rg_integers.specs.Sum.{sum_below, dot};
 ghost use Rattle.rg_linear.specs.Cycle.{FollowsRelations, CycleBasis};
 ghost use Rattle.rg_order_of_work.specs.Chords.{chord_system, IsBasis};

@@ -10,7 +10,10 @@ use Rattle.rg_integers.specs.Sum.{number_at}
 use Rattle.rg_integers.proofs.Divisors.{gcd_below}
 use Rattle.rg_integers.specs.declared.term.Wide.{Wide}
 use Rattle.rg_refuting.specs.Expression.{Expression, coefficient_in}
-use Rattle.rg_refuting.specs.Row.{RowName, Side, Form as SplitForm, Form.on_tokens, Form.on_effect, Form.on_start, row_expression}
+use Rattle.rg_refuting.specs.Row.{row_expression}
+use Rattle.rg_refuting.specs.declared.RowName.{RowName}
+use Rattle.rg_refuting.specs.declared.Side.{Side}
+use Rattle.rg_refuting.specs.declared.Form.{Form as SplitForm}
 use Rattle.rg_refuting.specs.Refutes.{NamedRow, Tree, Tree.leaf as refuting_leaf, Tree.split as refuting_split}
 use Rattle.rg_linear.specs.Branching.{Form, Weight, form_at, SplitSide, SplitTree, SplitTree.leaf, SplitTree.split, low_side, high_side}
 use Rattle.rg_linear.specs.Cycle.{CycleBasis}
@@ -29,6 +32,8 @@ use Rattle.rg_outcome.specs.Casing.{LeafWide, spread_tree}
 use Rattle.rg_outcome.proofs.Steps.{HasSome, Makes, Each, each_none, some_given, some_then, some_each, makes_each, Joins, some_joined, makes_joined, IsOver, whole_over, some_quotient, some_product, some_term, sums_join, product_over, IsAny}
 use Rattle.rg_outcome.proofs.SystemResults.{HaveRelations, each_append, some_scaled, quotients, divisor_divides}
 use Rattle.rg_outcome.proofs.PlaceResults.{each_mapped}
+use Rattle.rg_refuting.specs.declared.RowName.TheVariants as row_name
+use Rattle.rg_refuting.specs.declared.Form.TheVariants as split_form
 
 -- ---- shares
 
@@ -47,18 +52,18 @@ kept_factor (k ∷ kept) d all over zero = all k (first k kept)
 kept_factor (k ∷ kept) d all over (suc i) = kept_factor kept d (λ x has. all x (behind k x kept has)) over i
 
 split_factor_over : (split : SplitForm) (form : Form) → IsOver (split_factor split form)
-split_factor_over (on_tokens q) form = whole_over form.scale
-split_factor_over (on_effect t) form = whole_over form.scale
-split_factor_over on_start form = whole_over (pos 1)
+split_factor_over (split_form.Tokens q) form = whole_over form.scale
+split_factor_over (split_form.Effect t) form = whole_over form.scale
+split_factor_over split_form.Start form = whole_over (pos 1)
 
 factor_over : (case : CaseSystem) (sides : List SplitSide) (above : List Side) → HaveFactors case → (i : ℕ) → IsOver (factor_of case sides above i)
 factor_over case sides above all i = by (nat_lt i (length case.kept))
   where
-    of_row : IsOver (slice_index_or case.kept i (record { name = RowName.above_row 0; row = record { coeffs = []; constant = pos 0 }; factor = whole (pos 1) })).factor
-    of_row = kept_factor case.kept (record { name = RowName.above_row 0; row = record { coeffs = []; constant = pos 0 }; factor = whole (pos 1) }) all (whole_over (pos 1)) i
+    of_row : IsOver (slice_index_or case.kept i (record { name = row_name.Above 0; row = record { coeffs = []; constant = pos 0 }; factor = whole (pos 1) })).factor
+    of_row = kept_factor case.kept (record { name = row_name.Above 0; row = record { coeffs = []; constant = pos 0 }; factor = whole (pos 1) }) all (whole_over (pos 1)) i
 
     by : (b : Bool) → IsOver (if b then (slice_index_or case.kept i
-        (record { name = RowName.above_row 0; row = record { coeffs = []; constant = pos 0 }; factor = whole (pos 1) })).factor else split_factor
+        (record { name = row_name.Above 0; row = record { coeffs = []; constant = pos 0 }; factor = whole (pos 1) })).factor else split_factor
         (named_at above (i - length case.kept)).form (form_at case.forms (side_at sides (i - length case.kept)).form))
     by true = of_row
     by false = split_factor_over (named_at above (i - length case.kept)).form (form_at case.forms (side_at sides (i - length case.kept)).form)

@@ -18,7 +18,9 @@ use Rattle.rg_integers.proofs.Divisors.{exact, gcd_below}
 use Rattle.rg_integers.proofs.Order.{positive_differs}
 use Rattle.rg_fraction.specs.Rows.{IsRowGcd}
 use Rattle.rg_refuting.specs.Expression.{Term, Expression, plus}
-use Rattle.rg_refuting.specs.Row.{RowName, row_expression, Form as SplitForm, form_variable, step_of}
+use Rattle.rg_refuting.specs.Row.{row_expression, form_variable, step_of}
+use Rattle.rg_refuting.specs.declared.RowName.{RowName}
+use Rattle.rg_refuting.specs.declared.Form.{Form as SplitForm}
 use Rattle.rg_linear.specs.System.{LinearRow}
 use Rattle.rg_linear.specs.Branching.{Form}
 use Rattle.rg_linear.specs.Cycle.{CycleBasis, IsZeroVector}

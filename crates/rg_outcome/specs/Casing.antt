@@ -5,7 +5,7 @@ use Rattle.rg_theory.specs.System.{System}
 use Rattle.rg_theory.specs.Net.{Place}
 use Rattle.rg_theory.specs.declared.Class.{Class}
 use Rattle.rg_theory.specs.declared.Problem.{Problem}
-use Rattle.rg_refuting.specs.Row.{Side}
+use Rattle.rg_refuting.specs.declared.Side.{Side}
 use Rattle.rg_refuting.specs.Refutes.{NamedRow, Tree, Tree.leaf as refuting_leaf, Tree.split as refuting_split}
 use Rattle.rg_integers.specs.declared.term.Wide.{Wide}
 use Rattle.rg_linear.specs.Descent.{WideAt}

@@ -6,13 +6,19 @@ use Rattle.rg_theory.specs.declared.Class.{Class}
 use Rattle.rg_theory.specs.declared.Problem.{Problem}
 use Rattle.rg_theory.specs.declared.Problem.TheVariants.{Event, States}
 use Rattle.rg_theory.specs.System.{System, states, labels}
-use Rattle.rg_refuting.specs.Expression.{Variable, Variable.tokens_at, Variable.effect_of, Term, Expression, plus, minus, sum_of}
-use Rattle.rg_refuting.specs.Row.{Form, Form.on_tokens, Form.on_effect, Form.on_start, form_variable, step_of, Side, RowName, RowName.arc_row, RowName.tokens_row}
-use Rattle.rg_refuting.specs.Row.{RowName.cap_row, RowName.up_row, RowName.down_row, RowName.makes_row, RowName.stop_row, RowName.block_row, RowName.empty_row}
-use Rattle.rg_refuting.specs.Row.{RowName.full_row, RowName.keep_row, RowName.apart_row, RowName.above_row, side_expression, shared_expression, event_expression}
+use Rattle.rg_refuting.specs.Expression.{Term, Expression, plus, minus, sum_of}
+use Rattle.rg_refuting.specs.declared.Variable.{Variable}
+use Rattle.rg_refuting.specs.Row.{form_variable, step_of}
+use Rattle.rg_refuting.specs.declared.Form.{Form}
+use Rattle.rg_refuting.specs.declared.Side.{Side}
+use Rattle.rg_refuting.specs.declared.RowName.{RowName}
+use Rattle.rg_refuting.specs.Row.{side_expression, shared_expression, event_expression}
 use Rattle.rg_refuting.specs.Row.{state_expression, apart_expression, row_expression, order_of}
 use Rattle.rg_refuting.specs.Refutes.{IsSeparationProblem}
 use Rattle.rg_reasons.specs.Certificates.{IsFormOf, IsRowNameOf, IsTermWithin}
+use Rattle.rg_refuting.specs.declared.RowName.TheVariants as row_name
+use Rattle.rg_refuting.specs.declared.Form.TheVariants as split_form
+use Rattle.rg_refuting.specs.declared.Variable.TheVariants.{Tokens, Effect}
 
 module _ (lts : System) (start : lts.initial < states lts) where
   abbrev Within : Term → Type 0
@@ -31,9 +37,9 @@ module _ (lts : System) (start : lts.initial < states lts) where
   three a b c p q r = All-cons Within a (b ∷ c ∷ []) p (two b c q r)
 
   form_within : (f : Form) → IsFormOf lts f → Within (plus (form_variable lts.initial f)) × Within (minus (form_variable lts.initial f))
-  form_within (on_tokens q) p = (p, p)
-  form_within (on_effect t) p = (p, p)
-  form_within on_start p = (start, start)
+  form_within (split_form.Tokens q) p = (p, p)
+  form_within (split_form.Effect t) p = (p, p)
+  form_within split_form.Start p = (start, start)
 
   side_within : (class : Class) (s : Side) → IsFormOf lts s.form → All Within (side_expression class lts.initial (Some s)).terms
   side_within class s p = go s.high
@@ -52,53 +58,53 @@ module _ (lts : System) (start : lts.initial < states lts) where
 
   module _ (class : Class) (above : List Side) (sides : All (λ s. IsFormOf lts s.form) above) where
     shared_within : (name : RowName) → IsRowNameOf lts name → All Within (shared_expression lts class above name).terms
-    shared_within (arc_row q t q') (a, b, c) = three (plus (tokens_at q)) (plus (effect_of t)) (minus (tokens_at q')) a b c
-    shared_within (tokens_row q) p = one (plus (tokens_at q)) p
-    shared_within (cap_row q) p = one (minus (tokens_at q)) p
-    shared_within (up_row t) p = one (minus (effect_of t)) p
-    shared_within (down_row t) p = one (plus (effect_of t)) p
-    shared_within (makes_row t) p = one (plus (effect_of t)) p
-    shared_within (stop_row q) p = none
-    shared_within block_row p = none
-    shared_within empty_row p = none
-    shared_within (full_row q) p = none
-    shared_within keep_row p = none
-    shared_within apart_row p = none
-    shared_within (above_row d) p = above_within class above d sides
+    shared_within (row_name.Arc e) (a, b, c) = three (plus (Tokens e.from)) (plus (Effect e.label)) (minus (Tokens e.to)) a b c
+    shared_within (row_name.Tokens q) p = one (plus (Tokens q)) p
+    shared_within (row_name.Cap q) p = one (minus (Tokens q)) p
+    shared_within (row_name.Up t) p = one (minus (Effect t)) p
+    shared_within (row_name.Down t) p = one (plus (Effect t)) p
+    shared_within (row_name.Makes t) p = one (plus (Effect t)) p
+    shared_within (row_name.Stop q) p = none
+    shared_within row_name.Block p = none
+    shared_within row_name.Empty p = none
+    shared_within (row_name.Full q) p = none
+    shared_within row_name.Keep p = none
+    shared_within row_name.Apart p = none
+    shared_within (row_name.Above d) p = above_within class above d sides
 
     event_within : (s t : ℕ) → s < states lts → t < labels lts → (name : RowName) → IsRowNameOf lts name → All Within (event_expression lts class s t above name).terms
-    event_within s t a b (stop_row q) p = two (plus (tokens_at q)) (minus (tokens_at s)) p a
-    event_within s t a b block_row p = two (minus (tokens_at s)) (minus (effect_of t)) a b
-    event_within s t a b empty_row p = one (minus (tokens_at s)) a
-    event_within s t a b (full_row q) p = one (plus (tokens_at q)) p
-    event_within s t a b keep_row p = one (minus (effect_of t)) b
-    event_within s t a b (arc_row q u q') p = shared_within (arc_row q u q') p
-    event_within s t a b (tokens_row q) p = shared_within (tokens_row q) p
-    event_within s t a b (cap_row q) p = shared_within (cap_row q) p
-    event_within s t a b (up_row u) p = shared_within (up_row u) p
-    event_within s t a b (down_row u) p = shared_within (down_row u) p
-    event_within s t a b (makes_row u) p = shared_within (makes_row u) p
-    event_within s t a b apart_row p = shared_within apart_row p
-    event_within s t a b (above_row d) p = shared_within (above_row d) p
+    event_within s t a b (row_name.Stop q) p = two (plus (Tokens q)) (minus (Tokens s)) p a
+    event_within s t a b row_name.Block p = two (minus (Tokens s)) (minus (Effect t)) a b
+    event_within s t a b row_name.Empty p = one (minus (Tokens s)) a
+    event_within s t a b (row_name.Full q) p = one (plus (Tokens q)) p
+    event_within s t a b row_name.Keep p = one (minus (Effect t)) b
+    event_within s t a b (row_name.Arc e) p = shared_within (row_name.Arc e) p
+    event_within s t a b (row_name.Tokens q) p = shared_within (row_name.Tokens q) p
+    event_within s t a b (row_name.Cap q) p = shared_within (row_name.Cap q) p
+    event_within s t a b (row_name.Up u) p = shared_within (row_name.Up u) p
+    event_within s t a b (row_name.Down u) p = shared_within (row_name.Down u) p
+    event_within s t a b (row_name.Makes u) p = shared_within (row_name.Makes u) p
+    event_within s t a b row_name.Apart p = shared_within row_name.Apart p
+    event_within s t a b (row_name.Above d) p = shared_within (row_name.Above d) p
 
     apart_within : (s s' order : ℕ) → s < states lts → s' < states lts → All Within (apart_expression s s' order).terms
-    apart_within s s' zero a b = two (plus (tokens_at s')) (minus (tokens_at s)) b a
-    apart_within s s' (suc order) a b = two (plus (tokens_at s)) (minus (tokens_at s')) a b
+    apart_within s s' zero a b = two (plus (Tokens s')) (minus (Tokens s)) b a
+    apart_within s s' (suc order) a b = two (plus (Tokens s)) (minus (Tokens s')) a b
 
     state_within : (s s' order : ℕ) → s < states lts → s' < states lts → (name : RowName) → IsRowNameOf lts name → All Within (state_expression lts class s s' order above name).terms
-    state_within s s' order a b apart_row p = apart_within s s' order a b
-    state_within s s' order a b (stop_row q) p = shared_within (stop_row q) p
-    state_within s s' order a b block_row p = shared_within block_row p
-    state_within s s' order a b empty_row p = shared_within empty_row p
-    state_within s s' order a b (full_row q) p = shared_within (full_row q) p
-    state_within s s' order a b keep_row p = shared_within keep_row p
-    state_within s s' order a b (arc_row q u q') p = shared_within (arc_row q u q') p
-    state_within s s' order a b (tokens_row q) p = shared_within (tokens_row q) p
-    state_within s s' order a b (cap_row q) p = shared_within (cap_row q) p
-    state_within s s' order a b (up_row u) p = shared_within (up_row u) p
-    state_within s s' order a b (down_row u) p = shared_within (down_row u) p
-    state_within s s' order a b (makes_row u) p = shared_within (makes_row u) p
-    state_within s s' order a b (above_row d) p = shared_within (above_row d) p
+    state_within s s' order a b row_name.Apart p = apart_within s s' order a b
+    state_within s s' order a b (row_name.Stop q) p = shared_within (row_name.Stop q) p
+    state_within s s' order a b row_name.Block p = shared_within row_name.Block p
+    state_within s s' order a b row_name.Empty p = shared_within row_name.Empty p
+    state_within s s' order a b (row_name.Full q) p = shared_within (row_name.Full q) p
+    state_within s s' order a b row_name.Keep p = shared_within row_name.Keep p
+    state_within s s' order a b (row_name.Arc e) p = shared_within (row_name.Arc e) p
+    state_within s s' order a b (row_name.Tokens q) p = shared_within (row_name.Tokens q) p
+    state_within s s' order a b (row_name.Cap q) p = shared_within (row_name.Cap q) p
+    state_within s s' order a b (row_name.Up u) p = shared_within (row_name.Up u) p
+    state_within s s' order a b (row_name.Down u) p = shared_within (row_name.Down u) p
+    state_within s s' order a b (row_name.Makes u) p = shared_within (row_name.Makes u) p
+    state_within s s' order a b (row_name.Above d) p = shared_within (row_name.Above d) p
 
     pub row_within : (problem : Problem) (number : ℕ) → IsSeparationProblem lts problem → (name : RowName) → IsRowNameOf lts name → All Within (row_expression lts class problem number above name).terms
     row_within (Event s t) number asked = event_within s t asked.0 asked.1

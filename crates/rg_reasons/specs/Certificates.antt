@@ -4,8 +4,8 @@ use Rattle.rg_theory.specs.System.{System, states, labels}
 use Rattle.rg_theory.specs.declared.Class.{Class}
 use Rattle.rg_theory.specs.declared.Problem.TheVariants as problem
 use Rattle.rg_theory.specs.ClassWords.{HasNumbersInRange}
-use Rattle.rg_refuting.specs.Expression.{Term, Variable, Variable.tokens_at, Variable.effect_of}
-use Rattle.rg_refuting.specs.Row as row
+use Rattle.rg_refuting.specs.Expression.{Term}
+use Rattle.rg_refuting.specs.declared.Variable.{Variable}
 use Rattle.rg_refuting.specs.Refutes as refutes
 use Rattle.rg_refuting.specs.Refutes.{NamedRow, Tree}
 use Rattle.rg_integers.specs.Range.{greatest}
@@ -14,6 +14,11 @@ use Rattle.rg_reasons.specs.declared.certificate.Reason.{Reason}
 use Rattle.rg_reasons.specs.declared.certificate.Reason.TheVariants.{Unreachable, Fork, Event, States}
 use Rattle.rg_reasons.specs.declared.certificate.Certificate.{Certificate}
 use Rattle.rg_reasons.specs.Trees.{TreeNode, TreeNode.leaf_node, TreeNode.split_node, preorder, IsWholeTree, tree_of, nodes_of}
+use Rattle.rg_refuting.specs.declared.RowName.{RowName}
+use Rattle.rg_refuting.specs.declared.Form.{Form}
+use Rattle.rg_refuting.specs.declared.RowName.TheVariants as row_name
+use Rattle.rg_refuting.specs.declared.Form.TheVariants as split_form
+use Rattle.rg_refuting.specs.declared.Variable.TheVariants.{Tokens, Effect}
 
 -- a class, and why no net of it solves a system, in the words of the definitions
 pub record Claim : Type 0 where
@@ -45,20 +50,20 @@ HasWholeCases (Event s t case) = IsWhole case
 HasWholeCases (States s s' cases) = All IsWhole cases.items
 
 -- the states and labels of a row are those of the system
-abbrev pub IsRowNameOf : System → row.RowName → Type 0
-IsRowNameOf lts (row.arc_row q t q') = (q < states lts) × (t < labels lts) × (q' < states lts)
-IsRowNameOf lts (row.tokens_row q) = q < states lts
-IsRowNameOf lts (row.cap_row q) = q < states lts
-IsRowNameOf lts (row.up_row t) = t < labels lts
-IsRowNameOf lts (row.down_row t) = t < labels lts
-IsRowNameOf lts (row.makes_row t) = t < labels lts
-IsRowNameOf lts (row.stop_row q) = q < states lts
-IsRowNameOf lts row.block_row = Unit {0}
-IsRowNameOf lts row.empty_row = Unit {0}
-IsRowNameOf lts (row.full_row q) = q < states lts
-IsRowNameOf lts row.keep_row = Unit {0}
-IsRowNameOf lts row.apart_row = Unit {0}
-IsRowNameOf lts (row.above_row d) = d < 2 ^ 32
+abbrev pub IsRowNameOf : System → RowName → Type 0
+IsRowNameOf lts (row_name.Arc a) = (a.from < states lts) × (a.label < labels lts) × (a.to < states lts)
+IsRowNameOf lts (row_name.Tokens q) = q < states lts
+IsRowNameOf lts (row_name.Cap q) = q < states lts
+IsRowNameOf lts (row_name.Up t) = t < labels lts
+IsRowNameOf lts (row_name.Down t) = t < labels lts
+IsRowNameOf lts (row_name.Makes t) = t < labels lts
+IsRowNameOf lts (row_name.Stop q) = q < states lts
+IsRowNameOf lts row_name.Block = Unit {0}
+IsRowNameOf lts row_name.Empty = Unit {0}
+IsRowNameOf lts (row_name.Full q) = q < states lts
+IsRowNameOf lts row_name.Keep = Unit {0}
+IsRowNameOf lts row_name.Apart = Unit {0}
+IsRowNameOf lts (row_name.Above d) = d < 2 ^ 32
 
 -- a multiplier is from -(2^127 - 1) to 2^127 - 1
 abbrev pub IsMultiplierInRange : ℤ → Type 0
@@ -72,15 +77,15 @@ pub record IsRowOf (lts : System) (r : NamedRow) : Type 0 where
   pub multiplier : IsMultiplierInRange r.multiplier
   pub name : IsRowNameOf lts r.name
 
-abbrev pub IsFormOf : System → row.Form → Type 0
-IsFormOf lts (row.on_tokens q) = q < states lts
-IsFormOf lts (row.on_effect t) = t < labels lts
-IsFormOf lts row.on_start = Unit {0}
+abbrev pub IsFormOf : System → Form → Type 0
+IsFormOf lts (split_form.Tokens q) = q < states lts
+IsFormOf lts (split_form.Effect t) = t < labels lts
+IsFormOf lts split_form.Start = Unit {0}
 
 -- the state or label is one of so many
 abbrev pub IsVariableWithin : ℕ → ℕ → Variable → Type 0
-IsVariableWithin states labels (tokens_at q) = q < states
-IsVariableWithin states labels (effect_of t) = t < labels
+IsVariableWithin states labels (Tokens q) = q < states
+IsVariableWithin states labels (Effect t) = t < labels
 
 abbrev pub IsTermWithin : ℕ → ℕ → Term → Type 0
 IsTermWithin states labels t = IsVariableWithin states labels t.variable

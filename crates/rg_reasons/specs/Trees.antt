@@ -1,11 +1,8 @@
 -- The trees of certificates, and the lists of nodes that stand for them.
 use Rattle.std.specs.Prelude.{◌≡◌, List, [], ◌∷◌, ◌++◌, map, ℤ}
-use Rattle.rg_refuting.specs.Row as row
+use Rattle.rg_refuting.specs.declared.RowName.{RowName}
+use Rattle.rg_refuting.specs.declared.Form.{Form}
 use Rattle.rg_refuting.specs.Refutes.{NamedRow, Tree, Tree.leaf, Tree.split}
-use Rattle.rg_reasons.specs.declared.certificate.RowName.{RowName}
-use Rattle.rg_reasons.specs.declared.certificate.RowName.TheVariants as of_code
-use Rattle.rg_reasons.specs.declared.certificate.Form.{Form}
-use Rattle.rg_reasons.specs.declared.certificate.Form.TheVariants as form
 use Rattle.rg_reasons.specs.declared.certificate.Node.{Node}
 use Rattle.rg_reasons.specs.declared.certificate.Node.TheVariants.{Leaf, Split}
 use Rattle.rg_reasons.specs.declared.certificate.Case.{Case}
@@ -13,7 +10,7 @@ use Rattle.rg_reasons.specs.declared.certificate.Case.{Case}
 -- a node of a tree, without what is below it
 pub data TreeNode : Type 0 where
   leaf_node : List NamedRow → TreeNode
-  split_node : row.Form → ℤ → TreeNode
+  split_node : Form → ℤ → TreeNode
 
 -- the nodes of a tree: each split, then its low side, then its high side
 abbrev pub preorder : Tree → List TreeNode
@@ -25,7 +22,7 @@ abbrev pub IsWholeTree : List TreeNode → Tree → Type 0
 IsWholeTree nodes tree = nodes ≡ preorder tree
 
 -- the first two trees become the sides of a split
-abbrev pub joined : row.Form → ℤ → List Tree → List Tree
+abbrev pub joined : Form → ℤ → List Tree → List Tree
 joined form at (low ∷ high ∷ more) = split form at low high ∷ more
 joined form at trees = trees
 
@@ -43,33 +40,13 @@ first_tree (tree ∷ more) = tree
 abbrev pub tree_of : List TreeNode → Tree
 tree_of nodes = first_tree (trees_of nodes)
 
--- rows, forms and nodes of the code in the words of the definitions
-abbrev pub row_name_of : RowName → row.RowName
-row_name_of (of_code.Arc a) = row.arc_row a.from a.label a.to
-row_name_of (of_code.Tokens q) = row.tokens_row q
-row_name_of (of_code.Cap q) = row.cap_row q
-row_name_of (of_code.Up t) = row.up_row t
-row_name_of (of_code.Down t) = row.down_row t
-row_name_of (of_code.Makes t) = row.makes_row t
-row_name_of (of_code.Stop q) = row.stop_row q
-row_name_of of_code.Block = row.block_row
-row_name_of of_code.Empty = row.empty_row
-row_name_of (of_code.Full q) = row.full_row q
-row_name_of of_code.Keep = row.keep_row
-row_name_of of_code.Apart = row.apart_row
-row_name_of (of_code.Above d) = row.above_row d
-
-abbrev pub form_of : Form → row.Form
-form_of (form.Tokens q) = row.on_tokens q
-form_of (form.Effect t) = row.on_effect t
-form_of form.Start = row.on_start
-
+-- rows and nodes of the code in the words of the definitions
 abbrev pub named_row : RowName × ℤ → NamedRow
-named_row r = record { multiplier = r.1; name = row_name_of r.0 }
+named_row r = record { multiplier = r.1; name = r.0 }
 
 abbrev pub node_of : Node → TreeNode
 node_of (Leaf rows) = leaf_node (map named_row rows.items)
-node_of (Split form at) = split_node (form_of form) at
+node_of (Split form at) = split_node form at
 
 -- the nodes of a case
 abbrev pub nodes_of : Case → List TreeNode

@@ -8,16 +8,14 @@
 mod certificate;
 mod problem_case;
 mod rows;
-mod side;
 mod sum;
-mod variable;
+mod term;
 mod wide_at;
 
-pub use certificate::{Case, Certificate, Form, Node, Reason, RowName};
+pub use certificate::{Case, Certificate, Node, Reason};
 pub use problem_case::ProblemCase;
 pub use rg_theory::Problem;
 pub use rows::expression;
-pub use side::Side;
 pub use sum::Expression;
-pub use variable::{Term, Variable};
+pub use term::Term;
 pub use wide_at::{Stage, WideAt};

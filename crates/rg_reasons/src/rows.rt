@@ -1,18 +1,16 @@
 //! What the named rows say.
-ghost use Rattle.std.specs.Prelude.{◌≡◌, ◌<◌, ◌^◌, [], ◌∷◌, map, option_map, pos, ◌*ℤ◌, unsigned_abs};
+ghost use Rattle.std.specs.Prelude.{◌≡◌, ◌<◌, ◌^◌, [], ◌∷◌, pos, ◌*ℤ◌, unsigned_abs};
 ghost use Rattle.rg_integers.specs.Range.{InRange};
 ghost use Rattle.rg_refuting.specs.Row.{row_expression, shared_expression, event_expression, state_expression, apart_expression, side_expression};
-ghost use Rattle.rg_reasons.specs.Trees.{row_name_of};
 ghost use Rattle.rg_refuting.specs.Expression.{sum_of};
-ghost use Rattle.rg_reasons.specs.Sums.{term_of, terms_in, expression_of, side_of};
+ghost use Rattle.rg_reasons.specs.Sums.{term_of, terms_in, expression_of};
 
-use crate::certificate::RowName;
 use crate::problem_case::ProblemCase;
-use crate::side::Side;
 use crate::sum::Expression;
-use crate::variable::Term::{self, Minus, Plus};
-use crate::variable::Variable::{Effect, Tokens};
+use crate::term::Term::{self, Minus, Plus};
 use rg_lts::Lts;
+use rg_refuting::Variable::{Effect, Tokens};
+use rg_refuting::{RowName, Side};
 use rg_theory::{Class, Problem};
 
 /// What the row says in the case, below the sides of the splits above it: the sum that isn't negative wherever the
@@ -20,7 +18,7 @@ use rg_theory::{Class, Problem};
 /// given outermost first; a row that speaks of none needs none. A name that says nothing in the case, as `Above`
 /// beyond the sides, gives the sum of no terms and 0.
 pub fn expression(lts: &Lts, case: ProblemCase, above: &[Side], name: RowName) -> Expression
-    ensures { expression_of result ≡ row_expression lts.now case.class case.problem case.number (map side_of above.now) (row_name_of name) }
+    ensures { expression_of result ≡ row_expression lts.now case.class case.problem case.number above.now name }
 {
     match case.problem {
         Problem::Event(s, t) => of_event(lts, case.class, s, t, above, name),
@@ -33,7 +31,7 @@ pub fn expression(lts: &Lts, case: ProblemCase, above: &[Side], name: RowName) -
 
 // The rows of the problem of label t at state s.
 fn of_event(lts: &Lts, class: Class, s: u32, t: u32, above: &[Side], name: RowName) -> Expression
-    ensures { expression_of result ≡ event_expression lts.now class s t (map side_of above.now) (row_name_of name) }
+    ensures { expression_of result ≡ event_expression lts.now class s t above.now name }
 {
     match name {
         RowName::Stop(q) => two(Plus(Tokens(q)), Minus(Tokens(s)), -1),
@@ -55,7 +53,7 @@ fn of_states(
     above: &[Side],
     name: RowName,
 ) -> Expression
-    ensures { expression_of result ≡ state_expression lts.now class s other order (map side_of above.now) (row_name_of name) }
+    ensures { expression_of result ≡ state_expression lts.now class s other order above.now name }
 {
     match name {
         RowName::Apart => apart(s, other, order),
@@ -76,7 +74,7 @@ fn apart(s: u32, other: u32, order: u32) -> Expression
 
 // The rows that speak of no problem.
 fn shared(lts: &Lts, class: Class, above: &[Side], name: RowName) -> Expression
-    ensures { expression_of result ≡ shared_expression lts.now class (map side_of above.now) (row_name_of name) }
+    ensures { expression_of result ≡ shared_expression lts.now class above.now name }
 {
     match name {
         RowName::Arc(a) => sum(
@@ -102,18 +100,18 @@ fn shared(lts: &Lts, class: Class, above: &[Side], name: RowName) -> Expression
 
 // What a split says on its side.
 fn of_side(lts: &Lts, class: Class, side: Option<Side>) -> Expression
-    ensures { expression_of result ≡ side_expression class lts.now.initial (option_map side_of side) }
+    ensures { expression_of result ≡ side_expression class lts.now.initial side }
 {
     match side {
         Some(side) if side.high => {
             let step = side.form.step(class);
             one(
-                Plus(side.form.variable(lts)),
+                Plus(side.form.variable(lts.initial())),
                 -steps(step, side.at) - i128::from(step),
             )
         }
         Some(side) => one(
-            Minus(side.form.variable(lts)),
+            Minus(side.form.variable(lts.initial())),
             steps(side.form.step(class), side.at),
         ),
         None => sum([None, None, None], 0),

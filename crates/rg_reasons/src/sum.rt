@@ -2,7 +2,7 @@
 ghost use Rattle.std.specs.Prelude.{◌≡◌, length};
 ghost use Rattle.rg_integers.specs.Range.{InRange};
 
-use crate::variable::Term;
+use crate::term::Term;
 
 /// A sum of at most three terms and a constant. A named row says that it isn't negative, or that of an arc that it
 /// is 0.

@@ -1,7 +1,7 @@
 //! Where a number is out of range.
 
-use crate::side::Side;
 use rg_integers::Wide;
+use rg_refuting::Side;
 use rg_theory::Problem;
 
 /// The part of the work in which a term is out of range.

@@ -4,22 +4,23 @@ use Rattle.std.proofs.lemmas.Int.{ints}
 use Rattle.rg_integers.specs.Sum.{sum_over}
 use Rattle.rg_integers.proofs.Ring.{mul-add, add-mul, mul_assoc}
 use Rattle.rg_integers.proofs.ListSums.{sum_over-same, sum_over-map, sum_over-append, sum_over-plus, sum_over-times, sum_over-not_negative}
-use Rattle.rg_refuting.specs.Expression.{Variable, Variable.tokens_at, Variable.effect_of, Term, Expression, same_variable, coefficient_in, value_in, value_of}
+use Rattle.rg_refuting.specs.Expression.{Variable, Term, Expression, same_variable, coefficient_in, value_in, value_of}
 use Rattle.rg_refuting.specs.Row.{RowName}
 use Rattle.rg_refuting.specs.Refutes.{NamedRow, coefficient_sum, constant_sum}
+use Rattle.rg_refuting.specs.declared.Variable.TheVariants.{Tokens, Effect}
 
 -- ---- terms without one variable
 
 -- a test of two variables says whether they are one
 pub same_variable_is : (v w : Variable) → same_variable v w ≡ true → v ≡ w
-same_variable_is (tokens_at q) (tokens_at r) e = ap tokens_at (eqb-true q r e)
-same_variable_is (effect_of t) (effect_of u) e = ap effect_of (eqb-true t u e)
-same_variable_is (tokens_at q) (effect_of t) e = cc
-same_variable_is (effect_of t) (tokens_at q) e = cc
+same_variable_is (Tokens q) (Tokens r) e = ap Tokens (eqb-true q r e)
+same_variable_is (Effect t) (Effect u) e = ap Effect (eqb-true t u e)
+same_variable_is (Tokens q) (Effect t) e = cc
+same_variable_is (Effect t) (Tokens q) e = cc
 
 pub same_variable_refl : (v : Variable) → same_variable v v ≡ true
-same_variable_refl (tokens_at q) = eq-eqb q q refl
-same_variable_refl (effect_of t) = eq-eqb t t refl
+same_variable_refl (Tokens q) = eq-eqb q q refl
+same_variable_refl (Effect t) = eq-eqb t t refl
 
 -- the terms of the other variables
 abbrev without : Variable → List Term → List Term

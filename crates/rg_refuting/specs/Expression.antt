@@ -1,11 +1,9 @@
 -- Linear expressions over the tokens of states and the effects of labels.
 use Rattle.std.specs.Prelude.{ℕ, Bool, false, ◌==◌, if◌then◌else◌, List, ℤ, pos, negsuc, ◌+ℤ◌, ◌*ℤ◌}
 use Rattle.rg_integers.specs.Sum.{sum_over}
-
 -- M(q), the tokens at a state, and E(t), the effect of a label
-pub data Variable : Type 0 where
-  tokens_at : ℕ → Variable
-  effect_of : ℕ → Variable
+pub use Rattle.rg_refuting.specs.declared.Variable.{Variable}
+use Rattle.rg_refuting.specs.declared.Variable.TheVariants.{Tokens, Effect}
 
 -- a variable times a number
 pub record Term : Type 0 where
@@ -18,10 +16,10 @@ pub record Expression : Type 0 where
   pub constant : ℤ
 
 abbrev pub same_variable : Variable → Variable → Bool
-same_variable (tokens_at q) (tokens_at r) = q == r
-same_variable (effect_of t) (effect_of u) = t == u
-same_variable (tokens_at q) (effect_of t) = false
-same_variable (effect_of t) (tokens_at q) = false
+same_variable (Tokens q) (Tokens r) = q == r
+same_variable (Effect t) (Effect u) = t == u
+same_variable (Tokens q) (Effect t) = false
+same_variable (Effect t) (Tokens q) = false
 
 -- what the terms add up to as the coefficient of one variable
 abbrev pub coefficient_in : List Term → Variable → ℤ
@@ -46,5 +44,5 @@ value_of x e = value_in x e.terms +ℤ e.constant
 
 -- tokens of states and effects of labels as numbers of the variables
 abbrev pub numbers_by : (ℕ → ℕ) → (ℕ → ℤ) → Variable → ℤ
-numbers_by tokens effect (tokens_at q) = pos (tokens q)
-numbers_by tokens effect (effect_of t) = effect t
+numbers_by tokens effect (Tokens q) = pos (tokens q)
+numbers_by tokens effect (Effect t) = effect t

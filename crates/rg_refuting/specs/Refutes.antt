@@ -10,8 +10,9 @@ use Rattle.rg_theory.specs.Region.{RegionIn}
 use Rattle.rg_theory.specs.declared.Problem.{Problem}
 use Rattle.rg_theory.specs.declared.Problem.TheVariants.{Event, States}
 use Rattle.rg_theory.specs.Problem.{Separates}
+use Rattle.rg_refuting.specs.declared.RowName.TheVariants.{Arc}
 use Rattle.rg_refuting.specs.Expression.{Variable, Expression, coefficient_in, numbers_by}
-use Rattle.rg_refuting.specs.Row.{Form, FormStands, Side, RowName, RowName.arc_row, RowStands, row_expression, KeepsRows, cases_of}
+use Rattle.rg_refuting.specs.Row.{Form, FormStands, Side, RowName, RowStands, row_expression, KeepsRows, cases_of}
 
 -- a row of a leaf, times a number
 pub record NamedRow : Type 0 where
@@ -20,7 +21,7 @@ pub record NamedRow : Type 0 where
 
 -- a row that says "at least 0" has a positive multiplier
 abbrev pub IsMultiplier : ℤ → RowName → Type 0
-IsMultiplier k (arc_row q t q') = Unit {0}
+IsMultiplier k (Arc a) = Unit {0}
 IsMultiplier k name = pos 1 ≤ℤ k
 
 -- the sum of the multiplied coefficients of a variable

@@ -12,7 +12,7 @@ use Rattle.rg_integers.specs.Range.{InRange}
 use Rattle.rg_integers.specs.Sum.{sum_over}
 use Rattle.rg_linear.specs.Branching.{Form, form_at, AreBounded}
 use Rattle.rg_linear.specs.Cycle.{CycleBasis}
-use Rattle.rg_refuting.specs.Row.{RowName}
+use Rattle.rg_refuting.specs.declared.RowName.{RowName}
 use Rattle.rg_order_of_work.specs.Fold.{each}
 use Rattle.rg_order_of_work.specs.Rewriting.{split_forms, form_low, KeptRow, CaseSystem, rows_of}
 use Rattle.rg_order_of_work.specs.Meaning.{IsCaseOver}

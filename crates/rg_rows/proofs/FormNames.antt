@@ -8,21 +8,21 @@ use Rattle.rg_theory.specs.declared.Class.{Class}
 use Rattle.rg_theory.specs.declared.Problem.{Problem}
 use Rattle.rg_theory.specs.declared.Problem.TheVariants.{Event, States}
 use Rattle.rg_theory.specs.System.{System, states, labels}
-use Rattle.rg_refuting.specs.Row.{RowName, RowName.tokens_row, RowName.cap_row, RowName.up_row, RowName.down_row, RowName.makes_row, RowName.stop_row, RowName.block_row}
-use Rattle.rg_refuting.specs.Row.{RowName.empty_row, RowName.full_row, RowName.keep_row, case_consumer, Form as SplitForm, Form.on_tokens, Form.on_effect, Form.on_start}
+use Rattle.rg_refuting.specs.declared.RowName.{RowName}
+use Rattle.rg_refuting.specs.Row.{case_consumer}
+use Rattle.rg_refuting.specs.declared.Form.{Form}
 use Rattle.rg_order_of_work.specs.Rewriting.{numbers_where, has_label, used_labels, states_with, has_start, all_numbers, problem_rows, names_of, splits_start, split_forms}
 use Rattle.rg_order_of_work.proofs.Forms.{start_of_bound}
 use Rattle.rg_order_of_work.proofs.Lists.{Contains-map, where_has}
-use Rattle.rg_reasons.specs.declared.certificate.RowName.{RowName as CodeName}
-use Rattle.rg_reasons.specs.declared.certificate.RowName.TheVariants as of_code
-use Rattle.rg_reasons.specs.Trees.{row_name_of}
 use Rattle.rg_rows.specs.Forms.{form_in, put_form, forms_in, case_forms}
+use Rattle.rg_refuting.specs.declared.RowName.TheVariants as row_name
+use Rattle.rg_refuting.specs.declared.Form.TheVariants as split_form
 
 forms-append : (class : Class) (xs ys : List RowName) → forms_in class (xs ++ ys) ≡ forms_in class xs ++ forms_in class ys
 forms-append class [] ys = refl
 forms-append class (x ∷ xs) ys = ap (put_form (form_in class x)) (forms-append class xs ys) ∙ put (form_in class x)
   where
-    put : (o : Option SplitForm) → put_form o (forms_in class xs ++ forms_in class ys) ≡ put_form o (forms_in class xs) ++ forms_in class ys
+    put : (o : Option Form) → put_form o (forms_in class xs ++ forms_in class ys) ≡ put_form o (forms_in class xs) ++ forms_in class ys
     put None = refl
     put (Some form) = refl
 
@@ -31,7 +31,7 @@ no_forms class row [] none = refl
 no_forms class row (x ∷ xs) none = ap (λ o. put_form o (forms_in class (map row xs))) (none x) ∙ no_forms class row xs none
 
 -- rows that have a form where the test holds
-all_forms : (class : Class) (row : ℕ → RowName) (form : ℕ → SplitForm) (b : Bool) (xs : List ℕ) → ((n : ℕ) → form_in class (row n) ≡ (if b then Some (form n) else None)) → forms_in class (map row xs) ≡ (if b then map form xs else [])
+all_forms : (class : Class) (row : ℕ → RowName) (form : ℕ → Form) (b : Bool) (xs : List ℕ) → ((n : ℕ) → form_in class (row n) ≡ (if b then Some (form n) else None)) → forms_in class (map row xs) ≡ (if b then map form xs else [])
 all_forms class row form b [] each = none b
   where
     none : (b : Bool) → map form [] ≡ (if b then map form [] else [])
@@ -43,21 +43,21 @@ all_forms class row form b (x ∷ xs) each = ap₂ put_form (each x) (all_forms 
     go true = refl
     go false = refl
 
-optional : (class : Class) (b : Bool) (names : List RowName) (forms : List SplitForm) → forms_in class names ≡ forms → forms_in class (if b then names else []) ≡ (if b then forms else [])
+optional : (class : Class) (b : Bool) (names : List RowName) (forms : List Form) → forms_in class names ≡ forms → forms_in class (if b then names else []) ≡ (if b then forms else [])
 optional class true names forms e = e
 optional class false names forms e = refl
 
 problem_none : (lts : System) (class : Class) (problem : Problem) → forms_in class (problem_rows lts class problem) ≡ []
 problem_none lts class (Event s t) = go class.pure class.plain
   where
-    go : (pure plain : Bool) → forms_in class (if pure then (block_row ∷ []) else (if plain then (empty_row ∷ map full_row (states_with lts t) ++ keep_row ∷ []) else map stop_row (states_with lts t))) ≡ []
+    go : (pure plain : Bool) → forms_in class (if pure then (row_name.Block ∷ []) else (if plain then (row_name.Empty ∷ map row_name.Full (states_with lts t) ++ row_name.Keep ∷ []) else map row_name.Stop (states_with lts t))) ≡ []
     go true plain = refl
-    go false true = forms-append class (map full_row (states_with lts t)) (keep_row ∷ []) ∙ ap (λ l. l ++ []) (no_forms class full_row (states_with lts t) (λ n. refl))
-    go false false = no_forms class stop_row (states_with lts t) (λ n. refl)
+    go false true = forms-append class (map row_name.Full (states_with lts t)) (row_name.Keep ∷ []) ∙ ap (λ l. l ++ []) (no_forms class row_name.Full (states_with lts t) (λ n. refl))
+    go false false = no_forms class row_name.Stop (states_with lts t) (λ n. refl)
 problem_none lts class (States s s') = refl
 
 named_forms : (lts : System) (class : Class) (problem : Problem) (number : ℕ)
-    → forms_in class (names_of lts class problem number) ≡ (if is_some class.bound then map on_tokens (all_numbers (states lts)) else (if class.plain then map on_effect (used_labels lts) else []))
+    → forms_in class (names_of lts class problem number) ≡ (if is_some class.bound then map split_form.Tokens (all_numbers (states lts)) else (if class.plain then map split_form.Effect (used_labels lts) else []))
 named_forms lts class problem number =
     forms-append class (own ++ tokens ++ caps ++ sides) makes
     ∙ ap₂ (λ x y. x ++ y)
@@ -66,39 +66,39 @@ named_forms lts class problem number =
     (forms-append class (own ++ tokens) caps
     ∙ ap₂ (λ x y. x ++ y)
     (forms-append class own tokens ∙ ap₂ (λ x y. x ++ y) (problem_none lts class problem)
-    (optional class (has_start class) (map tokens_row (all_numbers (states lts))) (if is_some class.bound then map on_tokens (all_numbers (states lts)) else [])
-    (all_forms class tokens_row on_tokens (is_some class.bound) (all_numbers (states lts)) (λ n. refl))))
-    (optional class (is_some class.bound) (map cap_row (all_numbers (states lts))) [] (no_forms class cap_row (all_numbers (states lts)) (λ n. refl))))
-    (optional class class.plain (map up_row (used_labels lts) ++ map down_row (used_labels lts))
-    (if class.plain && not (is_some class.bound) then map on_effect (used_labels lts) else [])
-    (forms-append class (map up_row (used_labels lts)) (map down_row (used_labels lts)) ∙ ap₂ (λ x y. x ++ y) (no_forms class up_row (used_labels lts) (λ n. refl))
-    (all_forms class down_row on_effect (class.plain && not (is_some class.bound)) (used_labels lts) (λ n. refl)))))
-    (optional class class.nonbranching (map makes_row makers) [] (no_forms class makes_row makers (λ n. refl)))
-    ∙ choose (is_some class.bound) class.plain (has_start class) class.nonbranching (map on_tokens (all_numbers (states lts))) (map on_effect (used_labels lts)) (start_of_bound class)
+    (optional class (has_start class) (map row_name.Tokens (all_numbers (states lts))) (if is_some class.bound then map split_form.Tokens (all_numbers (states lts)) else [])
+    (all_forms class row_name.Tokens split_form.Tokens (is_some class.bound) (all_numbers (states lts)) (λ n. refl))))
+    (optional class (is_some class.bound) (map row_name.Cap (all_numbers (states lts))) [] (no_forms class row_name.Cap (all_numbers (states lts)) (λ n. refl))))
+    (optional class class.plain (map row_name.Up (used_labels lts) ++ map row_name.Down (used_labels lts))
+    (if class.plain && not (is_some class.bound) then map split_form.Effect (used_labels lts) else [])
+    (forms-append class (map row_name.Up (used_labels lts)) (map row_name.Down (used_labels lts)) ∙ ap₂ (λ x y. x ++ y) (no_forms class row_name.Up (used_labels lts) (λ n. refl))
+    (all_forms class row_name.Down split_form.Effect (class.plain && not (is_some class.bound)) (used_labels lts) (λ n. refl)))))
+    (optional class class.nonbranching (map row_name.Makes makers) [] (no_forms class row_name.Makes makers (λ n. refl)))
+    ∙ choose (is_some class.bound) class.plain (has_start class) class.nonbranching (map split_form.Tokens (all_numbers (states lts))) (map split_form.Effect (used_labels lts)) (start_of_bound class)
   where
     own : List RowName
     own = problem_rows lts class problem
 
     tokens : List RowName
-    tokens = if has_start class then map tokens_row (all_numbers (states lts)) else []
+    tokens = if has_start class then map row_name.Tokens (all_numbers (states lts)) else []
 
     caps : List RowName
-    caps = if is_some class.bound then map cap_row (all_numbers (states lts)) else []
+    caps = if is_some class.bound then map row_name.Cap (all_numbers (states lts)) else []
 
     sides : List RowName
-    sides = if class.plain then (map up_row (used_labels lts) ++ map down_row (used_labels lts)) else []
+    sides = if class.plain then (map row_name.Up (used_labels lts) ++ map row_name.Down (used_labels lts)) else []
 
     makers : List ℕ
     makers = numbers_where (λ u. has_label u lts.arcs && not (u == case_consumer lts problem number)) 0 (labels lts)
 
     makes : List RowName
-    makes = if class.nonbranching then map makes_row makers else []
+    makes = if class.nonbranching then map row_name.Makes makers else []
 
-    none : (b : Bool) (xs : List SplitForm) → xs ++ (if b then [] else []) ≡ xs
+    none : (b : Bool) (xs : List Form) → xs ++ (if b then [] else []) ≡ xs
     none true xs = append-nil xs
     none false xs = append-nil xs
 
-    choose : (b p s n : Bool) (X Y : List SplitForm) → (b ≡ true → s ≡ true) → ((([] ++ (if s then (if b then X else []) else [])) ++ (if b then [] else [])) ++ (if p then (if p && not b then Y else []) else [])) ++ (if n then [] else []) ≡ (if b then X else (if p then Y else []))
+    choose : (b p s n : Bool) (X Y : List Form) → (b ≡ true → s ≡ true) → ((([] ++ (if s then (if b then X else []) else [])) ++ (if b then [] else [])) ++ (if p then (if p && not b then Y else []) else [])) ++ (if n then [] else []) ≡ (if b then X else (if p then Y else []))
     choose true true true n X Y start = none n ((X ++ []) ++ []) ∙ append-nil (X ++ []) ∙ append-nil X
     choose true false true n X Y start = none n ((X ++ []) ++ []) ∙ append-nil (X ++ []) ∙ append-nil X
     choose true p false n X Y start = absurd (true≢false (sym (start refl)))
@@ -108,32 +108,32 @@ named_forms lts class problem number =
     choose false false false n X Y start = none n []
 
 pub forms_are : (lts : System) (class : Class) (problem : Problem) (number : ℕ) → case_forms class problem (names_of lts class problem number) ≡ split_forms lts class problem
-forms_are lts class problem number = ap (λ l. l ++ (if splits_start class problem then (on_start ∷ []) else [])) (named_forms lts class problem number)
+forms_are lts class problem number = ap (λ l. l ++ (if splits_start class problem then (split_form.Start ∷ []) else [])) (named_forms lts class problem number)
 
 -- where the case splits on the start, its names have the row of the initial state
-pub has_start_name : (lts : System) (class : Class) (problem : Problem) (number : ℕ) → lts.initial < states lts → IsTrue (splits_start class problem) → Contains (names_of lts class problem number) (tokens_row lts.initial)
+pub has_start_name : (lts : System) (class : Class) (problem : Problem) (number : ℕ) → lts.initial < states lts → IsTrue (splits_start class problem) → Contains (names_of lts class problem number) (row_name.Tokens lts.initial)
 has_start_name lts class problem number initial splits =
-    Contains-append_left (own ++ tokens ++ caps ++ sides) makes (tokens_row lts.initial)
-    (Contains-append_left (own ++ tokens ++ caps) sides (tokens_row lts.initial)
-    (Contains-append_left (own ++ tokens) caps (tokens_row lts.initial)
-    (Contains-append_right own tokens (tokens_row lts.initial)
-    (subst (λ b. Contains (if b then map tokens_row (all_numbers (states lts)) else []) (tokens_row lts.initial)) (sym (started problem splits))
-    (Contains-map tokens_row (all_numbers (states lts)) lts.initial (where_has (λ q. true) 0 (states lts) lts.initial refl (omega arith) (omega arith)))))))
+    Contains-append_left (own ++ tokens ++ caps ++ sides) makes (row_name.Tokens lts.initial)
+    (Contains-append_left (own ++ tokens ++ caps) sides (row_name.Tokens lts.initial)
+    (Contains-append_left (own ++ tokens) caps (row_name.Tokens lts.initial)
+    (Contains-append_right own tokens (row_name.Tokens lts.initial)
+    (subst (λ b. Contains (if b then map row_name.Tokens (all_numbers (states lts)) else []) (row_name.Tokens lts.initial)) (sym (started problem splits))
+    (Contains-map row_name.Tokens (all_numbers (states lts)) lts.initial (where_has (λ q. true) 0 (states lts) lts.initial refl (omega arith) (omega arith)))))))
   where
     own : List RowName
     own = problem_rows lts class problem
 
     tokens : List RowName
-    tokens = if has_start class then map tokens_row (all_numbers (states lts)) else []
+    tokens = if has_start class then map row_name.Tokens (all_numbers (states lts)) else []
 
     caps : List RowName
-    caps = if is_some class.bound then map cap_row (all_numbers (states lts)) else []
+    caps = if is_some class.bound then map row_name.Cap (all_numbers (states lts)) else []
 
     sides : List RowName
-    sides = if class.plain then (map up_row (used_labels lts) ++ map down_row (used_labels lts)) else []
+    sides = if class.plain then (map row_name.Up (used_labels lts) ++ map row_name.Down (used_labels lts)) else []
 
     makes : List RowName
-    makes = if class.nonbranching then map makes_row (numbers_where (λ u. has_label u lts.arcs && not (u == case_consumer lts problem number)) 0 (labels lts)) else []
+    makes = if class.nonbranching then map row_name.Makes (numbers_where (λ u. has_label u lts.arcs && not (u == case_consumer lts problem number)) 0 (labels lts)) else []
 
     by_event : (pure marking plain bound : Bool) → (marking && (plain || bound)) ≡ true → (pure || (plain || bound)) ≡ true
     by_event true marking plain bound e = refl
@@ -149,24 +149,3 @@ has_start_name lts class problem number initial splits =
     started : (p : Problem) → IsTrue (splits_start class p) → has_start class ≡ true
     started (Event s t) e = by_event class.pure (is_some class.marking) class.plain (is_some class.bound) e
     started (States s s') e = by_states class.pure (is_some class.marking) class.plain (is_some class.bound) e
-
--- the code's name of the row
-token_name : (n : CodeName) (q : ℕ) → row_name_of n ≡ tokens_row q → n ≡ of_code.Tokens q
-token_name (of_code.Arc a) q e = absurd cc
-token_name (of_code.Tokens r) q e = let same : r ≡ q = cc in ap of_code.Tokens same
-token_name (of_code.Cap r) q e = absurd cc
-token_name (of_code.Up t) q e = absurd cc
-token_name (of_code.Down t) q e = absurd cc
-token_name (of_code.Makes t) q e = absurd cc
-token_name (of_code.Stop r) q e = absurd cc
-token_name of_code.Block q e = absurd cc
-token_name of_code.Empty q e = absurd cc
-token_name (of_code.Full r) q e = absurd cc
-token_name of_code.Keep q e = absurd cc
-token_name of_code.Apart q e = absurd cc
-token_name (of_code.Above d) q e = absurd cc
-
-pub code_name : (names : List CodeName) (q : ℕ) → Contains (map row_name_of names) (tokens_row q) → Contains names (of_code.Tokens q)
-code_name names q (k, lt, at) =
-    let below : k < length names = subst (λ n. k < n) (length-map names row_name_of) lt in
-    (k, below, token_name (slice_index_or names k (of_code.Tokens q)) q (sym (get_or-map row_name_of names k (of_code.Tokens q) (tokens_row q) below) ∙ at))

@@ -2,7 +2,7 @@
 use Rattle.std.proofs.Common.{◌≡◌, ℕ, max, ◌+◌, ◌<◌, ◌≤◌, ◌&&◌, not, is_some, Bool, true, false, if◌then◌else◌, Some, None, List, [], ◌∷◌, ◌++◌, map, drop, length, Result, Ok, Err, All, ap, refl, subst, sym, ◌∙◌, arith, inl, inr, append_assoc}
 use Rattle.std.proofs.lemmas.Int.{ints}
 use Rattle.std.specs.Prelude.{ℤ, pos, ◌*ℤ◌, ◌<ℤ◌, slice_index_or}
-use Rattle.std.proofs.lemmas.List.{append-nil, drop_all, get_or-map, length-map}
+use Rattle.std.proofs.lemmas.List.{append-nil, drop_all, get_or-map, length-map, get_or_default}
 use Rattle.std.specs.Arc.{arc_slice_items}
 use Rattle.rg_theory.specs.declared.Arc.{Arc}
 use Rattle.rg_theory.specs.declared.Class.{Class}
@@ -13,9 +13,10 @@ use Rattle.rg_integers.specs.declared.term.Wide.{Wide}
 use Rattle.rg_linear.specs.Branching.{Form}
 use Rattle.rg_linear.specs.Cycle.{CycleBasis}
 use Rattle.rg_refuting.specs.Expression.{Term, Expression, plus}
-use Rattle.rg_refuting.specs.Row.{RowName, RowName.arc_row, RowName.tokens_row, RowName.cap_row, RowName.up_row, RowName.down_row, RowName.makes_row, RowName.stop_row}
-use Rattle.rg_refuting.specs.Row.{RowName.block_row, RowName.empty_row, RowName.full_row, RowName.keep_row, RowName.apart_row, RowName.above_row, row_expression}
-use Rattle.rg_refuting.specs.Row.{Form as SplitForm, Form.on_tokens, Form.on_effect, form_variable, step_of}
+use Rattle.rg_refuting.specs.declared.RowName.{RowName}
+use Rattle.rg_refuting.specs.Row.{row_expression}
+use Rattle.rg_refuting.specs.Row.{form_variable, step_of}
+use Rattle.rg_refuting.specs.declared.Form.{Form as SplitForm}
 use Rattle.rg_order_of_work.specs.Fold.{each}
 use Rattle.rg_order_of_work.specs.Rewriting.{Scaled, column_count, terms_fold, form_fold, form_low, form_high, KeptRow}
 use Rattle.rg_order_of_work.specs.FormRows.{form_row}
@@ -24,75 +25,74 @@ use Rattle.rg_order_of_work.proofs.Forms.{each_at}
 use Rattle.rg_order_of_work.proofs.Folding.{behind, each_next, each_fails, each_ends}
 use Rattle.rg_order_of_work.proofs.Items.{from_place}
 use Rattle.rg_integers.specs.Range.{InRange}
-use Rattle.rg_reasons.specs.declared.certificate.RowName.{RowName as CodeName}
-use Rattle.rg_reasons.specs.declared.certificate.Form.{Form as CodeForm}
-use Rattle.rg_reasons.specs.Trees.{row_name_of, form_of}
 use Rattle.rg_rows.specs.declared.case_row.CaseRow.{CaseRow}
 use Rattle.rg_rows.specs.declared.named_form.NamedForm.{NamedForm}
 use Rattle.rg_rows.specs.View.{kept_row, fold_of}
 use Rattle.rg_rows.specs.Forms.{linear_form, split_of, form_in, put_form, forms_in, IsPartOf}
 use Rattle.rg_rows.specs.Making.{IsMade}
 use Rattle.rg_rows.proofs.Placing.{row_got}
+use Rattle.rg_refuting.specs.declared.RowName.TheVariants as row_name
+use Rattle.rg_refuting.specs.declared.Form.TheVariants as split_form
 
 -- the row that the form is of
 pub form_in_row : (initial : ℕ) (class : Class) (name : RowName) (split : SplitForm) → form_in class name ≡ Some split → name ≡ form_row initial split
-form_in_row initial class (tokens_row q) split e = go (is_some class.bound) e
+form_in_row initial class (row_name.Tokens q) split e = go (is_some class.bound) e
   where
-    go : (b : Bool) → (if b then Some (on_tokens q) else None) ≡ Some split → tokens_row q ≡ form_row initial split
+    go : (b : Bool) → (if b then Some (split_form.Tokens q) else None) ≡ Some split → row_name.Tokens q ≡ form_row initial split
     go true e = ap (form_row initial) (only e)
       where
-        only : Some (on_tokens q) ≡ Some split → on_tokens q ≡ split
+        only : Some (split_form.Tokens q) ≡ Some split → split_form.Tokens q ≡ split
         only e = cc
     go false e = cc
-form_in_row initial class (down_row t) split e = go (class.plain && not (is_some class.bound)) e
+form_in_row initial class (row_name.Down t) split e = go (class.plain && not (is_some class.bound)) e
   where
-    go : (b : Bool) → (if b then Some (on_effect t) else None) ≡ Some split → down_row t ≡ form_row initial split
+    go : (b : Bool) → (if b then Some (split_form.Effect t) else None) ≡ Some split → row_name.Down t ≡ form_row initial split
     go true e = ap (form_row initial) (only e)
       where
-        only : Some (on_effect t) ≡ Some split → on_effect t ≡ split
+        only : Some (split_form.Effect t) ≡ Some split → split_form.Effect t ≡ split
         only e = cc
     go false e = cc
-form_in_row initial class (arc_row q t q') split e = cc
-form_in_row initial class (cap_row q) split e = cc
-form_in_row initial class (up_row t) split e = cc
-form_in_row initial class (makes_row t) split e = cc
-form_in_row initial class (stop_row q) split e = cc
-form_in_row initial class block_row split e = cc
-form_in_row initial class empty_row split e = cc
-form_in_row initial class (full_row q) split e = cc
-form_in_row initial class keep_row split e = cc
-form_in_row initial class apart_row split e = cc
-form_in_row initial class (above_row d) split e = cc
+form_in_row initial class (row_name.Arc a) split e = cc
+form_in_row initial class (row_name.Cap q) split e = cc
+form_in_row initial class (row_name.Up t) split e = cc
+form_in_row initial class (row_name.Makes t) split e = cc
+form_in_row initial class (row_name.Stop q) split e = cc
+form_in_row initial class row_name.Block split e = cc
+form_in_row initial class row_name.Empty split e = cc
+form_in_row initial class (row_name.Full q) split e = cc
+form_in_row initial class row_name.Keep split e = cc
+form_in_row initial class row_name.Apart split e = cc
+form_in_row initial class (row_name.Above d) split e = cc
 
 -- and it is counted one by one
 pub form_in_step : (class : Class) (name : RowName) (split : SplitForm) → form_in class name ≡ Some split → step_of class split ≡ 1
-form_in_step class (tokens_row q) split e = go (is_some class.bound) e
+form_in_step class (row_name.Tokens q) split e = go (is_some class.bound) e
   where
-    go : (b : Bool) → (if b then Some (on_tokens q) else None) ≡ Some split → step_of class split ≡ 1
+    go : (b : Bool) → (if b then Some (split_form.Tokens q) else None) ≡ Some split → step_of class split ≡ 1
     go true e = sym (ap (step_of class) (only e))
       where
-        only : Some (on_tokens q) ≡ Some split → on_tokens q ≡ split
+        only : Some (split_form.Tokens q) ≡ Some split → split_form.Tokens q ≡ split
         only e = cc
     go false e = cc
-form_in_step class (down_row t) split e = go (class.plain && not (is_some class.bound)) e
+form_in_step class (row_name.Down t) split e = go (class.plain && not (is_some class.bound)) e
   where
-    go : (b : Bool) → (if b then Some (on_effect t) else None) ≡ Some split → step_of class split ≡ 1
+    go : (b : Bool) → (if b then Some (split_form.Effect t) else None) ≡ Some split → step_of class split ≡ 1
     go true e = sym (ap (step_of class) (only e))
       where
-        only : Some (on_effect t) ≡ Some split → on_effect t ≡ split
+        only : Some (split_form.Effect t) ≡ Some split → split_form.Effect t ≡ split
         only e = cc
     go false e = cc
-form_in_step class (arc_row q t q') split e = cc
-form_in_step class (cap_row q) split e = cc
-form_in_step class (up_row t) split e = cc
-form_in_step class (makes_row t) split e = cc
-form_in_step class (stop_row q) split e = cc
-form_in_step class block_row split e = cc
-form_in_step class empty_row split e = cc
-form_in_step class (full_row q) split e = cc
-form_in_step class keep_row split e = cc
-form_in_step class apart_row split e = cc
-form_in_step class (above_row d) split e = cc
+form_in_step class (row_name.Arc a) split e = cc
+form_in_step class (row_name.Cap q) split e = cc
+form_in_step class (row_name.Up t) split e = cc
+form_in_step class (row_name.Makes t) split e = cc
+form_in_step class (row_name.Stop q) split e = cc
+form_in_step class row_name.Block split e = cc
+form_in_step class row_name.Empty split e = cc
+form_in_step class (row_name.Full q) split e = cc
+form_in_step class row_name.Keep split e = cc
+form_in_step class row_name.Apart split e = cc
+form_in_step class (row_name.Above d) split e = cc
 
 -- ---- the list
 
@@ -161,69 +161,69 @@ row_at_place lts tree basis class problem number names all i name k made lt at a
 
 -- ---- the forms of the rows before place i
 
-pub record Keeps (lts : System) (tree : List Arc) (basis : CycleBasis) (class : Class) (names : List CodeName) (rows : List CaseRow) (places : List ℕ) (i : ℕ) (forms : List NamedForm) : Type 0 where
-  pub so_far : (r : Result (List Form) Wide) → each (form_fold lts tree basis class) (forms_in class (drop i (map row_name_of names))) r → each (form_fold lts tree basis class) (forms_in class (map row_name_of names)) (behind (map linear_form forms) r)
-  pub splits : map split_of forms ++ forms_in class (drop i (map row_name_of names)) ≡ forms_in class (map row_name_of names)
+pub record Keeps (lts : System) (tree : List Arc) (basis : CycleBasis) (class : Class) (names : List RowName) (rows : List CaseRow) (places : List ℕ) (i : ℕ) (forms : List NamedForm) : Type 0 where
+  pub so_far : (r : Result (List Form) Wide) → each (form_fold lts tree basis class) (forms_in class (drop i names)) r → each (form_fold lts tree basis class) (forms_in class names) (behind (map linear_form forms) r)
+  pub splits : map split_of forms ++ forms_in class (drop i names) ≡ forms_in class names
   pub made : All (IsMade lts class (column_count lts basis class) (map kept_row rows) places) forms
 
 -- ---- the row at place i, which has a form
 
-module _ (lts : System) (tree : List Arc) (basis : CycleBasis) (class : Class) (problem : Problem) (number : ℕ) (names : List CodeName) (i : ℕ) (d : CodeName) (lt : i < length names) where
+module _ (lts : System) (tree : List Arc) (basis : CycleBasis) (class : Class) (problem : Problem) (number : ℕ) (names : List RowName) (i : ℕ) (d : RowName) (lt : i < length names) where
   abbrev name : RowName
-  name = row_name_of (slice_index_or names i d)
+  name = slice_index_or names i d
 
-  pub next_name : drop i (map row_name_of names) ≡ row_name_of (slice_index_or names i d) ∷ drop (i + 1) (map row_name_of names)
-  next_name = from_place (map row_name_of names) i (row_name_of d) (subst (λ n. i < n) (sym (length-map names row_name_of)) lt) ∙ ap (λ x. x ∷ drop (i + 1) (map row_name_of names)) (get_or-map row_name_of names i d (row_name_of d) lt)
+  pub next_name : drop i names ≡ slice_index_or names i d ∷ drop (i + 1) names
+  next_name = from_place names i d lt
 
-  module _ (form : CodeForm) (is_form : Some (form_of form) ≡ form_in class (row_name_of (slice_index_or names i d))) (e : Expression) (is_e : e ≡ row_expression lts class problem number [] (row_name_of (slice_index_or names i d))) where
-    named : name ≡ form_row lts.initial (form_of form)
-    named = form_in_row lts.initial class name (form_of form) (sym is_form)
+  module _ (form : SplitForm) (is_form : Some form ≡ form_in class (slice_index_or names i d)) (e : Expression) (is_e : e ≡ row_expression lts class problem number [] (slice_index_or names i d)) where
+    named : name ≡ form_row lts.initial form
+    named = form_in_row lts.initial class name form (sym is_form)
 
-    stepped : (m : ℤ) → m ≡ pos (step_of class (form_of form)) *ℤ m
-    stepped m = once m ∙ ap (λ k. pos k *ℤ m) (sym (form_in_step class name (form_of form) (sym is_form)))
+    stepped : (m : ℤ) → m ≡ pos (step_of class form) *ℤ m
+    stepped m = once m ∙ ap (λ k. pos k *ℤ m) (sym (form_in_step class name form (sym is_form)))
       where
         once : (m : ℤ) → m ≡ pos 1 *ℤ m
         once m = omega (arith, ints)
 
-    is_split : e ≡ row_expression lts class problem number [] (form_row lts.initial (form_of form))
+    is_split : e ≡ row_expression lts class problem number [] (form_row lts.initial form)
     is_split = is_e ∙ ap (row_expression lts class problem number []) named
 
-    module _ (xs : List Form) (so_far : (r : Result (List Form) Wide) → each (form_fold lts tree basis class) (forms_in class (drop i (map row_name_of names))) r → each (form_fold lts tree basis class) (forms_in class (map row_name_of names)) (behind xs r)) where
-      pub step_fails : (w : Wide) → terms_fold lts tree basis class e.terms (Err w) → each (form_fold lts tree basis class) (forms_in class (map row_name_of names)) (Err w)
-      step_fails w h = form_fails class (form_fold lts tree basis class) (map row_name_of names) i name next_name xs so_far (form_of form) (sym is_form) w (form_of_none lts tree basis class problem number (form_of form) e is_split w h)
+    module _ (xs : List Form) (so_far : (r : Result (List Form) Wide) → each (form_fold lts tree basis class) (forms_in class (drop i names)) r → each (form_fold lts tree basis class) (forms_in class names) (behind xs r)) where
+      pub step_fails : (w : Wide) → terms_fold lts tree basis class e.terms (Err w) → each (form_fold lts tree basis class) (forms_in class names) (Err w)
+      step_fails w h = form_fails class (form_fold lts tree basis class) names i name next_name xs so_far form (sym is_form) w (form_of_none lts tree basis class problem number form e is_split w h)
 
       pub step_next : (f : NamedForm) (s : Scaled) → terms_fold lts tree basis class e.terms (Ok s) → f.scale ≡ s.multiple → (arc_slice_items f.coeffs) ≡ s.numbers
-          → f.low ≡ form_low (form_of form) → f.high ≡ form_high lts class (form_of form) → (r : Result (List Form) Wide)
-          → each (form_fold lts tree basis class) (forms_in class (drop (i + 1) (map row_name_of names))) r
-          → each (form_fold lts tree basis class) (forms_in class (map row_name_of names)) (behind (xs ++ linear_form f ∷ []) r)
-      step_next f s h scale coeffs low high = form_next class (form_fold lts tree basis class) (map row_name_of names) i name next_name xs so_far (form_of form)
-          (sym is_form) (linear_form f) (form_of_terms lts tree basis class problem number (form_of form) e is_split s (linear_form f) h
+          → f.low ≡ form_low form → f.high ≡ form_high lts class form → (r : Result (List Form) Wide)
+          → each (form_fold lts tree basis class) (forms_in class (drop (i + 1) names)) r
+          → each (form_fold lts tree basis class) (forms_in class names) (behind (xs ++ linear_form f ∷ []) r)
+      step_next f s h scale coeffs low high = form_next class (form_fold lts tree basis class) names i name next_name xs so_far form
+          (sym is_form) (linear_form f) (form_of_terms lts tree basis class problem number form e is_split s (linear_form f) h
           (λ j. record { scale = (scale ∙ stepped s.multiple) j; coeffs = coeffs j; low = low j; high = high j }))
 
-    pub step_named : (done : List SplitForm) → done ++ forms_in class (drop i (map row_name_of names)) ≡ forms_in class (map row_name_of names) → (f : NamedForm)
-        → f.form ≡ form → (done ++ split_of f ∷ []) ++ forms_in class (drop (i + 1) (map row_name_of names)) ≡ forms_in class (map row_name_of names)
-    step_named done so_far f same = ap (λ x. (done ++ form_of x ∷ []) ++ forms_in class (drop (i + 1) (map row_name_of names))) same ∙ named_next class (map row_name_of names) i name next_name done so_far (form_of form) (sym is_form)
+    pub step_named : (done : List SplitForm) → done ++ forms_in class (drop i names) ≡ forms_in class names → (f : NamedForm)
+        → f.form ≡ form → (done ++ split_of f ∷ []) ++ forms_in class (drop (i + 1) names) ≡ forms_in class names
+    step_named done so_far f same = ap (λ x. (done ++ x ∷ []) ++ forms_in class (drop (i + 1) names)) same ∙ named_next class names i name next_name done so_far form (sym is_form)
 
-    module _ (rows : List CaseRow) (lt' : i < length rows) (made : each (fold_of lts tree basis class problem number) (map row_name_of names) (Ok (map kept_row rows))) (row : CaseRow) (is_row : row ≡ slice_index_or rows i row) where
+    module _ (rows : List CaseRow) (lt' : i < length rows) (made : each (fold_of lts tree basis class problem number) names (Ok (map kept_row rows))) (row : CaseRow) (is_row : row ≡ slice_index_or rows i row) where
       row_is : fold_of lts tree basis class problem number name (Ok (kept_row row)) × ((kept_row row).name ≡ name)
-      row_is = row_at_place lts tree basis class problem number (map row_name_of names) (map kept_row rows) i name (kept_row row) made
-          (subst (λ n. i < n) (sym (length-map names row_name_of)) lt) (get_or-map row_name_of names i d name lt)
+      row_is = row_at_place lts tree basis class problem number names (map kept_row rows) i name (kept_row row) made
+          lt (get_or_default names i name d lt)
           (get_or-map kept_row rows i row (kept_row row) lt' ∙ ap kept_row (sym is_row))
 
       pub step_times : (s : Scaled) → terms_fold lts tree basis class e.terms (Ok s) → (t : ℕ) × (0 < t) × (s.numbers ≡ map (λ z. pos t *ℤ z) (arc_slice_items row.coeffs))
-      step_times s h = times_row lts tree basis class problem number (form_of form) e is_split s (kept_row row) h (subst (λ n. fold_of lts tree basis class problem number n (Ok (kept_row row))) named row_is.0)
+      step_times s h = times_row lts tree basis class problem number form e is_split s (kept_row row) h (subst (λ n. fold_of lts tree basis class problem number n (Ok (kept_row row))) named row_is.0)
 
       pub step_made : (columns : ℕ) (places : List ℕ) (f : NamedForm) → f.form ≡ form → IsPartOf f (arc_slice_items row.coeffs) (slice_index_or places i 0)
-          → (f.low ≡ form_low (form_of form)) × (f.high ≡ form_high lts class (form_of form)) → length (arc_slice_items f.coeffs) ≡ columns
+          → (f.low ≡ form_low form) × (f.high ≡ form_high lts class form) → length (arc_slice_items f.coeffs) ≡ columns
           → (HasNumbersInRange class → pos 0 <ℤ f.scale) → InRange f.scale → All InRange (arc_slice_items f.coeffs) → InRange f.times
           → IsMade lts class columns (map kept_row rows) places f
       step_made columns places f same part bounds one_each positive scale coeffs times = record {
         number = i;
         row = kept_row row;
         at = row_got rows i row lt' is_row;
-        named = row_is.1 ∙ named ∙ ap (λ x. form_row lts.initial (form_of x)) (sym same);
+        named = row_is.1 ∙ named ∙ ap (λ x. form_row lts.initial x) (sym same);
         part = part;
-        bounds = (bounds.0 ∙ ap (λ x. form_low (form_of x)) (sym same), bounds.1 ∙ ap (λ x. form_high lts class (form_of x)) (sym same));
+        bounds = (bounds.0 ∙ ap (λ x. form_low x) (sym same), bounds.1 ∙ ap (λ x. form_high lts class x) (sym same));
         one_each = one_each;
         positive = positive;
         scale_in_range = scale;

@@ -21,7 +21,8 @@ use Rattle.rg_integers.proofs.Divisors.{exact}
 use Rattle.rg_integers.proofs.Casts.{back}
 use Rattle.rg_linear.specs.System.{row_at}
 use Rattle.rg_linear.specs.Cycle.{CycleBasis, IsZeroVector}
-use Rattle.rg_refuting.specs.Row.{RowName, row_expression}
+use Rattle.rg_refuting.specs.Row.{row_expression}
+use Rattle.rg_refuting.specs.declared.RowName.{RowName}
 use Rattle.rg_order_of_work.specs.Fold.{each}
 use Rattle.rg_order_of_work.specs.Rewriting.{KeptRow, CaseSystem, rows_of}
 use Rattle.rg_order_of_work.specs.FormRows.{form_row, IsMultipleOfRow}

@@ -9,7 +9,8 @@ use Rattle.rg_theory.specs.declared.Class.{Class}
 use Rattle.rg_theory.specs.declared.Problem.{Problem}
 use Rattle.rg_theory.specs.declared.Problem.TheVariants.{Event, States}
 use Rattle.rg_theory.specs.System.{System, states, labels}
-use Rattle.rg_refuting.specs.Row.{RowName, RowName.tokens_row, RowName.makes_row, RowName.stop_row, RowName.block_row, RowName.empty_row, RowName.full_row, RowName.keep_row, RowName.cap_row, RowName.up_row, RowName.down_row, case_consumer}
+use Rattle.rg_refuting.specs.Row.{case_consumer}
+use Rattle.rg_refuting.specs.declared.RowName.{RowName}
 use Rattle.rg_linear.specs.System.{LinearRow, row_at}
 use Rattle.rg_linear.specs.Firsts.{KeepsFirsts}
 use Rattle.rg_linear.proofs.Firsts.{kept_is, kept_count}
@@ -19,6 +20,7 @@ use Rattle.rg_linear.specs.View.{linear_row, linear_system, IsWellFormed}
 use Rattle.rg_rows.specs.declared.case_row.CaseRow.{CaseRow}
 use Rattle.rg_rows.specs.View.{kept_row}
 use Rattle.rg_case_parts.proofs.Picking.{where_few}
+use Rattle.rg_refuting.specs.declared.RowName.TheVariants as row_name
 
 -- ---- how many rows are named
 
@@ -29,23 +31,23 @@ few_if false make test n = omega arith
 problem_few : (lts : System) (class : Class) (problem : Problem) → length (problem_rows lts class problem) ≤ states lts + 2
 problem_few lts class (Event s t) = go class.pure class.plain
   where
-    go : (pure plain : Bool) → length (if pure then (block_row ∷ []) else (if plain then (empty_row ∷ map full_row (states_with lts t) ++ keep_row ∷ []) else map stop_row (states_with lts t))) ≤ states lts + 2
+    go : (pure plain : Bool) → length (if pure then (row_name.Block ∷ []) else (if plain then (row_name.Empty ∷ map row_name.Full (states_with lts t) ++ row_name.Keep ∷ []) else map row_name.Stop (states_with lts t))) ≤ states lts + 2
     go true plain = omega arith
-    go false true = let h = few_if true full_row (λ q. has_label_at q t lts.arcs) (states lts) in let e = length-append (map full_row (states_with lts t)) (keep_row ∷ []) in omega arith
-    go false false = let h = few_if true stop_row (λ q. has_label_at q t lts.arcs) (states lts) in omega arith
+    go false true = let h = few_if true row_name.Full (λ q. has_label_at q t lts.arcs) (states lts) in let e = length-append (map row_name.Full (states_with lts t)) (row_name.Keep ∷ []) in omega arith
+    go false false = let h = few_if true row_name.Stop (λ q. has_label_at q t lts.arcs) (states lts) in omega arith
 problem_few lts class (States s s') = omega arith
 
-sides_few : (lts : System) (b : Bool) → length (if b then (map up_row (used_labels lts) ++ map down_row (used_labels lts)) else []) ≤ 2 * labels lts
-sides_few lts true = let h = few_if true up_row (λ t. has_label t lts.arcs) (labels lts) in let k = few_if true down_row (λ t. has_label t lts.arcs) (labels lts) in let e = length-append (map up_row (used_labels lts)) (map down_row (used_labels lts)) in omega arith
+sides_few : (lts : System) (b : Bool) → length (if b then (map row_name.Up (used_labels lts) ++ map row_name.Down (used_labels lts)) else []) ≤ 2 * labels lts
+sides_few lts true = let h = few_if true row_name.Up (λ t. has_label t lts.arcs) (labels lts) in let k = few_if true row_name.Down (λ t. has_label t lts.arcs) (labels lts) in let e = length-append (map row_name.Up (used_labels lts)) (map row_name.Down (used_labels lts)) in omega arith
 sides_few lts false = omega arith
 
 pub names_few : (lts : System) (class : Class) (problem : Problem) (number : ℕ) → length (names_of lts class problem number) ≤ 3 * states lts + 3 * labels lts + 2
 names_few lts class problem number =
     let own = problem_few lts class problem in
-    let tokens = few_if (has_start class) tokens_row (λ q. true) (states lts) in
-    let caps = few_if (is_some class.bound) cap_row (λ q. true) (states lts) in
+    let tokens = few_if (has_start class) row_name.Tokens (λ q. true) (states lts) in
+    let caps = few_if (is_some class.bound) row_name.Cap (λ q. true) (states lts) in
     let sides = sides_few lts class.plain in
-    let makes = few_if class.nonbranching makes_row (λ u. has_label u lts.arcs && not (u == case_consumer lts problem number)) (labels lts) in
+    let makes = few_if class.nonbranching row_name.Makes (λ u. has_label u lts.arcs && not (u == case_consumer lts problem number)) (labels lts) in
     simp length-append (omega arith)
 
 -- ---- the rows are over the columns, and in range

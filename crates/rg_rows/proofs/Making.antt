@@ -10,9 +10,7 @@ use Rattle.rg_integers.specs.declared.term.Wide.{Wide}
 use Rattle.rg_linear.specs.Branching.{Form}
 use Rattle.rg_linear.specs.Cycle.{CycleBasis}
 use Rattle.rg_refuting.specs.Expression.{Term, Expression}
-use Rattle.rg_refuting.specs.Row.{RowName}
-use Rattle.rg_reasons.specs.declared.certificate.RowName.{RowName as CodeName}
-use Rattle.rg_reasons.specs.Trees.{row_name_of}
+use Rattle.rg_refuting.specs.declared.RowName.{RowName}
 use Rattle.rg_fraction.specs.declared.fraction.Fraction.{Fraction}
 use Rattle.rg_fraction.specs.Fractions.{numerator_of, denominator_of, IsValue, IsProduct}
 use Rattle.rg_order_of_work.proofs.FoldLemmas.{mul_step}
@@ -72,12 +70,6 @@ module _ (lts : System) (tree : List Arc) (basis : CycleBasis) (class : Class) (
     row_made constant out h same is = (scaled, terms, (constant, h, (same, is)))
 
 -- ---- the rows of the code
-
--- the row of the name at place i
-pub fold_told : (lts : System) (tree : List Arc) (basis : CycleBasis) (class : Class) (problem : Problem) (number : ℕ) (names : List CodeName) (i : ℕ) (d : CodeName)
-    → i < length names → (r : Result KeptRow Wide) → fold_of lts tree basis class problem number (row_name_of (slice_index_or names i d)) r
-    → fold_of lts tree basis class problem number (slice_index_or (map row_name_of names) i (row_name_of d)) r
-fold_told lts tree basis class problem number names i d lt r h = subst (λ name. fold_of lts tree basis class problem number name r) (sym (get_or-map row_name_of names i d (row_name_of d) lt)) h
 
 -- ---- from the rows to the case
 

@@ -8,12 +8,14 @@ use Rattle.rg_theory.specs.declared.Class.{Class}
 use Rattle.rg_theory.specs.declared.Problem.{Problem}
 use Rattle.rg_theory.specs.System.{System, states, labels, HasArc, arc}
 use Rattle.rg_theory.proofs.Lists.{Contains-cons_cases}
-use Rattle.rg_refuting.specs.Row.{RowName, RowName.tokens_row, RowName.cap_row, RowName.up_row, RowName.down_row, RowName.makes_row, case_consumer}
+use Rattle.rg_refuting.specs.Row.{case_consumer}
+use Rattle.rg_refuting.specs.declared.RowName.{RowName}
 use Rattle.rg_order_of_work.specs.Rewriting.{numbers_where, has_label, has_label_at, used_labels, has_start, all_numbers, problem_rows, names_of}
 use Rattle.rg_order_of_work.proofs.Folding.{where_taken, where_left, where_ends}
 use Rattle.rg_case_parts.specs.declared.columns.Columns.{Columns}
 use Rattle.rg_case_parts.specs.ColumnViews.{TellsUsedLabels, AreColumns}
 use Rattle.rg_rows.specs.View.{users, makers}
+use Rattle.rg_refuting.specs.declared.RowName.TheVariants as row_name
 
 -- so far the rows of the numbers before i that pass the test are named
 module _ (make : ℕ → RowName) (test : ℕ → Bool) (i n : ℕ) (done all : List RowName) (so_far : done ++ map make (numbers_where test i (n - i)) ≡ all) where
@@ -100,24 +102,24 @@ users_are lts used tells = ap (λ n. numbers_where (λ t. slice_index_or used t 
 
 module _ (lts : System) (class : Class) (problem : Problem) (number : ℕ) (columns : Columns) (are : AreColumns lts class columns) where
   pub names_told : (own start capped sided all : List RowName) → own ≡ problem_rows lts class problem
-      → start ≡ own ++ (if columns.start then map tokens_row (all_numbers (states lts)) else [])
-      → capped ≡ start ++ (if is_some class.bound then map cap_row (all_numbers (states lts)) else [])
-      → sided ≡ capped ++ (if class.plain then (map up_row (users columns.used.items) ++ map down_row (users columns.used.items)) else [])
-      → all ≡ sided ++ (if class.nonbranching then map makes_row (makers columns.used.items (case_consumer lts problem number)) else [])
+      → start ≡ own ++ (if columns.start then map row_name.Tokens (all_numbers (states lts)) else [])
+      → capped ≡ start ++ (if is_some class.bound then map row_name.Cap (all_numbers (states lts)) else [])
+      → sided ≡ capped ++ (if class.plain then (map row_name.Up (users columns.used.items) ++ map row_name.Down (users columns.used.items)) else [])
+      → all ≡ sided ++ (if class.nonbranching then map row_name.Makes (makers columns.used.items (case_consumer lts problem number)) else [])
       → all ≡ names_of lts class problem number
   names_told own start capped sided all e f g h k =
       k
-      ∙ ap (λ l. l ++ (if class.nonbranching then map makes_row (makers columns.used.items (case_consumer lts problem number)) else []))
+      ∙ ap (λ l. l ++ (if class.nonbranching then map row_name.Makes (makers columns.used.items (case_consumer lts problem number)) else []))
       (h
-      ∙ ap (λ l. l ++ (if class.plain then (map up_row (users columns.used.items) ++ map down_row (users columns.used.items)) else []))
-      (g ∙ ap (λ l. l ++ (if is_some class.bound then map cap_row (all_numbers (states lts)) else []))
-      (f ∙ ap (λ l. l ++ (if columns.start then map tokens_row (all_numbers (states lts)) else [])) e
-      ∙ ap (λ b. problem_rows lts class problem ++ (if b then map tokens_row (all_numbers (states lts)) else [])) are.start))
-      ∙ ap (λ l. before ++ (if class.plain then (map up_row l ++ map down_row l) else [])) (users_are lts columns.used.items are.used))
-      ∙ ap (λ l. (before ++ sides) ++ (if class.nonbranching then map makes_row l else [])) (makers_are lts columns.used.items (case_consumer lts problem number) are.used)
+      ∙ ap (λ l. l ++ (if class.plain then (map row_name.Up (users columns.used.items) ++ map row_name.Down (users columns.used.items)) else []))
+      (g ∙ ap (λ l. l ++ (if is_some class.bound then map row_name.Cap (all_numbers (states lts)) else []))
+      (f ∙ ap (λ l. l ++ (if columns.start then map row_name.Tokens (all_numbers (states lts)) else [])) e
+      ∙ ap (λ b. problem_rows lts class problem ++ (if b then map row_name.Tokens (all_numbers (states lts)) else [])) are.start))
+      ∙ ap (λ l. before ++ (if class.plain then (map row_name.Up l ++ map row_name.Down l) else [])) (users_are lts columns.used.items are.used))
+      ∙ ap (λ l. (before ++ sides) ++ (if class.nonbranching then map row_name.Makes l else [])) (makers_are lts columns.used.items (case_consumer lts problem number) are.used)
     where
       before : List RowName
-      before = problem_rows lts class problem ++ (if has_start class then map tokens_row (all_numbers (states lts)) else []) ++ (if is_some class.bound then map cap_row (all_numbers (states lts)) else [])
+      before = problem_rows lts class problem ++ (if has_start class then map row_name.Tokens (all_numbers (states lts)) else []) ++ (if is_some class.bound then map row_name.Cap (all_numbers (states lts)) else [])
 
       sides : List RowName
-      sides = if class.plain then (map up_row (used_labels lts) ++ map down_row (used_labels lts)) else []
+      sides = if class.plain then (map row_name.Up (used_labels lts) ++ map row_name.Down (used_labels lts)) else []

@@ -13,8 +13,9 @@ use Rattle.rg_integers.specs.declared.term.Wide.{Wide}
 use Rattle.rg_fraction.specs.declared.fold_stop.FoldStop.{FoldStop}
 use Rattle.rg_fraction.specs.declared.fold_stop.FoldStop.TheVariants as stop
 use Rattle.rg_linear.specs.Cycle.{CycleBasis}
-use Rattle.rg_refuting.specs.Expression.{Expression, Variable.tokens_at, plus, minus}
-use Rattle.rg_refuting.specs.Row.{RowName, row_expression, shared_expression}
+use Rattle.rg_refuting.specs.Expression.{Expression, plus, minus}
+use Rattle.rg_refuting.specs.Row.{row_expression, shared_expression}
+use Rattle.rg_refuting.specs.declared.RowName.{RowName}
 use Rattle.rg_order_of_work.specs.Fold.{shown_result}
 use Rattle.rg_order_of_work.specs.Rewriting.{has_start, column_count, terms_fold, row_fold}
 use Rattle.rg_case_parts.specs.declared.scaled.Scaled.{Scaled}
@@ -31,6 +32,7 @@ use Rattle.rg_rows.specs.Sharing.{or_wide, row_of_kind, rows_of_kind, forms_of_k
 use Rattle.rg_reasons.proofs.Places.{get_is}
 use Rattle.rg_rows.specs.declared.common.Common.{Common}
 use Rattle.rg_rows.proofs.Terms.{one}
+use Rattle.rg_refuting.specs.declared.Variable.TheVariants.{Tokens}
 
 -- ---- what the rows of a kind say
 
@@ -56,14 +58,14 @@ abbrev Within : System → Class → Kind → ℕ → Type 0
 Within lts class k i = All (TermNamesStateBelow (states lts)) (shared_expression lts class [] (row_of_kind k i)).terms
 
 pub row_within : (lts : System) (class : Class) (k : Kind) (i : ℕ) → i < rows_of_kind lts class k → Within lts class k i
-row_within lts class kind.Tokens i lt = one (states lts) (plus (tokens_at i)) (below_if (has_start class) (states lts) i lt)
-row_within lts class kind.Cap i lt = one (states lts) (minus (tokens_at i)) (below_if (is_some class.bound) (states lts) i lt)
+row_within lts class kind.Tokens i lt = one (states lts) (plus (Tokens i)) (below_if (has_start class) (states lts) i lt)
+row_within lts class kind.Cap i lt = one (states lts) (minus (Tokens i)) (below_if (is_some class.bound) (states lts) i lt)
 row_within lts class kind.Up i lt = one (states lts) _ tt
 row_within lts class kind.Down i lt = one (states lts) _ tt
 row_within lts class kind.Makes i lt = one (states lts) _ tt
 
 pub terms_within : (lts : System) (class : Class) (k : Kind) (i : ℕ) → i < forms_of_kind lts class k → Within lts class k i
-terms_within lts class kind.Tokens i lt = one (states lts) (plus (tokens_at i)) (below_if (is_some class.bound) (states lts) i lt)
+terms_within lts class kind.Tokens i lt = one (states lts) (plus (Tokens i)) (below_if (is_some class.bound) (states lts) i lt)
 terms_within lts class kind.Cap i lt = absurd (omega arith)
 terms_within lts class kind.Up i lt = absurd (omega arith)
 terms_within lts class kind.Down i lt = one (states lts) _ tt

@@ -13,14 +13,11 @@ use Rattle.rg_theory.specs.Tree.{IsTree}
 use Rattle.rg_integers.specs.declared.term.Wide.{Wide}
 use Rattle.rg_linear.specs.Cycle.{CycleBasis}
 use Rattle.rg_integers.specs.Range.{InRange}
-use Rattle.rg_refuting.specs.Row.{RowName.tokens_row, row_expression, Form.on_start, step_of}
+use Rattle.rg_refuting.specs.Row.{row_expression, step_of}
 use Rattle.rg_order_of_work.specs.Fold.{each}
 use Rattle.rg_order_of_work.specs.Rewriting.{Scaled, terms_fold, form_fold, form_low, form_high}
 use Rattle.rg_order_of_work.specs.FormRows.{form_row}
 use Rattle.rg_order_of_work.proofs.StartAlone.{start_alone}
-use Rattle.rg_reasons.specs.declared.certificate.RowName.{RowName as CodeName}
-use Rattle.rg_reasons.specs.declared.certificate.RowName.TheVariants.{Tokens}
-use Rattle.rg_reasons.specs.Trees.{row_name_of}
 use Rattle.rg_rows.specs.declared.case_row.CaseRow.{CaseRow}
 use Rattle.rg_rows.specs.declared.named_form.NamedForm.{NamedForm}
 use Rattle.rg_rows.specs.View.{kept_row, fold_of}
@@ -28,8 +25,11 @@ use Rattle.rg_rows.specs.Forms.{linear_form, split_of, IsPartOf}
 use Rattle.rg_rows.specs.Making.{IsMade}
 use Rattle.rg_rows.proofs.FormSteps.{terms_are, form_of_terms, form_of_none, times_row, row_at_place}
 use Rattle.rg_rows.proofs.Placing.{row_got}
+use Rattle.rg_refuting.specs.declared.RowName.{RowName}
+use Rattle.rg_refuting.specs.declared.RowName.TheVariants as row_name
+use Rattle.rg_refuting.specs.declared.Form.TheVariants as split_form
 
-step_positive : (class : Class) → HasNumbersInRange class → pos 0 <ℤ pos (step_of class on_start)
+step_positive : (class : Class) → HasNumbersInRange class → pos 0 <ℤ pos (step_of class split_form.Start)
 step_positive class bound = let h = some class.marking bound.marking in omega (arith, ints)
   where
     some : (o : Option ℕ) → IfSome o (λ k. (0 < k) × (k ≤ 255)) → 0 < unwrap_or o 1
@@ -38,39 +38,39 @@ step_positive class bound = let h = some class.marking bound.marking in omega (a
 
 module _ (lts : System) (tree : List Arc) (basis : CycleBasis) (class : Class) (problem : Problem) (number : ℕ) where
   -- the row's terms are those of the start, once
-  pub start_made : (n : ℕ) (s : Scaled) (f : NamedForm) → n ≡ lts.initial → IsTree lts tree → terms_fold lts tree basis class (row_expression lts class problem number [] (tokens_row n)).terms (Ok s) → f.scale ≡ pos (step_of class on_start) → arc_slice_items f.coeffs ≡ s.numbers
-      → f.low ≡ form_low on_start → f.high ≡ form_high lts class on_start → form_fold lts tree basis class on_start (Ok (linear_form f))
+  pub start_made : (n : ℕ) (s : Scaled) (f : NamedForm) → n ≡ lts.initial → IsTree lts tree → terms_fold lts tree basis class (row_expression lts class problem number [] (row_name.Tokens n)).terms (Ok s) → f.scale ≡ pos (step_of class split_form.Start) → arc_slice_items f.coeffs ≡ s.numbers
+      → f.low ≡ form_low split_form.Start → f.high ≡ form_high lts class split_form.Start → form_fold lts tree basis class split_form.Start (Ok (linear_form f))
   start_made n s f at is_tree terms scale coeffs low high =
-      let e = row_expression lts class problem number [] (tokens_row lts.initial) in
-      let here : terms_fold lts tree basis class e.terms (Ok s) = subst (λ m. terms_fold lts tree basis class (row_expression lts class problem number [] (tokens_row m)).terms (Ok s)) at terms in
-      let alone : s.multiple ≡ pos 1 = start_alone lts tree basis class s is_tree (terms_are lts tree basis class problem number on_start e refl (Ok s) here) in
-      form_of_terms lts tree basis class problem number on_start e refl s (linear_form f) here (λ j. record { scale = (scale ∙ once (pos (step_of class on_start)) ∙ ap (λ z. pos (step_of class on_start) *ℤ z) (sym alone)) j; coeffs = coeffs j; low = low j; high = high j })
+      let e = row_expression lts class problem number [] (row_name.Tokens lts.initial) in
+      let here : terms_fold lts tree basis class e.terms (Ok s) = subst (λ m. terms_fold lts tree basis class (row_expression lts class problem number [] (row_name.Tokens m)).terms (Ok s)) at terms in
+      let alone : s.multiple ≡ pos 1 = start_alone lts tree basis class s is_tree (terms_are lts tree basis class problem number split_form.Start e refl (Ok s) here) in
+      form_of_terms lts tree basis class problem number split_form.Start e refl s (linear_form f) here (λ j. record { scale = (scale ∙ once (pos (step_of class split_form.Start)) ∙ ap (λ z. pos (step_of class split_form.Start) *ℤ z) (sym alone)) j; coeffs = coeffs j; low = low j; high = high j })
     where
       once : (m : ℤ) → m ≡ m *ℤ pos 1
       once m = omega (arith, ints)
 
-  pub start_fails : (n : ℕ) (w : Wide) → n ≡ lts.initial → terms_fold lts tree basis class (row_expression lts class problem number [] (tokens_row n)).terms (Err w) → form_fold lts tree basis class on_start (Err w)
+  pub start_fails : (n : ℕ) (w : Wide) → n ≡ lts.initial → terms_fold lts tree basis class (row_expression lts class problem number [] (row_name.Tokens n)).terms (Err w) → form_fold lts tree basis class split_form.Start (Err w)
   start_fails n w at terms =
-      form_of_none lts tree basis class problem number on_start (row_expression lts class problem number [] (tokens_row lts.initial)) refl w
-      (subst (λ m. terms_fold lts tree basis class (row_expression lts class problem number [] (tokens_row m)).terms (Err w)) at terms)
+      form_of_none lts tree basis class problem number split_form.Start (row_expression lts class problem number [] (row_name.Tokens lts.initial)) refl w
+      (subst (λ m. terms_fold lts tree basis class (row_expression lts class problem number [] (row_name.Tokens m)).terms (Err w)) at terms)
 
-  module _ (names : List CodeName) (rows : List CaseRow) (i n : ℕ) (at : n ≡ lts.initial) (lt : i < length names)
-      (here : (d : CodeName) → slice_index_or names i d ≡ Tokens n) (lt' : i < length rows)
-      (made : each (fold_of lts tree basis class problem number) (map row_name_of names) (Ok (map kept_row rows))) (row : CaseRow)
+  module _ (names : List RowName) (rows : List CaseRow) (i n : ℕ) (at : n ≡ lts.initial) (lt : i < length names)
+      (here : (d : RowName) → slice_index_or names i d ≡ row_name.Tokens n) (lt' : i < length rows)
+      (made : each (fold_of lts tree basis class problem number) names (Ok (map kept_row rows))) (row : CaseRow)
       (is_row : row ≡ slice_index_or rows i row) where
-    start_row : fold_of lts tree basis class problem number (tokens_row lts.initial) (Ok (kept_row row)) × ((kept_row row).name ≡ tokens_row lts.initial)
+    start_row : fold_of lts tree basis class problem number (row_name.Tokens lts.initial) (Ok (kept_row row)) × ((kept_row row).name ≡ row_name.Tokens lts.initial)
     start_row =
-        row_at_place lts tree basis class problem number (map row_name_of names) (map kept_row rows) i (tokens_row lts.initial) (kept_row row) made (subst (λ k. i < k) (sym (length-map names row_name_of)) lt)
-        (get_or-map row_name_of names i (Tokens lts.initial) (tokens_row lts.initial) lt ∙ ap row_name_of (here (Tokens lts.initial)) ∙ ap tokens_row at)
+        row_at_place lts tree basis class problem number names (map kept_row rows) i (row_name.Tokens lts.initial) (kept_row row) made lt
+        ((here (row_name.Tokens lts.initial)) ∙ ap row_name.Tokens at)
         (get_or-map kept_row rows i row (kept_row row) lt' ∙ ap kept_row (sym is_row))
 
-    pub start_times : (s : Scaled) → terms_fold lts tree basis class (row_expression lts class problem number [] (tokens_row n)).terms (Ok s) → (t : ℕ) × (0 < t) × (s.numbers ≡ map (λ z. pos t *ℤ z) (arc_slice_items row.coeffs))
+    pub start_times : (s : Scaled) → terms_fold lts tree basis class (row_expression lts class problem number [] (row_name.Tokens n)).terms (Ok s) → (t : ℕ) × (0 < t) × (s.numbers ≡ map (λ z. pos t *ℤ z) (arc_slice_items row.coeffs))
     start_times s terms =
-        times_row lts tree basis class problem number on_start (row_expression lts class problem number [] (tokens_row lts.initial)) refl s (kept_row row)
-        (subst (λ m. terms_fold lts tree basis class (row_expression lts class problem number [] (tokens_row m)).terms (Ok s)) at terms) start_row.0
+        times_row lts tree basis class problem number split_form.Start (row_expression lts class problem number [] (row_name.Tokens lts.initial)) refl s (kept_row row)
+        (subst (λ m. terms_fold lts tree basis class (row_expression lts class problem number [] (row_name.Tokens m)).terms (Ok s)) at terms) start_row.0
 
-    pub start_is_made : (columns : ℕ) (places : List ℕ) (f : NamedForm) → split_of f ≡ on_start → IsPartOf f (arc_slice_items row.coeffs) (slice_index_or places i 0) → f.scale ≡ pos (step_of class on_start)
-        → f.low ≡ form_low on_start → f.high ≡ form_high lts class on_start → length (arc_slice_items f.coeffs) ≡ columns → InRange f.scale → All InRange (arc_slice_items f.coeffs) → InRange f.times → IsMade lts class columns (map kept_row rows) places f
+    pub start_is_made : (columns : ℕ) (places : List ℕ) (f : NamedForm) → split_of f ≡ split_form.Start → IsPartOf f (arc_slice_items row.coeffs) (slice_index_or places i 0) → f.scale ≡ pos (step_of class split_form.Start)
+        → f.low ≡ form_low split_form.Start → f.high ≡ form_high lts class split_form.Start → length (arc_slice_items f.coeffs) ≡ columns → InRange f.scale → All InRange (arc_slice_items f.coeffs) → InRange f.times → IsMade lts class columns (map kept_row rows) places f
     start_is_made columns places f same part is_scale low high one_each scale coeffs times = record {
       number = i;
       row = kept_row row;

@@ -10,12 +10,14 @@ use Rattle.rg_integers.specs.Sum.{sum_over}
 use Rattle.rg_linear.specs.System.{LinearSystem}
 use Rattle.rg_linear.specs.Branching.{Form, AreBounded}
 use Rattle.rg_linear.specs.Cycle.{CycleBasis, IsZeroVector}
-use Rattle.rg_refuting.specs.Row.{RowName, RowName.tokens_row, RowName.down_row, Form as SplitForm, Form.on_tokens, Form.on_effect, Form.on_start}
+use Rattle.rg_refuting.specs.declared.RowName.{RowName}
+use Rattle.rg_refuting.specs.declared.Form.{Form as SplitForm}
 use Rattle.rg_order_of_work.specs.Rewriting.{splits_start, KeptRow}
 use Rattle.rg_order_of_work.specs.FormRows.{form_row, IsMultipleOfRow}
-use Rattle.rg_reasons.specs.Trees.{form_of}
 use Rattle.rg_rows.specs.declared.named_form.NamedForm.{NamedForm}
 use Rattle.rg_rows.specs.View.{fold_of}
+use Rattle.rg_refuting.specs.declared.RowName.TheVariants as row_name
+use Rattle.rg_refuting.specs.declared.Form.TheVariants as split_form
 
 -- the form over the columns
 abbrev pub linear_form : NamedForm → Form
@@ -23,14 +25,14 @@ linear_form f = record { scale = f.scale; coeffs = arc_slice_items f.coeffs; low
 
 -- what it is of
 abbrev pub split_of : NamedForm → SplitForm
-split_of f = form_of f.form
+split_of f = f.form
 
 -- ---- the forms in the order of the named rows
 
 -- the form of the class that has the terms of the row
 abbrev pub form_in : Class → RowName → Option SplitForm
-form_in class (tokens_row q) = if is_some class.bound then Some (on_tokens q) else None
-form_in class (down_row t) = if class.plain && not (is_some class.bound) then Some (on_effect t) else None
+form_in class (row_name.Tokens q) = if is_some class.bound then Some (split_form.Tokens q) else None
+form_in class (row_name.Down t) = if class.plain && not (is_some class.bound) then Some (split_form.Effect t) else None
 form_in class name = None
 
 abbrev pub put_form : Option SplitForm → List SplitForm → List SplitForm
@@ -43,7 +45,7 @@ forms_in class (name ∷ names) = put_form (form_in class name) (forms_in class 
 
 -- and behind them the start, where the case splits on it
 abbrev pub case_forms : Class → Problem → List RowName → List SplitForm
-case_forms class problem names = forms_in class names ++ (if splits_start class problem then (on_start ∷ []) else [])
+case_forms class problem names = forms_in class names ++ (if splits_start class problem then (split_form.Start ∷ []) else [])
 
 -- ---- the row of a form
 

@@ -9,7 +9,8 @@ use Rattle.rg_integers.specs.declared.term.Wide.{Wide}
 use Rattle.rg_fraction.specs.declared.fold_stop.FoldStop.{FoldStop}
 use Rattle.rg_fraction.specs.declared.fold_stop.FoldStop.TheVariants as stop
 use Rattle.rg_linear.specs.Cycle.{CycleBasis}
-use Rattle.rg_refuting.specs.Row.{RowName, RowName.tokens_row, RowName.cap_row, RowName.up_row, RowName.down_row, RowName.makes_row, shared_expression, row_expression}
+use Rattle.rg_refuting.specs.Row.{shared_expression, row_expression}
+use Rattle.rg_refuting.specs.declared.RowName.{RowName}
 use Rattle.rg_order_of_work.specs.Fold.{shown_result}
 use Rattle.rg_order_of_work.specs.Rewriting.{has_start, column_count, terms_fold, row_fold}
 use Rattle.rg_case_parts.specs.declared.scaled.Scaled.{Scaled}
@@ -20,6 +21,7 @@ use Rattle.rg_rows.specs.declared.kind.Kind.{Kind}
 use Rattle.rg_rows.specs.declared.kind.Kind.TheVariants as kind
 use Rattle.rg_rows.specs.declared.common.Common.{Common}
 use Rattle.rg_rows.specs.View.{kept_row, fold_of}
+use Rattle.rg_refuting.specs.declared.RowName.TheVariants as row_name
 
 -- a value, or a step out of range as the reason for none
 abbrev pub or_wide : {T : Type 0} → Result T Wide → Result T FoldStop
@@ -30,11 +32,11 @@ or_wide (Err w) = Err (stop.Wide w)
 
 -- the row of a state or a label
 abbrev pub row_of_kind : Kind → ℕ → RowName
-row_of_kind kind.Tokens q = tokens_row q
-row_of_kind kind.Cap q = cap_row q
-row_of_kind kind.Up t = up_row t
-row_of_kind kind.Down t = down_row t
-row_of_kind kind.Makes t = makes_row t
+row_of_kind kind.Tokens q = row_name.Tokens q
+row_of_kind kind.Cap q = row_name.Cap q
+row_of_kind kind.Up t = row_name.Up t
+row_of_kind kind.Down t = row_name.Down t
+row_of_kind kind.Makes t = row_name.Makes t
 
 -- how many a class has, where each label has an arc
 abbrev pub rows_of_kind : System → Class → Kind → ℕ

@@ -8,10 +8,10 @@ use Rattle.rg_linear.specs.System.{LinearRow}
 use Rattle.rg_linear.specs.Cycle.{CycleBasis}
 use Rattle.rg_integers.specs.declared.term.Wide.{Wide}
 use Rattle.rg_theory.specs.declared.Problem.{Problem}
-use Rattle.rg_refuting.specs.Row.{RowName, row_expression}
+use Rattle.rg_refuting.specs.Row.{row_expression}
+use Rattle.rg_refuting.specs.declared.RowName.{RowName}
 use Rattle.rg_order_of_work.specs.Fold.{ratio_of}
 use Rattle.rg_order_of_work.specs.Rewriting.{numbers_where, KeptRow, IsIdle, row_fold}
-use Rattle.rg_reasons.specs.Trees.{row_name_of}
 use Rattle.rg_case_parts.specs.StatesNamed.{TermNamesStateBelow}
 use Rattle.rg_linear.specs.View.{linear_row}
 use Rattle.rg_rows.specs.declared.case_row.CaseRow.{CaseRow}
@@ -33,7 +33,7 @@ numbers_of row = row.coeffs ++ row.constant ∷ []
 
 -- a row with its name and its factor
 abbrev pub kept_row : CaseRow → KeptRow
-kept_row r = record { name = row_name_of r.name; row = record { coeffs = arc_slice_items r.coeffs; constant = r.constant }; factor = ratio_of r.factor }
+kept_row r = record { name = r.name; row = record { coeffs = arc_slice_items r.coeffs; constant = r.constant }; factor = ratio_of r.factor }
 
 -- the row that a case holds
 abbrev pub row_in : HeldRow → CaseRow
@@ -43,7 +43,7 @@ row_in (held.Common r) = r.now
 -- the rows with their names and factors
 pub record ShowsRows (r : CaseRows) (kept : List KeptRow) : Type 0 where
   pub rows : map linear_row r.rows.items ≡ map (λ k. k.row) kept
-  pub names : map row_name_of r.names.items ≡ map (λ k. k.name) kept
+  pub names : r.names.items ≡ map (λ k. k.name) kept
   pub factors : map ratio_of r.factors.items ≡ map (λ k. k.factor) kept
 
 -- each row that isn't left out is the kept row at its place

@@ -7,7 +7,6 @@ ghost use Rattle.rg_theory.specs.System.{System, labels};
 ghost use Rattle.rg_linear.specs.Cycle.{CycleBasis};
 ghost use Rattle.rg_spanning.specs.Spanning.{IsTreeOf};
 ghost use Rattle.rg_cycles.specs.View.{labels_of, cycle_of};
-ghost use Rattle.rg_reasons.specs.Trees.{row_name_of};
 ghost use Rattle.rg_case_parts.specs.ColumnViews.{AreColumns};
 ghost use Rattle.rg_rows.specs.Sharing.{or_wide, AreRowsOfKind, AreTermsOfKind, IsCommonOf, IsRowInCase, AreTermsInCase};
 
@@ -19,7 +18,7 @@ use rg_cycles::Basis;
 use rg_fraction::FoldStop;
 use rg_integers::Wide;
 use rg_lts::Lts;
-use rg_reasons::RowName;
+use rg_refuting::RowName;
 use rg_spanning::Tree;
 use rg_theory::Class;
 use std::alloc::{AllocError, Global};
@@ -68,7 +67,7 @@ impl Common {
 
     // The row of the name, where it speaks of no problem.
     pub(crate) fn row(&self, name: RowName) -> Option<&Result<CaseRow, Wide>>
-        ensures { IfSome result (λ r. (lts : System) (tree : List Arc) (basis : CycleBasis) (class : Class) (problem : Problem) (number : ℕ) → IsCommonOf lts tree basis class self.now → IsRowInCase lts tree basis class problem number (row_name_of name) r.now) }
+        ensures { IfSome result (λ r. (lts : System) (tree : List Arc) (basis : CycleBasis) (class : Class) (problem : Problem) (number : ℕ) → IsCommonOf lts tree basis class self.now → IsRowInCase lts tree basis class problem number name r.now) }
     {
         match name {
             RowName::Tokens(q) => self.tokens.get(q as usize),
@@ -82,7 +81,7 @@ impl Common {
 
     // The terms of the row, where a form has them.
     pub(crate) fn terms(&self, name: RowName) -> Option<&Result<Scaled, Wide>>
-        ensures { IfSome result (λ r. (lts : System) (tree : List Arc) (basis : CycleBasis) (class : Class) (problem : Problem) (number : ℕ) → IsCommonOf lts tree basis class self.now → AreTermsInCase lts tree basis class problem number (row_name_of name) r.now) }
+        ensures { IfSome result (λ r. (lts : System) (tree : List Arc) (basis : CycleBasis) (class : Class) (problem : Problem) (number : ℕ) → IsCommonOf lts tree basis class self.now → AreTermsInCase lts tree basis class problem number name r.now) }
     {
         match name {
             RowName::Tokens(q) => self.token_terms.get(q as usize),

@@ -11,15 +11,14 @@ ghost use Rattle.rg_cycles.specs.View.{labels_of, cycle_of};
 ghost use Rattle.rg_order_of_work.specs.Fold.{each};
 ghost use Rattle.rg_order_of_work.specs.Rewriting.{column_count, terms_fold, form_fold, form_low, form_high, splits_start};
 ghost use Rattle.rg_case_parts.specs.WholeNumbers.{scaled_of};
-ghost use Rattle.rg_reasons.specs.Trees.{row_name_of, form_of};
-ghost use Rattle.rg_refuting.specs.Row.{row_expression, step_of, Form.on_start};
-ghost use Rattle.rg_reasons.specs.declared.certificate.RowName.{RowName as CodeName};
-ghost use Rattle.rg_reasons.specs.declared.certificate.RowName.TheVariants.{Tokens};
+ghost use Rattle.rg_refuting.specs.Row.{row_expression, step_of};
 ghost use Rattle.rg_case_parts.specs.StatesNamed.{TermNamesStateBelow};
 ghost use Rattle.rg_rows.specs.View.{kept_row, row_in, AreNamesWithin, fold_of};
 ghost use Rattle.rg_rows.specs.Sharing.{IsCommonOf};
 ghost use Rattle.rg_rows.specs.Forms.{linear_form, split_of, form_in, forms_in, case_forms, IsPartOf};
 ghost use Rattle.rg_rows.specs.Making.{IsMade};
+ghost use Rattle.rg_refuting.specs.declared.RowName.TheVariants as row_name;
+ghost use Rattle.rg_refuting.specs.declared.Form.TheVariants as split_form;
 
 use crate::case_row::CaseRow;
 use crate::common::Common;
@@ -30,7 +29,8 @@ use rg_case_parts::Scaled;
 use rg_cycles::Basis;
 use rg_fraction::FoldStop;
 use rg_lts::Lts;
-use rg_reasons::{Form, ProblemCase, RowName, expression};
+use rg_reasons::{ProblemCase, expression};
+use rg_refuting::{Form, RowName};
 use rg_spanning::Tree;
 use rg_theory::{Class, Problem};
 use std::alloc::{AllocError, Global};
@@ -51,15 +51,15 @@ pub(crate) fn case_forms(
     requires tree { IsTreeOf lts.now tree.now }
     requires labels { labels_of basis.now ≡ labels lts.now }
     requires common { IsCommonOf lts.now tree.now.arcs (cycle_of basis.now) case.class common.now }
-    requires names { AreNamesWithin lts.now case.class case.problem case.number (map row_name_of names.now) }
-    requires rows { each (fold_of lts.now tree.now.arcs (cycle_of basis.now) case.class case.problem case.number) (map row_name_of names.now) (Ok (map kept_row (map row_in rows.now))) }
+    requires names { AreNamesWithin lts.now case.class case.problem case.number names.now }
+    requires rows { each (fold_of lts.now tree.now.arcs (cycle_of basis.now) case.class case.problem case.number) names.now (Ok (map kept_row (map row_in rows.now))) }
     requires one_each { length rows.now ≡ length names.now }
     requires places { length places.now ≡ length rows.now }
-    requires start { IsTrue (splits_start case.class case.problem) → Contains names.now (Tokens lts.now.initial) }
-    ensures value { IfOk result (λ v. each (form_fold lts.now tree.now.arcs (cycle_of basis.now) case.class) (case_forms case.class case.problem (map row_name_of names.now)) (Ok (map linear_form v.items))) }
-    ensures forms { IfOk result (λ v. map split_of v.items ≡ case_forms case.class case.problem (map row_name_of names.now)) }
+    requires start { IsTrue (splits_start case.class case.problem) → Contains names.now (row_name.Tokens lts.now.initial) }
+    ensures value { IfOk result (λ v. each (form_fold lts.now tree.now.arcs (cycle_of basis.now) case.class) (case_forms case.class case.problem names.now) (Ok (map linear_form v.items))) }
+    ensures forms { IfOk result (λ v. map split_of v.items ≡ case_forms case.class case.problem names.now) }
     ensures made { IfOk result (λ v. All (IsMade lts.now case.class (column_count lts.now (cycle_of basis.now) case.class) (map kept_row (map row_in rows.now)) places.now) v.items) }
-    ensures wide { (w : Wide) → IsErrOf result (stop.Wide w) → each (form_fold lts.now tree.now.arcs (cycle_of basis.now) case.class) (case_forms case.class case.problem (map row_name_of names.now)) (Err w) }
+    ensures wide { (w : Wide) → IsErrOf result (stop.Wide w) → each (form_fold lts.now tree.now.arcs (cycle_of basis.now) case.class) (case_forms case.class case.problem names.now) (Err w) }
 {
     let mut forms = forms(alloc, lts, tree, basis, common, case, names, rows, places)?;
     if splits_start(case.class, case.problem) {
@@ -94,15 +94,15 @@ fn start_form(
     requires tree { IsTreeOf lts.now tree.now }
     requires labels { labels_of basis.now ≡ labels lts.now }
     requires common { IsCommonOf lts.now tree.now.arcs (cycle_of basis.now) case.class common.now }
-    requires names { AreNamesWithin lts.now case.class case.problem case.number (map row_name_of names.now) }
-    requires rows { each (fold_of lts.now tree.now.arcs (cycle_of basis.now) case.class case.problem case.number) (map row_name_of names.now) (Ok (map kept_row (map row_in rows.now))) }
+    requires names { AreNamesWithin lts.now case.class case.problem case.number names.now }
+    requires rows { each (fold_of lts.now tree.now.arcs (cycle_of basis.now) case.class case.problem case.number) names.now (Ok (map kept_row (map row_in rows.now))) }
     requires one_each { length rows.now ≡ length names.now }
     requires places { length places.now ≡ length rows.now }
-    requires start { Contains names.now (Tokens lts.now.initial) }
-    ensures value { IfOk result (λ f. form_fold lts.now tree.now.arcs (cycle_of basis.now) case.class on_start (Ok (linear_form f))) }
-    ensures form { IfOk result (λ f. split_of f ≡ on_start) }
+    requires start { Contains names.now (row_name.Tokens lts.now.initial) }
+    ensures value { IfOk result (λ f. form_fold lts.now tree.now.arcs (cycle_of basis.now) case.class split_form.Start (Ok (linear_form f))) }
+    ensures form { IfOk result (λ f. split_of f ≡ split_form.Start) }
     ensures made { IfOk result (λ f. IsMade lts.now case.class (column_count lts.now (cycle_of basis.now) case.class) (map kept_row (map row_in rows.now)) places.now f) }
-    ensures wide { (w : Wide) → IsErrOf result (stop.Wide w) → form_fold lts.now tree.now.arcs (cycle_of basis.now) case.class on_start (Err w) }
+    ensures wide { (w : Wide) → IsErrOf result (stop.Wide w) → form_fold lts.now tree.now.arcs (cycle_of basis.now) case.class split_form.Start (Err w) }
 {
     let name = RowName::Tokens(lts.initial());
     let i = place_of(names, name);
@@ -122,7 +122,7 @@ fn start_form(
 
 // By steps of how many the start is counted.
 fn start_scale(class: Class) -> i128
-    ensures value { result ≡ pos (step_of class on_start) }
+    ensures value { result ≡ pos (step_of class split_form.Start) }
     ensures in_range { InRange result }
 {
     i128::from(Form::Start.step(class))
@@ -132,7 +132,7 @@ fn start_scale(class: Class) -> i128
 fn place_of(names: &[RowName], name: RowName) -> usize
     requires { Contains names.now name }
     ensures within { result < length names.now }
-    ensures here { (d : CodeName) → slice_index_or names.now result d ≡ name }
+    ensures here { (d : RowName) → slice_index_or names.now result d ≡ name }
 {
     for (i, other) in names.iter().enumerate() {
         if *other == name {
@@ -158,14 +158,14 @@ fn forms(
     requires tree { IsTreeOf lts.now tree.now }
     requires labels { labels_of basis.now ≡ labels lts.now }
     requires common { IsCommonOf lts.now tree.now.arcs (cycle_of basis.now) case.class common.now }
-    requires names { AreNamesWithin lts.now case.class case.problem case.number (map row_name_of names.now) }
-    requires rows { each (fold_of lts.now tree.now.arcs (cycle_of basis.now) case.class case.problem case.number) (map row_name_of names.now) (Ok (map kept_row (map row_in rows.now))) }
+    requires names { AreNamesWithin lts.now case.class case.problem case.number names.now }
+    requires rows { each (fold_of lts.now tree.now.arcs (cycle_of basis.now) case.class case.problem case.number) names.now (Ok (map kept_row (map row_in rows.now))) }
     requires one_each { length rows.now ≡ length names.now }
     requires places { length places.now ≡ length rows.now }
-    ensures value { IfOk result (λ v. each (form_fold lts.now tree.now.arcs (cycle_of basis.now) case.class) (forms_in case.class (map row_name_of names.now)) (Ok (map linear_form v.items))) }
-    ensures forms { IfOk result (λ v. map split_of v.items ≡ forms_in case.class (map row_name_of names.now)) }
+    ensures value { IfOk result (λ v. each (form_fold lts.now tree.now.arcs (cycle_of basis.now) case.class) (forms_in case.class names.now) (Ok (map linear_form v.items))) }
+    ensures forms { IfOk result (λ v. map split_of v.items ≡ forms_in case.class names.now) }
     ensures made { IfOk result (λ v. All (IsMade lts.now case.class (column_count lts.now (cycle_of basis.now) case.class) (map kept_row (map row_in rows.now)) places.now) v.items) }
-    ensures wide { (w : Wide) → IsErrOf result (stop.Wide w) → each (form_fold lts.now tree.now.arcs (cycle_of basis.now) case.class) (forms_in case.class (map row_name_of names.now)) (Err w) }
+    ensures wide { (w : Wide) → IsErrOf result (stop.Wide w) → each (form_fold lts.now tree.now.arcs (cycle_of basis.now) case.class) (forms_in case.class names.now) (Err w) }
 {
     let mut forms = Vec::new(alloc);
     for (i, &name) in names.iter().enumerate() {
@@ -199,10 +199,10 @@ fn terms_in_case(
     requires tree { IsTreeOf lts.now tree.now }
     requires labels { labels_of basis.now ≡ labels lts.now }
     requires common { IsCommonOf lts.now tree.now.arcs (cycle_of basis.now) case.class common.now }
-    requires within { All (TermNamesStateBelow (states lts.now)) (row_expression lts.now case.class case.problem case.number [] (row_name_of name)).terms }
-    ensures value { IfOk result (λ s. terms_fold lts.now tree.now.arcs (cycle_of basis.now) case.class (row_expression lts.now case.class case.problem case.number [] (row_name_of name)).terms (Ok (scaled_of s))) }
+    requires within { All (TermNamesStateBelow (states lts.now)) (row_expression lts.now case.class case.problem case.number [] name).terms }
+    ensures value { IfOk result (λ s. terms_fold lts.now tree.now.arcs (cycle_of basis.now) case.class (row_expression lts.now case.class case.problem case.number [] name).terms (Ok (scaled_of s))) }
     ensures one_each { IfOk result (λ s. length s.numbers.items ≡ column_count lts.now (cycle_of basis.now) case.class) }
-    ensures wide { (w : Wide) → IsErrOf result (stop.Wide w) → terms_fold lts.now tree.now.arcs (cycle_of basis.now) case.class (row_expression lts.now case.class case.problem case.number [] (row_name_of name)).terms (Err w) }
+    ensures wide { (w : Wide) → IsErrOf result (stop.Wide w) → terms_fold lts.now tree.now.arcs (cycle_of basis.now) case.class (row_expression lts.now case.class case.problem case.number [] name).terms (Err w) }
 {
     match common.terms(name) {
         Some(Ok(scaled)) => Ok(copied(alloc, scaled)?),
@@ -226,7 +226,7 @@ fn copied(alloc: Global, scaled: &Scaled) -> Result<Scaled, AllocError>
 
 // The form that has the terms of this row, where it is one of the class's.
 fn form_named(class: Class, name: RowName) -> Option<Form>
-    ensures { option_map form_of result ≡ form_in class (row_name_of name) }
+    ensures { result ≡ form_in class name }
 {
     match name {
         RowName::Tokens(q) if class.bound.is_some() => Some(Form::Tokens(q)),
@@ -248,7 +248,7 @@ fn form_over(
     requires { (d : ℕ) × (0 < d) × (scaled.numbers.items ≡ map (λ z. pos d *ℤ z) (arc_slice_items row.now.coeffs)) }
     ensures form { IfOk result (λ f. f.form ≡ form) }
     ensures numbers { IfOk result (λ f. (f.scale ≡ scale) × (arc_slice_items f.coeffs ≡ scaled.numbers.items)) }
-    ensures bounds { IfOk result (λ f. (f.low ≡ form_low (form_of form)) × (f.high ≡ form_high lts.now class (form_of form))) }
+    ensures bounds { IfOk result (λ f. (f.low ≡ form_low form) × (f.high ≡ form_high lts.now class form)) }
     ensures row { IfOk result (λ f. IsPartOf f (arc_slice_items row.now.coeffs) place) }
     ensures in_range { IfOk result (λ f. InRange f.times) }
 {
@@ -267,7 +267,7 @@ fn form_over(
 
 // The least that a form may be.
 fn low(form: Form) -> i64
-    ensures { result ≡ form_low (form_of form) }
+    ensures { result ≡ form_low form }
 {
     match form {
         Form::Tokens(_) | Form::Start => 0,
@@ -277,7 +277,7 @@ fn low(form: Form) -> i64
 
 // The most that a form of the class may be.
 fn high(lts: &Lts, class: Class, form: Form) -> i64
-    ensures { result ≡ form_high lts.now class (form_of form) }
+    ensures { result ≡ form_high lts.now class form }
 {
     match form {
         Form::Tokens(_) => class.bound.map_or(0, i64::from),

@@ -8,7 +8,6 @@ ghost use Rattle.rg_refuting.specs.Row.{row_expression};
 ghost use Rattle.rg_spanning.specs.Spanning.{IsTreeOf};
 ghost use Rattle.rg_order_of_work.specs.Rewriting.{column_count};
 ghost use Rattle.rg_cycles.specs.View.{labels_of, cycle_of};
-ghost use Rattle.rg_reasons.specs.Trees.{row_name_of};
 ghost use Rattle.rg_case_parts.specs.StatesNamed.{TermNamesStateBelow};
 ghost use Rattle.rg_rows.specs.View.{kept_row, row_in, fold_of};
 ghost use Rattle.rg_rows.specs.Sharing.{IsCommonOf};
@@ -19,7 +18,8 @@ use crate::rewriting::row;
 use rg_cycles::Basis;
 use rg_fraction::FoldStop;
 use rg_lts::Lts;
-use rg_reasons::{ProblemCase, RowName, expression};
+use rg_reasons::{ProblemCase, expression};
+use rg_refuting::RowName;
 use rg_spanning::Tree;
 use std::alloc::Global;
 
@@ -55,10 +55,10 @@ pub(crate) fn row_in_case<'a>(
     requires tree { IsTreeOf lts.now tree.now }
     requires labels { labels_of basis.now ≡ labels lts.now }
     requires common { IsCommonOf lts.now tree.now.arcs (cycle_of basis.now) case.class common.now }
-    requires within { All (TermNamesStateBelow (states lts.now)) (row_expression lts.now case.class case.problem case.number [] (row_name_of name)).terms }
-    ensures value { IfOk result (λ r. fold_of lts.now tree.now.arcs (cycle_of basis.now) case.class case.problem case.number (row_name_of name) (Ok (kept_row (row_in r)))) }
+    requires within { All (TermNamesStateBelow (states lts.now)) (row_expression lts.now case.class case.problem case.number [] name).terms }
+    ensures value { IfOk result (λ r. fold_of lts.now tree.now.arcs (cycle_of basis.now) case.class case.problem case.number name (Ok (kept_row (row_in r)))) }
     ensures one_each { IfOk result (λ r. length (arc_slice_items (row_in r).coeffs) ≡ column_count lts.now (cycle_of basis.now) case.class) }
-    ensures wide { (w : Wide) → IsErrOf result (stop.Wide w) → fold_of lts.now tree.now.arcs (cycle_of basis.now) case.class case.problem case.number (row_name_of name) (Err w) }
+    ensures wide { (w : Wide) → IsErrOf result (stop.Wide w) → fold_of lts.now tree.now.arcs (cycle_of basis.now) case.class case.problem case.number name (Err w) }
 {
     match common.row(name) {
         Some(Ok(row)) => Ok(HeldRow::Common(row)),

@@ -9,7 +9,7 @@ use crate::held_row::HeldRow;
 use indexmap::IndexSet;
 use rg_fraction::Fraction;
 use rg_linear::Row;
-use rg_reasons::RowName;
+use rg_refuting::RowName;
 use std::alloc::{AllocError, Global};
 
 /// Rows, each with its name and its factor.

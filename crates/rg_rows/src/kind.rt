@@ -2,12 +2,12 @@
 ghost use Rattle.std.specs.Prelude.{◌≡◌, []};
 ghost use Rattle.rg_refuting.specs.Row.{shared_expression};
 ghost use Rattle.rg_reasons.specs.Sums.{expression_of};
-ghost use Rattle.rg_reasons.specs.Trees.{row_name_of};
 ghost use Rattle.rg_rows.specs.Sharing.{row_of_kind, rows_of_kind, forms_of_kind};
 
 use rg_case_parts::has_start;
 use rg_lts::Lts;
-use rg_reasons::{Expression, ProblemCase, RowName, expression};
+use rg_reasons::{Expression, ProblemCase, expression};
+use rg_refuting::RowName;
 use rg_theory::{Class, Problem};
 
 // A kind of rows that speak of no problem: `Tokens` and `Cap` have one by state, the others one by label.
@@ -23,7 +23,7 @@ pub(crate) enum Kind {
 impl Kind {
     // The row of this state or label.
     pub(crate) fn name(self, number: u32) -> RowName
-        ensures { row_name_of result ≡ row_of_kind self number }
+        ensures { result ≡ row_of_kind self number }
     {
         match self {
             Kind::Tokens => RowName::Tokens(number),

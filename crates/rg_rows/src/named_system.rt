@@ -12,7 +12,6 @@ ghost use Rattle.rg_order_of_work.specs.Chords.{IsBasis};
 ghost use Rattle.rg_order_of_work.specs.Fold.{each};
 ghost use Rattle.rg_cycles.specs.View.{labels_of, cycle_of};
 ghost use Rattle.rg_fraction.specs.declared.fold_stop.FoldStop.TheVariants as stop;
-ghost use Rattle.rg_reasons.specs.Trees.{row_name_of};
 ghost use Rattle.rg_rows.specs.View.{kept_row, row_in, AreNamesWithin, fold_of};
 ghost use Rattle.rg_rows.specs.Sharing.{IsCommonOf};
 ghost use Rattle.rg_rows.specs.Forms.{split_of, StandsInRow, AreFormsOf};
@@ -28,7 +27,8 @@ use rg_cycles::Basis;
 use rg_fraction::{FoldStop, Fraction};
 use rg_linear::System;
 use rg_lts::Lts;
-use rg_reasons::{ProblemCase, RowName};
+use rg_reasons::ProblemCase;
+use rg_refuting::RowName;
 use rg_spanning::Tree;
 use rg_theory::{Class, Problem};
 use std::alloc::Global;
@@ -140,11 +140,11 @@ fn rows<'a>(
     requires tree { IsTreeOf lts.now tree.now }
     requires labels { labels_of basis.now ≡ labels lts.now }
     requires common { IsCommonOf lts.now tree.now.arcs (cycle_of basis.now) case.class common.now }
-    requires names { AreNamesWithin lts.now case.class case.problem case.number (map row_name_of names.now) }
-    ensures value { IfOk result (λ v. each (fold_of lts.now tree.now.arcs (cycle_of basis.now) case.class case.problem case.number) (map row_name_of names.now) (Ok (map kept_row (map row_in v.items)))) }
+    requires names { AreNamesWithin lts.now case.class case.problem case.number names.now }
+    ensures value { IfOk result (λ v. each (fold_of lts.now tree.now.arcs (cycle_of basis.now) case.class case.problem case.number) names.now (Ok (map kept_row (map row_in v.items)))) }
     ensures one_each { IfOk result (λ v. All (λ r. length (arc_slice_items r.coeffs) ≡ column_count lts.now (cycle_of basis.now) case.class) (map row_in v.items)) }
     ensures few { IfOk result (λ v. length v.items ≡ length names.now) }
-    ensures wide { (w : Wide) → IsErrOf result (stop.Wide w) → each (fold_of lts.now tree.now.arcs (cycle_of basis.now) case.class case.problem case.number) (map row_name_of names.now) (Err w) }
+    ensures wide { (w : Wide) → IsErrOf result (stop.Wide w) → each (fold_of lts.now tree.now.arcs (cycle_of basis.now) case.class case.problem case.number) names.now (Err w) }
 {
     let mut rows = Vec::new(alloc);
     for &name in names {

@@ -2,16 +2,16 @@
 ghost use Rattle.std.specs.Prelude.{◌≡◌, ◌<◌, ◌++◌, length, map, IfOk, OnOk};
 ghost use Rattle.rg_theory.specs.System.{states, labels};
 ghost use Rattle.rg_refuting.specs.Refutes.{IsSeparationProblem};
-ghost use Rattle.rg_refuting.specs.Row.{RowName.tokens_row, RowName.cap_row, RowName.up_row, RowName.down_row, RowName.makes_row};
-ghost use Rattle.rg_reasons.specs.Trees.{row_name_of};
 ghost use Rattle.rg_order_of_work.specs.Rewriting.{all_numbers, problem_rows, names_of};
 ghost use Rattle.rg_case_parts.specs.ColumnViews.{AreColumns};
 ghost use Rattle.rg_rows.specs.View.{users, makers};
+ghost use Rattle.rg_refuting.specs.declared.RowName.TheVariants as row_name;
 
 use crate::problem_names::problem_rows;
 use rg_case_parts::Columns;
 use rg_lts::Lts;
-use rg_reasons::{ProblemCase, RowName};
+use rg_reasons::ProblemCase;
+use rg_refuting::RowName;
 use std::alloc::{AllocError, Global};
 
 // The rows in order: those of the problem; `tokens` by state where Start is a column; in a bounded class `cap` by
@@ -25,7 +25,7 @@ pub(crate) fn names(
 ) -> Result<Vec<RowName>, AllocError>
     requires asked { IsSeparationProblem lts.now case.problem }
     requires columns { AreColumns lts.now case.class columns.now }
-    ensures { IfOk result (λ v. map row_name_of v.items ≡ names_of lts.now case.class case.problem case.number) }
+    ensures { IfOk result (λ v. v.items ≡ names_of lts.now case.class case.problem case.number) }
 {
     let mut names = problem_rows(alloc, lts, case)?;
     if columns.start {
@@ -46,7 +46,7 @@ pub(crate) fn names(
 
 // `tokens` at each state.
 fn push_tokens(names: &mut Vec<RowName>, states: u32) -> Result<(), AllocError>
-    ensures { OnOk result (map row_name_of names.new.items ≡ map row_name_of names.old.items ++ map tokens_row (all_numbers states)) }
+    ensures { OnOk result (names.new.items ≡ names.old.items ++ map row_name.Tokens (all_numbers states)) }
 {
     for q in 0..states {
         names.push(RowName::Tokens(q))?;
@@ -56,7 +56,7 @@ fn push_tokens(names: &mut Vec<RowName>, states: u32) -> Result<(), AllocError>
 
 // `cap` at each state.
 fn push_caps(names: &mut Vec<RowName>, states: u32) -> Result<(), AllocError>
-    ensures { OnOk result (map row_name_of names.new.items ≡ map row_name_of names.old.items ++ map cap_row (all_numbers states)) }
+    ensures { OnOk result (names.new.items ≡ names.old.items ++ map row_name.Cap (all_numbers states)) }
 {
     for q in 0..states {
         names.push(RowName::Cap(q))?;
@@ -67,7 +67,7 @@ fn push_caps(names: &mut Vec<RowName>, states: u32) -> Result<(), AllocError>
 // `up` of each label with an arc.
 fn push_ups(names: &mut Vec<RowName>, labels: u32, used: &[bool]) -> Result<(), AllocError>
     requires { length used.now ≡ labels }
-    ensures { OnOk result (map row_name_of names.new.items ≡ map row_name_of names.old.items ++ map up_row (users used.now)) }
+    ensures { OnOk result (names.new.items ≡ names.old.items ++ map row_name.Up (users used.now)) }
 {
     for t in 0..labels {
         if used[t as usize] {
@@ -80,7 +80,7 @@ fn push_ups(names: &mut Vec<RowName>, labels: u32, used: &[bool]) -> Result<(), 
 // `down` of each label with an arc.
 fn push_downs(names: &mut Vec<RowName>, labels: u32, used: &[bool]) -> Result<(), AllocError>
     requires { length used.now ≡ labels }
-    ensures { OnOk result (map row_name_of names.new.items ≡ map row_name_of names.old.items ++ map down_row (users used.now)) }
+    ensures { OnOk result (names.new.items ≡ names.old.items ++ map row_name.Down (users used.now)) }
 {
     for t in 0..labels {
         if used[t as usize] {
@@ -98,7 +98,7 @@ fn push_makes(
     consumer: u32,
 ) -> Result<(), AllocError>
     requires { length used.now ≡ labels }
-    ensures { OnOk result (map row_name_of names.new.items ≡ map row_name_of names.old.items ++ map makes_row (makers used.now consumer)) }
+    ensures { OnOk result (names.new.items ≡ names.old.items ++ map row_name.Makes (makers used.now consumer)) }
 {
     for u in 0..labels {
         if used[u as usize] && u != consumer {

@@ -2,12 +2,12 @@
 ghost use Rattle.std.specs.Prelude.{◌≡◌, ◌<◌, ◌++◌, ◌∷◌, [], map, IfOk, OnOk};
 ghost use Rattle.rg_theory.specs.System.{labels};
 ghost use Rattle.rg_refuting.specs.Refutes.{IsSeparationProblem};
-ghost use Rattle.rg_refuting.specs.Row.{RowName.stop_row, RowName.empty_row, RowName.full_row, RowName.keep_row};
-ghost use Rattle.rg_reasons.specs.Trees.{row_name_of};
 ghost use Rattle.rg_order_of_work.specs.Rewriting.{states_with, problem_rows};
+ghost use Rattle.rg_refuting.specs.declared.RowName.TheVariants as row_name;
 
 use rg_lts::Lts;
-use rg_reasons::{ProblemCase, RowName};
+use rg_reasons::ProblemCase;
+use rg_refuting::RowName;
 use rg_theory::Problem;
 use std::alloc::{AllocError, Global};
 
@@ -19,7 +19,7 @@ pub(crate) fn problem_rows(
     case: ProblemCase,
 ) -> Result<Vec<RowName>, AllocError>
     requires asked { IsSeparationProblem lts.now case.problem }
-    ensures { IfOk result (λ v. map row_name_of v.items ≡ problem_rows lts.now case.class case.problem) }
+    ensures { IfOk result (λ v. v.items ≡ problem_rows lts.now case.class case.problem) }
 {
     match case.problem {
         Problem::Event(..) if case.class.pure => [RowName::Block].to_vec(alloc),
@@ -32,7 +32,7 @@ pub(crate) fn problem_rows(
 // `empty`, `full` at each state with an arc of label t, and `keep`.
 fn plain_rows(alloc: Global, lts: &Lts, t: u32) -> Result<Vec<RowName>, AllocError>
     requires { t < labels lts.now }
-    ensures { IfOk result (λ v. map row_name_of v.items ≡ empty_row ∷ map full_row (states_with lts.now t) ++ keep_row ∷ []) }
+    ensures { IfOk result (λ v. v.items ≡ row_name.Empty ∷ map row_name.Full (states_with lts.now t) ++ row_name.Keep ∷ []) }
 {
     let mut names = [RowName::Empty].to_vec(alloc)?;
     push_fulls(&mut names, lts, t)?;
@@ -43,7 +43,7 @@ fn plain_rows(alloc: Global, lts: &Lts, t: u32) -> Result<Vec<RowName>, AllocErr
 // `full` at each state with an arc of label t.
 fn push_fulls(names: &mut Vec<RowName>, lts: &Lts, t: u32) -> Result<(), AllocError>
     requires { t < labels lts.now }
-    ensures { OnOk result (map row_name_of names.new.items ≡ map row_name_of names.old.items ++ map full_row (states_with lts.now t)) }
+    ensures { OnOk result (names.new.items ≡ names.old.items ++ map row_name.Full (states_with lts.now t)) }
 {
     for q in 0..lts.states() {
         if lts.arc_at(q, t).is_some() {
@@ -56,7 +56,7 @@ fn push_fulls(names: &mut Vec<RowName>, lts: &Lts, t: u32) -> Result<(), AllocEr
 // `stop` at each state with an arc of label t.
 fn stops(alloc: Global, lts: &Lts, t: u32) -> Result<Vec<RowName>, AllocError>
     requires { t < labels lts.now }
-    ensures { IfOk result (λ v. map row_name_of v.items ≡ map stop_row (states_with lts.now t)) }
+    ensures { IfOk result (λ v. v.items ≡ map row_name.Stop (states_with lts.now t)) }
 {
     let mut names = Vec::new(alloc);
     for q in 0..lts.states() {

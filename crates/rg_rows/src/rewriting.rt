@@ -8,7 +8,6 @@ ghost use Rattle.rg_integers.specs.declared.term.Wide.{Wide};
 ghost use Rattle.rg_fraction.specs.Rows.{IsRowGcd};
 ghost use Rattle.rg_spanning.specs.Spanning.{IsTreeOf};
 ghost use Rattle.rg_order_of_work.specs.Rewriting.{terms_fold, row_fold, IsDivided, column_count};
-ghost use Rattle.rg_reasons.specs.Trees.{row_name_of};
 ghost use Rattle.rg_cycles.specs.View.{labels_of, cycle_of};
 ghost use Rattle.rg_fraction.specs.declared.fold_stop.FoldStop.TheVariants as stop;
 ghost use Rattle.rg_reasons.specs.Sums.{expression_of};
@@ -24,7 +23,8 @@ use rg_case_parts::{Columns, Scaled, start, without_denominators};
 use rg_cycles::{Basis, substitute};
 use rg_fraction::{FoldStop, Fraction, reduce, row_gcd};
 use rg_linear::norm;
-use rg_reasons::{Expression, RowName};
+use rg_reasons::Expression;
+use rg_refuting::RowName;
 use rg_spanning::Tree;
 use std::alloc::{AllocError, Global};
 use std::sync::ArcSlice;
@@ -41,9 +41,9 @@ pub(crate) fn row(
     requires labels { tree.now.labels ≡ labels_of basis.now }
     requires columns { length columns.now.used.items ≡ labels_of basis.now }
     requires within { All (TermNamesStateBelow tree.now.states) (expression_of expression.now).terms }
-    ensures value { IfOk result (λ r. (lts : System) (class : Class) → labels lts ≡ labels_of basis.now → AreColumns lts class columns.now → row_fold lts tree.now.arcs (cycle_of basis.now) class (row_name_of name) (expression_of expression.now) (Ok (kept_row r))) }
+    ensures value { IfOk result (λ r. (lts : System) (class : Class) → labels lts ≡ labels_of basis.now → AreColumns lts class columns.now → row_fold lts tree.now.arcs (cycle_of basis.now) class name (expression_of expression.now) (Ok (kept_row r))) }
     ensures one_each { IfOk result (λ r. (lts : System) (class : Class) → labels lts ≡ labels_of basis.now → AreColumns lts class columns.now → length (arc_slice_items r.coeffs) ≡ column_count lts (cycle_of basis.now) class) }
-    ensures wide { (w : Wide) → IsErrOf result (stop.Wide w) → (lts : System) (class : Class) → labels lts ≡ labels_of basis.now → AreColumns lts class columns.now → row_fold lts tree.now.arcs (cycle_of basis.now) class (row_name_of name) (expression_of expression.now) (Err w) }
+    ensures wide { (w : Wide) → IsErrOf result (stop.Wide w) → (lts : System) (class : Class) → labels lts ≡ labels_of basis.now → AreColumns lts class columns.now → row_fold lts tree.now.arcs (cycle_of basis.now) class name (expression_of expression.now) (Err w) }
 {
     let scaled = over_columns(alloc, tree, basis, columns, expression)?;
     let multiple = Fraction::new(scaled.multiple, 1);

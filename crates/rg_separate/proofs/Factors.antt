@@ -10,7 +10,7 @@ use Rattle.rg_integers.specs.declared.term.Wide.{Wide}
 use Rattle.rg_fraction.specs.declared.fraction.Fraction.{Fraction}
 use Rattle.rg_fraction.specs.Fractions.{IsValue, IsProduct, numerator_of, denominator_of}
 use Rattle.rg_integers.specs.Range.{InRange}
-use Rattle.rg_refuting.specs.Row.{RowName.above_row, Form.on_tokens, Side}
+use Rattle.rg_refuting.specs.declared.Side.{Side}
 use Rattle.rg_linear.specs.System.{LinearSystem}
 use Rattle.rg_linear.specs.Branching.{Weight, weights_from, form_at, SplitSide}
 use Rattle.rg_order_of_work.specs.Fold.{Ratio, whole, ratio_of, shown_result, mul}
@@ -18,14 +18,15 @@ use Rattle.rg_order_of_work.specs.Rewriting.{CaseSystem}
 use Rattle.rg_order_of_work.specs.Spreading.{share_fold, kept_at, name_of, side_at, named_at, split_factor, factor_of}
 use Rattle.rg_order_of_work.proofs.FoldLemmas.{ratio_one, new_step, mul_step}
 use Rattle.rg_order_of_work.proofs.Scaling.{whole_ratio}
-use Rattle.rg_reasons.specs.declared.certificate.RowName.{RowName as NameOfCode}
-use Rattle.rg_reasons.specs.Trees.{row_name_of}
 use Rattle.rg_rows.specs.declared.named_system.NamedSystem.{NamedSystem}
 use Rattle.rg_rows.specs.declared.named_form.NamedForm.{NamedForm}
 use Rattle.rg_rows.specs.Forms.{linear_form, split_of}
 use Rattle.rg_rows.specs.Shown.{ShowsCase}
 use Rattle.rg_farkas.specs.Leaves.{share_of}
 use Rattle.rg_separate.specs.Casing.{sides_among}
+use Rattle.rg_refuting.specs.declared.RowName.{RowName}
+use Rattle.rg_refuting.specs.declared.RowName.TheVariants as row_name
+use Rattle.rg_refuting.specs.declared.Form.TheVariants as split_form
 
 -- ---- the weights of multipliers
 
@@ -66,18 +67,17 @@ module _ (named : NamedSystem) (case : CaseSystem) (shows : ShowsCase named case
   rows_are = ap (λ (s : LinearSystem). length s.rows) shows.system ∙ length-map case.kept (λ k. k.row)
 
   pub names_many : length named.names.items ≡ length named.system.rows
-  names_many = sym (length-map named.names.items row_name_of) ∙ ap length shows.names ∙ length-map case.kept (λ k. k.name) ∙ sym rows_are
+  names_many = ap length shows.names ∙ length-map case.kept (λ k. k.name) ∙ sym rows_are
 
   pub factors_many : length named.factors.items ≡ length named.system.rows
   factors_many = sym (length-map named.factors.items ratio_of) ∙ ap length shows.factors ∙ length-map case.kept (λ k. k.factor) ∙ sym rows_are
 
-  pub own_name : (i : ℕ) (n : NameOfCode) → i < length named.system.rows → row_name_of (get_or named.names.items i n) ≡ name_of case i
+  pub own_name : (i : ℕ) (n : RowName) → i < length named.system.rows → get_or named.names.items i n ≡ name_of case i
   own_name i n lt =
       let kept : i < length case.kept = (let e = rows_are in omega arith) in
-      sym (get_or-map row_name_of named.names.items i n (row_name_of n) (let e = names_many in omega arith))
-      ∙ ap (λ rs. get_or rs i (row_name_of n)) shows.names
-      ∙ get_or-map (λ k. k.name) case.kept i _ (row_name_of n) kept
-      ∙ sym (ap (λ b. if b then (kept_at case i).name else above_row (i - length case.kept)) (lt-ltb i (length case.kept) kept))
+      ap (λ rs. get_or rs i n) shows.names
+      ∙ get_or-map (λ k. k.name) case.kept i _ n kept
+      ∙ sym (ap (λ b. if b then (kept_at case i).name else row_name.Above (i - length case.kept)) (lt-ltb i (length case.kept) kept))
 
   pub own_factor : (sides : List SplitSide) (named_above : List Side) (i : ℕ) (f : Fraction) → i < length named.system.rows → ratio_of (get_or named.factors.items i f) ≡ factor_of case sides named_above i
   own_factor sides named_above i f lt =
@@ -89,8 +89,8 @@ module _ (named : NamedSystem) (case : CaseSystem) (shows : ShowsCase named case
 
   -- ---- the row of a split
 
-  pub split_name : (i : ℕ) → length named.system.rows ≤ i → above_row (i - length named.system.rows) ≡ name_of case i
-  split_name i le = ap (λ n. above_row (i - n)) rows_are ∙ sym (ap (λ b. if b then (kept_at case i).name else above_row (i - length case.kept)) (not_below i (length case.kept) (let e = rows_are in omega arith)))
+  pub split_name : (i : ℕ) → length named.system.rows ≤ i → row_name.Above (i - length named.system.rows) ≡ name_of case i
+  split_name i le = ap (λ n. row_name.Above (i - n)) rows_are ∙ sym (ap (λ b. if b then (kept_at case i).name else row_name.Above (i - length case.kept)) (not_below i (length case.kept) (let e = rows_are in omega arith)))
 
   abbrev among : List SplitSide → List Side
   among sides = sides_among (map split_of named.forms.items) sides
@@ -98,10 +98,10 @@ module _ (named : NamedSystem) (case : CaseSystem) (shows : ShowsCase named case
   -- the form by name of the side
   form_named : (sides : List SplitSide) (d : ℕ) (side : SplitSide) (f : NamedForm) → d < length sides → side_at sides d ≡ side → side.form < length named.forms.items → get_or named.forms.items side.form f ≡ f → (named_at (among sides) d).form ≡ split_of f
   form_named sides d side f below at lt form =
-      let name : SplitSide → Side = λ s. record { form = get_or (map split_of named.forms.items) s.form (on_tokens 0); at = s.at; high = s.high } in
-      ap (λ (s : Side). s.form) (get_or-map name sides d (record { form = 0; at = pos 0; high = false }) (record { form = on_tokens 0; at = pos 0; high = false }) below)
-      ∙ ap (λ (s : SplitSide). get_or (map split_of named.forms.items) s.form (on_tokens 0)) at
-      ∙ get_or-map split_of named.forms.items side.form f (on_tokens 0) lt
+      let name : SplitSide → Side = λ s. record { form = get_or (map split_of named.forms.items) s.form (split_form.Tokens 0); at = s.at; high = s.high } in
+      ap (λ (s : Side). s.form) (get_or-map name sides d (record { form = 0; at = pos 0; high = false }) (record { form = split_form.Tokens 0; at = pos 0; high = false }) below)
+      ∙ ap (λ (s : SplitSide). get_or (map split_of named.forms.items) s.form (split_form.Tokens 0)) at
+      ∙ get_or-map split_of named.forms.items side.form f (split_form.Tokens 0) lt
       ∙ ap split_of form
 
   pub factor_of_split : (sides : List SplitSide) (i : ℕ) (side : SplitSide) (f : NamedForm) (scale : Fraction) (z : ℤ) → length named.system.rows ≤ i
@@ -126,7 +126,7 @@ product_step : (f factor : Fraction) (z : ℤ) (other : Ratio) (r : Result Fract
 product_step f factor z other r is same product = subst (λ x. mul x other (shown_result ratio_of r)) (whole_fraction f z is) (subst (λ x. mul (ratio_of f) x (shown_result ratio_of r)) same (mul_step f factor r product))
 
 module _ (case : CaseSystem) (sides : List SplitSide) (above : List Side) (i : ℕ) (z : ℤ) (f factor : Fraction) (is : IsValue f z (pos 1)) (factor_is : ratio_of factor ≡ factor_of case sides above i) where
-  pub share_made : (name : NameOfCode) (share : Fraction) → row_name_of name ≡ name_of case i → IsProduct (numerator_of f) (denominator_of f) (numerator_of factor) (denominator_of factor) (Ok share) → share_fold case sides above (record { row = i; multiplier = z }) (Ok (share_of (name, share)))
+  pub share_made : (name : RowName) (share : Fraction) → name ≡ name_of case i → IsProduct (numerator_of f) (denominator_of f) (numerator_of factor) (denominator_of factor) (Ok share) → share_fold case sides above (record { row = i; multiplier = z }) (Ok (share_of (name, share)))
   share_made name share named product = (ratio_of share, product_step f factor z (factor_of case sides above i) (Ok share) is factor_is product, ap (λ n. record { name = n; multiplier = ratio_of share }) named)
 
   pub share_fails : (w : Wide) → IsProduct (numerator_of f) (denominator_of f) (numerator_of factor) (denominator_of factor) (Err w) → share_fold case sides above (record { row = i; multiplier = z }) (Err w)

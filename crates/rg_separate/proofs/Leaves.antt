@@ -9,7 +9,9 @@ use Rattle.rg_theory.specs.declared.Arc.{Arc}
 use Rattle.rg_theory.specs.System.{System, labels}
 use Rattle.rg_theory.specs.declared.Class.{Class}
 use Rattle.rg_theory.specs.declared.Problem.{Problem}
-use Rattle.rg_refuting.specs.Row.{Form as SplitForm, Form.on_tokens, Form.on_effect, Form.on_start, Side, RowStands, row_expression}
+use Rattle.rg_refuting.specs.Row.{RowStands, row_expression}
+use Rattle.rg_refuting.specs.declared.Form.{Form as SplitForm}
+use Rattle.rg_refuting.specs.declared.Side.{Side}
 use Rattle.rg_refuting.specs.Refutes.{LeafRefutes}
 use Rattle.rg_integers.specs.declared.term.Wide.{Wide}
 use Rattle.rg_fraction.specs.declared.fraction.Fraction.{Fraction}
@@ -22,11 +24,8 @@ use Rattle.rg_order_of_work.proofs.Forms.{IsSplitOf, split_is}
 use Rattle.rg_order_of_work.specs.Spreading.{Share, share_fold, leaf_fold, spread_fold}
 use Rattle.rg_order_of_work.specs.Shown.{SpreadShown, HasLeaf, named_side, named_sides}
 use Rattle.rg_cycles.specs.View.{cycle_of}
-use Rattle.rg_reasons.specs.declared.side.Side.{Side as SideOfCode}
-use Rattle.rg_reasons.specs.declared.certificate.RowName.{RowName as NameOfCode}
-use Rattle.rg_reasons.specs.Sums.{side_of}
 use Rattle.rg_reasons.specs.Trees as reasons
-use Rattle.rg_reasons.specs.Trees.{TreeNode.leaf_node as made_leaf, TreeNode.split_node as made_split, form_of}
+use Rattle.rg_reasons.specs.Trees.{TreeNode.leaf_node as made_leaf, TreeNode.split_node as made_split}
 use Rattle.rg_reasons.specs.Certificates.{IsFormOf, IsNodeOf}
 use Rattle.rg_branch.specs.View.{TreeNode, TreeNode.leaf_node, TreeNode.split_node}
 use Rattle.rg_branch.specs.Asked.{IsSideOf}
@@ -44,6 +43,8 @@ use Rattle.rg_separate.specs.Passing.{passed_at}
 use Rattle.rg_separate.proofs.Factors.{weights_are, weights_few}
 use Rattle.rg_separate.proofs.PlaceOfPoint.{asked, case_over}
 use Rattle.rg_separate.proofs.Walking.{IsWalk, walk_leaf}
+use Rattle.rg_refuting.specs.declared.RowName.{RowName}
+use Rattle.rg_refuting.specs.declared.Form.TheVariants as split_form
 
 -- ---- the forms of a class are of the system
 
@@ -51,14 +52,15 @@ pub forms_of_system : (lts : System) (class : Class) (problem : Problem) → All
 forms_of_system lts class problem i d lt = by (get_or (split_forms lts class problem) i d) (split_is lts class problem (get_or (split_forms lts class problem) i d) (i, lt, get_or_default (split_forms lts class problem) i (get_or (split_forms lts class problem) i d) d lt))
   where
     by : (split : SplitForm) → IsSplitOf lts class problem split → IsFormOf lts split
-    by (on_tokens q) (bound, below) = below
-    by (on_effect t) (bound, plain, used, below) = below
-    by on_start splits = tt
+    by (split_form.Tokens q) (bound, below) = below
+    by (split_form.Effect t) (bound, plain, used, below) = below
+    by split_form.Start splits = tt
 
 pub sides_of_system : (lts : System) (class : Class) (problem : Problem) (sides : List SplitSide) → All (λ side. side.form < length (split_forms lts class problem)) sides → All (λ s. IsFormOf lts s.form) (named_sides lts class problem sides)
 sides_of_system lts class problem sides all =
     All-map (λ (s : Side). IsFormOf lts s.form) (named_side lts class problem) sides
-    (All-weaker (λ (side : SplitSide). side.form < length (split_forms lts class problem)) (λ (side : SplitSide). IsFormOf lts (slice_index_or (split_forms lts class problem) side.form (on_tokens 0))) (λ side lt. forms_of_system lts class problem side.form (on_tokens 0) lt) sides all)
+    (All-weaker (λ (side : SplitSide). side.form < length (split_forms lts class problem)) (λ (side : SplitSide). IsFormOf lts (slice_index_or (split_forms lts class problem) side.form (split_form.Tokens 0)))
+    (λ side lt. forms_of_system lts class problem side.form (split_form.Tokens 0) lt) sides all)
 
 -- ---- what is shown where a leaf passes
 
@@ -107,10 +109,10 @@ pub shares_named : (c : CaseSetting) (named : NamedSystem) (system : IsNamedSyst
     → ShowsCase named case → each (share_fold case sides (named_sides c.setting.lts.now c.setting.class c.problem sides)) weights result
 shares_named c named system sides weights result fold case shows = subst (λ (ss : List Side). each (share_fold case sides ss) weights result) (ap (λ fs. sides_among fs sides) system.by_name) (fold case shows)
 
-pub leaf_asked : (c : CaseSetting) (named : NamedSystem) (sides : List SplitSide) (above : List SideOfCode) (weights : List Weight)
-    (shares : List (NameOfCode × Fraction)) → IsCase c → IsNamedSystem c named
+pub leaf_asked : (c : CaseSetting) (named : NamedSystem) (sides : List SplitSide) (above : List Side) (weights : List Weight)
+    (shares : List (RowName × Fraction)) → IsCase c → IsNamedSystem c named
     → VisitStands named.system (forms_in named) (record { sides = sides; node = leaf_node weights })
-    → map side_of above ≡ named_sides c.setting.lts.now c.setting.class c.problem sides → length shares ≡ length weights
+    → above ≡ named_sides c.setting.lts.now c.setting.class c.problem sides → length shares ≡ length weights
     → SharesFold named sides weights (Ok (map share_of shares))
     → RefutesCase c.setting.lts.now c.setting.tree.now c.setting.basis.now c.setting.class c.problem c.number shares above
 leaf_asked c named sides above weights shares is system stands by_name count fold = record {
@@ -128,7 +130,7 @@ leaf_asked c named sides above weights shares is system stands by_name count fol
   names = node_names_in_range lts tree cycle class problem number system.case over sides within (let f = stands.few in omega arith) refuting.multiplier (map share_of shares) made;
   refute = subst (λ ss. SharesRefute lts (row_expression lts class problem number ss) (map share_of shares)) (sym by_name) (node_shares_refute lts tree cycle class problem number system.case over sides within is.live refuting.multiplier refuting.refute (map share_of shares) made);
   few_rows = (let w = ap length refuting.weights_are in let f = weights_few refuting.multiplier 0 (length (node_system (rows_of system.case) system.case.forms sides).rows) in let g = refuting.few in let e = count in omega arith);
-  few_sides = (let e = sym (length-map above side_of) ∙ ap length by_name ∙ length-map sides (named_side lts class problem) in let f = stands.few in omega arith);
+  few_sides = (let e = ap length by_name ∙ length-map sides (named_side lts class problem) in let f = stands.few in omega arith);
 }
   where
     lts : System
@@ -190,14 +192,14 @@ lows_of lts arcs basis class (s ∷ splits) forms (x, (scaled, made, is), (more,
     (All-cons (λ (f : Form). negsuc 0 ≤ℤ f.low) x more (subst (λ (z : ℤ). negsuc 0 ≤ℤ z) (let t : form_low s ≡ x.low = (let u = is in cc) in t) (low s)) (lows_of lts arcs basis class splits more rest))
   where
     low : (split : SplitForm) → negsuc 0 ≤ℤ form_low split
-    low (on_tokens q) = omega (arith, ints)
-    low (on_effect t) = omega (arith, ints)
-    low on_start = omega (arith, ints)
+    low (split_form.Tokens q) = omega (arith, ints)
+    low (split_form.Effect t) = omega (arith, ints)
+    low split_form.Start = omega (arith, ints)
 
-pub split_fits : (c : CaseSetting) (named : NamedSystem) (f : ℕ) (u : ℤ) (d : NamedForm) → IsNamedSystem c named → f < length (forms_in named) → (form_at (forms_in named) f).low ≤ℤ u → FitsSigned w64 u → IsNodeOf c.setting.lts.now (made_split (form_of (get_or named.forms.items f d).form) u)
+pub split_fits : (c : CaseSetting) (named : NamedSystem) (f : ℕ) (u : ℤ) (d : NamedForm) → IsNamedSystem c named → f < length (forms_in named) → (form_at (forms_in named) f).low ≤ℤ u → FitsSigned w64 u → IsNodeOf c.setting.lts.now (made_split (get_or named.forms.items f d).form u)
 split_fits c named f u d system lt le fits = (
-  subst (IsFormOf c.setting.lts.now) (ap (λ fs. get_or fs f (on_tokens 0)) (sym system.by_name) ∙ get_or-map split_of named.forms.items f d (on_tokens 0) within)
-      (forms_of_system c.setting.lts.now c.setting.class c.problem f (on_tokens 0)
+  subst (IsFormOf c.setting.lts.now) (ap (λ fs. get_or fs f (split_form.Tokens 0)) (sym system.by_name) ∙ get_or-map split_of named.forms.items f d (split_form.Tokens 0) within)
+      (forms_of_system c.setting.lts.now c.setting.class c.problem f (split_form.Tokens 0)
       (let e = sym (length-map named.forms.items split_of) ∙ ap length system.by_name in let w = within in omega arith)),
   above u fits (let l = least in omega (arith, ints)),
 )

@@ -4,7 +4,9 @@ use Rattle.std.specs.Prelude.{ℤ, slice_index_or}
 use Rattle.std.proofs.lemmas.List.{map-append, length-map, get_or_default}
 use Rattle.std.proofs.Math.Seq.{get_or-append_seam}
 use Rattle.std.proofs.lemmas.List.Elements.{All-nil, All-push, All-head, All-tail}
-use Rattle.rg_refuting.specs.Row.{Form as SplitForm, Form.on_tokens, Form.on_effect, Form.on_start, FormStands, Side}
+use Rattle.rg_refuting.specs.Row.{FormStands}
+use Rattle.rg_refuting.specs.declared.Form.{Form}
+use Rattle.rg_refuting.specs.declared.Side.{Side}
 use Rattle.rg_theory.specs.System.{System}
 use Rattle.rg_theory.specs.declared.Class.{Class}
 use Rattle.rg_theory.specs.declared.Problem.{Problem}
@@ -33,24 +35,25 @@ use Rattle.rg_separate.specs.Casing.{IsNamedSystem, forms_in, Visit, visits, nex
 use Rattle.rg_separate.specs.Passing.{passed_at}
 use Rattle.rg_separate.specs.Deciding.{RefutesCase, CaseComesTo}
 use Rattle.rg_separate.proofs.Visits.{Follows, tree_follows, nodes_visited, IsLeafOf, leaves_visited, visits_stand}
+use Rattle.rg_refuting.specs.declared.Form.TheVariants as split_form
 
 -- ---- the form of a split stands in the class
 
-held_or : (P : SplitForm → Type 0) (xs : List SplitForm) (f : ℕ) (d : SplitForm) → All P xs → P d → P (slice_index_or xs f d)
+held_or : (P : Form → Type 0) (xs : List Form) (f : ℕ) (d : Form) → All P xs → P d → P (slice_index_or xs f d)
 held_or P [] f d all h = h
 held_or P (x ∷ xs) zero d all h = All-head P x xs all
 held_or P (x ∷ xs) (suc f) d all h = held_or P xs f d (All-tail P x xs all) h
 
-pub form_stands : (lts : System) (class : Class) (problem : Problem) (f : ℕ) → FormStands class (slice_index_or (split_forms lts class problem) f (on_tokens 0))
-form_stands lts class problem f = held_or (FormStands class) (split_forms lts class problem) f (on_tokens 0)
+pub form_stands : (lts : System) (class : Class) (problem : Problem) (f : ℕ) → FormStands class (slice_index_or (split_forms lts class problem) f (split_form.Tokens 0))
+form_stands lts class problem f = held_or (FormStands class) (split_forms lts class problem) f (split_form.Tokens 0)
     (λ i d lt. by (get_or (split_forms lts class problem) i d)
     (split_is lts class problem (get_or (split_forms lts class problem) i d)
     (i, lt, get_or_default (split_forms lts class problem) i (get_or (split_forms lts class problem) i d) d lt))) tt
   where
-    by : (split : SplitForm) → IsSplitOf lts class problem split → FormStands class split
-    by (on_tokens q) h = tt
-    by (on_effect t) h = tt
-    by on_start splits = (start_split class problem splits).0
+    by : (split : Form) → IsSplitOf lts class problem split → FormStands class split
+    by (split_form.Tokens q) h = tt
+    by (split_form.Effect t) h = tt
+    by split_form.Start splits = (start_split class problem splits).0
 
 -- ---- nodes beside the visits of which they are made
 
@@ -104,18 +107,18 @@ module _ (c : CaseSetting) (named : NamedSystem) where
         spreads = λ case shows. (one.made, two.made, one.spreads case shows, two.spreads case shows, ap₂ (λ g z. split_of g z one.made two.made) by_name number_is);
       }
     where
-      below : (side : SplitSide) (is_high : Bool) → form ≡ slice_index_or (split_forms c.setting.lts.now c.setting.class c.problem) f (on_tokens 0) → at ≡ u
+      below : (side : SplitSide) (is_high : Bool) → form ≡ slice_index_or (split_forms c.setting.lts.now c.setting.class c.problem) f (split_form.Tokens 0) → at ≡ u
           → side.form ≡ f → side.at ≡ u → side.high ≡ is_high → named_sides c.setting.lts.now c.setting.class c.problem
           (above ++ side ∷ []) ≡ named_sides c.setting.lts.now c.setting.class c.problem above ++ record { form = form; at = at; high = is_high } ∷ []
       below side is_high by_name number_is e g h =
           map-append (named_side c.setting.lts.now c.setting.class c.problem) above (side ∷ [])
           ∙ ap (λ side'. named_sides c.setting.lts.now c.setting.class c.problem above ++ side' ∷ []) (same side.form side.at side.high e g h)
         where
-          side_by : SplitForm → ℤ → Bool → Side
+          side_by : Form → ℤ → Bool → Side
           side_by form at high = record { form = form; at = at; high = high }
 
-          same : (x : ℕ) (y : ℤ) (z : Bool) → x ≡ f → y ≡ u → z ≡ is_high → side_by (slice_index_or (split_forms c.setting.lts.now c.setting.class c.problem) x (on_tokens 0)) y z ≡ side_by form at is_high
-          same x y z e g h = ap (λ k. side_by (slice_index_or (split_forms c.setting.lts.now c.setting.class c.problem) k (on_tokens 0)) y z) e ∙ ap (λ g. side_by g y z) (sym by_name) ∙ ap (λ k. side_by form k z) (g ∙ sym number_is) ∙ ap (side_by form at) h
+          same : (x : ℕ) (y : ℤ) (z : Bool) → x ≡ f → y ≡ u → z ≡ is_high → side_by (slice_index_or (split_forms c.setting.lts.now c.setting.class c.problem) x (split_form.Tokens 0)) y z ≡ side_by form at is_high
+          same x y z e g h = ap (λ k. side_by (slice_index_or (split_forms c.setting.lts.now c.setting.class c.problem) k (split_form.Tokens 0)) y z) e ∙ ap (λ g. side_by g y z) (sym by_name) ∙ ap (λ k. side_by form k z) (g ∙ sym number_is) ∙ ap (side_by form at) h
 
   -- ---- the first leaf that passes
 

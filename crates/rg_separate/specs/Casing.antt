@@ -1,7 +1,9 @@
 -- One case: its system, and what its branching leaves.
 use Rattle.std.specs.Prelude.{◌≡◌, ℕ, ◌^◌, ◌<◌, List, [], ◌∷◌, ◌++◌, map, length, slice_index_or, ℤ, ◌≤ℤ◌, Result, Ok, Err}
 use Rattle.rg_theory.specs.Problem.{IsProblem}
-use Rattle.rg_refuting.specs.Row.{Form as SplitForm, Form.on_tokens, Side, RowStands, row_expression, cases_of}
+use Rattle.rg_refuting.specs.Row.{RowStands, row_expression, cases_of}
+use Rattle.rg_refuting.specs.declared.Form.{Form as SplitForm}
+use Rattle.rg_refuting.specs.declared.Side.{Side}
 use Rattle.rg_refuting.specs.Refutes.{NamedRow, LeafRefutes}
 use Rattle.rg_integers.specs.declared.term.Wide.{Wide}
 use Rattle.rg_linear.specs.System.{LinearSystem, AreFarkasMultipliers}
@@ -21,6 +23,7 @@ use Rattle.rg_reasons.specs.Trees as reasons
 use Rattle.rg_reasons.specs.Trees.{TreeNode.leaf_node as made_leaf, TreeNode.split_node as made_split}
 use Rattle.rg_separate.specs.declared.setting.CaseSetting.{CaseSetting}
 use Rattle.rg_separate.specs.Keeping.{IsSetting}
+use Rattle.rg_refuting.specs.declared.Form.TheVariants as split_form
 
 -- the problem is of the system, its label has an arc, and the case is one of its cases
 pub record IsCase (c : CaseSetting) : Type 0 where
@@ -80,7 +83,7 @@ pub record VisitStands (system : LinearSystem) (forms : List Form) (v : Visit) :
 
 -- the sides with their forms by name
 abbrev pub sides_among : List SplitForm → List SplitSide → List Side
-sides_among forms sides = map (λ side. record { form = slice_index_or forms side.form (on_tokens 0); at = side.at; high = side.high }) sides
+sides_among forms sides = map (λ side. record { form = slice_index_or forms side.form (split_form.Tokens 0); at = side.at; high = side.high }) sides
 
 -- the rows refute the case below the sides, and are the leaf of the weights
 pub record IsLeafMade (c : CaseSetting) (named : NamedSystem) (above : List SplitSide) (weights : List Weight) (rows : List NamedRow) : Type 0 where
@@ -92,7 +95,7 @@ abbrev pub IsMadeOf : CaseSetting → NamedSystem → List SplitSide → TreeNod
 IsMadeOf c named above (leaf_node weights) (made_leaf rows) = IsLeafMade c named above weights rows
 IsMadeOf c named above (leaf_node weights) (made_split form at) = ⊥
 IsMadeOf c named above (split_node f u) (made_leaf rows) = ⊥
-IsMadeOf c named above (split_node f u) (made_split form at) = (form ≡ slice_index_or (split_forms c.setting.lts.now c.setting.class c.problem) f (on_tokens 0)) × (at ≡ u)
+IsMadeOf c named above (split_node f u) (made_split form at) = (form ≡ slice_index_or (split_forms c.setting.lts.now c.setting.class c.problem) f (split_form.Tokens 0)) × (at ≡ u)
 
 -- the shares of the weights below the sides: the fold's result
 abbrev pub SharesFold : NamedSystem → List SplitSide → List Weight → Result (List Share) Wide → Type 0

@@ -2,7 +2,6 @@
 use Rattle.std.specs.Prelude.{map}
 use Rattle.rg_order_of_work.specs.Shown as shown
 use Rattle.rg_order_of_work.specs.Shown.{Shown}
-use Rattle.rg_reasons.specs.Sums.{side_of}
 use Rattle.rg_reasons.specs.declared.wide_at.Stage.{Stage}
 use Rattle.rg_reasons.specs.declared.wide_at.Stage.TheVariants.{Cycle, Row, Pivot, Place, Spread}
 use Rattle.rg_reasons.specs.declared.wide_at.WideAt.{WideAt}
@@ -20,7 +19,7 @@ shown_of w = record {
   stage = stage_of w.stage;
   problem = w.problem;
   case_number = w.case;
-  above = map side_of w.above.items;
+  above = w.above.items;
   members = w.members.items;
   pivot_variable = w.pivot;
   leaves = w.leaves;

@@ -1,7 +1,6 @@
 //! One case of a problem.
 ghost use Rattle.std.specs.Prelude.{◌≡◌, map, IfOk};
 ghost use Rattle.rg_linear.specs.Branching.{form_at};
-ghost use Rattle.rg_reasons.specs.Sums.{side_of};
 ghost use Rattle.rg_branch.specs.View.{forms_of, sides_of};
 ghost use Rattle.rg_branch.specs.Asked.{CanBranch, AreSidesOf};
 ghost use Rattle.rg_rows.specs.Forms.{linear_form, split_of, AreFormsOf};
@@ -19,7 +18,8 @@ use rg_feasible::PivotWide;
 use rg_fraction::FoldStop;
 use rg_integers::Wide;
 use rg_marks::RegionPlace;
-use rg_reasons::{Case, Side, Stage, WideAt};
+use rg_reasons::{Case, Stage, WideAt};
+use rg_refuting::Side;
 use rg_rows::{NamedForm, NamedSystem, system_with};
 use std::alloc::{AllocError, Global};
 
@@ -111,7 +111,7 @@ pub(crate) fn passed(
     above: Vec<Side>,
     wide: Wide,
 ) -> WideAt
-    ensures { shown_of result ≡ passed_at stage c.entry (map side_of above.items) wide }
+    ensures { shown_of result ≡ passed_at stage c.entry above.items wide }
 {
     WideAt {
         stage,
@@ -129,7 +129,7 @@ pub(crate) fn passed(
 
 // The term of an exchange that is out of range, below these sides and at this set.
 fn stopped(c: CaseSetting<'_>, above: Vec<Side>, members: Vec<u32>, at: PivotWide) -> WideAt
-    ensures { shown_of result ≡ pivot_at c.entry (map side_of above.items) members.items at }
+    ensures { shown_of result ≡ pivot_at c.entry above.items members.items at }
 {
     WideAt {
         stage: Stage::Pivot,

@@ -6,7 +6,6 @@ ghost use Rattle.rg_integers.specs.Range.{InRange};
 ghost use Rattle.rg_order_of_work.specs.Fold.{whole, ratio_of, shown_result};
 ghost use Rattle.rg_order_of_work.specs.Rewriting.{CaseSystem};
 ghost use Rattle.rg_order_of_work.specs.Spreading.{share_fold, name_of, split_factor, factor_of};
-ghost use Rattle.rg_reasons.specs.Trees.{row_name_of};
 ghost use Rattle.rg_branch.specs.View.{sides_of, weight_of};
 ghost use Rattle.rg_rows.specs.Forms.{linear_form, split_of};
 ghost use Rattle.rg_rows.specs.Shown.{ShowsCase};
@@ -15,7 +14,7 @@ ghost use Rattle.rg_separate.specs.Casing.{sides_among, SharesFold};
 
 use rg_fraction::{FoldStop, Fraction};
 use rg_integers::Wide;
-use rg_reasons::{Form, RowName};
+use rg_refuting::{Form, RowName};
 use rg_rows::{NamedForm, NamedSystem};
 use std::alloc::Global;
 
@@ -72,7 +71,7 @@ fn row_of(named: &NamedSystem, above: &[(u32, i64, bool)], row: u32) -> (RowName
     requires sides { All (λ s. s.form < length named.now.forms.items) (sides_of above.now) }
     requires scales { All (λ f. InRange f.scale) named.now.forms.items }
     requires row { row < length named.now.system.rows + length above.now }
-    ensures name { (case : CaseSystem) → ShowsCase named.now case → row_name_of result.0 ≡ name_of case row }
+    ensures name { (case : CaseSystem) → ShowsCase named.now case → result.0 ≡ name_of case row }
     ensures factor { (case : CaseSystem) → ShowsCase named.now case → ratio_of result.1 ≡ factor_of case (sides_of above.now) (sides_among (map split_of named.now.forms.items) (sides_of above.now)) row }
 {
     let rows = named.system.rows().len();

@@ -1,11 +1,10 @@
 //! The sides of splits, with their forms by name.
 ghost use Rattle.std.specs.Prelude.{◌≡◌, ◌<◌, length, map, All, IfOk};
-ghost use Rattle.rg_reasons.specs.Sums.{side_of};
 ghost use Rattle.rg_branch.specs.View.{sides_of};
 ghost use Rattle.rg_rows.specs.Forms.{split_of};
 ghost use Rattle.rg_separate.specs.Casing.{sides_among};
 
-use rg_reasons::Side;
+use rg_refuting::Side;
 use rg_rows::NamedForm;
 use std::alloc::{AllocError, Global};
 
@@ -16,7 +15,7 @@ pub(crate) fn named_sides(
     above: &[(u32, i64, bool)],
 ) -> Result<Vec<Side>, AllocError>
     requires { All (λ s. s.form < length forms.now) (sides_of above.now) }
-    ensures { IfOk result (λ v. map side_of v.items ≡ sides_among (map split_of forms.now) (sides_of above.now)) }
+    ensures { IfOk result (λ v. v.items ≡ sides_among (map split_of forms.now) (sides_of above.now)) }
 {
     let mut sides = Vec::new(alloc);
     for &(form, at, high) in above {

@@ -2,8 +2,9 @@
 use rg_case_parts::{count, start};
 use rg_lts::Lts;
 use rg_reasons::Term::{Minus, Plus};
-use rg_reasons::Variable::{Effect, Tokens};
-use rg_reasons::{Expression, Form, ProblemCase, RowName, Side, expression};
+use rg_reasons::{Expression, ProblemCase, expression};
+use rg_refuting::Variable::{Effect, Tokens};
+use rg_refuting::{Form, RowName, Side};
 use rg_samples::{ABA, NONBRANCHING, NONE, system};
 use rg_spanning::Tree;
 use rg_theory::Problem::{Event, States};

@@ -14,7 +14,7 @@ use rg_cycles::Basis;
 use rg_fraction::Fraction;
 use rg_linear::Row;
 use rg_lts::Lts;
-use rg_reasons::RowName;
+use rg_refuting::RowName;
 use rg_rows::{Common, NamedForm, NamedSystem, cases, system_with};
 use rg_samples::{
     ABA, CHOICE, CYCLE, IN_TURN, LOOP_AND_STEP, NONBRANCHING, NONE, PLAIN, PURE, SAFE, STEP, system,

@@ -14,9 +14,10 @@ use Rattle.rg_theory.proofs.Lists.{find_any}
 use Rattle.rg_lts.proofs.OrderedArcs.{Ordered, has_from}
 use Rattle.rg_integers.specs.Sum.{sum_over}
 use Rattle.rg_integers.proofs.ListSums.{sum_over-same, sum_over-zero}
-use Rattle.rg_refuting.specs.Expression.{Variable, Variable.effect_of, Expression, coefficient_in, value_of, numbers_by}
-use Rattle.rg_refuting.specs.Row.{RowName, RowName.arc_row, RowName.tokens_row, RowName.cap_row, RowName.up_row, RowName.down_row, RowName.makes_row, RowName.stop_row, RowName.block_row, RowName.empty_row, RowName.full_row}
-use Rattle.rg_refuting.specs.Row.{RowName.keep_row, RowName.apart_row, RowName.above_row, SharedStands, shared_expression, EventStands, event_expression, consumer_of, RowStands, row_expression, Says}
+use Rattle.rg_refuting.specs.Expression.{Expression, coefficient_in, value_of, numbers_by}
+use Rattle.rg_refuting.specs.declared.Variable.{Variable}
+use Rattle.rg_refuting.specs.declared.RowName.{RowName}
+use Rattle.rg_refuting.specs.Row.{SharedStands, shared_expression, EventStands, event_expression, consumer_of, RowStands, row_expression, Says}
 use Rattle.rg_refuting.specs.Refutes.{NamedRow, IsMultiplier, coefficient_sum, constant_sum, LeafRefutes, IsSeparationProblem}
 use Rattle.rg_refuting.proofs.Rows.{Says-times}
 use Rattle.rg_refuting.proofs.Sums.{no_contradiction}
@@ -25,6 +26,8 @@ use Rattle.rg_outcome.proofs.Decided.{Decided, find_number}
 use Rattle.rg_split.specs.Parts.{arc_multiplier, Counts}
 use Rattle.rg_split.proofs.ArcSums.{is_arc, IsArcOf, parted, others, sum_of_others, others_have}
 use Rattle.rg_split.proofs.Signs.{is_zero, some_positive, some_negative}
+use Rattle.rg_refuting.specs.declared.RowName.TheVariants as row_name
+use Rattle.rg_refuting.specs.declared.Variable.TheVariants.{Effect}
 
 -- ---- rows that stand among all nets
 
@@ -34,7 +37,7 @@ one_but low = numbers_by (λ q. if q == low then 0 else 1) (λ t. pos 0)
 
 -- no label's effect is in the row, and it holds of these numbers
 record IsFine (low : ℕ) (e : Expression) : Type 0 where
-  pub no_effect : (t : ℕ) → coefficient_in e.terms (effect_of t) ≡ pos 0
+  pub no_effect : (t : ℕ) → coefficient_in e.terms (Effect t) ≡ pos 0
   pub holds : pos 0 ≤ℤ value_of (one_but low) e
 
 token_or_none : (b : Bool) → pos 0 ≤ℤ (((pos 1 *ℤ pos (if b then 0 else 1)) +ℤ pos 0) +ℤ pos 0)
@@ -47,33 +50,33 @@ one_more false true e f = omega (arith, ints)
 one_more false false e f = absurd cc
 
 shared_fine : (lts : System) (low consumer : ℕ) (name : RowName) → SharedStands lts no_condition consumer [] name → is_arc name ≡ false → IsFine low (shared_expression lts no_condition [] name)
-shared_fine lts low consumer (arc_row q t q') stands other = absurd cc
-shared_fine lts low consumer (tokens_row q) stands other = record { no_effect = λ t. (omega (arith, ints)); holds = token_or_none (q == low) }
-shared_fine lts low consumer (cap_row q) (lt, stands) other = absurd cc
-shared_fine lts low consumer (up_row t) (lt, stands) other = absurd cc
-shared_fine lts low consumer (down_row t) (lt, stands) other = absurd cc
-shared_fine lts low consumer (makes_row t) (lt, stands, differ) other = absurd cc
-shared_fine lts low consumer (above_row d) stands other = absurd stands
-shared_fine lts low consumer (stop_row q) stands other = absurd stands
-shared_fine lts low consumer block_row stands other = absurd stands
-shared_fine lts low consumer empty_row stands other = absurd stands
-shared_fine lts low consumer (full_row q) stands other = absurd stands
-shared_fine lts low consumer keep_row stands other = absurd stands
-shared_fine lts low consumer apart_row stands other = absurd stands
+shared_fine lts low consumer (row_name.Arc a) stands other = absurd cc
+shared_fine lts low consumer (row_name.Tokens q) stands other = record { no_effect = λ t. (omega (arith, ints)); holds = token_or_none (q == low) }
+shared_fine lts low consumer (row_name.Cap q) (lt, stands) other = absurd cc
+shared_fine lts low consumer (row_name.Up t) (lt, stands) other = absurd cc
+shared_fine lts low consumer (row_name.Down t) (lt, stands) other = absurd cc
+shared_fine lts low consumer (row_name.Makes t) (lt, stands, differ) other = absurd cc
+shared_fine lts low consumer (row_name.Above d) stands other = absurd stands
+shared_fine lts low consumer (row_name.Stop q) stands other = absurd stands
+shared_fine lts low consumer row_name.Block stands other = absurd stands
+shared_fine lts low consumer row_name.Empty stands other = absurd stands
+shared_fine lts low consumer (row_name.Full q) stands other = absurd stands
+shared_fine lts low consumer row_name.Keep stands other = absurd stands
+shared_fine lts low consumer row_name.Apart stands other = absurd stands
 
 event_fine : (lts : System) (s t : ℕ) (name : RowName) → IsSeparationProblem lts (Event s t) → EventStands lts no_condition s t [] name → is_arc name ≡ false → IsFine s (event_expression lts no_condition s t [] name)
-event_fine lts s t (stop_row q) asked (not_pure, not_plain, (q', has)) other = record {
+event_fine lts s t (row_name.Stop q) asked (not_pure, not_plain, (q', has)) other = record {
   no_effect = λ u. (omega (arith, ints));
   holds = one_more (q == s) (s == s) (ne_eqb q s (λ same. asked.2 q' (subst (λ x. HasArc lts x t q') same has))) (eq-eqb s s refl);
 }
-event_fine lts s t block_row asked stands other = absurd cc
-event_fine lts s t empty_row asked (plain, not_pure) other = absurd cc
-event_fine lts s t (full_row q) asked (plain, not_pure, has) other = absurd cc
-event_fine lts s t keep_row asked (plain, not_pure) other = absurd cc
+event_fine lts s t row_name.Block asked stands other = absurd cc
+event_fine lts s t row_name.Empty asked (plain, not_pure) other = absurd cc
+event_fine lts s t (row_name.Full q) asked (plain, not_pure, has) other = absurd cc
+event_fine lts s t row_name.Keep asked (plain, not_pure) other = absurd cc
 event_fine lts s t name asked stands other = shared_fine lts s t name stands other
 
 states_fine : (lts : System) (s s' : ℕ) (name : RowName) → IsSeparationProblem lts (States s s') → RowStands lts no_condition (States s s') 0 [] name → is_arc name ≡ false → IsFine s (row_expression lts no_condition (States s s') 0 [] name)
-states_fine lts s s' apart_row asked stands other = record {
+states_fine lts s s' row_name.Apart asked stands other = record {
   no_effect = λ u. (omega (arith, ints));
   holds = one_more (s' == s) (s == s) (ne_eqb s' s (λ same. asked.2 (sym same))) (eq-eqb s s refl);
 }
@@ -89,8 +92,8 @@ row_fine lts (Event s t) name asked stands other = event_fine lts s t name asked
 row_fine lts (States s s') name asked stands other = states_fine lts s s' name asked stands other
 
 arc_there : (lts : System) (problem : Problem) (name : RowName) → RowStands lts no_condition problem 0 [] name → IsArcOf lts.arcs name
-arc_there lts (Event s t) (arc_row q u q') has = has_from lts.arcs (arc q u q') has
-arc_there lts (States s s') (arc_row q u q') has = has_from lts.arcs (arc q u q') has
+arc_there lts (Event s t) (row_name.Arc a) has = has_from lts.arcs a has
+arc_there lts (States s s') (row_name.Arc a) has = has_from lts.arcs a has
 arc_there lts problem name stands = tt
 
 -- ---- a leaf that refutes
@@ -100,7 +103,7 @@ abbrev pub RefutesFirst : System → Problem → List NamedRow → Type 0
 RefutesFirst lts problem rows = LeafRefutes (RowStands lts no_condition problem 0 []) (row_expression lts no_condition problem 0 []) rows
 
 says_from : (name : RowName) (z : ℤ) → is_arc name ≡ false → pos 0 ≤ℤ z → Says name z
-says_from (arc_row q t q') z other h = absurd cc
+says_from (row_name.Arc a) z other h = absurd cc
 says_from name z other h = h
 
 module _ (lts : System) (problem : Problem) (rows : List NamedRow) (ordered : Ordered lts.arcs) (asked : IsSeparationProblem lts problem) (refutes : RefutesFirst lts problem rows) where
@@ -192,12 +195,12 @@ module _ (lts : System) (problem : Problem) (rows : List NamedRow) (ordered : Or
   at_label t a = if a.label == t then arc_multiplier rows a else pos 0
 
   abbrev effect_at : ℕ → RowName → ℤ
-  effect_at t name = coefficient_in (expression_at name).terms (effect_of t)
+  effect_at t name = coefficient_in (expression_at name).terms (Effect t)
 
   effect_of_arc : (t : ℕ) (a : Arc) → arc_multiplier rows a *ℤ effect_at t (arc_name a) ≡ at_label t a
   effect_of_arc t a = by (a.label == t) (arc_multiplier rows a) (coefficient_is problem)
     where
-      coefficient_is : (p : Problem) → coefficient_in (row_expression lts no_condition p 0 [] (arc_name a)).terms (effect_of t) ≡ pos 0 +ℤ ((if a.label == t then pos 1 else pos 0) +ℤ (pos 0 +ℤ pos 0))
+      coefficient_is : (p : Problem) → coefficient_in (row_expression lts no_condition p 0 [] (arc_name a)).terms (Effect t) ≡ pos 0 +ℤ ((if a.label == t then pos 1 else pos 0) +ℤ (pos 0 +ℤ pos 0))
       coefficient_is (Event s u) = refl
       coefficient_is (States s s') = refl
 
@@ -209,7 +212,7 @@ module _ (lts : System) (problem : Problem) (rows : List NamedRow) (ordered : Or
   label_sum t =
       let whole = parts (effect_at t) in
       let none : sum_over (λ r. r.multiplier *ℤ effect_at t r.name) (others rows) ≡ pos 0 = sum_over-zero (λ r. r.multiplier *ℤ effect_at t r.name) (others rows) no_effect in
-      let sum : sum_over (λ r. r.multiplier *ℤ effect_at t r.name) rows ≡ pos 0 = refutes.cancels (effect_of t) in
+      let sum : sum_over (λ r. r.multiplier *ℤ effect_at t r.name) rows ≡ pos 0 = refutes.cancels (Effect t) in
       let same : sum_over (λ a. arc_multiplier rows a *ℤ effect_at t (arc_name a)) lts.arcs ≡ sum_over (at_label t) lts.arcs = sum_over-same (λ a. arc_multiplier rows a *ℤ effect_at t (arc_name a)) (at_label t) lts.arcs (λ a has. effect_of_arc t a) in
       omega (arith, ints)
     where

@@ -15,9 +15,11 @@ use Rattle.rg_lts.specs.WellFormed.{IsWellFormed}
 use Rattle.rg_integers.specs.Range.{InRange}
 use Rattle.rg_integers.specs.Sign.{size}
 use Rattle.rg_integers.specs.declared.term.Wide.{Wide}
-use Rattle.rg_refuting.specs.Expression.{Variable, Variable.tokens_at, Variable.effect_of, Expression, coefficient_in}
-use Rattle.rg_refuting.specs.Row.{Side, RowName, RowName.arc_row, RowName.tokens_row, RowName.cap_row, RowName.up_row, RowName.down_row, RowName.makes_row, RowName.stop_row, RowName.block_row, RowName.empty_row}
-use Rattle.rg_refuting.specs.Row.{RowName.full_row, RowName.keep_row, RowName.apart_row, RowName.above_row, SharedStands, shared_expression, EventStands, event_expression, consumer_of, RowStands, row_expression}
+use Rattle.rg_refuting.specs.Expression.{Expression, coefficient_in}
+use Rattle.rg_refuting.specs.declared.Variable.{Variable}
+use Rattle.rg_refuting.specs.declared.Side.{Side}
+use Rattle.rg_refuting.specs.declared.RowName.{RowName}
+use Rattle.rg_refuting.specs.Row.{SharedStands, shared_expression, EventStands, event_expression, consumer_of, RowStands, row_expression}
 use Rattle.rg_refuting.specs.Refutes.{NamedRow, IsSeparationProblem}
 use Rattle.rg_linear.specs.System.{AreFarkasMultipliers}
 use Rattle.rg_linear.specs.Cycle.{CycleBasis}
@@ -39,6 +41,8 @@ use Rattle.rg_farkas.proofs.Small.{each_made, has_variable}
 use Rattle.rg_outcome.proofs.Steps.{Each, IsOver, makes_each, product_over}
 use Rattle.rg_split.proofs.AllNets.{no_numbers}
 use Rattle.rg_split.proofs.Counting.{RefutesFirst}
+use Rattle.rg_refuting.specs.declared.RowName.TheVariants as row_name
+use Rattle.rg_refuting.specs.declared.Variable.TheVariants.{Tokens, Effect}
 
 -- ---- what is made in a sum
 
@@ -75,34 +79,34 @@ middle_of_three t = ap (λ b. pos 0 +ℤ ((if b then pos 1 else pos 0) +ℤ (pos
 
 module _ (lts : System) (fine : IsInRange lts) where
   shared_unit : (consumer : ℕ) (name : RowName) → SharedStands lts no_condition consumer [] name → IsRowNameOf lts name → HasUnit lts (shared_expression lts no_condition [] name)
-  shared_unit consumer (arc_row q t q') has names = record { variable = effect_of t; within = (arc_in_range lts fine q t q' has).1; once = middle_of_three t }
-  shared_unit consumer (tokens_row q) stands names = record { variable = tokens_at q; within = names; once = one_term q }
-  shared_unit consumer (cap_row q) (lt, stands) names = absurd cc
-  shared_unit consumer (up_row t) (lt, stands) names = absurd cc
-  shared_unit consumer (down_row t) (lt, stands) names = absurd cc
-  shared_unit consumer (makes_row t) (lt, stands, differ) names = absurd cc
-  shared_unit consumer (above_row d) stands names = absurd stands
-  shared_unit consumer (stop_row q) stands names = absurd stands
-  shared_unit consumer block_row stands names = absurd stands
-  shared_unit consumer empty_row stands names = absurd stands
-  shared_unit consumer (full_row q) stands names = absurd stands
-  shared_unit consumer keep_row stands names = absurd stands
-  shared_unit consumer apart_row stands names = absurd stands
+  shared_unit consumer (row_name.Arc a) has names = record { variable = Effect a.label; within = (arc_in_range lts fine a.from a.label a.to has).1; once = middle_of_three a.label }
+  shared_unit consumer (row_name.Tokens q) stands names = record { variable = Tokens q; within = names; once = one_term q }
+  shared_unit consumer (row_name.Cap q) (lt, stands) names = absurd cc
+  shared_unit consumer (row_name.Up t) (lt, stands) names = absurd cc
+  shared_unit consumer (row_name.Down t) (lt, stands) names = absurd cc
+  shared_unit consumer (row_name.Makes t) (lt, stands, differ) names = absurd cc
+  shared_unit consumer (row_name.Above d) stands names = absurd stands
+  shared_unit consumer (row_name.Stop q) stands names = absurd stands
+  shared_unit consumer row_name.Block stands names = absurd stands
+  shared_unit consumer row_name.Empty stands names = absurd stands
+  shared_unit consumer (row_name.Full q) stands names = absurd stands
+  shared_unit consumer row_name.Keep stands names = absurd stands
+  shared_unit consumer row_name.Apart stands names = absurd stands
 
   event_unit : (s t : ℕ) (name : RowName) → IsSeparationProblem lts (Event s t) → EventStands lts no_condition s t [] name → IsRowNameOf lts name → HasUnit lts (event_expression lts no_condition s t [] name)
-  event_unit s t (stop_row q) asked (not_pure, not_plain, (q', has)) names = record {
-    variable = tokens_at q;
+  event_unit s t (row_name.Stop q) asked (not_pure, not_plain, (q', has)) names = record {
+    variable = Tokens q;
     within = (arc_in_range lts fine q t q' has).0;
     once = first_of_two q s (λ same. asked.2 q' (subst (λ x. HasArc lts x t q') same has));
   }
-  event_unit s t block_row asked stands names = absurd cc
-  event_unit s t empty_row asked (plain, not_pure) names = absurd cc
-  event_unit s t (full_row q) asked (plain, not_pure, has) names = absurd cc
-  event_unit s t keep_row asked (plain, not_pure) names = absurd cc
+  event_unit s t row_name.Block asked stands names = absurd cc
+  event_unit s t row_name.Empty asked (plain, not_pure) names = absurd cc
+  event_unit s t (row_name.Full q) asked (plain, not_pure, has) names = absurd cc
+  event_unit s t row_name.Keep asked (plain, not_pure) names = absurd cc
   event_unit s t name asked stands names = shared_unit t name stands names
 
   states_unit : (s s' : ℕ) (name : RowName) → IsSeparationProblem lts (States s s') → RowStands lts no_condition (States s s') 0 [] name → IsRowNameOf lts name → HasUnit lts (row_expression lts no_condition (States s s') 0 [] name)
-  states_unit s s' apart_row asked stands names = record { variable = tokens_at s'; within = asked.1; once = first_of_two s' s (λ same. asked.2 (sym same)) }
+  states_unit s s' row_name.Apart asked stands names = record { variable = Tokens s'; within = asked.1; once = first_of_two s' s (λ same. asked.2 (sym same)) }
   states_unit s s' name asked stands names = shared_unit (consumer_of lts 0) name stands names
 
   row_unit : (problem : Problem) (name : RowName) → IsSeparationProblem lts problem → RowStands lts no_condition problem 0 [] name → IsRowNameOf lts name → HasUnit lts (row_expression lts no_condition problem 0 [] name)

@@ -9,14 +9,15 @@ use Rattle.rg_integers.proofs.Ring.{mul-add}
 use Rattle.rg_refuting.specs.Expression as linear
 use Rattle.rg_refuting.specs.Expression.{same_variable, coefficient_in}
 use Rattle.rg_integers.specs.Range.{greatest}
-use Rattle.rg_reasons.specs.declared.variable.Term.{Term}
+use Rattle.rg_reasons.specs.declared.term.Term.{Term}
 use Rattle.rg_verify.specs.declared.sums.Sum.{Sum}
 use Rattle.rg_verify.specs.declared.sums.Sums.{Sums}
 use Rattle.rg_verify.specs.Terms.{size_in}
 use Rattle.rg_reasons.specs.Sums.{terms_in, term_of}
 use Rattle.rg_verify.specs.Sums.{signed_of, size_of, entry_of, signed_at, size_at, HasEntry, HasSameEntries, AddsTerms, PassesByTerms}
-use Rattle.rg_verify.proofs.Variables.{same_variable_is, same_variable_refl}
+use Rattle.rg_refuting.proofs.Sums.{same_variable_is, same_variable_refl}
 use Rattle.rg_verify.proofs.Tables.{same_entry}
+use Rattle.rg_refuting.specs.declared.Variable.{Variable}
 
 -- ---- the terms of a list
 
@@ -25,30 +26,30 @@ terms_in-append [] us = refl
 terms_in-append (None ∷ ts) us = terms_in-append ts us
 terms_in-append (Some t ∷ ts) us = ap (λ ts. term_of t ∷ ts) (terms_in-append ts us)
 
-pub coefficient_in-append : (ts us : List linear.Term) (v : linear.Variable) → coefficient_in (ts ++ us) v ≡ coefficient_in ts v +ℤ coefficient_in us v
+pub coefficient_in-append : (ts us : List linear.Term) (v : Variable) → coefficient_in (ts ++ us) v ≡ coefficient_in ts v +ℤ coefficient_in us v
 coefficient_in-append ts us v = sum_over-append (λ t. if same_variable t.variable v then t.coefficient else pos 0) ts us
 
-pub size_in-append : (ts us : List linear.Term) (v : linear.Variable) → size_in (ts ++ us) v ≡ size_in ts v + size_in us v
+pub size_in-append : (ts us : List linear.Term) (v : Variable) → size_in (ts ++ us) v ≡ size_in ts v + size_in us v
 size_in-append ts us v = sum_by-append (λ t. if same_variable t.variable v then nat_abs t.coefficient else 0) ts us
 
 -- ---- one term
 
 -- the entry of the term's variable is another, and all else stays
 pub adds_term : (k : ℤ) (t : linear.Term) (number : ℤ) (old mid new : Sums) (before after : Sum) → number ≡ k *ℤ t.coefficient → entry_of old t.variable ≡ Some before → after.signed ≡ before.signed +ℤ number → after.size ≡ before.size + nat_abs number
-    → HasSameEntries old mid → mid.constant ≡ old.constant → ((w : linear.Variable) → entry_of new w ≡ (if same_variable t.variable w then Some after else entry_of mid w)) → new.constant ≡ mid.constant → AddsTerms k (t ∷ []) old new
+    → HasSameEntries old mid → mid.constant ≡ old.constant → ((w : Variable) → entry_of new w ≡ (if same_variable t.variable w then Some after else entry_of mid w)) → new.constant ≡ mid.constant → AddsTerms k (t ∷ []) old new
 adds_term k t number old mid new before after is was signed size same kept entries constant = record {
   signed = λ w. signed_by w (same_variable t.variable w) refl;
   sizes = λ w. size_by w (same_variable t.variable w) refl;
   constant = constant ∙ kept;
 }
   where
-    at : (w : linear.Variable) (b : Bool) → same_variable t.variable w ≡ b → entry_of new w ≡ (if b then Some after else entry_of old w)
+    at : (w : Variable) (b : Bool) → same_variable t.variable w ≡ b → entry_of new w ≡ (if b then Some after else entry_of old w)
     at w b e = entries w ∙ ap (λ (c : Bool). if c then Some after else entry_of mid w) e ∙ ap (λ (o : Option Sum). if b then Some after else o) (same_entry old mid w same)
 
-    here : (w : linear.Variable) → same_variable t.variable w ≡ true → entry_of old w ≡ Some before
+    here : (w : Variable) → same_variable t.variable w ≡ true → entry_of old w ≡ Some before
     here w e = ap (entry_of old) (sym (same_variable_is t.variable w e)) ∙ was
 
-    signed_by : (w : linear.Variable) (b : Bool) → same_variable t.variable w ≡ b → signed_at new w ≡ signed_at old w +ℤ (k *ℤ ((if same_variable t.variable w then t.coefficient else pos 0) +ℤ pos 0))
+    signed_by : (w : Variable) (b : Bool) → same_variable t.variable w ≡ b → signed_at new w ≡ signed_at old w +ℤ (k *ℤ ((if same_variable t.variable w then t.coefficient else pos 0) +ℤ pos 0))
     signed_by w true e =
         let p = ap signed_of (at w true e) in
         let q = ap signed_of (here w e) in
@@ -58,7 +59,7 @@ adds_term k t number old mid new before after is was signed size same kept entri
         let p = ap signed_of (at w false e) in
         rw (e, p) (omega (arith, ints))
 
-    size_by : (w : linear.Variable) (b : Bool) → same_variable t.variable w ≡ b → size_at new w ≡ size_at old w + nat_abs k * size_in (t ∷ []) w
+    size_by : (w : Variable) (b : Bool) → same_variable t.variable w ≡ b → size_at new w ≡ size_at old w + nat_abs k * size_in (t ∷ []) w
     size_by w true e =
         let p = ap size_of (at w true e) in
         let q = ap size_of (here w e) in

@@ -4,25 +4,25 @@ use Rattle.std.proofs.lemmas.Int.{ints}
 use Rattle.std.proofs.lemmas.List.Elements.{All-nil, All-cons, All-head, All-tail}
 use Rattle.rg_refuting.specs.Expression as linear
 use Rattle.rg_refuting.specs.Expression.{same_variable, coefficient_in}
-use Rattle.rg_reasons.specs.declared.variable.Variable.{Variable}
-use Rattle.rg_reasons.specs.declared.variable.Term.{Term}
-use Rattle.rg_reasons.specs.declared.variable.Term.TheVariants.{Plus, Minus}
+use Rattle.rg_reasons.specs.declared.term.Term.{Term}
+use Rattle.rg_reasons.specs.declared.term.Term.TheVariants.{Plus, Minus}
 use Rattle.rg_reasons.specs.Certificates.{IsTermWithin}
-use Rattle.rg_reasons.specs.Sums.{variable_of, term_of, terms_in}
+use Rattle.rg_reasons.specs.Sums.{term_of, terms_in}
 use Rattle.rg_verify.specs.Terms.{size_in, AreOpposite, IsReducedSum}
 use Rattle.rg_verify.proofs.Adding.{terms_in-append, coefficient_in-append, size_in-append}
-use Rattle.rg_verify.proofs.Variables.{same_variable_is, same_variable_of}
+use Rattle.rg_refuting.proofs.Sums.{same_variable_is}
+use Rattle.rg_refuting.specs.declared.Variable.{Variable}
 
 -- ---- one place
 
-abbrev pub here : Option Term → linear.Variable → ℤ
+abbrev pub here : Option Term → Variable → ℤ
 here o v = coefficient_in (terms_in (o ∷ [])) v
 
 one_size : (b : Bool) (k : ℤ) → 0 + (if b then nat_abs k else 0) ≡ nat_abs ((if b then k else pos 0) +ℤ pos 0)
 one_size true k = let e : k +ℤ pos 0 ≡ k = omega (arith, ints) in rw e (omega arith)
 one_size false k = refl
 
-size_here : (o : Option Term) (v : linear.Variable) → size_in (terms_in (o ∷ [])) v ≡ nat_abs (here o v)
+size_here : (o : Option Term) (v : Variable) → size_in (terms_in (o ∷ [])) v ≡ nat_abs (here o v)
 size_here None v = refl
 size_here (Some t) v = one_size (same_variable (term_of t).variable v) (term_of t).coefficient
 
@@ -36,10 +36,10 @@ cancel : (b : Bool) (k l : ℤ) → k +ℤ l ≡ pos 0 → ((if b then k else po
 cancel true k l e = omega (arith, ints)
 cancel false k l e = omega (arith, ints)
 
-pub opposites_cancel : (a b : Option Term) (v : linear.Variable) → AreOpposite a b → here a v +ℤ here b v ≡ pos 0
+pub opposites_cancel : (a b : Option Term) (v : Variable) → AreOpposite a b → here a v +ℤ here b v ≡ pos 0
 opposites_cancel None b v are = absurd are
-opposites_cancel (Some (Plus x)) b v are = ap (λ o. here (Some (Plus x)) v +ℤ here o v) are ∙ cancel (same_variable (variable_of x) v) (pos 1) (negsuc 0) (omega (arith, ints))
-opposites_cancel (Some (Minus x)) b v are = ap (λ o. here (Some (Minus x)) v +ℤ here o v) are ∙ cancel (same_variable (variable_of x) v) (negsuc 0) (pos 1) (omega (arith, ints))
+opposites_cancel (Some (Plus x)) b v are = ap (λ o. here (Some (Plus x)) v +ℤ here o v) are ∙ cancel (same_variable x v) (pos 1) (negsuc 0) (omega (arith, ints))
+opposites_cancel (Some (Minus x)) b v are = ap (λ o. here (Some (Minus x)) v +ℤ here o v) are ∙ cancel (same_variable x v) (negsuc 0) (pos 1) (omega (arith, ints))
 
 -- terms of one sign, and terms of different variables, are alike
 same_sign : (b c : Bool) (k : ℤ) → AreAlike ((if b then k else pos 0) +ℤ pos 0) ((if c then k else pos 0) +ℤ pos 0)
@@ -59,19 +59,19 @@ not_both false true k (pos n) none = omega (arith, ints)
 not_both false true k (negsuc n) none = omega (arith, ints)
 not_both false false k l none = omega (arith, ints)
 
-one_variable : (x y : Variable) (v : linear.Variable) → same_variable (variable_of x) v ≡ true → same_variable (variable_of y) v ≡ true → y ≡ x
-one_variable x y v e f = same_variable_of y x (same_variable_is (variable_of y) v f ∙ sym (same_variable_is (variable_of x) v e))
+one_variable : (x y : Variable) (v : Variable) → same_variable x v ≡ true → same_variable y v ≡ true → y ≡ x
+one_variable x y v e f = same_variable_is y v f ∙ sym (same_variable_is x v e)
 
-pub others_are_alike : (a b : Option Term) (v : linear.Variable) → (AreOpposite a b → ⊥) → AreAlike (here a v) (here b v)
+pub others_are_alike : (a b : Option Term) (v : Variable) → (AreOpposite a b → ⊥) → AreAlike (here a v) (here b v)
 others_are_alike None None v none = omega (arith, ints)
-others_are_alike None (Some (Plus y)) v none = not_both false (same_variable (variable_of y) v) (pos 0) (pos 1) (λ e f. absurd cc)
-others_are_alike None (Some (Minus y)) v none = not_both false (same_variable (variable_of y) v) (pos 0) (negsuc 0) (λ e f. absurd cc)
-others_are_alike (Some (Plus x)) None v none = not_both (same_variable (variable_of x) v) false (pos 1) (pos 0) (λ e f. absurd cc)
-others_are_alike (Some (Minus x)) None v none = not_both (same_variable (variable_of x) v) false (negsuc 0) (pos 0) (λ e f. absurd cc)
-others_are_alike (Some (Plus x)) (Some (Plus y)) v none = same_sign (same_variable (variable_of x) v) (same_variable (variable_of y) v) (pos 1)
-others_are_alike (Some (Minus x)) (Some (Minus y)) v none = same_sign (same_variable (variable_of x) v) (same_variable (variable_of y) v) (negsuc 0)
-others_are_alike (Some (Plus x)) (Some (Minus y)) v none = not_both (same_variable (variable_of x) v) (same_variable (variable_of y) v) (pos 1) (negsuc 0) (λ e f. none (ap (λ z. Some (Minus z)) (one_variable x y v e f)))
-others_are_alike (Some (Minus x)) (Some (Plus y)) v none = not_both (same_variable (variable_of x) v) (same_variable (variable_of y) v) (negsuc 0) (pos 1) (λ e f. none (ap (λ z. Some (Plus z)) (one_variable x y v e f)))
+others_are_alike None (Some (Plus y)) v none = not_both false (same_variable y v) (pos 0) (pos 1) (λ e f. absurd cc)
+others_are_alike None (Some (Minus y)) v none = not_both false (same_variable y v) (pos 0) (negsuc 0) (λ e f. absurd cc)
+others_are_alike (Some (Plus x)) None v none = not_both (same_variable x v) false (pos 1) (pos 0) (λ e f. absurd cc)
+others_are_alike (Some (Minus x)) None v none = not_both (same_variable x v) false (negsuc 0) (pos 0) (λ e f. absurd cc)
+others_are_alike (Some (Plus x)) (Some (Plus y)) v none = same_sign (same_variable x v) (same_variable y v) (pos 1)
+others_are_alike (Some (Minus x)) (Some (Minus y)) v none = same_sign (same_variable x v) (same_variable y v) (negsuc 0)
+others_are_alike (Some (Plus x)) (Some (Minus y)) v none = not_both (same_variable x v) (same_variable y v) (pos 1) (negsuc 0) (λ e f. none (ap (λ z. Some (Minus z)) (one_variable x y v e f)))
+others_are_alike (Some (Minus x)) (Some (Plus y)) v none = not_both (same_variable x v) (same_variable y v) (negsuc 0) (pos 1) (λ e f. none (ap (λ z. Some (Plus z)) (one_variable x y v e f)))
 
 -- ---- three places
 
@@ -85,12 +85,12 @@ three_alike (negsuc a) (pos b) (negsuc c) e f g = omega (arith, ints)
 three_alike (negsuc a) (negsuc b) (pos c) e f g = omega (arith, ints)
 three_alike (negsuc a) (negsuc b) (negsuc c) e f g = omega (arith, ints)
 
-coefficient_three : (a b c : Option Term) (v : linear.Variable) → coefficient_in (terms_in (a ∷ b ∷ c ∷ [])) v ≡ here a v +ℤ (here b v +ℤ here c v)
+coefficient_three : (a b c : Option Term) (v : Variable) → coefficient_in (terms_in (a ∷ b ∷ c ∷ [])) v ≡ here a v +ℤ (here b v +ℤ here c v)
 coefficient_three a b c v =
     ap (λ l. coefficient_in l v) (terms_in-append (a ∷ []) (b ∷ c ∷ [])) ∙ coefficient_in-append (terms_in (a ∷ [])) (terms_in (b ∷ c ∷ [])) v
     ∙ ap (λ z. here a v +ℤ z) (ap (λ l. coefficient_in l v) (terms_in-append (b ∷ []) (c ∷ [])) ∙ coefficient_in-append (terms_in (b ∷ [])) (terms_in (c ∷ [])) v)
 
-size_three : (a b c : Option Term) (v : linear.Variable) → size_in (terms_in (a ∷ b ∷ c ∷ [])) v ≡ nat_abs (here a v) + (nat_abs (here b v) + nat_abs (here c v))
+size_three : (a b c : Option Term) (v : Variable) → size_in (terms_in (a ∷ b ∷ c ∷ [])) v ≡ nat_abs (here a v) + (nat_abs (here b v) + nat_abs (here c v))
 size_three a b c v =
     ap (λ l. size_in l v) (terms_in-append (a ∷ []) (b ∷ c ∷ [])) ∙ size_in-append (terms_in (a ∷ [])) (terms_in (b ∷ c ∷ [])) v
     ∙ ap (λ n. n + size_in (terms_in (b ∷ c ∷ [])) v) (size_here a v)
@@ -116,8 +116,8 @@ module _ (a b c : Option Term) where
   first_rest x y z e = omega (arith, ints)
 
   alone : (o : Option Term) (new : List (Option Term)) → ((P : linear.Term → Type 0) → All P (terms_in (a ∷ b ∷ c ∷ [])) → All P (terms_in new))
-      → ((v : linear.Variable) → coefficient_in (terms_in new) v ≡ here o v) → ((v : linear.Variable) → size_in (terms_in new) v ≡ nat_abs (here o v))
-      → ((v : linear.Variable) → here o v ≡ here a v +ℤ (here b v +ℤ here c v)) → IsReducedSum (terms_in (a ∷ b ∷ c ∷ [])) (terms_in new)
+      → ((v : Variable) → coefficient_in (terms_in new) v ≡ here o v) → ((v : Variable) → size_in (terms_in new) v ≡ nat_abs (here o v))
+      → ((v : Variable) → here o v ≡ here a v +ℤ (here b v +ℤ here c v)) → IsReducedSum (terms_in (a ∷ b ∷ c ∷ [])) (terms_in new)
   alone o new within same size rest = record {
     within = λ states labels. within (IsTermWithin states labels);
     coefficients = λ v. same v ∙ rest v ∙ sym (coefficient_three a b c v);
@@ -132,7 +132,7 @@ module _ (a b c : Option Term) where
   two P None all = all
   two P (Some t) all = all
 
-  only : (o : Option Term) → ((v : linear.Variable) → coefficient_in (terms_in (o ∷ None ∷ None ∷ [])) v ≡ here o v) × ((v : linear.Variable) → size_in (terms_in (o ∷ None ∷ None ∷ [])) v ≡ nat_abs (here o v))
+  only : (o : Option Term) → ((v : Variable) → coefficient_in (terms_in (o ∷ None ∷ None ∷ [])) v ≡ here o v) × ((v : Variable) → size_in (terms_in (o ∷ None ∷ None ∷ [])) v ≡ nat_abs (here o v))
   only None = ((λ v. refl), (λ v. refl))
   only (Some t) = ((λ v. refl), (λ v. size_here (Some t) v))
 
@@ -142,7 +142,7 @@ module _ (a b c : Option Term) where
   pub second_stays : AreOpposite a c → IsReducedSum (terms_in (a ∷ b ∷ c ∷ [])) (terms_in (None ∷ b ∷ None ∷ []))
   second_stays are = alone b (None ∷ b ∷ None ∷ []) (λ P all. one P b ((each_place P a b c all).1)) (by b).0 (by b).1 (λ v. middle_rest (here a v) (here b v) (here c v) (opposites_cancel a c v are))
     where
-      by : (o : Option Term) → ((v : linear.Variable) → coefficient_in (terms_in (o ∷ None ∷ [])) v ≡ here o v) × ((v : linear.Variable) → size_in (terms_in (o ∷ None ∷ [])) v ≡ nat_abs (here o v))
+      by : (o : Option Term) → ((v : Variable) → coefficient_in (terms_in (o ∷ None ∷ [])) v ≡ here o v) × ((v : Variable) → size_in (terms_in (o ∷ None ∷ [])) v ≡ nat_abs (here o v))
       by None = ((λ v. refl), (λ v. refl))
       by (Some t) = ((λ v. refl), (λ v. size_here (Some t) v))
 

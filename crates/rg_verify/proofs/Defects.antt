@@ -4,17 +4,17 @@ use Rattle.std.proofs.lemmas.List.{take-map}
 use Rattle.std.proofs.lemmas.Option.{slice_get-map, slice_get-get_or}
 use Rattle.rg_theory.specs.System.{System}
 use Rattle.rg_refuting.specs.Expression as linear
-use Rattle.rg_refuting.specs.Expression.{Variable.tokens_at, Variable.effect_of}
-use Rattle.rg_refuting.specs.Row.{RowName}
+use Rattle.rg_refuting.specs.declared.RowName.{RowName}
 use Rattle.rg_refuting.specs.Refutes.{NamedRow, IsSmall, LeafRefutes}
 use Rattle.rg_reasons.specs.Certificates.{IsVariableOf, IsRowOf}
 use Rattle.rg_verify.specs.declared.verdict.Defect.{Defect}
 use Rattle.rg_verify.specs.declared.verdict.Defect.TheVariants.{WrongRow, NotPositive, LeftOver, NoContradiction, SumPasses, WrongForm, CaseMissing, NotSo}
 use Rattle.rg_verify.specs.declared.sums.Sums.{Sums}
 use Rattle.rg_verify.specs.Judged.{IsReached, IsRightRow, IsDefectOf}
-use Rattle.rg_reasons.specs.Sums.{variable_of}
 use Rattle.rg_verify.specs.Sums.{entry_of, HasEntry, IsTableOf, AreSumsOf, HasNoDefect, IsSumDefect}
 use Rattle.rg_verify.proofs.Tables.{size_small}
+use Rattle.rg_refuting.specs.declared.Variable.{Variable}
+use Rattle.rg_refuting.specs.declared.Variable.TheVariants.{Tokens, Effect}
 
 -- the item at a place, where the fact holds of the images of all items before
 pub reached_at : {X Y : Type 0} (P : Y → Type 0) (f : X → Y) (xs : List X) (i : ℕ) (d : X) → i < length xs → All P (map f (take i xs)) → IsReached P (map f xs) i (f (get_or xs i d))
@@ -31,9 +31,9 @@ small_sums lts expression rows sums each are = record {
   constants = let a = are.constant_size in let b = sums.constant.small in omega arith;
 }
 
-in_range : (lts : System) (sums : Sums) (v : linear.Variable) → IsTableOf lts sums → HasEntry sums v → IsVariableOf lts v
-in_range lts sums (tokens_at q) table has = let e = table.tokens in omega arith
-in_range lts sums (effect_of t) table has = let e = table.effects in omega arith
+in_range : (lts : System) (sums : Sums) (v : Variable) → IsTableOf lts sums → HasEntry sums v → IsVariableOf lts v
+in_range lts sums (Tokens q) table has = let e = table.tokens in omega arith
+in_range lts sums (Effect t) table has = let e = table.effects in omega arith
 
 -- what is wrong with the sums is what is wrong with the rows
 pub leaf_judged : (lts : System) (stands : RowName → Type 0) (expression : RowName → linear.Expression) (rows : List NamedRow) (sums : Sums) (o : Option Defect) → All (IsRightRow stands) rows → All (IsRowOf lts) rows → IsTableOf lts sums → AreSumsOf expression rows sums
@@ -48,8 +48,8 @@ leaf_judged lts stands expression rows sums None right each table are none = rec
 leaf_judged lts stands expression rows sums (Some (LeftOver v)) right each table are left = (
   record { right = right; small = small_sums lts expression rows sums each are },
   record {
-    in_range = in_range lts sums (variable_of v) table left.in_table;
-    left = λ e. left.left (are.coefficients (variable_of v) ∙ e);
+    in_range = in_range lts sums v table left.in_table;
+    left = λ e. left.left (are.coefficients v ∙ e);
     first = λ w before. sym (are.coefficients w) ∙ left.first w before;
   },
 )

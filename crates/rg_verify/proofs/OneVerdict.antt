@@ -7,21 +7,21 @@ use Rattle.std.proofs.lemmas.Option.{same_Some, slice_get_within, get_or_from_sl
 use Rattle.rg_theory.specs.System.{System}
 use Rattle.rg_theory.specs.declared.Class.{Class}
 use Rattle.rg_theory.specs.declared.Problem.{Problem}
-use Rattle.rg_refuting.specs.Expression as linear
 use Rattle.rg_refuting.specs.Expression.{Expression}
-use Rattle.rg_refuting.specs.Row.{Side, RowName, RowStands, row_expression}
+use Rattle.rg_refuting.specs.Row.{RowStands, row_expression}
+use Rattle.rg_refuting.specs.declared.Side.{Side}
+use Rattle.rg_refuting.specs.declared.RowName.{RowName}
 use Rattle.rg_refuting.specs.Refutes.{NamedRow, LeafRefutes, Tree, Tree.leaf, Tree.split, TreeRefutes, IsSeparationProblem, IsRefuted, Accepts}
 use Rattle.rg_refuting.specs.Refutes as refutes
 use Rattle.rg_reasons.specs.Trees.{TreeNode, leaf_node, split_node}
 use Rattle.rg_reasons.specs.Certificates.{Claim, IsVariableOf}
-use Rattle.rg_reasons.specs.declared.variable.Variable.{Variable}
 use Rattle.rg_verify.specs.declared.verdict.Defect.{Defect}
 use Rattle.rg_verify.specs.declared.verdict.Defect.TheVariants.{WrongRow, NotPositive, LeftOver, NoContradiction, SumPasses, WrongForm, CaseMissing, NotSo}
 use Rattle.rg_verify.specs.declared.verdict.Verdict.{Verdict}
 use Rattle.rg_verify.specs.declared.verdict.Verdict.TheVariants.{Accepted, Refused}
 use Rattle.rg_verify.specs.Judged.{IsReached, IsVariableBefore, IsRightRow, IsFirstLeft, IsDefectOf, PlacedNode, placed_nodes, HoldsAt, NodeHolds, IsNodeDefect, IsDefectIn, HasAllCases, IsDefectAmong, IsDefectFor, IsFirstDefect, Holds, Judges}
-use Rattle.rg_reasons.specs.Sums.{variable_of}
-use Rattle.rg_verify.proofs.Variables.{same_variable_of, before_or_not}
+use Rattle.rg_verify.proofs.Variables.{before_or_not}
+use Rattle.rg_refuting.specs.declared.Variable.{Variable}
 
 -- ---- the first item for which a fact doesn't hold
 
@@ -59,13 +59,13 @@ no_defect : (lts : System) (stands : RowName → Type 0) (expression : RowName �
 no_defect lts stands expression rows WrongRow (i, r, reached, not) good = not_all (IsRightRow stands) rows i r reached (λ right. not right.0) (λ k x lt. (good.stand k x lt, good.positive k x lt))
 no_defect lts stands expression rows NotPositive (i, r, reached, stand, not) good = not_all (IsRightRow stands) rows i r reached (λ right. not right.1) (λ k x lt. (good.stand k x lt, good.positive k x lt))
 no_defect lts stands expression rows SumPasses (right, not) good = not good.small
-no_defect lts stands expression rows (LeftOver v) (summed, left) good = left.left (good.cancels (variable_of v))
+no_defect lts stands expression rows (LeftOver v) (summed, left) good = left.left (good.cancels v)
 no_defect lts stands expression rows NoContradiction (summed, cancels, not) good = not good.contradicts
 no_defect lts stands expression rows WrongForm wrong good = wrong
 no_defect lts stands expression rows CaseMissing wrong good = wrong
 no_defect lts stands expression rows NotSo wrong good = wrong
 
-first_once : (lts : System) (expression : RowName → Expression) (rows : List NamedRow) (v w : linear.Variable) → IsFirstLeft lts expression rows v → IsFirstLeft lts expression rows w → v ≡ w
+first_once : (lts : System) (expression : RowName → Expression) (rows : List NamedRow) (v w : Variable) → IsFirstLeft lts expression rows v → IsFirstLeft lts expression rows w → v ≡ w
 first_once lts expression rows v w one other = by (before_or_not v w)
   where
     by : IsVariableBefore v w ⊎ ((v ≡ w) ⊎ IsVariableBefore w v) → v ≡ w
@@ -103,12 +103,12 @@ one_defect lts stands expression rows SumPasses NoContradiction h k = absurd (h.
 one_defect lts stands expression rows (LeftOver v) WrongRow h k = absurd (wrong_row lts stands expression rows k h.0.right)
 one_defect lts stands expression rows (LeftOver v) NotPositive h k = absurd (not_positive lts stands expression rows k h.0.right)
 one_defect lts stands expression rows (LeftOver v) SumPasses h k = absurd (k.1 h.0.small)
-one_defect lts stands expression rows (LeftOver v) (LeftOver w) h k = ap LeftOver (same_variable_of v w (first_once lts expression rows (variable_of v) (variable_of w) h.1 k.1))
-one_defect lts stands expression rows (LeftOver v) NoContradiction h k = absurd (h.1.left (k.1 (variable_of v)))
+one_defect lts stands expression rows (LeftOver v) (LeftOver w) h k = ap LeftOver (first_once lts expression rows v w h.1 k.1)
+one_defect lts stands expression rows (LeftOver v) NoContradiction h k = absurd (h.1.left (k.1 v))
 one_defect lts stands expression rows NoContradiction WrongRow h k = absurd (wrong_row lts stands expression rows k h.0.right)
 one_defect lts stands expression rows NoContradiction NotPositive h k = absurd (not_positive lts stands expression rows k h.0.right)
 one_defect lts stands expression rows NoContradiction SumPasses h k = absurd (k.1 h.0.small)
-one_defect lts stands expression rows NoContradiction (LeftOver w) h k = absurd (k.1.left (h.1 (variable_of w)))
+one_defect lts stands expression rows NoContradiction (LeftOver w) h k = absurd (k.1.left (h.1 w))
 one_defect lts stands expression rows NoContradiction NoContradiction h k = refl
 one_defect lts stands expression rows WrongForm e h k = absurd h
 one_defect lts stands expression rows CaseMissing e h k = absurd h
@@ -223,14 +223,14 @@ pub refused_fails : (lts : System) (claim : Claim) (case node : ℕ) (defect : D
 refused_fails lts claim case node defect judged holds = no_first lts claim.class claim.reason case node defect holds judged
 
 -- the variable that is left over is the system's
-pub left_in_range : (lts : System) (claim : Claim) (case node : ℕ) (v : Variable) → Judges lts claim (Refused case node (LeftOver v)) → IsVariableOf lts (variable_of v)
+pub left_in_range : (lts : System) (claim : Claim) (case node : ℕ) (v : Variable) → Judges lts claim (Refused case node (LeftOver v)) → IsVariableOf lts v
 left_in_range lts claim case node v judged = by claim.reason judged
   where
-    left_of : (problem : Problem) (above : List Side) (n : TreeNode) → IsNodeDefect lts claim.class problem case above n (LeftOver v) → IsVariableOf lts (variable_of v)
+    left_of : (problem : Problem) (above : List Side) (n : TreeNode) → IsNodeDefect lts claim.class problem case above n (LeftOver v) → IsVariableOf lts v
     left_of problem above (leaf_node rows) wrong = wrong.1.in_range
     left_of problem above (split_node form at) (is, none) = absurd cc
 
-    by : (reason : refutes.Reason) → IsFirstDefect lts claim.class reason case node (LeftOver v) → IsVariableOf lts (variable_of v)
+    by : (reason : refutes.Reason) → IsFirstDefect lts claim.class reason case node (LeftOver v) → IsVariableOf lts v
     by (refutes.unreachable s) (c, n, is, not) = absurd cc
     by (refutes.fork s t s₁ s₂) (c, n, is, not) = absurd cc
     by (refutes.refuted problem trees) among = let (v, reached, wrong) = among.found in left_of problem v.above v.node wrong

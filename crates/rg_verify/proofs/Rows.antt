@@ -8,13 +8,12 @@ use Rattle.rg_integers.proofs.ListSums.{sum_over-append}
 use Rattle.rg_theory.specs.System.{System, states, labels}
 use Rattle.rg_refuting.specs.Expression as linear
 use Rattle.rg_refuting.specs.Expression.{coefficient_in}
-use Rattle.rg_refuting.specs.Row.{RowName, Side}
+use Rattle.rg_refuting.specs.declared.RowName.{RowName}
+use Rattle.rg_refuting.specs.declared.Side.{Side}
 use Rattle.rg_refuting.specs.Refutes.{NamedRow, IsSmall}
 use Rattle.rg_integers.specs.Range.{InRange}
 use Rattle.rg_reasons.specs.Certificates.{IsRowOf, IsFormOf, IsTermWithin}
 use Rattle.rg_reasons.specs.Trees.{named_row}
-use Rattle.rg_reasons.specs.declared.certificate.RowName.{RowName as Row}
-use Rattle.rg_reasons.specs.declared.certificate.RowName.TheVariants.{Arc}
 use Rattle.rg_reasons.specs.declared.sum.Expression.{Expression}
 use Rattle.rg_verify.specs.declared.sums.Sums.{Sums}
 use Rattle.rg_verify.proofs.Places.{image_at}
@@ -22,10 +21,12 @@ use Rattle.rg_verify.specs.Terms.{size_in, IsReducedSum, IsExpressionOf}
 use Rattle.rg_verify.specs.Sides.{IsSideOf}
 use Rattle.rg_reasons.specs.Sums.{terms_in, expression_of}
 use Rattle.rg_verify.specs.Sums.{IsTidy, HasSameVariables, IsTableOf, AreSumsOf, AddsRow, PassesByRow}
+use Rattle.rg_refuting.specs.declared.Variable.{Variable}
+use Rattle.rg_refuting.specs.declared.RowName.TheVariants as row_name
 
 -- what a loop over rows reads past their end
-abbrev pub no_row : Row × ℤ
-no_row = (Arc (record { from = 0; label = 0; to = 0 }), pos 0)
+abbrev pub no_row : RowName × ℤ
+no_row = (row_name.Arc (record { from = 0; label = 0; to = 0 }), pos 0)
 
 pub table_kept : (lts : System) (old new : Sums) → IsTableOf lts old → HasSameVariables old new → IsTidy new → IsTableOf lts new
 table_kept lts old new table same tidy = record { tokens = same.tokens ∙ table.tokens; effects = same.effects ∙ table.effects; tidy = tidy }
@@ -46,7 +47,7 @@ reduced_row lts e new row is reduced constant within =
     }
 
 -- what a row adds to a sum of absolute values
-added_size : (lts : System) (e : Expression) (row : linear.Expression) (k : ℤ) (v : linear.Variable) → IsExpressionOf lts e row → nat_abs k * size_in (terms_in e.terms) v ≡ nat_abs (k *ℤ coefficient_in row.terms v)
+added_size : (lts : System) (e : Expression) (row : linear.Expression) (k : ℤ) (v : Variable) → IsExpressionOf lts e row → nat_abs k * size_in (terms_in e.terms) v ≡ nat_abs (k *ℤ coefficient_in row.terms v)
 added_size lts e row k v is = ap (λ n. nat_abs k * n) (is.sizes v) ∙ sym (unsigned_abs-mul k (coefficient_in row.terms v))
 
 -- the sums with one row more
@@ -95,5 +96,5 @@ passes_among lts expression named rows i d e old lt sums is passes small =
     passes_more lts expression (map named (take i rows)) (map named (drop (i + 1) rows)) (named (get_or rows i d)) e old sums is passes (subst (IsSmall expression) around small)
 
 -- the multiplier of a row is in range
-pub multiplier_at : (lts : System) (rows : List (Row × ℤ)) (i : ℕ) → All (IsRowOf lts) (map named_row rows) → i < length rows → InRange (get_or rows i no_row).1
+pub multiplier_at : (lts : System) (rows : List (RowName × ℤ)) (i : ℕ) → All (IsRowOf lts) (map named_row rows) → i < length rows → InRange (get_or rows i no_row).1
 multiplier_at lts rows i each lt = let h = (image_at (IsRowOf lts) named_row rows i no_row each lt).multiplier in omega (arith, h)

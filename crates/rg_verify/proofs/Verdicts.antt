@@ -9,7 +9,8 @@ use Rattle.rg_theory.specs.declared.Class.{Class}
 use Rattle.rg_theory.specs.Class.{NoNet}
 use Rattle.rg_theory.specs.declared.Problem.{Problem}
 use Rattle.rg_theory.specs.declared.Problem.TheVariants.{Event, States}
-use Rattle.rg_refuting.specs.Row.{Side, HasArcAt, RowStands, row_expression, cases_of}
+use Rattle.rg_refuting.specs.Row.{HasArcAt, RowStands, row_expression, cases_of}
+use Rattle.rg_refuting.specs.declared.Side.{Side}
 use Rattle.rg_refuting.specs.Refutes.{Tree, TreeRefutes, IsSeparationProblem, IsRefuted}
 use Rattle.rg_refuting.proofs.Accepted.{accepted}
 use Rattle.rg_reasons.specs.declared.certificate.Case.{Case}

@@ -6,8 +6,8 @@ use Rattle.std.proofs.lemmas.List.Elements.{All-contains, Contains-get_or, Conta
 use Rattle.rg_theory.specs.System.{System}
 use Rattle.rg_theory.specs.declared.Class.{Class}
 use Rattle.rg_theory.specs.declared.Problem.{Problem}
-use Rattle.rg_refuting.specs.Row as row
-use Rattle.rg_refuting.specs.Row.{Side, FormStands, RowStands, row_expression}
+use Rattle.rg_refuting.specs.Row.{FormStands, RowStands, row_expression}
+use Rattle.rg_refuting.specs.declared.Side.{Side}
 use Rattle.rg_refuting.specs.Refutes.{NamedRow, LeafRefutes, Tree, Tree.leaf, Tree.split, TreeRefutes}
 use Rattle.rg_reasons.specs.declared.certificate.Case.{Case}
 use Rattle.rg_reasons.specs.declared.certificate.Node.{Node}
@@ -18,21 +18,22 @@ use Rattle.rg_verify.specs.declared.verdict.Defect.TheVariants.{WrongForm}
 use Rattle.rg_verify.specs.Judged.{IsReached, PlacedNode, placed_nodes, HoldsAt, NodeHolds, IsDefectOf, IsNodeDefect, IsDefectIn}
 use Rattle.rg_verify.proofs.Places.{image_at}
 use Rattle.rg_verify.specs.Sides.{turned_back, turned, IsSideOf}
+use Rattle.rg_refuting.specs.declared.Form.{Form}
 
 -- ---- the sides above the next node
 
-abbrev low_side : row.Form → ℤ → Side
+abbrev low_side : Form → ℤ → Side
 low_side form at = record { form = form; at = at; high = false }
 
-abbrev high_side : row.Form → ℤ → Side
+abbrev high_side : Form → ℤ → Side
 high_side form at = record { form = form; at = at; high = true }
 
-turned_low : (above : List Side) (form : row.Form) (at : ℤ) → turned (above ++ low_side form at ∷ []) ≡ above ++ high_side form at ∷ []
+turned_low : (above : List Side) (form : Form) (at : ℤ) → turned (above ++ low_side form at ∷ []) ≡ above ++ high_side form at ∷ []
 turned_low above form at =
     ap (λ sides. reverse (turned_back sides)) (reverse-append above (low_side form at ∷ []))
     ∙ reverse-append (high_side form at ∷ []) (reverse above) ∙ ap (λ sides. sides ++ high_side form at ∷ []) (reverse-reverse above)
 
-turned_high : (above : List Side) (form : row.Form) (at : ℤ) → turned (above ++ high_side form at ∷ []) ≡ turned above
+turned_high : (above : List Side) (form : Form) (at : ℤ) → turned (above ++ high_side form at ∷ []) ≡ turned above
 turned_high above form at = ap (λ sides. reverse (turned_back sides)) (reverse-append above (high_side form at ∷ []))
 
 -- they are sides of the system
@@ -59,7 +60,7 @@ nodes_due above [] = []
 nodes_due above (tree ∷ more) = placed_nodes above tree ++ nodes_due (turned above) more
 
 -- a split: its two sides are due before the rest
-pub past_split : (above : List Side) (form : row.Form) (at : ℤ) (due : List Tree) (rest : List TreeNode) → split_node form at ∷ rest ≡ flat_map preorder due
+pub past_split : (above : List Side) (form : Form) (at : ℤ) (due : List Tree) (rest : List TreeNode) → split_node form at ∷ rest ≡ flat_map preorder due
     → (later : List Tree) × (rest ≡ flat_map preorder later) × (nodes_due above due ≡ record { above = above; node = split_node form at } ∷ nodes_due (above ++ low_side form at ∷ []) later)
 past_split above form at [] rest is = absurd cc
 past_split above form at (leaf rows ∷ more) rest is = absurd cc
@@ -178,7 +179,7 @@ module _ (lts : System) (class : Class) (problem : Problem) (number : ℕ) (tree
         wrong,
       )
 
-  pub after_split : (form : row.Form) (at : ℤ) → drop node nodes ≡ split_node form at ∷ drop (node + 1) nodes → IsSideOf lts (low_side form at) → FormStands class form
+  pub after_split : (form : Form) (at : ℤ) → drop node nodes ≡ split_node form at ∷ drop (node + 1) nodes → IsSideOf lts (low_side form at) → FormStands class form
       → IsAtNode lts class problem number tree nodes (node + 1) (above ++ low_side form at ∷ [])
   after_split form at is side stands =
       let past = past_split above form at at_node.due (drop (node + 1) nodes) (sym is ∙ at_node.rest) in
@@ -196,7 +197,7 @@ module _ (lts : System) (class : Class) (problem : Problem) (number : ℕ) (tree
       let past = past_leaf above rows at_node.due (drop (node + 1) nodes) (sym is ∙ at_node.rest) in
       found (leaf_node rows) defect past.0 (turned above) past.2 wrong
 
-  pub found_split : (form : row.Form) (at : ℤ) → drop node nodes ≡ split_node form at ∷ drop (node + 1) nodes → ¬ FormStands class form → IsDefectIn lts class problem number tree node WrongForm
+  pub found_split : (form : Form) (at : ℤ) → drop node nodes ≡ split_node form at ∷ drop (node + 1) nodes → ¬ FormStands class form → IsDefectIn lts class problem number tree node WrongForm
   found_split form at is none =
       let past = past_split above form at at_node.due (drop (node + 1) nodes) (sym is ∙ at_node.rest) in
       found (split_node form at) WrongForm past.0 (above ++ low_side form at ∷ []) past.2 (refl, none)

@@ -3,18 +3,20 @@ use Rattle.std.specs.Prelude.{◌≡◌, ◌≢◌, ℕ, ◌<◌, true, false, L
 use Rattle.rg_theory.specs.System.{System}
 use Rattle.rg_theory.specs.declared.Class.{Class}
 use Rattle.rg_theory.specs.declared.Problem.{Problem}
-use Rattle.rg_refuting.specs.Expression.{Variable.tokens_at, Variable.effect_of, Expression}
-use Rattle.rg_refuting.specs.Expression as linear
-use Rattle.rg_refuting.specs.Row.{Side, RowName, FormStands, RowStands, row_expression, cases_of}
+use Rattle.rg_refuting.specs.Expression.{Expression}
+use Rattle.rg_refuting.specs.Row.{FormStands, RowStands, row_expression, cases_of}
+use Rattle.rg_refuting.specs.declared.Side.{Side}
+use Rattle.rg_refuting.specs.declared.RowName.{RowName}
 use Rattle.rg_refuting.specs.Refutes.{NamedRow, IsMultiplier, IsSmall, coefficient_sum, constant_sum, LeafRefutes, Tree, Tree.leaf, Tree.split, TreeRefutes, IsSeparationProblem, IsRefuted, Accepts}
 use Rattle.rg_refuting.specs.Refutes as refutes
 use Rattle.rg_reasons.specs.Trees.{TreeNode, leaf_node, split_node}
 use Rattle.rg_reasons.specs.Certificates.{Claim, IsVariableOf}
-use Rattle.rg_reasons.specs.Sums.{variable_of}
 use Rattle.rg_verify.specs.declared.verdict.Defect.{Defect}
 use Rattle.rg_verify.specs.declared.verdict.Defect.TheVariants.{WrongRow, NotPositive, LeftOver, NoContradiction, SumPasses, WrongForm, CaseMissing, NotSo}
 use Rattle.rg_verify.specs.declared.verdict.Verdict.{Verdict}
 use Rattle.rg_verify.specs.declared.verdict.Verdict.TheVariants.{Accepted, Refused}
+use Rattle.rg_refuting.specs.declared.Variable.{Variable}
+use Rattle.rg_refuting.specs.declared.Variable.TheVariants.{Tokens, Effect}
 
 -- the reason of a claim holds of the system
 abbrev pub Holds : System → Claim → Type 0
@@ -26,11 +28,11 @@ pub record IsReached {X : Type 0} (P : X → Type 0) (xs : List X) (place : ℕ)
   pub before : All P (take place xs)
 
 -- tokens come before effects, tokens by state and effects by label
-abbrev pub IsVariableBefore : linear.Variable → linear.Variable → Type 0
-IsVariableBefore (tokens_at q) (tokens_at r) = q < r
-IsVariableBefore (tokens_at q) (effect_of t) = Unit {0}
-IsVariableBefore (effect_of t) (tokens_at q) = ⊥
-IsVariableBefore (effect_of t) (effect_of u) = t < u
+abbrev pub IsVariableBefore : Variable → Variable → Type 0
+IsVariableBefore (Tokens q) (Tokens r) = q < r
+IsVariableBefore (Tokens q) (Effect t) = Unit {0}
+IsVariableBefore (Effect t) (Tokens q) = ⊥
+IsVariableBefore (Effect t) (Effect u) = t < u
 
 -- the row stands, and has a positive multiplier where it owes one
 abbrev pub IsRightRow : (RowName → Type 0) → NamedRow → Type 0
@@ -42,18 +44,18 @@ pub record AreSummed (stands : RowName → Type 0) (expression : RowName → Exp
   pub small : IsSmall expression rows
 
 -- the first variable whose coefficients don't add up to 0
-pub record IsFirstLeft (lts : System) (expression : RowName → Expression) (rows : List NamedRow) (v : linear.Variable) : Type 0 where
+pub record IsFirstLeft (lts : System) (expression : RowName → Expression) (rows : List NamedRow) (v : Variable) : Type 0 where
   pub in_range : IsVariableOf lts v
   pub left : coefficient_sum expression rows v ≢ pos 0
-  pub first : (w : linear.Variable) → IsVariableBefore w v → coefficient_sum expression rows w ≡ pos 0
+  pub first : (w : Variable) → IsVariableBefore w v → coefficient_sum expression rows w ≡ pos 0
 
 -- what is wrong with the first row that isn't right, or else with the sums of the rows
 abbrev pub IsDefectOf : System → (RowName → Type 0) → (RowName → Expression) → List NamedRow → Defect → Type 0
 IsDefectOf lts stands expression rows WrongRow = (place : ℕ) × (r : NamedRow) × IsReached (IsRightRow stands) rows place r × (¬ stands r.name)
 IsDefectOf lts stands expression rows NotPositive = (place : ℕ) × (r : NamedRow) × IsReached (IsRightRow stands) rows place r × stands r.name × (¬ IsMultiplier r.multiplier r.name)
 IsDefectOf lts stands expression rows SumPasses = All (IsRightRow stands) rows × (¬ IsSmall expression rows)
-IsDefectOf lts stands expression rows (LeftOver v) = AreSummed stands expression rows × IsFirstLeft lts expression rows (variable_of v)
-IsDefectOf lts stands expression rows NoContradiction = AreSummed stands expression rows × ((v : linear.Variable) → coefficient_sum expression rows v ≡ pos 0) × (¬ (constant_sum expression rows <ℤ pos 0))
+IsDefectOf lts stands expression rows (LeftOver v) = AreSummed stands expression rows × IsFirstLeft lts expression rows v
+IsDefectOf lts stands expression rows NoContradiction = AreSummed stands expression rows × ((v : Variable) → coefficient_sum expression rows v ≡ pos 0) × (¬ (constant_sum expression rows <ℤ pos 0))
 IsDefectOf lts stands expression rows WrongForm = ⊥
 IsDefectOf lts stands expression rows CaseMissing = ⊥
 IsDefectOf lts stands expression rows NotSo = ⊥

@@ -2,15 +2,15 @@
 use Rattle.std.specs.Prelude.{List}
 use Rattle.rg_theory.specs.System.{System}
 use Rattle.rg_refuting.specs.Expression.{Expression}
-use Rattle.rg_refuting.specs.Row.{RowName, RowStands, row_expression}
-use Rattle.rg_reasons.specs.declared.side.Side.{Side}
+use Rattle.rg_refuting.specs.Row.{RowStands, row_expression}
+use Rattle.rg_refuting.specs.declared.RowName.{RowName}
 use Rattle.rg_reasons.specs.declared.problem_case.ProblemCase.{ProblemCase}
-use Rattle.rg_verify.specs.Sides.{sides_of}
+use Rattle.rg_refuting.specs.declared.Side.{Side}
 
 -- where a row stands
 abbrev pub StandsIn : System → ProblemCase → List Side → RowName → Type 0
-StandsIn lts case above = RowStands lts case.class case.problem case.number (sides_of above)
+StandsIn lts case above = RowStands lts case.class case.problem case.number above
 
 -- what a row says
 abbrev pub expression_in : System → ProblemCase → List Side → RowName → Expression
-expression_in lts case above = row_expression lts case.class case.problem case.number (sides_of above)
+expression_in lts case above = row_expression lts case.class case.problem case.number above

@@ -3,7 +3,7 @@ ghost use Rattle.std.specs.Prelude.{◌≡◌, [], IfOk, MatchOption};
 ghost use Rattle.rg_refuting.specs.Refutes.{TreeRefutes, IsSeparationProblem};
 ghost use Rattle.rg_reasons.specs.Certificates.{case_tree, IsWhole, IsTreeOf};
 ghost use Rattle.rg_verify.specs.Judged.{IsDefectIn};
-ghost use Rattle.rg_verify.specs.Sides.{sides_of, AreSidesOf, turned};
+ghost use Rattle.rg_verify.specs.Sides.{AreSidesOf, turned};
 ghost use Rattle.rg_verify.specs.Sums.{IsClear};
 ghost use Rattle.rg_verify.specs.declared.verdict.Verdict.TheVariants as verdict;
 
@@ -12,7 +12,8 @@ use crate::sums::Sums;
 use crate::verdict::{Defect, Verdict};
 use rg_lts::Lts;
 use rg_memory::NoMemory;
-use rg_reasons::{Case, Node, ProblemCase, Side};
+use rg_reasons::{Case, Node, ProblemCase};
+use rg_refuting::Side;
 use std::alloc::Global;
 
 /// A defect and the node that has it.
@@ -84,7 +85,7 @@ pub(crate) fn case_defect(
 // Goes to the sides above the next node, past a tree that is done: the innermost low side becomes the high one, and
 // the high sides within it end.
 fn turn(above: &mut Vec<Side>)
-    ensures { sides_of above.new.items ≡ turned (sides_of above.old.items) }
+    ensures { above.new.items ≡ turned above.old.items }
 {
     let mut depth = above.len();
     while depth > 0 {

@@ -2,7 +2,7 @@
 ghost use Rattle.std.specs.Prelude.{◌↔◌, IfOk, IsTrue, MatchOption, map, All};
 ghost use Rattle.rg_refuting.specs.Refutes.{IsMultiplier, LeafRefutes, IsSeparationProblem};
 ghost use Rattle.rg_reasons.specs.Certificates.{IsRowOf};
-ghost use Rattle.rg_reasons.specs.Trees.{named_row, row_name_of};
+ghost use Rattle.rg_reasons.specs.Trees.{named_row};
 ghost use Rattle.rg_verify.specs.Judged.{IsRightRow, IsDefectOf};
 ghost use Rattle.rg_verify.specs.Settings.{StandsIn, expression_in};
 ghost use Rattle.rg_verify.specs.Sides.{AreSidesOf};
@@ -13,7 +13,8 @@ use crate::sums::{Stop, Sums};
 use crate::verdict::Defect;
 use rg_lts::Lts;
 use rg_memory::NoMemory;
-use rg_reasons::{ProblemCase, RowName, Side};
+use rg_reasons::ProblemCase;
+use rg_refuting::{RowName, Side};
 
 /// What is wrong with the rows of a leaf; None where they refute. The sums are the table for the leaf, and are 0 before and after.
 pub(crate) fn leaf_defect(
@@ -68,7 +69,7 @@ fn row_defect(
 
 // Whether the number may be the multiplier of the row: any number of an arc's, and of others one that is at least 1.
 fn is_multiplier(name: RowName, multiplier: i128) -> bool
-    ensures { IsTrue result ↔ IsMultiplier multiplier (row_name_of name) }
+    ensures { IsTrue result ↔ IsMultiplier multiplier name }
 {
     match name {
         RowName::Arc(_) => true,

@@ -13,5 +13,5 @@ mod verdict;
 pub use judging::verify;
 pub use laws::one_verdict;
 pub use rg_memory::NoMemory;
-pub use rg_reasons::Variable;
+pub use rg_refuting::Variable;
 pub use verdict::{Defect, Verdict};

@@ -2,14 +2,14 @@
 ghost use Rattle.std.specs.Prelude.{◌≡◌, ◌↔◌, IsTrue};
 ghost use Rattle.rg_refuting.specs.Refutes.{IsSeparationProblem};
 ghost use Rattle.rg_reasons.specs.Certificates.{IsRowNameOf};
-ghost use Rattle.rg_reasons.specs.Trees.{row_name_of};
 ghost use Rattle.rg_reasons.specs.Sums.{terms_in};
 ghost use Rattle.rg_verify.specs.Settings.{expression_in};
 ghost use Rattle.rg_verify.specs.Sides.{AreSidesOf};
 ghost use Rattle.rg_verify.specs.Terms.{opposite, AreOpposite, IsReducedSum, IsExpressionOf};
 
 use rg_lts::Lts;
-use rg_reasons::{Expression, ProblemCase, RowName, Side, Term, expression};
+use rg_reasons::{Expression, ProblemCase, Term, expression};
+use rg_refuting::{RowName, Side};
 
 /// What a row says in a case of a problem and below the sides above it, where the coefficients of one variable are
 /// added up.
@@ -21,8 +21,8 @@ pub(crate) fn row_expression(
 ) -> Expression
     requires asked { IsSeparationProblem lts.now problem_case.problem }
     requires sides { AreSidesOf lts.now above.now }
-    requires name { IsRowNameOf lts.now (row_name_of name) }
-    ensures { IsExpressionOf lts.now result (expression_in lts.now problem_case above.now (row_name_of name)) }
+    requires name { IsRowNameOf lts.now name }
+    ensures { IsExpressionOf lts.now result (expression_in lts.now problem_case above.now name) }
 {
     lts.is_well_formed();
     without_opposites(expression(lts, problem_case, above, name))

@@ -4,19 +4,18 @@ ghost use Rattle.rg_theory.specs.System.{arc, states, labels, IsArcBefore};
 ghost use Rattle.rg_refuting.specs.Row.{HasArcAt, SharedStands, EventStands};
 ghost use Rattle.rg_refuting.specs.Refutes.{IsSeparationProblem};
 ghost use Rattle.rg_reasons.specs.Certificates.{IsRowNameOf};
-ghost use Rattle.rg_reasons.specs.Trees.{row_name_of};
 ghost use Rattle.rg_verify.specs.Settings.{StandsIn};
-ghost use Rattle.rg_verify.specs.Sides.{sides_of};
 
 use rg_lts::Lts;
-use rg_reasons::{ProblemCase, RowName, Side};
+use rg_reasons::ProblemCase;
+use rg_refuting::{RowName, Side};
 use rg_theory::{Arc, Class, Problem};
 
 /// Whether the row stands in a case of a problem, below the sides above it.
 pub(crate) fn stands(lts: &Lts, problem_case: ProblemCase, above: &[Side], name: RowName) -> bool
     requires asked { IsSeparationProblem lts.now problem_case.problem }
-    requires name { IsRowNameOf lts.now (row_name_of name) }
-    ensures { IsTrue result ↔ StandsIn lts.now problem_case above.now (row_name_of name) }
+    requires name { IsRowNameOf lts.now name }
+    ensures { IsTrue result ↔ StandsIn lts.now problem_case above.now name }
 {
     match problem_case.problem {
         Problem::Event(_, t) => event_stands(lts, problem_case.class, t, above, name),
@@ -36,8 +35,8 @@ pub(crate) fn stands(lts: &Lts, problem_case: ProblemCase, above: &[Side], name:
 // Whether the row stands in a problem of the label, at whatever state.
 fn event_stands(lts: &Lts, class: Class, t: u32, above: &[Side], name: RowName) -> bool
     requires label { t < labels lts.now }
-    requires name { IsRowNameOf lts.now (row_name_of name) }
-    ensures { IsTrue result ↔ EventStands lts.now class 0 t (sides_of above.now) (row_name_of name) }
+    requires name { IsRowNameOf lts.now name }
+    ensures { IsTrue result ↔ EventStands lts.now class 0 t above.now name }
 {
     match name {
         RowName::Stop(q) => !class.pure && !class.plain && has_arc_at(lts, q, t),
@@ -50,8 +49,8 @@ fn event_stands(lts: &Lts, class: Class, t: u32, above: &[Side], name: RowName) 
 
 // Whether the row speaks of no problem and stands, where the consumer alone may take from the place.
 fn shared_stands(lts: &Lts, class: Class, consumer: u32, above: &[Side], name: RowName) -> bool
-    requires name { IsRowNameOf lts.now (row_name_of name) }
-    ensures { IsTrue result ↔ SharedStands lts.now class consumer (sides_of above.now) (row_name_of name) }
+    requires name { IsRowNameOf lts.now name }
+    ensures { IsTrue result ↔ SharedStands lts.now class consumer above.now name }
 {
     match name {
         RowName::Arc(arc) => has_arc(lts.arcs(), &arc),

@@ -2,19 +2,18 @@
 ghost use Rattle.std.specs.Prelude.{◌≡◌, ◌↔◌, ◌+◌, ◌<◌, ◌^◌, ◌≤◌, ◌⊎◌, [], ◌∷◌, if◌then◌else◌, IsTrue, IfOk, IfErr, OnOk, MatchOption, Some, pos, ◌+ℤ◌, nat_abs, map, All, Contains, length};
 ghost use Rattle.rg_integers.specs.Range.{InRange, greatest};
 ghost use Rattle.rg_refuting.specs.Expression.{same_variable};
-ghost use Rattle.rg_refuting.specs.Expression as linear;
 ghost use Rattle.rg_refuting.specs.Refutes.{IsSeparationProblem, IsSmall};
 ghost use Rattle.rg_reasons.specs.Certificates.{IsRowOf};
 ghost use Rattle.rg_reasons.specs.Trees.{named_row};
 ghost use Rattle.rg_verify.specs.Judged.{IsVariableBefore};
-ghost use Rattle.rg_reasons.specs.Sums.{variable_of};
 
 use crate::opposites::row_expression;
 use crate::verdict::{Defect, comes_before};
 use rg_integers::GREATEST;
 use rg_lts::Lts;
 use rg_memory::NoMemory;
-use rg_reasons::{Expression, ProblemCase, RowName, Side, Term, Variable};
+use rg_reasons::{Expression, ProblemCase, Term};
+use rg_refuting::{RowName, Side, Variable};
 use std::alloc::{AllocError, AllocFailed, Global};
 
 /// A sum of numbers, and that of their absolute values.
@@ -117,8 +116,8 @@ impl Sums {
 
     // The entry of a variable.
     fn get(&self, variable: Variable) -> Sum
-        requires { HasEntry self.now (variable_of variable) }
-        ensures { entry_of self.now (variable_of variable) ≡ Some result }
+        requires { HasEntry self.now variable }
+        ensures { entry_of self.now variable ≡ Some result }
     {
         match variable {
             Variable::Tokens(q) => self.tokens[q as usize],
@@ -128,8 +127,8 @@ impl Sums {
 
     // Changes the entry of a variable.
     fn set(&mut self, variable: Variable, sum: Sum)
-        requires { HasEntry self.old (variable_of variable) }
-        ensures entries { (w : linear.Variable) → entry_of self.new w ≡ (if same_variable (variable_of variable) w then Some sum else entry_of self.old w) }
+        requires { HasEntry self.old variable }
+        ensures entries { (w : Variable) → entry_of self.new w ≡ (if same_variable variable w then Some sum else entry_of self.old w) }
         ensures variables { HasSameVariables self.old self.new }
         ensures constant { self.new.constant ≡ self.old.constant }
         ensures touched { self.new.touched.items ≡ self.old.touched.items }
@@ -143,11 +142,11 @@ impl Sums {
     // Lists the variable as touched.
     fn touch(&mut self, variable: Variable) -> Result<(), Stop>
         requires tidy { IsTidy self.old }
-        requires entry { HasEntry self.old (variable_of variable) }
+        requires entry { HasEntry self.old variable }
         ensures tidy { IsTidy self.new }
         ensures same { HasSameEntries self.old self.new }
         ensures constant { self.new.constant ≡ self.old.constant }
-        ensures listed { OnOk result (Contains (map variable_of self.new.touched.items) (variable_of variable)) }
+        ensures listed { OnOk result (Contains self.new.touched.items variable) }
         ensures cause { IfErr result (λ e. e ≡ stop.NoMemory) }
     {
         if self.get(variable).size == 0 {
@@ -241,7 +240,7 @@ impl Sums {
     // The first variable whose sum isn't 0.
     fn left_over(&self) -> Option<Variable>
         requires { IsTidy self.now }
-        ensures { MatchOption result ((v : linear.Variable) → signed_at self.now v ≡ pos 0) (λ v. IsLeftFirst self.now (variable_of v)) }
+        ensures { MatchOption result ((v : Variable) → signed_at self.now v ≡ pos 0) (λ v. IsLeftFirst self.now v) }
     {
         let mut first: Option<Variable> = None;
         for variable in &self.touched {
@@ -280,7 +279,7 @@ impl Sums {
 
 // The first of a variable, if there is one, and another.
 fn first_of(first: Option<Variable>, other: Variable) -> Variable
-    ensures { MatchOption first (result ≡ other) (λ v. ((result ≡ v) × IsVariableBefore (variable_of v) (variable_of other)) ⊎ ((result ≡ other) × (¬ IsVariableBefore (variable_of v) (variable_of other)))) }
+    ensures { MatchOption first (result ≡ other) (λ v. ((result ≡ v) × IsVariableBefore v other) ⊎ ((result ≡ other) × (¬ IsVariableBefore v other))) }
 {
     match first {
         Some(variable) if comes_before(variable, other) => variable,

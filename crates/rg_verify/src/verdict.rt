@@ -1,13 +1,12 @@
 //! What is said of a certificate.
 ghost use Rattle.std.specs.Prelude.{◌↔◌, IsTrue};
 ghost use Rattle.rg_verify.specs.Judged.{IsVariableBefore};
-ghost use Rattle.rg_reasons.specs.Sums.{variable_of};
 
-use rg_reasons::Variable;
+use rg_refuting::Variable;
 
 // Whether the one variable comes before the other: tokens come first, by state, then effects, by label.
 pub(crate) fn comes_before(one: Variable, other: Variable) -> bool
-    ensures { IsTrue result ↔ IsVariableBefore (variable_of one) (variable_of other) }
+    ensures { IsTrue result ↔ IsVariableBefore one other }
 {
     match (one, other) {
         (Variable::Tokens(q), Variable::Tokens(r)) => q < r,

@@ -7,7 +7,6 @@ use Rattle.rg_reasons.specs.Trees.{named_row}
 use Rattle.rg_order_of_work.specs.Fold.{ratio_of}
 use Rattle.rg_order_of_work.specs.Rewriting.{scaled_fold}
 use Rattle.rg_order_of_work.specs.Spreading.{chord_arcs, tree_fold, checked_leaf}
-use Rattle.rg_reasons.specs.Sums.{side_of}
 use Rattle.rg_farkas.specs.Leaves.{share_of}
 use Rattle.rg_case_parts.specs.WholeNumbers.{scaled_of}
 use Rattle.rg_farkas.specs.View.{counted_of, named_of, arc_times}
@@ -20,7 +19,7 @@ used_chords-requires-clause-few c = few_kept c.args.lts.now c.args.tree.now.arcs
 
 pub chord_shares-requires-clause-counts : goal.chord_shares-requires-clause-counts
 chord_shares-requires-clause-counts c = all_dependent c.args.lts.now c.args.tree.now.arcs (cycle_of c.args.basis.now)
-    (row_expression c.args.lts.now c.args.case.class c.args.case.problem c.args.case.number (map side_of c.args.above.now)) (map share_of c.args.named.now)
+    (row_expression c.args.lts.now c.args.case.class c.args.case.problem c.args.case.number c.args.above.now) (map share_of c.args.named.now)
     (map counted_of c.deref.result.now) (ap (map counted_of) c.deref.ensures.value ∙ c.in_ok-counts.ensures)
 
 pub chord_shares-requires-clause-used : goal.chord_shares-requires-clause-used
@@ -32,9 +31,9 @@ returns-in_err-shares-clause-wide c = λ w e.
     let is : c.in_err-shares.field-0.0 ≡ stop.Wide w = cc in
     let told = c.in_err-shares.ensures.wide w (ap Err is) in
     leaf_unshared c.args.lts.now c.args.tree.now.arcs (cycle_of c.args.basis.now)
-    (row_expression c.args.lts.now c.args.case.class c.args.case.problem c.args.case.number (map side_of c.args.above.now)) (map share_of c.args.named.now) w
+    (row_expression c.args.lts.now c.args.case.class c.args.case.problem c.args.case.number c.args.above.now) (map share_of c.args.named.now) w
     (chords_told c.args.lts.now c.args.tree.now.arcs (cycle_of c.args.basis.now)
-    (row_expression c.args.lts.now c.args.case.class c.args.case.problem c.args.case.number (map side_of c.args.above.now)) (map share_of c.args.named.now)
+    (row_expression c.args.lts.now c.args.case.class c.args.case.problem c.args.case.number c.args.above.now) (map share_of c.args.named.now)
     (map counted_of c.deref.result.now) (ap (map counted_of) c.deref.ensures.value ∙ c.in_ok-counts.ensures) c.deref-2.result.now c.in_ok-used.used.items
     c.deref-2.ensures.value c.in_ok-used.ensures (Err w) told)
 
@@ -44,10 +43,10 @@ returns-in_err-scaled-clause-wide c = λ w e.
     let is : c.in_err-scaled.field-0.0 ≡ stop.Wide w = cc in
     let told = c.in_err-scaled.ensures.wide w (ap Err is) in
     leaf_unscaled c.args.lts.now c.args.tree.now.arcs (cycle_of c.args.basis.now)
-    (row_expression c.args.lts.now c.args.case.class c.args.case.problem c.args.case.number (map side_of c.args.above.now)) (map share_of c.args.named.now)
+    (row_expression c.args.lts.now c.args.case.class c.args.case.problem c.args.case.number c.args.above.now) (map share_of c.args.named.now)
     (map ratio_of c.in_ok-shares.shares.items)
     (chords_told c.args.lts.now c.args.tree.now.arcs (cycle_of c.args.basis.now)
-    (row_expression c.args.lts.now c.args.case.class c.args.case.problem c.args.case.number (map side_of c.args.above.now)) (map share_of c.args.named.now)
+    (row_expression c.args.lts.now c.args.case.class c.args.case.problem c.args.case.number c.args.above.now) (map share_of c.args.named.now)
     (map counted_of c.deref.result.now) (ap (map counted_of) c.deref.ensures.value ∙ c.in_ok-counts.ensures) c.deref-2.result.now c.in_ok-used.used.items
     c.deref-2.ensures.value c.in_ok-used.ensures (Ok (map ratio_of c.in_ok-shares.shares.items)) c.in_ok-shares.ensures.value) w
     (subst (λ l. scaled_fold l (Err w)) (fractions_are c.args.named.now c.deref-3.result.now c.in_ok-shares.shares.items c.in_ok-fractions.fractions.items
@@ -73,17 +72,17 @@ returns-in_err-multipliers-clause-wide c = λ w e.
     let same : c.from_residual-in_err-multipliers.result ≡ Err c.in_err-multipliers.field-0.0 = search rules in
     let is : c.in_err-multipliers.field-0.0 ≡ stop.Wide w = cc in
     leaf_untreed c.args.lts.now c.args.tree.now.arcs (cycle_of c.args.basis.now)
-    (row_expression c.args.lts.now c.args.case.class c.args.case.problem c.args.case.number (map side_of c.args.above.now)) (map share_of c.args.named.now)
+    (row_expression c.args.lts.now c.args.case.class c.args.case.problem c.args.case.number c.args.above.now) (map share_of c.args.named.now)
     (map ratio_of c.in_ok-shares.shares.items)
     (chords_told c.args.lts.now c.args.tree.now.arcs (cycle_of c.args.basis.now)
-    (row_expression c.args.lts.now c.args.case.class c.args.case.problem c.args.case.number (map side_of c.args.above.now)) (map share_of c.args.named.now)
+    (row_expression c.args.lts.now c.args.case.class c.args.case.problem c.args.case.number c.args.above.now) (map share_of c.args.named.now)
     (map counted_of c.deref.result.now) (ap (map counted_of) c.deref.ensures.value ∙ c.in_ok-counts.ensures) c.deref-2.result.now c.in_ok-used.used.items
     c.deref-2.ensures.value c.in_ok-used.ensures (Ok (map ratio_of c.in_ok-shares.shares.items)) c.in_ok-shares.ensures.value) (scaled_of c.in_ok-scaled.scaled)
     (subst (λ l. scaled_fold l (Ok (scaled_of c.in_ok-scaled.scaled)))
     (fractions_are c.args.named.now c.deref-3.result.now c.in_ok-shares.shares.items c.in_ok-fractions.fractions.items c.deref-4.result.now c.deref-3.ensures.value
     c.in_ok-fractions.ensures c.deref-4.ensures.value) c.in_ok-scaled.ensures.value) w
     (tree_made c.args.lts.now c.args.tree.now.arcs (cycle_of c.args.basis.now) c.args.named.now
-    (row_expression c.args.lts.now c.args.case.class c.args.case.problem c.args.case.number (map side_of c.args.above.now)) c.in_ok-listed.listed.items
+    (row_expression c.args.lts.now c.args.case.class c.args.case.problem c.args.case.number c.args.above.now) c.in_ok-listed.listed.items
     c.deref-8.result.now c.in_ok-rows.rows.items c.deref-9.result.now c.arcs.result.now c.in_ok-scaled.scaled.numbers.items c.deref-8.ensures.value
     (listed_are c.args.lts.now c.args.tree.now.arcs (cycle_of c.args.basis.now) c.args.named.now c.in_ok-chords.chords.items c.deref-6.result.now
     c.in_ok-scaled.scaled.numbers.items c.deref-7.result.now c.in_ok-listed.listed.items c.deref-6.ensures.value c.in_ok-chords.ensures c.deref-7.ensures.value
@@ -119,17 +118,17 @@ returns-in_err-check_sizes-clause-wide c = λ w e.
     let same : c.from_residual-in_err-check_sizes.result ≡ Err c.in_err-check_sizes.field-0.0 = search rules in
     let is : c.in_err-check_sizes.field-0.0 ≡ stop.Wide w = cc in
     leaf_unchecked c.args.lts.now c.args.tree.now.arcs (cycle_of c.args.basis.now)
-    (row_expression c.args.lts.now c.args.case.class c.args.case.problem c.args.case.number (map side_of c.args.above.now)) (map share_of c.args.named.now)
+    (row_expression c.args.lts.now c.args.case.class c.args.case.problem c.args.case.number c.args.above.now) (map share_of c.args.named.now)
     (map ratio_of c.in_ok-shares.shares.items)
     (chords_told c.args.lts.now c.args.tree.now.arcs (cycle_of c.args.basis.now)
-    (row_expression c.args.lts.now c.args.case.class c.args.case.problem c.args.case.number (map side_of c.args.above.now)) (map share_of c.args.named.now)
+    (row_expression c.args.lts.now c.args.case.class c.args.case.problem c.args.case.number c.args.above.now) (map share_of c.args.named.now)
     (map counted_of c.deref.result.now) (ap (map counted_of) c.deref.ensures.value ∙ c.in_ok-counts.ensures) c.deref-2.result.now c.in_ok-used.used.items
     c.deref-2.ensures.value c.in_ok-used.ensures (Ok (map ratio_of c.in_ok-shares.shares.items)) c.in_ok-shares.ensures.value) (scaled_of c.in_ok-scaled.scaled)
     (subst (λ l. scaled_fold l (Ok (scaled_of c.in_ok-scaled.scaled)))
     (fractions_are c.args.named.now c.deref-3.result.now c.in_ok-shares.shares.items c.in_ok-fractions.fractions.items c.deref-4.result.now c.deref-3.ensures.value
     c.in_ok-fractions.ensures c.deref-4.ensures.value) c.in_ok-scaled.ensures.value) (arc_times c.args.tree.now.arcs c.in_ok-multipliers.multipliers.items)
     (tree_made c.args.lts.now c.args.tree.now.arcs (cycle_of c.args.basis.now) c.args.named.now
-    (row_expression c.args.lts.now c.args.case.class c.args.case.problem c.args.case.number (map side_of c.args.above.now)) c.in_ok-listed.listed.items
+    (row_expression c.args.lts.now c.args.case.class c.args.case.problem c.args.case.number c.args.above.now) c.in_ok-listed.listed.items
     c.deref-8.result.now c.in_ok-rows.rows.items c.deref-9.result.now c.arcs.result.now c.in_ok-scaled.scaled.numbers.items c.deref-8.ensures.value
     (listed_are c.args.lts.now c.args.tree.now.arcs (cycle_of c.args.basis.now) c.args.named.now c.in_ok-chords.chords.items c.deref-6.result.now
     c.in_ok-scaled.scaled.numbers.items c.deref-7.result.now c.in_ok-listed.listed.items c.deref-6.ensures.value c.in_ok-chords.ensures c.deref-7.ensures.value
@@ -141,20 +140,20 @@ returns-in_err-check_sizes-clause-wide c = λ w e.
     c.deref-10.result.now c.in_ok-multipliers.multipliers.items c.deref-11.result.now c.in_ok-parts.parts.items c.arcs.ensures c.deref-10.ensures.value
     c.deref-11.ensures.value c.in_ok-multipliers.ensures.one_each c.in_ok-parts.ensures.parts) w
     (checked_as c.args.lts.now c.args.tree.now.arcs (cycle_of c.args.basis.now) c.args.named.now
-    (row_expression c.args.lts.now c.args.case.class c.args.case.problem c.args.case.number (map side_of c.args.above.now)) c.push_arcs.new.rows.items
+    (row_expression c.args.lts.now c.args.case.class c.args.case.problem c.args.case.number c.args.above.now) c.push_arcs.new.rows.items
     c.deref-16.result.now c.in_ok-rows-2.rows.items c.deref-17.result.now
     (leaf_rows_of c.args.lts.now c.args.tree.now.arcs (cycle_of c.args.basis.now)
-    (row_expression c.args.lts.now c.args.case.class c.args.case.problem c.args.case.number (map side_of c.args.above.now)) (map share_of c.args.named.now)
+    (row_expression c.args.lts.now c.args.case.class c.args.case.problem c.args.case.number c.args.above.now) (map share_of c.args.named.now)
     (map ratio_of c.in_ok-shares.shares.items)
     (chords_told c.args.lts.now c.args.tree.now.arcs (cycle_of c.args.basis.now)
-    (row_expression c.args.lts.now c.args.case.class c.args.case.problem c.args.case.number (map side_of c.args.above.now)) (map share_of c.args.named.now)
+    (row_expression c.args.lts.now c.args.case.class c.args.case.problem c.args.case.number c.args.above.now) (map share_of c.args.named.now)
     (map counted_of c.deref.result.now) (ap (map counted_of) c.deref.ensures.value ∙ c.in_ok-counts.ensures) c.deref-2.result.now c.in_ok-used.used.items
     c.deref-2.ensures.value c.in_ok-used.ensures (Ok (map ratio_of c.in_ok-shares.shares.items)) c.in_ok-shares.ensures.value) (scaled_of c.in_ok-scaled.scaled)
     (subst (λ l. scaled_fold l (Ok (scaled_of c.in_ok-scaled.scaled)))
     (fractions_are c.args.named.now c.deref-3.result.now c.in_ok-shares.shares.items c.in_ok-fractions.fractions.items c.deref-4.result.now c.deref-3.ensures.value
     c.in_ok-fractions.ensures c.deref-4.ensures.value) c.in_ok-scaled.ensures.value) (arc_times c.args.tree.now.arcs c.in_ok-multipliers.multipliers.items)
     (tree_made c.args.lts.now c.args.tree.now.arcs (cycle_of c.args.basis.now) c.args.named.now
-    (row_expression c.args.lts.now c.args.case.class c.args.case.problem c.args.case.number (map side_of c.args.above.now)) c.in_ok-listed.listed.items
+    (row_expression c.args.lts.now c.args.case.class c.args.case.problem c.args.case.number c.args.above.now) c.in_ok-listed.listed.items
     c.deref-8.result.now c.in_ok-rows.rows.items c.deref-9.result.now c.arcs.result.now c.in_ok-scaled.scaled.numbers.items c.deref-8.ensures.value
     (listed_are c.args.lts.now c.args.tree.now.arcs (cycle_of c.args.basis.now) c.args.named.now c.in_ok-chords.chords.items c.deref-6.result.now
     c.in_ok-scaled.scaled.numbers.items c.deref-7.result.now c.in_ok-listed.listed.items c.deref-6.ensures.value c.in_ok-chords.ensures c.deref-7.ensures.value
@@ -174,17 +173,17 @@ returns-in_err-check_sizes-clause-wide c = λ w e.
 
 pub returns-clause-leaf : goal.returns-clause-leaf
 returns-clause-leaf c = leaf_made c.args.lts.now c.args.tree.now.arcs (cycle_of c.args.basis.now)
-    (row_expression c.args.lts.now c.args.case.class c.args.case.problem c.args.case.number (map side_of c.args.above.now)) (map share_of c.args.named.now)
+    (row_expression c.args.lts.now c.args.case.class c.args.case.problem c.args.case.number c.args.above.now) (map share_of c.args.named.now)
     (map ratio_of c.in_ok-shares.shares.items)
     (chords_told c.args.lts.now c.args.tree.now.arcs (cycle_of c.args.basis.now)
-    (row_expression c.args.lts.now c.args.case.class c.args.case.problem c.args.case.number (map side_of c.args.above.now)) (map share_of c.args.named.now)
+    (row_expression c.args.lts.now c.args.case.class c.args.case.problem c.args.case.number c.args.above.now) (map share_of c.args.named.now)
     (map counted_of c.deref.result.now) (ap (map counted_of) c.deref.ensures.value ∙ c.in_ok-counts.ensures) c.deref-2.result.now c.in_ok-used.used.items
     c.deref-2.ensures.value c.in_ok-used.ensures (Ok (map ratio_of c.in_ok-shares.shares.items)) c.in_ok-shares.ensures.value) (scaled_of c.in_ok-scaled.scaled)
     (subst (λ l. scaled_fold l (Ok (scaled_of c.in_ok-scaled.scaled)))
     (fractions_are c.args.named.now c.deref-3.result.now c.in_ok-shares.shares.items c.in_ok-fractions.fractions.items c.deref-4.result.now c.deref-3.ensures.value
     c.in_ok-fractions.ensures c.deref-4.ensures.value) c.in_ok-scaled.ensures.value) (arc_times c.args.tree.now.arcs c.in_ok-multipliers.multipliers.items)
     (tree_made c.args.lts.now c.args.tree.now.arcs (cycle_of c.args.basis.now) c.args.named.now
-    (row_expression c.args.lts.now c.args.case.class c.args.case.problem c.args.case.number (map side_of c.args.above.now)) c.in_ok-listed.listed.items
+    (row_expression c.args.lts.now c.args.case.class c.args.case.problem c.args.case.number c.args.above.now) c.in_ok-listed.listed.items
     c.deref-8.result.now c.in_ok-rows.rows.items c.deref-9.result.now c.arcs.result.now c.in_ok-scaled.scaled.numbers.items c.deref-8.ensures.value
     (listed_are c.args.lts.now c.args.tree.now.arcs (cycle_of c.args.basis.now) c.args.named.now c.in_ok-chords.chords.items c.deref-6.result.now
     c.in_ok-scaled.scaled.numbers.items c.deref-7.result.now c.in_ok-listed.listed.items c.deref-6.ensures.value c.in_ok-chords.ensures c.deref-7.ensures.value
@@ -196,20 +195,20 @@ returns-clause-leaf c = leaf_made c.args.lts.now c.args.tree.now.arcs (cycle_of 
     c.in_ok-multipliers.multipliers.items c.deref-11.result.now c.in_ok-parts.parts.items c.arcs.ensures c.deref-10.ensures.value c.deref-11.ensures.value
     c.in_ok-multipliers.ensures.one_each c.in_ok-parts.ensures.parts) (map named_row c.push_arcs.new.rows.items)
     (checked_as c.args.lts.now c.args.tree.now.arcs (cycle_of c.args.basis.now) c.args.named.now
-    (row_expression c.args.lts.now c.args.case.class c.args.case.problem c.args.case.number (map side_of c.args.above.now)) c.push_arcs.new.rows.items
+    (row_expression c.args.lts.now c.args.case.class c.args.case.problem c.args.case.number c.args.above.now) c.push_arcs.new.rows.items
     c.deref-16.result.now c.in_ok-rows-2.rows.items c.deref-17.result.now
     (leaf_rows_of c.args.lts.now c.args.tree.now.arcs (cycle_of c.args.basis.now)
-    (row_expression c.args.lts.now c.args.case.class c.args.case.problem c.args.case.number (map side_of c.args.above.now)) (map share_of c.args.named.now)
+    (row_expression c.args.lts.now c.args.case.class c.args.case.problem c.args.case.number c.args.above.now) (map share_of c.args.named.now)
     (map ratio_of c.in_ok-shares.shares.items)
     (chords_told c.args.lts.now c.args.tree.now.arcs (cycle_of c.args.basis.now)
-    (row_expression c.args.lts.now c.args.case.class c.args.case.problem c.args.case.number (map side_of c.args.above.now)) (map share_of c.args.named.now)
+    (row_expression c.args.lts.now c.args.case.class c.args.case.problem c.args.case.number c.args.above.now) (map share_of c.args.named.now)
     (map counted_of c.deref.result.now) (ap (map counted_of) c.deref.ensures.value ∙ c.in_ok-counts.ensures) c.deref-2.result.now c.in_ok-used.used.items
     c.deref-2.ensures.value c.in_ok-used.ensures (Ok (map ratio_of c.in_ok-shares.shares.items)) c.in_ok-shares.ensures.value) (scaled_of c.in_ok-scaled.scaled)
     (subst (λ l. scaled_fold l (Ok (scaled_of c.in_ok-scaled.scaled)))
     (fractions_are c.args.named.now c.deref-3.result.now c.in_ok-shares.shares.items c.in_ok-fractions.fractions.items c.deref-4.result.now c.deref-3.ensures.value
     c.in_ok-fractions.ensures c.deref-4.ensures.value) c.in_ok-scaled.ensures.value) (arc_times c.args.tree.now.arcs c.in_ok-multipliers.multipliers.items)
     (tree_made c.args.lts.now c.args.tree.now.arcs (cycle_of c.args.basis.now) c.args.named.now
-    (row_expression c.args.lts.now c.args.case.class c.args.case.problem c.args.case.number (map side_of c.args.above.now)) c.in_ok-listed.listed.items
+    (row_expression c.args.lts.now c.args.case.class c.args.case.problem c.args.case.number c.args.above.now) c.in_ok-listed.listed.items
     c.deref-8.result.now c.in_ok-rows.rows.items c.deref-9.result.now c.arcs.result.now c.in_ok-scaled.scaled.numbers.items c.deref-8.ensures.value
     (listed_are c.args.lts.now c.args.tree.now.arcs (cycle_of c.args.basis.now) c.args.named.now c.in_ok-chords.chords.items c.deref-6.result.now
     c.in_ok-scaled.scaled.numbers.items c.deref-7.result.now c.in_ok-listed.listed.items c.deref-6.ensures.value c.in_ok-chords.ensures c.deref-7.ensures.value

@@ -1,24 +1,23 @@
 use Rattle.std.proofs.Common.{rules, ◌≡◌, ◌∙◌, ◌++◌, ◌∷◌, [], Err, map, ap}
 use Rattle.std.specs.Prelude.{pos}
-use Rattle.rg_reasons.specs.Sums.{variable_of}
-use Rattle.rg_reasons.specs.declared.variable.Variable.TheVariants.{Tokens}
 use Rattle.rg_fraction.specs.declared.fold_stop.FoldStop.TheVariants as stop
 use Rattle.rg_order_of_work.proofs.Folding.{each_start}
 use Rattle.rg_order_of_work.specs.Fold.{further, whole_sum}
 use Rattle.rg_farkas.specs.View.{size_fold, coefficient_at}
 use Rattle.rg_farkas.proofs.Told.{variable_fails, variable_next, variables_end, leaf_unsummed, leaf_too_great, leaf_checked}
 use Rattle.rg_farkas.proofs.sizes.check_sizes.Goals as goal
+use Rattle.rg_refuting.specs.declared.Variable.TheVariants.{Tokens}
 
 pub loop-variable-init : goal.loop-variable-init
-loop-variable-init c = ([], each_start (λ v. further whole_sum (size_fold (coefficient_at v)) (pos 0) c.args.rows.now) (map variable_of c.deref-variable-items.result.now))
+loop-variable-init c = ([], each_start (λ v. further whole_sum (size_fold (coefficient_at v)) (pos 0) c.args.rows.now) c.deref-variable-items.result.now)
 
 pub returns-in_err-coefficient_sizes-clause-wide : goal.returns-in_err-coefficient_sizes-clause-wide
 returns-in_err-coefficient_sizes-clause-wide c = λ w e expression told.
     let same : c.from_residual-in_err-coefficient_sizes.result ≡ Err (stop.Wide c.in_err-coefficient_sizes.field-0.0) = search rules in
     let is : c.in_err-coefficient_sizes.field-0.0 ≡ w = cc in
     let (sums, so_far) = c.loop-variable.invariant in
-    let h = leaf_unsummed expression c.args.rows.now told c.args.lts.now (map variable_of c.deref-variable-items.result.now)
-    (ap (map variable_of) c.deref-variable-items.ensures.value ∙ c.in_ok-variables.ensures) c.in_err-coefficient_sizes.field-0.0
+    let h = leaf_unsummed expression c.args.rows.now told c.args.lts.now c.deref-variable-items.result.now
+    (c.deref-variable-items.ensures.value ∙ c.in_ok-variables.ensures) c.in_err-coefficient_sizes.field-0.0
     (variable_fails c.args.rows.now c.deref-variable-items.result.now c.loop-variable.variable-index
     (Tokens 0) c.loop-variable-test.true sums so_far c.in_err-coefficient_sizes.field-0.0 c.in_err-coefficient_sizes.ensures) in
     rw is at h
@@ -33,8 +32,8 @@ returns-in_err-constant_sizes-clause-wide c = λ w e expression told.
     let same : c.from_residual-in_err-constant_sizes.result ≡ Err (stop.Wide c.in_err-constant_sizes.field-0.0) = search rules in
     let is : c.in_err-constant_sizes.field-0.0 ≡ w = cc in
     let (sums, so_far) = c.loop-variable.invariant in
-    let h = leaf_too_great expression c.args.rows.now told c.args.lts.now (map variable_of c.deref-variable-items.result.now)
-    (ap (map variable_of) c.deref-variable-items.ensures.value ∙ c.in_ok-variables.ensures) sums c.in_err-constant_sizes.field-0.0
+    let h = leaf_too_great expression c.args.rows.now told c.args.lts.now c.deref-variable-items.result.now
+    (c.deref-variable-items.ensures.value ∙ c.in_ok-variables.ensures) sums c.in_err-constant_sizes.field-0.0
     (variables_end c.args.rows.now c.deref-variable-items.result.now c.loop-variable.variable-index sums so_far c.loop-variable-test.false)
     c.in_err-constant_sizes.ensures in
     rw is at h
@@ -42,7 +41,7 @@ returns-in_err-constant_sizes-clause-wide c = λ w e expression told.
 pub returns-clause-value : goal.returns-clause-value
 returns-clause-value c = λ expression told.
     let (sums, so_far) = c.loop-variable.invariant in
-    leaf_checked expression c.args.rows.now told c.args.lts.now (map variable_of c.deref-variable-items.result.now)
-    (ap (map variable_of) c.deref-variable-items.ensures.value ∙ c.in_ok-variables.ensures) sums c.in_ok-constant_sizes.field-0
+    leaf_checked expression c.args.rows.now told c.args.lts.now c.deref-variable-items.result.now
+    (c.deref-variable-items.ensures.value ∙ c.in_ok-variables.ensures) sums c.in_ok-constant_sizes.field-0
     (variables_end c.args.rows.now c.deref-variable-items.result.now c.loop-variable.variable-index sums so_far c.loop-variable-test.false)
     c.in_ok-constant_sizes.ensures

@@ -1,7 +1,6 @@
 use Rattle.std.proofs.Common.{rules, ◌≡◌, Err, ◌∙◌}
 use Rattle.std.specs.Int.{w128, cast_signed}
 use Rattle.rg_integers.proofs.Casts.{back}
-use Rattle.rg_reasons.specs.Sums.{variable_of}
 use Rattle.rg_farkas.specs.View.{coefficient_at}
 use Rattle.rg_farkas.proofs.RowSteps.{size_unmade, size_unjoined, size_next, size_ends}
 use Rattle.rg_farkas.proofs.sizes.coefficient_sizes.Goals as goal
@@ -12,7 +11,7 @@ returns-in_err-size c =
     let m = back c.row-item.result.multiplier c.row-item.result.multiplier_in_range in
     let k = back c.coefficient-number.result c.coefficient-number.ensures.in_range ∙ c.coefficient-number.ensures.value in
     let made = rw (m, k) at c.in_err-size.ensures.value in
-    rw same (size_unmade (coefficient_at (variable_of c.args.variable)) c.args.rows.now c.loop-row.row-index c.row-item.result c.loop-row-test.true c.row-item.is (cast_signed w128 c.loop-row.sum-bits) c.loop-row.invariant.so_far c.in_err-size.field-0.0 made)
+    rw same (size_unmade (coefficient_at c.args.variable) c.args.rows.now c.loop-row.row-index c.row-item.result c.loop-row-test.true c.row-item.is (cast_signed w128 c.loop-row.sum-bits) c.loop-row.invariant.so_far c.in_err-size.field-0.0 made)
 
 pub returns-in_err-sum : goal.returns-in_err-sum
 returns-in_err-sum c =
@@ -21,7 +20,7 @@ returns-in_err-sum c =
     let k = back c.coefficient-number.result c.coefficient-number.ensures.in_range ∙ c.coefficient-number.ensures.value in
     let made = rw (m, k) at c.in_ok-size.ensures.value in
     let joins = rw (back c.in_ok-size.size c.in_ok-size.ensures.in_range) at c.in_err-sum.ensures.value in
-    rw same (size_unjoined (coefficient_at (variable_of c.args.variable)) c.args.rows.now c.loop-row.row-index c.row-item.result c.loop-row-test.true c.row-item.is (cast_signed w128 c.loop-row.sum-bits) c.loop-row.invariant.so_far c.in_ok-size.size c.in_err-sum.field-0.0 made joins)
+    rw same (size_unjoined (coefficient_at c.args.variable) c.args.rows.now c.loop-row.row-index c.row-item.result c.loop-row-test.true c.row-item.is (cast_signed w128 c.loop-row.sum-bits) c.loop-row.invariant.so_far c.in_ok-size.size c.in_err-sum.field-0.0 made joins)
 
 pub loop-row-preserved : goal.loop-row-preserved
 loop-row-preserved c =
@@ -30,9 +29,9 @@ loop-row-preserved c =
     let made = rw (m, k) at c.in_ok-size.ensures.value in
     let joins = rw (back c.in_ok-size.size c.in_ok-size.ensures.in_range) at c.in_ok-sum.ensures.value in
     rw (back c.in_ok-sum.sum c.in_ok-sum.ensures.in_range) (record {
-      so_far = size_next (coefficient_at (variable_of c.args.variable)) c.args.rows.now c.loop-row.row-index c.row-item.result c.loop-row-test.true c.row-item.is (cast_signed w128 c.loop-row.sum-bits) c.loop-row.invariant.so_far c.in_ok-size.size c.in_ok-sum.sum made joins;
+      so_far = size_next (coefficient_at c.args.variable) c.args.rows.now c.loop-row.row-index c.row-item.result c.loop-row-test.true c.row-item.is (cast_signed w128 c.loop-row.sum-bits) c.loop-row.invariant.so_far c.in_ok-size.size c.in_ok-sum.sum made joins;
       in_range = c.in_ok-sum.ensures.in_range;
     })
 
 pub returns : goal.returns
-returns c = size_ends (coefficient_at (variable_of c.args.variable)) c.args.rows.now c.loop-row.row-index (cast_signed w128 c.loop-row.sum-bits) c.loop-row.invariant.so_far c.loop-row-test.false
+returns c = size_ends (coefficient_at c.args.variable) c.args.rows.now c.loop-row.row-index (cast_signed w128 c.loop-row.sum-bits) c.loop-row.invariant.so_far c.loop-row-test.false

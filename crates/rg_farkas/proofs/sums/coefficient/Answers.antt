@@ -4,7 +4,6 @@ use Rattle.std.specs.Int.{w128, cast_signed}
 use Rattle.std.proofs.lemmas.Int.{ints}
 use Rattle.rg_integers.proofs.Casts.{back}
 use Rattle.rg_refuting.specs.Expression.{coefficient_in}
-use Rattle.rg_reasons.specs.Sums.{variable_of}
 use Rattle.rg_case_parts.proofs.Counting.{in_range_between, coefficient_next, nothing_next, whole_sum}
 use Rattle.rg_farkas.proofs.sums.coefficient.Goals as goal
 use Rattle.rg_farkas.proofs.sums.coefficient.Goals.{in-Some, in_default}
@@ -12,7 +11,7 @@ use Rattle.rg_farkas.proofs.sums.coefficient.Goals.{in-Some, in_default}
 pub loop-place-preserved : goal.loop-place-preserved
 loop-place-preserved c =
     let sum = cast_signed w128 c.loop-place.sum-bits in
-    let v = variable_of c.args.variable in
+    let v = c.args.variable in
     elim c.match-place.branch [
       | in-Some w ↦
           let r = w.coefficient_of-sum.result in
@@ -39,4 +38,4 @@ pub returns-clause-value : goal.returns-clause-value
 returns-clause-value c =
     let places = c.args.expression.now.places in
     let past = c.loop-place-test.false in
-    whole_sum c.args.expression.now.terms c.loop-place.place-index (λ ts. coefficient_in ts (variable_of c.args.variable)) _ _ refl (omega arith) c.loop-place.invariant.total
+    whole_sum c.args.expression.now.terms c.loop-place.place-index (λ ts. coefficient_in ts c.args.variable) _ _ refl (omega arith) c.loop-place.invariant.total

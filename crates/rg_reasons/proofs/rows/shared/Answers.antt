@@ -1,12 +1,10 @@
-use Rattle.std.proofs.Common.{◌≡◌, option_map, subst, sym, ap, ◌∙◌}
-use Rattle.std.proofs.lemmas.Option.{slice_get-map}
+use Rattle.std.proofs.Common.{◌≡◌, subst, ◌∙◌}
 use Rattle.rg_refuting.specs.Row.{side_expression}
-use Rattle.rg_reasons.specs.Sums.{side_of, expression_of}
+use Rattle.rg_reasons.specs.Sums.{expression_of}
 use Rattle.rg_reasons.proofs.Places.{get_is}
 use Rattle.rg_reasons.proofs.rows.shared.Goals as goal
 
 pub returns-in-Above : goal.returns-in-Above
 returns-in-Above c =
     let is = c.copied.ensures ∙ get_is c.args.above.now c.in-Above.depth c.get.result c.get.ensures.lookup in
-    let at = ap (option_map side_of) is ∙ sym (slice_get-map side_of c.args.above.now c.in-Above.depth) in
-    rw c.in-Above.is (subst (λ o. expression_of c.of_side.result ≡ side_expression c.args.class c.args.lts.now.initial o) at c.of_side.ensures)
+    rw c.in-Above.is (subst (λ o. expression_of c.of_side.result ≡ side_expression c.args.class c.args.lts.now.initial o) is c.of_side.ensures)

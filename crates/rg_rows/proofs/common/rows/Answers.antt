@@ -4,7 +4,6 @@ use Rattle.std.proofs.lemmas.List.{length-append}
 use Rattle.rg_integers.specs.declared.term.Wide.{Wide}
 use Rattle.rg_refuting.specs.Row.{shared_expression}
 use Rattle.rg_reasons.specs.Sums.{expression_of}
-use Rattle.rg_reasons.specs.Trees.{row_name_of}
 use Rattle.rg_cycles.specs.View.{labels_of, cycle_of}
 use Rattle.rg_rows.specs.declared.case_row.CaseRow.{CaseRow}
 use Rattle.rg_rows.specs.Sharing.{row_of_kind, IsSharedRow}
@@ -19,7 +18,7 @@ loop-number-preserved c =
     let class = c.args.class in
     let kind = c.args.kind in
     let rows = c.loop-number.rows.items in
-    let name = row_name_of c.name-name.result in
+    let name = c.name-name.result in
     let e = expression_of c.expression-expression.result in
     let written = c.in_ok-written.field-0 in
     let pushed = c.in_ok-push.ensures.items in

@@ -5,9 +5,8 @@ use Rattle.std.proofs.lemmas.List.Elements.{All-nil, All-cons, All-append}
 use Rattle.rg_fraction.specs.declared.fold_stop.FoldStop.TheVariants as stop
 use Rattle.rg_order_of_work.specs.Fold.{each}
 use Rattle.rg_order_of_work.specs.Rewriting.{column_count, form_fold, splits_start}
-use Rattle.rg_refuting.specs.Row.{Form as SplitForm, Form.on_start}
+use Rattle.rg_refuting.specs.declared.Form.{Form as SplitForm}
 use Rattle.rg_linear.specs.Branching.{Form}
-use Rattle.rg_reasons.specs.Trees.{row_name_of}
 use Rattle.rg_cycles.specs.View.{cycle_of}
 use Rattle.rg_rows.specs.declared.named_form.NamedForm.{NamedForm}
 use Rattle.rg_rows.specs.View.{kept_row, row_in}
@@ -16,52 +15,53 @@ use Rattle.rg_rows.specs.Making.{IsMade}
 use Rattle.rg_rows.proofs.FormSteps.{each_last, each_last_fails, each_early_fails}
 use Rattle.rg_rows.proofs.forms.case_forms.Goals as goal
 use Rattle.rg_rows.proofs.forms.case_forms.Goals.{then-splits_start+in_ok-start+in_ok-push, else-splits_start}
+use Rattle.rg_refuting.specs.declared.Form.TheVariants as split_form
 
 pub returns-in_err-forms-clause-wide : goal.returns-in_err-forms-clause-wide
 returns-in_err-forms-clause-wide c = λ w e.
     let result : c.from_residual.result ≡ Err c.in_err-forms.field-0.0 = search rules in
     let is : c.in_err-forms.field-0.0 ≡ stop.Wide w = cc in
-    each_early_fails (form_fold c.args.lts.now c.args.tree.now.arcs (cycle_of c.args.basis.now) c.args.case.class) (forms_in c.args.case.class (map row_name_of c.args.names.now)) (if splits_start c.args.case.class c.args.case.problem then (on_start ∷ []) else []) w
+    each_early_fails (form_fold c.args.lts.now c.args.tree.now.arcs (cycle_of c.args.basis.now) c.args.case.class) (forms_in c.args.case.class c.args.names.now) (if splits_start c.args.case.class c.args.case.problem then (split_form.Start ∷ []) else []) w
     (c.in_err-forms.ensures.wide w (ap (λ x. Err x) is))
 
 pub returns-in_err-start-clause-wide : goal.returns-in_err-start-clause-wide
 returns-in_err-start-clause-wide c = λ w e.
     let result : c.from_residual-in_err-start.result ≡ Err c.in_err-start.field-0.0 = search rules in
     let is : c.in_err-start.field-0.0 ≡ stop.Wide w = cc in
-    let named = forms_in c.args.case.class (map row_name_of c.args.names.now) in
+    let named = forms_in c.args.case.class c.args.names.now in
     let splits = sym c.splits_start.ensures ∙ c.if-splits_start.true in
-    subst (λ b. each (form_fold c.args.lts.now c.args.tree.now.arcs (cycle_of c.args.basis.now) c.args.case.class) (named ++ (if b then (on_start ∷ []) else [])) (Err w)) (sym splits)
-    (each_last_fails (form_fold c.args.lts.now c.args.tree.now.arcs (cycle_of c.args.basis.now) c.args.case.class) named on_start (map linear_form c.in_ok-forms.forms.items) w c.in_ok-forms.ensures.value (c.in_err-start.ensures.wide w (ap (λ x. Err x) is)))
+    subst (λ b. each (form_fold c.args.lts.now c.args.tree.now.arcs (cycle_of c.args.basis.now) c.args.case.class) (named ++ (if b then (split_form.Start ∷ []) else [])) (Err w)) (sym splits)
+    (each_last_fails (form_fold c.args.lts.now c.args.tree.now.arcs (cycle_of c.args.basis.now) c.args.case.class) named split_form.Start (map linear_form c.in_ok-forms.forms.items) w c.in_ok-forms.ensures.value (c.in_err-start.ensures.wide w (ap (λ x. Err x) is)))
 
 pub returns-clause-value : goal.returns-clause-value
 returns-clause-value c =
     let make = form_fold c.args.lts.now c.args.tree.now.arcs (cycle_of c.args.basis.now) c.args.case.class in
-    let named = forms_in c.args.case.class (map row_name_of c.args.names.now) in
+    let named = forms_in c.args.case.class c.args.names.now in
     elim c.if-splits_start.branch [
       | then-splits_start+in_ok-start+in_ok-push w ↦
           let splits = sym c.splits_start.ensures ∙ w.if-splits_start.true in
-          subst (λ (v : Vec NamedForm Global). each make (case_forms c.args.case.class c.args.case.problem (map row_name_of c.args.names.now)) (Ok (map linear_form v.items))) (sym w.forms-is)
-          (subst (λ b. each make (named ++ (if b then (on_start ∷ []) else [])) (Ok (map linear_form w.push.new.self.items))) (sym splits)
-          (subst (λ (l : List Form). each make (named ++ on_start ∷ []) (Ok l)) (sym (ap (map linear_form) w.in_ok-push.ensures.items ∙ map-append linear_form c.in_ok-forms.forms.items (w.in_ok-start.start ∷ [])))
-          (each_last make named on_start (map linear_form c.in_ok-forms.forms.items) (linear_form w.in_ok-start.start) c.in_ok-forms.ensures.value w.in_ok-start.ensures.value)))
+          subst (λ (v : Vec NamedForm Global). each make (case_forms c.args.case.class c.args.case.problem c.args.names.now) (Ok (map linear_form v.items))) (sym w.forms-is)
+          (subst (λ b. each make (named ++ (if b then (split_form.Start ∷ []) else [])) (Ok (map linear_form w.push.new.self.items))) (sym splits)
+          (subst (λ (l : List Form). each make (named ++ split_form.Start ∷ []) (Ok l)) (sym (ap (map linear_form) w.in_ok-push.ensures.items ∙ map-append linear_form c.in_ok-forms.forms.items (w.in_ok-start.start ∷ [])))
+          (each_last make named split_form.Start (map linear_form c.in_ok-forms.forms.items) (linear_form w.in_ok-start.start) c.in_ok-forms.ensures.value w.in_ok-start.ensures.value)))
       | else-splits_start w ↦
           let splits = sym c.splits_start.ensures ∙ w.if-splits_start.false in
-          subst (λ (v : Vec NamedForm Global). each make (case_forms c.args.case.class c.args.case.problem (map row_name_of c.args.names.now)) (Ok (map linear_form v.items))) (sym w.forms-is)
-          (subst (λ b. each make (named ++ (if b then (on_start ∷ []) else [])) (Ok (map linear_form c.in_ok-forms.forms.items))) (sym splits)
+          subst (λ (v : Vec NamedForm Global). each make (case_forms c.args.case.class c.args.case.problem c.args.names.now) (Ok (map linear_form v.items))) (sym w.forms-is)
+          (subst (λ b. each make (named ++ (if b then (split_form.Start ∷ []) else [])) (Ok (map linear_form c.in_ok-forms.forms.items))) (sym splits)
           (subst (λ (l : List SplitForm). each make l (Ok (map linear_form c.in_ok-forms.forms.items))) (sym (append-nil named)) c.in_ok-forms.ensures.value))
     ]
 
 pub returns-clause-forms : goal.returns-clause-forms
 returns-clause-forms c =
-    let named = forms_in c.args.case.class (map row_name_of c.args.names.now) in
+    let named = forms_in c.args.case.class c.args.names.now in
     elim c.if-splits_start.branch [
       | then-splits_start+in_ok-start+in_ok-push w ↦
           let splits = sym c.splits_start.ensures ∙ w.if-splits_start.true in
           ap (λ (v : Vec NamedForm Global). map split_of v.items) w.forms-is ∙ ap (map split_of) w.in_ok-push.ensures.items ∙ map-append split_of c.in_ok-forms.forms.items (w.in_ok-start.start ∷ [])
-          ∙ ap (λ l. l ++ split_of w.in_ok-start.start ∷ []) c.in_ok-forms.ensures.forms ∙ ap (λ x. named ++ x ∷ []) w.in_ok-start.ensures.form ∙ ap (λ b. named ++ (if b then (on_start ∷ []) else [])) (sym splits)
+          ∙ ap (λ l. l ++ split_of w.in_ok-start.start ∷ []) c.in_ok-forms.ensures.forms ∙ ap (λ x. named ++ x ∷ []) w.in_ok-start.ensures.form ∙ ap (λ b. named ++ (if b then (split_form.Start ∷ []) else [])) (sym splits)
       | else-splits_start w ↦
           let splits = sym c.splits_start.ensures ∙ w.if-splits_start.false in
-          ap (λ (v : Vec NamedForm Global). map split_of v.items) w.forms-is ∙ c.in_ok-forms.ensures.forms ∙ sym (append-nil named) ∙ ap (λ b. named ++ (if b then (on_start ∷ []) else [])) (sym splits)
+          ap (λ (v : Vec NamedForm Global). map split_of v.items) w.forms-is ∙ c.in_ok-forms.ensures.forms ∙ sym (append-nil named) ∙ ap (λ b. named ++ (if b then (split_form.Start ∷ []) else [])) (sym splits)
     ]
 
 pub returns-clause-made : goal.returns-clause-made

@@ -8,13 +8,12 @@ use Rattle.rg_integers.proofs.Casts.{back}
 use Rattle.std.specs.Prelude.{pos, ◌<ℤ◌}
 use Rattle.rg_fraction.specs.declared.fold_stop.FoldStop.TheVariants as stop
 use Rattle.rg_case_parts.specs.WholeNumbers.{scaled_of}
-use Rattle.rg_reasons.specs.Trees.{row_name_of}
 use Rattle.rg_theory.specs.System.{states}
 use Rattle.rg_cycles.specs.View.{cycle_of}
 use Rattle.rg_order_of_work.proofs.Folding.{behind}
 use Rattle.rg_integers.specs.declared.term.Wide.{Wide}
 use Rattle.rg_linear.specs.Branching.{Form}
-use Rattle.rg_refuting.specs.Row.{Form as SplitForm}
+use Rattle.rg_refuting.specs.declared.Form.{Form as SplitForm}
 use Rattle.rg_order_of_work.specs.Fold.{each}
 use Rattle.rg_rows.specs.declared.named_form.NamedForm.{NamedForm}
 use Rattle.rg_rows.specs.View.{kept_row, row_in}
@@ -76,13 +75,13 @@ loop-i-preserved c =
           (subst (Keeps lts tree basis class c.args.names.now rows c.args.places.now (c.loop-i.i + 1)) (sym pushed)
           (record {
             so_far = subst (λ (xs : List Form). (r : Result (List Form) Wide)
-                → each (form_fold lts tree basis class) (forms_in class (drop (c.loop-i.i + 1) (map row_name_of c.args.names.now))) r
-                → each (form_fold lts tree basis class) (forms_in class (map row_name_of c.args.names.now)) (behind xs r))
+                → each (form_fold lts tree basis class) (forms_in class (drop (c.loop-i.i + 1) c.args.names.now)) r
+                → each (form_fold lts tree basis class) (forms_in class c.args.names.now) (behind xs r))
                 (sym (map-append linear_form c.loop-i.forms.items (f ∷ [])))
                 (step_next lts tree basis class problem number c.args.names.now c.loop-i.i _ c.loop-i-test.true w.in-Some.form w.in-Some.ensures _ refl
                 (map linear_form c.loop-i.forms.items) c.loop-i.invariant.so_far f
                 (scaled_of scaled) w.in_ok-scaled.ensures.value scale w.in_ok-named.ensures.numbers.1 w.in_ok-named.ensures.bounds.0 w.in_ok-named.ensures.bounds.1);
-            splits = subst (λ (xs : List SplitForm). xs ++ forms_in class (drop (c.loop-i.i + 1) (map row_name_of c.args.names.now)) ≡ forms_in class (map row_name_of c.args.names.now)) (sym (map-append split_of c.loop-i.forms.items (f ∷ [])))
+            splits = subst (λ (xs : List SplitForm). xs ++ forms_in class (drop (c.loop-i.i + 1) c.args.names.now) ≡ forms_in class c.args.names.now) (sym (map-append split_of c.loop-i.forms.items (f ∷ [])))
                 (step_named lts tree basis class problem number c.args.names.now c.loop-i.i _ c.loop-i-test.true w.in-Some.form w.in-Some.ensures _ refl (map split_of c.loop-i.forms.items) c.loop-i.invariant.splits f w.in_ok-named.ensures.form);
             made = All-append Made c.loop-i.forms.items (f ∷ []) c.loop-i.invariant.made (All-cons Made f [] one (All-nil Made));
           })))
@@ -91,14 +90,14 @@ loop-i-preserved c =
           let next = next_name lts tree basis class problem number c.args.names.now c.loop-i.i _ c.loop-i-test.true in
           subst (λ (v : Vec NamedForm Global). Keeps lts tree basis class c.args.names.now rows c.args.places.now (c.loop-i.i + 1) v.items) (sym w.forms-is)
           (record {
-            so_far = form_skips class (form_fold lts tree basis class) (map row_name_of c.args.names.now) c.loop-i.i _ next (map linear_form c.loop-i.forms.items) c.loop-i.invariant.so_far none;
-            splits = named_skips class (map row_name_of c.args.names.now) c.loop-i.i _ next (map split_of c.loop-i.forms.items) c.loop-i.invariant.splits none;
+            so_far = form_skips class (form_fold lts tree basis class) c.args.names.now c.loop-i.i _ next (map linear_form c.loop-i.forms.items) c.loop-i.invariant.so_far none;
+            splits = named_skips class c.args.names.now c.loop-i.i _ next (map split_of c.loop-i.forms.items) c.loop-i.invariant.splits none;
             made = c.loop-i.invariant.made;
           }))
     ]
 
 pub returns-clause-value : goal.returns-clause-value
-returns-clause-value c = forms_end c.args.case.class (form_fold c.args.lts.now c.args.tree.now.arcs (cycle_of c.args.basis.now) c.args.case.class) (map row_name_of c.args.names.now) c.loop-i.i (map linear_form c.loop-i.forms.items) c.loop-i.invariant.so_far (simp length-map c.loop-i-test.false)
+returns-clause-value c = forms_end c.args.case.class (form_fold c.args.lts.now c.args.tree.now.arcs (cycle_of c.args.basis.now) c.args.case.class) c.args.names.now c.loop-i.i (map linear_form c.loop-i.forms.items) c.loop-i.invariant.so_far c.loop-i-test.false
 
 pub returns-clause-forms : goal.returns-clause-forms
-returns-clause-forms c = named_end c.args.case.class (map row_name_of c.args.names.now) c.loop-i.i (map split_of c.loop-i.forms.items) c.loop-i.invariant.splits (simp length-map c.loop-i-test.false)
+returns-clause-forms c = named_end c.args.case.class c.args.names.now c.loop-i.i (map split_of c.loop-i.forms.items) c.loop-i.invariant.splits c.loop-i-test.false

@@ -5,7 +5,6 @@ use Rattle.rg_integers.proofs.Casts.{back}
 use Rattle.rg_fraction.specs.declared.fold_stop.FoldStop.TheVariants as stop
 use Rattle.rg_case_parts.specs.WholeNumbers.{scaled_of}
 use Rattle.rg_order_of_work.specs.Rewriting.{column_count}
-use Rattle.rg_reasons.specs.Trees.{form_of}
 use Rattle.rg_cycles.specs.View.{cycle_of}
 use Rattle.rg_rows.specs.View.{row_in}
 use Rattle.rg_rows.proofs.Sharing.{held_is}
@@ -64,7 +63,7 @@ returns-clause-made c =
     let below = subst (λ n. i < n) (sym c.requires.one_each) c.place_of-i.ensures.within in
     let cast = c.in_ok-form.ensures.numbers.0 ∙ back c.start_scale-scale.result c.start_scale-scale.ensures.in_range in
     start_is_made lts tree basis class problem number c.args.names.now (map row_in c.args.rows.now) i c.initial.result c.initial.ensures.value c.place_of-i.ensures.within c.place_of-i.ensures.here (simp length-map below) c.requires.rows row
-    (held_is c.args.rows.now i c.index-rows-i.result row below c.index-rows-i.is c.row.ensures) (column_count lts basis class) c.args.places.now f (ap form_of c.in_ok-form.ensures.form) c.in_ok-form.ensures.row
+    (held_is c.args.rows.now i c.index-rows-i.result row below c.index-rows-i.is c.row.ensures) (column_count lts basis class) c.args.places.now f c.in_ok-form.ensures.form c.in_ok-form.ensures.row
     (cast ∙ c.start_scale-scale.ensures.value) c.in_ok-form.ensures.bounds.0 c.in_ok-form.ensures.bounds.1 (ap length c.in_ok-form.ensures.numbers.1 ∙ c.in_ok-scaled.ensures.one_each)
     (subst InRange (sym cast) c.start_scale-scale.ensures.in_range)
     (subst (All InRange) (sym c.in_ok-form.ensures.numbers.1) c.in_ok-scaled.scaled.numbers_in_range) c.in_ok-form.ensures.in_range

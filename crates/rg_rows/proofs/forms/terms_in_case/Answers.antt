@@ -4,7 +4,6 @@ use Rattle.rg_refuting.specs.Expression.{Expression}
 use Rattle.rg_refuting.specs.Row.{row_expression}
 use Rattle.rg_order_of_work.specs.Fold.{shown_result}
 use Rattle.rg_order_of_work.specs.Rewriting.{Scaled as ScaledNumbers, column_count, terms_fold}
-use Rattle.rg_reasons.specs.Trees.{row_name_of}
 use Rattle.rg_cycles.specs.View.{cycle_of}
 use Rattle.rg_case_parts.specs.declared.scaled.Scaled.{Scaled}
 use Rattle.rg_case_parts.specs.WholeNumbers.{scaled_of}
@@ -18,7 +17,7 @@ returns-in_ok-copied-in-Some-Ok-clause-value c =
     let basis = cycle_of c.args.basis.now in
     let case = c.args.case in
     let (told, one_each) = c.in-Some-Ok.ensures lts tree basis case.class case.problem case.number c.requires.common in
-    let terms = (row_expression lts case.class case.problem case.number [] (row_name_of c.args.name)).terms in
+    let terms = (row_expression lts case.class case.problem case.number [] c.args.name).terms in
     subst (λ (s : ScaledNumbers). terms_fold lts tree basis case.class terms (Ok s)) (sym (c.in_ok-copied-in-Some-Ok.ensures ∙ ap scaled_of c.in-Some-Ok.scaled-is))
     (subst (λ w. terms_fold lts tree basis case.class terms (shown_result scaled_of w)) c.in-Some-Ok.field-0-is told)
 
@@ -38,14 +37,14 @@ returns-in-Some-Err-clause-wide c = λ w e.
     let basis = cycle_of c.args.basis.now in
     let case = c.args.case in
     let (told, one_each) = c.in-Some-Err.ensures lts tree basis case.class case.problem case.number c.requires.common in
-    let terms = (row_expression lts case.class case.problem case.number [] (row_name_of c.args.name)).terms in
+    let terms = (row_expression lts case.class case.problem case.number [] c.args.name).terms in
     let picked = c.in-Some-Err.wide-is in
     let is : c.in-Some-Err.wide ≡ w = cc in
     subst (λ x. terms_fold lts tree basis case.class terms (Err x)) is (subst (λ x. terms_fold lts tree basis case.class terms (shown_result scaled_of x)) c.in-Some-Err.field-0-is told)
 
 pub returns-in-None-clause-value : goal.returns-in-None-clause-value
 returns-in-None-clause-value c =
-    if_ok_more c.over_columns.result _ (λ (s : Scaled). terms_fold c.args.lts.now c.args.tree.now.arcs (cycle_of c.args.basis.now) c.args.case.class (row_expression c.args.lts.now c.args.case.class c.args.case.problem c.args.case.number [] (row_name_of c.args.name)).terms (Ok (scaled_of s)))
+    if_ok_more c.over_columns.result _ (λ (s : Scaled). terms_fold c.args.lts.now c.args.tree.now.arcs (cycle_of c.args.basis.now) c.args.case.class (row_expression c.args.lts.now c.args.case.class c.args.case.problem c.args.case.number [] c.args.name).terms (Ok (scaled_of s)))
     (λ s h. subst (λ (x : Expression). terms_fold c.args.lts.now c.args.tree.now.arcs (cycle_of c.args.basis.now) c.args.case.class x.terms (Ok (scaled_of s))) c.expression-expression.ensures (h c.args.lts.now c.args.case.class (sym c.requires.labels) c.requires.common.columns))
     c.over_columns.ensures.value
 

@@ -4,7 +4,6 @@ use Rattle.std.specs.Arc.{arc_slice_items}
 use Rattle.rg_fraction.specs.declared.fold_stop.FoldStop.TheVariants as stop
 use Rattle.rg_order_of_work.specs.Fold.{shown_result}
 use Rattle.rg_order_of_work.specs.Rewriting.{column_count, row_fold}
-use Rattle.rg_reasons.specs.Trees.{row_name_of}
 use Rattle.rg_cycles.specs.View.{cycle_of}
 use Rattle.rg_rows.specs.declared.case_row.CaseRow.{CaseRow}
 use Rattle.rg_rows.specs.View.{kept_row, fold_of}
@@ -17,8 +16,8 @@ returns-in-Some-Ok-clause-value c =
     let basis = cycle_of c.args.basis.now in
     let case = c.args.case in
     let (told, one_each) = c.in-Some-Ok.ensures lts tree basis case.class case.problem case.number c.requires.common in
-    subst (λ (r : CaseRow). fold_of lts tree basis case.class case.problem case.number (row_name_of c.args.name) (Ok (kept_row r))) (sym c.in-Some-Ok.row-is)
-    (subst (λ w. fold_of lts tree basis case.class case.problem case.number (row_name_of c.args.name) (shown_result kept_row w)) c.in-Some-Ok.field-0-is told)
+    subst (λ (r : CaseRow). fold_of lts tree basis case.class case.problem case.number c.args.name (Ok (kept_row r))) (sym c.in-Some-Ok.row-is)
+    (subst (λ w. fold_of lts tree basis case.class case.problem case.number c.args.name (shown_result kept_row w)) c.in-Some-Ok.field-0-is told)
 
 pub returns-in-Some-Ok-clause-one_each : goal.returns-in-Some-Ok-clause-one_each
 returns-in-Some-Ok-clause-one_each c =
@@ -38,17 +37,17 @@ returns-in-Some-Err-clause-wide c = λ w e.
     let (told, one_each) = c.in-Some-Err.ensures lts tree basis case.class case.problem case.number c.requires.common in
     let picked = c.in-Some-Err.wide-is in
     let is : c.in-Some-Err.wide ≡ w = cc in
-    subst (λ x. fold_of lts tree basis case.class case.problem case.number (row_name_of c.args.name) (Err x)) is
-    (subst (λ x. fold_of lts tree basis case.class case.problem case.number (row_name_of c.args.name) (shown_result kept_row x)) c.in-Some-Err.field-0-is told)
+    subst (λ x. fold_of lts tree basis case.class case.problem case.number c.args.name (Err x)) is
+    (subst (λ x. fold_of lts tree basis case.class case.problem case.number c.args.name (shown_result kept_row x)) c.in-Some-Err.field-0-is told)
 
 pub returns-in_err-own-in-None-clause-wide : goal.returns-in_err-own-in-None-clause-wide
 returns-in_err-own-in-None-clause-wide c = λ w e.
     let result : c.from_residual.result ≡ Err c.in_err-own-in-None.field-0.0 = search rules in
     let is : c.in_err-own-in-None.field-0.0 ≡ stop.Wide w = cc in
-    subst (λ x. row_fold c.args.lts.now c.args.tree.now.arcs (cycle_of c.args.basis.now) c.args.case.class (row_name_of c.args.name) x (Err w)) c.expression-expression.ensures
+    subst (λ x. row_fold c.args.lts.now c.args.tree.now.arcs (cycle_of c.args.basis.now) c.args.case.class c.args.name x (Err w)) c.expression-expression.ensures
     (c.in_err-own-in-None.ensures.wide w (ap (λ x. Err x) is) c.args.lts.now c.args.case.class (sym c.requires.labels) c.requires.common.columns)
 
 pub returns-in_ok-own-in-None-clause-value : goal.returns-in_ok-own-in-None-clause-value
 returns-in_ok-own-in-None-clause-value c =
-    subst (λ x. row_fold c.args.lts.now c.args.tree.now.arcs (cycle_of c.args.basis.now) c.args.case.class (row_name_of c.args.name) x (Ok (kept_row c.in_ok-own-in-None.own))) c.expression-expression.ensures
+    subst (λ x. row_fold c.args.lts.now c.args.tree.now.arcs (cycle_of c.args.basis.now) c.args.case.class c.args.name x (Ok (kept_row c.in_ok-own-in-None.own))) c.expression-expression.ensures
     (c.in_ok-own-in-None.ensures.value c.args.lts.now c.args.case.class (sym c.requires.labels) c.requires.common.columns)

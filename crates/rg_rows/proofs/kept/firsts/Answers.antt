@@ -2,7 +2,6 @@ use Rattle.std.proofs.Common.{◌+◌, ◌<◌, ◌++◌, ◌∷◌, [], map, le
 use Rattle.std.proofs.lemmas.Bool.{false≢true}
 use Rattle.std.proofs.lemmas.List.{length-map}
 use Rattle.rg_order_of_work.specs.Fold.{ratio_of}
-use Rattle.rg_reasons.specs.Trees.{row_name_of}
 use Rattle.rg_linear.specs.View.{linear_row}
 use Rattle.rg_cycles.proofs.Firsts.{has_numbers}
 use Rattle.rg_rows.specs.View.{kept_row, row_in}
@@ -15,7 +14,7 @@ use Rattle.rg_rows.proofs.kept.firsts.Goals.{then-is_new+in_ok-push-2, else-is_n
 pub loop-held-init : goal.loop-held-init
 loop-held-init c = (
   [],
-  record { rows = ap (map linear_row) c.new.ensures.items; names = ap (map row_name_of) c.new-2.ensures.items; factors = ap (map ratio_of) c.new-3.ensures.items },
+  record { rows = ap (map linear_row) c.new.ensures.items; names = c.new-2.ensures.items; factors = ap (map ratio_of) c.new-3.ensures.items },
   kept-start (map kept_row (map row_in c.args.all.now)) _ (λ q. ap (λ k. has_numbers k q) c.new-seen.ensures.empty),
   places-start (map kept_row (map row_in c.args.all.now)) c.new-seen.result.keys c.new-places.result.items c.new-seen.ensures.empty c.new-places.ensures.items,
 )

@@ -4,8 +4,6 @@ use Rattle.std.proofs.lemmas.List.Elements.{All-nil, All-cons, All-append}
 use Rattle.std.specs.Arc.{arc_slice_items}
 use Rattle.rg_theory.specs.System.{states}
 use Rattle.rg_order_of_work.specs.Rewriting.{column_count}
-use Rattle.rg_refuting.specs.Row.{RowName.block_row}
-use Rattle.rg_reasons.specs.Trees.{row_name_of}
 use Rattle.rg_fraction.specs.declared.fold_stop.FoldStop.TheVariants as stop
 use Rattle.rg_cycles.specs.View.{cycle_of}
 use Rattle.rg_rows.specs.declared.case_row.CaseRow.{CaseRow}
@@ -13,8 +11,8 @@ use Rattle.rg_rows.specs.View.{kept_row, row_in, fold_of}
 use Rattle.rg_order_of_work.proofs.Items.{map_push}
 use Rattle.rg_rows.proofs.Terms.{name_within}
 use Rattle.rg_order_of_work.proofs.Items.{item_next, item_fails, items_end}
-use Rattle.rg_rows.proofs.Making.{fold_told}
 use Rattle.rg_rows.proofs.named_system.rows.Goals as goal
+use Rattle.rg_refuting.specs.declared.RowName.TheVariants as row_name
 
 pub row_in_case-requires-clause-within : goal.row_in_case-requires-clause-within
 row_in_case-requires-clause-within c = name_within c.args.lts.now c.args.case.class c.args.case.problem c.args.case.number c.args.names.now c.loop-name.name-index _ _ (states c.args.lts.now) c.requires.names c.loop-name-test.true refl refl
@@ -23,10 +21,10 @@ pub returns-in_err-row_in_case-clause-wide : goal.returns-in_err-row_in_case-cla
 returns-in_err-row_in_case-clause-wide c = λ w e.
     let result : c.from_residual.result ≡ Err c.in_err-row_in_case.field-0.0 = search rules in
     let is : c.in_err-row_in_case.field-0.0 ≡ stop.Wide w = cc in
-    let made = fold_told c.args.lts.now c.args.tree.now.arcs (cycle_of c.args.basis.now) c.args.case.class c.args.case.problem c.args.case.number c.args.names.now c.loop-name.name-index _ c.loop-name-test.true (Err w) (c.in_err-row_in_case.ensures.wide w (ap (λ x. Err x) is)) in
+    let made = (c.in_err-row_in_case.ensures.wide w (ap (λ x. Err x) is)) in
     item_fails (fold_of c.args.lts.now c.args.tree.now.arcs (cycle_of c.args.basis.now) c.args.case.class c.args.case.problem c.args.case.number)
-    (map row_name_of c.args.names.now) c.loop-name.name-index _ (map kept_row (map row_in c.loop-name.rows.items)) c.loop-name.invariant.so_far
-    (simp length-map c.loop-name-test.true) w made
+    c.args.names.now c.loop-name.name-index _ (map kept_row (map row_in c.loop-name.rows.items)) c.loop-name.invariant.so_far
+    c.loop-name-test.true w made
 
 pub loop-name-preserved : goal.loop-name-preserved
 loop-name-preserved c =
@@ -35,17 +33,17 @@ loop-name-preserved c =
     let row = row_in held in
     let lengths = λ (r : CaseRow). length (arc_slice_items r.coeffs) ≡ column_count c.args.lts.now (cycle_of c.args.basis.now) c.args.case.class in
     let same = map_push row_in rows c.push.new.self.items held c.in_ok-push.ensures.items in
-    let made = fold_told c.args.lts.now c.args.tree.now.arcs (cycle_of c.args.basis.now) c.args.case.class c.args.case.problem c.args.case.number c.args.names.now c.loop-name.name-index _ c.loop-name-test.true (Ok (kept_row row)) c.in_ok-row_in_case.ensures.value in
+    let made = c.in_ok-row_in_case.ensures.value in
     record {
       so_far = rw (map_push kept_row (map row_in rows) (map row_in c.push.new.self.items) row same)
           (item_next (fold_of c.args.lts.now c.args.tree.now.arcs (cycle_of c.args.basis.now) c.args.case.class c.args.case.problem c.args.case.number)
-          (map row_name_of c.args.names.now) c.loop-name.name-index _ (map kept_row (map row_in rows)) c.loop-name.invariant.so_far
-          (simp length-map c.loop-name-test.true) (kept_row row) made);
+          c.args.names.now c.loop-name.name-index _ (map kept_row (map row_in rows)) c.loop-name.invariant.so_far
+          c.loop-name-test.true (kept_row row) made);
       one_each = subst (All lengths) (sym same) (All-append lengths (map row_in rows) (row ∷ []) c.loop-name.invariant.one_each (All-cons lengths row [] c.in_ok-row_in_case.ensures.one_each (All-nil lengths)));
       few = ap length c.in_ok-push.ensures.items ∙ length-append rows (held ∷ []) ∙ ap (λ n. n + 1) c.loop-name.invariant.few;
     }
 
 pub returns-clause-value : goal.returns-clause-value
 returns-clause-value c = items_end (fold_of c.args.lts.now c.args.tree.now.arcs (cycle_of c.args.basis.now) c.args.case.class c.args.case.problem c.args.case.number)
-    (map row_name_of c.args.names.now) c.loop-name.name-index block_row (map kept_row (map row_in c.loop-name.rows.items)) c.loop-name.invariant.so_far
-    (simp length-map c.loop-name-test.false)
+    c.args.names.now c.loop-name.name-index row_name.Block (map kept_row (map row_in c.loop-name.rows.items)) c.loop-name.invariant.so_far
+    c.loop-name-test.false

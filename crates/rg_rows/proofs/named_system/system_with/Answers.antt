@@ -4,12 +4,12 @@ use Rattle.std.proofs.lemmas.List.{length-map}
 use Rattle.rg_theory.specs.System.{states, labels}
 use Rattle.rg_fraction.specs.declared.fold_stop.FoldStop.TheVariants as stop
 use Rattle.rg_linear.specs.Firsts.{KeepsFirsts}
-use Rattle.rg_refuting.specs.Row.{RowName, RowName.tokens_row, Form as SplitForm}
+use Rattle.rg_refuting.specs.declared.RowName.{RowName}
+use Rattle.rg_refuting.specs.declared.Form.{Form}
 use Rattle.rg_order_of_work.specs.Fold.{each}
 use Rattle.rg_order_of_work.specs.Rewriting.{CaseSystem, IsIdle, KeptRow, column_count, names_of, form_fold, rows_of}
 use Rattle.rg_order_of_work.specs.Meaning.{IsCaseOver}
 use Rattle.rg_linear.specs.System.{LinearSystem}
-use Rattle.rg_reasons.specs.Trees.{row_name_of}
 use Rattle.rg_cycles.specs.View.{cycle_of}
 use Rattle.rg_rows.specs.declared.held_row.HeldRow.{HeldRow}
 use Rattle.rg_rows.specs.View.{kept_row, row_in, AreNamesWithin, ArePlaces, fold_of}
@@ -20,20 +20,21 @@ use Rattle.rg_linear.proofs.Firsts.{kept_count}
 use Rattle.rg_rows.proofs.Terms.{names_within}
 use Rattle.rg_rows.proofs.Making.{case_made, forms_fail}
 use Rattle.rg_rows.proofs.Forming.{names_few, well_formed}
-use Rattle.rg_rows.proofs.FormNames.{forms_are, has_start_name, code_name}
+use Rattle.rg_rows.proofs.FormNames.{forms_are, has_start_name}
 use Rattle.rg_rows.proofs.Assembling.{all_stand, all_forms}
 use Rattle.rg_rows.proofs.named_system.system_with.Goals as goal
+use Rattle.rg_refuting.specs.declared.RowName.TheVariants as row_name
 
 pub rows-requires-clause-names : goal.rows-requires-clause-names
 rows-requires-clause-names c =
-    let named = ap (map row_name_of) c.deref.ensures.value ∙ c.in_ok-names.ensures in
+    let named = c.deref.ensures.value ∙ c.in_ok-names.ensures in
     subst (AreNamesWithin c.args.lts.now c.args.class c.args.problem c.args.case) (sym named) (names_within c.args.lts.now c.args.class c.args.problem c.args.case c.requires.asked)
 
 pub firsts-requires : goal.firsts-requires
 firsts-requires c =
     let lts = c.args.lts.now in
-    let named = ap (map row_name_of) c.deref.ensures.value ∙ c.in_ok-names.ensures in
-    let size : length c.in_ok-all.all.items ≡ length (names_of lts c.args.class c.args.problem c.args.case) = c.in_ok-all.ensures.few ∙ sym (length-map c.deref.result.now row_name_of) ∙ ap length named in
+    let named = c.deref.ensures.value ∙ c.in_ok-names.ensures in
+    let size : length c.in_ok-all.all.items ≡ length (names_of lts c.args.class c.args.problem c.args.case) = c.in_ok-all.ensures.few ∙ ap length named in
     let same = ap length c.deref-2.ensures.value in
     let some = names_few lts c.args.class c.args.problem c.args.case in
     let wide : states lts ≤ 4096 = c.is_well_formed.ensures.few_states in
@@ -42,13 +43,13 @@ firsts-requires c =
 
 pub case_forms-requires-clause-names : goal.case_forms-requires-clause-names
 case_forms-requires-clause-names c =
-    let named = ap (map row_name_of) c.deref-3.ensures.value ∙ c.in_ok-names.ensures in
+    let named = c.deref-3.ensures.value ∙ c.in_ok-names.ensures in
     subst (AreNamesWithin c.args.lts.now c.args.class c.args.problem c.args.case) (sym named) (names_within c.args.lts.now c.args.class c.args.problem c.args.case c.requires.asked)
 
 pub case_forms-requires-clause-rows : goal.case_forms-requires-clause-rows
 case_forms-requires-clause-rows c =
-    subst (λ (l : List RowName). each (fold_of c.args.lts.now c.args.tree.now.arcs (cycle_of c.args.basis.now) c.args.class c.args.problem c.args.case) l (Ok (map kept_row (map row_in c.deref-4.result.now)))) (ap (map row_name_of) (c.deref.ensures.value ∙ sym c.deref-3.ensures.value))
-    (subst (λ (l : List HeldRow). each (fold_of c.args.lts.now c.args.tree.now.arcs (cycle_of c.args.basis.now) c.args.class c.args.problem c.args.case) (map row_name_of c.deref.result.now) (Ok (map kept_row (map row_in l)))) (sym c.deref-4.ensures.value) c.in_ok-all.ensures.value)
+    subst (λ (l : List RowName). each (fold_of c.args.lts.now c.args.tree.now.arcs (cycle_of c.args.basis.now) c.args.class c.args.problem c.args.case) l (Ok (map kept_row (map row_in c.deref-4.result.now)))) (c.deref.ensures.value ∙ sym c.deref-3.ensures.value)
+    (subst (λ (l : List HeldRow). each (fold_of c.args.lts.now c.args.tree.now.arcs (cycle_of c.args.basis.now) c.args.class c.args.problem c.args.case) c.deref.result.now (Ok (map kept_row (map row_in l)))) (sym c.deref-4.ensures.value) c.in_ok-all.ensures.value)
 
 pub case_forms-requires-clause-one_each : goal.case_forms-requires-clause-one_each
 case_forms-requires-clause-one_each c = ap length c.deref-4.ensures.value ∙ c.in_ok-all.ensures.few ∙ ap length (c.deref.ensures.value ∙ sym c.deref-3.ensures.value)
@@ -60,9 +61,9 @@ case_forms-requires-clause-places c =
 
 pub case_forms-requires-clause-start : goal.case_forms-requires-clause-start
 case_forms-requires-clause-start c = λ splits.
-    let named = ap (map row_name_of) c.deref-3.ensures.value ∙ c.in_ok-names.ensures in
-    code_name c.deref-3.result.now c.args.lts.now.initial (subst (λ (l : List RowName). Contains l (tokens_row c.args.lts.now.initial)) (sym named)
-    (has_start_name c.args.lts.now c.args.class c.args.problem c.args.case c.is_well_formed.ensures.in_range.initial splits))
+    let named = c.deref-3.ensures.value ∙ c.in_ok-names.ensures in
+    subst (λ (l : List RowName). Contains l (row_name.Tokens c.args.lts.now.initial)) (sym named)
+    (has_start_name c.args.lts.now c.args.class c.args.problem c.args.case c.is_well_formed.ensures.in_range.initial splits)
 
 pub returns-in_err-forms-clause-wide : goal.returns-in_err-forms-clause-wide
 returns-in_err-forms-clause-wide c = λ w e.
@@ -74,10 +75,10 @@ returns-in_err-forms-clause-wide c = λ w e.
     let number = c.args.case in
     let result : c.from_residual-in_err-forms.result ≡ Err c.in_err-forms.field-0.0 = search rules in
     let is : c.in_err-forms.field-0.0 ≡ stop.Wide w = cc in
-    let named = ap (map row_name_of) c.deref.ensures.value ∙ c.in_ok-names.ensures in
-    let named_again = ap (map row_name_of) c.deref-3.ensures.value ∙ c.in_ok-names.ensures in
-    forms_fail lts tree basis class problem number (map row_name_of c.deref.result.now) named (map kept_row (map row_in c.in_ok-all.all.items)) c.in_ok-all.ensures.value w
-    (subst (λ (l : List SplitForm). each (form_fold lts tree basis class) l (Err w)) (ap (case_forms class problem) named_again ∙ forms_are lts class problem number) (c.in_err-forms.ensures.wide w (ap (λ x. Err x) is)))
+    let named = c.deref.ensures.value ∙ c.in_ok-names.ensures in
+    let named_again = c.deref-3.ensures.value ∙ c.in_ok-names.ensures in
+    forms_fail lts tree basis class problem number c.deref.result.now named (map kept_row (map row_in c.in_ok-all.all.items)) c.in_ok-all.ensures.value w
+    (subst (λ (l : List Form). each (form_fold lts tree basis class) l (Err w)) (ap (case_forms class problem) named_again ∙ forms_are lts class problem number) (c.in_err-forms.ensures.wide w (ap (λ x. Err x) is)))
 
 pub new-requires : goal.new-requires
 new-requires c =
@@ -85,8 +86,8 @@ new-requires c =
     let all = map row_in c.in_ok-all.all.items in
     let (kept, shows, firsts, places) = c.in_ok-kept.ensures in
     let columns : c.count.result ≡ column_count lts (cycle_of c.args.basis.now) c.args.class = c.count.ensures lts c.args.class (sym c.requires.labels) c.requires.common.columns in
-    let named = ap (map row_name_of) c.deref.ensures.value ∙ c.in_ok-names.ensures in
-    let size : length all ≡ length (names_of lts c.args.class c.args.problem c.args.case) = length-map c.in_ok-all.all.items row_in ∙ c.in_ok-all.ensures.few ∙ sym (length-map c.deref.result.now row_name_of) ∙ ap length named in
+    let named = c.deref.ensures.value ∙ c.in_ok-names.ensures in
+    let size : length all ≡ length (names_of lts c.args.class c.args.problem c.args.case) = length-map c.in_ok-all.all.items row_in ∙ c.in_ok-all.ensures.few ∙ ap length named in
     let some = names_few lts c.args.class c.args.problem c.args.case in
     let most : column_count lts (cycle_of c.args.basis.now) c.args.class ≤ labels lts + 1 = columns_few lts (cycle_of c.args.basis.now) c.args.class in
     let wide : states lts ≤ 4096 = c.is_well_formed.ensures.few_states in
@@ -107,20 +108,20 @@ returns-clause-system c =
     let number = c.args.case in
     let (kept, shows, firsts, places) = c.in_ok-kept.ensures in
     let all = map row_in c.in_ok-all.all.items in
-    let named = ap (map row_name_of) c.deref.ensures.value ∙ c.in_ok-names.ensures in
-    let named_again = ap (map row_name_of) c.deref-3.ensures.value ∙ c.in_ok-names.ensures in
+    let named = c.deref.ensures.value ∙ c.in_ok-names.ensures in
+    let named_again = c.deref-3.ensures.value ∙ c.in_ok-names.ensures in
     let columns : c.count.result ≡ column_count lts basis class = c.count.ensures lts class (sym c.requires.labels) c.requires.common.columns in
     let shown : CaseSystem = record { columns = c.count.result; kept = kept; forms = map linear_form c.in_ok-forms.forms.items } in
     let kept_firsts = subst (λ l. KeepsFirsts (λ k. k.row) IsIdle [] (map kept_row (map row_in l)) kept) c.deref-2.ensures.value firsts in
-    let forms_made = subst (λ (l : List SplitForm). each (form_fold lts tree basis class) l (Ok shown.forms)) (ap (case_forms class problem) named_again ∙ forms_are lts class problem number) c.in_ok-forms.ensures.value in (
+    let forms_made = subst (λ (l : List Form). each (form_fold lts tree basis class) l (Ok shown.forms)) (ap (case_forms class problem) named_again ∙ forms_are lts class problem number) c.in_ok-forms.ensures.value in (
       shown,
-      case_made lts tree basis class problem number (map row_name_of c.deref.result.now) named (map kept_row all) c.in_ok-all.ensures.value shown.forms shown forms_made columns kept_firsts refl,
+      case_made lts tree basis class problem number c.deref.result.now named (map kept_row all) c.in_ok-all.ensures.value shown.forms shown forms_made columns kept_firsts refl,
       record { system = c.new.ensures ∙ (λ i. record { columns = c.count.result; rows = shows.rows i }); names = shows.names; factors = shows.factors; forms = refl },
     )
 
 pub returns-clause-named : goal.returns-clause-named
 returns-clause-named c =
-    let named_again = ap (map row_name_of) c.deref-3.ensures.value ∙ c.in_ok-names.ensures in
+    let named_again = c.deref-3.ensures.value ∙ c.in_ok-names.ensures in
     c.in_ok-forms.ensures.forms ∙ ap (case_forms c.args.class c.args.problem) named_again ∙ forms_are c.args.lts.now c.args.class c.args.problem c.args.case
 
 pub returns-clause-rows : goal.returns-clause-rows
@@ -133,8 +134,8 @@ returns-clause-rows c =
     let number = c.args.case in
     let (kept, shows, firsts, places) = c.in_ok-kept.ensures in
     let all = map row_in c.in_ok-all.all.items in
-    let named = ap (map row_name_of) c.deref.ensures.value ∙ c.in_ok-names.ensures in
-    let named_again = ap (map row_name_of) c.deref-3.ensures.value ∙ c.in_ok-names.ensures in
+    let named = c.deref.ensures.value ∙ c.in_ok-names.ensures in
+    let named_again = c.deref-3.ensures.value ∙ c.in_ok-names.ensures in
     let columns : c.count.result ≡ column_count lts basis class = c.count.ensures lts class (sym c.requires.labels) c.requires.common.columns in
     let shown : CaseSystem = record { columns = c.count.result; kept = kept; forms = map linear_form c.in_ok-forms.forms.items } in
     let kept_firsts = subst (λ l. KeepsFirsts (λ k. k.row) IsIdle [] (map kept_row (map row_in l)) kept) c.deref-2.ensures.value firsts in
@@ -145,7 +146,7 @@ returns-clause-rows c =
     c.deref-4.ensures.value c.in_ok-forms.ensures.made)) in
     let system_is = c.new.ensures ∙ (λ i. record { columns = c.count.result; rows = shows.rows i }) in
     subst (λ (s : LinearSystem). All (StandsInRow lts tree basis class problem number s) c.in_ok-forms.forms.items) (sym system_is)
-    (all_stand lts tree basis class problem number (map row_name_of c.deref.result.now) shown (map kept_row all) c.in_ok-kept.places.items c.in_ok-all.ensures.value kept_places c.in_ok-forms.forms.items made)
+    (all_stand lts tree basis class problem number c.deref.result.now shown (map kept_row all) c.in_ok-kept.places.items c.in_ok-all.ensures.value kept_places c.in_ok-forms.forms.items made)
 
 pub returns-clause-forms : goal.returns-clause-forms
 returns-clause-forms c = λ reachable is_basis bound.
@@ -157,8 +158,8 @@ returns-clause-forms c = λ reachable is_basis bound.
     let number = c.args.case in
     let (kept, shows, firsts, places) = c.in_ok-kept.ensures in
     let all = map row_in c.in_ok-all.all.items in
-    let named = ap (map row_name_of) c.deref.ensures.value ∙ c.in_ok-names.ensures in
-    let named_again = ap (map row_name_of) c.deref-3.ensures.value ∙ c.in_ok-names.ensures in
+    let named = c.deref.ensures.value ∙ c.in_ok-names.ensures in
+    let named_again = c.deref-3.ensures.value ∙ c.in_ok-names.ensures in
     let columns : c.count.result ≡ column_count lts basis class = c.count.ensures lts class (sym c.requires.labels) c.requires.common.columns in
     let shown : CaseSystem = record { columns = c.count.result; kept = kept; forms = map linear_form c.in_ok-forms.forms.items } in
     let kept_firsts = subst (λ l. KeepsFirsts (λ k. k.row) IsIdle [] (map kept_row (map row_in l)) kept) c.deref-2.ensures.value firsts in
@@ -168,11 +169,11 @@ returns-clause-forms c = λ reachable is_basis bound.
     (subst (λ (l : List HeldRow). All (IsMade lts class (column_count lts basis class) (map kept_row (map row_in l)) c.deref-5.result.now) c.in_ok-forms.forms.items)
     c.deref-4.ensures.value c.in_ok-forms.ensures.made)) in
     let system_is = c.new.ensures ∙ (λ i. record { columns = c.count.result; rows = shows.rows i }) in
-    let forms_made = subst (λ (l : List SplitForm). each (form_fold lts tree basis class) l (Ok shown.forms)) (ap (case_forms class problem) named_again ∙ forms_are lts class problem number) c.in_ok-forms.ensures.value in
-    let is_case = case_made lts tree basis class problem number (map row_name_of c.deref.result.now) named (map kept_row all) c.in_ok-all.ensures.value shown.forms shown forms_made columns kept_firsts refl in
+    let forms_made = subst (λ (l : List Form). each (form_fold lts tree basis class) l (Ok shown.forms)) (ap (case_forms class problem) named_again ∙ forms_are lts class problem number) c.in_ok-forms.ensures.value in
+    let is_case = case_made lts tree basis class problem number c.deref.result.now named (map kept_row all) c.in_ok-all.ensures.value shown.forms shown forms_made columns kept_firsts refl in
     let over : IsCaseOver lts tree basis class problem number shown = record { in_range = c.is_well_formed.ensures.in_range; numbers = bound; reachable = reachable; is_tree = c.requires.tree.tree; is_basis = is_basis; asked = c.requires.asked; is_case = is_case } in
     let splits = c.in_ok-forms.ensures.forms ∙ ap (case_forms class problem) named_again ∙ forms_are lts class problem number in
-    let size : length all ≡ length (names_of lts class problem number) = length-map c.in_ok-all.all.items row_in ∙ c.in_ok-all.ensures.few ∙ sym (length-map c.deref.result.now row_name_of) ∙ ap length named in
+    let size : length all ≡ length (names_of lts class problem number) = length-map c.in_ok-all.all.items row_in ∙ c.in_ok-all.ensures.few ∙ ap length named in
     let some = names_few lts class problem number in
     let most : column_count lts basis class ≤ labels lts + 1 = columns_few lts basis class in
     let wide : states lts ≤ 4096 = c.is_well_formed.ensures.few_states in
@@ -180,4 +181,4 @@ returns-clause-forms c = λ reachable is_basis bound.
     let rows : length (rows_of shown).rows ≤ length all = (let h = kept_count (λ (k : KeptRow). k.row) IsIdle [] (map kept_row all) kept kept_firsts in let f = length-map kept (λ (k : KeptRow). k.row) in let g = length-map all kept_row in omega arith) in
     let few : c.count.result + length (rows_of shown).rows + 4096 * (states lts + labels lts + 1) < 2 ^ 32 = omega arith in
     subst (λ (s : LinearSystem). AreFormsOf s c.in_ok-forms.forms.items) (sym system_is)
-    (all_forms lts tree basis class problem number (map row_name_of c.deref.result.now) shown (map kept_row all) c.in_ok-kept.places.items c.in_ok-all.ensures.value kept_places c.in_ok-forms.forms.items made refl splits over wide bound few)
+    (all_forms lts tree basis class problem number c.deref.result.now shown (map kept_row all) c.in_ok-kept.places.items c.in_ok-all.ensures.value kept_places c.in_ok-forms.forms.items made refl splits over wide bound few)

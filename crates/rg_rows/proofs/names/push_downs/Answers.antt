@@ -1,18 +1,17 @@
 use Rattle.std.proofs.Common.{map, length, subst, sym, ◌<◌, false}
 use Rattle.std.specs.Prelude.{slice_index_or}
-use Rattle.rg_refuting.specs.Row.{RowName.down_row}
-use Rattle.rg_reasons.specs.Trees.{row_name_of}
 use Rattle.rg_order_of_work.proofs.Items.{map_push}
 use Rattle.rg_rows.proofs.Naming.{name_taken, name_left}
 use Rattle.rg_rows.proofs.names.push_downs.Goals as goal
 use Rattle.rg_rows.proofs.names.push_downs.Goals.{then-used-t+in_ok-push, else-used-t}
+use Rattle.rg_refuting.specs.declared.RowName.TheVariants as row_name
 
 pub loop-t-preserved : goal.loop-t-preserved
 loop-t-preserved c =
     let lt : c.loop-t.t < length c.args.used.now = subst (λ n. c.loop-t.t < n) (sym c.requires) c.loop-t-test.true in
     elim c.if-used-t.branch [
-      | then-used-t+in_ok-push w ↦ rw (w.names-is, map_push row_name_of c.loop-t.names.items w.push.new.self.items _ w.in_ok-push.ensures.items)
-          (name_taken down_row (λ t. slice_index_or c.args.used.now t false) c.loop-t.t (length c.args.used.now)
-          (map row_name_of c.loop-t.names.items) _ c.loop-t.invariant lt w.if-used-t.true)
-      | else-used-t w ↦ rw w.names-is (name_left down_row (λ t. slice_index_or c.args.used.now t false) c.loop-t.t (length c.args.used.now) (map row_name_of c.loop-t.names.items) _ c.loop-t.invariant lt w.if-used-t.false)
+      | then-used-t+in_ok-push w ↦ rw (w.names-is, w.in_ok-push.ensures.items)
+          (name_taken row_name.Down (λ t. slice_index_or c.args.used.now t false) c.loop-t.t (length c.args.used.now)
+          c.loop-t.names.items _ c.loop-t.invariant lt w.if-used-t.true)
+      | else-used-t w ↦ rw w.names-is (name_left row_name.Down (λ t. slice_index_or c.args.used.now t false) c.loop-t.t (length c.args.used.now) c.loop-t.names.items _ c.loop-t.invariant lt w.if-used-t.false)
     ]

@@ -1,8 +1,7 @@
 use Rattle.std.proofs.Common.{◌≡◌, ◌-◌, ◌++◌, true, map}
-use Rattle.rg_refuting.specs.Row.{RowName.tokens_row}
-use Rattle.rg_reasons.specs.Trees.{row_name_of}
 use Rattle.rg_order_of_work.specs.Rewriting.{numbers_where, all_numbers}
 use Rattle.rg_rows.proofs.names.push_tokens.Given as goal
+use Rattle.rg_refuting.specs.declared.RowName.TheVariants as row_name
 
 abbrev pub invariant-loop-q : goal.invariant-loop-q
-invariant-loop-q l = map row_name_of l.names.items ++ map tokens_row (numbers_where (λ q. true) l.q (l.states - l.q)) ≡ map row_name_of l.fn.names.items ++ map tokens_row (all_numbers l.states)
+invariant-loop-q l = l.names.items ++ map row_name.Tokens (numbers_where (λ q. true) l.q (l.states - l.q)) ≡ l.fn.names.items ++ map row_name.Tokens (all_numbers l.states)

@@ -1,20 +1,19 @@
 use Rattle.std.proofs.Common.{map, subst, sym, ◌≡◌, ◌<◌, ◌∙◌}
 use Rattle.rg_theory.specs.System.{states}
-use Rattle.rg_refuting.specs.Row.{RowName.stop_row}
-use Rattle.rg_reasons.specs.Trees.{row_name_of}
 use Rattle.rg_order_of_work.specs.Rewriting.{has_label_at}
 use Rattle.rg_order_of_work.proofs.Items.{map_push}
 use Rattle.rg_rows.proofs.Naming.{name_taken, name_left, label_at_is}
 use Rattle.rg_rows.proofs.problem_names.stops.Goals as goal
 use Rattle.rg_rows.proofs.problem_names.stops.Goals.{then-is_some+in_ok-push, else-is_some}
+use Rattle.rg_refuting.specs.declared.RowName.TheVariants as row_name
 
 pub loop-q-preserved : goal.loop-q-preserved
 loop-q-preserved c =
     let lt : c.loop-q.q < states c.args.lts.now = subst (λ n. c.loop-q.q < n) c.states-q-end.ensures.value c.loop-q-test.true in
     let test : has_label_at c.loop-q.q c.args.t c.args.lts.now.arcs ≡ c.is_some.result = label_at_is c.args.lts.now c.loop-q.q c.args.t c.arc_at.result c.arc_at.ensures.found c.arc_at.ensures.none ∙ sym c.is_some.ensures in
     elim c.if-is_some.branch [
-      | then-is_some+in_ok-push w ↦ rw (w.names-is, map_push row_name_of c.loop-q.names.items w.push.new.self.items _ w.in_ok-push.ensures.items)
-          (name_taken stop_row (λ q. has_label_at q c.args.t c.args.lts.now.arcs) c.loop-q.q (states c.args.lts.now)
-          (map row_name_of c.loop-q.names.items) _ c.loop-q.invariant lt (test ∙ w.if-is_some.true))
-      | else-is_some w ↦ rw w.names-is (name_left stop_row (λ q. has_label_at q c.args.t c.args.lts.now.arcs) c.loop-q.q (states c.args.lts.now) (map row_name_of c.loop-q.names.items) _ c.loop-q.invariant lt (test ∙ w.if-is_some.false))
+      | then-is_some+in_ok-push w ↦ rw (w.names-is, w.in_ok-push.ensures.items)
+          (name_taken row_name.Stop (λ q. has_label_at q c.args.t c.args.lts.now.arcs) c.loop-q.q (states c.args.lts.now)
+          c.loop-q.names.items _ c.loop-q.invariant lt (test ∙ w.if-is_some.true))
+      | else-is_some w ↦ rw w.names-is (name_left row_name.Stop (λ q. has_label_at q c.args.t c.args.lts.now.arcs) c.loop-q.q (states c.args.lts.now) c.loop-q.names.items _ c.loop-q.invariant lt (test ∙ w.if-is_some.false))
     ]

@@ -6,7 +6,6 @@ use Rattle.rg_integers.proofs.Casts.{back}
 use Rattle.rg_fraction.specs.Fractions.{IsValue}
 use Rattle.rg_order_of_work.specs.Fold.{ratio_of, whole, mul}
 use Rattle.rg_order_of_work.specs.Rewriting.{IsDivided}
-use Rattle.rg_reasons.specs.Trees.{row_name_of}
 use Rattle.rg_fraction.specs.declared.fold_stop.FoldStop.TheVariants as stop
 use Rattle.rg_cycles.specs.View.{cycle_of}
 use Rattle.rg_reasons.specs.Sums.{expression_of}
@@ -21,7 +20,7 @@ returns-in_err-scaled-clause-wide c = λ w e lts class same are.
     let is : c.in_err-scaled.field-0.0 ≡ stop.Wide w = cc in
     let tree = c.args.tree.now.arcs in
     let cycle = cycle_of c.args.basis.now in
-    let name = row_name_of c.args.name in
+    let name = c.args.name in
     let sum = expression_of c.args.expression.now in
     row_unscaled lts tree cycle class name sum w (c.in_err-scaled.ensures.wide w (ap (λ x. Err x) is) lts class same are)
 
@@ -31,7 +30,7 @@ returns-in_err-constant-clause-wide c = λ w e lts class same are.
     let is : c.in_err-constant.field-0.0 ≡ w = cc in
     let tree = c.args.tree.now.arcs in
     let cycle = cycle_of c.args.basis.now in
-    let name = row_name_of c.args.name in
+    let name = c.args.name in
     let sum = expression_of c.args.expression.now in
     let scaled = c.in_ok-scaled.scaled in
     let number = c.args.expression.now.constant in
@@ -44,7 +43,7 @@ pub returns-clause-value : goal.returns-clause-value
 returns-clause-value c =
     let tree = c.args.tree.now.arcs in
     let cycle = cycle_of c.args.basis.now in
-    let name = row_name_of c.args.name in
+    let name = c.args.name in
     let sum = expression_of c.args.expression.now in
     let scaled = c.in_ok-scaled.scaled in
     let number = c.args.expression.now.constant in
@@ -55,7 +54,7 @@ returns-clause-value c =
     let top = back c.numerator.result c.numerator.ensures.in_range ∙ c.numerator.ensures.value in
     if_ok_more c.divided.result (λ r. (r.name ≡ c.args.name) × IsDivided (scaled_of scaled) (cast_signed w128 (cast_unsigned w128 c.numerator.result)) (kept_row r)) _
     (λ r (named, is) lts class same are. row_made lts tree cycle class name sum (scaled_of scaled) (c.in_ok-scaled.ensures.value lts class same are) (ratio_of constant)
-    (kept_row r) (rw c.in_ok-constant.was at product) (ap row_name_of named) (subst (λ z. IsDivided (scaled_of scaled) z (kept_row r)) top is))
+    (kept_row r) (rw c.in_ok-constant.was at product) named (subst (λ z. IsDivided (scaled_of scaled) z (kept_row r)) top is))
     c.divided.ensures.value
 
 pub returns-clause-one_each : goal.returns-clause-one_each

@@ -1,5 +1,5 @@
 use Rattle.std.proofs.Common.{◌<◌, List, [], All, length, map, ap, sym, subst, ◌∙◌}
-use Rattle.rg_refuting.specs.Row.{Side}
+use Rattle.rg_refuting.specs.declared.Side.{Side}
 use Rattle.rg_linear.specs.Branching.{SplitSide, Branching, BranchOutcome.stopped}
 use Rattle.rg_linear.proofs.Endings.{splits_within}
 use Rattle.rg_order_of_work.specs.Shown.{Shown, ShownWide}

@@ -1,17 +1,15 @@
 use Rattle.std.proofs.Common.{rules, ◌≡◌, ◌+◌, ◌<◌, List, All, Result, length, map, Ok, Err, inl, inr, ap, sym, subst, ◌∙◌}
 use Rattle.std.specs.Result.{IfOk}
 use Rattle.std.proofs.lemmas.List.{length-map}
-use Rattle.rg_refuting.specs.Row.{Side, row_expression}
+use Rattle.rg_refuting.specs.Row.{row_expression}
+use Rattle.rg_refuting.specs.declared.Side.{Side}
 use Rattle.rg_linear.specs.Branching.{Weight}
 use Rattle.rg_order_of_work.specs.Shown.{named_sides}
 use Rattle.rg_cycles.specs.View.{cycle_of}
 use Rattle.rg_order_of_work.specs.Spreading.{leaf_fold}
 use Rattle.rg_fraction.specs.declared.fold_stop.FoldStop.TheVariants as stop
 use Rattle.rg_fraction.specs.declared.fraction.Fraction.{Fraction}
-use Rattle.rg_reasons.specs.declared.certificate.RowName.{RowName}
 use Rattle.rg_reasons.specs.Trees.{node_of as made_node_of}
-use Rattle.rg_reasons.specs.declared.side.Side.{Side as SideOfCode}
-use Rattle.rg_reasons.specs.Sums.{side_of as made_side_of}
 use Rattle.rg_branch.specs.View.{side_of, sides_of, weight_of}
 use Rattle.rg_rows.specs.declared.named_form.NamedForm.{NamedForm}
 use Rattle.rg_rows.specs.Forms.{split_of}
@@ -19,6 +17,7 @@ use Rattle.rg_farkas.specs.Leaves.{share_of, RefutesCase}
 use Rattle.rg_separate.specs.Casing.{sides_among, SharesFold}
 use Rattle.rg_separate.proofs.Leaves.{leaf_asked, leaf_made, leaf_rows, leaf_not_negative, shares_named}
 use Rattle.rg_separate.proofs.refuting.leaf.Goals as goal
+use Rattle.rg_refuting.specs.declared.RowName.{RowName}
 
 -- what holds of a result
 IfOk_both : {A E : Type 0} {P Q R : A → Type 0} (r : Result A E) → IfOk r P → IfOk r Q → ((a : A) → P a → Q a → R a) → IfOk r R
@@ -37,7 +36,7 @@ spread-requires c =
     let named = c.args.named.now in
     let sides = sides_of c.args.above.now in
     let by_name = c.in_ok-above.ensures ∙ ap (λ (fs : List NamedForm). sides_among (map split_of fs) sides) c.deref.ensures.value ∙ ap (λ fs. sides_among fs sides) c.requires.system.by_name in
-    subst (λ (above : List SideOfCode). RefutesCase c.args.c.setting.lts.now c.args.c.setting.tree.now c.args.c.setting.basis.now c.args.c.setting.class c.args.c.problem c.args.c.number c.deref-2.result.now above) (sym c.deref-3.ensures.value)
+    subst (λ (above : List Side). RefutesCase c.args.c.setting.lts.now c.args.c.setting.tree.now c.args.c.setting.basis.now c.args.c.setting.class c.args.c.problem c.args.c.number c.deref-2.result.now above) (sym c.deref-3.ensures.value)
     (subst (λ (shares : List (RowName × Fraction)). RefutesCase c.args.c.setting.lts.now c.args.c.setting.tree.now c.args.c.setting.basis.now c.args.c.setting.class c.args.c.problem c.args.c.number shares c.in_ok-above.above.items) (sym c.deref-2.ensures.value)
     (leaf_asked c.args.c named sides c.in_ok-above.above.items (map weight_of c.args.weights.now) c.in_ok-shares.shares.items c.requires.case c.requires.system c.requires.leaf by_name (c.in_ok-shares.ensures.one_each ∙ sym (length-map c.args.weights.now weight_of)) c.in_ok-shares.ensures.shares))
 
@@ -47,8 +46,8 @@ returns-clause-made c =
     let by_name = c.in_ok-above.ensures ∙ ap (λ (fs : List NamedForm). sides_among (map split_of fs) sides) c.deref.ensures.value ∙ ap (λ fs. sides_among fs sides) c.requires.system.by_name in
     let fold = subst (λ (shares : List (RowName × Fraction)). SharesFold c.args.named.now sides (map weight_of c.args.weights.now) (Ok (map share_of shares))) (sym c.deref-2.ensures.value) c.in_ok-shares.ensures.shares in
     IfOk_both c.spread.result c.spread.ensures.leaf c.spread.ensures.refutes
-    (λ node leaf is. leaf_made c.args.c c.args.named.now sides (map made_side_of c.deref-3.result.now) (map weight_of c.args.weights.now)
-    (map share_of c.deref-2.result.now) (made_node_of node) c.requires.system (ap (map made_side_of) c.deref-3.ensures.value ∙ by_name) fold leaf is)
+    (λ node leaf is. leaf_made c.args.c c.args.named.now sides c.deref-3.result.now (map weight_of c.args.weights.now)
+    (map share_of c.deref-2.result.now) (made_node_of node) c.requires.system (c.deref-3.ensures.value ∙ by_name) fold leaf is)
 
 pub returns-clause-wide : goal.returns-clause-wide
 returns-clause-wide c = λ w is case shows.
@@ -62,7 +61,7 @@ returns-clause-wide c = λ w is case shows.
       shares_named c.args.c c.args.named.now c.requires.system sides (map weight_of c.args.weights.now)
           (Ok (map share_of c.in_ok-shares.shares.items)) c.in_ok-shares.ensures.shares case shows,
       subst (λ shares. Fails (named_sides lts class c.args.c.problem sides) shares) c.deref-2.ensures.value
-          (subst (λ above. Fails above c.deref-2.result.now) (ap (map made_side_of) c.deref-3.ensures.value ∙ by_name) (c.spread.ensures.wide w is)),
+          (subst (λ above. Fails above c.deref-2.result.now) (c.deref-3.ensures.value ∙ by_name) (c.spread.ensures.wide w is)),
     )
 
 pub returns-in_err-shares-clause-wide : goal.returns-in_err-shares-clause-wide

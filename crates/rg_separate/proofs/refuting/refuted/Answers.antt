@@ -1,8 +1,7 @@
 use Rattle.std.proofs.Common.{◌≡◌, ℕ, ◌+◌, ◌<◌, List, [], ◌∷◌, All, length, get_or, map, Err, ap, sym, subst, ◌∙◌, arith}
 use Rattle.std.proofs.lemmas.List.{length-map, get_or-map, map-append}
 use Rattle.rg_integers.specs.declared.term.Wide.{Wide}
-use Rattle.rg_reasons.specs.Sums.{side_of}
-use Rattle.rg_refuting.specs.Row.{Side}
+use Rattle.rg_refuting.specs.declared.Side.{Side}
 use Rattle.rg_linear.specs.Branching.{SplitSide}
 use Rattle.rg_order_of_work.specs.Shown.{Shown, ShownWide}
 use Rattle.rg_reasons.specs.Trees as reasons
@@ -68,7 +67,7 @@ returns-in-Err-Wide-clause-tells c =
     ∙ ap (λ above. sides_among (map split_of named.forms.items) (sides_of above)) c.deref-in-Err-Wide-2.ensures.value
     ∙ ap (λ fs. sides_among fs sides) c.requires.system.by_name in
     let fails = subst (λ above. LeafPasses c.args.c named (sides_of above) (node_of c.node-item.result) c.in-Err-Wide.wide) c.deref.ensures.value (c.in-Err-Wide.ensures.wide c.in-Err-Wide.wide (ap Err c.in-Err-Wide.field-0-is)) in
-    subst (λ (w : Shown). ShownWide lts class w) (sym (c.passed.ensures ∙ ap (λ (v : Wide). passed_at Spread c.args.c (map side_of c.in_ok-above-in-Err-Wide.above.items) v) c.in-Err-Wide.wide-is ∙ ap (λ (ss : List Side). passed_at Spread c.args.c ss c.in-Err-Wide.wide) by_name))
+    subst (λ (w : Shown). ShownWide lts class w) (sym (c.passed.ensures ∙ ap (λ (v : Wide). passed_at Spread c.args.c c.in_ok-above-in-Err-Wide.above.items v) c.in-Err-Wide.wide-is ∙ ap (λ (ss : List Side). passed_at Spread c.args.c ss c.in-Err-Wide.wide) by_name))
     (leaf_shown c.args.c named (map node_of nodes) i sides (map reasons.node_of c.loop-node.made.items)
     (node_of c.node-item.result) c.in-Err-Wide.wide c.requires.case c.requires.system c.loop-node.invariant (within nodes i c.loop-node-test.true)
     (visited nodes i c.node-item.result c.loop-node-test.true c.node-item.is) fails)
@@ -87,7 +86,7 @@ returns-in-Err-Wide-clause-comes c =
     ∙ ap (λ fs. sides_among fs sides) c.requires.system.by_name in
     let fails = subst (λ above. LeafPasses c.args.c named (sides_of above) (node_of c.node-item.result) c.in-Err-Wide.wide) c.deref.ensures.value (c.in-Err-Wide.ensures.wide c.in-Err-Wide.wide (ap Err c.in-Err-Wide.field-0-is)) in
     subst (λ (w : Shown). CaseComes lts c.args.c.setting.tree.now.arcs (cycle_of c.args.c.setting.basis.now) class c.args.c.problem c.args.c.number (passes w))
-    (sym (c.passed.ensures ∙ ap (λ (v : Wide). passed_at Spread c.args.c (map side_of c.in_ok-above-in-Err-Wide.above.items) v) c.in-Err-Wide.wide-is
+    (sym (c.passed.ensures ∙ ap (λ (v : Wide). passed_at Spread c.args.c c.in_ok-above-in-Err-Wide.above.items v) c.in-Err-Wide.wide-is
     ∙ ap (λ (ss : List Side). passed_at Spread c.args.c ss c.in-Err-Wide.wide) by_name))
     (walk_passes c.args.c named c.requires.system (map node_of nodes) i sides (map reasons.node_of c.loop-node.made.items)
     (node_of c.node-item.result) c.in-Err-Wide.wide c.loop-node.invariant (within nodes i c.loop-node-test.true)

@@ -8,7 +8,6 @@ use Rattle.rg_linear.specs.System.{LinearRow}
 use Rattle.rg_linear.specs.View.{linear_row}
 use Rattle.rg_order_of_work.specs.Fold.{ratio_of}
 use Rattle.rg_order_of_work.specs.Spreading.{side_at}
-use Rattle.rg_reasons.specs.Trees.{row_name_of}
 use Rattle.rg_branch.specs.View.{side_of, sides_of}
 use Rattle.rg_rows.specs.declared.named_form.NamedForm.{NamedForm}
 use Rattle.rg_rows.specs.Forms.{split_of}
@@ -21,7 +20,7 @@ pub returns-then-row-rows-clause-name : goal.returns-then-row-rows-clause-name
 returns-then-row-rows-clause-name c = λ case shows.
     let many : length c.rows-rows.result.now ≡ length c.args.named.now.system.rows = sym (length-map c.rows-rows.result.now linear_row) ∙ ap (length {A = LinearRow}) c.rows-rows.ensures.value in
     let lt : c.args.row < length c.args.named.now.system.rows = (let t = c.if-row-rows.true in omega arith) in
-    ap row_name_of c.index.ensures ∙ own_name c.args.named.now case shows c.args.row c.index.result.now lt
+    c.index.ensures ∙ own_name c.args.named.now case shows c.args.row c.index.result.now lt
 
 pub returns-then-row-rows-clause-factor : goal.returns-then-row-rows-clause-factor
 returns-then-row-rows-clause-factor c = λ case shows.

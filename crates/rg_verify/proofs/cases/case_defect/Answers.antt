@@ -3,24 +3,20 @@ use Rattle.std.specs.Int.{w64}
 use Rattle.std.proofs.lemmas.Int.{to_z-of_z, fits_signed_from_abs}
 use Rattle.std.proofs.lemmas.List.{map-append, length-map}
 use Rattle.std.proofs.Math.ListN.{drop_of_length-le}
-use Rattle.rg_refuting.specs.Row as row
 use Rattle.rg_reasons.specs.declared.certificate.Node.{Node}
 use Rattle.rg_reasons.specs.Certificates.{case_tree, IsNodeOf}
 use Rattle.rg_reasons.specs.Trees.{TreeNode, TreeNode.leaf_node, named_row, node_of, nodes_of}
-use Rattle.rg_reasons.specs.Trees as cert
-use Rattle.rg_reasons.specs.declared.side.Side.{Side}
-use Rattle.rg_verify.specs.Sides.{sides_of}
-use Rattle.rg_reasons.specs.Sums.{side_of}
 use Rattle.rg_verify.proofs.Walking.{IsAtNode, at_first, node_in_range, after_split, after_leaf, found_at, found_split, at_last}
 use Rattle.rg_verify.proofs.Places.{drop_image}
 use Rattle.rg_verify.proofs.cases.case_defect.Goals as goal
 use Rattle.rg_verify.proofs.cases.case_defect.Goals.{in-Split+else-not-stands+in_ok-push-in-Split, in-Leaf+in_ok-defect-in-Leaf+in_default}
+use Rattle.rg_refuting.specs.declared.Side.{Side}
 
 pub loop-node-init : goal.loop-node-init
 loop-node-init c = record {
   items = c.deref-content-items.ensures.value;
   clear = c.requires.clear;
-  at_node = subst (λ (sides : List Side). IsAtNode c.args.lts.now c.args.problem_case.class c.args.problem_case.problem c.args.problem_case.number (case_tree c.args.case.now) (nodes_of c.args.case.now) 0 (sides_of sides)) (sym c.new-above.ensures.items)
+  at_node = subst (λ (sides : List Side). IsAtNode c.args.lts.now c.args.problem_case.class c.args.problem_case.problem c.args.problem_case.number (case_tree c.args.case.now) (nodes_of c.args.case.now) 0 sides) (sym c.new-above.ensures.items)
       (at_first c.args.lts.now c.args.problem_case.class c.args.problem_case.problem c.args.problem_case.number (case_tree c.args.case.now) (nodes_of c.args.case.now) c.requires.whole);
 }
 
@@ -40,7 +36,7 @@ returns-in-Some-clause-judged c =
     let is = ap node_of c.in-Leaf.is ∙ ap (λ rows. leaf_node (map named_row rows)) (sym c.deref-in-Leaf.ensures.value) in
     let rest = drop_image node_of c.args.case.now.nodes.items c.loop-node.node c.content-item.result lt at ∙ ap (λ (n : TreeNode). n ∷ drop (c.loop-node.node + 1) (nodes_of c.args.case.now)) is in
     let judged = rw (c.in-Some.is, c.deref.ensures.value) at c.in_ok-defect-in-Leaf.ensures.judged in
-    found_at c.args.lts.now c.args.problem_case.class c.args.problem_case.problem c.args.problem_case.number (case_tree c.args.case.now) (nodes_of c.args.case.now) c.loop-node.node (sides_of c.loop-node.above.items) c.loop-node.invariant.at_node
+    found_at c.args.lts.now c.args.problem_case.class c.args.problem_case.problem c.args.problem_case.number (case_tree c.args.case.now) (nodes_of c.args.case.now) c.loop-node.node c.loop-node.above.items c.loop-node.invariant.at_node
     (map named_row c.deref-in-Leaf.result.now) c.in-Some.defect rest judged
 
 pub returns-then-not-stands-clause-judged : goal.returns-then-not-stands-clause-judged
@@ -50,8 +46,8 @@ returns-then-not-stands-clause-judged c =
     let at = c.content-item.is ∙ ap (λ (xs : List Node). get_or xs c.loop-node.node c.content-item.result) items in
     let is = ap node_of c.in-Split.is in
     let rest = drop_image node_of c.args.case.now.nodes.items c.loop-node.node c.content-item.result lt at ∙ ap (λ (n : TreeNode). n ∷ drop (c.loop-node.node + 1) (nodes_of c.args.case.now)) is in
-    found_split c.args.lts.now c.args.problem_case.class c.args.problem_case.problem c.args.problem_case.number (case_tree c.args.case.now) (nodes_of c.args.case.now) c.loop-node.node (sides_of c.loop-node.above.items) c.loop-node.invariant.at_node
-    (cert.form_of c.in-Split.form) c.in-Split.at rest (λ stands. (let e = c.stands.ensures.1 stands in let f = c.if-not-stands.true in cc))
+    found_split c.args.lts.now c.args.problem_case.class c.args.problem_case.problem c.args.problem_case.number (case_tree c.args.case.now) (nodes_of c.args.case.now) c.loop-node.node c.loop-node.above.items c.loop-node.invariant.at_node
+    c.in-Split.form c.in-Split.at rest (λ stands. (let e = c.stands.ensures.1 stands in let f = c.if-not-stands.true in cc))
 
 pub loop-node-preserved : goal.loop-node-preserved
 loop-node-preserved c =
@@ -60,19 +56,19 @@ loop-node-preserved c =
     let at = c.content-item.is ∙ ap (λ (xs : List Node). get_or xs c.loop-node.node c.content-item.result) items in
     let rest = drop_image node_of c.args.case.now.nodes.items c.loop-node.node c.content-item.result lt at in
     let good = node_in_range c.args.lts.now c.args.case.now c.loop-node.node c.content-item.result c.requires.whole c.requires.in_range lt at in
-    let at_next = λ (sides : List row.Side). IsAtNode c.args.lts.now c.args.problem_case.class c.args.problem_case.problem c.args.problem_case.number (case_tree c.args.case.now) (nodes_of c.args.case.now) (c.loop-node.node + 1) sides in
+    let at_next = λ (sides : List Side). IsAtNode c.args.lts.now c.args.problem_case.class c.args.problem_case.problem c.args.problem_case.number (case_tree c.args.case.now) (nodes_of c.args.case.now) (c.loop-node.node + 1) sides in
     elim c.match-content.branch [
       | in-Split+else-not-stands+in_ok-push-in-Split w ↦
           let is = ap node_of w.in-Split.is in
           let range = subst (IsNodeOf c.args.lts.now) is good in
           let back = to_z-of_z w64 w.in-Split.at (fits_signed_from_abs w64 w.in-Split.at range.1) in
           let pushed = rw back at w.in_ok-push-in-Split.ensures.items in
-          let sides = ap sides_of pushed ∙ map-append side_of c.loop-node.above.items (record { form = w.in-Split.form; at = w.in-Split.at; high = false } ∷ []) in
+          let sides = pushed in
           rw (w.sums-is, w.above-is) (record {
             items = items;
             clear = c.loop-node.invariant.clear;
-            at_node = subst at_next (sym sides) (after_split c.args.lts.now c.args.problem_case.class c.args.problem_case.problem c.args.problem_case.number (case_tree c.args.case.now) (nodes_of c.args.case.now) c.loop-node.node (sides_of c.loop-node.above.items)
-                c.loop-node.invariant.at_node (cert.form_of w.in-Split.form) w.in-Split.at (rest ∙ ap (λ (n : TreeNode). n ∷ drop (c.loop-node.node + 1) (nodes_of c.args.case.now)) is) range (w.stands.ensures.0 w.if-not-stands.false));
+            at_node = subst at_next (sym sides) (after_split c.args.lts.now c.args.problem_case.class c.args.problem_case.problem c.args.problem_case.number (case_tree c.args.case.now) (nodes_of c.args.case.now) c.loop-node.node c.loop-node.above.items
+                c.loop-node.invariant.at_node w.in-Split.form w.in-Split.at (rest ∙ ap (λ (n : TreeNode). n ∷ drop (c.loop-node.node + 1) (nodes_of c.args.case.now)) is) range (w.stands.ensures.0 w.if-not-stands.false));
           })
       | in-Leaf+in_ok-defect-in-Leaf+in_default w ↦
           let is = ap node_of w.in-Leaf.is ∙ ap (λ rows. leaf_node (map named_row rows)) (sym w.deref-in-Leaf.ensures.value) in
@@ -80,7 +76,7 @@ loop-node-preserved c =
           rw (w.sums-is, w.above-is) (record {
             items = items;
             clear = w.in_ok-defect-in-Leaf.ensures.clear;
-            at_node = subst at_next (sym w.turn.ensures) (after_leaf c.args.lts.now c.args.problem_case.class c.args.problem_case.problem c.args.problem_case.number (case_tree c.args.case.now) (nodes_of c.args.case.now) c.loop-node.node (sides_of c.loop-node.above.items)
+            at_node = subst at_next (sym w.turn.ensures) (after_leaf c.args.lts.now c.args.problem_case.class c.args.problem_case.problem c.args.problem_case.number (case_tree c.args.case.now) (nodes_of c.args.case.now) c.loop-node.node c.loop-node.above.items
                 c.loop-node.invariant.at_node (map named_row w.deref-in-Leaf.result.now) (rest ∙ ap (λ (n : TreeNode). n ∷ drop (c.loop-node.node + 1) (nodes_of c.args.case.now)) is) refutes);
           })
     ]
@@ -88,5 +84,5 @@ loop-node-preserved c =
 pub returns-clause-judged : goal.returns-clause-judged
 returns-clause-judged c =
     let past = subst (λ (xs : List Node). length xs ≤ c.loop-node.node) c.loop-node.invariant.items c.loop-node-test.false in
-    at_last c.args.lts.now c.args.problem_case.class c.args.problem_case.problem c.args.problem_case.number (case_tree c.args.case.now) (nodes_of c.args.case.now) c.loop-node.node (sides_of c.loop-node.above.items) c.loop-node.invariant.at_node
+    at_last c.args.lts.now c.args.problem_case.class c.args.problem_case.problem c.args.problem_case.number (case_tree c.args.case.now) (nodes_of c.args.case.now) c.loop-node.node c.loop-node.above.items c.loop-node.invariant.at_node
     (drop_of_length-le (nodes_of c.args.case.now) (rw length-map past))

@@ -1,11 +1,11 @@
 use Rattle.std.proofs.Common.{◌≡◌, ◌≤◌, length, take}
-use Rattle.rg_verify.specs.Sides.{sides_of, turned}
+use Rattle.rg_verify.specs.Sides.{turned}
 use Rattle.rg_verify.proofs.cases.turn.Given as goal
 
 abbrev pub invariant-loop-depth : goal.invariant-loop-depth
 invariant-loop-depth l = record {
   within : l.depth ≤ length l.above.items;
-  past : turned (sides_of (take l.depth l.above.items)) ≡ turned (sides_of l.fn.above.items);
+  past : turned (take l.depth l.above.items) ≡ turned l.fn.above.items;
 }
 
 abbrev pub decreases-loop-depth : goal.decreases-loop-depth

@@ -1,6 +1,4 @@
 use Rattle.rg_reasons.proofs.Within.{row_within}
-use Rattle.rg_reasons.specs.Trees.{row_name_of}
-use Rattle.rg_verify.specs.Sides.{sides_of}
 use Rattle.rg_verify.proofs.Rows.{reduced_row, all_forms}
 use Rattle.rg_verify.proofs.opposites.row_expression.Goals as goal
 
@@ -9,4 +7,4 @@ returns c =
     let case = c.args.problem_case in
     let lts = c.args.lts.now in
     reduced_row lts c.expression.result c.without_opposites.result _ c.expression.ensures c.without_opposites.ensures.terms c.without_opposites.ensures.constant
-    (row_within lts c.is_well_formed.ensures.in_range.initial case.class (sides_of c.args.above.now) (all_forms lts (sides_of c.args.above.now) c.requires.sides) case.problem case.number c.requires.asked (row_name_of c.args.name) c.requires.name)
+    (row_within lts c.is_well_formed.ensures.in_range.initial case.class c.args.above.now (all_forms lts c.args.above.now c.requires.sides) case.problem case.number c.requires.asked c.args.name c.requires.name)

@@ -1,7 +1,8 @@
 use Rattle.std.proofs.Common.{Some, sym, ap, ◌∙◌, if◌then◌else◌}
 use Rattle.rg_integers.proofs.Casts.{back}
-use Rattle.rg_refuting.specs.Expression.{Variable, same_variable}
-use Rattle.rg_reasons.specs.Sums.{variable_of, term_of}
+use Rattle.rg_refuting.specs.Expression.{same_variable}
+use Rattle.rg_refuting.specs.declared.Variable.{Variable}
+use Rattle.rg_reasons.specs.Sums.{term_of}
 use Rattle.rg_verify.specs.Sums.{entry_of}
 use Rattle.rg_verify.proofs.Tables.{tidy_set}
 use Rattle.rg_verify.proofs.Adding.{adds_term}
@@ -9,7 +10,7 @@ use Rattle.rg_verify.proofs.sums.Sums.add_term.Goals as goal
 
 pub returns-clause-tidy : goal.returns-clause-tidy
 returns-clause-tidy c =
-    tidy_set c.touch.new.self c.set.new.self (variable_of c.variable-variable.result) c.in-Some.sum c.touch.ensures.tidy c.set.ensures.variables c.set.ensures.entries c.set.ensures.touched c.in_ok-touch.ensures.listed
+    tidy_set c.touch.new.self c.set.new.self c.variable-variable.result c.in-Some.sum c.touch.ensures.tidy c.set.ensures.variables c.set.ensures.entries c.set.ensures.touched c.in_ok-touch.ensures.listed
 
 pub returns-clause-ok : goal.returns-clause-ok
 returns-clause-ok c =

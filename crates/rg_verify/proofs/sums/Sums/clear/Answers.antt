@@ -1,12 +1,11 @@
 use Rattle.std.proofs.Common.{◌≡◌, [], append-nil, refl, ◌∙◌, sym}
 use Rattle.std.proofs.lemmas.List.{nil_from_length}
-use Rattle.rg_reasons.specs.Sums.{variable_of}
 use Rattle.rg_verify.proofs.Tables.{has_entry, popped_entry, tidy_popped, tidy_same, zero_where_none}
 use Rattle.rg_verify.proofs.sums.Sums.clear.Goals as goal
 
 pub set-requires : goal.set-requires
 set-requires c =
-    has_entry c.loop-variable.self (record c.loop-variable.self { touched = c.pop.new.self }) (variable_of c.in-Some.variable) (record { tokens = refl; effects = refl })
+    has_entry c.loop-variable.self (record c.loop-variable.self { touched = c.pop.new.self }) c.in-Some.variable (record { tokens = refl; effects = refl })
     (popped_entry c.loop-variable.self c.pop.new.self.items c.in-Some.variable c.loop-variable.invariant.tidy c.in-Some.ensures.items)
 
 pub loop-variable-preserved : goal.loop-variable-preserved
