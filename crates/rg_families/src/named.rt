@@ -4,7 +4,6 @@ ghost use Rattle.rg_theory.specs.Limits.{most_states, most_labels, most_arcs};
 ghost use Rattle.rg_lts.specs.WellFormed.{AreNames};
 ghost use Rattle.rg_families.specs.Named.{Triple, drawing, IsSystemOf, IsSound, IsKnown, HasArcs, names_of, triple_of};
 
-use rg_firsts::add_arc;
 use rg_lts::{BuildFault, Lts, LtsBuilder};
 use rg_memory::NoMemory;
 use std::alloc::Global;
@@ -87,12 +86,7 @@ fn add_arcs(builder: &mut LtsBuilder, arcs: &[NamedArc]) -> Result<(), NoMemory>
     ensures { OnOk result (HasArcs builder.old builder.new (map triple_of arcs.now)) }
 {
     for arc in arcs {
-        match add_arc(
-            builder,
-            arc.from.as_str(),
-            arc.label.as_str(),
-            arc.to.as_str(),
-        ) {
+        match builder.arc(arc.from.as_str(), arc.label.as_str(), arc.to.as_str()) {
             Ok(()) => {}
             Err(BuildFault::NoMemory) => return Err(NoMemory),
             Err(_) => unreachable!(),

@@ -23,6 +23,13 @@ at_number xs x (k, lt, e) = (k, slice_get-get_or xs k x lt ∙ ap Some e)
 pub there_later : {X : Type 0} (x : X) (xs : List X) (y : X) → Contains xs y → Contains (x ∷ xs) y
 there_later x xs y (k, lt, e) = (suc k, omega arith, e)
 
+-- what stands in a list stands there when it grows
+pub stays_at : {X : Type 0} (xs more : List X) (i : ℕ) (x : X) → slice_get xs i ≡ Some x → slice_get (xs ++ more) i ≡ Some x
+stays_at xs more i x at =
+    let lt = slice_get_within xs i x at in
+    let here : get_or (xs ++ more) i x ≡ x = get_or_append_left xs more x i lt ∙ get_or_from_slice_get xs i x x at in
+    slice_get-get_or (xs ++ more) i x (omega (arith, length-append xs more)) ∙ ap Some here
+
 pub last_there : {X : Type 0} (xs : List X) (x : X) → Contains (xs ++ x ∷ []) x
 last_there xs x = Contains-append_right xs (x ∷ []) x (zero, omega arith, refl)
 
@@ -92,6 +99,9 @@ module _ {X : Type 0} (same : X → X → Bool) (tells : (a b : X) → Decides (
 
   pub still_there : (xs : List X) (x y : X) → Contains xs y → Contains (with_new same xs x) y
   still_there xs x y has = let g = grown same xs x in subst (λ l. Contains l y) (sym g.1) (Contains-append_left xs g.0 y has)
+
+  pub still_at : (xs : List X) (x : X) (i : ℕ) (y : X) → slice_get xs i ≡ Some y → slice_get (with_new same xs x) i ≡ Some y
+  still_at xs x i y at = let g = grown same xs x in subst (λ l. slice_get l i ≡ Some y) (sym g.1) (stays_at xs g.0 i y at)
 
   pub new_is_there : (xs : List X) (x : X) → Contains (with_new same xs x) x
   new_is_there xs x = ⊎_elim (λ has. subst (λ l. Contains l x) (sym (new_there xs x has)) has)

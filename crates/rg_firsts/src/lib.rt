@@ -9,4 +9,4 @@ mod names;
 pub use building::build;
 pub use laws::one_system;
 pub use lines::{cut_line, cut_word, words};
-pub use names::{add_arc, add_label, add_state, as_name};
+pub use names::{add_label, add_state, as_name};

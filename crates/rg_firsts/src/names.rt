@@ -1,10 +1,8 @@
-//! Names as text, and names and arcs that are added where they are new.
+//! Names as text, and names that are added where they are new.
 ghost use Rattle.std.specs.Prelude.{◌≡◌, ◌↔◌, ◌⊎◌, ◌<◌, ◌≤◌, length, slice_get, Some, Contains, IfErr, IfOk, IsErrOf, OnOk};
 ghost use Rattle.std.specs.Str.{bytes_eq};
 ghost use Rattle.rg_text.specs.Byte.{IsName};
 ghost use Rattle.rg_theory.specs.Limits.{most_states, most_labels};
-ghost use Rattle.rg_theory.specs.declared.Arc.{Arc};
-ghost use Rattle.rg_lts.specs.Draft.{HasNames, IsArcNamed, AddsArc, IsArcOverLimit, IsWellFormedDraft};
 ghost use Rattle.rg_firsts.specs.First.{with_new};
 ghost use Rattle.rg_firsts.specs.Grown.{with_state, with_label};
 ghost use Rattle.rg_lts.specs.declared.fault.BuildFault.TheVariants as fault;
@@ -57,28 +55,6 @@ pub fn add_label(builder: &mut LtsBuilder, name: &str) -> Result<u32, BuildFault
     match builder.label(name) {
         Ok(t) => Ok(t),
         Err(BuildFault::TooManyLabels) => Err(BuildFault::TooManyLabels),
-        Err(BuildFault::NoMemory) => Err(BuildFault::NoMemory),
-        Err(_) => unreachable!(),
-    }
-}
-
-/// Adds the arc with these names, which are there; an arc that is there already changes nothing. `TooManyArcs` where it is new
-/// and there are 262,144 others, else `NoMemory`.
-pub fn add_arc(
-    builder: &mut LtsBuilder,
-    from: &str,
-    label: &str,
-    to: &str,
-) -> Result<(), BuildFault>
-    requires { HasNames builder.old from.now label.now to.now }
-    ensures ok { OnOk result ((a : Arc) × IsArcNamed builder.old from.now label.now to.now a × AddsArc builder.old builder.new a) }
-    ensures too_many { IsErrOf result fault.TooManyArcs ↔ IsArcOverLimit builder.old from.now label.now to.now }
-    ensures well_formed { IsWellFormedDraft builder.old }
-    ensures cause { IfErr result (λ e. (e ≡ fault.TooManyArcs) ⊎ (e ≡ fault.NoMemory)) }
-{
-    match builder.arc(from, label, to) {
-        Ok(()) => Ok(()),
-        Err(BuildFault::TooManyArcs) => Err(BuildFault::TooManyArcs),
         Err(BuildFault::NoMemory) => Err(BuildFault::NoMemory),
         Err(_) => unreachable!(),
     }

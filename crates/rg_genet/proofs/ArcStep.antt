@@ -1,15 +1,16 @@
 -- A draft with one arc more.
-use Rattle.std.proofs.Common.{◌≡◌, ◌⊎◌, inl, inr, ⊎_elim, ℕ, ◌+◌, ◌<◌, ◌≤◌, Bool, true, false, List, [], ◌∷◌, ◌++◌, length, refl, sym, ap, subst, ◌∙◌, arith}
+use Rattle.std.proofs.Common.{◌≡◌, ◌⊎◌, inl, inr, ⊎_elim, ℕ, ◌+◌, ◌<◌, ◌≤◌, Bool, true, false, List, [], ◌∷◌, ◌++◌, length, slice_get, Contains, Some, refl, sym, ap, subst, ◌∙◌, arith}
 use Rattle.std.specs.List.{list_any}
 use Rattle.std.specs.Str.{bytes_eq}
 use Rattle.rg_theory.specs.declared.Arc.{Arc}
+use Rattle.rg_theory.specs.System.{arc}
 use Rattle.rg_theory.specs.Limits.{most_states, most_labels, most_arcs}
-use Rattle.rg_lts.specs.Draft.{Draft, IsArcNamed, AddsArc, HasNames, IsArcOverLimit, IsWellFormedDraft}
+use Rattle.rg_lts.specs.Draft.{Draft, IsArcNamed, AddsArc, IsWellFormedDraft}
 use Rattle.rg_lts.proofs.OrderedArcs.{Has, has_from, contains_from, ordered_from, inserted}
 use Rattle.rg_firsts.specs.First.{with_new, firsts, number_of, same_arc}
 use Rattle.rg_firsts.specs.Grown.{with_state, with_label}
 use Rattle.std.proofs.lemmas.Slice.Eq.{bytes_eq-Decides}
-use Rattle.rg_firsts.proofs.Things.{at_number, still_there, new_is_there}
+use Rattle.rg_firsts.proofs.Things.{still_at}
 use Rattle.rg_firsts.proofs.Counted.{how_many, any_has, has_any, has_both, has_left, has_last}
 use Rattle.rg_firsts.proofs.Numbers.{number_is}
 use Rattle.rg_genet.specs.Contents.{Triple, state_names, label_names, arc_of, arcs_of}
@@ -34,15 +35,17 @@ named_after before t d0 d1 d2 d3 h e1 e2 e3 =
       initial = ap (λ (d : Draft). d.initial) whole;
     }
 
--- its names are there
-pub names_there : (t : Triple) (d0 d1 d2 d3 : Draft) → d1 ≡ with_state d0 t.from → d2 ≡ with_state d1 t.to → d3 ≡ with_label d2 t.label → HasNames d3 t.from t.label t.to
-names_there t d0 d1 d2 d3 e1 e2 e3 =
-    let whole : d3 ≡ with_label (with_state (with_state d0 t.from) t.to) t.label = e3 ∙ ap (λ d. with_label d t.label) (e2 ∙ ap (λ d. with_state d t.to) e1) in
-    subst (λ (d : Draft). HasNames d t.from t.label t.to) (sym whole) (record {
-      from = still_there bytes_eq bytes_eq-Decides (with_new bytes_eq d0.state_names t.from) t.to t.from (new_is_there bytes_eq bytes_eq-Decides d0.state_names t.from);
-      label = new_is_there bytes_eq bytes_eq-Decides d0.label_names t.label;
-      to = new_is_there bytes_eq bytes_eq-Decides (with_new bytes_eq d0.state_names t.from) t.to;
-    })
+-- the numbers of its names, each from when it is added
+pub numbers_are : (t : Triple) (d1 d2 d3 : Draft) (from label to : ℕ) → d2 ≡ with_state d1 t.to → d3 ≡ with_label d2 t.label → slice_get d1.state_names from ≡ Some t.from
+    → slice_get d2.state_names to ≡ Some t.to → slice_get d3.label_names label ≡ Some t.label → IsArcNamed d3 t.from t.label t.to (arc from label to)
+numbers_are t d1 d2 d3 from label to e2 e3 at_from at_to at_label =
+    let second = ap (λ (d : Draft). d.state_names) e2 in
+    let third = ap (λ (d : Draft). d.state_names) e3 in
+    record {
+      from = subst (λ l. slice_get l from ≡ Some t.from) (sym (third ∙ second)) (still_at bytes_eq bytes_eq-Decides d1.state_names t.to from t.from at_from);
+      label = at_label;
+      to = subst (λ l. slice_get l to ≡ Some t.to) (sym third) at_to;
+    }
 
 -- the arc by the numbers of its names
 abbrev new_arc : List Triple → Triple → Arc
@@ -83,40 +86,33 @@ module _ (before : List Triple) (t : Triple) (d0 d3 : Draft) (h : HasTriples bef
       (λ c x. all_to c (⊎_elim (λ is. inr is) (λ old. inl old) (put.1.to c x)))
       (λ c x. put.1.from c (⊎_elim (λ old. inr old) (λ is. inl is) (all_from c x)))
 
-  pub few_arcs : (IsArcOverLimit d3 t.from t.label t.to → ⊥) → HasNames d3 t.from t.label t.to → length (firsts same_arc (arcs_of (before ++ t ∷ []))) ≤ most_arcs
-  few_arcs within names = by (list_any (same_arc (new_arc before t)) d3.arcs) refl
-    where
-      by : (b : Bool) → list_any (same_arc (new_arc before t)) d3.arcs ≡ b → length (firsts same_arc (arcs_of (before ++ t ∷ []))) ≤ most_arcs
-      by true e = let count = count_there (any_has (new_arc before t) d3.arcs e) in omega (arith, count, formed.few_arcs)
-      by false e =
-          let none : Has d3.arcs (new_arc before t) → ⊥ = λ x. (let found = has_any (new_arc before t) d3.arcs x in cc) in
-          let count = count_new none in
-          let less = below none in
-          omega (arith, count, less)
-        where
-          below : (Has d3.arcs (new_arc before t) → ⊥) → length d3.arcs < most_arcs
-          below none = decide (cases most_arcs (length d3.arcs))
-            where
-              cases : (m n : ℕ) → (m ≤ n) ⊎ (n < m)
-              cases m n = grind arith
+  -- the arc that is added
+  module _ (a : Arc) (named : IsArcNamed d3 t.from t.label t.to a) where
+    pub few_arcs : ((Contains d3.arcs a → ⊥) × (most_arcs ≤ length d3.arcs) → ⊥) → length (firsts same_arc (arcs_of (before ++ t ∷ []))) ≤ most_arcs
+    few_arcs within = by (list_any (same_arc (new_arc before t)) d3.arcs) refl
+      where
+        by : (b : Bool) → list_any (same_arc (new_arc before t)) d3.arcs ≡ b → length (firsts same_arc (arcs_of (before ++ t ∷ []))) ≤ most_arcs
+        by true e = let count = count_there (any_has (new_arc before t) d3.arcs e) in omega (arith, count, formed.few_arcs)
+        by false e =
+            let none : Has d3.arcs (new_arc before t) → ⊥ = λ x. (let found = has_any (new_arc before t) d3.arcs x in cc) in
+            let count = count_new none in
+            let less = below none in
+            omega (arith, count, less)
+          where
+            below : (Has d3.arcs (new_arc before t) → ⊥) → length d3.arcs < most_arcs
+            below none = decide (cases most_arcs (length d3.arcs))
+              where
+                cases : (m n : ℕ) → (m ≤ n) ⊎ (n < m)
+                cases m n = grind arith
 
-              decide : (most_arcs ≤ length d3.arcs) ⊎ (length d3.arcs < most_arcs) → length d3.arcs < most_arcs
-              decide (inr less) = less
-              decide (inl full) = absurd (within (record {
-                names = names;
-                new = λ a named there. none (subst (Has d3.arcs) (sym (arc_is before t d0 d3 a n formed named)) (has_from d3.arcs a there));
-                limit = full;
-              }))
+                decide : (most_arcs ≤ length d3.arcs) ⊎ (length d3.arcs < most_arcs) → length d3.arcs < most_arcs
+                decide (inr less) = less
+                decide (inl full) = absurd (within (λ there. none (subst (Has d3.arcs) (sym (arc_is before t d0 d3 a n formed named)) (has_from d3.arcs a there)), full))
 
-  pub too_many_arcs : IsArcOverLimit d3 t.from t.label t.to → most_arcs < length (firsts same_arc (arcs_of (before ++ t ∷ [])))
-  too_many_arcs over =
-      let from = at_number d3.state_names t.from over.names.from in
-      let label = at_number d3.label_names t.label over.names.label in
-      let to = at_number d3.state_names t.to over.names.to in
-      let a : Arc = record { from = from.0; label = label.0; to = to.0 } in
-      let named : IsArcNamed d3 t.from t.label t.to a = record { from = from.1; label = label.1; to = to.1 } in
-      let count = count_new (λ has. over.new a named (contains_from d3.arcs a (subst (Has d3.arcs) (arc_is before t d0 d3 a n formed named) has))) in
-      omega (arith, count, over.limit)
+    pub too_many_arcs : (Contains d3.arcs a → ⊥) → most_arcs ≤ length d3.arcs → most_arcs < length (firsts same_arc (arcs_of (before ++ t ∷ [])))
+    too_many_arcs new full =
+        let count = count_new (λ has. new (contains_from d3.arcs a (subst (Has d3.arcs) (arc_is before t d0 d3 a n formed named) has))) in
+        omega (arith, count, full)
 
   pub with_arc : (d4 : Draft) (a : Arc) → IsArcNamed d3 t.from t.label t.to a → AddsArc d3 d4 a → HasTriples (before ++ t ∷ []) d4
   with_arc d4 a named adds =

@@ -15,8 +15,8 @@ ghost use Rattle.rg_genet.specs.declared.fault.GraphFault.TheVariants.{NoMemory}
 
 use crate::fault::GraphFault;
 use crate::line::{Form, form_of, opens, passes, spaced};
-use rg_firsts::{add_arc, add_label, add_state, as_name, cut_line, words};
-use rg_lts::{BuildFault, Lts, LtsBuilder};
+use rg_firsts::{add_label, add_state, as_name, cut_line, words};
+use rg_lts::{Arc, BuildFault, Lts, LtsBuilder};
 use rg_text::MOST_NAME_BYTES;
 use std::alloc::Global;
 
@@ -181,7 +181,7 @@ fn add_triple(
     let from = as_name(from);
     let label = as_name(label);
     let to = as_name(to);
-    match arc_between(builder, from, label, to) {
+    match add_named(builder, from, label, to) {
         Ok(()) => Ok(()),
         Err(BuildFault::TooManyStates) => Err(GraphFault::TooManyStates(number)),
         Err(BuildFault::TooManyLabels) => Err(GraphFault::TooManyLabels(number)),
@@ -206,12 +206,7 @@ fn is_long(name: &[u8]) -> bool
 }
 
 // The same, with the builder's faults.
-fn arc_between(
-    builder: &mut LtsBuilder,
-    from: &str,
-    label: &str,
-    to: &str,
-) -> Result<(), BuildFault>
+fn add_named(builder: &mut LtsBuilder, from: &str, label: &str, to: &str) -> Result<(), BuildFault>
     requires from { IsName from.now }
     requires label { IsName label.now }
     requires to { IsName to.now }
@@ -221,10 +216,10 @@ fn arc_between(
         → AreTooMany (before ++ triple from.now label.now to.now ∷ []) e) }
     ensures cause { IfErr result IsLimitFault }
 {
-    add_state(builder, from)?;
-    add_state(builder, to)?;
-    add_label(builder, label)?;
-    add_arc(builder, from, label, to)?;
+    let from = add_state(builder, from)?;
+    let to = add_state(builder, to)?;
+    let label = add_label(builder, label)?;
+    builder.arc_between(Arc { from, label, to })?;
     Ok(())
 }
 

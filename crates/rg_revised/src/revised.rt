@@ -45,15 +45,18 @@ impl Model for Revised {
     ghost invariant = { λ a. IsStored (record { columns = length a.basis.slots.items; slots = a.basis.slots.items; d = a.basis.d; table = a.basis.table.items; numbers = a.basis.numbers.items; constants = a.basis.constants.items; named = a.basis.named.items; failing = a.failing; factor = a.factor }) (vec_capacity a.basis.named) (vec_capacity a.stack) };
 }
 
+// The greatest number of 64 bits with a sign.
+const GREATEST: u64 = i64::MAX as u64;
+
 // The greatest size that the numbers of the table may have where no row's norm passes `norm`.
 pub(crate) fn most_for(norm: u64) -> Option<i64>
     ensures some { IfSome result (λ most. (1 ≤ unsigned_abs most) × ((norm + 1) * unsigned_abs most < 2 ^ 63)) }
     ensures not_negative { IfSome result (λ most. pos 0 ≤ℤ most) }
 {
-    if norm >= 9223372036854775807 {
+    if norm >= GREATEST {
         return None;
     }
-    let most = 9223372036854775807 / (norm + 1);
+    let most = GREATEST / (norm + 1);
     Some(most as i64)
 }
 

@@ -5,6 +5,9 @@ ghost use Rattle.rg_integers.specs.Range.{InRange};
 ghost use Rattle.rg_integers.specs.Sum.{number_at};
 ghost use Rattle.rg_revised.specs.Rows.{RowWithin, AreShort, IsSubtracted, RowRenewed};
 
+// A number is short where its size is below this one: 2^31. The product of two short ones fits 64 bits.
+const SHORT: i64 = 2_147_483_648;
+
 // a*b - c*d, which is never out of range.
 fn short_term(a: i64, b: i64, c: i64, d: i64) -> i128
     ensures value { result ≡ (a *ℤ b) -ℤ (c *ℤ d) }
@@ -69,11 +72,11 @@ fn kept_within(z: i128, most: i64) -> Option<i64>
     Some(z as i64)
 }
 
-// Whether the number's size is below 2^31.
+// Whether the number is short.
 fn is_short(z: i64) -> bool
     ensures { IsTrue result ↔ (unsigned_abs z < 2 ^ 31) }
 {
-    z < 2147483648 && z > -2147483648
+    z < SHORT && z > -SHORT
 }
 
 // a*b - c*d in 64 bits.

@@ -10,7 +10,7 @@ use Rattle.std.proofs.lemmas.Option.{slice_get_within, get_or_from_slice_get, sl
 use Rattle.std.proofs.lemmas.Slice.Eq.{bytes_eq-Decides, slice_eq-Decides}
 use Rattle.rg_theory.specs.System.{arc}
 use Rattle.rg_firsts.specs.First.{with_new, firsts}
-use Rattle.rg_firsts.proofs.Things.{there_at, there_later, last_there, stands_last, there_one, fold-append, grown, new_there, new_absent, number_is, number_stays, met, firsts_differ, map_there}
+use Rattle.rg_firsts.proofs.Things.{there_at, there_later, last_there, stays_at, stands_last, there_one, fold-append, grown, new_there, new_absent, number_is, number_stays, met, firsts_differ, map_there}
 use Rattle.rg_words.specs.Contents.{Word, Use, prefix, same_word, prefixes, label_names, arc_of}
 use Rattle.rg_words.specs.Reading.{arcs_from, step_arcs, LeadsTo, arcs_of, AreSteps}
 
@@ -71,13 +71,6 @@ arcs_more all u known =
     let stay = same_numbers (prefixes all) p.0 (label_names all) l.0 all (λ v h. (known v h, label_met all v h, prefix_met all v h)) in
     map-append (arc_of (prefixes (all ++ u ∷ [])) (label_names (all ++ u ∷ []))) all (u ∷ [])
     ∙ ap (λ r. r ++ arc_of (prefixes (all ++ u ∷ [])) (label_names (all ++ u ∷ [])) u ∷ []) (ap₂ (λ w n. map (arc_of w n) all) words names ∙ stay)
-
--- what stands in a list stands there when it grows
-pub stays_at : {X : Type 0} (xs more : List X) (i : ℕ) (x : X) → slice_get xs i ≡ Some x → slice_get (xs ++ more) i ≡ Some x
-stays_at xs more i x at =
-    let lt = slice_get_within xs i x at in
-    let here : get_or (xs ++ more) i x ≡ x = get_or_append_left xs more x i lt ∙ get_or_from_slice_get xs i x x at in
-    slice_get-get_or (xs ++ more) i x (omega (arith, length-append xs more)) ∙ ap Some here
 
 -- in a list of different things a thing stands at one index
 pub one_place : {X : Type 0} (xs : List X) (i j : ℕ) (x : X) → AllPairs (λ a b. a ≢ b) xs → slice_get xs i ≡ Some x → slice_get xs j ≡ Some x → i ≡ j

@@ -15,7 +15,7 @@ use Rattle.rg_firsts.proofs.Things.{there_one, last_there}
 use Rattle.rg_words.specs.declared.fault.WordFault.TheVariants.{TooManyLabels, TooManyStates}
 use Rattle.rg_words.specs.Contents.{Word, Use, prefix, prefixes, label_names, state_names, name_bytes, fault_of, use_fault}
 use Rattle.rg_words.specs.Reading.{use_of, step_arcs, IsDraftOf, IsAt, IsGrown}
-use Rattle.rg_words.proofs.Growing.{labels_more, one_place, old_step, old_same, new_step, new_words, arcs_from-append}
+use Rattle.rg_words.proofs.Growing.{labels_more, old_step, old_same, new_step, new_words, arcs_from-append}
 
 lt_true : (m n : ℕ) → m < n → nat_lt m n ≡ true
 lt_true m n h = grind (arith, nat_tests)
@@ -113,23 +113,21 @@ draft_same d e steps name h is few = record {
 }
 
 -- the draft has one state more, and an arc to it
-pub draft_more : (e g : Draft) (steps : List (ℕ × ℕ)) (state t to : ℕ) (label : List ℕ) → IsDraftOf e steps → IsGrown e g state label to → slice_get e.label_names t ≡ Some label
+pub draft_more : (e g : Draft) (steps : List (ℕ × ℕ)) (state t to : ℕ) → IsDraftOf e steps → IsGrown e g (arc state t to)
     → to ≡ length steps + 1 → to < most_states → IsDraftOf g (steps ++ (state, t) ∷ [])
-draft_more e g steps state t to label h grown named to_is room =
+draft_more e g steps state t to h grown to_is room =
     let longer : to ≡ length (steps ++ (state, t) ∷ []) = to_is ∙ sym (length-append steps ((state, t) ∷ [])) in
-    let number : grown.number ≡ t = one_place e.label_names grown.number t label grown.differ.differ grown.named named in
     let index : 1 + length steps ≡ to = omega (arith, to_is) in
     let arcs : step_arcs (steps ++ (state, t) ∷ []) ≡ step_arcs steps ++ arc state t to ∷ [] =
     arcs_from-append 1 steps (state, t) ∙ ap (λ m. step_arcs steps ++ arc state t m ∷ []) index in
-    let is : arc state grown.number to ≡ arc state t to = ap (λ m. arc state m to) number in
     record {
       states = ap (λ (x : Draft). x.state_names) grown.rest ∙ ap (λ m. state_names (m + 1)) longer;
       initial = ap (λ (x : Draft). x.initial) grown.rest ∙ h.initial;
       arcs = λ a. (
         λ has. subst (λ l. Contains l a) (sym arcs)
             (⊎_elim (λ old. Contains-append_left (step_arcs steps) _ a ((h.arcs a).0 old))
-            (λ new. subst (Contains (step_arcs steps ++ arc state t to ∷ [])) (sym (new ∙ is)) (last_there (step_arcs steps) (arc state t to))) ((grown.arcs a).0 has)),
-        λ has. (grown.arcs a).1 (⊎_elim (λ old. inl ((h.arcs a).1 old)) (λ new. inr (sym (is ∙ there_one _ a new)))
+            (λ new. subst (Contains (step_arcs steps ++ arc state t to ∷ [])) (sym new) (last_there (step_arcs steps) (arc state t to))) ((grown.arcs a).0 has)),
+        λ has. (grown.arcs a).1 (⊎_elim (λ old. inl ((h.arcs a).1 old)) (λ new. inr (sym (there_one _ a new)))
             (Contains-append_cases (step_arcs steps) _ a (subst (λ l. Contains l a) arcs has))),
       );
       few_steps = omega (arith, longer, room);

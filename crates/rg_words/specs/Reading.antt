@@ -6,7 +6,6 @@ use Rattle.rg_theory.specs.Limits.{most_states, most_labels}
 use Rattle.rg_theory.specs.declared.Arc.{Arc}
 use Rattle.rg_theory.specs.System.{arc}
 use Rattle.rg_lts.specs.Draft.{Draft}
-use Rattle.rg_lts.specs.WellFormed.{AreNames}
 use Rattle.rg_firsts.specs.Numbered.{Line}
 use Rattle.rg_firsts.specs.Words.{words}
 use Rattle.rg_words.specs.declared.fault.WordFault.{WordFault}
@@ -56,13 +55,10 @@ pub record IsAt (all : List Use) (word : Word) (names : List (List ℕ)) (steps 
   pub tree : AreSteps all steps
   pub index : slice_get (prefixes all) state ≡ Some word
 
--- a state is added, and an arc that leads to it
-pub record IsGrown (old new : Draft) (state : ℕ) (label : List ℕ) (to : ℕ) : Type 0 where
-  pub differ : AreNames old.label_names
-  pub number : ℕ
-  pub named : slice_get old.label_names number ≡ Some label
-  pub rest : new ≡ record old { state_names = state_names (to + 1); arcs = new.arcs }
-  pub arcs : (a : Arc) → Contains new.arcs a ↔ (Contains old.arcs a ⊎ (a ≡ arc state number to))
+-- a state is added, and the arc, which leads to it
+pub record IsGrown (old new : Draft) (a : Arc) : Type 0 where
+  pub rest : new ≡ record old { state_names = state_names (a.to + 1); arcs = new.arcs }
+  pub arcs : (b : Arc) → Contains new.arcs b ↔ (Contains old.arcs b ⊎ (b ≡ a))
 
 -- the uses of a line, and of lines
 abbrev pub uses_of : Line → List Use

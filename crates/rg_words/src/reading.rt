@@ -5,6 +5,7 @@ ghost use Rattle.rg_text.specs.Limits.{most_bytes};
 ghost use Rattle.rg_text.specs.Faults.{IsFirst, faults_after};
 ghost use Rattle.rg_text.specs.Line.{lines};
 ghost use Rattle.rg_theory.specs.Limits.{most_states};
+ghost use Rattle.rg_theory.specs.System.{arc};
 ghost use Rattle.rg_lts.specs.WellFormed.{IsWellFormed};
 ghost use Rattle.rg_lts.specs.Draft.{finished};
 ghost use Rattle.rg_firsts.specs.Words.{words};
@@ -17,8 +18,8 @@ ghost use Rattle.rg_words.specs.declared.fault.WordFault.TheVariants.{NoMemory};
 use crate::fault::WordFault;
 use crate::label::{check, label_at, place_of, state_name};
 use indexmap::IndexSet;
-use rg_firsts::{add_arc, add_state, as_name, cut_line, cut_word};
-use rg_lts::{BuildFault, Lts, LtsBuilder, MOST_STATES};
+use rg_firsts::{as_name, cut_line, cut_word};
+use rg_lts::{Arc, BuildFault, Lts, LtsBuilder, MOST_STATES};
 use std::alloc::Global;
 
 // The tree so far. Step number i leads to state i + 1: from a state, by a label.
@@ -33,24 +34,27 @@ fn grow(
     alloc: Global,
     builder: &mut LtsBuilder,
     state: u32,
-    label: &str,
+    label: u32,
     to: u32,
 ) -> Result<(), WordFault>
-    requires label { (t : ℕ) × (slice_get builder.old.label_names t ≡ Some label.now) }
+    requires label { label < length builder.old.label_names }
     requires draft { (steps : List (ℕ × ℕ)) × IsDraftOf builder.old steps × (length steps + 1 ≡ to) }
     requires from { state < to }
     requires room { length builder.old.state_names < most_states }
-    ensures ok { OnOk result (IsGrown builder.old builder.new state label.now to) }
+    ensures ok { OnOk result (IsGrown builder.old builder.new (arc state label to)) }
     ensures cause { IfErr result (λ f. f ≡ fault.NoMemory) }
 {
-    let from_name = state_name(alloc, state)?;
-    let to_name = state_name(alloc, to)?;
-    match add_state(builder, to_name.as_str()) {
+    let name = state_name(alloc, to)?;
+    match builder.state(name.as_str()) {
         Ok(_) => {}
         Err(BuildFault::NoMemory) => return Err(WordFault::NoMemory),
         Err(_) => unreachable!(),
     }
-    match add_arc(builder, from_name.as_str(), label, to_name.as_str()) {
+    match builder.arc_between(Arc {
+        from: state,
+        label,
+        to,
+    }) {
         Ok(()) => Ok(()),
         Err(BuildFault::NoMemory) => Err(WordFault::NoMemory),
         Err(_) => unreachable!(),
@@ -85,7 +89,7 @@ fn take_label(
         if index + 1 >= MOST_STATES {
             return Err(WordFault::TooManyStates(number));
         }
-        grow(alloc, &mut tree.builder, state, name, to)?;
+        grow(alloc, &mut tree.builder, state, t, to)?;
     }
     Ok(to)
 }
@@ -171,7 +175,7 @@ fn root(alloc: Global) -> Result<Tree, WordFault>
 {
     let mut builder = LtsBuilder::new(alloc);
     let name = state_name(alloc, 0)?;
-    match add_state(&mut builder, name.as_str()) {
+    match builder.state(name.as_str()) {
         Ok(_) => {}
         Err(BuildFault::NoMemory) => return Err(WordFault::NoMemory),
         Err(_) => unreachable!(),

@@ -3,5 +3,5 @@ use Rattle.rg_text.specs.Byte.{IsName}
 use Rattle.rg_words.proofs.Steps.{state_is_name}
 use Rattle.rg_words.proofs.reading.root.Goals as goal
 
-pub add_state-requires : goal.add_state-requires
-add_state-requires c = subst IsName (sym (c.as_str.ensures.value ∙ c.in_ok-name.ensures)) (state_is_name 0 (omega arith))
+pub state-requires : goal.state-requires
+state-requires c = subst IsName (sym (c.as_str.ensures.value ∙ c.in_ok-name.ensures)) (state_is_name 0 (omega arith))

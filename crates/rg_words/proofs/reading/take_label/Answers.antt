@@ -20,6 +20,9 @@ returns-then-index-ge-MOST_STATES-clause-fault c = λ real all before h.
     too_many_states all before c.args.number label d.label_names e.label_names c.args.tree.now.steps.keys c.args.state c.in_ok-t.t h grown named
     c.in_ok-check.ensures.short c.in_ok-check.ensures.whole (c.in_ok-t.ensures.few c.requires.draft.few_labels) new.2 (omega (arith, new.0, c.if-index-ge-MOST_STATES.true))
 
+pub grow-requires-clause-label : goal.grow-requires-clause-label
+grow-requires-clause-label c = slice_get_within c.label_at.new.builder.label_names c.in_ok-t.t c.as_name-name.result.now c.in_ok-t.ensures.at
+
 pub grow-requires-clause-draft : goal.grow-requires-clause-draft
 grow-requires-clause-draft c =
     let new = c.in_ok-index.ensures.new (λ (no : c.in_ok-index.new ≡ false). cc) in
@@ -32,8 +35,8 @@ returns-in_ok-grow-clause-draft c =
     let steps = c.args.tree.now.steps.keys in
     let new = c.in_ok-index.ensures.new (λ (no : c.in_ok-index.new ≡ false). cc) in
     subst (IsDraftOf c.grow.new.builder) (sym new.1)
-    (draft_more e c.grow.new.builder steps c.args.state c.in_ok-t.t (c.in_ok-index.index + 1) c.as_name-name.result.now
-    (draft_same d e steps c.as_name-name.result.now c.requires.draft c.in_ok-t.ensures.added c.in_ok-t.ensures.few) c.in_ok-grow.ensures.ok c.in_ok-t.ensures.at
+    (draft_more e c.grow.new.builder steps c.args.state c.in_ok-t.t (c.in_ok-index.index + 1)
+    (draft_same d e steps c.as_name-name.result.now c.requires.draft c.in_ok-t.ensures.added c.in_ok-t.ensures.few) c.in_ok-grow.ensures.ok
     (ap (λ n. n + 1) new.0) c.if-index-ge-MOST_STATES.false)
 
 pub returns-in_ok-grow-clause-ok : goal.returns-in_ok-grow-clause-ok

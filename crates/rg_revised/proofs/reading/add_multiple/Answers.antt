@@ -1,0 +1,27 @@
+use Rattle.std.proofs.Common.{rules, ◌≡◌, ◌≢◌, ◌<◌, length, length-set, get_or-set_other, le_refl, arith, ◌∙◌}
+use Rattle.std.specs.Prelude.{pos, FitsSigned, ◌+ℤ◌, ◌*ℤ◌}
+use Rattle.std.specs.Int.{w64}
+use Rattle.std.proofs.lemmas.Int.{to_z-of_z}
+use Rattle.rg_integers.specs.Sum.{number_at}
+use Rattle.rg_dictionary.proofs.Writing.{below_set}
+use Rattle.rg_revised.proofs.reading.add_multiple.Goals as goal
+
+pub loop-s-preserved : goal.loop-s-preserved
+loop-s-preserved c =
+    let fb : FitsSigned w64 c.args.by = search rules in
+    let fx : FitsSigned w64 (number_at c.loop-s.numbers c.loop-s.s) = search rules in
+    let fy : FitsSigned w64 (number_at c.args.row.now c.loop-s.s) = search rules in
+    let fz : FitsSigned w64 c.added.result = search rules in
+    let b = to_z-of_z w64 c.args.by fb in
+    let x = to_z-of_z w64 (number_at c.loop-s.numbers c.loop-s.s) fx in
+    let y = to_z-of_z w64 (number_at c.args.row.now c.loop-s.s) fy in
+    let z = to_z-of_z w64 c.added.result fz in
+    let lt : c.loop-s.s < length c.loop-s.numbers = omega arith in
+    let same = c.loop-s.invariant.left c.loop-s.s (le_refl c.loop-s.s) in
+    let is = rw (x, b, y, same) at c.added.ensures in
+    let done = rw b at c.loop-s.invariant.done in
+    record {
+      same_length = length-set c.loop-s.numbers c.loop-s.s _ ∙ c.loop-s.invariant.same_length;
+      done = rw (b, z) (below_set (λ k v. v ≡ number_at c.args.numbers.now k +ℤ (c.args.by *ℤ number_at c.args.row.now k)) c.loop-s.numbers c.loop-s.s c.added.result lt done is);
+      left = λ k ge. let ne : k ≢ c.loop-s.s = omega arith in get_or-set_other c.loop-s.numbers c.loop-s.s k _ (pos 0) ne ∙ c.loop-s.invariant.left k (omega arith);
+    }

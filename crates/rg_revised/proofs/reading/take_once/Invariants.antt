@@ -1,0 +1,11 @@
+use Rattle.std.proofs.Common.{◌≡◌, ℕ, ◌<◌, ◌≤◌, length}
+use Rattle.std.specs.Prelude.{negsuc, ◌+ℤ◌, ◌*ℤ◌}
+use Rattle.rg_integers.specs.Sum.{number_at}
+use Rattle.rg_revised.proofs.reading.take_once.Given as goal
+
+abbrev pub invariant-loop-s : goal.invariant-loop-s
+invariant-loop-s l = record {
+  same_length : length l.numbers ≡ length l.fn.numbers;
+  done : (k : ℕ) → k < l.s → number_at l.numbers k ≡ number_at l.fn.numbers k +ℤ (negsuc 0 *ℤ number_at l.row k);
+  left : (k : ℕ) → l.s ≤ k → number_at l.numbers k ≡ number_at l.fn.numbers k;
+}
