@@ -5,7 +5,7 @@ ghost use Rattle.rg_linear.specs.Dictionary.{numbers_from};
 
 use crate::boxes::column;
 use crate::counting::{Ending, add_rows, descend};
-use rg_dictionary::Dictionary as Table;
+use rg_dictionary::RelationTable;
 use rg_linear::System;
 use std::alloc::{AllocError, Global};
 
@@ -34,7 +34,7 @@ pub(crate) fn branch(alloc: Global, system: &System, most: u64) -> Result<Counte
         exchanges: 0,
         renewed: 0,
     };
-    let mut table = Table::with_columns(alloc, system.columns(), 0)?;
+    let mut table = RelationTable::with_columns(alloc, system.columns(), 0)?;
     let mut above = Vec::new(alloc);
     for _ in 0..most {
         fill(alloc, &mut table, system, &above)?;
@@ -68,7 +68,7 @@ enum Next {
     End(Ending),
 }
 
-fn after_node(table: &Table, ending: Ending) -> Next {
+fn after_node(table: &RelationTable, ending: Ending) -> Next {
     match ending {
         Ending::Refuted => Next::Turn,
         Ending::Point => match first_fraction(table) {
@@ -80,7 +80,7 @@ fn after_node(table: &Table, ending: Ending) -> Next {
 }
 
 // The low side of the first column without a whole value at the point of the table.
-fn first_fraction(table: &Table) -> Option<Side> {
+fn first_fraction(table: &RelationTable) -> Option<Side> {
     for column in 0..table.columns() {
         if table.contains(column) {
             continue;
@@ -100,7 +100,12 @@ fn first_fraction(table: &Table) -> Option<Side> {
 }
 
 // Writes the rows of the system and of the sides into the table.
-fn fill(alloc: Global, table: &mut Table, system: &System, above: &[Side]) -> Result<(), AllocError>
+fn fill(
+    alloc: Global,
+    table: &mut RelationTable,
+    system: &System,
+    above: &[Side],
+) -> Result<(), AllocError>
     requires { table.old.columns ≡ system.now.columns }
     ensures { OnOk result (table.new.columns ≡ table.old.columns) }
 {

@@ -5,7 +5,7 @@ ghost use Rattle.rg_integers.specs.Sum.{number_at};
 ghost use Rattle.rg_linear.specs.Dictionary.{numbers_from};
 ghost use Rattle.rg_linear.specs.View.{linear_system, IsWellFormed};
 
-use rg_dictionary::Dictionary as Table;
+use rg_dictionary::RelationTable;
 use rg_linear::{Row, System};
 use std::alloc::{AllocError, Global};
 
@@ -37,15 +37,15 @@ pub(crate) struct Counted {
 }
 
 /// The rows of the system as a table over its columns.
-pub(crate) fn table_of(alloc: Global, system: &System) -> Result<Table, AllocError> {
+pub(crate) fn table_of(alloc: Global, system: &System) -> Result<RelationTable, AllocError> {
     let rows = system.rows();
-    let mut table = Table::with_columns(alloc, system.columns(), rows.len() as u32)?;
+    let mut table = RelationTable::with_columns(alloc, system.columns(), rows.len() as u32)?;
     add_rows(&mut table, rows);
     Ok(table)
 }
 
 /// Adds rows behind those of the table, which is over its columns.
-pub(crate) fn add_rows(table: &mut Table, rows: &[Row])
+pub(crate) fn add_rows(table: &mut RelationTable, rows: &[Row])
     requires start { table.old.members ≡ numbers_from 0 table.old.columns }
     requires room { length rows.now ≤ table.old.room }
     requires well_formed { IsWellFormed (linear_system table.old.columns rows.now) }
@@ -59,7 +59,11 @@ pub(crate) fn add_rows(table: &mut Table, rows: &[Row])
 }
 
 /// Makes the descent, and cuts it off once it has taken so many rows. Each row goes by its variable: the columns come first.
-pub(crate) fn descend(alloc: Global, table: &mut Table, most: u64) -> Result<Counted, AllocError>
+pub(crate) fn descend(
+    alloc: Global,
+    table: &mut RelationTable,
+    most: u64,
+) -> Result<Counted, AllocError>
     ensures { OnOk result (table.new.columns ≡ table.old.columns) }
 {
     let mut counted = Counted {
@@ -107,7 +111,7 @@ pub(crate) fn descend(alloc: Global, table: &mut Table, most: u64) -> Result<Cou
 }
 
 // Takes the row of this variable, where the variables of the stack are fixed.
-fn take_row(table: &mut Table, stack: &[u32], pivot: u32) -> Step
+fn take_row(table: &mut RelationTable, stack: &[u32], pivot: u32) -> Step
     ensures { table.new.columns ≡ table.old.columns }
 {
     if pivot >= table.variables() || table.contains(pivot) {
@@ -117,40 +121,40 @@ fn take_row(table: &mut Table, stack: &[u32], pivot: u32) -> Step
     if numbers[1] >= 0 {
         return Step::Passed;
     }
-    let Some(place) = least_free(table.members(), stack, numbers) else {
+    let Some(index) = least_free(table.members(), stack, numbers) else {
         return Step::Stuck;
     };
-    let renewed = rows_renewed(table, pivot, place);
-    match table.exchange(pivot, place) {
+    let renewed = rows_renewed(table, pivot, index);
+    match table.exchange(pivot, index) {
         Ok(()) => Step::Exchanged { renewed },
         Err(_) => Step::Wide,
     }
 }
 
-// The place of the first member that isn't fixed and that the relation with these numbers names.
+// The index of the first member that isn't fixed and that the relation with these numbers names.
 fn least_free(members: &[u32], stack: &[u32], numbers: &[i128]) -> Option<usize>
     requires { 2 ≤ length numbers.now }
-    ensures member { IfSome result (λ place. place < length members.now) }
-    ensures within { IfSome result (λ place. place + 2 < length numbers.now) }
-    ensures named { IfSome result (λ place. number_at numbers.now (place + 2) ≢ pos 0) }
+    ensures member { IfSome result (λ index. index < length members.now) }
+    ensures within { IfSome result (λ index. index + 2 < length numbers.now) }
+    ensures named { IfSome result (λ index. number_at numbers.now (index + 2) ≢ pos 0) }
 {
-    for (place, member) in members.iter().enumerate() {
-        if place < numbers.len() - 2 && numbers[place + 2] != 0 && !stack.contains(member) {
-            return Some(place);
+    for (index, member) in members.iter().enumerate() {
+        if index < numbers.len() - 2 && numbers[index + 2] != 0 && !stack.contains(member) {
+            return Some(index);
         }
     }
     None
 }
 
-// How many rows the exchange renews: those of the other variables outside the set that name the member at this place.
-fn rows_renewed(table: &Table, pivot: u32, place: usize) -> u32
-    requires { place < table.now.columns }
+// How many rows the exchange renews: those of the other variables outside the set that name the member at this index.
+fn rows_renewed(table: &RelationTable, pivot: u32, index: usize) -> u32
+    requires { index < table.now.columns }
 {
     let mut renewed = 0;
     for variable in 0..table.variables() {
         if variable != pivot
             && !table.contains(variable)
-            && table.numbers(variable)[place + 2] != 0
+            && table.numbers(variable)[index + 2] != 0
         {
             renewed += 1;
         }

@@ -6,21 +6,14 @@
 
 use rg_apt::read_lts;
 use rg_lts::Lts;
-use rg_net::{Class, Net};
+use rg_net::Net;
 use rg_net_verdict::check_net;
 use rg_netfile::read_net;
 use rg_text::MOST_BYTES;
+use rg_theory::ALL_NETS;
 use std::alloc::Global;
 use std::time::{Clock, Instant};
 use std::{env, fs, io};
-
-const NONE: Class = Class {
-    pure: false,
-    plain: false,
-    bound: None,
-    marking: None,
-    nonbranching: false,
-};
 
 // The system that the bytes spell.
 fn system_of(alloc: Global, bytes: &[u8]) -> Option<Lts> {
@@ -44,7 +37,7 @@ fn judge(rt: &(impl Print + Eprint + Clock + AllocGlobal), lts: &Lts, net: &Net)
         return eprintln!(rt; "another number of labels");
     }
     let start = Instant::now(rt)?;
-    let told = check_net(rt.alloc(), lts, net, NONE);
+    let told = check_net(rt.alloc(), lts, net, ALL_NETS);
     let spent = start.elapsed(rt)?;
     println!(rt; "{told:?}")?;
     eprintln!(rt; "judged: {} nanoseconds", spent.as_nanos())

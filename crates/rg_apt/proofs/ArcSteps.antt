@@ -9,13 +9,13 @@ use Rattle.rg_theory.specs.Limits.{most_arcs}
 use Rattle.rg_theory.specs.declared.Arc.{Arc}
 use Rattle.rg_lexer.specs.Lexeme.{Lexeme}
 use Rattle.rg_lts.proofs.OrderedArcs.{Has, has_from, contains_from, Ordered, ordered_from, one_order, inserted}
-use Rattle.rg_lts.proofs.Drafts.{one_place}
+use Rattle.rg_lts.proofs.Drafts.{one_index}
 use Rattle.rg_lts.specs.Draft.{Draft, AddsArc, IsWellFormedDraft}
 use Rattle.rg_apt.specs.declared.fault.TextFault.{TextFault}
 use Rattle.rg_apt.specs.declared.fault.TextFault.TheVariants.{UnknownState, UnknownLabel, TooManyArcs}
 use Rattle.rg_apt.specs.Contents.{ArcNames, Declared, arc_fault, is_state, is_label, same_arc, different}
 use Rattle.rg_apt.specs.Built.{state_text, label_text, HasArcs, IsArcOfNames, IsUnknownOf, HasNamesOf, IsOverLimit}
-use Rattle.rg_apt.proofs.Existing.{Among, among-append, among-last, among_at, place_of}
+use Rattle.rg_apt.proofs.Existing.{Among, among-append, among-last, among_at, index_of}
 use Rattle.rg_apt.proofs.Names.{contains_any, absent_none, or_right, le_true, le_says}
 
 any_among : {X : Type 0} (p : X → Bool) (xs : List X) → list_any p xs ≡ true → (x : X) × Among x xs × (p x ≡ true)
@@ -35,7 +35,7 @@ among_parts y x (z ∷ xs) (inl e) = inl (inl e)
 among_parts y x (z ∷ xs) (inr h) = ⊎_elim (λ before. inl (inr before)) (λ last. inr last) (among_parts y x xs h)
 
 pub any_from : {X : Type 0} (P : X → Type 0) (xs : List X) (x : X) → Among x xs → P x → Any P xs
-any_from P xs x h p = let at = place_of xs x h in (at.0, x, at.1, at.2, p)
+any_from P xs x h p = let at = index_of xs x h in (at.0, x, at.1, at.2, p)
 
 -- two triples with the same names
 pub record AreSame (a b : ArcNames) : Type 0 where
@@ -81,9 +81,9 @@ named_too d x y a s n = record { from = n.from ∙ ap Some s.from; label = n.lab
 -- a triple of names has one arc
 pub one_arc : (d : Draft) (x : ArcNames) (a b : Arc) → IsWellFormedDraft d → IsArcOfNames d x a → IsArcOfNames d x b → a ≡ b
 one_arc d x a b formed n m =
-    let from = one_place d.state_names a.from b.from x.from.text formed.state_names.differ n.from m.from in
-    let label = one_place d.label_names a.label b.label x.label.text formed.label_names.differ n.label m.label in
-    let to = one_place d.state_names a.to b.to x.to.text formed.state_names.differ n.to m.to in
+    let from = one_index d.state_names a.from b.from x.from.text formed.state_names.differ n.from m.from in
+    let label = one_index d.label_names a.label b.label x.label.text formed.label_names.differ n.label m.label in
+    let to = one_index d.state_names a.to b.to x.to.text formed.state_names.differ n.to m.to in
     λ i. record { from = from i; label = label i; to = to i }
 
 -- the arcs of triples, in order
@@ -131,10 +131,10 @@ counted d (x ∷ names) formed named = by (list_any (same_arc x) names) refl (na
 how_many : (d : Declared) (before : List ArcNames) (draft : Draft) → IsWellFormedDraft draft → HasArcs d before draft → length draft.arcs ≡ different before
 how_many d before draft formed h =
     let all = counted draft before formed
-    (λ x among. let at = place_of before x among in subst (λ y. (a : Arc) × IsArcOfNames draft y a) at.2 (h.named at.0 x at.1)) in
+    (λ x among. let at = index_of before x among in subst (λ y. (a : Arc) × IsArcOfNames draft y a) at.2 (h.named at.0 x at.1)) in
     let same = one_order draft.arcs all.0 (ordered_from draft.arcs formed.arc_order) all.1.ordered
     (λ c has. let any = (h.members c).0 (contains_from draft.arcs c has) in all.1.from c any.1 (among_at before any.0 any.1 any.2 any.3) any.4)
-    (λ c has. let r = all.1.to c has in let at = place_of before r.0 r.1 in
+    (λ c has. let r = all.1.to c has in let at = index_of before r.0 r.1 in
     has_from draft.arcs c ((h.members c).1 (at.0, r.0, at.1, at.2, r.2))) in
     ap length same ∙ all.1.size
 
@@ -203,7 +203,7 @@ module _ (d : Declared) (before : List ArcNames) (x : ArcNames) (draft : Draft) 
       let y = any_among (same_arc x) before e in
       let same = same_says x y.0 y.2 in
       let back : AreSame y.0 x = record { from = sym same.from; label = sym same.label; to = sym same.to } in
-      let at = place_of before y.0 y.1 in
+      let at = index_of before y.0 y.1 in
       let one = subst (λ z. (a : Arc) × IsArcOfNames draft z a) at.2 (h.named at.0 y.0 at.1) in
       (one.0, named_too draft y.0 x one.0 back one.1, (h.members one.0).1 (at.0, y.0, at.1, at.2, one.1))
 

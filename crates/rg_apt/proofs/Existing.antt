@@ -172,10 +172,10 @@ among_at [] k x lt e = absurd (omega arith)
 among_at (y ∷ xs) zero x lt e = inl e
 among_at (y ∷ xs) (suc k) x lt e = inr (among_at xs k x (omega arith) e)
 
-pub place_of : {X : Type 0} (xs : List X) (x : X) → Among x xs → (k : ℕ) × (k < length xs) × (get_or xs k x ≡ x)
-place_of [] x h = absurd h
-place_of (y ∷ xs) x (inl e) = (zero, omega arith, e)
-place_of (y ∷ xs) x (inr h) = let r = place_of xs x h in (suc r.0, omega (arith, r.1), r.2)
+pub index_of : {X : Type 0} (xs : List X) (x : X) → Among x xs → (k : ℕ) × (k < length xs) × (get_or xs k x ≡ x)
+index_of [] x h = absurd h
+index_of (y ∷ xs) x (inl e) = (zero, omega arith, e)
+index_of (y ∷ xs) x (inr h) = let r = index_of xs x h in (suc r.0, omega (arith, r.1), r.2)
 
 -- the parts of a list without faults
 pub record Faultless (d : Declared) : Type 0 where
@@ -222,7 +222,7 @@ system_exists d none =
         label_names = refl;
         initial = cond-true (nat_lt initial (length d.states)) (Some initial) None (lt-ltb initial (length d.states) (marked_within mark d.states parts.initial));
         arcs = λ n. (
-          λ c. let r = numbers.1.named n (sorted.1.to n (has_from sorted.0 n c)) in let at = place_of d.arcs r.0 r.1 in (at.0, r.0, at.1, at.2, r.2),
+          λ c. let r = numbers.1.named n (sorted.1.to n (has_from sorted.0 n c)) in let at = index_of d.arcs r.0 r.1 in (at.0, r.0, at.1, at.2, r.2),
           λ any. let r = numbers.1.all any.1 (among_at d.arcs any.0 any.1 any.2 any.3) in
               contains_from sorted.0 n (sorted.1.from n (subst (Has numbers.0) (same_arc_names d parts r.0 n any.1 r.2 any.4) r.1)),
         );

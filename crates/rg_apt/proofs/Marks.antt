@@ -1,4 +1,4 @@
--- The place of the first that is marked.
+-- The index of the first that is marked.
 use Rattle.std.proofs.Common.{◌≡◌, ℕ, ◌+◌, ◌<◌, Bool, true, false, cond, not, eqb, nat_lt, List, [], ◌∷◌, ◌++◌, length, position, Option, None, Some, IsSomeAnd, refl, sym, ap, subst, ◌∙◌, arith, length-append}
 use Rattle.std.specs.List.{list_any, position_or_len}
 use Rattle.std.proofs.lemmas.Bool.{or_parts, cond-true, cond-false, lt-ltb}
@@ -22,8 +22,8 @@ all_fail p (x ∷ xs) e =
     let more = all_fail p xs parts.1 in
     ap (λ t. cond (not t) (1 + position_or_len p xs) 0) parts.0 ∙ omega (arith, more)
 
-at_place : {X : Type 0} (p : X → Bool) (xs : List X) (k : ℕ) → position_or_len p xs ≡ k → k < length xs → position p xs ≡ Some k
-at_place p xs k e lt =
+at_index : {X : Type 0} (p : X → Bool) (xs : List X) (k : ℕ) → position_or_len p xs ≡ k → k < length xs → position p xs ≡ Some k
+at_index p xs k e lt =
     cond-true (nat_lt (position_or_len p xs) (length xs)) (Some (position_or_len p xs)) None (lt-ltb (position_or_len p xs) (length xs) (omega arith)) ∙ ap Some e
 
 nowhere : {X : Type 0} (p : X → Bool) (xs : List X) → position_or_len p xs ≡ length xs → position p xs ≡ None
@@ -35,7 +35,7 @@ none_marked p xs e = nowhere p xs (all_fail p xs e)
 pub some_marked : {X : Type 0} (p : X → Bool) (xs : List X) → list_any p xs ≡ true → (k : ℕ) × (position p xs ≡ Some k) × (k < length xs)
 some_marked p xs e =
     let lt = marked_within p xs e in
-    (position_or_len p xs, at_place p xs (position_or_len p xs) refl lt, lt)
+    (position_or_len p xs, at_index p xs (position_or_len p xs) refl lt, lt)
 
 pub marked_any : {X : Type 0} (p : X → Bool) (xs : List X) (P : ℕ → Type 0) → IsSomeAnd (position p xs) P → list_any p xs ≡ true
 marked_any p xs P h = by (list_any p xs) refl
@@ -56,10 +56,10 @@ pub push_marked : {X : Type 0} (p : X → Bool) (xs : List X) (y : X) → list_a
 push_marked p xs y none mark =
     let all = all_fail p xs none in
     let longer = length-append xs (y ∷ []) in
-    let place : position_or_len p (xs ++ y ∷ []) ≡ length xs =
+    let index : position_or_len p (xs ++ y ∷ []) ≡ length xs =
     position_or_len_push p xs y ∙ cond-true (eqb (position_or_len p xs) (length xs)) (length xs + cond (p y) 0 1) (position_or_len p xs) (same_eqb (position_or_len p xs) (length xs) all)
     ∙ ap (λ b. length xs + cond b 0 1) mark ∙ omega arith in
-    at_place p (xs ++ y ∷ []) (length xs) place (omega (arith, longer))
+    at_index p (xs ++ y ∷ []) (length xs) index (omega (arith, longer))
 
 -- one more that isn't marked
 pub push_unmarked : {X : Type 0} (p : X → Bool) (xs : List X) (y : X) → p y ≡ false → position p (xs ++ y ∷ []) ≡ position p xs
@@ -69,13 +69,13 @@ push_unmarked p xs y plain = by (list_any p xs) refl
     by true e =
         let lt = marked_within p xs e in
         let longer = length-append xs (y ∷ []) in
-        let place : position_or_len p (xs ++ y ∷ []) ≡ position_or_len p xs =
+        let index : position_or_len p (xs ++ y ∷ []) ≡ position_or_len p xs =
         position_or_len_push p xs y ∙ cond-false (eqb (position_or_len p xs) (length xs)) (length xs + cond (p y) 0 1) (position_or_len p xs) (less_eqb (position_or_len p xs) (length xs) lt) in
-        at_place p (xs ++ y ∷ []) (position_or_len p xs) place (omega (arith, longer)) ∙ sym (at_place p xs (position_or_len p xs) refl lt)
+        at_index p (xs ++ y ∷ []) (position_or_len p xs) index (omega (arith, longer)) ∙ sym (at_index p xs (position_or_len p xs) refl lt)
     by false e =
         let all = all_fail p xs e in
         let longer = length-append xs (y ∷ []) in
-        let place : position_or_len p (xs ++ y ∷ []) ≡ length (xs ++ y ∷ []) =
+        let index : position_or_len p (xs ++ y ∷ []) ≡ length (xs ++ y ∷ []) =
         position_or_len_push p xs y ∙ cond-true (eqb (position_or_len p xs) (length xs)) (length xs + cond (p y) 0 1) (position_or_len p xs) (same_eqb (position_or_len p xs) (length xs) all)
         ∙ ap (λ b. length xs + cond b 0 1) plain ∙ omega (arith, longer) in
-        nowhere p (xs ++ y ∷ []) place ∙ sym (nowhere p xs all)
+        nowhere p (xs ++ y ∷ []) index ∙ sym (nowhere p xs all)

@@ -28,7 +28,7 @@ pub failing_relation : (system : LinearSystem) (members fixed : List ℕ) (i : �
     × DictionaryRow system members (row_variable system i) k
 failing_relation system members fixed i outcome = let at = (start_refuted system members fixed i outcome).stuck in (at.k, at.row)
 
--- what holds of each place of a list holds when one is added behind
+-- what holds of each index of a list holds when one is added behind
 pub pushed_each : (xs ys : List Fraction) (x : Fraction) → ys ≡ xs ++ x ∷ [] → (P : ℕ → Fraction → Type 0) → ((k : ℕ) (f : Fraction) → k < length xs → P k (slice_index_or xs k f))
     → P (length xs) x → (k : ℕ) (f : Fraction) → k < length ys → P k (slice_index_or ys k f)
 pushed_each xs ys x e P each here k f lt = subst (λ zs. P k (slice_index_or zs k f)) (sym e) (go (cases_lt k (length xs)))

@@ -69,9 +69,9 @@ impl Columns {
         if self.start {
             numbers.push(Fraction::new(start, 1))?;
         }
-        for (place, &label) in basis.free().iter().enumerate() {
+        for (index, &label) in basis.free().iter().enumerate() {
             if self.used[label as usize] {
-                numbers.push(free[place])?;
+                numbers.push(free[index])?;
             }
         }
         Ok(numbers)

@@ -5,8 +5,8 @@ ghost use Rattle.rg_order_of_work.specs.Rewriting.{variable_start, variable_coun
 ghost use Rattle.rg_reasons.specs.Sums.{term_of, expression_of};
 ghost use Rattle.rg_case_parts.specs.StatesNamed.{NamesStateBelow, TermNamesStateBelow};
 
-use rg_reasons::Term::{self, Minus, Plus};
 use rg_reasons::Expression;
+use rg_reasons::Term::{self, Minus, Plus};
 use rg_refuting::Variable;
 use rg_spanning::Tree;
 
@@ -17,8 +17,8 @@ pub fn start(expression: &Expression) -> i128
     ensures in_range { InRange result }
 {
     let mut sum = 0;
-    for place in &expression.terms {
-        if let Some(term) = place {
+    for entry in &expression.terms {
+        if let Some(term) = entry {
             sum += start_in(*term);
         }
     }
@@ -46,8 +46,8 @@ pub fn count(tree: &Tree, expression: &Expression, t: u32) -> i128
     ensures in_range { InRange result }
 {
     let mut sum = 0;
-    for place in &expression.terms {
-        if let Some(term) = place {
+    for entry in &expression.terms {
+        if let Some(term) = entry {
             sum += count_in(tree, *term, t);
         }
     }

@@ -17,7 +17,8 @@ use Rattle.rg_refuting.specs.Refutes as refutes
 use Rattle.rg_refuting.specs.Refutes.{NamedRow, Tree, Tree.leaf, Tree.split}
 use Rattle.rg_reasons.specs.Trees.{TreeNode, leaf_node, split_node, preorder}
 use Rattle.rg_reasons.specs.Certificates.{Claim, IsMultiplierInRange, IsRowOf, IsNodeOf, IsTreeOf, IsReasonOf}
-use Rattle.rg_cert.specs.Text.{Version, version_one, version_two, heading, class_version, splits_start, reason_nodes, asks_two, state_name, label_name, Subject, of_none, of_arc, of_state, of_label, of_depth, word_and_subject, subject_fields, named_fields, form_fields, node_lines, case_lines, reason_lines, spaced, cert_lines}
+use Rattle.rg_cert.specs.Text.{Version, version_one, version_two, heading, class_version, splits_start, reason_nodes, asks_two, state_name, label_name}
+use Rattle.rg_cert.specs.Text.{Subject, of_none, of_arc, of_state, of_label, of_depth, word_and_subject, subject_fields, named_fields, form_fields, node_lines, case_lines, reason_lines, spaced, cert_lines}
 use Rattle.rg_cert.specs.Lines.{HasFieldForm, AreAsked, LineForm, heading_line, class_line, unreachable_line, fork_line, event_line, states_line, case_line}
 use Rattle.rg_cert.specs.Lines.{split_tokens_line, split_effect_line, split_start_line, leaf_line, row_line, end_line, lone_form, arc_form, state_form, label_form, depth_form}
 use Rattle.rg_cert.specs.Lines.{fields_of, Count, one, several}

@@ -28,7 +28,7 @@ among_rest [] d text first b some is other told = absurd (omega arith)
 among_rest (w ∷ words) d text first b some is other told = (
   (λ t. more (subst (λ l. Contains (texts_in l) text) rest (told.0 t))),
   (λ has. ⊎_elim (λ same. absurd (true≢false (sym ((bytes_eq-Decides text w.now).1 (sym same)) ∙ sym is ∙ other)))
-    (λ there. told.1 (subst (λ l. Contains (texts_in l) text) (sym rest) there)) (Contains-cons_cases w.now text (texts_in words) has)),
+      (λ there. told.1 (subst (λ l. Contains (texts_in l) text) (sym rest) there)) (Contains-cons_cases w.now text (texts_in words) has)),
 )
   where
     rest : take (length (w ∷ words) - 1) (drop 1 (w ∷ words)) ≡ words

@@ -1,12 +1,11 @@
 //! Numbers in lines.
 ghost use Rattle.std.specs.Prelude.{◌≡◌, ◌<◌, ◌≤◌, ◌^◌, IsTrue, ◌↔◌, IfSome, IfNone, List, [], ◌∷◌, length, slice_index, decimal, ℤ, nat_abs};
-ghost use Rattle.std.specs.List.{list_all};
-ghost use Rattle.std.specs.Char.{is_ascii_digit};
 ghost use Rattle.std.specs.Fmt.{signed_decimal};
 ghost use Rattle.rg_cert.specs.Numerals.{IsPlain, IsNumeral};
 ghost use Rattle.rg_reasons.specs.Certificates.{IsMultiplierInRange, IsSplitInRange};
 ghost use Rattle.rg_cert.specs.Lines.{IsFieldInRange, Field.number as number_field, Range.multiplier as multiplier_range, Range.split_value as split_range, Range.depth as depth_range};
 
+use rg_text::are_digits;
 use std::str;
 
 // Whether a 0 stands before others.
@@ -14,13 +13,6 @@ fn begins_with_zero(digits: &[u8]) -> bool
     ensures { IsTrue result ↔ ((1 < length digits.now) × (slice_index digits.now 0 ≡ 48)) }
 {
     digits.len() > 1 && digits[0] == b'0'
-}
-
-// Whether each byte is a digit.
-fn are_digits(digits: &[u8]) -> bool
-    ensures { result ≡ list_all is_ascii_digit digits.now }
-{
-    digits.iter().all(u8::is_ascii_digit)
 }
 
 // Whether the text is digits without a 0 before others.

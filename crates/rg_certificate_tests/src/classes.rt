@@ -1,13 +1,5 @@
 //! Classes as words.
-use rg_theory::{Class, ClassFault};
-
-const NONE: Class = Class {
-    pure: false,
-    plain: false,
-    bound: None,
-    marking: None,
-    nonbranching: false,
-};
+use rg_theory::{ALL_NETS, Class, ClassFault};
 
 const ALL: Class = Class {
     pure: true,
@@ -19,12 +11,12 @@ const ALL: Class = Class {
 
 const SAFE: Class = Class {
     bound: Some(1),
-    ..NONE
+    ..ALL_NETS
 };
 
 // Words, and the classes that they name.
 const NAMED: [(&str, Class); 4] = [
-    ("none", NONE),
+    ("none", ALL_NETS),
     ("255-bounded,pure,output-nonbranching,plain", ALL),
     ("safe", SAFE),
     ("1-bounded", SAFE),

@@ -39,8 +39,8 @@ module _ (arcs : List Arc) (order : AllPairs IsArcBefore arcs) (d : Arc) where
       by (inr next) = let is : l ≡ k + 1 = omega arith in none k d (omega arith) (subst (λ i. SameKey (get_or arcs k d) (get_or arcs i d)) is same)
 
   -- so two of them with the same key are one
-  one_place : (n k l : ℕ) → NoneAdjacent arcs n → n ≤ length arcs → k < n → l < n → SameKey (get_or arcs k d) (get_or arcs l d) → k ≡ l
-  one_place n k l none fits lk ll same = by (cases_lt k l) (cases_lt l k)
+  one_index : (n k l : ℕ) → NoneAdjacent arcs n → n ≤ length arcs → k < n → l < n → SameKey (get_or arcs k d) (get_or arcs l d) → k ≡ l
+  one_index n k l none fits lk ll same = by (cases_lt k l) (cases_lt l k)
     where
       by : (k < l) ⊎ (l ≤ k) → (l < k) ⊎ (k ≤ l) → k ≡ l
       by (inl less) _ = absurd (alone n k l none fits less ll same)
@@ -48,8 +48,8 @@ module _ (arcs : List Arc) (order : AllPairs IsArcBefore arcs) (d : Arc) where
       by (inr le) (inr ge) = omega arith
 
 -- where an arc stands
-place_of : (lts : System) (s t to : ℕ) (d : Arc) → HasArc lts s t to → (k : ℕ) × (k < length lts.arcs) × (get_or lts.arcs k d ≡ arc s t to)
-place_of lts s t to d (k, lt, at) = (k, lt, get_or_default lts.arcs k d (arc s t to) lt ∙ at)
+index_of : (lts : System) (s t to : ℕ) (d : Arc) → HasArc lts s t to → (k : ℕ) × (k < length lts.arcs) × (get_or lts.arcs k d ≡ arc s t to)
+index_of lts s t to d (k, lt, at) = (k, lt, get_or_default lts.arcs k d (arc s t to) lt ∙ at)
 
 key_is : (a : Arc) (s t to : ℕ) (b : Arc) (to' : ℕ) → a ≡ arc s t to → b ≡ arc s t to' → SameKey a b
 key_is a s t to b to' e f = record {
@@ -59,13 +59,13 @@ key_is a s t to b to' e f = record {
 
 -- where no arcs that follow each other have the same key, there is no fork
 pub no_fork : (lts : System) (n : ℕ) → AllPairs IsArcBefore lts.arcs → NoneAdjacent lts.arcs n → length lts.arcs ≤ n → IsForkFree lts
-no_fork lts n order none all = record { one_target = λ s t s₁ s₂ has has'. same s t s₁ s₂ (place_of lts s t s₁ (arc s t s₁) has) (place_of lts s t s₂ (arc s t s₁) has') }
+no_fork lts n order none all = record { one_target = λ s t s₁ s₂ has has'. same s t s₁ s₂ (index_of lts s t s₁ (arc s t s₁) has) (index_of lts s t s₂ (arc s t s₁) has') }
   where
     same : (s t s₁ s₂ : ℕ) → (k : ℕ) × (k < length lts.arcs) × (get_or lts.arcs k (arc s t s₁) ≡ arc s t s₁)
         → (k : ℕ) × (k < length lts.arcs) × (get_or lts.arcs k (arc s t s₁) ≡ arc s t s₂) → s₁ ≡ s₂
     same s t s₁ s₂ (k, lk, ek) (l, ll, el) =
         let d = arc s t s₁ in
-        let one = one_place lts.arcs order d (length lts.arcs) k l (λ j e less. none j e (omega arith)) (omega arith) lk ll (key_is _ s t s₁ _ s₂ ek el) in
+        let one = one_index lts.arcs order d (length lts.arcs) k l (λ j e less. none j e (omega arith)) (omega arith) lk ll (key_is _ s t s₁ _ s₂ ek el) in
         ap (λ (x : Arc). x.to) (sym ek ∙ ap (λ i. get_or lts.arcs i d) one ∙ el)
 
 module _ (lts : System) (order : AllPairs IsArcBefore lts.arcs) (p : ℕ) (d : Arc) (fits : p + 1 < length lts.arcs) (none : NoneAdjacent lts.arcs (p + 1))
@@ -87,25 +87,25 @@ module _ (lts : System) (order : AllPairs IsArcBefore lts.arcs) (p : ℕ) (d : A
 
   -- where an arc with the same key stands
   stands : (to : ℕ) → HasArc lts a.from a.label to → (to ≡ a.to) ⊎ ((to ≡ b.to) ⊎ (b.to < to))
-  stands to has = by (place_of lts a.from a.label to d has)
+  stands to has = by (index_of lts a.from a.label to d has)
     where
       by : (k : ℕ) × (k < length lts.arcs) × (get_or lts.arcs k d ≡ arc a.from a.label to) → (to ≡ a.to) ⊎ ((to ≡ b.to) ⊎ (b.to < to))
-      by (k, lt, at) = at_place (cases_lt k p) (cases_lt p k) (cases_lt (p + 1) k)
+      by (k, lt, at) = at_index (cases_lt k p) (cases_lt p k) (cases_lt (p + 1) k)
         where
           key : SameKey (get_or lts.arcs k d) a
           key = record { from = ap (λ (x : Arc). x.from) at; label = ap (λ (x : Arc). x.label) at }
 
-          at_place : (k < p) ⊎ (p ≤ k) → (p < k) ⊎ (k ≤ p) → (p + 1 < k) ⊎ (k ≤ p + 1) → (to ≡ a.to) ⊎ ((to ≡ b.to) ⊎ (b.to < to))
-          at_place (inl less) _ _ = absurd (alone lts.arcs order d (p + 1) k p none (omega arith) less (omega arith) key)
-          at_place (inr le) (inr ge) _ = let is : k ≡ p = omega arith in inl (ap (λ (x : Arc). x.to) (sym at ∙ ap (λ i. get_or lts.arcs i d) is))
-          at_place (inr le) (inl more) (inr ge) = let is : k ≡ p + 1 = omega arith in inr (inl (ap (λ (x : Arc). x.to) (sym at ∙ ap (λ i. get_or lts.arcs i d) is)))
-          at_place (inr le) (inl more) (inl after) =
+          at_index : (k < p) ⊎ (p ≤ k) → (p < k) ⊎ (k ≤ p) → (p + 1 < k) ⊎ (k ≤ p + 1) → (to ≡ a.to) ⊎ ((to ≡ b.to) ⊎ (b.to < to))
+          at_index (inl less) _ _ = absurd (alone lts.arcs order d (p + 1) k p none (omega arith) less (omega arith) key)
+          at_index (inr le) (inr ge) _ = let is : k ≡ p = omega arith in inl (ap (λ (x : Arc). x.to) (sym at ∙ ap (λ i. get_or lts.arcs i d) is))
+          at_index (inr le) (inl more) (inr ge) = let is : k ≡ p + 1 = omega arith in inr (inl (ap (λ (x : Arc). x.to) (sym at ∙ ap (λ i. get_or lts.arcs i d) is)))
+          at_index (inr le) (inl more) (inl after) =
               inr (inr (subst (λ i. b.to < i) (ap (λ (x : Arc). x.to) at)
               (further b (get_or lts.arcs k d) (order (p + 1) k d after lt) (record { from = sym (key.from ∙ same.from); label = sym (key.label ∙ same.label) }))))
 
   -- no fork comes before
   earlier : (q u q₁ q₂ : ℕ) → (q < a.from) ⊎ ((q ≡ a.from) × (u < a.label)) → IsFork lts q u q₁ q₂ → ⊥
-  earlier q u q₁ q₂ before (has, has', apart) = by (place_of lts q u q₁ d has) (place_of lts q u q₂ d has')
+  earlier q u q₁ q₂ before (has, has', apart) = by (index_of lts q u q₁ d has) (index_of lts q u q₂ d has')
     where
       first_part : (k : ℕ) (to : ℕ) → k < length lts.arcs → get_or lts.arcs k d ≡ arc q u to → k < p + 1
       first_part k to lt at = go (cases_lt k p) (cases_lt p k)
@@ -131,7 +131,7 @@ module _ (lts : System) (order : AllPairs IsArcBefore lts.arcs) (p : ℕ) (d : A
 
       by : (k : ℕ) × (k < length lts.arcs) × (get_or lts.arcs k d ≡ arc q u q₁) → (k : ℕ) × (k < length lts.arcs) × (get_or lts.arcs k d ≡ arc q u q₂) → ⊥
       by (k, lk, ek) (l, ll, el) =
-          let one = one_place lts.arcs order d (p + 1) k l none (omega arith) (first_part k q₁ lk ek) (first_part l q₂ ll el) (key_is _ q u q₁ _ q₂ ek el) in
+          let one = one_index lts.arcs order d (p + 1) k l none (omega arith) (first_part k q₁ lk ek) (first_part l q₂ ll el) (key_is _ q u q₁ _ q₂ ek el) in
           apart (ap (λ (x : Arc). x.to) (sym ek ∙ ap (λ i. get_or lts.arcs i d) one ∙ el))
 
   -- they are the first fork

@@ -73,8 +73,8 @@ run_members n xs key start end r b = (forth, back)
         let high : k < end = not_late (cases_lt k end) same in
         let m = length-take (end - start) (drop start xs) in
         let l = length-drop start xs in
-        let place : start + (k - start) ≡ k = omega arith in
-        (k - start, (let w = r.within in omega (arith, w, m, l, low, high)), part_at xs start end (k - start) b (omega (arith, low, high)) ∙ ap (λ i. get_or xs i b) place ∙ at)
+        let index : start + (k - start) ≡ k = omega arith in
+        (k - start, (let w = r.within in omega (arith, w, m, l, low, high)), part_at xs start end (k - start) b (omega (arith, low, high)) ∙ ap (λ i. get_or xs i b) index ∙ at)
       where
         not_early : (k < start) ⊎ (start ≤ k) → n (get_or xs k b) ≡ key → start ≤ k
         not_early (inl l) same = let e = r.less k b l in absurd (omega (arith, e, same))

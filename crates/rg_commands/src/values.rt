@@ -1,7 +1,5 @@
 //! Values of words.
 ghost use Rattle.std.specs.Prelude.{◌≡◌, ◌≤◌, Result, option_map, IfOk};
-ghost use Rattle.std.specs.List.{list_all};
-ghost use Rattle.std.specs.Char.{is_ascii_digit};
 ghost use Rattle.clap.specs.Words.{first_of, found_of, rows_of};
 ghost use Rattle.rg_theory.specs.declared.Class.{Class};
 ghost use Rattle.rg_theory.specs.declared.class_words.ClassFault.{ClassFault};
@@ -10,6 +8,7 @@ ghost use Rattle.rg_commands.specs.Values.{text_in, is_given, ClassSays, class_a
 
 use crate::usage::Usage;
 use clap::ArgMatches;
+use rg_text::are_digits;
 use rg_theory::Class;
 
 // The most jobs.
@@ -81,11 +80,4 @@ fn number_up_to(word: &str, most: u32) -> Option<u32>
         Ok(n) if 1 <= n && n <= most => Some(n),
         _ => None,
     }
-}
-
-// Whether each byte is a digit.
-fn are_digits(text: &[u8]) -> bool
-    ensures { result ≡ list_all is_ascii_digit text.now }
-{
-    text.iter().all(|b| b.is_ascii_digit())
 }

@@ -6,18 +6,13 @@ use rg_commands::{
     VerifyWords, read_words,
 };
 use rg_families::Kind;
-use rg_theory::Class;
+use rg_theory::{ALL_NETS, Class};
 use std::alloc::{AllocError, Global};
 
-const NONE: Class = Class {
-    pure: false,
-    plain: false,
-    bound: None,
-    marking: None,
-    nonbranching: false,
+const PURE: Class = Class {
+    pure: true,
+    ..ALL_NETS
 };
-
-const PURE: Class = Class { pure: true, ..NONE };
 
 const PURE_AND_TWO_BOUNDED: Class = Class {
     bound: Some(2),
@@ -25,7 +20,7 @@ const PURE_AND_TWO_BOUNDED: Class = Class {
 };
 
 const NET: SynthesizeWords<'static> = SynthesizeWords {
-    class: NONE,
+    class: ALL_NETS,
     file: "f",
     form: Form::Apt,
     jobs: 1,
@@ -133,7 +128,7 @@ const OTHERS: [(&[&str], Request<'static>); 9] = [
     (
         &["check", "none", "f", "n"],
         Request::Check(CheckWords {
-            class: NONE,
+            class: ALL_NETS,
             file: "f",
             net: "n",
             form: Form::Apt,
@@ -246,7 +241,7 @@ const FACTORS: [(&[&str], FactorWords<'static>); 4] = [
     (
         &["factor", "f", "--class", "none"],
         FactorWords {
-            class: Some(NONE),
+            class: Some(ALL_NETS),
             file: "f",
             form: Form::Apt,
             jobs: 1,

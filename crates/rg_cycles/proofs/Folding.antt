@@ -101,14 +101,14 @@ stepped labels cycle counts t index rel count sum (Err w) shows lt same (inr (x,
 -- ---- the coefficients, index by index
 
 module _ {X : Type 0} (make : ℕ → Result X Wide → Type 0) (all : List ℕ) (i : ℕ) (xs : List X) (so_far : (r : Result (List X) Wide) → each make (drop i all) r → each make all (behind xs r)) where
-  at_place : i < length all → (r : Result (List X) Wide) → each make (slice_index all i ∷ drop (i + 1) all) r → each make all (behind xs r)
-  at_place lt r h = so_far r (subst (λ l. each make l r) (sym (drop-cons all i 0 lt ∙ ap (λ n. slice_index all i ∷ drop n all) (sym (add-one i)))) h)
+  at_index : i < length all → (r : Result (List X) Wide) → each make (slice_index all i ∷ drop (i + 1) all) r → each make all (behind xs r)
+  at_index lt r h = so_far r (subst (λ l. each make l r) (sym (drop-cons all i 0 lt ∙ ap (λ n. slice_index all i ∷ drop n all) (sym (add-one i)))) h)
 
-  pub place_next : i < length all → (x : X) → make (slice_index all i) (Ok x) → (r : Result (List X) Wide) → each make (drop (i + 1) all) r → each make all (behind (xs ++ x ∷ []) r)
-  place_next lt x made = each_next make all (slice_index all i) (drop (i + 1) all) xs (at_place lt) x made
+  pub index_next : i < length all → (x : X) → make (slice_index all i) (Ok x) → (r : Result (List X) Wide) → each make (drop (i + 1) all) r → each make all (behind (xs ++ x ∷ []) r)
+  index_next lt x made = each_next make all (slice_index all i) (drop (i + 1) all) xs (at_index lt) x made
 
-  pub place_fails : i < length all → (w : Wide) → make (slice_index all i) (Err w) → each make all (Err w)
-  place_fails lt w made = each_fails make all (slice_index all i) (drop (i + 1) all) xs (at_place lt) w made
+  pub index_fails : i < length all → (w : Wide) → make (slice_index all i) (Err w) → each make all (Err w)
+  index_fails lt w made = each_fails make all (slice_index all i) (drop (i + 1) all) xs (at_index lt) w made
 
-  pub places_end : length all ≤ i → each make all (Ok xs)
-  places_end past = each_ends make all xs (λ r h. so_far r (subst (λ l. each make l r) (sym (drop_all i all past)) h))
+  pub indices_end : length all ≤ i → each make all (Ok xs)
+  indices_end past = each_ends make all xs (λ r h. so_far r (subst (λ l. each make l r) (sym (drop_all i all past)) h))

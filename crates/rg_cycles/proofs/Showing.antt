@@ -47,18 +47,18 @@ pub kept_below : (vectors : List (List ℤ)) (kept : List ℕ) → KeepsVectors 
 kept_below vectors kept k c has = let h = numbers_from-Contains 0 (length vectors) c (kept_is (vector_at vectors) (λ i. IsZeroVector (vector_at vectors i)) [] (numbers_from 0 (length vectors)) kept c k has) in omega arith
 
 -- two indices of a list in order with the same number are one
-pub same_place : (xs : List ℕ) (i j : ℕ) → IsInOrder xs → i < length xs → j < length xs → slice_index xs i ≡ slice_index xs j → i ≡ j
-same_place [] i j h lt lt' e = absurd (omega arith)
-same_place (x ∷ xs) zero zero h lt lt' e = refl
-same_place (x ∷ xs) zero (suc j) h lt lt' e = absurd (let g = h.0 (slice_index xs j) (Contains-get_or xs j 0 (omega arith)) in below x (slice_index xs j) e g)
+pub same_index : (xs : List ℕ) (i j : ℕ) → IsInOrder xs → i < length xs → j < length xs → slice_index xs i ≡ slice_index xs j → i ≡ j
+same_index [] i j h lt lt' e = absurd (omega arith)
+same_index (x ∷ xs) zero zero h lt lt' e = refl
+same_index (x ∷ xs) zero (suc j) h lt lt' e = absurd (let g = h.0 (slice_index xs j) (Contains-get_or xs j 0 (omega arith)) in below x (slice_index xs j) e g)
   where
     below : (a b : ℕ) → a ≡ b → a < b → ⊥
     below a b e g = omega arith
-same_place (x ∷ xs) (suc i) zero h lt lt' e = absurd (let g = h.0 (slice_index xs i) (Contains-get_or xs i 0 (omega arith)) in below x (slice_index xs i) e g)
+same_index (x ∷ xs) (suc i) zero h lt lt' e = absurd (let g = h.0 (slice_index xs i) (Contains-get_or xs i 0 (omega arith)) in below x (slice_index xs i) e g)
   where
     below : (a b : ℕ) → b ≡ a → a < b → ⊥
     below a b e g = omega arith
-same_place (x ∷ xs) (suc i) (suc j) h lt lt' e = ap suc (same_place xs i j h.1 (omega arith) (omega arith) e)
+same_index (x ∷ xs) (suc i) (suc j) h lt lt' e = ap suc (same_index xs i j h.1 (omega arith) (omega arith) e)
 
 -- ---- coefficients from the numbers
 
@@ -94,7 +94,7 @@ module _ (f : ℕ → ℤ) (labels : ℕ) (kept : List ℕ) (order : IsInOrder k
           → ((¬ Contains ms m → f m ≡ pos 0) → number_with
           (map (λ u. (slice_index kept (u - labels), f u)) (filter (λ u. not (nat_lt u labels) && not (int_eq (f u) (pos 0))) ms)) (slice_index kept (m - labels)) ≡ f m)
           → (if b then f w else number_with (map (λ u. (slice_index kept (u - labels), f u)) (filter (λ u. not (nat_lt u labels) && not (int_eq (f u) (pos 0))) ms)) (slice_index kept (m - labels))) ≡ f m
-      at above true e next = ap f (back (same_place kept (w - labels) (m - labels) order (within w (Contains-here w ms) above) lt (eqb-true _ _ e)))
+      at above true e next = ap f (back (same_index kept (w - labels) (m - labels) order (within w (Contains-here w ms) above) lt (eqb-true _ _ e)))
         where
           back : w - labels ≡ m - labels → w ≡ m
           back p = omega arith

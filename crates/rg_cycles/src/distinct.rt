@@ -7,7 +7,7 @@ use std::alloc::{AllocError, Global};
 use std::collections::HashSet;
 
 // The indices of the vectors that aren't 0, each at its first index.
-pub(crate) fn first_places(alloc: Global, vectors: &[Vec<i128>]) -> Result<Vec<u32>, AllocError>
+pub(crate) fn first_indices(alloc: Global, vectors: &[Vec<i128>]) -> Result<Vec<u32>, AllocError>
     requires { length vectors.now < 2 ^ 32 }
     ensures { IfOk result (λ kept. KeepsVectors (numbers_in vectors.now) kept.items) }
 {

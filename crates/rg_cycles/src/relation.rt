@@ -4,7 +4,7 @@
 /// times its number in `free`, and of the values of chords, each times its number in `chords`.
 ///
 /// `free` has one number for each free label, in order; `chords` has the chords whose number isn't 0, in
-/// order, each named by its place in the list that `reduce` was given. Of equal chords only the first is
+/// order, each named by its index in the list that `reduce` was given. Of equal chords only the first is
 /// named. The value of a chord is the sum of its entries, each times the effect of its label; it is 0
 /// for the effects of a region.
 #[derive(PartialEq, Debug, Drop)]

@@ -14,11 +14,11 @@ ghost use Rattle.rg_cycles.specs.Refusal.{PassesAt, shown_term};
 
 use crate::basis::Basis;
 use crate::columns::walk_columns;
-use crate::distinct::first_places;
+use crate::distinct::first_indices;
 use crate::relations::Relations;
 use crate::stop::Stop;
 use crate::walk::walk;
-use rg_dictionary::Dictionary;
+use rg_dictionary::RelationTable;
 use rg_revised::RevisedWalk;
 use std::alloc::{AllocError, Global};
 
@@ -40,7 +40,7 @@ pub fn reduce(alloc: Global, labels: u32, chords: &[Vec<i128>]) -> Result<Basis,
     ensures fits { IfOk result (λ _. (at : WideAt) → ¬ PassesAt labels (numbers_in chords.now) at) }
     ensures wide { (w : CycleWide) → IsErrOf result (stop.Wide w) → PassesAt labels (numbers_in chords.now) (shown_term w) }
 {
-    let kept = first_places(alloc, chords)?;
+    let kept = first_indices(alloc, chords)?;
     let basis = basis_of(alloc, labels, chords, kept)?;
     Ok(basis)
 }
@@ -93,14 +93,14 @@ fn filled(
     labels: u32,
     vectors: &[Vec<i128>],
     kept: &[u32],
-) -> Result<Dictionary, AllocError>
+) -> Result<RelationTable, AllocError>
     requires few { labels + length kept.now < 2 ^ 32 }
     requires kept { (c : ℕ) → Contains kept.now c → c < length vectors.now }
     requires vectors { AreVectors labels (numbers_in vectors.now) }
     ensures whole { IfOk result (IsDictionary (vector_system labels (numbers_in vectors.now) kept.now)) }
     ensures start { IfOk result (λ d. d.members ≡ numbers_from 0 d.columns) }
 {
-    let mut dictionary = Dictionary::with_columns(alloc, labels, kept.len() as u32)?;
+    let mut dictionary = RelationTable::with_columns(alloc, labels, kept.len() as u32)?;
     for &index in kept {
         dictionary.push_row(&vectors[index as usize], 0);
     }

@@ -10,7 +10,7 @@ ghost use Rattle.rg_cycles.specs.Refusal.{shown_term};
 ghost use Rattle.rg_cycles.specs.Walk.{NamesLabel, IsWhole, RowsAhead};
 
 use crate::stop::{CycleWide, Stop};
-use rg_dictionary::{Dictionary, ExchangeWide};
+use rg_dictionary::{ExchangeWide, RelationTable};
 use std::alloc::{AllocError, Global};
 
 // An exchange that was refused, and the member that was to leave.
@@ -21,7 +21,7 @@ struct Refusal {
 }
 
 // Takes the rows in order; see `reduce`.
-pub(crate) fn walk(alloc: Global, dictionary: &mut Dictionary) -> Result<(), Stop>
+pub(crate) fn walk(alloc: Global, dictionary: &mut RelationTable) -> Result<(), Stop>
     requires whole { IsWhole dictionary.old }
     requires few { dictionary.old.columns + dictionary.old.rows < 2 ^ 32 }
     requires start { dictionary.old.members ≡ numbers_from 0 dictionary.old.columns }
@@ -54,7 +54,7 @@ fn wide(members: Vec<u32>, pivot: u32, refusal: Refusal) -> CycleWide
 }
 
 // Exchanges row i with the least label that its relation names. A row whose relation names none is passed over.
-fn take_row(dictionary: &mut Dictionary, i: u32) -> Result<(), Refusal>
+fn take_row(dictionary: &mut RelationTable, i: u32) -> Result<(), Refusal>
     requires whole { IsWhole dictionary.old }
     requires few { dictionary.old.columns + dictionary.old.rows < 2 ^ 32 }
     requires row { i < dictionary.old.rows }

@@ -9,7 +9,7 @@ use Rattle.rg_integers.specs.Term.{FitsTerm}
 use Rattle.rg_linear.specs.System.{LinearSystem, variables}
 use Rattle.rg_linear.specs.Dictionary.{Relation, IsFree, DictionaryRow}
 use Rattle.rg_linear.specs.Exchange.{without, exchanged, IsTerm, AllFit, FirstWide, renewed, turned}
-use Rattle.rg_linear.specs.Table.{numbers_of, ShowsRow, row_width, row_numbers, IsTable, place_for}
+use Rattle.rg_linear.specs.Table.{numbers_of, ShowsRow, row_width, row_numbers, IsTable, index_for}
 use Rattle.rg_linear.proofs.Members.{equal_or_not, Contains-exchanged_new, Contains-exchanged_old}
 use Rattle.rg_linear.proofs.Unique.{same_relation}
 use Rattle.rg_linear.proofs.Exchanging.{exchanged_free, turned_row, kept_row, renewed_row, renewed-positive, renewed-over}
@@ -98,9 +98,9 @@ module _ (system : LinearSystem) (members : List ℕ) (i q : ℕ) (old : List �
         earlier w' n' t' (inl lower) of = subst FitsTerm of.is (f.first w' lower of.kept of.leaving n' (omega (arith, of.inside, free.count)))
         earlier w' n' t' (inr (same, lower)) of = subst FitsTerm of.is (subst (λ x. FitsTerm (renewal_term s (row_numbers system old x) (suc (suc q)) n')) (sym same) (f.row.first n' lower))
 
-    module _ (to : ℕ) (place : to ≡ place_for i (without (get_or members q 0) members)) where
+    module _ (to : ℕ) (index : to ≡ index_for i (without (get_or members q 0) members)) where
       moved_shows : (r : Relation) (row new : List ℤ) → row ≡ numbers_of (set members q i) r → new ≡ moved row (suc (suc q)) (suc (suc to)) → new ≡ numbers_of (exchanged members i (get_or members q 0)) r
-      moved_shows r row new shown is = is ∙ ap (λ xs. moved xs (suc (suc q)) (suc (suc to))) shown ∙ moved_numbers members r i q to lt ∙ ap (λ ms. numbers_of ms r) (exchanged-split members i q to free.ordered lt place)
+      moved_shows r row new shown is = is ∙ ap (λ xs. moved xs (suc (suc q)) (suc (suc to))) shown ∙ moved_numbers members r i q to lt ∙ ap (λ ms. numbers_of ms r) (exchanged-split members i q to free.ordered lt index)
 
       row_stays : (v : ℕ) (new : List ℤ) (r : ShowsRow system members v (row_numbers system old v)) → v ≢ i → r.k.coefficient (get_or members q 0) ≡ pos 0 → new ≡ moved (row_numbers system old v) (suc (suc q)) (suc (suc to))
           → ShowsRow system (exchanged members i (get_or members q 0)) v new
@@ -197,9 +197,9 @@ module _ (system : LinearSystem) (members : List ℕ) (i q width p n : ℕ) (old
           (λ v less kept some e inside. ((rows_there v less kept).changes some).renewed.fits e (omega (arith, inside, free.count, length-row (row_width system) old (variables system) v table.size less)))
 
       -- the table shows the relations over the new set
-      pub table_after : (new t row : List ℤ) → to ≡ place_for i (without (get_or members q 0) members) → length new ≡ length mid → ((v : ℕ) → v ≢ get_or members q 0 → row_at width new v ≡ row_at width mid v) → row_at width new (get_or members q 0) ≡ row
+      pub table_after : (new t row : List ℤ) → to ≡ index_for i (without (get_or members q 0) members) → length new ≡ length mid → ((v : ℕ) → v ≢ get_or members q 0 → row_at width new v ≡ row_at width mid v) → row_at width new (get_or members q 0) ≡ row
           → IsTurned s t p → row ≡ moved t p p' → IsTable system (exchanged members i (get_or members q 0)) new
-      table_after new t row place same others here turned is = new_table system members i q old free table inner outside lt named_there s signed_there to place new t (same ∙ rows.same_length)
+      table_after new t row index same others here turned is = new_table system members i q old free table inner outside lt named_there s signed_there to index new t (same ∙ rows.same_length)
           (λ v less ne kept. subst (λ xs. IsExchangedRow s (row_numbers system old v) xs (suc (suc q)) (suc (suc to))) (sym (subst (λ x. row_at x new v ≡ row_at x mid v) wide (others v ne))) (rows_there v less kept))
           (subst (λ x. IsTurned s t x) two turned)
           (subst (λ x. row_at x new (get_or members q 0) ≡ row) wide here ∙ is ∙ ap₂ (moved t) two two')

@@ -1,4 +1,4 @@
--- A number that goes to another place of its row.
+-- A number that goes to another index of its row.
 use Rattle.std.proofs.Common.{◌≡◌, ◌≢◌, ◌⊎◌, ⊎_elim, ℕ, zero, suc, ◌+◌, ◌-◌, ◌<◌, ◌≤◌, List, length, subst, sym, ◌∙◌, inl, inr, arith, get_or-set_other, get_or-set_same}
 use Rattle.std.proofs.Math.ListN.{set, length-set}
 use Rattle.std.proofs.lemmas.Bool.{cases_lt}
@@ -16,7 +16,7 @@ inside row p q from to = omega (arith, length-remove row p from)
 pub length-moved : (row : List ℤ) (p q : ℕ) → p < length row → q < length row → length (moved row p q) ≡ length row
 length-moved row p q from to = omega (arith, length-insert (remove row p) q (number_at row p) (inside row p q from to), length-remove row p from)
 
--- the number of each place: below the new place, at it, and above it
+-- the number of each index: below the new index, at it, and above it
 
 pub moved_below : (row : List ℤ) (p q k : ℕ) → p < length row → q < length row → k < p → k < q → number_at (moved row p q) k ≡ number_at row k
 moved_below row p q k from to kp kq = get_or-insert_below (remove row p) q (number_at row p) (pos 0) k kq (inside row p q from to) ∙ get_or-remove_below row p (pos 0) k kp from
@@ -33,7 +33,7 @@ moved_down row p q k from to qk kp = get_or-insert_above (remove row p) q (numbe
 pub moved_above : (row : List ℤ) (p q k : ℕ) → p < length row → q < length row → q ≤ k → p ≤ k → number_at (moved row p q) (k + 1) ≡ number_at row (k + 1)
 moved_above row p q k from to qk pk = get_or-insert_above (remove row p) q (number_at row p) (pos 0) k qk (inside row p q from to) ∙ get_or-remove_above row p (pos 0) k pk from
 
--- a row that has the numbers between the two places one place on, and then the number at its new place
+-- a row that has the numbers between the two indices one index on, and then the number at its new index
 pub moved_is : (row mid : List ℤ) (p q : ℕ) → p < length row → q < length row → length mid ≡ length row
     → ((k : ℕ) → k < p → k < q → number_at mid k ≡ number_at row k)
     → ((k : ℕ) → p ≤ k → k < q → number_at mid k ≡ number_at row (k + 1))
@@ -70,18 +70,18 @@ moved_is row mid p q from to same below up down above = ext_get_or (pos 0) (set 
     at k (inl lt) = other k (λ e. omega arith) ∙ before k lt (cases_lt k p)
     at k (inr ge) = ⊎_elim (λ lt. past k lt) (λ le. (let e : q ≡ k = omega arith in subst (λ n. number_at (set mid q (number_at row p)) n ≡ number_at (moved row p q) n) e here)) (cases_lt q k)
 
--- what `copy_within` leaves of the numbers between the places
+-- what `copy_within` leaves of the numbers between the indices
 pub copied_down : (row mid : List ℤ) (p q : ℕ) → p < length row → q < length row → p < q → length mid ≡ length row
     → CopiedTo row mid (p + 1) p ((q + 1) - (p + 1)) × SameBelow row mid p × SameFrom row mid (p + ((q + 1) - (p + 1)))
     → set mid q (number_at row p) ≡ moved row p q
 copied_down row mid p q from to less same h = moved_is row mid p q from to same
     (λ k kp kq. h.1 k (pos 0) kp)
-    (λ k pk kq. subst (λ n. number_at mid k ≡ number_at row n) (place k pk) (h.0 k (pos 0) pk (omega arith)))
+    (λ k pk kq. subst (λ n. number_at mid k ≡ number_at row n) (index k pk) (h.0 k (pos 0) pk (omega arith)))
     (λ k qk kp. absurd (omega arith))
     (λ k pk qk. h.2 (k + 1) (pos 0) (omega arith))
   where
-    place : (k : ℕ) → p ≤ k → (p + 1) + (k - p) ≡ k + 1
-    place k pk = omega arith
+    index : (k : ℕ) → p ≤ k → (p + 1) + (k - p) ≡ k + 1
+    index k pk = omega arith
 
 pub copied_up : (row mid : List ℤ) (p q : ℕ) → p < length row → q < length row → q ≤ p → length mid ≡ length row
     → CopiedTo row mid q (q + 1) (p - q) × SameBelow row mid (q + 1) × SameFrom row mid ((q + 1) + (p - q))
@@ -89,11 +89,11 @@ pub copied_up : (row mid : List ℤ) (p q : ℕ) → p < length row → q < leng
 copied_up row mid p q from to most same h = moved_is row mid p q from to same
     (λ k kp kq. h.1 k (pos 0) (omega arith))
     (λ k pk kq. absurd (omega arith))
-    (λ k qk kp. subst (λ n. number_at mid (k + 1) ≡ number_at row n) (place k qk) (h.0 (k + 1) (pos 0) (omega arith) (omega arith)))
+    (λ k qk kp. subst (λ n. number_at mid (k + 1) ≡ number_at row n) (index k qk) (h.0 (k + 1) (pos 0) (omega arith) (omega arith)))
     (λ k pk qk. h.2 (k + 1) (pos 0) (omega arith))
   where
-    place : (k : ℕ) → q ≤ k → q + ((k + 1) - (q + 1)) ≡ k
-    place k qk = omega arith
+    index : (k : ℕ) → q ≤ k → q + ((k + 1) - (q + 1)) ≡ k
+    index k qk = omega arith
 
 -- the numbers stay in range
 pub in_range-moved : (row : List ℤ) (p q : ℕ) → p < length row → q < length row → RowInRange row → RowInRange (moved row p q)

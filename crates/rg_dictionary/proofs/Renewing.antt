@@ -1,4 +1,4 @@
--- The terms of a row, by their numbers and by their places.
+-- The terms of a row, by their numbers and by their indices.
 use Rattle.std.proofs.Common.{◌≡◌, ◌≢◌, ◌⊎◌, ⊎_elim, ℕ, zero, suc, ◌+◌, ◌-◌, ◌<◌, ◌≤◌, List, length, ap, refl, subst, sym, ◌∙◌, inl, inr, arith, le_refl, get_or-set_other, get_or-set_same, eq-eqb}
 use Rattle.std.proofs.Math.ListN.{set, length-set}
 use Rattle.std.proofs.lemmas.Bool.{cases_lt}
@@ -8,12 +8,12 @@ use Rattle.rg_integers.specs.declared.term.Wide.{Wide}
 use Rattle.rg_integers.specs.Term.{term_value, FitsTerm}
 use Rattle.rg_linear.proofs.Members.{differs}
 use Rattle.rg_linear.proofs.Columns.{below_test, past_test}
-use Rattle.rg_dictionary.specs.Renewal.{place_term, RenewsBetween, FirstBetween, place_of, renewal_term, IsRenewed, FirstOfRow}
+use Rattle.rg_dictionary.specs.Renewal.{index_term, RenewsBetween, FirstBetween, index_of, renewal_term, IsRenewed, FirstOfRow}
 
 -- ---- a term by its number
 
 abbrev pub low_term : List ℤ → List ℤ → ℕ → ℕ → Wide
-low_term pivot row p n = place_term pivot row (number_at pivot p) (number_at row p) n
+low_term pivot row p n = index_term pivot row (number_at pivot p) (number_at row p) n
 
 abbrev pub last_term : List ℤ → List ℤ → ℕ → Wide
 last_term pivot row p = record { a = pos 0; b = number_at pivot p; c = neg_ℤ (number_at pivot 0); d = number_at row p }
@@ -30,19 +30,19 @@ term_high pivot row p e more past inside = rw (differs e 0 (λ h. omega arith), 
 pub term_last : (pivot row : List ℤ) (p e : ℕ) → 0 < e → suc e ≡ length row → renewal_term pivot row p e ≡ last_term pivot row p
 term_last pivot row p e more is = rw (differs e 0 (λ h. omega arith), eq-eqb (suc e) (length row) is) refl
 
-pub place_low : (p e : ℕ) → e < p → place_of p e ≡ e
-place_low p e less = rw (below_test e p less) refl
+pub index_low : (p e : ℕ) → e < p → index_of p e ≡ e
+index_low p e less = rw (below_test e p less) refl
 
-pub place_high : (p e : ℕ) → p ≤ e → place_of p e ≡ suc e
-place_high p e past = rw (past_test e p past) refl
+pub index_high : (p e : ℕ) → p ≤ e → index_of p e ≡ suc e
+index_high p e past = rw (past_test e p past) refl
 
 -- ---- the terms that fit so far
 
 abbrev pub FitBelow : List ℤ → List ℤ → ℕ → ℕ → Type 0
 FitBelow pivot row p m = (e : ℕ) → e < m → FitsTerm (renewal_term pivot row p e)
 
-place_same : (pivot row old : List ℤ) (size leaving : ℤ) (n : ℕ) → number_at row n ≡ number_at old n → place_term pivot row size leaving n ≡ place_term pivot old size leaving n
-place_same pivot row old size leaving n e = ap (λ z. record { a = z; b = size; c = number_at pivot n; d = leaving }) e
+index_same : (pivot row old : List ℤ) (size leaving : ℤ) (n : ℕ) → number_at row n ≡ number_at old n → index_term pivot row size leaving n ≡ index_term pivot old size leaving n
+index_same pivot row old size leaving n e = ap (λ z. record { a = z; b = size; c = number_at pivot n; d = leaving }) e
 
 -- the row as it was, with its first number written
 pub record Begun (pivot old : List ℤ) (p : ℕ) (row : List ℤ) : Type 0 where
@@ -59,24 +59,24 @@ begun pivot old p z some fits is = record {
   others = λ n more. let ne : n ≢ 0 = omega arith in get_or-set_other old 0 n z (pos 0) ne;
 }
 
--- the terms before place n fit, where those of the places from 1 on do
+-- the terms before index n fit, where those of the indices from 1 on do
 low_fit : (pivot old row : List ℤ) (p n : ℕ) → Begun pivot old p row → n ≤ p → p < length old
-    → ((m : ℕ) → 1 ≤ m → m < n → FitsTerm (place_term pivot row (number_at pivot p) (number_at old p) m)) → FitBelow pivot old p n
+    → ((m : ℕ) → 1 ≤ m → m < n → FitsTerm (index_term pivot row (number_at pivot p) (number_at old p) m)) → FitBelow pivot old p n
 low_fit pivot old row p n b le inside fit zero lt = b.fits
 low_fit pivot old row p n b le inside fit (suc e) lt = subst FitsTerm
-    (place_same pivot row old (number_at pivot p) (number_at old p) (suc e) (b.others (suc e) (omega arith)) ∙ sym (term_low pivot old p (suc e) (omega arith) (omega arith) inside))
+    (index_same pivot row old (number_at pivot p) (number_at old p) (suc e) (b.others (suc e) (omega arith)) ∙ sym (term_low pivot old p (suc e) (omega arith) (omega arith) inside))
     (fit (suc e) (omega arith) lt)
 
 pub wide_low : (pivot old row : List ℤ) (p n : ℕ) (w : Wide) → Begun pivot old p row → p < length old
     → FirstBetween pivot row (number_at pivot p) (number_at old p) 1 p n w → FirstOfRow pivot old p n w
 wide_low pivot old row p n w b inside f = record {
   inside = omega (arith, f.below);
-  is = f.is ∙ place_same pivot row old (number_at pivot p) (number_at old p) n (b.others n f.after) ∙ sym (term_low pivot old p n f.after f.below inside);
+  is = f.is ∙ index_same pivot row old (number_at pivot p) (number_at old p) n (b.others n f.after) ∙ sym (term_low pivot old p n f.after f.below inside);
   passes = f.passes;
   first = low_fit pivot old row p n b (omega (arith, f.below)) inside f.first;
 }
 
--- the row with the places before p renewed
+-- the row with the indices before p renewed
 pub record Half (pivot old : List ℤ) (p : ℕ) (row : List ℤ) : Type 0 where
   pub same_length : length row ≡ length old
   pub fits : FitBelow pivot old p p
@@ -95,14 +95,14 @@ half pivot old row next p after inside b r = record {
     at : (e : ℕ) → e < p → number_at next e ≡ term_value (renewal_term pivot old p e)
     at zero lt = r.before 0 (omega arith) ∙ b.first
     at (suc e) lt = r.values (suc e) (omega arith) lt
-        ∙ ap term_value (place_same pivot row old (number_at pivot p) (number_at old p) (suc e) (b.others (suc e) (omega arith)) ∙ sym (term_low pivot old p (suc e) (omega arith) lt inside))
+        ∙ ap term_value (index_same pivot row old (number_at pivot p) (number_at old p) (suc e) (b.others (suc e) (omega arith)) ∙ sym (term_low pivot old p (suc e) (omega arith) lt inside))
 
--- the terms before number e fit, where those of the places behind p do
+-- the terms before number e fit, where those of the indices behind p do
 high_fit : (pivot old row : List ℤ) (p n : ℕ) → Half pivot old p row → 1 < p → suc n ≤ length old
-    → ((m : ℕ) → p + 1 ≤ m → m < suc n → FitsTerm (place_term pivot row (number_at pivot p) (number_at old p) m)) → FitBelow pivot old p n
+    → ((m : ℕ) → p + 1 ≤ m → m < suc n → FitsTerm (index_term pivot row (number_at pivot p) (number_at old p) m)) → FitBelow pivot old p n
 high_fit pivot old row p n h after inside fit e lt = ⊎_elim (λ less. h.fits e less)
     (λ past. subst FitsTerm
-    (place_same pivot row old (number_at pivot p) (number_at old p) (suc e) (h.others (suc e) (omega arith)) ∙ sym (term_high pivot old p e (omega arith) past (omega arith)))
+    (index_same pivot row old (number_at pivot p) (number_at old p) (suc e) (h.others (suc e) (omega arith)) ∙ sym (term_high pivot old p e (omega arith) past (omega arith)))
     (fit (suc e) (omega arith) (omega arith)))
     (cases_lt e p)
 
@@ -114,7 +114,7 @@ wide_high pivot old row p n w h after f = at n f
     at zero f = absurd (omega (arith, f.after))
     at (suc e) f = subst (λ m. FirstOfRow pivot old p m w) (one e) (record {
       inside = omega (arith, f.below, h.same_length);
-      is = f.is ∙ place_same pivot row old (number_at pivot p) (number_at old p) (suc e) (h.others (suc e) (omega (arith, f.after))) ∙ sym (term_high pivot old p e (omega (arith, f.after)) (omega (arith, f.after)) (omega (arith, f.below, h.same_length)));
+      is = f.is ∙ index_same pivot row old (number_at pivot p) (number_at old p) (suc e) (h.others (suc e) (omega (arith, f.after))) ∙ sym (term_high pivot old p e (omega (arith, f.after)) (omega (arith, f.after)) (omega (arith, f.below, h.same_length)));
       passes = f.passes;
       first = high_fit pivot old row p e h after (omega (arith, f.below, h.same_length)) (λ m ge lt. f.first m ge lt);
     })
@@ -122,11 +122,11 @@ wide_high pivot old row p n w h after f = at n f
         one : (e : ℕ) → e ≡ suc e - 1
         one e = omega arith
 
--- the row with all places but p renewed
+-- the row with all indices but p renewed
 pub record Most (pivot old : List ℤ) (p : ℕ) (row : List ℤ) : Type 0 where
   pub same_length : length row ≡ length old
   pub fits : FitBelow pivot old p (length old - 1)
-  pub values : (e : ℕ) → suc e < length old → number_at row (place_of p e) ≡ term_value (renewal_term pivot old p e)
+  pub values : (e : ℕ) → suc e < length old → number_at row (index_of p e) ≡ term_value (renewal_term pivot old p e)
   pub leaves : number_at row p ≡ number_at old p
 
 pub most : (pivot old row next : List ℤ) (p : ℕ) → 1 < p → p < length old → Half pivot old p row
@@ -138,17 +138,17 @@ most pivot old row next p after inside h r = record {
   leaves = r.before p (omega arith) ∙ h.others p (le_refl p);
 }
   where
-    at : (e : ℕ) → suc e < length old → (e < p) ⊎ (p ≤ e) → number_at next (place_of p e) ≡ term_value (renewal_term pivot old p e)
-    at e lt (inl less) = ap (number_at next) (place_low p e less) ∙ r.before e (omega arith) ∙ h.values e less
-    at e lt (inr past) = ap (number_at next) (place_high p e past) ∙ r.values (suc e) (omega arith) (omega (arith, h.same_length))
-        ∙ ap term_value (place_same pivot row old (number_at pivot p) (number_at old p) (suc e) (h.others (suc e) (omega arith)) ∙ sym (term_high pivot old p e (omega arith) past lt))
+    at : (e : ℕ) → suc e < length old → (e < p) ⊎ (p ≤ e) → number_at next (index_of p e) ≡ term_value (renewal_term pivot old p e)
+    at e lt (inl less) = ap (number_at next) (index_low p e less) ∙ r.before e (omega arith) ∙ h.values e less
+    at e lt (inr past) = ap (number_at next) (index_high p e past) ∙ r.values (suc e) (omega arith) (omega (arith, h.same_length))
+        ∙ ap term_value (index_same pivot row old (number_at pivot p) (number_at old p) (suc e) (h.others (suc e) (omega arith)) ∙ sym (term_high pivot old p e (omega arith) past lt))
 
 -- ---- the term of the new member
 
 pub last_number : (pivot old : List ℤ) (p : ℕ) → 1 < p → p < length old → renewal_term pivot old p (length old - 1) ≡ last_term pivot old p
 last_number pivot old p after inside = term_last pivot old p (length old - 1) (omega arith) (omega arith)
 
--- it is the same when the other places are renewed
+-- it is the same when the other indices are renewed
 last_same : (pivot old row : List ℤ) (p : ℕ) → 1 < p → p < length old → Most pivot old p row → renewal_term pivot row p (length row - 1) ≡ renewal_term pivot old p (length old - 1)
 last_same pivot old row p after inside m = last_number pivot row p after (omega (arith, m.same_length))
     ∙ ap (λ (z : ℤ). record { a = pos 0; b = number_at pivot p; c = neg_ℤ (number_at pivot 0); d = z }) m.leaves
@@ -159,16 +159,16 @@ pub renewed : (pivot old row next : List ℤ) (p : ℕ) → 1 < p → p < length
 renewed pivot old row next p after inside m same fits is others = record {
   same_length = same ∙ m.same_length;
   fits = λ e lt. ⊎_elim (λ less. m.fits e less) (λ past. subst (λ n. FitsTerm (renewal_term pivot old p n)) (end e lt past) (subst FitsTerm (last_same pivot old row p after inside m) fits)) (cases_lt e (length old - 1));
-  values = λ e lt. others (place_of p e) (elsewhere e (cases_lt e p)) ∙ m.values e lt;
+  values = λ e lt. others (index_of p e) (elsewhere e (cases_lt e p)) ∙ m.values e lt;
   last = is ∙ ap term_value (last_same pivot old row p after inside m);
 }
   where
     end : (e : ℕ) → e < length old → length old - 1 ≤ e → length old - 1 ≡ e
     end e lt past = omega arith
 
-    elsewhere : (e : ℕ) → (e < p) ⊎ (p ≤ e) → place_of p e ≢ p
-    elsewhere e (inl less) h = let q = place_low p e less in omega arith
-    elsewhere e (inr past) h = let q = place_high p e past in omega arith
+    elsewhere : (e : ℕ) → (e < p) ⊎ (p ≤ e) → index_of p e ≢ p
+    elsewhere e (inl less) h = let q = index_low p e less in omega arith
+    elsewhere e (inr past) h = let q = index_high p e past in omega arith
 
 pub wide_last : (pivot old row : List ℤ) (p e : ℕ) (w : Wide) → 1 < p → p < length old → Most pivot old p row
     → e ≡ length row - 1 → (FitsTerm w → ⊥) → w ≡ renewal_term pivot row p (length row - 1) → FirstOfRow pivot old p e w

@@ -20,15 +20,15 @@ use Rattle.rg_integers.specs.Term.{term_value}
 use Rattle.rg_fraction.specs.Rows.{IsPrimitivePart}
 use Rattle.rg_linear.specs.Dictionary.{Relation}
 use Rattle.rg_linear.specs.Exchange.{without, exchanged, renewed, turned, IsReduced}
-use Rattle.rg_linear.specs.Table.{numbers_of, place_for}
+use Rattle.rg_linear.specs.Table.{numbers_of, index_for}
 use Rattle.rg_linear.proofs.Members.{differs, same, equal_or_not, is_member, exchanged-Contains}
 use Rattle.rg_linear.proofs.TableLemmas.{put_in-split}
 use Rattle.rg_dictionary.specs.Renewal.{IsSigned, IsRenewed, IsTurned, moved, renewal_term}
 use Rattle.rg_dictionary.proofs.Searching.{gone, member_at, distinct}
-use Rattle.rg_dictionary.proofs.Renewing.{low_term, place_low, place_high, term_low, term_high, term_last}
+use Rattle.rg_dictionary.proofs.Renewing.{low_term, index_low, index_high, term_low, term_high, term_last}
 use Rattle.rg_dictionary.proofs.RowTerms.{length-numbers, number_shown, signed_number, signed_leaving, signed_member}
 
--- ---- the set with the pivot at the place of the member that leaves
+-- ---- the set with the pivot at the index of the member that leaves
 
 pub length-put : (members : List ℕ) (q i : ℕ) → length (set members q i) ≡ length members
 length-put members q i = length-set members q i
@@ -63,12 +63,12 @@ first_value e q = omega (arith, ints)
 last_value : (q h l : ℤ) → (pos 0 *ℤ q) -ℤ (neg_ℤ h *ℤ l) ≡ h *ℤ l
 last_value q h l = simp ring (omega (arith, ints))
 
--- the value of the term of each place but that of the member that leaves
+-- the value of the term of each index but that of the member that leaves
 renewed_at : (pivot row raw : List ℤ) (p n : ℕ) → 1 < p → p < length row → IsRenewed pivot row raw p → 0 < n → n < length row → n ≢ p → number_at raw n ≡ term_value (low_term pivot row p n)
 renewed_at pivot row raw p zero after inside r more lt ne = absurd (omega arith)
 renewed_at pivot row raw p (suc e) after inside r more lt ne = ⊎_elim
-    (λ less. ap (number_at raw) (sym (place_low p (suc e) less)) ∙ r.values (suc e) (omega arith) ∙ ap term_value (term_low pivot row p (suc e) (omega arith) less inside))
-    (λ past. ap (number_at raw) (sym (place_high p e (omega arith))) ∙ r.values e lt ∙ ap term_value (term_high pivot row p e (omega arith) (omega arith) lt))
+    (λ less. ap (number_at raw) (sym (index_low p (suc e) less)) ∙ r.values (suc e) (omega arith) ∙ ap term_value (term_low pivot row p (suc e) (omega arith) less inside))
+    (λ past. ap (number_at raw) (sym (index_high p e (omega arith))) ∙ r.values e lt ∙ ap term_value (term_high pivot row p e (omega arith) (omega arith) lt))
     (cases_lt (suc e) p)
 
 module _ (members : List ℕ) (k : Relation) (s : List ℤ) (i q : ℕ) (lt : q < length members) (signed : IsSigned (numbers_of members k) s (suc (suc q))) (outside : ¬ Contains members i) where
@@ -82,7 +82,7 @@ module _ (members : List ℕ) (k : Relation) (s : List ℤ) (i q : ℕ) (lt : q 
       below = omega (arith, length-numbers members l)
 
       d : number_at raw 0 ≡ l.d *ℤ size (k.coefficient (get_or members q 0))
-      d = ap (number_at raw) (sym (place_low (suc (suc q)) 0 (omega arith))) ∙ r.values 0 (omega (arith, length-numbers members l)) ∙ first_value l.d (number_at s (suc (suc q))) ∙ ap (λ (z : ℤ). l.d *ℤ z) (signed_leaving members k s q signed lt)
+      d = ap (number_at raw) (sym (index_low (suc (suc q)) 0 (omega arith))) ∙ r.values 0 (omega (arith, length-numbers members l)) ∙ first_value l.d (number_at s (suc (suc q))) ∙ ap (λ (z : ℤ). l.d *ℤ z) (signed_leaving members k s q signed lt)
 
       value : (a x : ℤ) (n : ℕ) → number_at (numbers_of members l) n ≡ a → number_at s n ≡ x
           → term_value (low_term s (numbers_of members l) (suc (suc q)) n) ≡ (a *ℤ size (k.coefficient (get_or members q 0))) -ℤ (x *ℤ l.coefficient (get_or members q 0))
@@ -144,7 +144,7 @@ moved_numbers members r i q to lt = ap (λ xs. r.d ∷ r.constant ∷ xs)
     (ap₂ (λ xs z. insert xs to z) (remove-map r.coefficient (set members q i) q ∙ ap (map r.coefficient) (take_put members q i lt)) (get_or-map r.coefficient (set members q i) q 0 (pos 0) (subst (λ n. q < n) (sym (length-put members q i)) lt) ∙ ap r.coefficient (get_or-set_same members q i 0 lt))
     ∙ insert-map r.coefficient (remove members q) to i)
 
-pub exchanged-split : (members : List ℕ) (i q to : ℕ) → IsStrictlyIncreasing members → q < length members → to ≡ place_for i (without (get_or members q 0) members) → insert (remove members q) to i ≡ exchanged members i (get_or members q 0)
+pub exchanged-split : (members : List ℕ) (i q to : ℕ) → IsStrictlyIncreasing members → q < length members → to ≡ index_for i (without (get_or members q 0) members) → insert (remove members q) to i ≡ exchanged members i (get_or members q 0)
 exchanged-split members i q to ordered lt is = ap₂ (λ ns n. insert ns n i) (sym (gone members q ordered lt)) is ∙ sym (put_in-split i (without (get_or members q 0) members))
 
 pub set_Contains : (members : List ℕ) (i q m : ℕ) → q < length members → Contains (exchanged members i (get_or members q 0)) m → Contains (set members q i) m

@@ -26,7 +26,7 @@ length-numbers members l = ap (λ n. suc (suc n)) (length-map members l.coeffici
 pub number_shown : (members : List ℕ) (l : Relation) (n : ℕ) → n < length members → number_at (numbers_of members l) (suc (suc n)) ≡ l.coefficient (get_or members n 0)
 number_shown members l n lt = get_or-map l.coefficient members n 0 (pos 0) lt
 
--- the number of the member at a place
+-- the number of the member at an index
 pub shown_number : (members : List ℕ) (k : Relation) (numbers : List ℤ) (p : ℕ) → numbers ≡ numbers_of members k → p < length members → number_at numbers (p + 2) ≡ k.coefficient (slice_index members p)
 shown_number members k numbers p e lt = ap (λ xs. number_at xs (p + 2)) e ∙ ap (number_at (numbers_of members k)) (two p) ∙ number_shown members k p lt
   where

@@ -1,4 +1,4 @@
--- Places of variables among members in order.
+-- Indices of variables among members in order.
 use Rattle.std.proofs.Common.{◌≡◌, ◌≢◌, ◌⊎◌, ⊎_elim, ℕ, zero, suc, ◌+◌, ◌-◌, ◌<◌, ◌≤◌, List, [], ◌∷◌, length, get_or, Contains, ap, refl, subst, sym, ◌∙◌, inl, inr, arith, true, false, nat_lt}
 use Rattle.std.specs.List.{remove}
 use Rattle.std.specs.List.Sorted.{IsStrictlyIncreasing}
@@ -7,7 +7,7 @@ use Rattle.std.proofs.lemmas.Bool.Decides.{nat_tests}
 use Rattle.std.proofs.lemmas.List.{get_or_default}
 use Rattle.std.proofs.lemmas.List.Edits.{length-remove, get_or-remove_below, get_or-remove_above}
 use Rattle.rg_linear.specs.Exchange.{without}
-use Rattle.rg_linear.specs.Table.{place_for}
+use Rattle.rg_linear.specs.Table.{index_for}
 use Rattle.rg_linear.proofs.Members.{order_from_increasing}
 use Rattle.rg_linear.proofs.Columns.{below_test, past_test}
 use Rattle.rg_linear.proofs.TableLemmas.{without-split}
@@ -45,7 +45,7 @@ is_not_below m i e = grind (arith, nat_tests)
 pub member_at : (xs : List ℕ) (k : ℕ) → k < length xs → Contains xs (get_or xs k 0)
 member_at xs k lt = (k, lt, get_or_default xs k (get_or xs k 0) 0 lt)
 
--- a number that the members from some place on are not below, and those before it are, stands nowhere else
+-- a number that the members from some index on are not below, and those before it are, stands nowhere else
 pub found_or_not : (xs : List ℕ) (b i : ℕ) → ((k : ℕ) → k < b → get_or xs k 0 < i) → ((k : ℕ) → b ≤ k → k < length xs → i ≤ get_or xs k 0) → IsStrictlyIncreasing xs
     → Contains xs i → (b < length xs) × (get_or xs b 0 ≡ i)
 found_or_not xs b i below others h (k, lt, e) = (omega (arith, past), omega (arith, first, here))
@@ -89,11 +89,11 @@ past_other xs b i h a differs = record {
     stands : (k : ℕ) → b ≤ k → k < length xs → get_or xs k 0 ≤ i → ⊥
     stands k le inside most = differs (found_or_not xs b i a.below a.others h (subst (Contains xs) (equal (get_or xs k 0) (a.others k le inside) most) (member_at xs k inside)))
 
--- the place of a number is how many are not above it
-pub place_for-is : (i : ℕ) (ns : List ℕ) (b : ℕ) → b ≤ length ns → ((k : ℕ) → k < b → get_or ns k 0 ≤ i) → ((k : ℕ) → b ≤ k → k < length ns → i < get_or ns k 0) → place_for i ns ≡ b
-place_for-is i [] b le below above = omega arith
-place_for-is i (n ∷ ns) zero le below above = rw (below_test i n (above 0 (omega arith) (omega arith))) refl
-place_for-is i (n ∷ ns) (suc b) le below above = rw (past_test i n (below 0 (omega arith))) (one (place_for i ns) (place_for-is i ns b (omega arith) (λ k lt. below (suc k) (omega arith)) (λ k ge lt. above (suc k) (omega arith) (omega arith))))
+-- the index of a number is how many are not above it
+pub index_for-is : (i : ℕ) (ns : List ℕ) (b : ℕ) → b ≤ length ns → ((k : ℕ) → k < b → get_or ns k 0 ≤ i) → ((k : ℕ) → b ≤ k → k < length ns → i < get_or ns k 0) → index_for i ns ≡ b
+index_for-is i [] b le below above = omega arith
+index_for-is i (n ∷ ns) zero le below above = rw (below_test i n (above 0 (omega arith) (omega arith))) refl
+index_for-is i (n ∷ ns) (suc b) le below above = rw (past_test i n (below 0 (omega arith))) (one (index_for i ns) (index_for-is i ns b (omega arith) (λ k lt. below (suc k) (omega arith)) (λ k ge lt. above (suc k) (omega arith) (omega arith))))
   where
     one : (m : ℕ) → m ≡ b → 1 + m ≡ suc b
     one m e = omega arith
@@ -101,10 +101,10 @@ place_for-is i (n ∷ ns) (suc b) le below above = rw (past_test i n (below 0 (o
 pub gone : (xs : List ℕ) (p : ℕ) → IsStrictlyIncreasing xs → p < length xs → without (get_or xs p 0) xs ≡ remove xs p
 gone xs p h lt = without-split xs p (order_from_increasing xs h) lt
 
--- the place of a number that is no member, where the member at p leaves
-pub place_behind : (xs : List ℕ) (p b i : ℕ) → IsStrictlyIncreasing xs → p < length xs → b ≤ length xs → ¬ Contains xs i → ((k : ℕ) → k < b → get_or xs k 0 < i) → ((k : ℕ) → b ≤ k → k < length xs → i ≤ get_or xs k 0)
-    → p < b → b - 1 ≡ place_for i (without (get_or xs p 0) xs)
-place_behind xs p b i h lt le lacks below others less = sym (ap (place_for i) (gone xs p h lt) ∙ place_for-is i (remove xs p) (b - 1) (omega (arith, length-remove xs p lt)) under over)
+-- the index of a number that is no member, where the member at p leaves
+pub index_behind : (xs : List ℕ) (p b i : ℕ) → IsStrictlyIncreasing xs → p < length xs → b ≤ length xs → ¬ Contains xs i → ((k : ℕ) → k < b → get_or xs k 0 < i) → ((k : ℕ) → b ≤ k → k < length xs → i ≤ get_or xs k 0)
+    → p < b → b - 1 ≡ index_for i (without (get_or xs p 0) xs)
+index_behind xs p b i h lt le lacks below others less = sym (ap (index_for i) (gone xs p h lt) ∙ index_for-is i (remove xs p) (b - 1) (omega (arith, length-remove xs p lt)) under over)
   where
     under : (k : ℕ) → k < b - 1 → get_or (remove xs p) k 0 ≤ i
     under k kb = ⊎_elim
@@ -122,9 +122,9 @@ place_behind xs p b i h lt le lacks below others less = sym (ap (place_for i) (g
         equal : get_or (remove xs p) k 0 ≡ get_or xs (k + 1) 0 → i ≤ get_or xs (k + 1) 0 → get_or (remove xs p) k 0 ≤ i → get_or xs (k + 1) 0 ≡ i
         equal e f most = omega arith
 
-pub place_before : (xs : List ℕ) (p b i : ℕ) → IsStrictlyIncreasing xs → p < length xs → b ≤ length xs → ¬ Contains xs i → ((k : ℕ) → k < b → get_or xs k 0 < i) → ((k : ℕ) → b ≤ k → k < length xs → i ≤ get_or xs k 0)
-    → b ≤ p → b ≡ place_for i (without (get_or xs p 0) xs)
-place_before xs p b i h lt le lacks below others most = sym (ap (place_for i) (gone xs p h lt) ∙ place_for-is i (remove xs p) b (omega (arith, length-remove xs p lt)) under over)
+pub index_before : (xs : List ℕ) (p b i : ℕ) → IsStrictlyIncreasing xs → p < length xs → b ≤ length xs → ¬ Contains xs i → ((k : ℕ) → k < b → get_or xs k 0 < i) → ((k : ℕ) → b ≤ k → k < length xs → i ≤ get_or xs k 0)
+    → b ≤ p → b ≡ index_for i (without (get_or xs p 0) xs)
+index_before xs p b i h lt le lacks below others most = sym (ap (index_for i) (gone xs p h lt) ∙ index_for-is i (remove xs p) b (omega (arith, length-remove xs p lt)) under over)
   where
     under : (k : ℕ) → k < b → get_or (remove xs p) k 0 ≤ i
     under k kb = let e = get_or-remove_below xs p 0 k (omega arith) lt in let f = below k kb in omega arith
@@ -143,14 +143,14 @@ place_before xs p b i h lt le lacks below others most = sym (ap (place_for i) (g
         (λ past. (let e = get_or-remove_above xs p 0 k past lt in let f = above (k + 1) (omega arith) (omega arith) in omega arith))
         (cases_lt k p)
 
--- two places have two members
+-- two indices have two members
 pub distinct : (xs : List ℕ) → IsStrictlyIncreasing xs → (m n : ℕ) → m < length xs → n < length xs → m ≢ n → get_or xs m 0 ≢ get_or xs n 0
 distinct xs h m n less lt ne e = ⊎_elim
     (λ before. (let r = rising xs m n h before lt in omega arith))
     (λ past. ⊎_elim (λ behind. (let r = rising xs n m h behind less in omega arith)) (λ same. absurd (ne (omega arith))) (cases_lt n m))
     (cases_lt m n)
 
--- members in order are at least as great as their places
+-- members in order are at least as great as their indices
 at_least : (xs : List ℕ) (k : ℕ) → IsStrictlyIncreasing xs → k < length xs → k ≤ get_or xs k 0
 at_least xs zero h lt = omega arith
 at_least xs (suc k) h lt = let before = at_least xs k h (omega arith) in let more = rising xs k (suc k) h (omega arith) lt in omega arith

@@ -6,9 +6,9 @@ use Rattle.rg_linear.proofs.Members.{equal_or_not}
 use Rattle.rg_integers.specs.Range.{InRange}
 use Rattle.rg_integers.specs.Sum.{number_at}
 use Rattle.rg_integers.specs.Term.{term_value, FitsTerm}
-use Rattle.rg_dictionary.specs.Renewal.{RowInRange, place_term, RenewsBetween, IsTurned}
+use Rattle.rg_dictionary.specs.Renewal.{RowInRange, index_term, RenewsBetween, IsTurned}
 
--- one more number is written, and has the property of its place
+-- one more number is written, and has the property of its index
 pub below_set : (P : ℕ → ℤ → Type 0) (xs : List ℤ) (n : ℕ) (z : ℤ) → n < length xs → ((k : ℕ) → k < n → P k (number_at xs k)) → P n z → (k : ℕ) → k < n + 1 → P k (number_at (set xs n z) k)
 below_set P xs n z lt all here = below_more (λ k. P k (number_at (set xs n z) k)) n
     (λ k h. let ne : k ≢ n = omega arith in subst (P k) (sym (get_or-set_other xs n k z (pos 0) ne)) (all k h))
@@ -27,18 +27,18 @@ in_range-set xs n z all h k lt = ⊎_elim
     within : k ≡ n → n < length xs
     within e = omega (arith, inside)
 
--- one more place is renewed
+-- one more index is renewed
 pub renews_more : (pivot old new : List ℤ) (size leaving : ℤ) (from n : ℕ) (z : ℤ) → RenewsBetween pivot old new size leaving from n → from ≤ n → n < length new
-    → FitsTerm (place_term pivot old size leaving n) → z ≡ term_value (place_term pivot old size leaving n) → RenewsBetween pivot old (set new n z) size leaving from (n + 1)
+    → FitsTerm (index_term pivot old size leaving n) → z ≡ term_value (index_term pivot old size leaving n) → RenewsBetween pivot old (set new n z) size leaving from (n + 1)
 renews_more pivot old new size leaving from n z r le lt fits is = record {
   same_length = length-set new n z ∙ r.same_length;
-  fits = λ k ge less. below_more (λ m. from ≤ m → FitsTerm (place_term pivot old size leaving m)) n (λ m h g. r.fits m g h) (λ g. fits) k less ge;
-  values = λ k ge less. below_set (λ m y. from ≤ m → y ≡ term_value (place_term pivot old size leaving m)) new n z lt (λ m h g. r.values m g h) (λ g. is) k less ge;
+  fits = λ k ge less. below_more (λ m. from ≤ m → FitsTerm (index_term pivot old size leaving m)) n (λ m h g. r.fits m g h) (λ g. fits) k less ge;
+  values = λ k ge less. below_set (λ m y. from ≤ m → y ≡ term_value (index_term pivot old size leaving m)) new n z lt (λ m h g. r.values m g h) (λ g. is) k less ge;
   before = λ k less. let ne : k ≢ n = omega arith in get_or-set_other new n k z (pos 0) ne ∙ r.before k less;
   after = λ k ge. let ne : k ≢ n = omega arith in get_or-set_other new n k z (pos 0) ne ∙ r.after k (omega arith);
 }
 
--- the row of negatives, with its first number and that at place p written
+-- the row of negatives, with its first number and that at index p written
 pub turned : (pivot row : List ℤ) (p : ℕ) (x y : ℤ) → length row ≡ length pivot → 1 < p → p < length pivot → ((n : ℕ) → n < length pivot → number_at row n ≡ neg_ℤ (number_at pivot n))
     → x ≡ number_at pivot p → y ≡ number_at pivot 0 → IsTurned pivot (set (set row 0 x) p y) p
 turned pivot row p x y same after inside done is_x is_y = record {

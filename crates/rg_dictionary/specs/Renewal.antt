@@ -18,43 +18,43 @@ RowInRange row = (n : ℕ) → n < length row → InRange (number_at row n)
 abbrev pub RowIsShort : List ℤ → Type 0
 RowIsShort row = (n : ℕ) → n < length row → FitsSigned w64 (number_at row n)
 
--- those from one place to before another do
+-- those from one index to before another do
 abbrev pub ShortBetween : List ℤ → ℕ → ℕ → Type 0
 ShortBetween row from to = (n : ℕ) → from ≤ n → n < to → FitsSigned w64 (number_at row n)
 
--- the row of the pivot, with the sign at which its number at place p is positive
+-- the row of the pivot, with the sign at which its number at index p is positive
 pub record IsSigned (row signed : List ℤ) (p : ℕ) : Type 0 where
   pub same_length : length signed ≡ length row
   pub numbers : (n : ℕ) → n < length row → number_at signed n ≡ sign (number_at row p) *ℤ number_at row n
 
--- the places of a row at which the number isn't 0, in order, but the first place and place p
-pub record AreNamedPlaces (row : List ℤ) (p : ℕ) (places : List ℕ) : Type 0 where
-  pub ordered : IsStrictlyIncreasing places
-  pub each : (n : ℕ) → Contains places n ↔ ((0 < n) × (n < length row) × (n ≢ p) × (number_at row n ≢ pos 0))
+-- the indices of a row at which the number isn't 0, in order, but the first index and index p
+pub record AreNamedIndices (row : List ℤ) (p : ℕ) (indices : List ℕ) : Type 0 where
+  pub ordered : IsStrictlyIncreasing indices
+  pub each : (n : ℕ) → Contains indices n ↔ ((0 < n) × (n < length row) × (n ≢ p) × (number_at row n ≢ pos 0))
 
--- the term of place n, where the pivot's number for the member that leaves is size, and the row's is leaving
-abbrev pub place_term : List ℤ → List ℤ → ℤ → ℤ → ℕ → Wide
-place_term pivot row size leaving n = record { a = number_at row n; b = size; c = number_at pivot n; d = leaving }
+-- the term of index n, where the pivot's number for the member that leaves is size, and the row's is leaving
+abbrev pub index_term : List ℤ → List ℤ → ℤ → ℤ → ℕ → Wide
+index_term pivot row size leaving n = record { a = number_at row n; b = size; c = number_at pivot n; d = leaving }
 
--- the places from one to before another hold the values of their terms, which fit, and the others are as they were
+-- the indices from one to before another hold the values of their terms, which fit, and the others are as they were
 pub record RenewsBetween (pivot old new : List ℤ) (size leaving : ℤ) (from to : ℕ) : Type 0 where
   pub same_length : length new ≡ length old
-  pub fits : (n : ℕ) → from ≤ n → n < to → FitsTerm (place_term pivot old size leaving n)
-  pub values : (n : ℕ) → from ≤ n → n < to → number_at new n ≡ term_value (place_term pivot old size leaving n)
+  pub fits : (n : ℕ) → from ≤ n → n < to → FitsTerm (index_term pivot old size leaving n)
+  pub values : (n : ℕ) → from ≤ n → n < to → number_at new n ≡ term_value (index_term pivot old size leaving n)
   pub before : (n : ℕ) → n < from → number_at new n ≡ number_at old n
   pub after : (n : ℕ) → to ≤ n → number_at new n ≡ number_at old n
 
--- the term of place n is the first from a place on that passes
+-- the term of index n is the first from an index on that passes
 pub record FirstBetween (pivot row : List ℤ) (size leaving : ℤ) (from to n : ℕ) (w : Wide) : Type 0 where
   pub after : from ≤ n
   pub below : n < to
-  pub is : w ≡ place_term pivot row size leaving n
+  pub is : w ≡ index_term pivot row size leaving n
   pub passes : FitsTerm w → ⊥
-  pub first : (m : ℕ) → from ≤ m → m < n → FitsTerm (place_term pivot row size leaving m)
+  pub first : (m : ℕ) → from ≤ m → m < n → FitsTerm (index_term pivot row size leaving m)
 
--- the place of term e, where the member that leaves stands at place p: its own place comes last
-abbrev pub place_of : ℕ → ℕ → ℕ
-place_of p e = if nat_lt e p then e else suc e
+-- the index of term e, where the member that leaves stands at index p: its own index comes last
+abbrev pub index_of : ℕ → ℕ → ℕ
+index_of p e = if nat_lt e p then e else suc e
 
 -- term number e of the renewal of a row of so many numbers, by the signed row of the pivot
 abbrev pub renewal_term : List ℤ → List ℤ → ℕ → ℕ → Wide
@@ -63,13 +63,13 @@ renewal_term pivot row p e =
     then record { a = number_at row 0; b = number_at pivot p; c = pos 0; d = pos 0 }
     else (if suc e == length row
     then record { a = pos 0; b = number_at pivot p; c = neg_ℤ (number_at pivot 0); d = number_at row p }
-    else place_term pivot row (number_at pivot p) (number_at row p) (place_of p e))
+    else index_term pivot row (number_at pivot p) (number_at row p) (index_of p e))
 
--- every term fits, and each place holds the value of its own
+-- every term fits, and each index holds the value of its own
 pub record IsRenewed (pivot old new : List ℤ) (p : ℕ) : Type 0 where
   pub same_length : length new ≡ length old
   pub fits : (e : ℕ) → e < length old → FitsTerm (renewal_term pivot old p e)
-  pub values : (e : ℕ) → suc e < length old → number_at new (place_of p e) ≡ term_value (renewal_term pivot old p e)
+  pub values : (e : ℕ) → suc e < length old → number_at new (index_of p e) ≡ term_value (renewal_term pivot old p e)
   pub last : number_at new p ≡ term_value (renewal_term pivot old p (length old - 1))
 
 -- w is term number e, and the first that passes
@@ -79,7 +79,7 @@ pub record FirstOfRow (pivot row : List ℤ) (p e : ℕ) (w : Wide) : Type 0 whe
   pub passes : FitsTerm w → ⊥
   pub first : (m : ℕ) → m < e → FitsTerm (renewal_term pivot row p m)
 
--- the number at place p goes to place q, and those between move up
+-- the number at index p goes to index q, and those between move up
 abbrev pub moved : List ℤ → ℕ → ℕ → List ℤ
 moved row p q = insert (remove row p) q (number_at row p)
 

@@ -10,7 +10,7 @@ ghost use Rattle.rg_linear.specs.Exchange.{exchanged, AllFit, FirstWide};
 ghost use Rattle.rg_linear.specs.Table.{ShowsRow};
 ghost use Rattle.rg_dictionary.specs.Contents.{IsOutside, row_of, IsDictionary, columns_alone, with_row, SameShape};
 
-use crate::table::{ExchangeWide, exchange_table, is_member, new_place};
+use crate::table::{ExchangeWide, exchange_table, is_member, new_index};
 use std::alloc::{AllocError, Global};
 use std::marker::Model;
 
@@ -21,17 +21,17 @@ use std::marker::Model;
 /// The contracts speak of the systems of which it is the dictionary: `IsDictionary system d` says that
 /// the members are a free set and that each row shows its variable's relation.
 #[derive(Drop)]
-pub struct Dictionary {
+pub struct RelationTable {
     columns: u32,
     rows: u32,
     room: u32,
     members: Vec<u32>,
     table: Vec<i128>,
     pivot_row: Vec<i128>,
-    named_places: Vec<usize>,
+    named_indices: Vec<usize>,
 }
 
-impl Model for Dictionary {
+impl Model for RelationTable {
     ghost use Rattle.std.specs.Prelude.{vec_capacity};
     ghost use Rattle.rg_dictionary.specs.Contents.{Contents, IsStored};
 
@@ -39,13 +39,13 @@ impl Model for Dictionary {
 
     ghost view = { λ a. record { columns = a.columns; rows = a.rows; room = a.room; members = a.members.items; table = a.table.items } };
 
-    ghost invariant = { λ a. IsStored (record { columns = a.columns; rows = a.rows; room = a.room; members = a.members.items; table = a.table.items }) (vec_capacity a.table) a.pivot_row.items (vec_capacity a.named_places) };
+    ghost invariant = { λ a. IsStored (record { columns = a.columns; rows = a.rows; room = a.room; members = a.members.items; table = a.table.items }) (vec_capacity a.table) a.pivot_row.items (vec_capacity a.named_indices) };
 }
 
-impl Dictionary {
+impl RelationTable {
     /// The dictionary of so many columns without a row. It takes the memory for so many rows, and no
     /// later call but `restart` takes any. `AllocError` where there is none.
-    pub fn with_columns(alloc: Global, columns: u32, rows: u32) -> Result<Dictionary, AllocError>
+    pub fn with_columns(alloc: Global, columns: u32, rows: u32) -> Result<RelationTable, AllocError>
         requires { columns + rows < 2 ^ 32 }
         ensures system { IfOk result (IsDictionary (columns_alone columns)) }
         ensures members { IfOk result (λ d. d.members ≡ numbers_from 0 columns) }
@@ -57,15 +57,15 @@ impl Dictionary {
         table.resize(columns as usize * width, 0i128)?;
         let members = column_numbers(alloc, columns)?;
         let pivot_row = vec![in alloc; 0i128; width]?;
-        let named_places = Vec::with_capacity(alloc, width)?;
-        Ok(Dictionary {
+        let named_indices = Vec::with_capacity(alloc, width)?;
+        Ok(RelationTable {
             columns,
             rows: 0,
             room: rows,
             members,
             table,
             pivot_row,
-            named_places,
+            named_indices,
         })
     }
 
@@ -163,39 +163,39 @@ impl Dictionary {
         &self.table[start..start + width]
     }
 
-    /// Exchanges the variable `pivot`, which is outside the set, with the member at this place, whose
+    /// Exchanges the variable `pivot`, which is outside the set, with the member at this index, whose
     /// coefficient in the relation of `pivot` isn't 0. It takes no memory.
     ///
     /// Refused exactly where a term that it forms is out of range, with the first such one: relations are
     /// renewed in the order of their variables. Then the members are as before, and nothing is said of
     /// the table any more.
-    pub fn exchange(&mut self, pivot: u32, place: usize) -> Result<(), ExchangeWide>
+    pub fn exchange(&mut self, pivot: u32, index: usize) -> Result<(), ExchangeWide>
         requires pivot { IsOutside self.old pivot }
-        requires place { place < length self.old.members }
-        requires named { number_at (row_of self.old pivot) (place + 2) ≢ pos 0 }
+        requires index { index < length self.old.members }
+        requires named { number_at (row_of self.old pivot) (index + 2) ≢ pos 0 }
         ensures exact { (system : LinearSystem) → IsDictionary system self.old → MatchResult result
-            (λ _. AllFit system self.old.members pivot (slice_index self.old.members place) × IsDictionary system self.new)
-            (λ e. FirstWide system self.old.members pivot (slice_index self.old.members place) e.target e.entry e.wide) }
-        ensures members { OnOk result (self.new.members ≡ exchanged self.old.members pivot (slice_index self.old.members place)) }
+            (λ _. AllFit system self.old.members pivot (slice_index self.old.members index) × IsDictionary system self.new)
+            (λ e. FirstWide system self.old.members pivot (slice_index self.old.members index) e.target e.entry e.wide) }
+        ensures members { OnOk result (self.new.members ≡ exchanged self.old.members pivot (slice_index self.old.members index)) }
         ensures members_stay { OnErr result (self.new.members ≡ self.old.members) }
         ensures shape { SameShape self.old self.new }
     {
         let variables = self.columns + self.rows;
-        let to = new_place(&self.members, place, pivot);
+        let to = new_index(&self.members, index, pivot);
         match exchange_table(
             &mut self.table,
             &self.members,
             &mut self.pivot_row,
-            &mut self.named_places,
+            &mut self.named_indices,
             pivot,
-            place,
+            index,
             to,
             variables,
         ) {
             Ok(()) => {}
             Err(wide) => return Err(wide),
         }
-        exchange_members(&mut self.members, place, to, pivot);
+        exchange_members(&mut self.members, index, to, pivot);
         Ok(())
     }
 }
@@ -256,13 +256,13 @@ fn append(table: &mut Vec<i128>, numbers: &[i128])
     }
 }
 
-// The member at a place leaves, and the pivot comes to its place among the others.
-fn exchange_members(members: &mut Vec<u32>, place: usize, to: usize, pivot: u32)
-    requires place { place < length members.old.items }
-    requires new_place { to < length members.old.items }
-    ensures { members.new.items ≡ insert (remove members.old.items place) to pivot }
+// The member at an index leaves, and the pivot comes to its index among the others.
+fn exchange_members(members: &mut Vec<u32>, index: usize, to: usize, pivot: u32)
+    requires index { index < length members.old.items }
+    requires new_index { to < length members.old.items }
+    ensures { members.new.items ≡ insert (remove members.old.items index) to pivot }
 {
-    members.remove(place);
+    members.remove(index);
     match members.insert(to, pivot) {
         Ok(()) => {}
         Err(_) => unreachable!(),

@@ -5,5 +5,5 @@ mod dictionary;
 mod row;
 mod table;
 
-pub use dictionary::Dictionary;
+pub use dictionary::RelationTable;
 pub use table::ExchangeWide;

@@ -6,12 +6,12 @@ ghost use Rattle.rg_integers.specs.Range.{InRange, Fits};
 ghost use Rattle.rg_integers.specs.Sign.{sign};
 ghost use Rattle.rg_integers.specs.Sum.{number_at};
 ghost use Rattle.rg_integers.specs.Term.{term_value, FitsTerm};
-ghost use Rattle.rg_dictionary.specs.Renewal.{RowInRange, RowIsShort, ShortBetween, IsSigned, AreNamedPlaces, RenewsBetween, FirstBetween, renewal_term, IsRenewed, FirstOfRow, moved, IsExchangedRow, IsTurned};
+ghost use Rattle.rg_dictionary.specs.Renewal.{RowInRange, RowIsShort, ShortBetween, IsSigned, AreNamedIndices, RenewsBetween, FirstBetween, renewal_term, IsRenewed, FirstOfRow, moved, IsExchangedRow, IsTurned};
 
 use rg_fraction::reduce;
-use rg_integers::Wide;
+use rg_integers::{Wide, negated};
 
-/// A place of a row whose term is out of range, or the term's number, and its four numbers.
+/// An index of a row whose term is out of range, or the term's number, and its four numbers.
 #[derive(Clone, Copy, PartialEq, Eq, Debug)]
 pub(crate) struct RowWide {
     pub(crate) at: usize,
@@ -27,19 +27,10 @@ fn signed_by(of: i128, z: i128) -> i128
     if of < 0 { -z } else { z }
 }
 
-// The negative, which is in range too.
-fn negated(z: i128) -> i128
-    requires { InRange z }
-    ensures value { result ≡ neg_ℤ z }
-    ensures in_range { InRange result }
-{
-    -z
-}
-
-/// Copies the pivot's row, with the sign at which the number at place `p` is positive.
+/// Copies the pivot's row, with the sign at which the number at index `p` is positive.
 pub(crate) fn copy_signed(row: &[i128], signed: &mut [i128], p: usize)
     requires same_length { length row.now ≡ length signed.old }
-    requires place { p < length row.now }
+    requires index { p < length row.now }
     requires in_range { RowInRange row.now }
     ensures signed { IsSigned row.now signed.new p }
     ensures in_range { RowInRange signed.new }
@@ -62,29 +53,29 @@ pub(crate) fn is_short(row: &[i128]) -> bool
     true
 }
 
-/// Lists the places of the row at which the number isn't 0, but the first place and place `p`.
-pub(crate) fn list_places(row: &[i128], p: usize, places: &mut Vec<usize>)
-    requires place { p < length row.now }
+/// Lists the indices of the row at which the number isn't 0, but the first index and index `p`.
+pub(crate) fn list_indices(row: &[i128], p: usize, indices: &mut Vec<usize>)
+    requires index { p < length row.now }
     requires in_range { RowInRange row.now }
-    requires room { length row.now ≤ vec_capacity places.old }
-    ensures named { AreNamedPlaces row.now p places.new.items }
-    ensures capacity { vec_capacity places.old ≤ vec_capacity places.new }
+    requires room { length row.now ≤ vec_capacity indices.old }
+    ensures named { AreNamedIndices row.now p indices.new.items }
+    ensures capacity { vec_capacity indices.old ≤ vec_capacity indices.new }
 {
-    places.clear();
+    indices.clear();
     for n in 1..row.len() {
         if n != p && row[n] != 0 {
-            push_place(places, n);
+            push_index(indices, n);
         }
     }
 }
 
-// Adds a place, for which there is room.
-fn push_place(places: &mut Vec<usize>, n: usize)
-    requires { vec_len places.old < vec_capacity places.old }
-    ensures items { places.new.items ≡ places.old.items ++ n ∷ [] }
-    ensures capacity { vec_capacity places.old ≤ vec_capacity places.new }
+// Adds an index, for which there is room.
+fn push_index(indices: &mut Vec<usize>, n: usize)
+    requires { vec_len indices.old < vec_capacity indices.old }
+    ensures items { indices.new.items ≡ indices.old.items ++ n ∷ [] }
+    ensures capacity { vec_capacity indices.old ≤ vec_capacity indices.new }
 {
-    match places.push(n) {
+    match indices.push(n) {
         Ok(()) => {}
         Err(_) => unreachable!(),
     }
@@ -98,7 +89,7 @@ fn short_term(a: i64, b: i64, c: i64, d: i64) -> i128
     i128::from(a) * i128::from(b) - i128::from(c) * i128::from(d)
 }
 
-// The places from `from` to before `to` get the values of their terms, where all numbers fit 64 bits.
+// The indices from `from` to before `to` get the values of their terms, where all numbers fit 64 bits.
 fn renew_short(row: &mut [i128], pivot: &[i128], size: i64, leaving: i64, from: usize, to: usize)
     requires same_length { length pivot.now ≡ length row.old }
     requires range { from ≤ to }
@@ -115,7 +106,7 @@ fn renew_short(row: &mut [i128], pivot: &[i128], size: i64, leaving: i64, from: 
     }
 }
 
-// The places from `from` to before `to` get the values of their terms; else the first place whose term passes.
+// The indices from `from` to before `to` get the values of their terms; else the first index whose term passes.
 fn renew_each(
     row: &mut [i128],
     pivot: &[i128],
@@ -171,11 +162,11 @@ fn renew_between(
     renew_each(row, pivot, size, leaving, from, to)
 }
 
-/// The row gets the values of its terms, that of the new member at place `p`; else the number of the first
+/// The row gets the values of its terms, that of the new member at index `p`; else the number of the first
 /// term that passes. `short` says that the numbers of the pivot fit 64 bits.
 fn renew(row: &mut [i128], pivot: &[i128], p: usize, short: bool) -> Result<(), RowWide>
     requires same_length { length pivot.now ≡ length row.old }
-    requires place { p < length row.old }
+    requires index { p < length row.old }
     requires after_constant { 1 < p }
     requires pivot_in_range { RowInRange pivot.now }
     requires in_range { RowInRange row.old }
@@ -212,10 +203,10 @@ fn renew(row: &mut [i128], pivot: &[i128], p: usize, short: bool) -> Result<(), 
     renew_last(row, pivot, p)
 }
 
-// Place `p` gets the number of the new member, the value of the last term; else that term passes.
+// Index `p` gets the number of the new member, the value of the last term; else that term passes.
 fn renew_last(row: &mut [i128], pivot: &[i128], p: usize) -> Result<(), RowWide>
     requires same_length { length pivot.now ≡ length row.old }
-    requires place { p < length row.old }
+    requires index { p < length row.old }
     requires after_constant { 1 < p }
     requires pivot_in_range { RowInRange pivot.now }
     requires in_range { RowInRange row.old }
@@ -244,20 +235,20 @@ fn renew_last(row: &mut [i128], pivot: &[i128], p: usize) -> Result<(), RowWide>
     }
 }
 
-// As `renew`, where the pivot's number at place `p` is 1: then a number stays where the pivot's is 0.
-fn renew_at(row: &mut [i128], pivot: &[i128], places: &[usize], p: usize) -> Result<(), RowWide>
+// As `renew`, where the pivot's number at index `p` is 1: then a number stays where the pivot's is 0.
+fn renew_at(row: &mut [i128], pivot: &[i128], indices: &[usize], p: usize) -> Result<(), RowWide>
     requires same_length { length pivot.now ≡ length row.old }
-    requires place { p < length row.old }
+    requires index { p < length row.old }
     requires after_constant { 1 < p }
     requires pivot_in_range { RowInRange pivot.now }
     requires in_range { RowInRange row.old }
     requires unit { number_at pivot.now p ≡ pos 1 }
-    requires named { AreNamedPlaces pivot.now p places.now }
+    requires named { AreNamedIndices pivot.now p indices.now }
     ensures renewed { MatchResult result (λ _. IsRenewed pivot.now row.old row.new p) (λ e. FirstOfRow pivot.now row.old p e.at e.wide) }
     ensures in_range { RowInRange row.new }
 {
     let leaving = row[p];
-    for &n in places {
+    for &n in indices {
         let term = Wide {
             a: row[n],
             b: 1,
@@ -275,32 +266,32 @@ fn renew_at(row: &mut [i128], pivot: &[i128], places: &[usize], p: usize) -> Res
     renew_last(row, pivot, p)
 }
 
-// The row gets the values of its terms, by the listed places alone where these are enough and less than half of all:
-// on a row that names more, the walk over all places is the quicker one, since its numbers mostly fit 64 bits.
+// The row gets the values of its terms, by the listed indices alone where these are enough and less than half of all:
+// on a row that names more, the walk over all indices is the quicker one, since its numbers mostly fit 64 bits.
 fn renew_row(
     row: &mut [i128],
     pivot: &[i128],
-    places: &[usize],
+    indices: &[usize],
     p: usize,
     short: bool,
 ) -> Result<(), RowWide>
     requires same_length { length pivot.now ≡ length row.old }
-    requires place { p < length row.old }
+    requires index { p < length row.old }
     requires after_constant { 1 < p }
     requires pivot_in_range { RowInRange pivot.now }
     requires in_range { RowInRange row.old }
     requires short { IsTrue short → RowIsShort pivot.now }
-    requires named { AreNamedPlaces pivot.now p places.now }
+    requires named { AreNamedIndices pivot.now p indices.now }
     ensures renewed { MatchResult result (λ _. IsRenewed pivot.now row.old row.new p) (λ e. FirstOfRow pivot.now row.old p e.at e.wide) }
     ensures in_range { RowInRange row.new }
 {
-    if pivot[p] == 1 && places.len() < row.len() / 2 {
-        return renew_at(row, pivot, places, p);
+    if pivot[p] == 1 && indices.len() < row.len() / 2 {
+        return renew_at(row, pivot, indices, p);
     }
     renew(row, pivot, p, short)
 }
 
-// The number at place `p` goes to place `q`.
+// The number at index `p` goes to index `q`.
 fn move_number(row: &mut [i128], p: usize, q: usize)
     requires from { p < length row.old }
     requires to { q < length row.old }
@@ -315,30 +306,30 @@ fn move_number(row: &mut [i128], p: usize, q: usize)
     row[q] = number;
 }
 
-/// The row of a variable outside the set, over the new set: the member at place `p` leaves, and the pivot's
-/// number comes to place `q`. Else the number of the first term that passes. `places` are those that the pivot's row
+/// The row of a variable outside the set, over the new set: the member at index `p` leaves, and the pivot's
+/// number comes to index `q`. Else the number of the first term that passes. `indices` are those that the pivot's row
 /// names, and `short` says that its numbers fit 64 bits.
 pub(crate) fn exchange_row(
     row: &mut [i128],
     pivot: &[i128],
-    places: &[usize],
+    indices: &[usize],
     p: usize,
     q: usize,
     short: bool,
 ) -> Result<(), RowWide>
     requires same_length { length pivot.now ≡ length row.old }
-    requires place { p < length row.old }
+    requires index { p < length row.old }
     requires after_constant { 1 < p }
-    requires new_place { q < length row.old }
+    requires new_index { q < length row.old }
     requires pivot_in_range { RowInRange pivot.now }
     requires in_range { RowInRange row.old }
     requires short { IsTrue short → RowIsShort pivot.now }
-    requires named { AreNamedPlaces pivot.now p places.now }
+    requires named { AreNamedIndices pivot.now p indices.now }
     ensures row { MatchResult result (λ _. IsExchangedRow pivot.now row.old row.new p q) (λ e. (number_at row.old p ≢ pos 0) × FirstOfRow pivot.now row.old p e.at e.wide) }
     ensures in_range { RowInRange row.new }
 {
     if row[p] != 0 {
-        match renew_row(row, pivot, places, p, short) {
+        match renew_row(row, pivot, indices, p, short) {
             Ok(()) => {}
             Err(e) => return Err(e),
         }
@@ -348,10 +339,10 @@ pub(crate) fn exchange_row(
     Ok(())
 }
 
-// The row of the member that leaves, at place `p`, before it is moved.
+// The row of the member that leaves, at index `p`, before it is moved.
 fn turn(row: &mut [i128], pivot: &[i128], p: usize)
     requires same_length { length pivot.now ≡ length row.old }
-    requires place { p < length row.old }
+    requires index { p < length row.old }
     requires after_constant { 1 < p }
     requires pivot_in_range { RowInRange pivot.now }
     ensures turned { IsTurned pivot.now row.new p }
@@ -368,9 +359,9 @@ fn turn(row: &mut [i128], pivot: &[i128], p: usize)
 /// The row of the member that leaves: the pivot's relation, solved for it.
 pub(crate) fn write_leaving(row: &mut [i128], pivot: &[i128], p: usize, q: usize)
     requires same_length { length pivot.now ≡ length row.old }
-    requires place { p < length row.old }
+    requires index { p < length row.old }
     requires after_constant { 1 < p }
-    requires new_place { q < length row.old }
+    requires new_index { q < length row.old }
     requires pivot_in_range { RowInRange pivot.now }
     ensures row { (turned : List ℤ) × IsTurned pivot.now turned p × (row.new ≡ moved turned p q) }
     ensures in_range { RowInRange row.new }

@@ -6,10 +6,10 @@ ghost use Rattle.rg_integers.specs.Sum.{number_at};
 ghost use Rattle.rg_linear.specs.System.{LinearSystem, variables as variables_of};
 ghost use Rattle.rg_linear.specs.Dictionary.{IsFree};
 ghost use Rattle.rg_linear.specs.Exchange.{without, exchanged, AllFit, FirstWide};
-ghost use Rattle.rg_linear.specs.Table.{IsTable, place_for};
-ghost use Rattle.rg_dictionary.specs.Renewal.{RowInRange, AreNamedPlaces, row_at, RowsExchanged, FirstOfRows};
+ghost use Rattle.rg_linear.specs.Table.{IsTable, index_for};
+ghost use Rattle.rg_dictionary.specs.Renewal.{RowInRange, AreNamedIndices, row_at, RowsExchanged, FirstOfRows};
 
-use crate::row::{copy_signed, exchange_row, is_short, list_places, write_leaving};
+use crate::row::{copy_signed, exchange_row, is_short, list_indices, write_leaving};
 use rg_integers::Wide;
 
 /// The first term of an exchange that is out of range: in the new relation of the variable `target`
@@ -31,11 +31,11 @@ fn members_below(members: &[u32], variable: u32) -> usize
     members.partition_point(|member| *member < variable)
 }
 
-// Whether the variable is the member at this place.
-fn stands_at(members: &[u32], place: usize, variable: u32) -> bool
-    ensures { IsTrue result ↔ (place < length members.now) × (slice_index members.now place ≡ variable) }
+// Whether the variable is the member at this index.
+fn stands_at(members: &[u32], index: usize, variable: u32) -> bool
+    ensures { IsTrue result ↔ (index < length members.now) × (slice_index members.now index ≡ variable) }
 {
-    place < members.len() && members[place] == variable
+    index < members.len() && members[index] == variable
 }
 
 /// Whether the variable is a member.
@@ -47,39 +47,39 @@ pub(crate) fn is_member(members: &[u32], variable: u32) -> bool
     stands_at(members, below, variable)
 }
 
-/// The place of the pivot among the members, where the one at this place has left.
-pub(crate) fn new_place(members: &[u32], place: usize, pivot: u32) -> usize
+/// The index of the pivot among the members, where the one at this index has left.
+pub(crate) fn new_index(members: &[u32], index: usize, pivot: u32) -> usize
     requires ordered { IsStrictlyIncreasing members.now }
-    requires place { place < length members.now }
+    requires index { index < length members.now }
     requires outside { Contains members.now pivot → ⊥ }
-    ensures value { result ≡ place_for pivot (without (slice_index members.now place) members.now) }
+    ensures value { result ≡ index_for pivot (without (slice_index members.now index) members.now) }
     ensures bound { result < length members.now }
 {
     let below = members_below(members, pivot);
-    if place < below { below - 1 } else { below }
+    if index < below { below - 1 } else { below }
 }
 
-/// The rows of all variables but the members and the pivot, over the new set: the member at place `p` of a
-/// row leaves, and the pivot's number comes to place `q`. Else the first term that passes. `places` are those that the
+/// The rows of all variables but the members and the pivot, over the new set: the member at index `p` of a
+/// row leaves, and the pivot's number comes to index `q`. Else the first term that passes. `indices` are those that the
 /// pivot's row names.
 pub(crate) fn exchange_rows(
     table: &mut [i128],
     members: &[u32],
     pivot: u32,
     pivot_row: &[i128],
-    places: &[usize],
+    indices: &[usize],
     p: usize,
     q: usize,
     variables: u32,
 ) -> Result<(), ExchangeWide>
     requires size { length table.old ≡ variables * length pivot_row.now }
     requires ordered { IsStrictlyIncreasing members.now }
-    requires place { p < length pivot_row.now }
+    requires index { p < length pivot_row.now }
     requires after_constant { 1 < p }
-    requires new_place { q < length pivot_row.now }
+    requires new_index { q < length pivot_row.now }
     requires short { length pivot_row.now ≤ 2 ^ 32 }
     requires pivot_in_range { RowInRange pivot_row.now }
-    requires named { AreNamedPlaces pivot_row.now p places.now }
+    requires named { AreNamedIndices pivot_row.now p indices.now }
     requires in_range { RowInRange table.old }
     ensures rows { MatchResult result (λ _. RowsExchanged members.now pivot (length pivot_row.now) pivot_row.now table.old table.new p q variables) (λ e. (e.target < variables) × FirstOfRows members.now pivot (length pivot_row.now) pivot_row.now table.old p e.target e.entry e.wide) }
     ensures in_range { RowInRange table.new }
@@ -96,7 +96,7 @@ pub(crate) fn exchange_rows(
             match exchange_row(
                 &mut table[start..start + width],
                 pivot_row,
-                places,
+                indices,
                 p,
                 q,
                 short,
@@ -115,58 +115,58 @@ pub(crate) fn exchange_rows(
     Ok(())
 }
 
-/// The table over the set in which the pivot stands in place of the member at `place`, at place `to` of
-/// the new members; else the first term that passes. `pivot_row` and `places`, which has room for as many, are to work in.
+/// The table over the set in which the pivot stands in place of the member at `index`, at index `to` of
+/// the new members; else the first term that passes. `pivot_row` and `indices`, which has room for as many, are to work in.
 pub(crate) fn exchange_table(
     table: &mut [i128],
     members: &[u32],
     pivot_row: &mut [i128],
-    places: &mut Vec<usize>,
+    indices: &mut Vec<usize>,
     pivot: u32,
-    place: usize,
+    index: usize,
     to: usize,
     variables: u32,
 ) -> Result<(), ExchangeWide>
     requires size { length table.old ≡ variables * (length members.now + 2) }
     requires width { length pivot_row.old ≡ length members.now + 2 }
-    requires room { length pivot_row.old ≤ vec_capacity places.old }
+    requires room { length pivot_row.old ≤ vec_capacity indices.old }
     requires ordered { IsStrictlyIncreasing members.now }
     requires within { (k : ℕ) → k < length members.now → slice_index members.now k < variables }
     requires pivot { pivot < variables }
     requires outside { Contains members.now pivot → ⊥ }
-    requires place { place < length members.now }
-    requires new_place { to ≡ place_for pivot (without (slice_index members.now place) members.now) }
+    requires index { index < length members.now }
+    requires new_index { to ≡ index_for pivot (without (slice_index members.now index) members.now) }
     requires to_inside { to < length members.now }
     requires in_range { RowInRange table.old }
     ensures exact { (system : LinearSystem) → variables_of system ≡ variables → IsFree system members.now → IsTable system members.now table.old
-        → number_at (row_at (length members.now + 2) table.old pivot) (place + 2) ≢ pos 0 → MatchResult result
-        (λ _. AllFit system members.now pivot (slice_index members.now place) × IsTable system (exchanged members.now pivot (slice_index members.now place)) table.new)
-        (λ e. FirstWide system members.now pivot (slice_index members.now place) e.target e.entry e.wide) }
+        → number_at (row_at (length members.now + 2) table.old pivot) (index + 2) ≢ pos 0 → MatchResult result
+        (λ _. AllFit system members.now pivot (slice_index members.now index) × IsTable system (exchanged members.now pivot (slice_index members.now index)) table.new)
+        (λ e. FirstWide system members.now pivot (slice_index members.now index) e.target e.entry e.wide) }
     ensures in_range { RowInRange table.new }
-    ensures room { vec_capacity places.old ≤ vec_capacity places.new }
+    ensures room { vec_capacity indices.old ≤ vec_capacity indices.new }
 {
     let width = pivot_row.len();
     let start = pivot as usize * width;
-    copy_signed(&table[start..start + width], pivot_row, place + 2);
-    list_places(pivot_row, place + 2, places);
+    copy_signed(&table[start..start + width], pivot_row, index + 2);
+    list_indices(pivot_row, index + 2, indices);
     match exchange_rows(
         table,
         members,
         pivot,
         pivot_row,
-        places,
-        place + 2,
+        indices,
+        index + 2,
         to + 2,
         variables,
     ) {
         Ok(()) => {}
         Err(wide) => return Err(wide),
     }
-    let start = members[place] as usize * width;
+    let start = members[index] as usize * width;
     write_leaving(
         &mut table[start..start + width],
         pivot_row,
-        place + 2,
+        index + 2,
         to + 2,
     );
     Ok(())

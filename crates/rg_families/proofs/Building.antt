@@ -8,7 +8,7 @@ use Rattle.rg_lts.specs.WellFormed.{AreNames}
 use Rattle.rg_families.specs.Named.{names_of}
 use Rattle.rg_families.proofs.Pushed.{next_taken, get_or_shown}
 
--- the name at a place
+-- the name at an index
 name_at : (names : List (String Global)) (k : ℕ) (s : String Global) → k < length names → s ≡ get_or names k s → get_or (names_of names) k (string_bytes s) ≡ string_bytes s
 name_at names k s lt is = get_or_shown string_bytes names k s (string_bytes s) lt ∙ ap string_bytes (sym is)
 

@@ -15,7 +15,7 @@ use Rattle.rg_firsts.proofs.Things.{firsts_short, last_there, there_one}
 use Rattle.rg_families.proofs.Pushed.{get_or_shown}
 use Rattle.rg_families.specs.Named.{Triple, Drawing, arc_of, drawing, IsSystemOf, IsKnown, IsSound, HasArcs}
 
--- what stands at a place is there
+-- what stands at an index is there
 pub item_there : {S X : Type 0} (view : S → X) (xs : List S) (k : ℕ) (s : S) → k < length xs → s ≡ get_or xs k s → Contains (map view xs) (view s)
 item_there view xs k s lt is = (k, omega (arith, length-map xs view), get_or_shown view xs k s (view s) lt ∙ ap view (sym is))
 

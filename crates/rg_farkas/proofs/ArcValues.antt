@@ -33,7 +33,7 @@ use Rattle.rg_refuting.specs.declared.Variable.TheVariants.{Tokens, Effect}
 
 -- ---- the rows of a case's system
 
--- the row that is kept at a place, and the named row that it stands for
+-- the row that is kept at an index, and the named row that it stands for
 pub record IsRowOf (lts : System) (tree : List Arc) (basis : CycleBasis) (class : Class) (problem : Problem) (number : ℕ) (k : KeptRow) : Type 0 where
   pub named : Contains (names_of lts class problem number) k.name
   pub fold : row_fold lts tree basis class k.name (row_expression lts class problem number [] k.name) (Ok k)

@@ -37,12 +37,12 @@ use Rattle.rg_order_of_work.proofs.Lists.{where_is}
 use Rattle.rg_order_of_work.proofs.PointEffects.{in_has}
 use Rattle.rg_farkas.proofs.Distinct.{kept_rises}
 
--- ---- the number at a place
+-- ---- the number at an index
 
--- the pairs of members, found by the place of the vector
+-- the pairs of members, found by the index of the vector
 module _ (labels : ℕ) (kept : List ℕ) (k : LinearRelation) (c : ℕ) (rises : (i j : ℕ) → i < j → j < length kept → slice_index kept i < slice_index kept j) (within : c < length kept) where
-  other_place : (m : ℕ) → labels ≤ m → m - labels < length kept → m ≢ labels + c → (slice_index kept (m - labels) == slice_index kept c) ≡ false
-  other_place m le lt ne = ne_eqb (slice_index kept (m - labels)) (slice_index kept c) (⊎_elim (λ below. (let h = rises (m - labels) c below within in λ e. omega arith)) (λ past. (let h = rises c (m - labels) (omega arith) lt in λ e. omega arith)) (cases_lt (m - labels) c))
+  other_index : (m : ℕ) → labels ≤ m → m - labels < length kept → m ≢ labels + c → (slice_index kept (m - labels) == slice_index kept c) ≡ false
+  other_index m le lt ne = ne_eqb (slice_index kept (m - labels)) (slice_index kept c) (⊎_elim (λ below. (let h = rises (m - labels) c below within in λ e. omega arith)) (λ past. (let h = rises c (m - labels) (omega arith) lt in λ e. omega arith)) (cases_lt (m - labels) c))
 
   number_found : (ms : List ℕ) → ((m : ℕ) → Contains ms m → (labels ≤ m) × (m - labels < length kept)) → Contains ms (labels + c) → number_with (map (λ m. (slice_index kept (m - labels), k.coefficient m)) ms) (slice_index kept c) ≡ k.coefficient (labels + c)
   number_found [] all has = absurd (nothing has)
@@ -50,19 +50,19 @@ module _ (labels : ℕ) (kept : List ℕ) (k : LinearRelation) (c : ℕ) (rises 
       nothing : Contains [] (labels + c) → ⊥
       nothing (i, lt, e) = omega arith
   number_found (m ∷ ms) all has = ⊎_elim
-      (λ same. ap (λ b. if b then k.coefficient m else number_with (map (λ u. (slice_index kept (u - labels), k.coefficient u)) ms) (slice_index kept c)) (eq-eqb (slice_index kept (m - labels)) (slice_index kept c) (ap (slice_index kept) (place same))) ∙ ap k.coefficient same)
+      (λ same. ap (λ b. if b then k.coefficient m else number_with (map (λ u. (slice_index kept (u - labels), k.coefficient u)) ms) (slice_index kept c)) (eq-eqb (slice_index kept (m - labels)) (slice_index kept c) (ap (slice_index kept) (index same))) ∙ ap k.coefficient same)
       (λ differ. ap (λ b. if b then k.coefficient m else number_with (map (λ u. (slice_index kept (u - labels), k.coefficient u)) ms) (slice_index kept c))
-      (other_place m (all m (0, omega arith, refl)).0 (all m (0, omega arith, refl)).1 differ) ∙ number_found ms (λ u (i, lt, e). all u (suc i, omega arith, e))
+      (other_index m (all m (0, omega arith, refl)).0 (all m (0, omega arith, refl)).1 differ) ∙ number_found ms (λ u (i, lt, e). all u (suc i, omega arith, e))
       (⊎_elim (λ e. absurd (differ e)) (λ there. there) (Contains-cons_cases m (labels + c) ms has)))
       (cases_eq m (labels + c))
     where
-      place : m ≡ labels + c → m - labels ≡ c
-      place e = omega arith
+      index : m ≡ labels + c → m - labels ≡ c
+      index e = omega arith
 
   number_missing : (ms : List ℕ) → ((m : ℕ) → Contains ms m → (labels ≤ m) × (m - labels < length kept)) → ¬ Contains ms (labels + c) → number_with (map (λ m. (slice_index kept (m - labels), k.coefficient m)) ms) (slice_index kept c) ≡ pos 0
   number_missing [] all lacks = refl
   number_missing (m ∷ ms) all lacks = ap (λ b. if b then k.coefficient m else number_with (map (λ u. (slice_index kept (u - labels), k.coefficient u)) ms)
-      (slice_index kept c)) (other_place m (all m (0, omega arith, refl)).0 (all m (0, omega arith, refl)).1 (λ e. lacks (0, omega arith, e)))
+      (slice_index kept c)) (other_index m (all m (0, omega arith, refl)).0 (all m (0, omega arith, refl)).1 (λ e. lacks (0, omega arith, e)))
       ∙ number_missing ms (λ u (i, lt, e). all u (suc i, omega arith, e)) (λ (i, lt, e). lacks (suc i, omega arith, e))
 
 -- a chord that the basis uses has its number in the relation

@@ -19,7 +19,7 @@ use Rattle.rg_order_of_work.proofs.Potentials.{chord_is_arc}
 use Rattle.rg_spanning.proofs.TreeTables.{among}
 use Rattle.rg_order_of_work.proofs.Lists.{Contains-of_map, where_is}
 use Rattle.rg_farkas.proofs.Listed.{Differ}
-use Rattle.rg_farkas.proofs.Relations.{used_chord, kept_place}
+use Rattle.rg_farkas.proofs.Relations.{used_chord, kept_index}
 
 pub differ_append : (xs ys : List Arc) → Differ xs → Differ ys → ((a : Arc) → Contains xs a → ¬ Contains ys a) → Differ (xs ++ ys)
 differ_append [] ys dx dy apart = dy
@@ -67,7 +67,7 @@ differ_at (x ∷ xs) zero (suc j) d (lacks, differ) lt below e = lacks (subst (C
 differ_at (x ∷ xs) (suc i) zero d differ lt below e = omega arith
 differ_at (x ∷ xs) (suc i) (suc j) d (lacks, differ) lt below e = differ_at xs i j d differ (omega arith) (omega arith) e
 
--- the kept places rise
+-- the kept indices rise
 pub kept_rises : {K : Type 0} (key : ℕ → K) (Drops : ℕ → Type 0) (seen : List K) (a n : ℕ) (kept : List ℕ) (i j : ℕ) → KeepsFirsts key Drops seen (numbers_from a n) kept → i < j → j < length kept → slice_index_or kept i 0 < slice_index_or kept j 0
 kept_rises key Drops seen a zero kept i j e lt below = absurd (nothing kept e below)
   where
@@ -89,7 +89,7 @@ module _ (lts : System) (tree : List Arc) (basis : CycleBasis) (is : IsBasis lts
   chord_differs : (c d : ℕ) → c < d → d < length basis.kept → used_chord lts tree basis c ≢ used_chord lts tree basis d
   chord_differs c d lt below = differ_at (chords lts tree) (slice_index_or basis.kept c 0) (slice_index_or basis.kept d 0) (record { from = 0; label = 0; to = 0 }) (without_differs tree lts.arcs differ)
       (kept_rises (vector_at (chord_vectors lts tree)) (λ i. IsZeroVector (vector_at (chord_vectors lts tree) i)) [] 0 (length (chord_vectors lts tree)) basis.kept c d is.kept lt below)
-      (kept_place lts tree basis.kept (slice_index_or basis.kept d 0) is.kept (Contains-get_or basis.kept d 0 below))
+      (kept_index lts tree basis.kept (slice_index_or basis.kept d 0) is.kept (Contains-get_or basis.kept d 0 below))
 
   chords_differ_from : (test : ℕ → Bool) (a n : ℕ) → a + n ≤ length basis.kept → Differ (map (used_chord lts tree basis) (numbers_where test a n))
   chords_differ_from test a zero le = tt
@@ -112,7 +112,7 @@ module _ (lts : System) (tree : List Arc) (basis : CycleBasis) (is : IsBasis lts
   used_is_chord a has =
       let (c, has', e) = Contains-of_map (used_chord lts tree basis) (used_chords lts basis) a has in
       let (_, low, high) = where_is (λ c. is_in basis.members (labels lts + c)) 0 (length basis.kept) c has' in
-      subst (Contains (chords lts tree)) e (Contains-get_or (chords lts tree) (slice_index_or basis.kept c 0) (record { from = 0; label = 0; to = 0 }) (kept_place lts tree basis.kept (slice_index_or basis.kept c 0) is.kept (Contains-get_or basis.kept c 0 (omega arith))))
+      subst (Contains (chords lts tree)) e (Contains-get_or (chords lts tree) (slice_index_or basis.kept c 0) (record { from = 0; label = 0; to = 0 }) (kept_index lts tree basis.kept (slice_index_or basis.kept c 0) is.kept (Contains-get_or basis.kept c 0 (omega arith))))
 
   pub given_differ : IsTree lts tree → Differ (chord_arcs lts tree basis ++ tree)
   given_differ g = differ_append (chord_arcs lts tree basis) tree chords_differ (tree_differs lts (lts.initial ∷ []) tree g) (λ a has. chord_not_tree tree lts.arcs a (used_is_chord a has))

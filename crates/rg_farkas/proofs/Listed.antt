@@ -16,7 +16,7 @@ use Rattle.rg_refuting.specs.Refutes.{NamedRow}
 use Rattle.rg_order_of_work.specs.Spreading.{named_from, not_zero, multiplier_among, arc_name}
 use Rattle.rg_order_of_work.proofs.Potentials.{among_is}
 use Rattle.rg_farkas.specs.View.{arc_times}
-use Rattle.rg_order_of_work.proofs.Items.{from_place}
+use Rattle.rg_order_of_work.proofs.Items.{from_index}
 
 -- what g of the rows' names adds up to, each times its multiplier
 abbrev pub rows_sum : (RowName → ℤ) → List NamedRow → ℤ
@@ -179,10 +179,10 @@ leaf_sum g names all arcs zs differ differ' inside le =
     rest (x ∷ xs) [] n le = absurd (omega arith)
     rest (x ∷ xs) (z ∷ zs) n le = rest xs zs n (omega arith)
 
--- ---- the multiplier of an arc, found place by place
+-- ---- the multiplier of an arc, found index by index
 
 pub among_next : (arcs : List Arc) (numbers : List ℤ) (k : ℕ) (d a : Arc) (z : ℤ) → k < length arcs → length arcs ≤ length numbers
     → false ≡ same_arc (slice_index_or arcs k d) a → multiplier_among (drop k arcs) (drop k numbers) a ≡ z
     → multiplier_among (drop (k + 1) arcs) (drop (k + 1) numbers) a ≡ z
 among_next arcs numbers k d a z lt le other so_far =
-    sym (ap₂ (λ l n. multiplier_among l n a) (from_place arcs k d lt) (from_place numbers k (pos 0) (omega arith)) ∙ ap (λ b. if b then slice_index_or numbers k (pos 0) else multiplier_among (drop (k + 1) arcs) (drop (k + 1) numbers) a) (sym other)) ∙ so_far
+    sym (ap₂ (λ l n. multiplier_among l n a) (from_index arcs k d lt) (from_index numbers k (pos 0) (omega arith)) ∙ ap (λ b. if b then slice_index_or numbers k (pos 0) else multiplier_among (drop (k + 1) arcs) (drop (k + 1) numbers) a) (sym other)) ∙ so_far

@@ -18,7 +18,7 @@ use Rattle.rg_reasons.specs.declared.sum.Expression.{Expression as CodeExpressio
 use Rattle.rg_reasons.specs.Sums.{expression_of}
 use Rattle.rg_farkas.specs.View.{LabelCount, pair_count, label_count, AreRowsWithin}
 use Rattle.rg_reasons.specs.Certificates.{IsTermWithin}
-use Rattle.rg_order_of_work.proofs.Items.{from_place}
+use Rattle.rg_order_of_work.proofs.Items.{from_index}
 
 -- labels that aren't free are labels, and no members
 pub dependent_at : (n : ℕ) (basis : CycleBasis) (ts : List ℕ) (i : ℕ) → ts ≡ dependent_labels n basis → i < length ts → (not (is_in basis.members (slice_index_or ts i 0)) ≡ true) × (slice_index_or ts i 0 < n)
@@ -42,7 +42,7 @@ module _ (lts : System) (expression : RowName → Expression) (named : List (Row
   -- the counts of one row
   row_pairs : (tree : List Arc) (ts : List ℕ) → map (pair_count tree expression) (pairs_of (map share_of (drop i named)) ts) ≡ map (label_count tree (expression d.0).terms (ratio_of d.1)) ts ++ map (pair_count tree expression) (pairs_of (map share_of (drop (i + 1) named)) ts)
   row_pairs tree ts =
-      ap (λ l. map (pair_count tree expression) (pairs_of (map share_of l) ts)) (from_place named i d lt ∙ ap (λ x. x ∷ drop (i + 1) named) (sym is))
+      ap (λ l. map (pair_count tree expression) (pairs_of (map share_of l) ts)) (from_index named i d lt ∙ ap (λ x. x ∷ drop (i + 1) named) (sym is))
       ∙ map-append (pair_count tree expression) (map (λ t. record { share = share_of d; label = t }) ts) (pairs_of (map share_of (drop (i + 1) named)) ts)
       ∙ ap (λ l. l ++ map (pair_count tree expression) (pairs_of (map share_of (drop (i + 1) named)) ts)) (pair_counts tree ts)
     where

@@ -10,7 +10,7 @@ use Rattle.rg_integers.proofs.Ring.{one-mul}
 use Rattle.rg_fraction.specs.Rows.{IsPrimitivePart, IsRowGcd}
 use Rattle.rg_order_of_work.specs.Spreading.{IsParts}
 
--- lists that agree at each place
+-- lists that agree at each index
 same_numbers : (f : ℤ → ℤ) (a b : List ℤ) → length b ≡ length a → ((k : ℕ) → k < length a → number_at a k ≡ f (number_at b k)) → a ≡ map f b
 same_numbers f [] [] e all = refl
 same_numbers f [] (y ∷ b) e all = absurd (omega arith)

@@ -59,9 +59,9 @@ map_numbers f a (suc n) (suc j) lt = map_numbers f (suc a) n j (omega arith) ∙
 vector_sum : (lts : System) (tree : List Arc) (effect : ℕ → ℤ) (a : Arc) → sum_below (labels lts) (λ j. slice_index_or (chord_vector lts tree a) j (pos 0) *ℤ effect j) ≡ chord_sum lts tree effect a
 vector_sum lts tree effect a = sum_below-same (labels lts) (λ j. slice_index_or (chord_vector lts tree a) j (pos 0) *ℤ effect j) (λ t. chord_entry tree a t *ℤ effect t) (λ j lt. ap (λ z. z *ℤ effect j) (map_numbers (chord_entry tree a) 0 (labels lts) j lt ∙ ap (chord_entry tree a) (none_plus j)))
 
--- a place that is kept is a chord's
-pub kept_place : (lts : System) (tree : List Arc) (kept : List ℕ) (p : ℕ) → KeepsChords lts tree kept → Contains kept p → p < length (chords lts tree)
-kept_place lts tree kept p is has =
+-- an index that is kept is a chord's
+pub kept_index : (lts : System) (tree : List Arc) (kept : List ℕ) (p : ℕ) → KeepsChords lts tree kept → Contains kept p → p < length (chords lts tree)
+kept_index lts tree kept p is has =
     let among = kept_is (vector_at (chord_vectors lts tree)) (λ i. IsZeroVector (vector_at (chord_vectors lts tree) i)) [] (numbers_from 0 (length (chord_vectors lts tree))) kept p is has in
     let below = (numbers_from-Contains 0 (length (chord_vectors lts tree)) p among).1 in
     let same = length-map (chords lts tree) (chord_vector lts tree) in
@@ -93,7 +93,7 @@ module _ (lts : System) (tree : List Arc) (basis : CycleBasis) (is : IsBasis lts
       ∙ ap (λ (r : LinearRow). sum_below (labels lts) (λ j. slice_index_or r.coeffs j (pos 0) *ℤ effect j)) (row_is i lt)
       ∙ ap (λ c. sum_below (labels lts) (λ j. slice_index_or c j (pos 0) *ℤ effect j))
       (get_or-map (chord_vector lts tree) (chords lts tree) (slice_index_or basis.kept i 0) (record { from = 0; label = 0; to = 0 }) []
-      (kept_place lts tree basis.kept (slice_index_or basis.kept i 0) is.kept (Contains-get_or basis.kept i 0 lt)))
+      (kept_index lts tree basis.kept (slice_index_or basis.kept i 0) is.kept (Contains-get_or basis.kept i 0 lt)))
       ∙ vector_sum lts tree effect (used_chord lts tree basis i)
     where
       below : i < length (chord_system lts tree basis.kept).rows

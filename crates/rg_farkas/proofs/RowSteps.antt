@@ -8,7 +8,7 @@ use Rattle.rg_order_of_work.specs.Fold.{further, whole_sum, whole_product}
 use Rattle.rg_order_of_work.specs.Spreading.{Addend.number, addend_fold, leaving}
 use Rattle.rg_farkas.specs.declared.multiplied.Row.{Row}
 use Rattle.rg_farkas.specs.View.{row_addend, size_fold, coefficient_at, arc_times}
-use Rattle.rg_order_of_work.proofs.Items.{from_place}
+use Rattle.rg_order_of_work.proofs.Items.{from_index}
 use Rattle.rg_farkas.proofs.Steps.{sum_next, sum_unmade, sum_unjoined, sum_ends}
 use Rattle.rg_refuting.specs.declared.Variable.TheVariants.{Tokens}
 
@@ -62,7 +62,7 @@ row_ends s rows i sum so_far past = sum_ends whole_sum addend_fold (map (row_add
 -- ---- the arcs that leave a state
 
 times_here : (arcs : List Arc) (zs : List ℤ) (k : ℕ) (d : Arc) (e : ℤ) → k < length arcs → length zs ≡ length arcs → arc_times (drop k arcs) (drop k zs) ≡ record { arc = slice_index_or arcs k d; multiplier = slice_index_or zs k e } ∷ arc_times (drop (k + 1) arcs) (drop (k + 1) zs)
-times_here arcs zs k d e lt same = ap₂ arc_times (from_place arcs k d lt) (from_place zs k e (omega arith))
+times_here arcs zs k d e lt same = ap₂ arc_times (from_index arcs k d lt) (from_index zs k e (omega arith))
 
 module _ (s : ℕ) (arcs : List Arc) (zs : List ℤ) (k : ℕ) (d : Arc) (e : ℤ) (lt : k < length arcs) (same : length zs ≡ length arcs) (sum start : ℤ)
     (so_far : (res : Result ℤ Wide) → further whole_sum addend_fold sum (leaving s (arc_times (drop k arcs) (drop k zs))) res

@@ -6,13 +6,13 @@ use Rattle.rg_integers.specs.declared.term.Wide.{Wide}
 use Rattle.rg_order_of_work.specs.Fold.{further, joined}
 use Rattle.rg_order_of_work.specs.Rewriting.{numbers_where}
 use Rattle.rg_order_of_work.proofs.Folding.{further_next, further_unmade, further_unjoined}
-use Rattle.rg_order_of_work.proofs.Items.{from_place}
+use Rattle.rg_order_of_work.proofs.Items.{from_index}
 
 -- ---- a sum, item by item
 
 module _ {A X : Type 0} (join : X → X → Result X Wide → Type 0) (make : A → Result X Wide → Type 0) (all : List A) (i : ℕ) (d : A) (lt : i < length all) (sum : X) (target : Result X Wide → Type 0) (so_far : (r : Result X Wide) → further join make sum (drop i all) r → target r) where
   here : (r : Result X Wide) → further join make sum (slice_index_or all i d ∷ drop (i + 1) all) r → target r
-  here r h = so_far r (subst (λ l. further join make sum l r) (sym (from_place all i d lt)) h)
+  here r h = so_far r (subst (λ l. further join make sum l r) (sym (from_index all i d lt)) h)
 
   pub sum_next : (x more : X) → make (slice_index_or all i d) (Ok x) → join sum x (Ok more) → (r : Result X Wide) → further join make more (drop (i + 1) all) r → target r
   sum_next x more made joins r h = here r (further_next join make (slice_index_or all i d) (drop (i + 1) all) sum x more made joins r h)
@@ -79,7 +79,7 @@ joined-map join make f none (a ∷ items) (Err w) (inr (x, made, rest)) = inr (x
 -- what is made of the items from i on stands behind what is made so far
 module _ {A X : Type 0} (f : A → X) (all : List A) (i : ℕ) (d : A) (out whole : List X) (so_far : out ++ map f (drop i all) ≡ whole) where
   pub mapped_next : i < length all → (x : X) → x ≡ f (slice_index_or all i d) → (out ++ x ∷ []) ++ map f (drop (i + 1) all) ≡ whole
-  mapped_next lt x e = append_assoc out (x ∷ []) (map f (drop (i + 1) all)) ∙ ap (λ z. out ++ z ∷ map f (drop (i + 1) all)) e ∙ ap (λ l. out ++ map f l) (sym (from_place all i d lt)) ∙ so_far
+  mapped_next lt x e = append_assoc out (x ∷ []) (map f (drop (i + 1) all)) ∙ ap (λ z. out ++ z ∷ map f (drop (i + 1) all)) e ∙ ap (λ l. out ++ map f l) (sym (from_index all i d lt)) ∙ so_far
 
   pub mapped_ends : length all ≤ i → out ≡ whole
   mapped_ends past = sym (append-nil out) ∙ ap (λ l. out ++ map f l) (sym (drop_all i all past)) ∙ so_far

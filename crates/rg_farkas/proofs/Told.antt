@@ -21,7 +21,7 @@ use Rattle.rg_order_of_work.specs.Spreading.{ArcTimes, Addend, Addend.number, Ad
 use Rattle.rg_farkas.specs.declared.multiplied.Row.{Row}
 use Rattle.rg_reasons.specs.Sums.{expression_of}
 use Rattle.rg_farkas.specs.View.{named_of, Tells, row_addend, size_fold, coefficient_at, arc_times}
-use Rattle.rg_order_of_work.proofs.Items.{from_place, item_next, item_fails, items_end}
+use Rattle.rg_order_of_work.proofs.Items.{from_index, item_next, item_fails, items_end}
 use Rattle.rg_farkas.proofs.Steps.{from_neutral}
 use Rattle.rg_order_of_work.proofs.Folding.{behind}
 use Rattle.rg_refuting.specs.declared.Variable.TheVariants.{Tokens}
@@ -114,7 +114,7 @@ module _ (expression : RowName → Expression) (rows : List NamedRow) (tree : Li
   tree_fails w sum = so_far (Err w) (subst (λ l. tree_fold expression rows (arc_times (drop (k + 1) tree) (drop (k + 1) ms)) l (Err w)) (sym last_is) (inl sum))
 
   times_set : (m : ℤ) → arc_times (drop k tree) (drop k (set ms k m)) ≡ record { arc = slice_index_or tree k d; multiplier = m } ∷ arc_times (drop (k + 1) tree) (drop (k + 1) ms)
-  times_set m = ap₂ arc_times (from_place tree k d lt) (drop-set ms k m (omega arith))
+  times_set m = ap₂ arc_times (from_index tree k d lt) (drop-set ms k m (omega arith))
 
   pub tree_next : (m : ℤ) → joined whole_sum addend_fold (pos 0)
       (addends_at expression rows (arc_times (drop (k + 1) tree) (drop (k + 1) ms)) (slice_index_or tree k d).to) (Ok m) → (r : Result (List ArcTimes) Wide)

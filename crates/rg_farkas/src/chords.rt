@@ -70,8 +70,8 @@ pub(crate) fn chord_arcs(
     lts.is_well_formed();
     let mut arcs = Vec::new(alloc);
     for &chord in used {
-        let place = basis.kept()[chord as usize];
-        arcs.push(tree.chords()[place as usize])?;
+        let index = basis.kept()[chord as usize];
+        arcs.push(tree.chords()[index as usize])?;
     }
     Ok(arcs)
 }
@@ -153,22 +153,22 @@ fn chord_term(lts: &Lts, basis: &Basis, pair: &Counted, chord: u32) -> Result<Fr
     }
     let count = Fraction::new(pair.count, 1);
     let product = pair.multiplier.mul(count)?;
-    let place = basis.kept()[chord as usize];
-    let number = chord_number(relation, place);
+    let index = basis.kept()[chord as usize];
+    let number = chord_number(relation, index);
     if number == 0 {
         return Ok(Fraction::new(0, 1));
     }
     product.mul(Fraction::new(number, relation.d))
 }
 
-// The number of the chord at this place in the relation, 0 where it isn't named.
-fn chord_number(relation: &Relation, place: u32) -> i128
+// The number of the chord at this index in the relation, 0 where it isn't named.
+fn chord_number(relation: &Relation, index: u32) -> i128
     requires { IsRelationInRange relation.now }
-    ensures value { result ≡ number_with relation.now.chords.items place }
+    ensures value { result ≡ number_with relation.now.chords.items index }
     ensures in_range { InRange result }
 {
     for &(chord, number) in &relation.chords {
-        if chord == place {
+        if chord == index {
             return number;
         }
     }

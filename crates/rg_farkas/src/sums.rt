@@ -14,8 +14,8 @@ ghost use Rattle.rg_farkas.specs.View.{named_of, Tells, arc_times, row_addend};
 use crate::multiplied::Row;
 use rg_fraction::{FoldStop, whole_product, whole_sum};
 use rg_integers::Wide;
-use rg_reasons::Term::{self, Minus, Plus};
 use rg_reasons::Expression;
+use rg_reasons::Term::{self, Minus, Plus};
 use rg_refuting::Variable;
 use rg_theory::Arc;
 use std::alloc::Global;
@@ -89,8 +89,8 @@ pub(crate) fn coefficient(expression: &Expression, variable: Variable) -> i128
     ensures in_range { InRange result }
 {
     let mut sum = 0;
-    for place in &expression.terms {
-        if let Some(term) = place {
+    for entry in &expression.terms {
+        if let Some(term) = entry {
             sum += coefficient_of(*term, variable);
         }
     }

@@ -42,6 +42,6 @@ fixed_row system stack m has = let (s, has_s, is) = fixed-row system (reverse st
 pub row_fixed : (system : LinearSystem) (stack : List ℕ) (s : ℕ) → Contains stack s → Contains (fixed_of system (reverse stack)) (system.columns + s)
 row_fixed system stack s has = row-fixed system (reverse stack) s (Contains-reverse stack s has)
 
--- a property that no place before p and not p has
-pub next_place : (P : ℕ → Type 0) (p : ℕ) → ((q : ℕ) → q < p → ¬ P q) → ¬ P p → (q : ℕ) → q < p + 1 → ¬ P q
-next_place P p before not q lt has = ⊎_elim (λ less. before q less has) (λ (most : p ≤ q). not (subst P (let e : q ≡ p = omega arith in e) has)) (cases_lt q p)
+-- a property that no index before p and not p has
+pub next_index : (P : ℕ → Type 0) (p : ℕ) → ((q : ℕ) → q < p → ¬ P q) → ¬ P p → (q : ℕ) → q < p + 1 → ¬ P q
+next_index P p before not q lt has = ⊎_elim (λ less. before q less has) (λ (most : p ≤ q). not (subst P (let e : q ≡ p = omega arith in e) has)) (cases_lt q p)

@@ -8,11 +8,11 @@ use Rattle.rg_linear.specs.Stack.{fixed_of}
 use Rattle.rg_feasible.specs.declared.step.Step.{Step}
 use Rattle.rg_feasible.specs.declared.step.Step.TheVariants.{Passed, Stuck, Exchanged, Wide}
 
--- the member at this place isn't fixed, and the relation with these numbers names it
-pub record NamesFree (columns : ℕ) (members stack : List ℕ) (numbers : List ℤ) (place : ℕ) : Type 0 where
-  pub within : place < length members
-  pub not_fixed : (s : ℕ) → Contains stack s → slice_index members place ≢ columns + s
-  pub named : number_at numbers (place + 2) ≢ pos 0
+-- the member at this index isn't fixed, and the relation with these numbers names it
+pub record NamesFree (columns : ℕ) (members stack : List ℕ) (numbers : List ℤ) (index : ℕ) : Type 0 where
+  pub within : index < length members
+  pub not_fixed : (s : ℕ) → Contains stack s → slice_index members index ≢ columns + s
+  pub named : number_at numbers (index + 2) ≢ pos 0
 
 -- row i at the set old, with the rows of the stack fixed, the last one first, and the set after the step
 abbrev pub StepTells : LinearSystem → List ℕ → List ℕ → ℕ → List ℕ → Step → Type 0

@@ -8,11 +8,11 @@ ghost use Rattle.rg_feasible.specs.Settling.{IsOutcome, IsNotWide};
 
 use crate::settled::Settled;
 use crate::step::{Step, take_row};
-use rg_dictionary::Dictionary as Table;
+use rg_dictionary::RelationTable;
 
 /// Takes all rows, from the first one; see `Dictionary::settle`. A row that is exchanged is fixed while the rows
 /// before it are taken again. The stack has the fixed rows, the last one at its end.
-pub(crate) fn descend(table: &mut Table, stack: &mut Vec<u32>) -> Settled
+pub(crate) fn descend(table: &mut RelationTable, stack: &mut Vec<u32>) -> Settled
     requires whole { (system : LinearSystem) × IsDictionary system table.old }
     requires few { table.old.columns + table.old.rows < 2 ^ 32 }
     requires start { table.old.members ≡ numbers_from 0 table.old.columns }

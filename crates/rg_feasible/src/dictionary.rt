@@ -12,7 +12,7 @@ ghost use Rattle.rg_feasible.specs.Settling.{with_rows, IsDictionaryOf, IsWhole,
 
 use crate::descent::descend;
 use crate::settled::Settled;
-use rg_dictionary::Dictionary as Table;
+use rg_dictionary::RelationTable;
 use rg_fraction::Fraction;
 use rg_linear::{Row, System};
 use rg_memory::NoMemory;
@@ -26,7 +26,7 @@ use std::marker::Model;
 /// The contracts speak of the systems of which it is the dictionary, by `IsDictionaryOf system d`.
 #[derive(Drop)]
 pub struct Dictionary {
-    table: Table,
+    table: RelationTable,
     stack: Vec<u32>,
     failing: Option<u32>,
 }
@@ -154,8 +154,8 @@ impl Dictionary {
         if row == failing {
             return numbers[0];
         }
-        match place_of(self.table.members(), columns + row) {
-            Some(place) => -numbers[place + 2],
+        match index_of(self.table.members(), columns + row) {
+            Some(index) => -numbers[index + 2],
             None => 0,
         }
     }
@@ -168,7 +168,7 @@ fn without_rows(alloc: Global, columns: u32, rows: u32) -> Result<Dictionary, Al
     ensures members { IfOk result (λ d. d.table.members ≡ numbers_from 0 columns) }
     ensures room { IfOk result (λ d. d.table.room ≡ rows) }
 {
-    let table = Table::with_columns(alloc, columns, rows)?;
+    let table = RelationTable::with_columns(alloc, columns, rows)?;
     let stack = Vec::with_capacity(alloc, columns as usize + 1)?;
     Ok(Dictionary {
         table,
@@ -178,7 +178,7 @@ fn without_rows(alloc: Global, columns: u32, rows: u32) -> Result<Dictionary, Al
 }
 
 // Adds rows behind those of the table, which is over its columns.
-fn add_rows(table: &mut Table, rows: &[Row])
+fn add_rows(table: &mut RelationTable, rows: &[Row])
     requires start { table.old.members ≡ numbers_from 0 table.old.columns }
     requires room { length rows.now ≤ table.old.room }
     requires well_formed { IsWellFormed (linear_system table.old.columns rows.now) }
@@ -193,15 +193,15 @@ fn add_rows(table: &mut Table, rows: &[Row])
     }
 }
 
-// The place of the variable among the members.
-fn place_of(members: &[u32], variable: u32) -> Option<usize>
+// The index of the variable among the members.
+fn index_of(members: &[u32], variable: u32) -> Option<usize>
     ensures found { IfSome result (λ p. (p < length members.now) × (slice_index members.now p ≡ variable)) }
     ensures first { IfSome result (λ p. (q : ℕ) → q < p → slice_index members.now q ≡ variable → ⊥) }
     ensures none { IfNone result (Contains members.now variable → ⊥) }
 {
-    for (place, &member) in members.iter().enumerate() {
+    for (index, &member) in members.iter().enumerate() {
         if member == variable {
-            return Some(place);
+            return Some(index);
         }
     }
     None

@@ -6,7 +6,7 @@ ghost use Rattle.rg_dictionary.specs.Contents.{IsDictionary, SameShape};
 ghost use Rattle.rg_feasible.specs.Steps.{NamesFree, StepTells, IsNotRefused};
 
 use crate::settled::PivotWide;
-use rg_dictionary::Dictionary as Table;
+use rg_dictionary::RelationTable;
 
 /// What came of a row.
 #[derive(Clone, Copy)]
@@ -22,7 +22,7 @@ pub(crate) enum Step {
 }
 
 /// Takes row `i`, where the rows of the stack are fixed.
-pub(crate) fn take_row(table: &mut Table, stack: &[u32], i: u32) -> Step
+pub(crate) fn take_row(table: &mut RelationTable, stack: &[u32], i: u32) -> Step
     requires whole { (system : LinearSystem) × IsDictionary system table.old }
     requires few { table.old.columns + table.old.rows < 2 ^ 32 }
     requires row { i < table.old.rows }
@@ -39,11 +39,11 @@ pub(crate) fn take_row(table: &mut Table, stack: &[u32], i: u32) -> Step
     if numbers[1] >= 0 {
         return Step::Passed;
     }
-    let Some(place) = least_free(columns, table.members(), stack, numbers) else {
+    let Some(index) = least_free(columns, table.members(), stack, numbers) else {
         return Step::Stuck;
     };
-    let leaves = table.members()[place];
-    match table.exchange(pivot, place) {
+    let leaves = table.members()[index];
+    match table.exchange(pivot, index) {
         Ok(()) => Step::Exchanged,
         Err(at) => Step::Wide(PivotWide {
             pivot,
@@ -55,16 +55,16 @@ pub(crate) fn take_row(table: &mut Table, stack: &[u32], i: u32) -> Step
     }
 }
 
-// The place of the first member that the relation with these numbers names and that isn't fixed.
+// The index of the first member that the relation with these numbers names and that isn't fixed.
 fn least_free(columns: u32, members: &[u32], stack: &[u32], numbers: &[i128]) -> Option<usize>
     requires { length numbers.now ≡ length members.now + 2 }
     ensures names { IfSome result (NamesFree columns members.now stack.now numbers.now) }
     ensures least { IfSome result (λ p. (q : ℕ) → q < p → ¬ NamesFree columns members.now stack.now numbers.now q) }
     ensures none { IfNone result ((q : ℕ) → ¬ NamesFree columns members.now stack.now numbers.now q) }
 {
-    for (place, &member) in members.iter().enumerate() {
-        if numbers[place + 2] != 0 && !is_fixed(columns, stack, member) {
-            return Some(place);
+    for (index, &member) in members.iter().enumerate() {
+        if numbers[index + 2] != 0 && !is_fixed(columns, stack, member) {
+            return Some(index);
         }
     }
     None

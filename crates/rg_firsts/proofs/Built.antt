@@ -10,7 +10,7 @@ use Rattle.rg_theory.specs.System.{System, IsArcBefore}
 use Rattle.rg_theory.specs.Limits.{most_arcs}
 use Rattle.rg_lts.specs.Draft.{Draft, IsArcWithin, AddsArc, IsOtherInitial, finished}
 use Rattle.rg_lts.specs.WellFormed.{AreNames, IsWellFormed}
-use Rattle.rg_lts.proofs.Drafts.{one_place}
+use Rattle.rg_lts.proofs.Drafts.{one_index}
 use Rattle.rg_lts.proofs.OrderedArcs.{has_from, contains_from, ordered_from}
 use Rattle.rg_firsts.specs.First.{same_arc}
 use Rattle.rg_firsts.specs.Parts.{IsSystemWith, HasArcsOf}
@@ -97,7 +97,7 @@ built states labels steps first start name named arcs whole lts names is_states 
     let same_arcs : lts.arcs ≡ arcs.arcs = ap (λ (l : System). l.arcs) is ∙ ap (λ (x : Draft). x.arcs) marked in
     let begins : Some start ≡ Some lts.initial = sym (ap (λ (x : Draft). x.initial) marked) ∙ initial in
     let same : start ≡ lts.initial = cc in
-    let one = one_place states start first name names.differ (subst (λ l. slice_get l start ≡ Some name) same_states at) at_first in
+    let one = one_index states start first name names.differ (subst (λ l. slice_get l start ≡ Some name) same_states at) at_first in
     record {
       state_names = ap (λ (l : System). l.state_names) is ∙ ap (λ (x : Draft). x.state_names) marked ∙ same_states;
       label_names = ap (λ (l : System). l.label_names) is ∙ ap (λ (x : Draft). x.label_names) marked ∙ same_labels;

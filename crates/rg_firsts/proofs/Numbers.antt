@@ -7,7 +7,7 @@ use Rattle.rg_lts.specs.WellFormed.{AreNames}
 use Rattle.rg_firsts.specs.First.{with_new, number_of}
 use Rattle.rg_firsts.proofs.Things as things
 
--- a name's number is its place, where names differ
+-- a name's number is its index, where names differ
 pub number_is : (names : List (List ℕ)) (i : ℕ) (name : List ℕ) → AreNames names → slice_get names i ≡ Some name → number_of bytes_eq names name ≡ i
 number_is names i name are at = things.number_is bytes_eq bytes_eq-Decides names i name are.differ at
 

@@ -1,4 +1,4 @@
--- Things by their first places, under a test that tells whether two are the same.
+-- Things by their first indices, under a test that tells whether two are the same.
 use Rattle.std.proofs.Common.{◌≡◌, ◌≢◌, ◌⊎◌, inl, inr, ⊎_elim, ℕ, zero, suc, ◌+◌, ◌<◌, ◌≤◌, Bool, true, false, ◌||◌, List, [], ◌∷◌, ◌++◌, length, map, get_or, slice_get, Contains, AllPairs, Some, refl, sym, ap, subst, ◌∙◌, append-nil, arith}
 use Rattle.std.specs.Bool.{Decides}
 use Rattle.std.specs.List.{fold, list_any}
@@ -129,7 +129,7 @@ module _ {X : Type 0} (same : X → X → Bool) (tells : (a b : X) → Decides (
       by (inl a) = ⊎_elim (λ old. inl old) (λ e. inr (zero, omega arith, e)) (new_from front y x a)
       by (inr b) = inr (there_later y xs x b)
 
-  -- the number of a thing is its place, where things differ
+  -- the number of a thing is its index, where things differ
   pub number_is : (xs : List X) (i : ℕ) (x : X) → AllPairs (λ a b. a ≢ b) xs → slice_get xs i ≡ Some x → number_of same xs x ≡ i
   number_is xs i x differ at =
       let lt = slice_get_within xs i x at in
@@ -160,8 +160,8 @@ module _ {X : Type 0} (same : X → X → Bool) (tells : (a b : X) → Decides (
       by k lt e true h go = rw h (ap Some (sym ((tells x y).0 h)))
       by zero lt e false h go = let yes = (tells x y).1 (sym e) in absurd cc
       by (suc k) lt e false h go =
-          let place : number_of same (y ∷ xs) x ≡ suc (number_of same xs x) = rw h (omega arith) in
-          subst (λ n. slice_get (y ∷ xs) n ≡ Some x) (sym place) (go (k, omega arith, e))
+          let index : number_of same (y ∷ xs) x ≡ suc (number_of same xs x) = rw h (omega arith) in
+          subst (λ n. slice_get (y ∷ xs) n ≡ Some x) (sym index) (go (k, omega arith, e))
 
   firsts_from : (front xs : List X) → AllPairs (λ a b. a ≢ b) front → AllPairs (λ a b. a ≢ b) (fold (with_new same) front xs)
   firsts_from front [] differ = differ

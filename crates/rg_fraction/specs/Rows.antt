@@ -5,7 +5,7 @@ use Rattle.rg_integers.specs.Sum.{number_at}
 use Rattle.rg_integers.specs.declared.term.Wide.{Wide}
 use Rattle.rg_integers.specs.Term.{FitsTerm, term_value}
 
--- the term at place k of the elimination of q's entry at j by p
+-- the term at index k of the elimination of q's entry at j by p
 abbrev pub row_term : List ℤ → List ℤ → ℕ → ℕ → Wide
 row_term p q j k = record { a = number_at q k; b = number_at p j; c = number_at p k; d = number_at q j }
 

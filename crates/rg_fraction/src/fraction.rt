@@ -9,7 +9,7 @@ ghost use Rattle.rg_integers.specs.Term.{term_value};
 
 use crate::divisor::{quotient, split};
 use crate::order::compare;
-use rg_integers::{Wide, difference, product};
+use rg_integers::{Wide, difference, negated, product};
 use std::cmp::Ordering;
 
 /// A rational number: a numerator and a denominator in range, without a common factor, the
@@ -30,15 +30,6 @@ fn remainder(z: i128, g: i128) -> i128
     ensures { result ≡ int_rem z g }
 {
     z % g
-}
-
-// The negative, which is in range too.
-fn negated(z: i128) -> i128
-    requires { InRange z }
-    ensures value { result ≡ neg_ℤ z }
-    ensures in_range { InRange result }
-{
-    -z
 }
 
 // The fraction of two numbers without a common factor, of any sign.

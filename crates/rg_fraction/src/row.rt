@@ -103,7 +103,7 @@ pub fn reduce(q: &mut [i128])
 /// `p[j]`, `p[k]`, `q[j]`, and `q` is unchanged.
 pub fn eliminate(p: &[i128], q: &mut [i128], j: usize) -> Result<(), Wide>
     requires lengths { length p.now ≡ length q.old }
-    requires place { j < length p.now }
+    requires index { j < length p.now }
     requires pivot { pos 0 <ℤ number_at p.now j }
     requires p_in_range { (k : ℕ) → k < length p.now → InRange (number_at p.now k) }
     requires q_in_range { (k : ℕ) → k < length q.old → InRange (number_at q.old k) }

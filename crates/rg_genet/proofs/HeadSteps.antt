@@ -14,14 +14,14 @@ drop_one x xs n = let e : n + 1 ≡ suc n = omega arith in rw e refl
 
 pub after_no : {X : Type 0} (p : X → Bool) (x : X) (xs : List X) → p x ≡ false → after_first p (x ∷ xs) ≡ after_first p xs
 after_no p x xs e =
-    let place : position_or_len p (x ∷ xs) ≡ 1 + position_or_len p xs = rw e refl in
-    let more : position_or_len p (x ∷ xs) + 1 ≡ (position_or_len p xs + 1) + 1 = omega (arith, place) in
+    let index : position_or_len p (x ∷ xs) ≡ 1 + position_or_len p xs = rw e refl in
+    let more : position_or_len p (x ∷ xs) + 1 ≡ (position_or_len p xs + 1) + 1 = omega (arith, index) in
     ap (λ n. drop n (x ∷ xs)) more ∙ drop_one x xs (position_or_len p xs + 1)
 
 pub after_yes : {X : Type 0} (p : X → Bool) (x : X) (xs : List X) → p x ≡ true → after_first p (x ∷ xs) ≡ xs
 after_yes p x xs e =
-    let place : position_or_len p (x ∷ xs) ≡ 0 = rw e refl in
-    ap (λ n. drop (n + 1) (x ∷ xs)) place ∙ drop_one x xs 0
+    let index : position_or_len p (x ∷ xs) ≡ 0 = rw e refl in
+    ap (λ n. drop (n + 1) (x ∷ xs)) index ∙ drop_one x xs 0
 
 pub heads_start : (all : List Line) → HeadsTo all all
 heads_start all = record { first = λ f is. is; none = λ n. n; after = refl }

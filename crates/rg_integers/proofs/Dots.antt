@@ -1,4 +1,4 @@
--- Sums of products, place by place: linearity, a loop's step, and the same sum below a number.
+-- Sums of products, index by index: linearity, a loop's step, and the same sum below a number.
 use Rattle.std.proofs.Common.{◌≡◌, ℕ, ◌+◌, ◌<◌, List, [], ◌∷◌, ◌++◌, length, get_or, take, length-take, refl, ap, ap₂, sym, ◌∙◌, arith}
 use Rattle.std.specs.Prelude.{ℤ, pos, ◌+ℤ◌, ◌*ℤ◌, map}
 use Rattle.std.proofs.Math.IntN.{*ℤ_comm, *ℤ-zero}
@@ -64,7 +64,7 @@ dot-take xs ys i h e =
     one : (z : ℤ) → z +ℤ pos 0 ≡ z
     one z = omega (arith, ints)
 
--- ---- the places of the first list
+-- ---- the indices of the first list
 
 pub dot-sum_below : (xs ys : List ℤ) → dot xs ys ≡ sum_below (length xs) (λ j. get_or xs j (pos 0) *ℤ get_or ys j (pos 0))
 dot-sum_below [] ys = refl

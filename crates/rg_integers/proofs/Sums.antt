@@ -49,7 +49,7 @@ sum_below-only (suc n) i f lt none = split (cases_lt i n) (λ below. sum_below-o
         let here = ap f is in
         omega (arith, ints)
 
--- one number, z, is multiplied by what stands at its place
+-- one number, z, is multiplied by what stands at its index
 pub sum_below-at : (n i : ℕ) (z : ℤ) (f : ℕ → ℤ) → i < n → sum_below n (λ m. only i z m *ℤ f m) ≡ z *ℤ f i
 sum_below-at n i z f lt = sum_below-only n i (λ m. only i z m *ℤ f m) lt others ∙ here
   where

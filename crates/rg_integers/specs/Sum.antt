@@ -6,7 +6,7 @@ abbrev pub sum_below : ℕ → (ℕ → ℤ) → ℤ
 sum_below zero f = pos 0
 sum_below (suc n) f = sum_below n f +ℤ f n
 
--- z at place i, and 0 elsewhere
+-- z at index i, and 0 elsewhere
 abbrev pub only : ℕ → ℤ → ℕ → ℤ
 only i z m = if m == i then z else pos 0
 
@@ -15,17 +15,17 @@ abbrev pub sum_over : {X : Type 0} → (X → ℤ) → List X → ℤ
 sum_over f [] = pos 0
 sum_over f (x ∷ xs) = f x +ℤ sum_over f xs
 
--- the number at a place, 0 past the end
+-- the number at an index, 0 past the end
 abbrev pub number_at : List ℤ → ℕ → ℤ
 number_at xs k = slice_index_or xs k (pos 0)
 
--- the sum of the products, place by place; it ends with the shorter list
+-- the sum of the products, index by index; it ends with the shorter list
 abbrev pub dot : List ℤ → List ℤ → ℤ
 dot [] ys = pos 0
 dot (x ∷ xs) [] = pos 0
 dot (x ∷ xs) (y ∷ ys) = (x *ℤ y) +ℤ dot xs ys
 
--- what f makes of the numbers of two lists, place by place; it ends with the shorter list
+-- what f makes of the numbers of two lists, index by index; it ends with the shorter list
 abbrev pub combined : (ℤ → ℤ → ℤ) → List ℤ → List ℤ → List ℤ
 combined f [] ys = []
 combined f (x ∷ xs) [] = []

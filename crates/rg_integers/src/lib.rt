@@ -11,7 +11,7 @@ ghost use Rattle.rg_integers.specs.Divisor.{gcd_of, int_gcd, IsGcdBelow};
 ghost use Rattle.rg_integers.specs.Value.{SameValue, IsReducedForm};
 ghost use Rattle.rg_integers.specs.Sum.{number_at, dot, sum_below};
 
-pub use term::{Wide, difference, product, value};
+pub use term::{Wide, difference, negated, product, value};
 
 /// The greatest number in range, `2^127 - 1`.
 pub const GREATEST: i128 = i128::MAX;
@@ -46,7 +46,7 @@ pub fn same_value_is_transitive()
     ensures { (n d m e k f : ℤ) → e ≢ pos 0 → SameValue n d m e → SameValue m e k f → SameValue n d k f }
 {}
 
-/// A sum of products of two lists is the sum over the places of the first one, with 0 for a number
+/// A sum of products of two lists is the sum over the indices of the first one, with 0 for a number
 /// that is not there.
 pub fn dot_is_a_sum()
     ensures { (xs ys : List ℤ) → dot xs ys ≡ sum_below (length xs) (λ j. number_at xs j *ℤ number_at ys j) }

@@ -1,6 +1,6 @@
 //! Terms a*b - c*d over numbers in range.
 
-ghost use Rattle.std.specs.Prelude.{◌≡◌, ◌-ℤ◌, ◌*ℤ◌, MatchResult};
+ghost use Rattle.std.specs.Prelude.{◌≡◌, neg_ℤ, ◌-ℤ◌, ◌*ℤ◌, MatchResult};
 ghost use Rattle.std.specs.Option.{SomeIff};
 ghost use Rattle.rg_integers.specs.Range.{InRange};
 ghost use Rattle.rg_integers.specs.Term.{FitsTerm, term_value};
@@ -41,6 +41,16 @@ fn short_product(a: i64, b: i64) -> i128
     ensures in_range { InRange result }
 {
     i128::from(a) * i128::from(b)
+}
+
+/// The negative, which is in range too.
+#[inline(always)]
+pub fn negated(z: i128) -> i128
+    requires { InRange z }
+    ensures value { result ≡ neg_ℤ z }
+    ensures in_range { InRange result }
+{
+    -z
 }
 
 /// The product; None exactly where it is out of range.

@@ -9,7 +9,7 @@ use Rattle.rg_theory.proofs.Arcs.{arc_in_range}
 use Rattle.rg_isomorphism.specs.Isomorphic.{HaveOneName}
 use Rattle.rg_isomorphism.specs.Words.{IsMetBefore, Meets, then}
 use Rattle.rg_isomorphism.specs.Compared.{AreComparable}
-use Rattle.rg_isomorphism.specs.Pairing.{Pair, pair_at, way_at, Pairs, pairs_of, ArePairs, IsPlaceBefore, IsPassed, neither, both, IsFollowedTo, BecomePair, already, joined}
+use Rattle.rg_isomorphism.specs.Pairing.{Pair, pair_at, way_at, Pairs, pairs_of, ArePairs, IsIndexBefore, IsPassed, neither, both, IsFollowedTo, BecomePair, already, joined}
 use Rattle.rg_isomorphism.proofs.Walking.{word_at, behind}
 
 -- ---- one label further
@@ -27,31 +27,31 @@ passed_more a b p p' ways ways' i t in_i pairs words long (both u j s q name x y
     (subst (λ w. (way_at ways j ≡ t ∷ w) ⊎ IsMetBefore (way_at ways j) (t ∷ w)) (sym (words i in_i)) way))
 
 -- an index before the next is before this one or is this one
-place_cases : (i u k t : ℕ) → IsPlaceBefore i u k (t + 1) → IsPlaceBefore i u k t ⊎ ((i ≡ k) × (u ≡ t))
-place_cases i u k t (inl l) = inl (inl l)
-place_cases i u k t (inr (e, l)) = go (cases_eq u t)
+index_cases : (i u k t : ℕ) → IsIndexBefore i u k (t + 1) → IsIndexBefore i u k t ⊎ ((i ≡ k) × (u ≡ t))
+index_cases i u k t (inl l) = inl (inl l)
+index_cases i u k t (inr (e, l)) = go (cases_eq u t)
   where
-    go : (u ≡ t) ⊎ (u ≡ t → ⊥) → IsPlaceBefore i u k t ⊎ ((i ≡ k) × (u ≡ t))
+    go : (u ≡ t) ⊎ (u ≡ t → ⊥) → IsIndexBefore i u k t ⊎ ((i ≡ k) × (u ≡ t))
     go (inl same) = inr (e, same)
     go (inr ne) = inl (inr (e, omega (arith, l, ne)))
 
-place_up : (i u k t : ℕ) → IsPlaceBefore i u k t → IsPlaceBefore i u k (t + 1)
-place_up i u k t (inl l) = inl l
-place_up i u k t (inr (e, l)) = inr (e, omega (arith, l))
+index_up : (i u k t : ℕ) → IsIndexBefore i u k t → IsIndexBefore i u k (t + 1)
+index_up i u k t (inl l) = inl l
+index_up i u k t (inr (e, l)) = inr (e, omega (arith, l))
 
 -- where the label is passed at the pair, and no pair was met
 pub one_label : (a b : System) (p : Pairs) (k t : ℕ) (f : IsFollowedTo a b p k t) → IsPassed a b p f.ways k t → IsFollowedTo a b p k (t + 1)
 one_label a b p k t f here = record { ways = f.ways; pairs = f.pairs; passed = passed; entered = entered }
   where
-    passed : (i u : ℕ) → i < length p.order → u < labels a → IsPlaceBefore i u k (t + 1) → IsPassed a b p f.ways i u
-    passed i u in_i in_u before = go (place_cases i u k t before)
+    passed : (i u : ℕ) → i < length p.order → u < labels a → IsIndexBefore i u k (t + 1) → IsPassed a b p f.ways i u
+    passed i u in_i in_u before = go (index_cases i u k t before)
       where
-        go : IsPlaceBefore i u k t ⊎ ((i ≡ k) × (u ≡ t)) → IsPassed a b p f.ways i u
+        go : IsIndexBefore i u k t ⊎ ((i ≡ k) × (u ≡ t)) → IsPassed a b p f.ways i u
         go (inl old) = f.passed i u in_i in_u old
         go (inr (e, e')) = subst (λ n. IsPassed a b p f.ways n u) (sym e) (subst (λ n. IsPassed a b p f.ways k n) (sym e') here)
 
-    entered : (j : ℕ) → 0 < j → j < length p.order → (i : ℕ) × (u : ℕ) × IsPlaceBefore i u k (t + 1) × (i < j) × (way_at f.ways j ≡ u ∷ way_at f.ways i)
-    entered j some in_j = let (i, u, before, less, is) = f.entered j some in_j in (i, u, place_up i u k t before, less, is)
+    entered : (j : ℕ) → 0 < j → j < length p.order → (i : ℕ) × (u : ℕ) × IsIndexBefore i u k (t + 1) × (i < j) × (way_at f.ways j ≡ u ∷ way_at f.ways i)
+    entered j some in_j = let (i, u, before, less, is) = f.entered j some in_j in (i, u, index_up i u k t before, less, is)
 
 module _ (a b : System) (c : AreComparable a b) (p : Pairs) (k t : ℕ) (f : IsFollowedTo a b p k t) (in_k : k < length p.order)
     (u s' q' : ℕ) (name : HaveOneName a b t u) (x : HasArc a (pair_at p.order k).0 t s') (y : HasArc b (pair_at p.order k).1 u q')
@@ -223,15 +223,15 @@ module _ (a b : System) (c : AreComparable a b) (p : Pairs) (k t : ℕ) (f : IsF
     count = new_count;
   }
 
-  new_passed : (i v : ℕ) → i < length new_pairs.order → v < labels a → IsPlaceBefore i v k (t + 1) → IsPassed a b new_pairs new_ways i v
-  new_passed i v in_i in_v before = go (place_cases i v k t before)
+  new_passed : (i v : ℕ) → i < length new_pairs.order → v < labels a → IsIndexBefore i v k (t + 1) → IsPassed a b new_pairs new_ways i v
+  new_passed i v in_i in_v before = go (index_cases i v k t before)
     where
-      up_to : IsPlaceBefore i v k t ⊎ ((i ≡ k) × (v ≡ t)) → i < n
+      up_to : IsIndexBefore i v k t ⊎ ((i ≡ k) × (v ≡ t)) → i < n
       up_to (inl (inl l)) = omega (arith, l, in_k)
       up_to (inl (inr (e, l))) = omega (arith, e, in_k)
       up_to (inr (e, e')) = omega (arith, e, in_k)
 
-      go : IsPlaceBefore i v k t ⊎ ((i ≡ k) × (v ≡ t)) → IsPassed a b new_pairs new_ways i v
+      go : IsIndexBefore i v k t ⊎ ((i ≡ k) × (v ≡ t)) → IsPassed a b new_pairs new_ways i v
       go (inl before) =
           let l = up_to (inl before) in
           passed_more a b p new_pairs old_ways new_ways i v l old_pair old_way (omega (arith, longer)) (f.passed i v l in_v before)
@@ -240,13 +240,13 @@ module _ (a b : System) (c : AreComparable a b) (p : Pairs) (k t : ℕ) (f : IsF
           (both u n s' q' name (subst (λ (r : Pair). HasArc a r.0 t s') (sym (old_pair k in_k)) x) (subst (λ (r : Pair). HasArc b r.1 u q') (sym (old_pair k in_k)) y) last new_pair
           (inl (new_way ∙ ap (λ w. t ∷ w) (sym (old_way k in_k))))))
 
-  new_entered : (j : ℕ) → 0 < j → j < length new_pairs.order → (i : ℕ) × (v : ℕ) × IsPlaceBefore i v k (t + 1) × (i < j) × (way_at new_ways j ≡ v ∷ way_at new_ways i)
+  new_entered : (j : ℕ) → 0 < j → j < length new_pairs.order → (i : ℕ) × (v : ℕ) × IsIndexBefore i v k (t + 1) × (i < j) × (way_at new_ways j ≡ v ∷ way_at new_ways i)
   new_entered j some lt = go (old_or_new j lt)
     where
-      go : (j < n) ⊎ (j ≡ n) → (i : ℕ) × (v : ℕ) × IsPlaceBefore i v k (t + 1) × (i < j) × (way_at new_ways j ≡ v ∷ way_at new_ways i)
+      go : (j < n) ⊎ (j ≡ n) → (i : ℕ) × (v : ℕ) × IsIndexBefore i v k (t + 1) × (i < j) × (way_at new_ways j ≡ v ∷ way_at new_ways i)
       go (inl l) =
           let (i, v, before, less, is) = f.entered j some l in
-          (i, v, place_up i v k t before, less, old_way j l ∙ is ∙ ap (λ w. v ∷ w) (sym (old_way i (omega (arith, less, l)))))
+          (i, v, index_up i v k t before, less, old_way j l ∙ is ∙ ap (λ w. v ∷ w) (sym (old_way i (omega (arith, less, l)))))
       go (inr e) = (k, t, inr (refl, omega arith), omega (arith, in_k, e), ap (way_at new_ways) e ∙ new_way ∙ ap (λ w. t ∷ w) (sym (old_way k in_k)))
 
   -- one label further, with a pair more
@@ -276,7 +276,7 @@ label_lacks a b p k t f u name none none' = one_label a b p k t f (neither u nam
 pub pair_done : (a b : System) (p : Pairs) (k t : ℕ) → labels a ≤ t → IsFollowedTo a b p k t → IsFollowedTo a b p (k + 1) 0
 pair_done a b p k t all f = record { ways = f.ways; pairs = f.pairs; passed = passed; entered = entered }
   where
-    passed : (i u : ℕ) → i < length p.order → u < labels a → IsPlaceBefore i u (k + 1) 0 → IsPassed a b p f.ways i u
+    passed : (i u : ℕ) → i < length p.order → u < labels a → IsIndexBefore i u (k + 1) 0 → IsPassed a b p f.ways i u
     passed i u in_i in_u (inl l) = go (cases_eq i k)
       where
         go : (i ≡ k) ⊎ (i ≡ k → ⊥) → IsPassed a b p f.ways i u
@@ -284,9 +284,9 @@ pair_done a b p k t all f = record { ways = f.ways; pairs = f.pairs; passed = pa
         go (inr ne) = f.passed i u in_i in_u (inl (omega (arith, l, ne)))
     passed i u in_i in_u (inr (e, l)) = absurd (omega (arith, l))
 
-    next_place : (i u : ℕ) → IsPlaceBefore i u k t → IsPlaceBefore i u (k + 1) 0
-    next_place i u (inl l) = inl (omega (arith, l))
-    next_place i u (inr (e, l)) = inl (omega (arith, e))
+    next_index : (i u : ℕ) → IsIndexBefore i u k t → IsIndexBefore i u (k + 1) 0
+    next_index i u (inl l) = inl (omega (arith, l))
+    next_index i u (inr (e, l)) = inl (omega (arith, e))
 
-    entered : (j : ℕ) → 0 < j → j < length p.order → (i : ℕ) × (u : ℕ) × IsPlaceBefore i u (k + 1) 0 × (i < j) × (way_at f.ways j ≡ u ∷ way_at f.ways i)
-    entered j some in_j = let (i, u, before, less, is) = f.entered j some in_j in (i, u, next_place i u before, less, is)
+    entered : (j : ℕ) → 0 < j → j < length p.order → (i : ℕ) × (u : ℕ) × IsIndexBefore i u (k + 1) 0 × (i < j) × (way_at f.ways j ≡ u ∷ way_at f.ways i)
+    entered j some in_j = let (i, u, before, less, is) = f.entered j some in_j in (i, u, next_index i u before, less, is)

@@ -10,7 +10,7 @@ use Rattle.rg_theory.proofs.Arcs.{arc_in_range}
 use Rattle.rg_isomorphism.specs.Isomorphic.{HaveSameLabels, HaveOneName, Gives, IsIsomorphismTo}
 use Rattle.rg_isomorphism.specs.Words.{Meets, at_first, then}
 use Rattle.rg_isomorphism.specs.Compared.{AreComparable}
-use Rattle.rg_isomorphism.specs.Pairing.{Pair, pair_at, way_at, Pairs, pairs_of, ArePairs, IsPlaceBefore, IsPassed, neither, both, IsFollowedTo}
+use Rattle.rg_isomorphism.specs.Pairing.{Pair, pair_at, way_at, Pairs, pairs_of, ArePairs, IsIndexBefore, IsPassed, neither, both, IsFollowedTo}
 use Rattle.rg_isomorphism.proofs.OneMeeting.{one_namesake, one_meeting}
 use Rattle.rg_isomorphism.proofs.Refuting.{namesake_back}
 
@@ -107,7 +107,7 @@ module _ (a b : System) (c : AreComparable a b) where
     entered = λ j some l. absurd (omega (arith, some, l));
   }
     where
-      nothing : (i u : ℕ) → IsPlaceBefore i u 0 0 → ⊥
+      nothing : (i u : ℕ) → IsIndexBefore i u 0 0 → ⊥
       nothing i u (inl l) = omega (arith, l)
       nothing i u (inr (e, l)) = omega (arith, l)
 

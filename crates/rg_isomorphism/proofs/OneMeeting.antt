@@ -9,8 +9,8 @@ use Rattle.rg_isomorphism.specs.Words.{Meets, at_first, then}
 use Rattle.rg_isomorphism.specs.Compared.{AreComparable}
 
 -- what differs stands at one index
-pub one_place : {X : Type 0} (xs : List X) (i j : ℕ) (x : X) → AllPairs (λ y z. y ≢ z) xs → slice_get xs i ≡ Some x → slice_get xs j ≡ Some x → i ≡ j
-one_place xs i j x differ p q = go (cases_order i j)
+pub one_index : {X : Type 0} (xs : List X) (i j : ℕ) (x : X) → AllPairs (λ y z. y ≢ z) xs → slice_get xs i ≡ Some x → slice_get xs j ≡ Some x → i ≡ j
+one_index xs i j x differ p q = go (cases_order i j)
   where
     in_i : i < length xs
     in_i = slice_get_within xs i x p
@@ -30,12 +30,12 @@ one_place xs i j x differ p q = go (cases_order i j)
 pub one_namesake : (a b : System) (t u v : ℕ) → AreNames b.label_names → HaveOneName a b t u → HaveOneName a b t v → u ≡ v
 one_namesake a b t u v names (name, p, q) (name', p', q') =
     let same : name ≡ name' = same_Some name name' (sym p ∙ p') in
-    one_place b.label_names u v name names.differ q (q' ∙ ap Some (sym same))
+    one_index b.label_names u v name names.differ q (q' ∙ ap Some (sym same))
 
 pub one_namesake_back : (a b : System) (t v u : ℕ) → AreNames a.label_names → HaveOneName a b t u → HaveOneName a b v u → t ≡ v
 one_namesake_back a b t v u names (name, p, q) (name', p', q') =
     let same : name ≡ name' = same_Some name name' (sym q ∙ q') in
-    one_place a.label_names t v name names.differ p (p' ∙ ap Some (sym same))
+    one_index a.label_names t v name names.differ p (p' ∙ ap Some (sym same))
 
 module _ (a b : System) (c : AreComparable a b) where
   -- the targets of a label at a pair

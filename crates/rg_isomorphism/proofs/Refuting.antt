@@ -8,7 +8,7 @@ use Rattle.rg_theory.proofs.Lists.{slice_get_some}
 use Rattle.rg_isomorphism.specs.Isomorphic.{HaveSameLabels, HaveOneName, Gives, IsIsomorphismTo, AreIsomorphic}
 use Rattle.rg_isomorphism.specs.Words.{Meets, at_first, then, AreAtOdds, Difference, DiffersBy, first_alone, second_alone, targets}
 use Rattle.rg_isomorphism.specs.Compared.{AreComparable, IsFirstAlone}
-use Rattle.rg_isomorphism.proofs.OneMeeting.{one_place}
+use Rattle.rg_isomorphism.proofs.OneMeeting.{one_index}
 
 -- a label of the one system has a namesake in the other
 pub namesake : (a b : System) (t : ℕ) → HaveSameLabels a b → t < labels a → (u : ℕ) × HaveOneName a b t u
@@ -43,7 +43,7 @@ module _ (a b : System) (c : AreComparable a b) (m : List ℕ) (iso : IsIsomorph
 
   -- two states of the first don't have one of the second
   one_giver : (s r q : ℕ) → Gives m s q → Gives m r q → s ≡ r
-  one_giver s r q p p' = one_place m s r q iso.different p p'
+  one_giver s r q p p' = one_index m s r q iso.different p p'
 
   -- so it leaves no difference
   pub no_difference : (w : List ℕ) (d : Difference) → DiffersBy a b w d → ⊥

@@ -7,7 +7,7 @@ use Rattle.rg_theory.proofs.Arcs.{arc_in_range}
 use Rattle.rg_isomorphism.specs.Isomorphic.{HaveOneName}
 use Rattle.rg_isomorphism.specs.Words.{IsMetBefore, Meets, at_first, then, AreAtOdds, Difference, Difference.step as by_step, Difference.target as by_target, DiffersBy, first_alone, second_alone, targets, IsFirstDifference}
 use Rattle.rg_isomorphism.specs.Compared.{AreComparable}
-use Rattle.rg_isomorphism.specs.Pairing.{Pair, pair_at, way_at, Pairs, ArePairs, IsPlaceBefore, IsPassed, neither, both, IsFollowedTo, BecomePair, elsewhere, is_taken}
+use Rattle.rg_isomorphism.specs.Pairing.{Pair, pair_at, way_at, Pairs, ArePairs, IsIndexBefore, IsPassed, neither, both, IsFollowedTo, BecomePair, elsewhere, is_taken}
 use Rattle.rg_isomorphism.proofs.WordOrder.{before_itself, before_trans, before_longer, IsUpTo, up_to_before, up_to_trans, up_to_longer}
 use Rattle.rg_isomorphism.proofs.OneMeeting.{one_namesake, one_target, one_meeting}
 
@@ -34,23 +34,23 @@ module _ (a b : System) (c : AreComparable a b) (p : Pairs) (ways : List (List �
       go (inr (inr l)) = absurd (before_itself (way_at ways j) (subst (λ w. IsMetBefore w (way_at ways j)) (sym e) (h.rises k j l in_j)))
 
   -- an index whose word comes before that of another one comes before it
-  pub place_before : (j u k t : ℕ) (v : List ℕ) → j < length p.order → k < length p.order → IsUpTo (way_at ways j) v → IsMetBefore (u ∷ v) (word_at ways k t) → IsPlaceBefore j u k t
-  place_before j u k t v in_j in_k up (inl l) = inl (earlier_way j k in_j in_k (up_to_before (way_at ways j) v (way_at ways k) up l))
-  place_before j u k t v in_j in_k (inl e) (inr (f, l)) = inr (same_way j k in_j in_k (e ∙ f), l)
-  place_before j u k t v in_j in_k (inr l') (inr (f, l)) = inl (earlier_way j k in_j in_k (subst (IsMetBefore (way_at ways j)) f l'))
+  pub index_before : (j u k t : ℕ) (v : List ℕ) → j < length p.order → k < length p.order → IsUpTo (way_at ways j) v → IsMetBefore (u ∷ v) (word_at ways k t) → IsIndexBefore j u k t
+  index_before j u k t v in_j in_k up (inl l) = inl (earlier_way j k in_j in_k (up_to_before (way_at ways j) v (way_at ways k) up l))
+  index_before j u k t v in_j in_k (inl e) (inr (f, l)) = inr (same_way j k in_j in_k (e ∙ f), l)
+  index_before j u k t v in_j in_k (inr l') (inr (f, l)) = inl (earlier_way j k in_j in_k (subst (IsMetBefore (way_at ways j)) f l'))
 
   -- of one pair one index
   pub one_of_first : (i j : ℕ) → i < length p.order → j < length p.order → (pair_at p.order i).0 ≡ (pair_at p.order j).0 → (pair_at p.order i).1 ≡ (pair_at p.order j).1
   one_of_first i j in_i in_j e =
       same_Some (pair_at p.order i).1 (pair_at p.order j).1 (sym (h.partner i in_i) ∙ ap (λ s. slice_index_or p.partners s None) e ∙ h.partner j in_j)
 
-  module _ (k t : ℕ) (in_k : k < length p.order) (passed : (i u : ℕ) → i < length p.order → u < labels a → IsPlaceBefore i u k t → IsPassed a b p ways i u) where
+  module _ (k t : ℕ) (in_k : k < length p.order) (passed : (i u : ℕ) → i < length p.order → u < labels a → IsIndexBefore i u k t → IsPassed a b p ways i u) where
     -- a pair to which a word leads that is met before this index
     abbrev pub IsHeld : List ℕ → ℕ → ℕ → Type 0
     IsHeld w s q = (j : ℕ) × (j < length p.order) × (pair_at p.order j ≡ (s, q)) × IsUpTo (way_at ways j) w
 
     -- what comes behind an index that is passed
-    leads_on : (ts : List ℕ) (j s q u v s' q' : ℕ) → j < length p.order → u < labels a → IsPlaceBefore j u k t → pair_at p.order j ≡ (s, q) → IsUpTo (way_at ways j) ts
+    leads_on : (ts : List ℕ) (j s q u v s' q' : ℕ) → j < length p.order → u < labels a → IsIndexBefore j u k t → pair_at p.order j ≡ (s, q) → IsUpTo (way_at ways j) ts
         → HaveOneName a b u v → HasArc a s u s' → HasArc b q v q' → IsHeld (u ∷ ts) s' q'
     leads_on ts j s q u v s' q' in_j in_u before at up name x y = go (passed j u in_j in_u before)
       where
@@ -73,14 +73,14 @@ module _ (a b : System) (c : AreComparable a b) (p : Pairs) (ways : List (List �
         (0, h.some, (λ n. (one.0 n, one.1 n)), inl h.root)
     held _ _ _ (then ts s q u v s' q' m name x y) before =
         let (j, in_j, at, up) = held ts s q m (before_trans ts (u ∷ ts) (word_at ways k t) (before_longer u ts) before) in
-        leads_on ts j s q u v s' q' in_j (arc_in_range a c.first.in_range s u s' x).1 (place_before j u k t ts in_j in_k up before) at up name x y
+        leads_on ts j s q u v s' q' in_j (arc_in_range a c.first.in_range s u s' x).1 (index_before j u k t ts in_j in_k up before) at up name x y
 
     -- the index of a word that comes before is passed
     passed_behind : (ts : List ℕ) (s q u : ℕ) → Meets a b ts s q → u < labels a → IsMetBefore (u ∷ ts) (word_at ways k t)
         → (j : ℕ) × (pair_at p.order j ≡ (s, q)) × IsPassed a b p ways j u
     passed_behind ts s q u m in_u before =
         let (j, in_j, at, up) = held ts s q m (before_trans ts (u ∷ ts) (word_at ways k t) (before_longer u ts) before) in
-        (j, at, passed j u in_j in_u (place_before j u k t ts in_j in_k up before))
+        (j, at, passed j u in_j in_u (index_before j u k t ts in_j in_k up before))
 
     label_in_range : (u v : ℕ) → HaveOneName a b u v → u < labels a
     label_in_range u v (name, at, _) = slice_get_within a.label_names u name at
@@ -121,7 +121,7 @@ module _ (a b : System) (c : AreComparable a b) (p : Pairs) (k t : ℕ) (f : IsF
   pub behind : (j : ℕ) → j < length p.order → IsMetBefore (way_at ways j) (word_at ways k t)
   behind j in_j = go (cases_eq j 0)
     where
-      from_place : (i : ℕ) × (u : ℕ) × IsPlaceBefore i u k t × (i < j) × (way_at ways j ≡ u ∷ way_at ways i) → IsMetBefore (way_at ways j) (word_at ways k t)
+      from_place : (i : ℕ) × (u : ℕ) × IsIndexBefore i u k t × (i < j) × (way_at ways j ≡ u ∷ way_at ways i) → IsMetBefore (way_at ways j) (word_at ways k t)
       from_place (i, u, inl l, less, is) = subst (λ w. IsMetBefore w (word_at ways k t)) (sym is) (inl (f.pairs.rises i k l in_k))
       from_place (i, u, inr (e, l), less, is) = subst (λ w. IsMetBefore w (word_at ways k t)) (sym is) (inr (ap (way_at ways) e, l))
 

@@ -44,8 +44,8 @@ pub record ArePairs (a b : System) (p : Pairs) (ways : List (List ℕ)) : Type 0
   pub count : count_by is_none p.partners + length p.order ≡ states a
 
 -- the index of label u at pair number i comes before that of label t at pair number k
-abbrev pub IsPlaceBefore : ℕ → ℕ → ℕ → ℕ → Type 0
-IsPlaceBefore i u k t = (i < k) ⊎ ((i ≡ k) × (u < t))
+abbrev pub IsIndexBefore : ℕ → ℕ → ℕ → ℕ → Type 0
+IsIndexBefore i u k t = (i < k) ⊎ ((i ≡ k) × (u < t))
 
 -- at a pair a label leads on in neither system, or in both, to a pair
 pub data IsPassed (a b : System) (p : Pairs) (ways : List (List ℕ)) (i t : ℕ) : Type 0 where
@@ -58,8 +58,8 @@ pub data IsPassed (a b : System) (p : Pairs) (ways : List (List ℕ)) (i t : ℕ
 pub record IsFollowedTo (a b : System) (p : Pairs) (k t : ℕ) : Type 0 where
   pub ways : List (List ℕ)
   pub pairs : ArePairs a b p ways
-  pub passed : (i u : ℕ) → i < length p.order → u < labels a → IsPlaceBefore i u k t → IsPassed a b p ways i u
-  pub entered : (j : ℕ) → 0 < j → j < length p.order → (i : ℕ) × (u : ℕ) × IsPlaceBefore i u k t × (i < j) × (way_at ways j ≡ u ∷ way_at ways i)
+  pub passed : (i u : ℕ) → i < length p.order → u < labels a → IsIndexBefore i u k t → IsPassed a b p ways i u
+  pub entered : (j : ℕ) → 0 < j → j < length p.order → (i : ℕ) × (u : ℕ) × IsIndexBefore i u k t × (i < j) × (way_at ways j ≡ u ∷ way_at ways i)
 
 -- what comes of two targets: they are a pair already; one of them stands in another pair; or they become one
 pub data BecomePair (p : Pairs) (s q : ℕ) : Bool → Pairs → Type 0 where

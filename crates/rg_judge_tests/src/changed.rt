@@ -1,11 +1,12 @@
 //! The judge beside the second judge, over small nets and nets that are changed in one number.
 ghost use Rattle.std.specs.Prelude.{◌<◌};
 
-use crate::samples::{CYCLE, LOOP_AND_STEP, NONE, net, system};
+use crate::samples::{CYCLE, LOOP_AND_STEP, net, system};
 use crate::second::{Told, second_verdict};
 use rg_lts::Lts;
 use rg_net::{Class, Net};
 use rg_net_verdict::{CheckStop, NetVerdict, check_net};
+use rg_theory::ALL_NETS;
 use std::alloc::{AllocError, Global};
 
 /// A place for two labels: its start, what each label takes from it, and what each puts on it.
@@ -49,7 +50,7 @@ const STRICT: Class = Class {
 
 const TWO_BOUNDED: Class = Class {
     bound: Some(2),
-    ..NONE
+    ..ALL_NETS
 };
 
 // The text of the net with these places.
@@ -172,7 +173,7 @@ fn agree_on_changed(alloc: Global, lts: &Lts, places: [Numbers; 2], class: Class
 fn agree_in_classes(alloc: Global, text: &str, places: [Numbers; 2]) -> bool {
     match system(alloc, text) {
         Some(lts) => {
-            agree_on_changed(alloc, &lts, places, NONE)
+            agree_on_changed(alloc, &lts, places, ALL_NETS)
                 && agree_on_changed(alloc, &lts, places, STRICT)
                 && agree_on_changed(alloc, &lts, places, TWO_BOUNDED)
         }
@@ -205,7 +206,7 @@ fn agree_on_places(alloc: Global, text: &str) -> bool {
         return false;
     };
     for number in 0..1024 {
-        if agreed(alloc, &lts, &[digits(number)], NONE).is_none() {
+        if agreed(alloc, &lts, &[digits(number)], ALL_NETS).is_none() {
             return false;
         }
     }

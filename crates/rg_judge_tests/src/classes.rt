@@ -2,8 +2,9 @@
 ghost use Rattle.std.specs.Prelude.{◌≡◌, length, All, IsTrue};
 ghost use Rattle.rg_net.specs.ClassBreaks.{shown_markings};
 
-use crate::samples::{CYCLE, CYCLE_NET, NONE, net_for};
+use crate::samples::{CYCLE, CYCLE_NET, net_for};
 use rg_net::{Class, ClassBreak, Net, in_class};
+use rg_theory::ALL_NETS;
 use std::alloc::{AllocError, Global};
 use std::test::Fail;
 
@@ -27,12 +28,12 @@ const TURNED: [[u128; 2]; 3] = [[2, 0], [1, 1], [0, 2]];
 
 const SAFE: Class = Class {
     bound: Some(1),
-    ..NONE
+    ..ALL_NETS
 };
 
 const TWO_BOUNDED: Class = Class {
     bound: Some(2),
-    ..NONE
+    ..ALL_NETS
 };
 
 // What is asked of the cycle's net, the markings and class of which it is asked, and the first break.

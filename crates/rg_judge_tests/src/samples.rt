@@ -1,19 +1,10 @@
 //! Systems and nets from texts.
 use rg_apt::read_lts;
 use rg_lts::Lts;
-use rg_net::{Class, Net};
+use rg_net::Net;
 use rg_netfile::read_net;
 use rg_text::MOST_BYTES;
 use std::alloc::Global;
-
-/// No condition.
-pub(crate) const NONE: Class = Class {
-    pure: false,
-    plain: false,
-    bound: None,
-    marking: None,
-    nonbranching: false,
-};
 
 /// The label a loops at s0, and b leads from s0 to s1.
 pub(crate) const LOOP_AND_STEP: &str =

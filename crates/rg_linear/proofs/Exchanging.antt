@@ -28,7 +28,7 @@ agree_by system members w k holds over differ scale v u p q agree =
 sum_only : (n i : ℕ) (z : ℤ) → i < n → sum_below n (only i z) ≡ z
 sum_only n i z lt = sum_below-only n i (only i z) lt (λ m h ne. rw (differs m i ne) refl) ∙ rw (same i) refl
 
--- a sum with one place more
+-- a sum with one index more
 pub sum_with : (n i : ℕ) (a c : ℤ) (f : ℕ → ℤ) → i < n → sum_below n (λ m. only i a m +ℤ (c *ℤ f m)) ≡ a +ℤ (c *ℤ sum_below n f)
 sum_with n i a c f lt = sum_below-plus n (only i a) (λ m. c *ℤ f m) ∙ ap₂ ◌+ℤ◌ (sum_only n i a lt) (sum_below-times n c f)
 

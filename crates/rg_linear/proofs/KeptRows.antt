@@ -11,7 +11,7 @@ use Rattle.rg_linear.specs.View.{linear_row, linear_system, IsWellFormed}
 pub behind_rows : (system : LinearSystem) (rows : List Row) (n : ℕ) → map linear_row rows ≡ system.rows → length rows ≤ n → length system.rows ≤ n
 behind_rows system rows n are le = subst (λ k. k ≤ n) (sym (length-map rows linear_row) ∙ ap length are) le
 
--- the row that code keeps at a place
+-- the row that code keeps at an index
 pub item_is : (system : LinearSystem) (rows : List Row) (i : ℕ) (item : Row) → map linear_row rows ≡ system.rows → i < length rows → item ≡ slice_index_or rows i item → linear_row item ≡ row_at system i
 item_is system rows i item are lt at = ap linear_row at ∙ sym (get_or-map linear_row rows i item (record { coeffs = []; constant = pos 0 }) lt) ∙ ap (λ xs. slice_index_or xs i (record { coeffs = []; constant = pos 0 })) are
 

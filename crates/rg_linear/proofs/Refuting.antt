@@ -37,7 +37,7 @@ Witnessed system (z ∷ fixed) = Witness system z fixed × Witnessed system fixe
 
 -- ---- the signs
 
--- a sum without one place
+-- a sum without one index
 sum_less : (n z : ℕ) (k v : ℕ → ℤ) → z < n → sum_below n (λ m. k m *ℤ v m) ≡ (k z *ℤ v z) +ℤ sum_below n (λ m. (if m == z then pos 0 else k m) *ℤ v m)
 sum_less n z k v lt =
     sum_below-same n _ (λ m. only z (k z *ℤ v z) m +ℤ (pos 1 *ℤ ((if m == z then pos 0 else k m) *ℤ v m))) (λ m h. at m (equal_or_not m z))

@@ -62,7 +62,7 @@ vector_at vectors i = slice_index_or vectors i []
 abbrev pub IsZeroVector : List ℤ → Type 0
 IsZeroVector numbers = All (λ z. z ≡ pos 0) numbers
 
--- the places of the vectors that are kept: those that are not 0, and of equal ones the first
+-- the indices of the vectors that are kept: those that are not 0, and of equal ones the first
 abbrev pub KeepsVectors : List (List ℤ) → List ℕ → Type 0
 KeepsVectors vectors kept = KeepsFirsts (vector_at vectors) (λ i. IsZeroVector (vector_at vectors i)) [] (numbers_from 0 (length vectors)) kept
 
@@ -70,7 +70,7 @@ KeepsVectors vectors kept = KeepsFirsts (vector_at vectors) (λ i. IsZeroVector 
 abbrev pub vector_system : ℕ → List (List ℤ) → List ℕ → LinearSystem
 vector_system labels vectors kept = record { columns = labels; rows = map (λ i. record { coeffs = vector_at vectors i; constant = pos 0 }) kept }
 
--- the kept places, the set with which the walk ends, and the relation of each label outside it
+-- the kept indices, the set with which the walk ends, and the relation of each label outside it
 pub record CycleBasis : Type 0 where
   pub kept : List ℕ
   pub members : List ℕ

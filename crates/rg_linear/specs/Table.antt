@@ -32,7 +32,7 @@ pub record IsTable (system : LinearSystem) (members : List ℕ) (table : List �
   pub size : length table ≡ variables system * row_width system
   pub rows : (w : ℕ) → w < variables system → ¬ Contains members w → ShowsRow system members w (row_numbers system table w)
 
--- how many of the first members are not above i: the place of i among them
-abbrev pub place_for : ℕ → List ℕ → ℕ
-place_for i [] = 0
-place_for i (m ∷ members) = if nat_lt i m then 0 else (1 + place_for i members)
+-- how many of the first members are not above i: the index of i among them
+abbrev pub index_for : ℕ → List ℕ → ℕ
+index_for i [] = 0
+index_for i (m ∷ members) = if nat_lt i m then 0 else (1 + index_for i members)

@@ -14,7 +14,7 @@ pub fn cycle_is_exact()
     ensures exact { (system : LinearSystem) (members : List ℕ) → IsHomogeneous system → CycleWalk system (CycleOutcome.free_set members) → (scale : ℤ) (v : ℕ → ℤ) → IsPoint system scale v → RowsAreZero system v ↔ FollowsRelations system members v }
 {}
 
-/// The places of the vectors that are kept are one list.
+/// The indices of the vectors that are kept are one list.
 pub fn kept_is_one()
     ensures { (vectors : List (List ℤ)) (kept kept' : List ℕ) → KeepsVectors vectors kept → KeepsVectors vectors kept' → kept ≡ kept' }
 {}

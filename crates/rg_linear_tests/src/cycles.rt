@@ -71,7 +71,7 @@ fn without_chords_all_labels_are_free(rt: HostRuntime) {
     assert!(rt; are_free(rt.alloc()));
 }
 
-// Whether chords are named by their first places.
+// Whether chords are named by their first indices.
 fn are_named(alloc: Global) -> bool {
     match basis(alloc, 2, &[[0, 0], [1, -1], [1, -1], [2, 0]]) {
         Some(basis) => {
@@ -85,7 +85,7 @@ fn are_named(alloc: Global) -> bool {
 }
 
 #[test]
-fn chords_are_named_by_their_first_places(rt: HostRuntime) {
+fn chords_are_named_by_their_first_indices(rt: HostRuntime) {
     assert!(rt; are_named(rt.alloc()));
 }
 

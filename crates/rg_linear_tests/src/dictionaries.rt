@@ -1,5 +1,5 @@
 //! Exchanges in a dictionary.
-use rg_dictionary::{Dictionary, ExchangeWide};
+use rg_dictionary::{ExchangeWide, RelationTable};
 use rg_integers::Wide;
 use std::alloc::{AllocError, Global};
 use std::test::Fail;
@@ -20,38 +20,38 @@ const PASSES: ExchangeWide = ExchangeWide {
 
 // What an exchange comes to, where it may be made.
 fn exchange(
-    dictionary: &mut Dictionary,
+    dictionary: &mut RelationTable,
     pivot: u32,
-    place: usize,
+    index: usize,
 ) -> Option<Result<(), ExchangeWide>> {
     if pivot >= dictionary.variables()
         || dictionary.contains(pivot)
-        || place >= dictionary.members().len()
+        || index >= dictionary.members().len()
     {
         return None;
     }
     let numbers = dictionary.numbers(pivot);
-    if place >= numbers.len() - 2 || numbers[place + 2] == 0 {
+    if index >= numbers.len() - 2 || numbers[index + 2] == 0 {
         return None;
     }
-    Some(dictionary.exchange(pivot, place))
+    Some(dictionary.exchange(pivot, index))
 }
 
 // Whether the first member may be exchanged for the pivot, with these members then.
-fn exchanges(dictionary: &mut Dictionary, pivot: u32, members: &[u32]) -> bool {
+fn exchanges(dictionary: &mut RelationTable, pivot: u32, members: &[u32]) -> bool {
     exchange(dictionary, pivot, 0) == Some(Ok(())) && dictionary.members() == members
 }
 
 // Whether the variable is outside the set, and has these numbers.
-fn shows(dictionary: &Dictionary, variable: u32, numbers: &[i128]) -> bool {
+fn shows(dictionary: &RelationTable, variable: u32, numbers: &[i128]) -> bool {
     variable < dictionary.variables()
         && !dictionary.contains(variable)
         && dictionary.numbers(variable) == numbers
 }
 
 // MOST * x - 1 and -(MOST - 1) * x.
-fn great(alloc: Global) -> Result<Dictionary, AllocError> {
-    let mut dictionary = Dictionary::with_columns(alloc, 1, 2)?;
+fn great(alloc: Global) -> Result<RelationTable, AllocError> {
+    let mut dictionary = RelationTable::with_columns(alloc, 1, 2)?;
     dictionary.push_row(&[MOST], -1);
     dictionary.push_row(&[1 - MOST], 0);
     Ok(dictionary)
@@ -69,8 +69,8 @@ fn passing_term_is_shown(rt: HostRuntime) -> Result<(), Fail> {
 }
 
 // 2*x0 + 4*x1 - 6*x2 + 8, 3*x0 + x1 + 5 and x1 - x2 + 1.
-fn worked(alloc: Global) -> Result<Dictionary, AllocError> {
-    let mut dictionary = Dictionary::with_columns(alloc, 3, 3)?;
+fn worked(alloc: Global) -> Result<RelationTable, AllocError> {
+    let mut dictionary = RelationTable::with_columns(alloc, 3, 3)?;
     dictionary.push_row(&[2, 4, -6], 8);
     dictionary.push_row(&[3, 1, 0], 5);
     dictionary.push_row(&[0, 1, -1], 1);
@@ -92,7 +92,7 @@ const AFTER_TWO: [(u32, [i128; 5]); 3] = [
 ];
 
 // Whether each variable is outside the set, and has its numbers.
-fn shows_all(dictionary: &Dictionary, rows: &[(u32, [i128; 5])]) -> bool {
+fn shows_all(dictionary: &RelationTable, rows: &[(u32, [i128; 5])]) -> bool {
     for (variable, numbers) in rows {
         if !shows(dictionary, *variable, numbers) {
             return false;
@@ -116,8 +116,8 @@ fn two_exchanges_by_hand(rt: HostRuntime) -> Result<(), Fail> {
 const HALF: i128 = (MOST - 1) / 2;
 
 // x + HALF and x - HALF - 1.
-fn greatest(alloc: Global) -> Result<Dictionary, AllocError> {
-    let mut dictionary = Dictionary::with_columns(alloc, 1, 2)?;
+fn greatest(alloc: Global) -> Result<RelationTable, AllocError> {
+    let mut dictionary = RelationTable::with_columns(alloc, 1, 2)?;
     dictionary.push_row(&[1], HALF);
     dictionary.push_row(&[1], -HALF - 1);
     Ok(dictionary)
@@ -132,14 +132,14 @@ fn greatest_number_fits(rt: HostRuntime) -> Result<(), Fail> {
 }
 
 // 2*x0 + 4*x1 + 8.
-fn one_row(alloc: Global) -> Result<Dictionary, AllocError> {
-    let mut dictionary = Dictionary::with_columns(alloc, 2, 1)?;
+fn one_row(alloc: Global) -> Result<RelationTable, AllocError> {
+    let mut dictionary = RelationTable::with_columns(alloc, 2, 1)?;
     dictionary.push_row(&[2, 4], 8);
     Ok(dictionary)
 }
 
 // Whether the row goes, and 3*x0 + 5*x1 + 7, for which there is room, comes in its place.
-fn takes_another_row(dictionary: &mut Dictionary) -> bool {
+fn takes_another_row(dictionary: &mut RelationTable) -> bool {
     if dictionary.columns() != 2 || dictionary.rows() != 1 {
         return false;
     }
@@ -152,7 +152,7 @@ fn takes_another_row(dictionary: &mut Dictionary) -> bool {
 }
 
 // Whether there is memory for two rows in place of the one: x0 + x1 and x0 - x1.
-fn takes_two_rows(dictionary: &mut Dictionary) -> bool {
+fn takes_two_rows(dictionary: &mut RelationTable) -> bool {
     if dictionary.columns() != 2 {
         return false;
     }

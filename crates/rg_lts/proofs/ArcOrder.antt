@@ -36,12 +36,12 @@ arcs_parted s t arcs order i j d le lt e = go (cases_order i j)
     go (inr (inr l)) = absurd (omega arith)
 
 -- where some arc leaves s by t, the arc at which the earlier ones end does, and leads to the least state
-pub first_of_all : (s t : ℕ) (arcs : List Arc) (place : ℕ) (a : Arc) → AllPairs IsArcBefore arcs
-    → ((k : ℕ) (d : Arc) → k < place → is_earlier s t (slice_index_or arcs k d) ≡ true)
-    → ((k : ℕ) (d : Arc) → place ≤ k → k < length arcs → is_earlier s t (slice_index_or arcs k d) ≡ false)
-    → (place < length arcs) × ((d : Arc) → a ≡ slice_index_or arcs place d)
+pub first_of_all : (s t : ℕ) (arcs : List Arc) (index : ℕ) (a : Arc) → AllPairs IsArcBefore arcs
+    → ((k : ℕ) (d : Arc) → k < index → is_earlier s t (slice_index_or arcs k d) ≡ true)
+    → ((k : ℕ) (d : Arc) → index ≤ k → k < length arcs → is_earlier s t (slice_index_or arcs k d) ≡ false)
+    → (index < length arcs) × ((d : Arc) → a ≡ slice_index_or arcs index d)
     → (other : ℕ) → Contains arcs (arc s t other) → (a.from ≡ s) × (a.label ≡ t) × (a.to ≤ other)
-first_of_all s t arcs place a order before behind (within, is) other (k, lt, at) = go (cases_order k place)
+first_of_all s t arcs index a order before behind (within, is) other (k, lt, at) = go (cases_order k index)
   where
     not_earlier : IsEarlier s t (arc s t other) → ⊥
     not_earlier (inl l) = omega arith
@@ -50,7 +50,7 @@ first_of_all s t arcs place a order before behind (within, is) other (k, lt, at)
     not_before : IsEarlier s t a → ⊥
     not_before e =
         let yes = says_earlier s t a e in
-        let no = ap (is_earlier s t) (is a) ∙ behind place a (omega arith) within in
+        let no = ap (is_earlier s t) (is a) ∙ behind index a (omega arith) within in
         cc
 
     after : IsArcBefore a (arc s t other) → (a.from ≡ s) × (a.label ≡ t) × (a.to ≤ other)
@@ -58,10 +58,10 @@ first_of_all s t arcs place a order before behind (within, is) other (k, lt, at)
     after (inr (e, inl l)) = absurd (not_before (inr (e, l)))
     after (inr (e, inr (f, l))) = (e, f, omega arith)
 
-    go : (k ≡ place) ⊎ ((k < place) ⊎ (place < k)) → (a.from ≡ s) × (a.label ≡ t) × (a.to ≤ other)
+    go : (k ≡ index) ⊎ ((k < index) ⊎ (index < k)) → (a.from ≡ s) × (a.label ≡ t) × (a.to ≤ other)
     go (inl same) =
         let here : a ≡ arc s t other = is (arc s t other) ∙ ap (λ i. slice_index_or arcs i (arc s t other)) (sym same) ∙ at in
         (ap (λ (x : Arc). x.from) here, ap (λ (x : Arc). x.label) here, (let e = ap (λ (x : Arc). x.to) here in omega arith))
     go (inr (inl l)) = absurd (not_earlier (earlier_says s t (arc s t other) (subst (λ x. is_earlier s t x ≡ true) at (before k (arc s t other) l))))
     go (inr (inr l)) = after (subst (IsArcBefore a) at
-        (subst (λ x. IsArcBefore x (slice_index_or arcs k (arc s t other))) (sym (is (arc s t other))) (order place k (arc s t other) l lt)))
+        (subst (λ x. IsArcBefore x (slice_index_or arcs k (arc s t other))) (sym (is (arc s t other))) (order index k (arc s t other) l lt)))

@@ -22,7 +22,7 @@ earlier_leaves s a e = grind (arith, nat_tests)
 other_leaves : (s : ℕ) (a : Arc) → is_earlier s 0 a ≡ false → s ≤ a.from
 other_leaves s a e = grind (arith, nat_tests)
 
--- from the first place of the state's arcs to that of the next state's
+-- from the first index of the state's arcs to that of the next state's
 pub run : (arcs : List Arc) (s start end : ℕ) → start ≤ length arcs
     → ((k : ℕ) (d : Arc) → k < start → is_earlier s 0 (slice_index_or arcs k d) ≡ true)
     → ((k : ℕ) (d : Arc) → start ≤ k → k < length arcs → is_earlier s 0 (slice_index_or arcs k d) ≡ false) → end ≤ length arcs
@@ -83,8 +83,8 @@ run_members arcs s start end r b = (forth, back)
         let high : k < end = not_late (cases_lt k end) same in
         let m = length-take (end - start) (drop start arcs) in
         let n = length-drop start arcs in
-        let place : start + (k - start) ≡ k = omega arith in
-        (k - start, (let w = r.within in omega arith), part_at arcs start end (k - start) b (omega arith) ∙ ap (λ i. get_or arcs i b) place ∙ at)
+        let index : start + (k - start) ≡ k = omega arith in
+        (k - start, (let w = r.within in omega arith), part_at arcs start end (k - start) b (omega arith) ∙ ap (λ i. get_or arcs i b) index ∙ at)
       where
         not_early : (k < start) ⊎ (start ≤ k) → (get_or arcs k b).from ≡ b.from → start ≤ k
         not_early (inl l) same = let e = r.earlier k b l in absurd (omega arith)

@@ -89,10 +89,10 @@ finished_fine d s fine is = record {
   few_arcs = fine.few_arcs;
 }
 
--- a name stands at one place
-pub one_place : (names : List (List ℕ)) (i j : ℕ) (name : List ℕ) → AllPairs (λ a b. a ≢ b) names → slice_get names i ≡ Some name
+-- a name stands at one index
+pub one_index : (names : List (List ℕ)) (i j : ℕ) (name : List ℕ) → AllPairs (λ a b. a ≢ b) names → slice_get names i ≡ Some name
     → slice_get names j ≡ Some name → i ≡ j
-one_place names i j name differ at too = go (cases_order i j)
+one_index names i j name differ at too = go (cases_order i j)
   where
     go : (i ≡ j) ⊎ ((i < j) ⊎ (j < i)) → i ≡ j
     go (inl same) = same
@@ -128,9 +128,9 @@ has_label d source step target has (_, none) = none has.label
 one_arc : (d : Draft) (source step target : List ℕ) (a b : Arc) → IsWellFormedDraft d → IsArcNamed d source step target a
     → IsArcNamed d source step target b → a ≡ b
 one_arc d source step target a b fine named too =
-    let from = one_place d.state_names a.from b.from source fine.state_names.differ named.from too.from in
-    let label = one_place d.label_names a.label b.label step fine.label_names.differ named.label too.label in
-    let to = one_place d.state_names a.to b.to target fine.state_names.differ named.to too.to in
+    let from = one_index d.state_names a.from b.from source fine.state_names.differ named.from too.from in
+    let label = one_index d.label_names a.label b.label step fine.label_names.differ named.label too.label in
+    let to = one_index d.state_names a.to b.to target fine.state_names.differ named.to too.to in
     λ i. record { from = from i; label = label i; to = to i }
 
 pub over_limit : (d : Draft) (source step target : List ℕ) (a : Arc) → IsWellFormedDraft d → IsArcNamed d source step target a

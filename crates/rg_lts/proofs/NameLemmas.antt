@@ -9,7 +9,7 @@ use Rattle.std.specs.String.{string_eq}
 use Rattle.std.specs.declared.alloc.Global.{Global}
 use Rattle.indexmap.specs.IndexSet.{insert_key}
 
--- the number of a name: the place where it stands first
+-- the number of a name: the index where it stands first
 abbrev number_of : List (List ℕ) → List ℕ → Option ℕ
 number_of names name = position_from (bytes_eq name) 0 names
 
@@ -54,8 +54,8 @@ pub there-keys : (keys : List (String Global)) (name : List ℕ) (i : ℕ) → p
     → slice_get (map string_bytes keys) i ≡ Some name
 there-keys keys name i is =
     let found = found-number (map string_bytes keys) name 0 i (sym (number-keys keys name) ∙ is) in
-    let place : found.0 ≡ i = omega (arith, found.1) in
-    subst (λ k. slice_get (map string_bytes keys) k ≡ Some name) place found.2
+    let index : found.0 ≡ i = omega (arith, found.1) in
+    subst (λ k. slice_get (map string_bytes keys) k ≡ Some name) index found.2
 
 pub absent-keys : (keys : List (String Global)) (name : List ℕ) → position (λ k. bytes_eq name (string_bytes k)) keys ≡ None
     → Contains (map string_bytes keys) name → ⊥

@@ -3,7 +3,7 @@ ghost use Rattle.std.specs.Prelude.{◌≡◌, ◌↔◌, ◌<◌, AllPairs, Con
 ghost use Rattle.rg_theory.specs.declared.Arc.{Arc};
 ghost use Rattle.rg_theory.specs.System.{states, IsArcBefore};
 
-use crate::lts::{Lts, first_place};
+use crate::lts::{Lts, first_index};
 use rg_theory::Arc;
 
 impl Lts {
@@ -14,8 +14,8 @@ impl Lts {
         ensures order { AllPairs IsArcBefore result.now }
     {
         let arcs = self.arcs();
-        let start = first_place(arcs, s, 0);
-        let end = first_place(arcs, s + 1, 0);
+        let start = first_index(arcs, s, 0);
+        let end = first_index(arcs, s + 1, 0);
         &arcs[start..end]
     }
 }

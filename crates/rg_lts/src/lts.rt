@@ -144,15 +144,15 @@ fn first_target(arcs: &[Arc], s: u32, t: u32) -> Option<u32>
     ensures least { IfSome result (λ to. (other : ℕ) → Contains arcs.now (arc s t other) → to ≤ other) }
     ensures none { IfNone result ((to : ℕ) → ¬ Contains arcs.now (arc s t to)) }
 {
-    let place = first_place(arcs, s, t);
-    match arcs.get(place) {
+    let index = first_index(arcs, s, t);
+    match arcs.get(index) {
         Some(a) if a.from == s && a.label == t => Some(a.to),
         _ => None,
     }
 }
 
 // How many arcs come before all arcs of label t at state s.
-pub(crate) fn first_place(arcs: &[Arc], s: u32, t: u32) -> usize
+pub(crate) fn first_index(arcs: &[Arc], s: u32, t: u32) -> usize
     requires { AllPairs IsArcBefore arcs.now }
     ensures within { result ≤ length arcs.now }
     ensures before { (k : ℕ) (d : Arc) → k < result → IsTrue (is_earlier s t (slice_index_or arcs.now k d)) }

@@ -1,12 +1,12 @@
 //! The prefix of the names of places.
 ghost use Rattle.std.specs.Prelude.{◌≡◌, IfOk};
-ghost use Rattle.std.specs.List.{list_all, list_any};
-ghost use Rattle.std.specs.Char.{is_ascii_digit};
+ghost use Rattle.std.specs.List.{list_any};
 ghost use Rattle.rg_net.specs.NetText.{blocks, candidate, place_prefix};
 
 use itoa::Buffer;
 use rg_lts::Lts;
 use rg_memory::NoMemory;
+use rg_text::are_digits;
 use std::alloc::Global;
 
 // The first of `p`, `p1_`, `p2_`, .., `p256_` that no label blocks.
@@ -56,11 +56,4 @@ fn blocks(prefix: &[u8], label: &[u8]) -> bool
         Some(number) => !number.is_empty() && are_digits(number),
         None => false,
     }
-}
-
-// Whether each byte is a digit.
-fn are_digits(text: &[u8]) -> bool
-    ensures { result ≡ list_all is_ascii_digit text.now }
-{
-    text.iter().all(|b| b.is_ascii_digit())
 }

@@ -132,10 +132,10 @@ form_multiple lts tree basis class problem n case c f lt = from c.is_case
             × IsMultipleOfRow (rows_of case) (form_at case.forms f) row times
         found k divisor e (inl (zeros, weak)) = (0, pos 0, multiple_of_none case (form_at case.forms f) k divisor e zeros)
         found k divisor e (inr (inl (i, below, at))) = absurd (omega arith)
-        found k divisor e (inr (inr (y, has, same))) = from_place (subst (λ (r : LinearRow). Contains (map (λ (x : KeptRow). x.row) case.kept) r) same (Contains-map (λ (x : KeptRow). x.row) case.kept y has))
+        found k divisor e (inr (inr (y, has, same))) = from_index (subst (λ (r : LinearRow). Contains (map (λ (x : KeptRow). x.row) case.kept) r) same (Contains-map (λ (x : KeptRow). x.row) case.kept y has))
           where
-            from_place : Contains (map (λ (x : KeptRow). x.row) case.kept) k.row → (row : ℕ) × (times : ℤ) × IsMultipleOfRow (rows_of case) (form_at case.forms f) row times
-            from_place (i, below, at) = (i, pos (max divisor 1), multiple_of_kept case (form_at case.forms f) k i divisor e (subst (λ n. i < n) (length-map case.kept (λ (x : KeptRow). x.row)) below) at)
+            from_index : Contains (map (λ (x : KeptRow). x.row) case.kept) k.row → (row : ℕ) × (times : ℤ) × IsMultipleOfRow (rows_of case) (form_at case.forms f) row times
+            from_index (i, below, at) = (i, pos (max divisor 1), multiple_of_kept case (form_at case.forms f) k i divisor e (subst (λ n. i < n) (length-map case.kept (λ (x : KeptRow). x.row)) below) at)
 
 -- ---- the bounds, times the scale
 

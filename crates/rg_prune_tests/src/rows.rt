@@ -6,8 +6,8 @@ use rg_lts::Lts;
 use rg_net::{Net, Place};
 use rg_net_verdict::{NetVerdict, check_net, verdict_is_sound};
 use rg_prune::prune;
-use rg_samples::{CHOICE, CHOICE_NET, LOOP, NONE, STEP, net, system};
-use rg_theory::solved_is_separated;
+use rg_samples::{CHOICE, CHOICE_NET, LOOP, STEP, net, system};
+use rg_theory::{ALL_NETS, solved_is_separated};
 use std::alloc::{AllocError, Global};
 
 const STEPS: &str = ".type LTS .states s0[initial] s1 s2 .labels a .arcs s0 a s1 s1 a s2";
@@ -107,7 +107,7 @@ fn left(alloc: Global, lts: &Lts, net: &Net) -> Option<Vec<Place>> {
     lts.is_well_formed();
     verdict_is_sound();
     solved_is_separated();
-    let Ok(NetVerdict::Yes) = check_net(alloc, lts, net, NONE) else {
+    let Ok(NetVerdict::Yes) = check_net(alloc, lts, net, ALL_NETS) else {
         return None;
     };
     let Ok(places) = copied(alloc, net.places()) else {

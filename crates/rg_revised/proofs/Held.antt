@@ -49,9 +49,9 @@ module _ (slots : List ℕ) (d : ℤ) (numbers pivot : List ℤ) (p i : ℕ) (ne
     lj_is : number_beside slots row (get_or slots p 0) ≡ number_at row p
     lj_is = beside_at slots row p distinct inside wide_row
 
-    -- the number of a place other than that of the pivot
-    place_other : (n : ℕ) → n < length row → n ≢ p → (number_at row n *ℤ size (number_at numbers p)) -ℤ ((sign (number_at numbers p) *ℤ number_at numbers n) *ℤ number_at row p) ≡ d *ℤ number_at row' n
-    place_other n lt ne = ap₂ (λ a b. (number_at row n *ℤ a) -ℤ (b *ℤ number_at row p)) (sym pivot_p) (sym (signed.numbers_are n (omega arith))) ∙ sym (r.others n lt ne)
+    -- the number of an index other than that of the pivot
+    index_other : (n : ℕ) → n < length row → n ≢ p → (number_at row n *ℤ size (number_at numbers p)) -ℤ ((sign (number_at numbers p) *ℤ number_at numbers n) *ℤ number_at row p) ≡ d *ℤ number_at row' n
+    index_other n lt ne = ap₂ (λ a b. (number_at row n *ℤ a) -ℤ (b *ℤ number_at row p)) (sym pivot_p) (sym (signed.numbers_are n (omega arith))) ∙ sym (r.others n lt ne)
 
     -- with the numbers of the relations
     spelled : (m : ℕ) → ((number_beside slots row m *ℤ size (number_at numbers p)) -ℤ ((sign (number_at numbers p) *ℤ number_beside slots numbers m) *ℤ number_at row p)) ≡
@@ -63,20 +63,20 @@ module _ (slots : List ℕ) (d : ℤ) (numbers pivot : List ℤ) (p i : ℕ) (ne
         (relation_of (set slots p i) (size (number_beside slots numbers (get_or slots p 0))) row').constant
     constant_is =
         ap₂ (λ a b. (number_at row (length slots) *ℤ size a) -ℤ ((sign a *ℤ number_at numbers (length slots)) *ℤ b)) kj_is lj_is
-        ∙ place_other (length slots) wide_row (λ e. omega arith)
+        ∙ index_other (length slots) wide_row (λ e. omega arith)
         ∙ ap (λ n. d *ℤ number_at row' n) (sym count')
 
     coefficient_is : (m : ℕ) → (renewed (relation_of slots d numbers) i (get_or slots p 0) (relation_of slots d row)).coefficient m ≡ d *ℤ number_beside (set slots p i) row' m
     coefficient_is m = go (equal_or_not m i) (equal_or_not m (get_or slots p 0)) (is_member slots m)
       where
-        new_place : number_beside (set slots p i) row' i ≡ number_at row' p
-        new_place = ap (number_beside (set slots p i) row') (sym (get_or-set_same slots p i 0 inside)) ∙ beside_at (set slots p i) row' p distinct' (subst (λ n. p < n) (sym count') inside) wide_row'
+        new_index : number_beside (set slots p i) row' i ≡ number_at row' p
+        new_index = ap (number_beside (set slots p i) row') (sym (get_or-set_same slots p i 0 inside)) ∙ beside_at (set slots p i) row' p distinct' (subst (λ n. p < n) (sym count') inside) wide_row'
 
         first : (s d l : ℤ) → (s *ℤ d) *ℤ l ≡ d *ℤ (s *ℤ l)
         first s d l = simp ring
 
         at_i : (sign (number_beside slots numbers (get_or slots p 0)) *ℤ d) *ℤ number_beside slots row (get_or slots p 0) ≡ d *ℤ number_beside (set slots p i) row' i
-        at_i = ap₂ (λ a b. (sign a *ℤ d) *ℤ b) kj_is lj_is ∙ first (sign (number_at numbers p)) d (number_at row p) ∙ ap (λ z. d *ℤ z) (sym (new_place ∙ r.place ∙ signed.turned (number_at row p)))
+        at_i = ap₂ (λ a b. (sign a *ℤ d) *ℤ b) kj_is lj_is ∙ first (sign (number_at numbers p)) d (number_at row p) ∙ ap (λ z. d *ℤ z) (sym (new_index ∙ r.index ∙ signed.turned (number_at row p)))
 
         at_j : (x z h q : ℤ) → h *ℤ z ≡ q → (x *ℤ q) -ℤ ((h *ℤ z) *ℤ x) ≡ d *ℤ pos 0
         at_j x z h q e = rw e (simp ring (omega (arith, ints)))
@@ -91,7 +91,7 @@ module _ (slots : List ℕ) (d : ℤ) (numbers pivot : List ℤ) (p i : ℕ) (ne
             → ((number_beside slots row m *ℤ size (number_beside slots numbers (get_or slots p 0))) -ℤ
             ((sign (number_beside slots numbers (get_or slots p 0)) *ℤ number_beside slots numbers m) *ℤ number_beside slots row (get_or slots p 0))) ≡ d *ℤ number_beside (set slots p i) row' m
         other nj (q, lt, at) = sym (spelled m) ∙ ap₂ (λ a b. (a *ℤ size (number_at numbers p)) -ℤ ((sign (number_at numbers p) *ℤ b) *ℤ number_at row p)) in_row in_numbers
-            ∙ place_other q (omega arith) q_not_p ∙ ap (λ z. d *ℤ z) (sym in_new)
+            ∙ index_other q (omega arith) q_not_p ∙ ap (λ z. d *ℤ z) (sym in_new)
           where
             is : get_or slots q 0 ≡ m
             is = at_default slots q m lt at

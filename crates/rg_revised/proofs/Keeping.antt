@@ -139,7 +139,7 @@ module _ (system : LinearSystem) (members slots : List ℕ) (d : ℤ) (table : L
   t_member : Contains members t
   t_member = subst (Contains members) here ((held.same (get_or slots t 0)).1 (member_at slots t t_inside))
 
-  -- the row of a column that is a member has d at its place, and 0 elsewhere
+  -- the row of a column that is a member has d at its index, and 0 elsewhere
   pub own_number : (s : ℕ) → s < length slots → number_at (row_at (length slots + 1) table t) s ≡ d *ℤ only (get_or slots s 0) (pos 1) t
   own_number s lt =
       sym (beside_at slots (row_at (length slots + 1) table t) s held.distinct lt (let e = length-row (length slots + 1) table system.columns t held.size below in omega arith))

@@ -14,7 +14,7 @@ pub mod Opening
 pub mod Stepping
 pub mod Looping
 pub mod Units
-pub mod Places
+pub mod Indices
 pub mod ConstantsHeld
 pub mod BasicValues
 pub mod Multipliers

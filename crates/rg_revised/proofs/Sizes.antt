@@ -116,11 +116,11 @@ module _ (norm most : ℕ) (coeffs : List ℤ) (constant : ℤ) (small : IsSmall
 
 -- ---- a row is added
 
-own_place : (t : ℕ) (d : ℤ) → (if t == t then d else pos 0) ≡ d
-own_place t d = rw (same t) refl
+own_index : (t : ℕ) (d : ℤ) → (if t == t then d else pos 0) ≡ d
+own_index t d = rw (same t) refl
 
 pub own_at : (row : List ℤ) (t : ℕ) (d : ℤ) → ((s : ℕ) → s < length row → number_at row s ≡ (if s == t then d else pos 0)) → t < length row → number_at row t ≡ d
-own_at row t d own lt = own t lt ∙ own_place t d
+own_at row t d own lt = own t lt ∙ own_index t d
 
 pub own_added : (by d : ℤ) (row old : List ℤ) (t : ℕ) (z : ℤ) → ((s : ℕ) → s < length row → number_at row s ≡ (if s == t then d else pos 0)) → length row ≡ length old → t < length old
     → z ≡ number_at old t +ℤ (by *ℤ d) → IsAdded by row old (set old t z)

@@ -29,18 +29,18 @@ use Rattle.rg_revised.proofs.ColumnSums.{read_small}
 
 -- ---- distinct slots
 
-same_place : (slots : List ℕ) (s t : ℕ) → AreDistinct slots → s < length slots → t < length slots → get_or slots s 0 ≡ get_or slots t 0 → s ≡ t
-same_place [] s t d ls lt e = absurd (omega arith)
-same_place (x ∷ slots) zero zero d ls lt e = refl
-same_place (x ∷ slots) zero (suc t) d ls lt e = absurd (d.0 (subst (Contains slots) (sym e) (member_at slots t (shorter lt))))
+same_index : (slots : List ℕ) (s t : ℕ) → AreDistinct slots → s < length slots → t < length slots → get_or slots s 0 ≡ get_or slots t 0 → s ≡ t
+same_index [] s t d ls lt e = absurd (omega arith)
+same_index (x ∷ slots) zero zero d ls lt e = refl
+same_index (x ∷ slots) zero (suc t) d ls lt e = absurd (d.0 (subst (Contains slots) (sym e) (member_at slots t (shorter lt))))
   where
     shorter : suc t < length (x ∷ slots) → t < length slots
     shorter h = omega arith
-same_place (x ∷ slots) (suc s) zero d ls lt e = absurd (d.0 (subst (Contains slots) e (member_at slots s (shorter ls))))
+same_index (x ∷ slots) (suc s) zero d ls lt e = absurd (d.0 (subst (Contains slots) e (member_at slots s (shorter ls))))
   where
     shorter : suc s < length (x ∷ slots) → s < length slots
     shorter h = omega arith
-same_place (x ∷ slots) (suc s) (suc t) d ls lt e = ap suc (same_place slots s t d.1 (omega arith) (omega arith) e)
+same_index (x ∷ slots) (suc s) (suc t) d ls lt e = ap suc (same_index slots s t d.1 (omega arith) (omega arith) e)
 
 module _ (system : LinearSystem) (members slots : List ℕ) (d : ℤ) (table : List ℤ) (most : ℕ) (small : IsSmallHeld system members slots d table most) where
   -- the row of a column that is a member
@@ -56,21 +56,21 @@ module _ (system : LinearSystem) (members slots : List ℕ) (d : ℤ) (table : L
       one : (z : ℤ) → z *ℤ pos 1 ≡ z
       one z = omega (arith, ints)
 
-      at_place : s ≡ t → number_at (row_at (length slots + 1) table t) s ≡ d *ℤ only (get_or slots s 0) (pos 1) t → number_at (row_at (length slots + 1) table t) s ≡ (if s == t then d else pos 0)
-      at_place e h = h ∙ ap (λ b. d *ℤ (if b then pos 1 else pos 0)) (ap (λ m. t == m) (ap (λ n. get_or slots n 0) e ∙ here) ∙ same t) ∙ one d
+      at_index : s ≡ t → number_at (row_at (length slots + 1) table t) s ≡ d *ℤ only (get_or slots s 0) (pos 1) t → number_at (row_at (length slots + 1) table t) s ≡ (if s == t then d else pos 0)
+      at_index e h = h ∙ ap (λ b. d *ℤ (if b then pos 1 else pos 0)) (ap (λ m. t == m) (ap (λ n. get_or slots n 0) e ∙ here) ∙ same t) ∙ one d
           ∙ sym (ap (λ m. if m == t then d else pos 0) e ∙ ap (λ b. if b then d else pos 0) (same t))
 
-      off_place : s ≢ t → s < length slots → number_at (row_at (length slots + 1) table t) s ≡ d *ℤ only (get_or slots s 0) (pos 1) t
+      off_index : s ≢ t → s < length slots → number_at (row_at (length slots + 1) table t) s ≡ d *ℤ only (get_or slots s 0) (pos 1) t
           → number_at (row_at (length slots + 1) table t) s ≡ (if s == t then d else pos 0)
-      off_place ne inside h = h ∙ ap (λ b. d *ℤ (if b then pos 1 else pos 0)) (differs t (get_or slots s 0) (λ e. ne (same_place slots s t small.held.distinct inside lt (sym (here ∙ e)))))
+      off_index ne inside h = h ∙ ap (λ b. d *ℤ (if b then pos 1 else pos 0)) (differs t (get_or slots s 0) (λ e. ne (same_index slots s t small.held.distinct inside lt (sym (here ∙ e)))))
           ∙ *ℤ-zero d ∙ sym (ap (λ b. if b then d else pos 0) (differs s t ne))
 
       at : (s ≡ length slots) ⊎ (s ≢ length slots) → (s ≡ t) ⊎ (s ≢ t) → number_at (row_at (length slots + 1) table t) s ≡ (if s == t then d else pos 0)
       at (inl e) (inl f) = absurd (omega arith)
       at (inl e) (inr ne) = ap (number_at (row_at (length slots + 1) table t)) e ∙ own_constant system members slots d table small.held t below here
           ∙ sym (ap (λ b. if b then d else pos 0) (differs s t ne))
-      at (inr last) (inl e) = at_place e (own_number system members slots d table small.held t below here s (omega (arith, width)))
-      at (inr last) (inr ne) = off_place ne (omega (arith, width)) (own_number system members slots d table small.held t below here s (omega (arith, width)))
+      at (inr last) (inl e) = at_index e (own_number system members slots d table small.held t below here s (omega (arith, width)))
+      at (inr last) (inr ne) = off_index ne (omega (arith, width)) (own_number system members slots d table small.held t below here s (omega (arith, width)))
 
   module _ (room : HasRoom system most) (i : ℕ) (lt : i < length system.rows) (coeffs : List ℤ) (constant : ℤ) (coeffs_are : (row_of system i).coeffs ≡ coeffs)
       (constant_is : (row_of system i).constant ≡ constant) (each : length coeffs ≡ length slots) where

@@ -20,14 +20,14 @@ within-set most xs n z all h k lt = ⊎_elim
     at_n : k ≡ n → n < length xs
     at_n e = omega (arith, inside)
 
--- the row with the new member's number at its place
+-- the row with the new member's number at its index
 pub renewed_row : (pivot old new : List ℤ) (p : ℕ) (negative : Bool) (d : ℤ) (most : ℕ) (z : ℤ) → length new ≡ length old → p < length old
     → ((k : ℕ) → k < length old → d *ℤ number_at new k ≡ (number_at old k *ℤ number_at pivot p) -ℤ (number_at pivot k *ℤ number_at old p))
     → RowWithin most new → z ≡ (if negative then neg_ℤ (number_at old p) else number_at old p) → unsigned_abs z ≤ most → RowRenewed pivot old (set new p z) p negative d most
 renewed_row pivot old new p negative d most z same lt done within is small = record {
   same_length = length-set new p z ∙ same;
   others = λ n less ne. ap (λ x. d *ℤ x) (get_or-set_other new p n z (pos 0) ne) ∙ done n less;
-  place = get_or-set_same new p z (pos 0) (subst (λ n. p < n) (sym same) lt) ∙ is;
+  index = get_or-set_same new p z (pos 0) (subst (λ n. p < n) (sym same) lt) ∙ is;
   within = within-set most new p z within small;
 }
 
@@ -38,7 +38,7 @@ whole_row pivot old new p negative most z sub lt one is within = record {
   same_length = length-set new p z ∙ sub.same_length;
   others = λ n less ne. ap (λ x. pos 1 *ℤ x) (get_or-set_other new p n z (pos 0) ne ∙ sub.numbers n less)
       ∙ by_one (number_at old n) (number_at pivot n *ℤ number_at old p) (number_at pivot p) one;
-  place = get_or-set_same new p z (pos 0) (subst (λ n. p < n) (sym sub.same_length) lt) ∙ is;
+  index = get_or-set_same new p z (pos 0) (subst (λ n. p < n) (sym sub.same_length) lt) ∙ is;
   within = within;
 }
   where

@@ -13,11 +13,11 @@ pub record IsAdded (by : ℤ) (row old new : List ℤ) : Type 0 where
   pub same_length : length new ≡ length old
   pub numbers : (s : ℕ) → s < length old → number_at new s ≡ number_at old s +ℤ (by *ℤ number_at row s)
 
--- the row of a column that is a member has d at its place, and 0 elsewhere
+-- the row of a column that is a member has d at its index, and 0 elsewhere
 abbrev pub IsOwnRow : List ℕ → ℤ → ℕ → List ℤ → Type 0
 IsOwnRow slots d t row = slice_index slots t ≡ t → (s : ℕ) → s < length row → number_at row s ≡ (if s == t then d else pos 0)
 
--- place s is the sum of the first n columns' numbers there, each times its coefficient
+-- index s is the sum of the first n columns' numbers there, each times its coefficient
 abbrev pub column_sum : ℕ → List ℤ → List ℤ → ℕ → ℕ → ℤ
 column_sum width coeffs table n s = sum_below n (λ t. number_at coeffs t *ℤ number_at (row_at width table t) s)
 
@@ -27,9 +27,9 @@ pub record IsRead (width : ℕ) (coeffs : List ℤ) (constant : ℤ) (table : Li
   pub coefficients : (s : ℕ) → suc s < width → number_at numbers s ≡ column_sum width coeffs table (length coeffs) s
   pub constant_is : (s : ℕ) → suc s ≡ width → number_at numbers s ≡ column_sum width coeffs table (length coeffs) s +ℤ (d *ℤ constant)
 
--- the places name every column whose number isn't 0, each once: a sum over columns that is 0 at the others is one over the places
+-- the indices name every column whose number isn't 0, each once: a sum over columns that is 0 at the others is one over the indices
 abbrev pub AreNamed : List ℤ → List ℕ → Type 0
-AreNamed constants places = (f : ℕ → ℤ) → ((t : ℕ) → t < length constants → number_at constants t ≡ pos 0 → f t ≡ pos 0) → sum_over f places ≡ sum_below (length constants) f
+AreNamed constants indices = (f : ℕ → ℤ) → ((t : ℕ) → t < length constants → number_at constants t ≡ pos 0 → f t ≡ pos 0) → sum_over f indices ≡ sum_below (length constants) f
 
 -- the variable of slot p isn't that of a row of the stack, and the numbers name it
 pub record IsOpen (columns : ℕ) (slots stack : List ℕ) (numbers : List ℤ) (p : ℕ) : Type 0 where

@@ -15,11 +15,11 @@ pub record IsSubtracted (by : ℤ) (pivot old new : List ℤ) : Type 0 where
   pub same_length : length new ≡ length old
   pub numbers : (n : ℕ) → n < length old → number_at new n ≡ number_at old n -ℤ (number_at pivot n *ℤ by)
 
--- the row after an exchange: by the signed row of the pivot, divided by the denominator d; the new member comes to the place p
+-- the row after an exchange: by the signed row of the pivot, divided by the denominator d; the new member comes to the index p
 pub record RowRenewed (pivot old new : List ℤ) (p : ℕ) (negative : Bool) (d : ℤ) (most : ℕ) : Type 0 where
   pub same_length : length new ≡ length old
   pub others : (n : ℕ) → n < length old → n ≢ p → d *ℤ number_at new n ≡ (number_at old n *ℤ number_at pivot p) -ℤ (number_at pivot n *ℤ number_at old p)
-  pub place : number_at new p ≡ (if negative then neg_ℤ (number_at old p) else number_at old p)
+  pub index : number_at new p ≡ (if negative then neg_ℤ (number_at old p) else number_at old p)
   pub within : RowWithin most new
 
 -- the row of a column in a table with rows of so many numbers

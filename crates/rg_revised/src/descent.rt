@@ -60,7 +60,9 @@ fn take(
     requires constants { HasConstants basis.old.slots.items basis.old.table.items basis.old.constants.items basis.old.named.items }
     requires named_room { length basis.old.slots.items ≤ vec_capacity basis.old.named }
     requires not_negative { pos 0 ≤ℤ most }
-    ensures told { (members : List ℕ) → IsSmallHeld (linear_system columns (own.now ++ further.now)) members basis.old.slots.items basis.old.d basis.old.table.items (unsigned_abs most) → StepTells (linear_system columns (own.now ++ further.now)) members (fixed_of (linear_system columns (own.now ++ further.now)) (reverse stack.now)) i (unsigned_abs most) basis.new.slots.items basis.new.d basis.new.table.items basis.new.numbers.items result }
+    ensures told { (members : List ℕ)
+        → IsSmallHeld (linear_system columns (own.now ++ further.now)) members basis.old.slots.items basis.old.d basis.old.table.items (unsigned_abs most)
+        → StepTells (linear_system columns (own.now ++ further.now)) members (fixed_of (linear_system columns (own.now ++ further.now)) (reverse stack.now)) i (unsigned_abs most) basis.new.slots.items basis.new.d basis.new.table.items basis.new.numbers.items result }
     ensures columns { length basis.new.slots.items ≡ length basis.old.slots.items }
     ensures width { length basis.new.numbers.items ≡ length basis.old.numbers.items }
     ensures size { length basis.new.table.items ≡ length basis.old.table.items }

@@ -54,13 +54,19 @@ pub fn rows_follow()
 pub fn rows_are_judged()
     ensures passed { (system : LinearSystem) (members : List ℕ) (i : ℕ) (k : Relation) → IsFree system members → i < length system.rows → IsRelationOf system members (row_variable system i) k → pos 0 ≤ℤ k.constant → IsPassed system members i }
     ensures outside { (system : LinearSystem) (members : List ℕ) (w : ℕ) (k : Relation) → IsFree system members → IsRelationOf system members w k → k.constant <ℤ pos 0 → ¬ Contains members w }
-    ensures stuck { (system : LinearSystem) (members fixed : List ℕ) (i : ℕ) (k : Relation) → IsFree system members → i < length system.rows → IsRelationOf system members (row_variable system i) k → k.constant <ℤ pos 0 → ((m : ℕ) → Contains members m → ¬ Contains fixed m → k.coefficient m ≡ pos 0) → IsStuck system members fixed i }
-    ensures chooses { (system : LinearSystem) (members fixed : List ℕ) (i j : ℕ) (k : Relation) → IsFree system members → i < length system.rows → IsRelationOf system members (row_variable system i) k → k.constant <ℤ pos 0 → Contains members j → ¬ Contains fixed j → k.coefficient j ≢ pos 0 → ((m : ℕ) → Contains members m → ¬ Contains fixed m → m < j → k.coefficient m ≡ pos 0) → Chooses system members fixed i j }
+    ensures stuck { (system : LinearSystem) (members fixed : List ℕ) (i : ℕ) (k : Relation) → IsFree system members → i < length system.rows
+        → IsRelationOf system members (row_variable system i) k → k.constant <ℤ pos 0 → ((m : ℕ) → Contains members m → ¬ Contains fixed m → k.coefficient m ≡ pos 0)
+        → IsStuck system members fixed i }
+    ensures chooses { (system : LinearSystem) (members fixed : List ℕ) (i j : ℕ) (k : Relation) → IsFree system members → i < length system.rows
+        → IsRelationOf system members (row_variable system i) k → k.constant <ℤ pos 0 → Contains members j → ¬ Contains fixed j → k.coefficient j ≢ pos 0
+        → ((m : ℕ) → Contains members m → ¬ Contains fixed m → m < j → k.coefficient m ≡ pos 0) → Chooses system members fixed i j }
 {}
 
 /// An exchange renews the relations of the columns; the new denominator is the size of the coefficient of the member that leaves.
 pub fn basis_is_exchanged()
-    ensures { (system : LinearSystem) (members : List ℕ) (d : ℤ) (relation : ℕ → Relation) (i j : ℕ) (k : Relation) → IsBasis system members d relation → i < variables system → ¬ Contains members i → IsRelationOf system members i k → k.d ≡ d → Contains members j → k.coefficient j ≢ pos 0 → (relation' : ℕ → Relation) → AreRenewed system d k i j relation relation' → IsBasis system (exchanged members i j) (size (k.coefficient j)) relation' }
+    ensures { (system : LinearSystem) (members : List ℕ) (d : ℤ) (relation : ℕ → Relation) (i j : ℕ) (k : Relation) → IsBasis system members d relation
+        → i < variables system → ¬ Contains members i → IsRelationOf system members i k → k.d ≡ d → Contains members j → k.coefficient j ≢ pos 0
+        → (relation' : ℕ → Relation) → AreRenewed system d k i j relation relation' → IsBasis system (exchanged members i j) (size (k.coefficient j)) relation' }
 {}
 
 /// Where the numbers of the columns' relations are small, no term of an exchange is out of range.
@@ -70,6 +76,10 @@ pub fn small_is_not_wide()
 
 /// What a row of the cycle walk comes to is read off any relation of it.
 pub fn walk_is_judged()
-    ensures skipped { (system : LinearSystem) (members : List ℕ) (i : ℕ) (k : Relation) → IsFree system members → i < length system.rows → ¬ Contains members (row_variable system i) → IsRelationOf system members (row_variable system i) k → ((t : ℕ) → t < system.columns → k.coefficient t ≡ pos 0) → IsSkipped system members i }
-    ensures picks { (system : LinearSystem) (members : List ℕ) (i j : ℕ) (k : Relation) → IsFree system members → i < length system.rows → ¬ Contains members (row_variable system i) → IsRelationOf system members (row_variable system i) k → j < system.columns → k.coefficient j ≢ pos 0 → ((t : ℕ) → t < j → k.coefficient t ≡ pos 0) → Picks system members i j }
+    ensures skipped { (system : LinearSystem) (members : List ℕ) (i : ℕ) (k : Relation) → IsFree system members → i < length system.rows
+        → ¬ Contains members (row_variable system i) → IsRelationOf system members (row_variable system i) k → ((t : ℕ) → t < system.columns → k.coefficient t ≡ pos 0)
+        → IsSkipped system members i }
+    ensures picks { (system : LinearSystem) (members : List ℕ) (i j : ℕ) (k : Relation) → IsFree system members → i < length system.rows
+        → ¬ Contains members (row_variable system i) → IsRelationOf system members (row_variable system i) k → j < system.columns → k.coefficient j ≢ pos 0
+        → ((t : ℕ) → t < j → k.coefficient t ≡ pos 0) → Picks system members i j }
 {}

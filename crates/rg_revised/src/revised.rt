@@ -42,7 +42,9 @@ impl Model for Revised {
 
     ghost view = { λ a. record { columns = length a.basis.slots.items; slots = a.basis.slots.items; d = a.basis.d; table = a.basis.table.items; numbers = a.basis.numbers.items; constants = a.basis.constants.items; named = a.basis.named.items; failing = a.failing; factor = a.factor } };
 
-    ghost invariant = { λ a. IsStored (record { columns = length a.basis.slots.items; slots = a.basis.slots.items; d = a.basis.d; table = a.basis.table.items; numbers = a.basis.numbers.items; constants = a.basis.constants.items; named = a.basis.named.items; failing = a.failing; factor = a.factor }) (vec_capacity a.basis.named) (vec_capacity a.stack) };
+    ghost invariant = { λ a. IsStored
+        (record { columns = length a.basis.slots.items; slots = a.basis.slots.items; d = a.basis.d; table = a.basis.table.items; numbers = a.basis.numbers.items; constants = a.basis.constants.items; named = a.basis.named.items; failing = a.failing; factor = a.factor })
+        (vec_capacity a.basis.named) (vec_capacity a.stack) };
 }
 
 // The greatest number of 64 bits with a sign.

@@ -222,7 +222,7 @@ fn subtract(row: &mut [i64], pivot: &[i64], by: i64)
 // said of the row.
 fn renew_whole(row: &mut [i64], pivot: &[i64], p: usize, negative: bool, most: i64) -> bool
     requires same_length { length pivot.now ≡ length row.old }
-    requires place { p < length row.old }
+    requires index { p < length row.old }
     requires one { number_at pivot.now p ≡ pos 1 }
     requires short { AreShort row.old }
     requires pivot { AreShort pivot.now }
@@ -239,7 +239,7 @@ fn renew_whole(row: &mut [i64], pivot: &[i64], p: usize, negative: bool, most: i
 // The row after an exchange, number by number.
 fn renew_each(row: &mut [i64], pivot: &[i64], p: usize, negative: bool, d: i64, most: i64) -> bool
     requires same_length { length pivot.now ≡ length row.old }
-    requires place { p < length row.old }
+    requires index { p < length row.old }
     requires positive { pos 0 <ℤ d }
     requires not_negative { pos 0 ≤ℤ most }
     requires within { RowWithin (unsigned_abs most) row.old }
@@ -257,7 +257,7 @@ fn renew_each(row: &mut [i64], pivot: &[i64], p: usize, negative: bool, d: i64, 
     true
 }
 
-/// The row after the exchange of the pivot with the member at place `p`: `pivot` is the pivot's row with the sign at which its
+/// The row after the exchange of the pivot with the member at index `p`: `pivot` is the pivot's row with the sign at which its
 /// number at `p` is positive, and `negative` says that it was turned for that; where `short` is true its numbers are. False
 /// where a number is larger than `most` or isn't a multiple of `d`; then nothing is said of the row.
 pub(crate) fn renew_row(
@@ -270,7 +270,7 @@ pub(crate) fn renew_row(
     short: bool,
 ) -> bool
     requires same_length { length pivot.now ≡ length row.old }
-    requires place { p < length row.old }
+    requires index { p < length row.old }
     requires positive { pos 0 <ℤ d }
     requires not_negative { pos 0 ≤ℤ most }
     requires within { RowWithin (unsigned_abs most) row.old }

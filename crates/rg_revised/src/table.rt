@@ -17,7 +17,7 @@ pub(crate) fn renew_table(
     most: i64,
 ) -> bool
     requires size { length table.old ≡ columns * length pivot.now }
-    requires place { p < length pivot.now }
+    requires index { p < length pivot.now }
     requires positive { pos 0 <ℤ d }
     requires not_negative { pos 0 ≤ℤ most }
     requires within { TableWithin (length pivot.now) columns (unsigned_abs most) table.old }

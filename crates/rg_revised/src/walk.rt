@@ -94,10 +94,10 @@ fn replace(members: &mut Vec<u32>, leaves: u32, enters: u32)
     ensures exchanged { members.new.items ≡ exchanged members.old.items enters leaves }
     ensures length { length members.new.items ≡ length members.old.items }
 {
-    let Some(place) = slot_of(members, leaves) else {
+    let Some(index) = slot_of(members, leaves) else {
         unreachable!()
     };
-    members.remove(place);
+    members.remove(index);
     match members.push(enters) {
         Ok(()) => {}
         Err(_) => unreachable!(),
@@ -113,7 +113,8 @@ fn take_vector(
     i: u32,
     most: i64,
 ) -> Taken
-    requires whole { (system : LinearSystem) × IsSmallHeld system members.old.items basis.old.slots.items basis.old.d basis.old.table.items (unsigned_abs most) × HasRoom system (unsigned_abs most) × (i < length system.rows) × ((row_of system i).coeffs ≡ coeffs.now) × ((row_of system i).constant ≡ pos 0) }
+    requires whole { (system : LinearSystem) × IsSmallHeld system members.old.items basis.old.slots.items basis.old.d basis.old.table.items (unsigned_abs most)
+        × HasRoom system (unsigned_abs most) × (i < length system.rows) × ((row_of system i).coeffs ≡ coeffs.now) × ((row_of system i).constant ≡ pos 0) }
     requires ahead { (m : ℕ) → Contains members.old.items m → m < columns + i }
     requires columns { length basis.old.slots.items ≡ columns }
     requires width { length basis.old.numbers.items ≡ length basis.old.slots.items + 1 }

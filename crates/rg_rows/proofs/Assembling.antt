@@ -19,17 +19,17 @@ use Rattle.rg_order_of_work.specs.Meaning.{IsCaseOver}
 use Rattle.rg_order_of_work.proofs.FormBounds.{forms_bounded}
 use Rattle.rg_order_of_work.proofs.FormRows.{form_fits}
 use Rattle.rg_rows.specs.declared.named_form.NamedForm.{NamedForm}
-use Rattle.rg_rows.specs.View.{ArePlaces, fold_of}
+use Rattle.rg_rows.specs.View.{AreIndices, fold_of}
 use Rattle.rg_rows.specs.Forms.{linear_form, split_of, StandsInRow, IsFormOf, AreFormsOf}
 use Rattle.rg_rows.specs.Making.{IsMade}
 use Rattle.rg_rows.proofs.FormRoom.{bounds_ordered, forms_few, room_few}
 use Rattle.rg_rows.proofs.FormTimes.{stands_in_row, over_row}
 
 module _ (lts : System) (tree : List Arc) (basis : CycleBasis) (class : Class) (problem : Problem) (number : ℕ) (names : List RowName) (case : CaseSystem)
-    (all : List KeptRow) (places : List ℕ) (made : each (fold_of lts tree basis class problem number) names (Ok all)) (are : ArePlaces all case.kept places)
-    (forms : List NamedForm) (is_made : All (IsMade lts class case.columns all places) forms) where
+    (all : List KeptRow) (indices : List ℕ) (made : each (fold_of lts tree basis class problem number) names (Ok all)) (are : AreIndices all case.kept indices)
+    (forms : List NamedForm) (is_made : All (IsMade lts class case.columns all indices) forms) where
   pub all_stand : All (StandsInRow lts tree basis class problem number (rows_of case)) forms
-  all_stand k d lt = stands_in_row lts tree basis class problem number names case all places made are case.columns (slice_index_or forms k d) (is_made k d lt)
+  all_stand k d lt = stands_in_row lts tree basis class problem number names case all indices made are case.columns (slice_index_or forms k d) (is_made k d lt)
 
   module _ (forms_are : map linear_form forms ≡ case.forms) (splits : map split_of forms ≡ split_forms lts class problem) (c : IsCaseOver lts tree basis class problem number case) (few_states : states lts ≤ 4096) where
     forms_length : length forms ≡ length case.forms
@@ -51,7 +51,7 @@ module _ (lts : System) (tree : List Arc) (basis : CycleBasis) (class : Class) (
           low_in_range = fits.0;
           high_in_range = fits.1;
           times_in_range = m.times_in_range;
-          over = over_row lts tree basis class problem number names case all places made are case.columns (slice_index_or forms k d) m;
+          over = over_row lts tree basis class problem number names case all indices made are case.columns (slice_index_or forms k d) m;
         }
 
     pub all_forms : HasNumbersInRange class → case.columns + length (rows_of case).rows + 4096 * (states lts + labels lts + 1) < 2 ^ 32 → AreFormsOf (rows_of case) forms

@@ -23,7 +23,7 @@ use Rattle.rg_order_of_work.specs.FormRows.{form_row}
 use Rattle.rg_order_of_work.proofs.FormRows.{same_terms, form_over_row}
 use Rattle.rg_order_of_work.proofs.Forms.{each_at}
 use Rattle.rg_order_of_work.proofs.Folding.{behind, each_next, each_fails, each_ends}
-use Rattle.rg_order_of_work.proofs.Items.{from_place}
+use Rattle.rg_order_of_work.proofs.Items.{from_index}
 use Rattle.rg_integers.specs.Range.{InRange}
 use Rattle.rg_rows.specs.declared.case_row.CaseRow.{CaseRow}
 use Rattle.rg_rows.specs.declared.named_form.NamedForm.{NamedForm}
@@ -148,32 +148,32 @@ module _ (lts : System) (tree : List Arc) (basis : CycleBasis) (class : Class) (
       refl) row in
       (max divisor 1, omega arith, same)
 
--- the row at a place, and its name
-pub row_at_place : (lts : System) (tree : List Arc) (basis : CycleBasis) (class : Class) (problem : Problem) (number : ℕ) (names : List RowName) (all : List KeptRow)
+-- the row at an index, and its name
+pub row_at_index : (lts : System) (tree : List Arc) (basis : CycleBasis) (class : Class) (problem : Problem) (number : ℕ) (names : List RowName) (all : List KeptRow)
     (i : ℕ) (name : RowName) (k : KeptRow) → each (fold_of lts tree basis class problem number) names (Ok all) → i < length names → slice_index_or names i name ≡ name
     → slice_index_or all i k ≡ k → fold_of lts tree basis class problem number name (Ok k) × (k.name ≡ name)
-row_at_place lts tree basis class problem number names all i name k made lt at at_k =
+row_at_index lts tree basis class problem number names all i name k made lt at at_k =
     let fold = subst (λ n. fold_of lts tree basis class problem number n (Ok k)) at (subst (λ r. fold_of lts tree basis class problem number (slice_index_or names i name) (Ok r)) at_k (each_at (fold_of lts tree basis class problem number) names all i name k made lt)) in
     (fold, named fold)
   where
     named : fold_of lts tree basis class problem number name (Ok k) → k.name ≡ name
     named (scaled, terms, (constant, product, (same, d))) = same
 
--- ---- the forms of the rows before place i
+-- ---- the forms of the rows before index i
 
-pub record Keeps (lts : System) (tree : List Arc) (basis : CycleBasis) (class : Class) (names : List RowName) (rows : List CaseRow) (places : List ℕ) (i : ℕ) (forms : List NamedForm) : Type 0 where
+pub record Keeps (lts : System) (tree : List Arc) (basis : CycleBasis) (class : Class) (names : List RowName) (rows : List CaseRow) (indices : List ℕ) (i : ℕ) (forms : List NamedForm) : Type 0 where
   pub so_far : (r : Result (List Form) Wide) → each (form_fold lts tree basis class) (forms_in class (drop i names)) r → each (form_fold lts tree basis class) (forms_in class names) (behind (map linear_form forms) r)
   pub splits : map split_of forms ++ forms_in class (drop i names) ≡ forms_in class names
-  pub made : All (IsMade lts class (column_count lts basis class) (map kept_row rows) places) forms
+  pub made : All (IsMade lts class (column_count lts basis class) (map kept_row rows) indices) forms
 
--- ---- the row at place i, which has a form
+-- ---- the row at index i, which has a form
 
 module _ (lts : System) (tree : List Arc) (basis : CycleBasis) (class : Class) (problem : Problem) (number : ℕ) (names : List RowName) (i : ℕ) (d : RowName) (lt : i < length names) where
   abbrev name : RowName
   name = slice_index_or names i d
 
   pub next_name : drop i names ≡ slice_index_or names i d ∷ drop (i + 1) names
-  next_name = from_place names i d lt
+  next_name = from_index names i d lt
 
   module _ (form : SplitForm) (is_form : Some form ≡ form_in class (slice_index_or names i d)) (e : Expression) (is_e : e ≡ row_expression lts class problem number [] (slice_index_or names i d)) where
     named : name ≡ form_row lts.initial form
@@ -206,18 +206,18 @@ module _ (lts : System) (tree : List Arc) (basis : CycleBasis) (class : Class) (
 
     module _ (rows : List CaseRow) (lt' : i < length rows) (made : each (fold_of lts tree basis class problem number) names (Ok (map kept_row rows))) (row : CaseRow) (is_row : row ≡ slice_index_or rows i row) where
       row_is : fold_of lts tree basis class problem number name (Ok (kept_row row)) × ((kept_row row).name ≡ name)
-      row_is = row_at_place lts tree basis class problem number names (map kept_row rows) i name (kept_row row) made
+      row_is = row_at_index lts tree basis class problem number names (map kept_row rows) i name (kept_row row) made
           lt (get_or_default names i name d lt)
           (get_or-map kept_row rows i row (kept_row row) lt' ∙ ap kept_row (sym is_row))
 
       pub step_times : (s : Scaled) → terms_fold lts tree basis class e.terms (Ok s) → (t : ℕ) × (0 < t) × (s.numbers ≡ map (λ z. pos t *ℤ z) (arc_slice_items row.coeffs))
       step_times s h = times_row lts tree basis class problem number form e is_split s (kept_row row) h (subst (λ n. fold_of lts tree basis class problem number n (Ok (kept_row row))) named row_is.0)
 
-      pub step_made : (columns : ℕ) (places : List ℕ) (f : NamedForm) → f.form ≡ form → IsPartOf f (arc_slice_items row.coeffs) (slice_index_or places i 0)
+      pub step_made : (columns : ℕ) (indices : List ℕ) (f : NamedForm) → f.form ≡ form → IsPartOf f (arc_slice_items row.coeffs) (slice_index_or indices i 0)
           → (f.low ≡ form_low form) × (f.high ≡ form_high lts class form) → length (arc_slice_items f.coeffs) ≡ columns
           → (HasNumbersInRange class → pos 0 <ℤ f.scale) → InRange f.scale → All InRange (arc_slice_items f.coeffs) → InRange f.times
-          → IsMade lts class columns (map kept_row rows) places f
-      step_made columns places f same part bounds one_each positive scale coeffs times = record {
+          → IsMade lts class columns (map kept_row rows) indices f
+      step_made columns indices f same part bounds one_each positive scale coeffs times = record {
         number = i;
         row = kept_row row;
         at = row_got rows i row lt' is_row;

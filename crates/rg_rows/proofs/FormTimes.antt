@@ -30,7 +30,7 @@ use Rattle.rg_order_of_work.proofs.FormRows.{multiple_of_kept, number_times, num
 use Rattle.rg_order_of_work.proofs.SystemRows.{made_from}
 use Rattle.rg_order_of_work.proofs.OneResult.{row_one}
 use Rattle.rg_rows.specs.declared.named_form.NamedForm.{NamedForm}
-use Rattle.rg_rows.specs.View.{ArePlaces, fold_of}
+use Rattle.rg_rows.specs.View.{AreIndices, fold_of}
 use Rattle.rg_rows.specs.Forms.{linear_form, split_of, StandsInRow}
 use Rattle.rg_rows.specs.Making.{IsMade}
 
@@ -50,8 +50,8 @@ has_at : (xs : List KeptRow) (i : ℕ) (r : KeptRow) → slice_get xs i ≡ Some
 has_at xs i r at = (i, slice_get_within xs i r at, get_or_from_slice_get xs i r r at)
 
 module _ (lts : System) (tree : List Arc) (basis : CycleBasis) (class : Class) (problem : Problem) (number : ℕ) (names : List RowName) (case : CaseSystem)
-    (all : List KeptRow) (places : List ℕ) (made : each (fold_of lts tree basis class problem number) names (Ok all)) (are : ArePlaces all case.kept places)
-    (columns : ℕ) (f : NamedForm) (is : IsMade lts class columns all places f) where
+    (all : List KeptRow) (indices : List ℕ) (made : each (fold_of lts tree basis class problem number) names (Ok all)) (are : AreIndices all case.kept indices)
+    (columns : ℕ) (f : NamedForm) (is : IsMade lts class columns all indices f) where
   own_fold : fold_of lts tree basis class problem number (form_row lts.initial (split_of f)) (Ok is.row)
   own_fold =
       let (name, has, fold) = made_from (fold_of lts tree basis class problem number) names all is.row made (has_at all is.number is.row is.at) in
@@ -60,23 +60,23 @@ module _ (lts : System) (tree : List Arc) (basis : CycleBasis) (class : Class) (
       name_is : (name : RowName) → fold_of lts tree basis class problem number name (Ok is.row) → is.row.name ≡ name
       name_is name (scaled, terms, (constant, product, (same, d))) = same
 
-  -- a form with coefficients is a multiple of the kept row at its place
-  place_is : (arc_slice_items f.coeffs) ≡ map (λ z. f.times *ℤ z) is.row.row.coeffs → f.row ≡ slice_index_or places is.number 0 → ¬ IsZeroVector (arc_slice_items f.coeffs) → slice_get (rows_of case).rows f.row ≡ Some is.row.row
-  place_is e place some = ap (λ p. slice_get (rows_of case).rows p) place ∙ are.each is.number is.row is.at (λ (zeros, weak). some (subst IsZeroVector (sym e) (times_zero f.times is.row.row.coeffs zeros)))
+  -- a form with coefficients is a multiple of the kept row at its index
+  index_is : (arc_slice_items f.coeffs) ≡ map (λ z. f.times *ℤ z) is.row.row.coeffs → f.row ≡ slice_index_or indices is.number 0 → ¬ IsZeroVector (arc_slice_items f.coeffs) → slice_get (rows_of case).rows f.row ≡ Some is.row.row
+  index_is e index some = ap (λ p. slice_get (rows_of case).rows p) index ∙ are.each is.number is.row is.at (λ (zeros, weak). some (subst IsZeroVector (sym e) (times_zero f.times is.row.row.coeffs zeros)))
 
   pub stands_in_row : StandsInRow lts tree basis class problem number (rows_of case) f
   stands_in_row = λ k fold.
       (let one = (row_one lts tree basis class (form_row lts.initial (split_of f)) (row_expression lts class problem number [] (form_row lts.initial (split_of f)))).one (Ok is.row) (Ok k) own_fold fold in
       let same : is.row ≡ k = cc in
       ⊎_elim
-      (λ (positive, e, place, some). inl (differs f.times positive, place_is e place some ∙ ap (λ (r : KeptRow). Some r.row) same))
+      (λ (positive, e, index, some). inl (differs f.times positive, index_is e index some ∙ ap (λ (r : KeptRow). Some r.row) same))
       (λ none. inr none)
       is.part)
 
   pub over_row : IsMultipleOfRow (rows_of case) (linear_form f) f.row f.times
   over_row = ⊎_elim
-      (λ (positive, e, place, some).
-      (let at = place_is e place some in
+      (λ (positive, e, index, some).
+      (let at = index_is e index some in
       let within : f.row < length case.kept = subst (λ n. f.row < n) (length-map case.kept (λ (k : KeptRow). k.row)) (slice_get_within (rows_of case).rows f.row is.row.row at) in
       subst (IsMultipleOfRow (rows_of case) (linear_form f) f.row) (positive_is f.times positive)
       (multiple_of_kept case (linear_form f) is.row f.row (unsigned_abs f.times) (e ∙ ap (λ t. map (λ z. t *ℤ z) is.row.row.coeffs) (sym (positive_is f.times positive))) within (get_or_from_slice_get (rows_of case).rows f.row is.row.row is.row.row at))))
@@ -149,16 +149,16 @@ zeros_are numbers i zeros past k d lt = get_or_default numbers k d (pos 0) lt �
 abbrev pub Tells : ℤ → ℕ → List ℤ → Type 0
 Tells t d numbers = ((t ≡ pos d) × ¬ IsZeroVector numbers) ⊎ ((t ≡ pos 0) × IsZeroVector numbers)
 
-pub part_of_none : (times t : ℤ) (items coeffs : List ℤ) (row place d : ℕ) → 0 < d → row ≡ 0 → times ≡ t → t ≡ pos 0 → Tells t d items → ((pos 0 <ℤ times) × (items ≡ map (λ z. times *ℤ z) coeffs) × (row ≡ place) × ¬ IsZeroVector items) ⊎ ((times ≡ pos 0) × (row ≡ 0) × IsZeroVector items)
-part_of_none times t items coeffs row place d some at same none tells = ⊎_elim (λ (is, busy). absurd (no d some (sym is ∙ none))) (λ (is, zeros). inr (same ∙ none, at, zeros)) tells
+pub part_of_none : (times t : ℤ) (items coeffs : List ℤ) (row index d : ℕ) → 0 < d → row ≡ 0 → times ≡ t → t ≡ pos 0 → Tells t d items → ((pos 0 <ℤ times) × (items ≡ map (λ z. times *ℤ z) coeffs) × (row ≡ index) × ¬ IsZeroVector items) ⊎ ((times ≡ pos 0) × (row ≡ 0) × IsZeroVector items)
+part_of_none times t items coeffs row index d some at same none tells = ⊎_elim (λ (is, busy). absurd (no d some (sym is ∙ none))) (λ (is, zeros). inr (same ∙ none, at, zeros)) tells
   where
     no : (d : ℕ) → 0 < d → pos d ≡ pos 0 → ⊥
     no d h e = omega (arith, ints)
 
-pub part_of_some : (times t : ℤ) (items coeffs : List ℤ) (row place d : ℕ) → 0 < d → row ≡ place → times ≡ t → (t ≡ pos 0 → ⊥) → items ≡ map (λ z. pos d *ℤ z) coeffs
-    → Tells t d items → ((pos 0 <ℤ times) × (items ≡ map (λ z. times *ℤ z) coeffs) × (row ≡ place) × ¬ IsZeroVector items)
+pub part_of_some : (times t : ℤ) (items coeffs : List ℤ) (row index d : ℕ) → 0 < d → row ≡ index → times ≡ t → (t ≡ pos 0 → ⊥) → items ≡ map (λ z. pos d *ℤ z) coeffs
+    → Tells t d items → ((pos 0 <ℤ times) × (items ≡ map (λ z. times *ℤ z) coeffs) × (row ≡ index) × ¬ IsZeroVector items)
     ⊎ ((times ≡ pos 0) × (row ≡ 0) × IsZeroVector items)
-part_of_some times t items coeffs row place d some at same differ are tells = ⊎_elim
+part_of_some times t items coeffs row index d some at same differ are tells = ⊎_elim
     (λ (is, busy). inl (subst (λ z. pos 0 <ℤ z) (sym (same ∙ is)) (positive d some), are ∙ ap (λ m. map (λ z. m *ℤ z) coeffs) (sym (same ∙ is)), at, busy))
     (λ (is, zeros). absurd (differ is))
     tells

@@ -15,26 +15,26 @@ use Rattle.rg_linear.specs.System.{LinearRow}
 use Rattle.rg_linear.proofs.Splits.{index-front}
 use Rattle.rg_order_of_work.specs.Rewriting.{KeptRow, IsIdle}
 use Rattle.rg_cycles.proofs.Firsts.{has_numbers}
-use Rattle.rg_rows.specs.View.{numbers_of, kept_row, ArePlaces}
+use Rattle.rg_rows.specs.View.{numbers_of, kept_row, AreIndices}
 use Rattle.rg_rows.proofs.Keeping.{same_row}
 
--- the kept rows have the numbers of the keys, in order, and the rows before i have their places
-pub record PlacesSoFar (all : List KeptRow) (i : ℕ) (kept : List KeptRow) (keys : List (Bor (List ℤ))) (places : List ℕ) : Type 0 where
+-- the kept rows have the numbers of the keys, in order, and the rows before i have their indices
+pub record IndicesSoFar (all : List KeptRow) (i : ℕ) (kept : List KeptRow) (keys : List (Bor (List ℤ))) (indices : List ℕ) : Type 0 where
   pub few : length kept ≤ i
   pub keys_are : map (λ (q : Bor (List ℤ)). q.now) keys ≡ map (λ (k : KeptRow). numbers_of k.row) kept
-  pub one_each : length places ≡ i
-  pub each : (j : ℕ) (r : KeptRow) → j < i → slice_get all j ≡ Some r → ¬ IsIdle r → slice_get (map (λ (k : KeptRow). k.row) kept) (slice_index_or places j 0) ≡ Some r.row
+  pub one_each : length indices ≡ i
+  pub each : (j : ℕ) (r : KeptRow) → j < i → slice_get all j ≡ Some r → ¬ IsIdle r → slice_get (map (λ (k : KeptRow). k.row) kept) (slice_index_or indices j 0) ≡ Some r.row
 
-pub places-start : (all : List KeptRow) (keys : List (Bor (List ℤ))) (places : List ℕ) → keys ≡ [] → places ≡ [] → PlacesSoFar all 0 [] keys places
-places-start all keys places none empty = record {
+pub indices-start : (all : List KeptRow) (keys : List (Bor (List ℤ))) (indices : List ℕ) → keys ≡ [] → indices ≡ [] → IndicesSoFar all 0 [] keys indices
+indices-start all keys indices none empty = record {
   few = omega arith;
   keys_are = ap (map (λ (q : Bor (List ℤ)). q.now)) none;
   one_each = ap length empty;
   each = λ j r lt at busy. absurd (omega arith);
 }
 
-pub places-end : (all : List KeptRow) (i : ℕ) (kept : List KeptRow) (keys : List (Bor (List ℤ))) (places : List ℕ) → PlacesSoFar all i kept keys places → i ≡ length all → ArePlaces all kept places
-places-end all i kept keys places so_far end = record {
+pub indices-end : (all : List KeptRow) (i : ℕ) (kept : List KeptRow) (keys : List (Bor (List ℤ))) (indices : List ℕ) → IndicesSoFar all i kept keys indices → i ≡ length all → AreIndices all kept indices
+indices-end all i kept keys indices so_far end = record {
   one_each = so_far.one_each ∙ end;
   each = λ j r at busy. so_far.each j r (subst (λ n. j < n) (sym end) (within all j r at)) at busy;
 }
@@ -49,14 +49,14 @@ get_front [] ys p r e = cc
 get_front (x ∷ xs) ys zero r e = e
 get_front (x ∷ xs) ys (suc p) r e = get_front xs ys p r e
 
--- the row with the numbers of the key at a place
-row_at_key : (kept : List KeptRow) (keys : List (Bor (List ℤ))) (place : ℕ) (k v : Bor (List ℤ)) (x : KeptRow)
-    → map (λ (q : Bor (List ℤ)). q.now) keys ≡ map (λ (r : KeptRow). numbers_of r.row) kept → slice_get keys place ≡ Some k → pointwise int_eq v.now k.now ≡ true
-    → v.now ≡ numbers_of x.row → slice_get (map (λ (r : KeptRow). r.row) kept) place ≡ Some x.row
-row_at_key kept keys place k v x same at equal is =
+-- the row with the numbers of the key at an index
+row_at_key : (kept : List KeptRow) (keys : List (Bor (List ℤ))) (index : ℕ) (k v : Bor (List ℤ)) (x : KeptRow)
+    → map (λ (q : Bor (List ℤ)). q.now) keys ≡ map (λ (r : KeptRow). numbers_of r.row) kept → slice_get keys index ≡ Some k → pointwise int_eq v.now k.now ≡ true
+    → v.now ≡ numbers_of x.row → slice_get (map (λ (r : KeptRow). r.row) kept) index ≡ Some x.row
+row_at_key kept keys index k v x same at equal is =
     let numbers : v.now ≡ k.now = (slice_eq-Decides Decides-int_eq v.now k.now true (sym equal)).0 refl in
-    let there = sym (slice_get-map (λ (r : KeptRow). numbers_of r.row) kept place) ∙ ap (λ l. slice_get l place) (sym same) ∙ slice_get-map (λ (q : Bor (List ℤ)). q.now) keys place ∙ ap (option_map (λ (q : Bor (List ℤ)). q.now)) at in
-    slice_get-map (λ (r : KeptRow). r.row) kept place ∙ go (slice_get kept place) (there ∙ ap (λ l. Some l) (sym numbers ∙ is))
+    let there = sym (slice_get-map (λ (r : KeptRow). numbers_of r.row) kept index) ∙ ap (λ l. slice_get l index) (sym same) ∙ slice_get-map (λ (q : Bor (List ℤ)). q.now) keys index ∙ ap (option_map (λ (q : Bor (List ℤ)). q.now)) at in
+    slice_get-map (λ (r : KeptRow). r.row) kept index ∙ go (slice_get kept index) (there ∙ ap (λ l. Some l) (sym numbers ∙ is))
   where
     go : (o : Option KeptRow) → option_map (λ (r : KeptRow). numbers_of r.row) o ≡ Some (numbers_of x.row) → option_map (λ (r : KeptRow). r.row) o ≡ Some x.row
     go None e = cc
@@ -65,28 +65,28 @@ row_at_key kept keys place k v x same at equal is =
         only : Some (numbers_of y.row) ≡ Some (numbers_of x.row) → numbers_of y.row ≡ numbers_of x.row
         only e = cc
 
-module _ (all : List KeptRow) (i : ℕ) (kept : List KeptRow) (keys : List (Bor (List ℤ))) (places : List ℕ) (so_far : PlacesSoFar all i kept keys places) (x : KeptRow) (at : slice_get all i ≡ Some x) where
-  -- a place more, of row i
-  more : (kept' : List KeptRow) (keys' : List (Bor (List ℤ))) (place : ℕ) → length kept' ≤ i + 1
+module _ (all : List KeptRow) (i : ℕ) (kept : List KeptRow) (keys : List (Bor (List ℤ))) (indices : List ℕ) (so_far : IndicesSoFar all i kept keys indices) (x : KeptRow) (at : slice_get all i ≡ Some x) where
+  -- an index more, of row i
+  more : (kept' : List KeptRow) (keys' : List (Bor (List ℤ))) (index : ℕ) → length kept' ≤ i + 1
       → map (λ (q : Bor (List ℤ)). q.now) keys' ≡ map (λ (k : KeptRow). numbers_of k.row) kept'
       → ((p : ℕ) (r : LinearRow) → slice_get (map (λ (k : KeptRow). k.row) kept) p ≡ Some r → slice_get (map (λ (k : KeptRow). k.row) kept') p ≡ Some r)
-      → (¬ IsIdle x → slice_get (map (λ (k : KeptRow). k.row) kept') place ≡ Some x.row) → PlacesSoFar all (i + 1) kept' keys' (places ++ place ∷ [])
-  more kept' keys' place few same stay here = record {
+      → (¬ IsIdle x → slice_get (map (λ (k : KeptRow). k.row) kept') index ≡ Some x.row) → IndicesSoFar all (i + 1) kept' keys' (indices ++ index ∷ [])
+  more kept' keys' index few same stay here = record {
     few = few;
     keys_are = same;
-    one_each = length-append places (place ∷ []) ∙ ap (λ n. n + 1) so_far.one_each;
+    one_each = length-append indices (index ∷ []) ∙ ap (λ n. n + 1) so_far.one_each;
     each = λ j r lt at' busy. each j r lt at' busy;
   }
     where
       below : (j : ℕ) → j < i + 1 → (j < i) ⊎ (j ≡ i)
       below j lt = ⊎_elim (λ less. inl less) (λ past. inr (omega arith)) (cases_lt j i)
 
-      each : (j : ℕ) (r : KeptRow) → j < i + 1 → slice_get all j ≡ Some r → ¬ IsIdle r → slice_get (map (λ (k : KeptRow). k.row) kept') (slice_index_or (places ++ place ∷ []) j 0) ≡ Some r.row
+      each : (j : ℕ) (r : KeptRow) → j < i + 1 → slice_get all j ≡ Some r → ¬ IsIdle r → slice_get (map (λ (k : KeptRow). k.row) kept') (slice_index_or (indices ++ index ∷ []) j 0) ≡ Some r.row
       each j r lt at' busy = ⊎_elim
-          (λ less. (let front = index-front places (place ∷ []) 0 j (subst (λ n. j < n) (sym so_far.one_each) less) in ap (λ p. slice_get (map (λ (k : KeptRow). k.row) kept') p) front ∙ stay (slice_index_or places j 0) r.row (so_far.each j r less at' busy)))
+          (λ less. (let front = index-front indices (index ∷ []) 0 j (subst (λ n. j < n) (sym so_far.one_each) less) in ap (λ p. slice_get (map (λ (k : KeptRow). k.row) kept') p) front ∙ stay (slice_index_or indices j 0) r.row (so_far.each j r less at' busy)))
           (λ is. (let same_x : Some r ≡ Some x = sym at' ∙ ap (λ n. slice_get all n) is ∙ at in
           let r_is = only same_x in
-          let last = ap (λ n. slice_index_or (places ++ place ∷ []) n 0) (is ∙ sym so_far.one_each) ∙ get_or-append_seam places place [] 0 in
+          let last = ap (λ n. slice_index_or (indices ++ index ∷ []) n 0) (is ∙ sym so_far.one_each) ∙ get_or-append_seam indices index [] 0 in
           ap (λ p. slice_get (map (λ (k : KeptRow). k.row) kept') p) last ∙ here (subst (λ (y : KeptRow). ¬ IsIdle y) r_is busy) ∙ ap (λ (y : KeptRow). Some y.row) (sym r_is)))
           (below j lt)
         where
@@ -94,11 +94,11 @@ module _ (all : List KeptRow) (i : ℕ) (kept : List KeptRow) (keys : List (Bor 
           only e = cc
 
   -- it is idle
-  pub places-idle : IsIdle x → PlacesSoFar all (i + 1) kept keys (places ++ 0 ∷ [])
-  places-idle idle = more kept keys 0 (let h = so_far.few in omega arith) so_far.keys_are (λ p r e. e) (λ busy. absurd (busy idle))
+  pub indices-idle : IsIdle x → IndicesSoFar all (i + 1) kept keys (indices ++ 0 ∷ [])
+  indices-idle idle = more kept keys 0 (let h = so_far.few in omega arith) so_far.keys_are (λ p r e. e) (λ busy. absurd (busy idle))
 
-  module _ (keys' : List (Bor (List ℤ))) (v k : Bor (List ℤ)) (place : ℕ) (is : v.now ≡ numbers_of x.row) (added : Bool) (says : added ≡ not (has_numbers keys v.now))
-      (inserts : keys' ≡ (if has_numbers keys v.now then keys else keys ++ v ∷ [])) (stored : slice_get keys' place ≡ Some k)
+  module _ (keys' : List (Bor (List ℤ))) (v k : Bor (List ℤ)) (index : ℕ) (is : v.now ≡ numbers_of x.row) (added : Bool) (says : added ≡ not (has_numbers keys v.now))
+      (inserts : keys' ≡ (if has_numbers keys v.now then keys else keys ++ v ∷ [])) (stored : slice_get keys' index ≡ Some k)
       (equal : pointwise int_eq v.now k.now ≡ true) where
     has_is : (a : Bool) (b : Bool) → a ≡ not b → a ≡ true → b ≡ false
     has_is a true p q = cc
@@ -111,9 +111,9 @@ module _ (all : List KeptRow) (i : ℕ) (kept : List KeptRow) (keys : List (Bor 
     pub keys_stay : added ≡ false → keys' ≡ keys
     keys_stay was = inserts ∙ ap (λ b. if b then keys else keys ++ v ∷ []) (has_not added (has_numbers keys v.now) says was)
 
-    pub place_fits : place < i + 1
-    place_fits =
-        let lt = slice_get_within keys' place k stored in
+    pub index_fits : index < i + 1
+    index_fits =
+        let lt = slice_get_within keys' index k stored in
         let e = ap length inserts ∙ size (has_numbers keys v.now) in
         let n = sym (length-map keys (λ (q : Bor (List ℤ)). q.now)) ∙ ap length so_far.keys_are ∙ length-map kept (λ (y : KeptRow). numbers_of y.row) in
         let h = so_far.few in
@@ -123,26 +123,26 @@ module _ (all : List KeptRow) (i : ℕ) (kept : List KeptRow) (keys : List (Bor 
         size true = refl
         size false = length-append keys (v ∷ [])
 
-        short : (b : Bool) (n m l : ℕ) → l ≡ (if b then n else n + 1) → n ≡ m → place < l → m ≤ i → place < i + 1
+        short : (b : Bool) (n m l : ℕ) → l ≡ (if b then n else n + 1) → n ≡ m → index < l → m ≤ i → index < i + 1
         short true n m l e f lt le = omega arith
         short false n m l e f lt le = omega arith
 
     -- it is kept
-    pub places-new : added ≡ true → PlacesSoFar all (i + 1) (kept ++ x ∷ []) keys' (places ++ place ∷ [])
-    places-new was =
+    pub indices-new : added ≡ true → IndicesSoFar all (i + 1) (kept ++ x ∷ []) keys' (indices ++ index ∷ [])
+    indices-new was =
         let fresh = has_is added (has_numbers keys v.now) says was in
         let keys_are : keys' ≡ keys ++ v ∷ [] = inserts ∙ ap (λ b. if b then keys else keys ++ v ∷ []) fresh in
         let same = ap (map (λ (q : Bor (List ℤ)). q.now)) keys_are ∙ map-append (λ (q : Bor (List ℤ)). q.now) keys (v ∷ []) ∙ ap (λ l. l ++ v.now ∷ []) so_far.keys_are
         ∙ ap (λ n. map (λ (y : KeptRow). numbers_of y.row) kept ++ n ∷ []) is ∙ sym (map-append (λ (y : KeptRow). numbers_of y.row) kept (x ∷ [])) in
-        more (kept ++ x ∷ []) keys' place (let h = so_far.few in let e = length-append kept (x ∷ []) in omega arith) same
+        more (kept ++ x ∷ []) keys' index (let h = so_far.few in let e = length-append kept (x ∷ []) in omega arith) same
         (λ p r e. ap (λ l. slice_get l p) (map-append (λ (y : KeptRow). y.row) kept (x ∷ [])) ∙ get_front (map (λ (y : KeptRow). y.row) kept) (x.row ∷ []) p r e)
-        (λ busy. row_at_key (kept ++ x ∷ []) keys' place k v x same stored equal is)
+        (λ busy. row_at_key (kept ++ x ∷ []) keys' index k v x same stored equal is)
 
     -- an equal row is kept
-    pub places-old : added ≡ false → PlacesSoFar all (i + 1) kept keys' (places ++ place ∷ [])
-    places-old was =
+    pub indices-old : added ≡ false → IndicesSoFar all (i + 1) kept keys' (indices ++ index ∷ [])
+    indices-old was =
         let same = ap (map (λ (q : Bor (List ℤ)). q.now)) (keys_stay was) ∙ so_far.keys_are in
-        more kept keys' place (let h = so_far.few in omega arith) same (λ p r e. e) (λ busy. row_at_key kept keys' place k v x same stored equal is)
+        more kept keys' index (let h = so_far.few in omega arith) same (λ p r e. e) (λ busy. row_at_key kept keys' index k v x same stored equal is)
 
 -- a row of the code
 pub row_got : (all : List CaseRow) (i : ℕ) (row : CaseRow) → i < length all → row ≡ slice_index_or all i row → slice_get (map kept_row all) i ≡ Some (kept_row row)

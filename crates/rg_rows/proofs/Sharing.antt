@@ -96,7 +96,7 @@ module _ (lts : System) (tree : List Arc) (basis : CycleBasis) (class : Class) (
   )
   terms_shared result (Err x) so value one_each wide = (subst (λ (y : Expression). terms_fold lts tree basis class y.terms (Err x)) is (wide x so lts class same are), tt)
 
--- what holds of each item and its place holds with one item more
+-- what holds of each item and its index holds with one item more
 pub each_pushed : {T : Type 0} (P : ℕ → T → Type 0) (xs : List T) (x : T) → ((i : ℕ) (y : T) → slice_get xs i ≡ Some y → P i y) → P (length xs) x → (i : ℕ) (y : T) → slice_get (xs ++ x ∷ []) i ≡ Some y → P i y
 each_pushed {T} P [] x each here zero y e = subst (P 0) (only e) here
   where

@@ -23,7 +23,7 @@ use Rattle.rg_rows.specs.declared.named_form.NamedForm.{NamedForm}
 use Rattle.rg_rows.specs.View.{kept_row, fold_of}
 use Rattle.rg_rows.specs.Forms.{linear_form, split_of, IsPartOf}
 use Rattle.rg_rows.specs.Making.{IsMade}
-use Rattle.rg_rows.proofs.FormSteps.{terms_are, form_of_terms, form_of_none, times_row, row_at_place}
+use Rattle.rg_rows.proofs.FormSteps.{terms_are, form_of_terms, form_of_none, times_row, row_at_index}
 use Rattle.rg_rows.proofs.Placing.{row_got}
 use Rattle.rg_refuting.specs.declared.RowName.{RowName}
 use Rattle.rg_refuting.specs.declared.RowName.TheVariants as row_name
@@ -60,7 +60,7 @@ module _ (lts : System) (tree : List Arc) (basis : CycleBasis) (class : Class) (
       (is_row : row ≡ slice_index_or rows i row) where
     start_row : fold_of lts tree basis class problem number (row_name.Tokens lts.initial) (Ok (kept_row row)) × ((kept_row row).name ≡ row_name.Tokens lts.initial)
     start_row =
-        row_at_place lts tree basis class problem number names (map kept_row rows) i (row_name.Tokens lts.initial) (kept_row row) made lt
+        row_at_index lts tree basis class problem number names (map kept_row rows) i (row_name.Tokens lts.initial) (kept_row row) made lt
         ((here (row_name.Tokens lts.initial)) ∙ ap row_name.Tokens at)
         (get_or-map kept_row rows i row (kept_row row) lt' ∙ ap kept_row (sym is_row))
 
@@ -69,9 +69,9 @@ module _ (lts : System) (tree : List Arc) (basis : CycleBasis) (class : Class) (
         times_row lts tree basis class problem number split_form.Start (row_expression lts class problem number [] (row_name.Tokens lts.initial)) refl s (kept_row row)
         (subst (λ m. terms_fold lts tree basis class (row_expression lts class problem number [] (row_name.Tokens m)).terms (Ok s)) at terms) start_row.0
 
-    pub start_is_made : (columns : ℕ) (places : List ℕ) (f : NamedForm) → split_of f ≡ split_form.Start → IsPartOf f (arc_slice_items row.coeffs) (slice_index_or places i 0) → f.scale ≡ pos (step_of class split_form.Start)
-        → f.low ≡ form_low split_form.Start → f.high ≡ form_high lts class split_form.Start → length (arc_slice_items f.coeffs) ≡ columns → InRange f.scale → All InRange (arc_slice_items f.coeffs) → InRange f.times → IsMade lts class columns (map kept_row rows) places f
-    start_is_made columns places f same part is_scale low high one_each scale coeffs times = record {
+    pub start_is_made : (columns : ℕ) (indices : List ℕ) (f : NamedForm) → split_of f ≡ split_form.Start → IsPartOf f (arc_slice_items row.coeffs) (slice_index_or indices i 0) → f.scale ≡ pos (step_of class split_form.Start)
+        → f.low ≡ form_low split_form.Start → f.high ≡ form_high lts class split_form.Start → length (arc_slice_items f.coeffs) ≡ columns → InRange f.scale → All InRange (arc_slice_items f.coeffs) → InRange f.times → IsMade lts class columns (map kept_row rows) indices f
+    start_is_made columns indices f same part is_scale low high one_each scale coeffs times = record {
       number = i;
       row = kept_row row;
       at = row_got rows i row lt' is_row;

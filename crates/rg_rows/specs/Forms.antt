@@ -51,8 +51,8 @@ case_forms class problem names = forms_in class names ++ (if splits_start class 
 
 -- the form is the row times a positive number, and is not 0, or it is 0 and names no row
 abbrev pub IsPartOf : NamedForm → List ℤ → ℕ → Type 0
-IsPartOf f coeffs place =
-    ((pos 0 <ℤ f.times) × ((arc_slice_items f.coeffs) ≡ map (λ z. f.times *ℤ z) coeffs) × (f.row ≡ place) × ¬ IsZeroVector (arc_slice_items f.coeffs))
+IsPartOf f coeffs index =
+    ((pos 0 <ℤ f.times) × ((arc_slice_items f.coeffs) ≡ map (λ z. f.times *ℤ z) coeffs) × (f.row ≡ index) × ¬ IsZeroVector (arc_slice_items f.coeffs))
     ⊎ ((f.times ≡ pos 0) × (f.row ≡ 0) × IsZeroVector (arc_slice_items f.coeffs))
 
 -- the row of the form is the one that stayed for `tokens` of its state, the initial one for the start, or `down` of its label; a form without coefficients

@@ -10,13 +10,13 @@ use Rattle.rg_order_of_work.specs.FormRows.{form_row}
 use Rattle.rg_rows.specs.declared.named_form.NamedForm.{NamedForm}
 use Rattle.rg_rows.specs.Forms.{split_of, IsPartOf}
 
--- it has the terms of one of the rows, and names the place of that row; its numbers are in range
-pub record IsMade (lts : System) (class : Class) (columns : ℕ) (all : List KeptRow) (places : List ℕ) (f : NamedForm) : Type 0 where
+-- it has the terms of one of the rows, and names the index of that row; its numbers are in range
+pub record IsMade (lts : System) (class : Class) (columns : ℕ) (all : List KeptRow) (indices : List ℕ) (f : NamedForm) : Type 0 where
   pub number : ℕ
   pub row : KeptRow
   pub at : slice_get all number ≡ Some row
   pub named : row.name ≡ form_row lts.initial (split_of f)
-  pub part : IsPartOf f row.row.coeffs (slice_index_or places number 0)
+  pub part : IsPartOf f row.row.coeffs (slice_index_or indices number 0)
   pub bounds : (f.low ≡ form_low (split_of f)) × (f.high ≡ form_high lts class (split_of f))
   pub one_each : length (arc_slice_items f.coeffs) ≡ columns
   pub positive : HasNumbersInRange class → pos 0 <ℤ f.scale

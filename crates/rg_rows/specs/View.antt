@@ -46,10 +46,10 @@ pub record ShowsRows (r : CaseRows) (kept : List KeptRow) : Type 0 where
   pub names : r.names.items ≡ map (λ k. k.name) kept
   pub factors : map ratio_of r.factors.items ≡ map (λ k. k.factor) kept
 
--- each row that isn't left out is the kept row at its place
-pub record ArePlaces (all kept : List KeptRow) (places : List ℕ) : Type 0 where
-  pub one_each : length places ≡ length all
-  pub each : (i : ℕ) (r : KeptRow) → slice_get all i ≡ Some r → ¬ IsIdle r → slice_get (map (λ k. k.row) kept) (slice_index_or places i 0) ≡ Some r.row
+-- each row that isn't left out is the kept row at its index
+pub record AreIndices (all kept : List KeptRow) (indices : List ℕ) : Type 0 where
+  pub one_each : length indices ≡ length all
+  pub each : (i : ℕ) (r : KeptRow) → slice_get all i ≡ Some r → ¬ IsIdle r → slice_get (map (λ k. k.row) kept) (slice_index_or indices i 0) ≡ Some r.row
 
 -- the row's terms name states of the system
 abbrev pub AreNamesWithin : System → Class → Problem → ℕ → List RowName → Type 0

@@ -46,7 +46,7 @@ pub(crate) fn case_forms(
     case: ProblemCase,
     names: &[RowName],
     rows: &[HeldRow<'_>],
-    places: &[u32],
+    indices: &[u32],
 ) -> Result<Vec<NamedForm>, FoldStop>
     requires tree { IsTreeOf lts.now tree.now }
     requires labels { labels_of basis.now ≡ labels lts.now }
@@ -54,16 +54,16 @@ pub(crate) fn case_forms(
     requires names { AreNamesWithin lts.now case.class case.problem case.number names.now }
     requires rows { each (fold_of lts.now tree.now.arcs (cycle_of basis.now) case.class case.problem case.number) names.now (Ok (map kept_row (map row_in rows.now))) }
     requires one_each { length rows.now ≡ length names.now }
-    requires places { length places.now ≡ length rows.now }
+    requires indices { length indices.now ≡ length rows.now }
     requires start { IsTrue (splits_start case.class case.problem) → Contains names.now (row_name.Tokens lts.now.initial) }
     ensures value { IfOk result (λ v. each (form_fold lts.now tree.now.arcs (cycle_of basis.now) case.class) (case_forms case.class case.problem names.now) (Ok (map linear_form v.items))) }
     ensures forms { IfOk result (λ v. map split_of v.items ≡ case_forms case.class case.problem names.now) }
-    ensures made { IfOk result (λ v. All (IsMade lts.now case.class (column_count lts.now (cycle_of basis.now) case.class) (map kept_row (map row_in rows.now)) places.now) v.items) }
+    ensures made { IfOk result (λ v. All (IsMade lts.now case.class (column_count lts.now (cycle_of basis.now) case.class) (map kept_row (map row_in rows.now)) indices.now) v.items) }
     ensures wide { (w : Wide) → IsErrOf result (stop.Wide w) → each (form_fold lts.now tree.now.arcs (cycle_of basis.now) case.class) (case_forms case.class case.problem names.now) (Err w) }
 {
-    let mut forms = forms(alloc, lts, tree, basis, common, case, names, rows, places)?;
+    let mut forms = forms(alloc, lts, tree, basis, common, case, names, rows, indices)?;
     if splits_start(case.class, case.problem) {
-        let start = start_form(alloc, lts, tree, basis, common, case, names, rows, places)?;
+        let start = start_form(alloc, lts, tree, basis, common, case, names, rows, indices)?;
         forms.push(start)?;
     }
     Ok(forms)
@@ -89,7 +89,7 @@ fn start_form(
     case: ProblemCase,
     names: &[RowName],
     rows: &[HeldRow<'_>],
-    places: &[u32],
+    indices: &[u32],
 ) -> Result<NamedForm, FoldStop>
     requires tree { IsTreeOf lts.now tree.now }
     requires labels { labels_of basis.now ≡ labels lts.now }
@@ -97,15 +97,15 @@ fn start_form(
     requires names { AreNamesWithin lts.now case.class case.problem case.number names.now }
     requires rows { each (fold_of lts.now tree.now.arcs (cycle_of basis.now) case.class case.problem case.number) names.now (Ok (map kept_row (map row_in rows.now))) }
     requires one_each { length rows.now ≡ length names.now }
-    requires places { length places.now ≡ length rows.now }
+    requires indices { length indices.now ≡ length rows.now }
     requires start { Contains names.now (row_name.Tokens lts.now.initial) }
     ensures value { IfOk result (λ f. form_fold lts.now tree.now.arcs (cycle_of basis.now) case.class split_form.Start (Ok (linear_form f))) }
     ensures form { IfOk result (λ f. split_of f ≡ split_form.Start) }
-    ensures made { IfOk result (λ f. IsMade lts.now case.class (column_count lts.now (cycle_of basis.now) case.class) (map kept_row (map row_in rows.now)) places.now f) }
+    ensures made { IfOk result (λ f. IsMade lts.now case.class (column_count lts.now (cycle_of basis.now) case.class) (map kept_row (map row_in rows.now)) indices.now f) }
     ensures wide { (w : Wide) → IsErrOf result (stop.Wide w) → form_fold lts.now tree.now.arcs (cycle_of basis.now) case.class split_form.Start (Err w) }
 {
     let name = RowName::Tokens(lts.initial());
-    let i = place_of(names, name);
+    let i = index_of(names, name);
     let scaled = terms_in_case(alloc, lts, tree, basis, common, case, name)?;
     let scale = start_scale(case.class);
     let form = form_over(
@@ -115,7 +115,7 @@ fn start_form(
         scale,
         scaled,
         rows[i].row(),
-        places[i],
+        indices[i],
     )?;
     Ok(form)
 }
@@ -128,8 +128,8 @@ fn start_scale(class: Class) -> i128
     i128::from(Form::Start.step(class))
 }
 
-// The place of a name among names that have it.
-fn place_of(names: &[RowName], name: RowName) -> usize
+// The index of a name among names that have it.
+fn index_of(names: &[RowName], name: RowName) -> usize
     requires { Contains names.now name }
     ensures within { result < length names.now }
     ensures here { (d : RowName) → slice_index_or names.now result d ≡ name }
@@ -153,7 +153,7 @@ fn forms(
     case: ProblemCase,
     names: &[RowName],
     rows: &[HeldRow<'_>],
-    places: &[u32],
+    indices: &[u32],
 ) -> Result<Vec<NamedForm>, FoldStop>
     requires tree { IsTreeOf lts.now tree.now }
     requires labels { labels_of basis.now ≡ labels lts.now }
@@ -161,10 +161,10 @@ fn forms(
     requires names { AreNamesWithin lts.now case.class case.problem case.number names.now }
     requires rows { each (fold_of lts.now tree.now.arcs (cycle_of basis.now) case.class case.problem case.number) names.now (Ok (map kept_row (map row_in rows.now))) }
     requires one_each { length rows.now ≡ length names.now }
-    requires places { length places.now ≡ length rows.now }
+    requires indices { length indices.now ≡ length rows.now }
     ensures value { IfOk result (λ v. each (form_fold lts.now tree.now.arcs (cycle_of basis.now) case.class) (forms_in case.class names.now) (Ok (map linear_form v.items))) }
     ensures forms { IfOk result (λ v. map split_of v.items ≡ forms_in case.class names.now) }
-    ensures made { IfOk result (λ v. All (IsMade lts.now case.class (column_count lts.now (cycle_of basis.now) case.class) (map kept_row (map row_in rows.now)) places.now) v.items) }
+    ensures made { IfOk result (λ v. All (IsMade lts.now case.class (column_count lts.now (cycle_of basis.now) case.class) (map kept_row (map row_in rows.now)) indices.now) v.items) }
     ensures wide { (w : Wide) → IsErrOf result (stop.Wide w) → each (form_fold lts.now tree.now.arcs (cycle_of basis.now) case.class) (forms_in case.class names.now) (Err w) }
 {
     let mut forms = Vec::new(alloc);
@@ -178,7 +178,7 @@ fn forms(
                 scaled.multiple,
                 scaled,
                 rows[i].row(),
-                places[i],
+                indices[i],
             )?;
             forms.push(named)?;
         }
@@ -243,13 +243,13 @@ fn form_over(
     scale: i128,
     scaled: Scaled,
     row: &CaseRow,
-    place: u32,
+    index: u32,
 ) -> Result<NamedForm, AllocError>
     requires { (d : ℕ) × (0 < d) × (scaled.numbers.items ≡ map (λ z. pos d *ℤ z) (arc_slice_items row.now.coeffs)) }
     ensures form { IfOk result (λ f. f.form ≡ form) }
     ensures numbers { IfOk result (λ f. (f.scale ≡ scale) × (arc_slice_items f.coeffs ≡ scaled.numbers.items)) }
     ensures bounds { IfOk result (λ f. (f.low ≡ form_low form) × (f.high ≡ form_high lts.now class form)) }
-    ensures row { IfOk result (λ f. IsPartOf f (arc_slice_items row.now.coeffs) place) }
+    ensures row { IfOk result (λ f. IsPartOf f (arc_slice_items row.now.coeffs) index) }
     ensures in_range { IfOk result (λ f. InRange f.times) }
 {
     let times = times(&scaled.numbers, &row.coeffs);
@@ -260,7 +260,7 @@ fn form_over(
         coeffs,
         low: low(form),
         high: high(lts, class, form),
-        row: if times == 0 { 0 } else { place },
+        row: if times == 0 { 0 } else { index },
         times,
     })
 }

@@ -2,7 +2,7 @@
 ghost use Rattle.std.specs.Prelude.{◌↔◌, ◌≡◌, ◌^◌, ◌<◌, ◌++◌, ◌∷◌, [], List, length, IsTrue, map, IfOk, OnOk};
 ghost use Rattle.rg_linear.specs.Firsts.{KeepsFirsts};
 ghost use Rattle.rg_order_of_work.specs.Rewriting.{KeptRow, IsIdle};
-ghost use Rattle.rg_rows.specs.View.{kept_row, row_in, ShowsRows, ArePlaces};
+ghost use Rattle.rg_rows.specs.View.{kept_row, row_in, ShowsRows, AreIndices};
 
 use crate::case_row::CaseRow;
 use crate::held_row::HeldRow;
@@ -24,10 +24,10 @@ pub(crate) struct CaseRows {
 // that are kept stands, for each row, the number of the kept row that it is, 0 where it is left out.
 pub(crate) fn firsts(alloc: Global, all: &[HeldRow<'_>]) -> Result<(CaseRows, Vec<u32>), AllocError>
     requires few { length all.now < 2 ^ 32 }
-    ensures { IfOk result (λ r. (kept : List KeptRow) × ShowsRows r.0 kept × KeepsFirsts (λ k. k.row) IsIdle [] (map kept_row (map row_in all.now)) kept × ArePlaces (map kept_row (map row_in all.now)) kept r.1.items) }
+    ensures { IfOk result (λ r. (kept : List KeptRow) × ShowsRows r.0 kept × KeepsFirsts (λ k. k.row) IsIdle [] (map kept_row (map row_in all.now)) kept × AreIndices (map kept_row (map row_in all.now)) kept r.1.items) }
 {
     let mut seen = IndexSet::new(alloc);
-    let mut places = Vec::new(alloc);
+    let mut indices = Vec::new(alloc);
     let mut kept = CaseRows {
         rows: Vec::new(alloc),
         names: Vec::new(alloc),
@@ -36,16 +36,16 @@ pub(crate) fn firsts(alloc: Global, all: &[HeldRow<'_>]) -> Result<(CaseRows, Ve
     for held in all {
         let row = held.row();
         if is_idle(row) {
-            places.push(0)?;
+            indices.push(0)?;
             continue;
         }
-        let (place, is_new) = seen.insert_full(row.key())?;
+        let (index, is_new) = seen.insert_full(row.key())?;
         if is_new {
             kept.push(row)?;
         }
-        places.push(place as u32)?;
+        indices.push(index as u32)?;
     }
-    Ok((kept, places))
+    Ok((kept, indices))
 }
 
 impl CaseRows {

@@ -117,8 +117,10 @@ pub fn system_with(
     };
     let names = names(alloc, lts, case, &common.columns)?;
     let all = rows(alloc, lts, tree, basis, common, case, &names)?;
-    let (kept, places) = firsts(alloc, &all)?;
-    let forms = case_forms(alloc, lts, tree, basis, common, case, &names, &all, &places)?;
+    let (kept, indices) = firsts(alloc, &all)?;
+    let forms = case_forms(
+        alloc, lts, tree, basis, common, case, &names, &all, &indices,
+    )?;
     Ok(NamedSystem {
         system: System::new(common.columns.count(basis), kept.rows),
         names: kept.names,

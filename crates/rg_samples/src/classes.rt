@@ -1,46 +1,40 @@
 //! Classes.
-use rg_theory::Class;
-
-/// No condition: the class of all nets.
-pub const NONE: Class = Class {
-    pure: false,
-    plain: false,
-    bound: None,
-    marking: None,
-    nonbranching: false,
-};
+use rg_theory::{ALL_NETS, Class};
 
 /// `pure`.
-pub const PURE: Class = Class { pure: true, ..NONE };
+pub const PURE: Class = Class {
+    pure: true,
+    ..ALL_NETS
+};
 
 /// `plain`.
 pub const PLAIN: Class = Class {
     plain: true,
-    ..NONE
+    ..ALL_NETS
 };
 
 /// `safe`.
 pub const SAFE: Class = Class {
     bound: Some(1),
-    ..NONE
+    ..ALL_NETS
 };
 
 /// `2-bounded`.
 pub const TWO_BOUNDED: Class = Class {
     bound: Some(2),
-    ..NONE
+    ..ALL_NETS
 };
 
 /// `2-marking`.
 pub const TWO_MARKING: Class = Class {
     marking: Some(2),
-    ..NONE
+    ..ALL_NETS
 };
 
 /// `output-nonbranching`.
 pub const NONBRANCHING: Class = Class {
     nonbranching: true,
-    ..NONE
+    ..ALL_NETS
 };
 
 /// `pure,safe`.

@@ -5,7 +5,7 @@ mod classes;
 mod reading;
 mod systems;
 
-pub use classes::{NONBRANCHING, NONE, PLAIN, PURE, PURE_AND_SAFE, SAFE, TWO_BOUNDED, TWO_MARKING};
+pub use classes::{NONBRANCHING, PLAIN, PURE, PURE_AND_SAFE, SAFE, TWO_BOUNDED, TWO_MARKING};
 pub use reading::{net, system, system_of};
 pub use systems::{
     ABA, CHOICE, CHOICE_NET, CYCLE, DEAD, IN_TURN, LOOP, LOOP_AND_STEP, STEP, THERE_AND_BACK,

@@ -45,8 +45,8 @@ fn chord_vector(alloc: Global, tree: &Tree, labels: u32, a: Arc) -> Result<Vec<i
     let target = tree.parikh(a.to);
     let mut vector = Vec::new(alloc);
     for t in 0..labels {
-        let place = t as usize;
-        vector.push(difference(source[place], t == a.label, target[place]))?;
+        let index = t as usize;
+        vector.push(difference(source[index], t == a.label, target[index]))?;
     }
     Ok(vector)
 }

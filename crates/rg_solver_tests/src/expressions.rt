@@ -5,8 +5,9 @@ use rg_reasons::Term::{Minus, Plus};
 use rg_reasons::{Expression, ProblemCase, expression};
 use rg_refuting::Variable::{Effect, Tokens};
 use rg_refuting::{Form, RowName, Side};
-use rg_samples::{ABA, NONBRANCHING, NONE, system};
+use rg_samples::{ABA, NONBRANCHING, system};
 use rg_spanning::Tree;
+use rg_theory::ALL_NETS;
 use rg_theory::Problem::{Event, States};
 use std::alloc::Global;
 use std::test::Fail;
@@ -28,7 +29,7 @@ fn the_order_and_the_consumer_are_told(rt: HostRuntime) -> Result<(), Fail> {
 
 // Label 0 at state 1.
 const STOPPED: ProblemCase = ProblemCase {
-    class: NONE,
+    class: ALL_NETS,
     problem: Event(1, 0),
     number: 0,
 };

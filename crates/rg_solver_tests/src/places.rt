@@ -15,12 +15,12 @@ use rg_lts::Lts;
 use rg_marks::RegionPlace;
 use rg_places::make_place;
 use rg_samples::{
-    ABA, CHOICE, CYCLE, LOOP_AND_STEP, NONBRANCHING, NONE, PLAIN, PURE, STEP, TWO_BOUNDED,
-    TWO_MARKING, system,
+    ABA, CHOICE, CYCLE, LOOP_AND_STEP, NONBRANCHING, PLAIN, PURE, STEP, TWO_BOUNDED, TWO_MARKING,
+    system,
 };
 use rg_spanning::Tree;
-use rg_theory::Class;
 use rg_theory::Problem::{self, Event, States};
+use rg_theory::{ALL_NETS, Class};
 use std::alloc::{AllocError, Global};
 use std::process::Abort;
 use std::test::Fail;
@@ -149,7 +149,7 @@ const TWO_LABELS: [Worked; 7] = [
     // b takes the token that a needs and gives back
     Worked {
         text: LOOP_AND_STEP,
-        class: NONE,
+        class: ALL_NETS,
         problem: Event(1, 0),
         numbers: &[(-1, 2)],
         start: 1,
@@ -159,7 +159,7 @@ const TWO_LABELS: [Worked; 7] = [
     },
     Worked {
         text: LOOP_AND_STEP,
-        class: NONE,
+        class: ALL_NETS,
         problem: States(0, 1),
         numbers: &[(-1, 2)],
         start: 1,
@@ -169,7 +169,7 @@ const TWO_LABELS: [Worked; 7] = [
     },
     Worked {
         text: ABA,
-        class: NONE,
+        class: ALL_NETS,
         problem: Event(1, 0),
         numbers: &[(-1, 1), (1, 1)],
         start: 1,
@@ -200,7 +200,7 @@ const TWO_LABELS: [Worked; 7] = [
     },
     Worked {
         text: CHOICE,
-        class: NONE,
+        class: ALL_NETS,
         problem: Event(1, 1),
         numbers: &[(-1, 1), (-1, 1)],
         start: 1,
@@ -211,7 +211,7 @@ const TWO_LABELS: [Worked; 7] = [
     // the effect of b follows from that of a
     Worked {
         text: TWICE,
-        class: NONE,
+        class: ALL_NETS,
         problem: Event(2, 0),
         numbers: &[(-1, 1)],
         start: 2,
@@ -239,7 +239,7 @@ const WITH_TOKENS: [Worked; 6] = [
     },
     Worked {
         text: LOCK,
-        class: NONE,
+        class: ALL_NETS,
         problem: Event(1, 2),
         numbers: &[(1, 1), (1, 1)],
         start: 1,
@@ -280,7 +280,7 @@ const WITH_TOKENS: [Worked; 6] = [
     },
     Worked {
         text: TWICE,
-        class: NONE,
+        class: ALL_NETS,
         problem: Event(2, 0),
         numbers: &[(-1, 1)],
         start: 2,
@@ -351,7 +351,7 @@ fn starts_are_multiples(rt: HostRuntime) {
 
 // What the point of these numbers passes, in a problem of the lock.
 fn passed(alloc: Global, numbers: &[(i128, i128)]) -> Option<FoldStop> {
-    placed(alloc, LOCK, NONE, Event(1, 2), numbers)?.err()
+    placed(alloc, LOCK, ALL_NETS, Event(1, 2), numbers)?.err()
 }
 
 #[test]

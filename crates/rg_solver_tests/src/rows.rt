@@ -17,11 +17,11 @@ use rg_lts::Lts;
 use rg_refuting::RowName;
 use rg_rows::{Common, NamedForm, NamedSystem, cases, system_with};
 use rg_samples::{
-    ABA, CHOICE, CYCLE, IN_TURN, LOOP_AND_STEP, NONBRANCHING, NONE, PLAIN, PURE, SAFE, STEP, system,
+    ABA, CHOICE, CYCLE, IN_TURN, LOOP_AND_STEP, NONBRANCHING, PLAIN, PURE, SAFE, STEP, system,
 };
 use rg_spanning::Tree;
-use rg_theory::Class;
 use rg_theory::Problem::{self, Event, States};
+use rg_theory::{ALL_NETS, Class};
 use std::alloc::{AllocError, Global};
 use std::test::Fail;
 
@@ -147,12 +147,12 @@ const SYSTEMS: [(&str, Class, Problem, u32, &str); 19] = [
     ),
     (
         ABA,
-        NONE,
+        ALL_NETS,
         Event(1, 0),
         0,
         "1 2; Stop(0) [-1, 0] -1 1/1; Stop(2) [0, 1] -1 1/1",
     ),
-    (IN_TURN, NONE, States(0, 1), 0, "2 1; Apart [-1] -1 1/1"),
+    (IN_TURN, ALL_NETS, States(0, 1), 0, "2 1; Apart [-1] -1 1/1"),
     (
         CHOICE,
         NONBRANCHING,
@@ -175,7 +175,7 @@ const SYSTEMS: [(&str, Class, Problem, u32, &str); 19] = [
         1,
         "4 1; Apart [2] -1 1/1; Makes(0) [1] 0 1/2",
     ),
-    (CYCLE, NONE, States(0, 1), 0, "2 1; Apart [-1] -2 2/1"),
+    (CYCLE, ALL_NETS, States(0, 1), 0, "2 1; Apart [-1] -2 2/1"),
     // idle and equal rows are left out
     (
         IDLE,
@@ -244,7 +244,7 @@ const SYSTEMS: [(&str, Class, Problem, u32, &str); 19] = [
     ),
     (
         LOCK,
-        NONE,
+        ALL_NETS,
         Event(5, 4),
         0,
         "1 4; Stop(1) [0, 1, 0, 0] -1 1/1; Stop(3) [-1, 0, 0, 0] -1 1/1",

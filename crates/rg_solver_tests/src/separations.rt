@@ -4,10 +4,10 @@ ghost use Rattle.rg_theory.specs.ClassWords.{HasNumbersInRange};
 
 use rg_lts::Lts;
 use rg_ports::NoGate;
-use rg_samples::{ABA, CHOICE, CYCLE, DEAD, NONBRANCHING, NONE, SAFE, TWO_BOUNDED, system};
+use rg_samples::{ABA, CHOICE, CYCLE, DEAD, NONBRANCHING, SAFE, TWO_BOUNDED, system};
 use rg_separate::{Separation, separate};
 use rg_spanning::Tree;
-use rg_theory::Class;
+use rg_theory::{ALL_NETS, Class};
 use std::alloc::Global;
 use std::thread::Threads;
 
@@ -59,12 +59,12 @@ fn has_places<R: Threads + Sync>(
 fn places_are_counted(rt: HostRuntime) {
     for jobs in [1u8, 2, 7, 16] {
         for (text, class, count) in [
-            (ABA, NONE, Some(3)),
-            (CHOICE, NONE, Some(3)),
+            (ABA, ALL_NETS, Some(3)),
+            (CHOICE, ALL_NETS, Some(3)),
             (CHOICE, NONBRANCHING, None),
             (CYCLE, SAFE, None),
             (CYCLE, TWO_BOUNDED, Some(2)),
-            (DEAD, NONE, Some(1)),
+            (DEAD, ALL_NETS, Some(1)),
         ] {
             assert!(rt;
                 has_places(&rt, rt.alloc(), text, class, jobs, count),

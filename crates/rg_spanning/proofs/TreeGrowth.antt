@@ -230,14 +230,14 @@ joins_here lts order index s leaving i a leaves settled at lt is done fresh = re
         → (b ≡ a) ⊎ ((index < j) ⊎ ((index ≡ j) × IsArcBefore a b))
     first j b source has new = go (cases_order j index)
       where
-        same_place : j ≡ index → (b ≡ a) ⊎ IsArcBefore a b → (b ≡ a) ⊎ ((index < j) ⊎ ((index ≡ j) × IsArcBefore a b))
-        same_place e (inl q) = inl q
-        same_place e (inr q) = inr (inr (sym e, q))
+        same_index : j ≡ index → (b ≡ a) ⊎ IsArcBefore a b → (b ≡ a) ⊎ ((index < j) ⊎ ((index ≡ j) × IsArcBefore a b))
+        same_index e (inl q) = inl q
+        same_index e (inr q) = inr (inr (sym e, q))
 
         go : (j ≡ index) ⊎ ((j < index) ⊎ (index < j)) → (b ≡ a) ⊎ ((index < j) ⊎ ((index ≡ j) × IsArcBefore a b))
         go (inl e) =
             let here : b.from ≡ s = same_Some b.from s (sym source ∙ ap (slice_get order) e ∙ at) in
-            same_place e (among b ((leaves.members b).1 (has, here)) new)
+            same_index e (among b ((leaves.members b).1 (has, here)) new)
         go (inr (inl l)) = absurd (new (settled j b l source has))
         go (inr (inr l)) = inr (inl l)
 
@@ -287,8 +287,8 @@ done_more order leaving i d lt done here k e l = go (cases_eq k i)
         (subst (λ (x : Arc). Contains order x.to) (get_or_default leaving i d e lt) here)
     go (inr ne) = done k e (omega arith)
 
-place_push : (order : List ℕ) (x i s : ℕ) → slice_get order i ≡ Some s → slice_get (order ++ x ∷ []) i ≡ Some s
-place_push order x i s is =
+index_push : (order : List ℕ) (x i s : ℕ) → slice_get order i ≡ Some s → slice_get (order ++ x ∷ []) i ≡ Some s
+index_push order x i s is =
     let lt = slice_get_within order i s is in
     slice_get-get_or (order ++ x ∷ []) i s (let m = length-append order (x ∷ []) in omega arith) ∙ ap Some
     (get_or_append_left order (x ∷ []) s i lt ∙ get_or_from_slice_get order i s s is)
@@ -322,7 +322,7 @@ module _ (lts : System) (order : List ℕ) (tree : List Arc) (entries : List (Op
         growing = growing;
         settled = subst (λ xs. IsSettled lts xs index) (sym is)
             (settled_push lts order index x (let l = slice_get_within order index s j.at in omega arith) j.settled);
-        at = subst (λ xs. slice_get xs index ≡ Some s) (sym is) (place_push order x index s j.at);
+        at = subst (λ xs. slice_get xs index ≡ Some s) (sym is) (index_push order x index s j.at);
         done = subst (λ xs. (k : ℕ) (d : Arc) → k < i + 1 → Contains xs (slice_index_or leaving k d).to) (sym is)
             (done_more (order ++ x ∷ []) leaving i d lt (done_push order leaving i x j.done) (Contains-push order x));
       }

@@ -22,18 +22,9 @@ use rg_memory::NoMemory;
 use rg_ports::Gate;
 use rg_reasons::{Certificate, Reason};
 use rg_synth::{Answer, synthesize};
-use rg_theory::{Arc, Class};
+use rg_theory::{ALL_NETS, Arc};
 use std::alloc::Global;
 use std::thread::Threads;
-
-// The class of all nets.
-const ALL: Class = Class {
-    pure: false,
-    plain: false,
-    bound: None,
-    marking: None,
-    nonbranching: false,
-};
 
 // A system, and for each of its labels that of the file's system for which it stands.
 #[derive(Drop)]
@@ -97,7 +88,7 @@ pub(crate) fn take_round<R: Threads + Sync, G: Gate + Sync>(
     ensures ends { IfOk result (λ r. IfEnds r (EndsRound lts.now (labelling_of now))) }
     ensures goes_on { IfOk result (λ r. IfGoesOn r (λ n. LeadsTo lts.now (labelling_of now) (labelling_of n))) }
 {
-    match synthesize(rt, alloc, &now.system, ALL, jobs, gate)? {
+    match synthesize(rt, alloc, &now.system, ALL_NETS, jobs, gate)? {
         Answer::Net(net) => Ok(Round::Ends(Splitting::Done {
             system: now.system,
             old: now.old,

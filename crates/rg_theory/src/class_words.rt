@@ -9,7 +9,8 @@ ghost use Rattle.rg_theory.specs.declared.class_words.Condition.TheVariants as c
 ghost use Rattle.rg_theory.specs.declared.class_words.ClassFault.TheVariants as fault;
 ghost use Rattle.rg_theory.specs.ClassWords.{IsWordOf, no_condition, with_condition, with_conditions, asks_for, NamesClass, IsBadNumeral, IsRefusedWord, FirstRefusedWord, IsClassTold, class_text, HasNumbersInRange};
 
-use crate::Class;
+use crate::{ALL_NETS, Class};
+use rg_text::are_digits;
 
 /// Why a class isn't read: the first word that is refused, by its number from 0.
 #[derive(Clone, Copy, Debug, PartialEq, Eq)]
@@ -47,7 +48,7 @@ impl Class {
         ensures ok { IfOk result (NamesClass text.now) }
         ensures fault { IfErr result (FirstRefusedWord text.now) }
     {
-        let mut class = Class::all();
+        let mut class = ALL_NETS;
         if text == "none" {
             return Ok(class);
         }
@@ -57,19 +58,6 @@ impl Class {
             number += 1;
         }
         Ok(class)
-    }
-
-    // The class of all nets.
-    fn all() -> Class
-        ensures { result ≡ no_condition }
-    {
-        Class {
-            pure: false,
-            plain: false,
-            bound: None,
-            marking: None,
-            nonbranching: false,
-        }
     }
 
     // Adds the condition that word number i gives.
@@ -180,13 +168,6 @@ fn before<'a>(word: &'a str, tail: &str) -> Option<&'a str>
     ensures none { IfNone result ((front : List ℕ) → word.entry.now ≢ front ++ tail.now) }
 {
     word.strip_suffix(tail)
-}
-
-// Whether each byte is a digit.
-fn are_digits(text: &[u8]) -> bool
-    ensures { result ≡ list_all is_ascii_digit text.now }
-{
-    text.iter().all(|b| b.is_ascii_digit())
 }
 
 // The number from 1 to 255 that digits spell without a leading 0.

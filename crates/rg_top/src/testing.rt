@@ -27,27 +27,17 @@ use rg_net_verdict::{CheckStop, NetVerdict, check_net, solving_net_gets_yes};
 use rg_ports::Gate;
 use rg_reasons::{Certificate, WideAt};
 use rg_synth::{Answer as Outcome, synthesize};
-use rg_theory::Class;
+use rg_theory::{ALL_NETS, Class};
 use rg_verify::{Verdict, one_verdict, verify};
 use std::alloc::{AllocError, Global};
 use std::thread::Threads;
-
-// The class of all nets, in which grids and doublings are solved.
-const NONE: Class = Class {
-    pure: false,
-    plain: false,
-    bound: None,
-    marking: None,
-    nonbranching: false,
-};
 
 // The class in which locks are solved.
 const PURE_PLAIN_SAFE: Class = Class {
     pure: true,
     plain: true,
     bound: Some(1),
-    marking: None,
-    nonbranching: false,
+    ..ALL_NETS
 };
 
 // The most users of a lock.
@@ -107,8 +97,8 @@ fn three_lines<R: Threads + Sync, G: Gate + Sync>(
     ensures passes { (at : WideAt) → IsErrOf result (stop.TooWide at) → SelfTestEnds n (TooWide (Synthesis at)) [] (wide_line (Synthesis at)) }
 {
     let users = n.min(MOST_USERS);
-    let mut text = trial_line(rt, alloc, Kind::Grid, n, NONE, gate)?;
-    let doubling = trial_line(rt, alloc, Kind::Doubling, n, NONE, gate)?;
+    let mut text = trial_line(rt, alloc, Kind::Grid, n, ALL_NETS, gate)?;
+    let doubling = trial_line(rt, alloc, Kind::Doubling, n, ALL_NETS, gate)?;
     text.extend_from_slice(&doubling)?;
     let lock = trial_line(rt, alloc, Kind::Lock, users, PURE_PLAIN_SAFE, gate)?;
     text.extend_from_slice(&lock)?;

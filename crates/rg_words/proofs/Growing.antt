@@ -73,8 +73,8 @@ arcs_more all u known =
     ∙ ap (λ r. r ++ arc_of (prefixes (all ++ u ∷ [])) (label_names (all ++ u ∷ [])) u ∷ []) (ap₂ (λ w n. map (arc_of w n) all) words names ∙ stay)
 
 -- in a list of different things a thing stands at one index
-pub one_place : {X : Type 0} (xs : List X) (i j : ℕ) (x : X) → AllPairs (λ a b. a ≢ b) xs → slice_get xs i ≡ Some x → slice_get xs j ≡ Some x → i ≡ j
-one_place xs i j x differ here there = by (cases_order i j)
+pub one_index : {X : Type 0} (xs : List X) (i j : ℕ) (x : X) → AllPairs (λ a b. a ≢ b) xs → slice_get xs i ≡ Some x → slice_get xs j ≡ Some x → i ≡ j
+one_index xs i j x differ here there = by (cases_order i j)
   where
     lt_i : i < length xs
     lt_i = slice_get_within xs i x here
@@ -218,8 +218,8 @@ module _ (all : List Use) (steps : List (ℕ × ℕ)) (h : AreSteps all steps) (
           let n : suc i ≡ i + 1 = omega arith in
           let same = some_same (o.word ++ o.label ∷ []) (prefix u) (sym o.to ∙ ap (slice_get (prefixes all)) (sym n) ∙ found) in
           let both = last_same o.word u.before o.label u.label same in
-          let from : step.0 ≡ state = one_place (prefixes all) step.0 state u.before (prefixes_differ all) (o.from ∙ ap Some both.0) at in
-          let label : step.1 ≡ t = one_place (label_names (all ++ u ∷ [])) step.1 t u.label (labels_differ (all ++ u ∷ [])) (name_stays step.1 o.label o.named ∙ ap Some both.1) named in
+          let from : step.0 ≡ state = one_index (prefixes all) step.0 state u.before (prefixes_differ all) (o.from ∙ ap Some both.0) at in
+          let label : step.1 ≡ t = one_index (label_names (all ++ u ∷ [])) step.1 t u.label (labels_differ (all ++ u ∷ [])) (name_stays step.1 o.label o.named ∙ ap Some both.1) named in
           let is : step ≡ (state, t) = λ i. (from i, label i) in
           none (i, lt, is)
 

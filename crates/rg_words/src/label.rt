@@ -53,7 +53,7 @@ pub(crate) fn label_at(builder: &mut LtsBuilder, name: &str, number: u32) -> Res
 }
 
 // The index of a step, and whether it is new, and so the last one.
-pub(crate) fn place_of(
+pub(crate) fn index_of(
     steps: &mut IndexSet<(u32, u32)>,
     state: u32,
     label: u32,

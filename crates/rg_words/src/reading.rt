@@ -16,7 +16,7 @@ ghost use Rattle.rg_words.specs.declared.fault.WordFault.TheVariants as fault;
 ghost use Rattle.rg_words.specs.declared.fault.WordFault.TheVariants.{NoMemory};
 
 use crate::fault::WordFault;
-use crate::label::{check, label_at, place_of, state_name};
+use crate::label::{check, index_of, label_at, state_name};
 use indexmap::IndexSet;
 use rg_firsts::{as_name, cut_line, cut_word};
 use rg_lts::{Arc, BuildFault, Lts, LtsBuilder, MOST_STATES};
@@ -83,7 +83,7 @@ fn take_label(
     check(label, number)?;
     let name = as_name(label);
     let t = label_at(&mut tree.builder, name, number)?;
-    let (index, new) = place_of(&mut tree.steps, state, t)?;
+    let (index, new) = index_of(&mut tree.steps, state, t)?;
     let to = index as u32 + 1;
     if new {
         if index + 1 >= MOST_STATES {

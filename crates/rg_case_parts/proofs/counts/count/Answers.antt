@@ -10,34 +10,33 @@ use Rattle.rg_case_parts.proofs.counts.count.Goals as goal
 use Rattle.rg_case_parts.proofs.counts.count.Goals.{in-Some, in_default}
 
 pub count_in-sum-requires-clause-within : goal.count_in-sum-requires-clause-within
-count_in-sum-requires-clause-within c = term_at (TermNamesStateBelow c.args.tree.now.states) c.args.expression.now.terms c.loop-place.place-index c.in-Some.term c.in-Some.is c.requires.within
+count_in-sum-requires-clause-within c = term_at (TermNamesStateBelow c.args.tree.now.states) c.args.expression.now.terms c.loop-entry.entry-index c.in-Some.term c.in-Some.is c.requires.within
 
-pub loop-place-preserved : goal.loop-place-preserved
-loop-place-preserved c =
-    let sum = cast_signed w128 c.loop-place.sum-bits in
-    elim c.match-place.branch [
+pub loop-entry-preserved : goal.loop-entry-preserved
+loop-entry-preserved c =
+    let sum = cast_signed w128 c.loop-entry.sum-bits in
+    elim c.match-entry.branch [
       | in-Some w ↦
           let r = w.count_in-sum.result in
           let small = w.count_in-sum.ensures.bounds in
           let n = back r (in_range_between r (2 ^ 32) (omega arith) (let h = small.0 in omega (arith, ints)) (let h = small.1 in omega (arith, ints))) in
-          let s = back (sum +ℤ r) (in_range_between (sum +ℤ r) ((c.loop-place.place-index + 1) * 2 ^ 32) (omega arith) (let h = small in omega (arith, ints)) (let h = small in omega (arith, ints))) in
+          let s = back (sum +ℤ r) (in_range_between (sum +ℤ r) ((c.loop-entry.entry-index + 1) * 2 ^ 32) (omega arith) (let h = small in omega (arith, ints)) (let h = small in omega (arith, ints))) in
           let e = rw (n, s) at w.sum-is in
           record {
-            total = count_next c.args.expression.now.terms c.loop-place.place-index w.in-Some.term w.in-Some.is c.args.tree.now.arcs c.args.t sum _ _ (e ∙ ap (λ z. sum +ℤ z) w.count_in-sum.ensures.value) c.loop-place.invariant.total;
+            total = count_next c.args.expression.now.terms c.loop-entry.entry-index w.in-Some.term w.in-Some.is c.args.tree.now.arcs c.args.t sum _ _ (e ∙ ap (λ z. sum +ℤ z) w.count_in-sum.ensures.value) c.loop-entry.invariant.total;
             low = let h = small in omega (arith, ints, e);
             high = let h = small in omega (arith, ints, e);
           }
       | in_default w ↦
           let e = w.sum-is in
           record {
-            total = nothing_next c.args.expression.now.terms c.loop-place.place-index (λ ts. count_of c.args.tree.now.arcs ts c.args.t) sum _ _ e w.in_default.is c.loop-place.invariant.total;
-            low = let h = c.loop-place.invariant.low in omega (arith, ints, e);
-            high = let h = c.loop-place.invariant.high in omega (arith, ints, e);
+            total = nothing_next c.args.expression.now.terms c.loop-entry.entry-index (λ ts. count_of c.args.tree.now.arcs ts c.args.t) sum _ _ e w.in_default.is c.loop-entry.invariant.total;
+            low = let h = c.loop-entry.invariant.low in omega (arith, ints, e);
+            high = let h = c.loop-entry.invariant.high in omega (arith, ints, e);
           }
     ]
 
 pub returns-clause-value : goal.returns-clause-value
 returns-clause-value c =
-    let places = c.args.expression.now.places in
-    let past = c.loop-place-test.false in
-    whole_sum c.args.expression.now.terms c.loop-place.place-index (λ ts. count_of c.args.tree.now.arcs ts c.args.t) _ _ refl (omega arith) c.loop-place.invariant.total
+    let past = c.loop-entry-test.false in
+    whole_sum c.args.expression.now.terms c.loop-entry.entry-index (λ ts. count_of c.args.tree.now.arcs ts c.args.t) _ _ refl (omega arith) c.loop-entry.invariant.total

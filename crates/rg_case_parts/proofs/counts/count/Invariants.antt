@@ -4,9 +4,9 @@ use Rattle.rg_order_of_work.specs.Rewriting.{count_of}
 use Rattle.rg_reasons.specs.Sums.{terms_in}
 use Rattle.rg_case_parts.proofs.counts.count.Given as goal
 
-abbrev pub invariant-loop-place : goal.invariant-loop-place
-invariant-loop-place l = record {
-  total : l.sum +ℤ count_of l.tree.arcs (terms_in (drop l.place-index l.expression.terms)) l.t ≡ count_of l.tree.arcs (terms_in l.expression.terms) l.t;
-  low : neg_ℤ (pos (l.place-index * 2 ^ 32)) ≤ℤ l.sum;
-  high : l.sum ≤ℤ pos (l.place-index * 2 ^ 32);
+abbrev pub invariant-loop-entry : goal.invariant-loop-entry
+invariant-loop-entry l = record {
+  total : l.sum +ℤ count_of l.tree.arcs (terms_in (drop l.entry-index l.expression.terms)) l.t ≡ count_of l.tree.arcs (terms_in l.expression.terms) l.t;
+  low : neg_ℤ (pos (l.entry-index * 2 ^ 32)) ≤ℤ l.sum;
+  high : l.sum ≤ℤ pos (l.entry-index * 2 ^ 32);
 }

@@ -8,32 +8,31 @@ use Rattle.rg_case_parts.proofs.Counting.{in_range_between, start_next, nothing_
 use Rattle.rg_case_parts.proofs.counts.start.Goals as goal
 use Rattle.rg_case_parts.proofs.counts.start.Goals.{in-Some, in_default}
 
-pub loop-place-preserved : goal.loop-place-preserved
-loop-place-preserved c =
-    let sum = cast_signed w128 c.loop-place.sum-bits in
-    elim c.match-place.branch [
+pub loop-entry-preserved : goal.loop-entry-preserved
+loop-entry-preserved c =
+    let sum = cast_signed w128 c.loop-entry.sum-bits in
+    elim c.match-entry.branch [
       | in-Some w ↦
           let r = w.start_in-sum.result in
           let small = w.start_in-sum.ensures.bounds in
           let n = back r (in_range_between r (2 ^ 32) (omega arith) (let h = small.0 in omega (arith, ints)) (let h = small.1 in omega (arith, ints))) in
-          let s = back (sum +ℤ r) (in_range_between (sum +ℤ r) ((c.loop-place.place-index + 1) * 2 ^ 32) (omega arith) (let h = small in omega (arith, ints)) (let h = small in omega (arith, ints))) in
+          let s = back (sum +ℤ r) (in_range_between (sum +ℤ r) ((c.loop-entry.entry-index + 1) * 2 ^ 32) (omega arith) (let h = small in omega (arith, ints)) (let h = small in omega (arith, ints))) in
           let e = rw (n, s) at w.sum-is in
           record {
-            total = start_next c.args.expression.now.terms c.loop-place.place-index w.in-Some.term w.in-Some.is sum _ _ (e ∙ ap (λ z. sum +ℤ z) w.start_in-sum.ensures.value) c.loop-place.invariant.total;
+            total = start_next c.args.expression.now.terms c.loop-entry.entry-index w.in-Some.term w.in-Some.is sum _ _ (e ∙ ap (λ z. sum +ℤ z) w.start_in-sum.ensures.value) c.loop-entry.invariant.total;
             low = let h = small in omega (arith, ints, e);
             high = let h = small in omega (arith, ints, e);
           }
       | in_default w ↦
           let e = w.sum-is in
           record {
-            total = nothing_next c.args.expression.now.terms c.loop-place.place-index start_of sum _ _ e w.in_default.is c.loop-place.invariant.total;
-            low = let h = c.loop-place.invariant.low in omega (arith, ints, e);
-            high = let h = c.loop-place.invariant.high in omega (arith, ints, e);
+            total = nothing_next c.args.expression.now.terms c.loop-entry.entry-index start_of sum _ _ e w.in_default.is c.loop-entry.invariant.total;
+            low = let h = c.loop-entry.invariant.low in omega (arith, ints, e);
+            high = let h = c.loop-entry.invariant.high in omega (arith, ints, e);
           }
     ]
 
 pub returns-clause-value : goal.returns-clause-value
 returns-clause-value c =
-    let places = c.args.expression.now.places in
-    let past = c.loop-place-test.false in
-    whole_sum c.args.expression.now.terms c.loop-place.place-index start_of _ _ refl (omega arith) c.loop-place.invariant.total
+    let past = c.loop-entry-test.false in
+    whole_sum c.args.expression.now.terms c.loop-entry.entry-index start_of _ _ refl (omega arith) c.loop-entry.invariant.total

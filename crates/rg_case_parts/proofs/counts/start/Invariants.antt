@@ -4,9 +4,9 @@ use Rattle.rg_order_of_work.specs.Rewriting.{start_of}
 use Rattle.rg_reasons.specs.Sums.{terms_in}
 use Rattle.rg_case_parts.proofs.counts.start.Given as goal
 
-abbrev pub invariant-loop-place : goal.invariant-loop-place
-invariant-loop-place l = record {
-  total : l.sum +ℤ start_of (terms_in (drop l.place-index l.expression.terms)) ≡ start_of (terms_in l.expression.terms);
-  low : neg_ℤ (pos l.place-index) ≤ℤ l.sum;
-  high : l.sum ≤ℤ pos l.place-index;
+abbrev pub invariant-loop-entry : goal.invariant-loop-entry
+invariant-loop-entry l = record {
+  total : l.sum +ℤ start_of (terms_in (drop l.entry-index l.expression.terms)) ≡ start_of (terms_in l.expression.terms);
+  low : neg_ℤ (pos l.entry-index) ≤ℤ l.sum;
+  high : l.sum ≤ℤ pos l.entry-index;
 }

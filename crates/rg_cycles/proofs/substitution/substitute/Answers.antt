@@ -5,7 +5,7 @@ use Rattle.rg_order_of_work.specs.Fold.{ratio_of}
 use Rattle.rg_order_of_work.specs.Rewriting.{free_labels, coefficient_fold}
 use Rattle.rg_fraction.specs.declared.fold_stop.FoldStop.TheVariants as stop
 use Rattle.rg_cycles.specs.View.{labels_of, cycle_of}
-use Rattle.rg_cycles.proofs.Folding.{place_next, place_fails, places_end}
+use Rattle.rg_cycles.proofs.Folding.{index_next, index_fails, indices_end}
 use Rattle.rg_cycles.proofs.substitution.substitute.Goals as goal
 
 pub returns-in_err-sum-clause-wide : goal.returns-in_err-sum-clause-wide
@@ -14,7 +14,7 @@ returns-in_err-sum-clause-wide c = λ w e.
     let lt = subst (λ l. c.loop-index.index < length l) c.free-index-end.ensures c.loop-index-test.true in
     let is : c.in_err-sum.field-0.0 ≡ w = cc in
     subst (λ v. Rattle.rg_order_of_work.specs.Rewriting.substitute_fold (labels_of c.args.basis.now) (cycle_of c.args.basis.now) (number_at c.args.counts.now) (Err v))
-    is (place_fails (coefficient_fold (labels_of c.args.basis.now) (cycle_of c.args.basis.now) (number_at c.args.counts.now))
+    is (index_fails (coefficient_fold (labels_of c.args.basis.now) (cycle_of c.args.basis.now) (number_at c.args.counts.now))
     (free_labels (labels_of c.args.basis.now) (cycle_of c.args.basis.now)) c.loop-index.index
     (map ratio_of c.loop-index.coeffs.items) c.loop-index.invariant lt c.in_err-sum.field-0.0 c.in_err-sum.ensures)
 
@@ -22,11 +22,11 @@ pub loop-index-preserved : goal.loop-index-preserved
 loop-index-preserved c =
     let lt = subst (λ l. c.loop-index.index < length l) c.free-index-end.ensures c.loop-index-test.true in
     let items : map ratio_of c.push.new.self.items ≡ _ = ap (map ratio_of) c.in_ok-push.ensures.items ∙ map-append ratio_of c.loop-index.coeffs.items _ in
-    rw items (place_next (coefficient_fold (labels_of c.args.basis.now) (cycle_of c.args.basis.now) (number_at c.args.counts.now))
+    rw items (index_next (coefficient_fold (labels_of c.args.basis.now) (cycle_of c.args.basis.now) (number_at c.args.counts.now))
     (free_labels (labels_of c.args.basis.now) (cycle_of c.args.basis.now)) c.loop-index.index (map ratio_of c.loop-index.coeffs.items) c.loop-index.invariant lt
     (ratio_of c.in_ok-sum.sum) c.in_ok-sum.ensures)
 
 pub returns-clause-value : goal.returns-clause-value
 returns-clause-value c =
     let past = subst (λ l. length l ≤ c.loop-index.index) c.free-index-end.ensures c.loop-index-test.false in
-    places_end (coefficient_fold (labels_of c.args.basis.now) (cycle_of c.args.basis.now) (number_at c.args.counts.now)) (free_labels (labels_of c.args.basis.now) (cycle_of c.args.basis.now)) c.loop-index.index (map ratio_of c.loop-index.coeffs.items) c.loop-index.invariant past
+    indices_end (coefficient_fold (labels_of c.args.basis.now) (cycle_of c.args.basis.now) (number_at c.args.counts.now)) (free_labels (labels_of c.args.basis.now) (cycle_of c.args.basis.now)) c.loop-index.index (map ratio_of c.loop-index.coeffs.items) c.loop-index.invariant past

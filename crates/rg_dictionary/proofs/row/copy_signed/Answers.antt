@@ -11,7 +11,7 @@ use Rattle.rg_dictionary.proofs.row.copy_signed.Goals as goal
 pub loop-n-preserved : goal.loop-n-preserved
 loop-n-preserved c =
     let x = back (number_at c.args.row.now c.loop-n.n) (c.requires.in_range c.loop-n.n c.loop-n-test.true) in
-    let y = back (number_at c.args.row.now c.args.p) (c.requires.in_range c.args.p c.requires.place) in
+    let y = back (number_at c.args.row.now c.args.p) (c.requires.in_range c.args.p c.requires.index) in
     let z = back c.signed_by-z.result c.signed_by-z.ensures.in_range in
     let e = rw (x, y) at c.signed_by-z.ensures.value in
     let lt : c.loop-n.n < length c.loop-n.signed = omega arith in

@@ -29,8 +29,8 @@ renew_between-requires-clause-short c = λ is.
       | else-short w ↦ absurd (false≢true (sym (w.short-is ∙ w.if-short.false) ∙ is))
     ] in
     let s = back (number_at c.args.pivot.now c.args.p) (c.requires.pivot_in_range c.args.p (omega arith)) in
-    let l = back (number_at c.args.row.now c.args.p) (c.requires.in_range c.args.p c.requires.place) in
-    (rw s (both.0 c.args.p (omega arith)), rw l (both.1 c.args.p c.requires.place), λ n ge lt. short_behind c.args.row.now n _ ge (both.1 n (omega arith)), λ n ge lt. both.0 n (omega arith))
+    let l = back (number_at c.args.row.now c.args.p) (c.requires.in_range c.args.p c.requires.index) in
+    (rw s (both.0 c.args.p (omega arith)), rw l (both.1 c.args.p c.requires.index), λ n ge lt. short_behind c.args.row.now n _ ge (both.1 n (omega arith)), λ n ge lt. both.0 n (omega arith))
 
 pub renew_between-requires-2-clause-short : goal.renew_between-requires-2-clause-short
 renew_between-requires-2-clause-short c = λ is.
@@ -39,10 +39,10 @@ renew_between-requires-2-clause-short c = λ is.
       | else-short w ↦ absurd (false≢true (sym (w.short-is ∙ w.if-short.false) ∙ is))
     ] in
     let s = back (number_at c.args.pivot.now c.args.p) (c.requires.pivot_in_range c.args.p (omega arith)) in
-    let l = back (number_at c.args.row.now c.args.p) (c.requires.in_range c.args.p c.requires.place) in
+    let l = back (number_at c.args.row.now c.args.p) (c.requires.in_range c.args.p c.requires.index) in
     let same = (c.in-Ok-renew_between.ensures {u = tt}).renewed.after in
     let kept : length c.renew_between.new.row ≡ length c.args.row.now = c.renew_between.auto.row ∙ length-set c.args.row.now 0 _ in
-    (rw s (both.0 c.args.p (omega arith)), rw l (both.1 c.args.p c.requires.place), λ n ge lt. subst (FitsSigned w64) (sym (same n (omega arith))) (short_behind c.args.row.now n _ (omega arith) (both.1 n (omega arith))), λ n ge lt. both.0 n (omega arith))
+    (rw s (both.0 c.args.p (omega arith)), rw l (both.1 c.args.p c.requires.index), λ n ge lt. subst (FitsSigned w64) (sym (same n (omega arith))) (short_behind c.args.row.now n _ (omega arith) (both.1 n (omega arith))), λ n ge lt. both.0 n (omega arith))
 
 pub returns-in-Err-clause-renewed : goal.returns-in-Err-clause-renewed
 returns-in-Err-clause-renewed c =
@@ -54,42 +54,42 @@ returns-in-Err-clause-renewed c =
 pub returns-in-Err-renew_between-clause-renewed : goal.returns-in-Err-renew_between-clause-renewed
 returns-in-Err-renew_between-clause-renewed c =
     let s = back (number_at c.args.pivot.now c.args.p) (c.requires.pivot_in_range c.args.p (omega arith)) in
-    let l = back (number_at c.args.row.now c.args.p) (c.requires.in_range c.args.p c.requires.place) in
+    let l = back (number_at c.args.row.now c.args.p) (c.requires.in_range c.args.p c.requires.index) in
     let o = back (number_at c.args.row.now 0) (c.requires.in_range 0 (omega arith)) in
     let h = rw (o, s) at (c.in-Ok.ensures {u = tt}) in
     let fits : InRange c.in-Ok.z = subst InRange (sym h.1) h.0.difference in
     let z = back c.in-Ok.z fits in
     let b = begun c.args.pivot.now c.args.row.now c.args.p c.in-Ok.z (omega arith) h.0 h.1 in
     let f = rw (z, s, l) at (c.in-Err-renew_between.ensures {u = tt}).renewed in
-    wide_low c.args.pivot.now c.args.row.now _ c.args.p _ _ b c.requires.place f
+    wide_low c.args.pivot.now c.args.row.now _ c.args.p _ _ b c.requires.index f
 
 pub returns-in-Err-renew_between-2-clause-renewed : goal.returns-in-Err-renew_between-2-clause-renewed
 returns-in-Err-renew_between-2-clause-renewed c =
     let s = back (number_at c.args.pivot.now c.args.p) (c.requires.pivot_in_range c.args.p (omega arith)) in
-    let l = back (number_at c.args.row.now c.args.p) (c.requires.in_range c.args.p c.requires.place) in
+    let l = back (number_at c.args.row.now c.args.p) (c.requires.in_range c.args.p c.requires.index) in
     let o = back (number_at c.args.row.now 0) (c.requires.in_range 0 (omega arith)) in
     let h = rw (o, s) at (c.in-Ok.ensures {u = tt}) in
     let fits : InRange c.in-Ok.z = subst InRange (sym h.1) h.0.difference in
     let z = back c.in-Ok.z fits in
     let b = begun c.args.pivot.now c.args.row.now c.args.p c.in-Ok.z (omega arith) h.0 h.1 in
     let r = rw (z, s, l) at (c.in-Ok-renew_between.ensures {u = tt}).renewed in
-    let m = half c.args.pivot.now c.args.row.now _ _ c.args.p c.requires.after_constant c.requires.place b r in
+    let m = half c.args.pivot.now c.args.row.now _ _ c.args.p c.requires.after_constant c.requires.index b r in
     let f = rw (s, l) at (c.in-Err-renew_between-2.ensures {u = tt}).renewed in
     wide_high c.args.pivot.now c.args.row.now _ c.args.p _ _ m c.requires.after_constant f
 
 pub returns-clause-renewed : goal.returns-clause-renewed
 returns-clause-renewed c =
     let s = back (number_at c.args.pivot.now c.args.p) (c.requires.pivot_in_range c.args.p (omega arith)) in
-    let l = back (number_at c.args.row.now c.args.p) (c.requires.in_range c.args.p c.requires.place) in
+    let l = back (number_at c.args.row.now c.args.p) (c.requires.in_range c.args.p c.requires.index) in
     let o = back (number_at c.args.row.now 0) (c.requires.in_range 0 (omega arith)) in
     let h = rw (o, s) at (c.in-Ok.ensures {u = tt}) in
     let fits : InRange c.in-Ok.z = subst InRange (sym h.1) h.0.difference in
     let z = back c.in-Ok.z fits in
     let b = begun c.args.pivot.now c.args.row.now c.args.p c.in-Ok.z (omega arith) h.0 h.1 in
     let r = rw (z, s, l) at (c.in-Ok-renew_between.ensures {u = tt}).renewed in
-    let m = half c.args.pivot.now c.args.row.now _ _ c.args.p c.requires.after_constant c.requires.place b r in
+    let m = half c.args.pivot.now c.args.row.now _ _ c.args.p c.requires.after_constant c.requires.index b r in
     let r2 = rw (s, l) at (c.in-Ok-renew_between-2.ensures {u = tt}).renewed in
-    let m2 = most c.args.pivot.now c.args.row.now _ _ c.args.p c.requires.after_constant c.requires.place m r2 in
+    let m2 = most c.args.pivot.now c.args.row.now _ _ c.args.p c.requires.after_constant c.requires.index m r2 in
     MatchResult-weaker c.renew_last.result c.renew_last.ensures.last
-    (λ _ t. renewed c.args.pivot.now c.args.row.now c.renew_between-2.new.row c.renew_last.new.row c.args.p c.requires.after_constant c.requires.place m2 c.renew_last.auto.row t.0 t.1 c.renew_last.ensures.others)
-    (λ e t. wide_last c.args.pivot.now c.args.row.now c.renew_between-2.new.row c.args.p e.at e.wide c.requires.after_constant c.requires.place m2 t.0 t.1 t.2)
+    (λ _ t. renewed c.args.pivot.now c.args.row.now c.renew_between-2.new.row c.renew_last.new.row c.args.p c.requires.after_constant c.requires.index m2 c.renew_last.auto.row t.0 t.1 c.renew_last.ensures.others)
+    (λ e t. wide_last c.args.pivot.now c.args.row.now c.renew_between-2.new.row c.args.p e.at e.wide c.requires.after_constant c.requires.index m2 t.0 t.1 t.2)

@@ -5,6 +5,6 @@ use Rattle.rg_dictionary.proofs.row.renew_at.Given as goal
 
 abbrev pub invariant-loop-n : goal.invariant-loop-n
 invariant-loop-n l = record {
-  renewed : RenewedAt l.pivot l.fn.row l.row (number_at l.fn.row l.p) l.places l.n-index;
+  renewed : RenewedAt l.pivot l.fn.row l.row (number_at l.fn.row l.p) l.indices l.n-index;
   in_range : RowInRange l.row;
 }

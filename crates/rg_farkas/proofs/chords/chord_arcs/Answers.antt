@@ -3,7 +3,7 @@ use Rattle.std.specs.Prelude.{slice_index}
 use Rattle.std.proofs.lemmas.List.Elements.{Contains-get_or}
 use Rattle.rg_cycles.specs.View.{cycle_of}
 use Rattle.rg_order_of_work.specs.Spreading.{chord_arcs}
-use Rattle.rg_farkas.proofs.Relations.{used_chord, kept_place}
+use Rattle.rg_farkas.proofs.Relations.{used_chord, kept_index}
 use Rattle.rg_farkas.proofs.ChordNumbers.{used_at}
 use Rattle.rg_farkas.proofs.Steps.{mapped_next}
 use Rattle.rg_farkas.proofs.chords.chord_arcs.Goals as goal
@@ -11,11 +11,11 @@ use Rattle.rg_farkas.proofs.chords.chord_arcs.Goals as goal
 pub bounds-kept-chord : goal.bounds-kept-chord
 bounds-kept-chord c = subst (λ l. slice_index c.args.used.now c.loop-chord.chord-index < length l) (sym c.kept.ensures) (used_at c.args.lts.now (cycle_of c.args.basis.now) c.args.used.now c.loop-chord.chord-index c.requires.used c.loop-chord-test.true).0
 
-pub bounds-chords-place : goal.bounds-chords-place
-bounds-chords-place c =
+pub bounds-chords-index : goal.bounds-chords-index
+bounds-chords-index c =
     let i = slice_index c.args.used.now c.loop-chord.chord-index in
     let lt = (used_at c.args.lts.now (cycle_of c.args.basis.now) c.args.used.now c.loop-chord.chord-index c.requires.used c.loop-chord-test.true).0 in
-    rw (c.kept.ensures, c.chords.ensures, c.requires.tree.chords) (kept_place c.args.lts.now c.args.tree.now.arcs (cycle_of c.args.basis.now).kept (slice_index (cycle_of c.args.basis.now).kept i) c.requires.basis.kept (Contains-get_or (cycle_of c.args.basis.now).kept i 0 lt))
+    rw (c.kept.ensures, c.chords.ensures, c.requires.tree.chords) (kept_index c.args.lts.now c.args.tree.now.arcs (cycle_of c.args.basis.now).kept (slice_index (cycle_of c.args.basis.now).kept i) c.requires.basis.kept (Contains-get_or (cycle_of c.args.basis.now).kept i 0 lt))
 
 pub loop-chord-preserved : goal.loop-chord-preserved
 loop-chord-preserved c = rw c.in_ok-push.ensures.items

@@ -15,12 +15,12 @@ pub returns-then-pair-eq0 : goal.returns-then-pair-eq0
 returns-then-pair-eq0 c =
     let r = c.in-Some.relation.now in
     let shows = subst (λ k. ShowsRelation k (cycle_of c.args.basis.now) c.args.pair.now.label r) c.requires.labels c.in-Some.ensures.exact.1 in
-    let place = slice_index (cycle_of c.args.basis.now).kept c.args.chord in
+    let index = slice_index (cycle_of c.args.basis.now).kept c.args.chord in
     let number = chord_number_is (labels c.args.lts.now) c.requires.basis.0 (cycle_of c.args.basis.now) c.args.pair.now.label c.args.chord r c.requires.basis.1 shows c.requires.chord c.requires.member in
     let none = zero_of_bits c.args.pair.now.count c.args.pair.now.in_range c.if-pair-eq0.true in
     no_count (cycle_of c.args.basis.now) (labels c.args.lts.now + c.args.chord) (counted_of c.args.pair.now) c.args.pair.now.multiplier c.new.result
-    (number_with r.chords.items place) r.d refl c.new.ensures (positive_differs r.d c.in-Some.ensures.in_range.positive) number shows.d none
-    (number_in_range r.chords.items place c.in-Some.ensures.in_range.chords) c.in-Some.ensures.in_range.d
+    (number_with r.chords.items index) r.d refl c.new.ensures (positive_differs r.d c.in-Some.ensures.in_range.positive) number shows.d none
+    (number_in_range r.chords.items index c.in-Some.ensures.in_range.chords) c.in-Some.ensures.in_range.d
 
 pub returns-in_err-product : goal.returns-in_err-product
 returns-in_err-product c =

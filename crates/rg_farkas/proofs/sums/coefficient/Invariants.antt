@@ -4,9 +4,9 @@ use Rattle.rg_refuting.specs.Expression.{coefficient_in}
 use Rattle.rg_reasons.specs.Sums.{terms_in}
 use Rattle.rg_farkas.proofs.sums.coefficient.Given as goal
 
-abbrev pub invariant-loop-place : goal.invariant-loop-place
-invariant-loop-place l = record {
-  total : l.sum +ℤ coefficient_in (terms_in (drop l.place-index l.expression.terms)) l.variable ≡ coefficient_in (terms_in l.expression.terms) l.variable;
-  low : neg_ℤ (pos l.place-index) ≤ℤ l.sum;
-  high : l.sum ≤ℤ pos l.place-index;
+abbrev pub invariant-loop-entry : goal.invariant-loop-entry
+invariant-loop-entry l = record {
+  total : l.sum +ℤ coefficient_in (terms_in (drop l.entry-index l.expression.terms)) l.variable ≡ coefficient_in (terms_in l.expression.terms) l.variable;
+  low : neg_ℤ (pos l.entry-index) ≤ℤ l.sum;
+  high : l.sum ≤ℤ pos l.entry-index;
 }

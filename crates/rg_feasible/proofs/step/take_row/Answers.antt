@@ -19,7 +19,7 @@ returns-in-Ok-clause-told c = λ system whole.
     let is = rw c.columns-columns.ensures at c.in-Ok.ensures.members in
     let fails = negative_number (number_at c.numbers-numbers.result.now 1) (c.numbers-numbers.ensures.in_range 1) c.if-numbers-ge0.false in (
       _,
-      step_chooses c.args.table.now c.args.stack.now c.args.i c.numbers-numbers.result.now system whole shows fails c.in-Some.place names least,
+      step_chooses c.args.table.now c.args.stack.now c.args.i c.numbers-numbers.result.now system whole shows fails c.in-Some.index names least,
       step_fits c.args.table.now c.args.stack.now c.args.i c.numbers-numbers.result.now system whole shows fails _ exact.0,
       step_exchanges c.args.table.now c.args.stack.now c.args.i c.numbers-numbers.result.now system whole shows fails _ c.exchange.new.self.members is,
     )
@@ -32,7 +32,7 @@ returns-in-Err-clause-told c = λ system whole.
     let first = rw c.columns-columns.ensures at c.in-Err.ensures.exact system whole in
     let fails = negative_number (number_at c.numbers-numbers.result.now 1) (c.numbers-numbers.ensures.in_range 1) c.if-numbers-ge0.false in
     rw (c.members-2.ensures, c.columns-columns.ensures) (
-      step_chooses c.args.table.now c.args.stack.now c.args.i c.numbers-numbers.result.now system whole shows fails c.in-Some.place names least,
+      step_chooses c.args.table.now c.args.stack.now c.args.i c.numbers-numbers.result.now system whole shows fails c.in-Some.index names least,
       step_passes c.args.table.now c.args.stack.now c.args.i c.numbers-numbers.result.now system whole shows fails _ c.in-Err.at.target c.in-Err.at.entry
           c.in-Err.at.wide first,
       pivot_is c.args.table.now c.args.stack.now c.args.i c.numbers-numbers.result.now system whole shows fails,

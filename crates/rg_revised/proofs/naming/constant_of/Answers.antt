@@ -6,7 +6,7 @@ use Rattle.rg_integers.specs.Sum.{number_at}
 use Rattle.rg_integers.proofs.Casts.{back}
 use Rattle.rg_dictionary.proofs.Searching.{member_at}
 use Rattle.rg_revised.proofs.Sizes.{term_below, share_below}
-use Rattle.rg_revised.proofs.Places.{next_total, whole_total, size_more, size_fits}
+use Rattle.rg_revised.proofs.Indices.{next_total, whole_total, size_more, size_fits}
 use Rattle.rg_revised.proofs.naming.constant_of.Goals as goal
 
 pub share-sum-requires : goal.share-sum-requires

@@ -57,5 +57,5 @@ returns c =
     let small = rw m at c.signed.ensures.within in
     record {
       renewed = λ yes. rw z (renewed_row c.args.pivot.now c.args.row.now c.loop-n.row c.args.p c.args.negative c.args.d (unsigned_abs c.args.most) c.signed.result c.loop-n.invariant.same_length
-          c.requires.place (λ k lt. done k (omega arith)) within is small);
+          c.requires.index (λ k lt. done k (omega arith)) within is small);
     }

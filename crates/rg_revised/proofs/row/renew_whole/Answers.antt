@@ -17,4 +17,4 @@ returns c =
     let is = rw l at c.signed.ensures.value in
     let sub = rw l at c.subtract.ensures in
     let within = rw (m, z) at c.are_within.ensures in
-    record { renewed = λ yes. rw z (whole_row c.args.pivot.now c.args.row.now c.subtract.new.row c.args.p c.args.negative (unsigned_abs c.args.most) c.signed.result sub c.requires.place c.requires.one is (within yes)) }
+    record { renewed = λ yes. rw z (whole_row c.args.pivot.now c.args.row.now c.subtract.new.row c.args.p c.args.negative (unsigned_abs c.args.most) c.signed.result sub c.requires.index c.requires.one is (within yes)) }

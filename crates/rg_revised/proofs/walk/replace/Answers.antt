@@ -7,4 +7,4 @@ returns-clause-exchanged c =
     let found = rw c.deref.ensures.value at c.in-Some.ensures.found in
     c.in-Ok.ensures.items
     ∙ ap (λ (xs : List ℕ). xs ++ c.args.enters ∷ []) c.remove.ensures.items
-    ∙ replaced c.args.members.now.items c.in-Some.place c.args.enters c.args.leaves c.requires.ordered found.0 found.1 c.requires.last
+    ∙ replaced c.args.members.now.items c.in-Some.index c.args.enters c.args.leaves c.requires.ordered found.0 found.1 c.requires.last

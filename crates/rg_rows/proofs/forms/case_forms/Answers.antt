@@ -66,7 +66,7 @@ returns-clause-forms c =
 
 pub returns-clause-made : goal.returns-clause-made
 returns-clause-made c =
-    let Made = IsMade c.args.lts.now c.args.case.class (column_count c.args.lts.now (cycle_of c.args.basis.now) c.args.case.class) (map kept_row (map row_in c.args.rows.now)) c.args.places.now in
+    let Made = IsMade c.args.lts.now c.args.case.class (column_count c.args.lts.now (cycle_of c.args.basis.now) c.args.case.class) (map kept_row (map row_in c.args.rows.now)) c.args.indices.now in
     elim c.if-splits_start.branch [
       | then-splits_start+in_ok-start+in_ok-push w ↦
           subst (λ (v : Vec NamedForm Global). All Made v.items) (sym w.forms-is)

@@ -18,6 +18,6 @@ returns-clause-row c =
     let own : items ≡ c.args.scaled.numbers.items = c.in_ok-coeffs.ensures in
     let tells = subst (Tells t d) (c.deref.ensures.value ∙ sym own) told in
     elim c.if-times-eq0.branch [
-      | then-times-eq0 w ↦ part_of_none (to_z w128 (of_z w128 t)) t items (arc_slice_items c.args.row.now.coeffs) c.if-times-eq0.result c.args.place d some w.result-is same (equals_zero t c.times-times.ensures.in_range w.if-times-eq0.true) tells
-      | else-times-eq0 w ↦ part_of_some (to_z w128 (of_z w128 t)) t items (arc_slice_items c.args.row.now.coeffs) c.if-times-eq0.result c.args.place d some w.result-is same (λ e. w.if-times-eq0.false (ap (of_z w128) e)) (own ∙ are) tells
+      | then-times-eq0 w ↦ part_of_none (to_z w128 (of_z w128 t)) t items (arc_slice_items c.args.row.now.coeffs) c.if-times-eq0.result c.args.index d some w.result-is same (equals_zero t c.times-times.ensures.in_range w.if-times-eq0.true) tells
+      | else-times-eq0 w ↦ part_of_some (to_z w128 (of_z w128 t)) t items (arc_slice_items c.args.row.now.coeffs) c.if-times-eq0.result c.args.index d some w.result-is same (λ e. w.if-times-eq0.false (ap (of_z w128) e)) (own ∙ are) tells
     ]

@@ -54,7 +54,7 @@ loop-i-preserved c =
     let number = c.args.case.number in
     let columns = column_count lts basis class in
     let rows = map row_in c.args.rows.now in
-    let Made = IsMade lts class columns (map kept_row rows) c.args.places.now in
+    let Made = IsMade lts class columns (map kept_row rows) c.args.indices.now in
     let below = subst (λ n. c.loop-i.i < n) (sym c.requires.one_each) c.loop-i-test.true in
     elim c.match-form_named.branch [
       | in-Some+in_ok-scaled+in_ok-named+in_ok-push w ↦
@@ -65,14 +65,14 @@ loop-i-preserved c =
           let scale = w.in_ok-named.ensures.numbers.0 ∙ back scaled.multiple scaled.multiple_in_range in
           let one = step_made lts tree basis class problem number c.args.names.now c.loop-i.i _ c.loop-i-test.true w.in-Some.form w.in-Some.ensures _ refl rows
           (simp length-map below) c.requires.rows row (held_is c.args.rows.now c.loop-i.i w.index-rows-i.result row below w.index-rows-i.is w.row.ensures) columns
-          c.args.places.now f w.in_ok-named.ensures.form w.in_ok-named.ensures.row w.in_ok-named.ensures.bounds
+          c.args.indices.now f w.in_ok-named.ensures.form w.in_ok-named.ensures.row w.in_ok-named.ensures.bounds
           (ap length w.in_ok-named.ensures.numbers.1 ∙ w.in_ok-scaled.ensures.one_each)
           (λ bound. subst (λ z. pos 0 <ℤ z) (sym scale) scaled.positive)
           (subst InRange (sym scale) scaled.multiple_in_range)
           (subst (All InRange) (sym w.in_ok-named.ensures.numbers.1) scaled.numbers_in_range)
           w.in_ok-named.ensures.in_range in
-          subst (λ (v : Vec NamedForm Global). Keeps lts tree basis class c.args.names.now rows c.args.places.now (c.loop-i.i + 1) v.items) (sym w.forms-is)
-          (subst (Keeps lts tree basis class c.args.names.now rows c.args.places.now (c.loop-i.i + 1)) (sym pushed)
+          subst (λ (v : Vec NamedForm Global). Keeps lts tree basis class c.args.names.now rows c.args.indices.now (c.loop-i.i + 1) v.items) (sym w.forms-is)
+          (subst (Keeps lts tree basis class c.args.names.now rows c.args.indices.now (c.loop-i.i + 1)) (sym pushed)
           (record {
             so_far = subst (λ (xs : List Form). (r : Result (List Form) Wide)
                 → each (form_fold lts tree basis class) (forms_in class (drop (c.loop-i.i + 1) c.args.names.now)) r
@@ -88,7 +88,7 @@ loop-i-preserved c =
       | in_default w ↦
           (let none = sym w.in_default.ensures in
           let next = next_name lts tree basis class problem number c.args.names.now c.loop-i.i _ c.loop-i-test.true in
-          subst (λ (v : Vec NamedForm Global). Keeps lts tree basis class c.args.names.now rows c.args.places.now (c.loop-i.i + 1) v.items) (sym w.forms-is)
+          subst (λ (v : Vec NamedForm Global). Keeps lts tree basis class c.args.names.now rows c.args.indices.now (c.loop-i.i + 1) v.items) (sym w.forms-is)
           (record {
             so_far = form_skips class (form_fold lts tree basis class) c.args.names.now c.loop-i.i _ next (map linear_form c.loop-i.forms.items) c.loop-i.invariant.so_far none;
             splits = named_skips class c.args.names.now c.loop-i.i _ next (map split_of c.loop-i.forms.items) c.loop-i.invariant.splits none;

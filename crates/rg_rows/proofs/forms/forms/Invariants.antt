@@ -5,4 +5,4 @@ use Rattle.rg_rows.proofs.FormSteps.{Keeps}
 use Rattle.rg_rows.proofs.forms.forms.Given as goal
 
 abbrev pub invariant-loop-i : goal.invariant-loop-i
-invariant-loop-i l = Keeps l.lts l.tree.arcs (cycle_of l.basis) l.case.class l.names (map row_in l.rows) l.places l.i l.forms.items
+invariant-loop-i l = Keeps l.lts l.tree.arcs (cycle_of l.basis) l.case.class l.names (map row_in l.rows) l.indices l.i l.forms.items

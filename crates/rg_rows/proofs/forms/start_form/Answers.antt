@@ -32,9 +32,9 @@ form_over-requires c =
     let problem = c.args.case.problem in
     let number = c.args.case.number in
     let row = c.row.result.now in
-    let i = c.place_of-i.result in
-    let below = subst (λ n. i < n) (sym c.requires.one_each) c.place_of-i.ensures.within in
-    start_times lts tree basis class problem number c.args.names.now (map row_in c.args.rows.now) i c.initial.result c.initial.ensures.value c.place_of-i.ensures.within c.place_of-i.ensures.here (simp length-map below) c.requires.rows row
+    let i = c.index_of-i.result in
+    let below = subst (λ n. i < n) (sym c.requires.one_each) c.index_of-i.ensures.within in
+    start_times lts tree basis class problem number c.args.names.now (map row_in c.args.rows.now) i c.initial.result c.initial.ensures.value c.index_of-i.ensures.within c.index_of-i.ensures.here (simp length-map below) c.requires.rows row
     (held_is c.args.rows.now i c.index-rows-i.result row below c.index-rows-i.is c.row.ensures) (scaled_of c.in_ok-scaled.scaled) c.in_ok-scaled.ensures.value
 
 pub returns-clause-value : goal.returns-clause-value
@@ -58,12 +58,12 @@ returns-clause-made c =
     let problem = c.args.case.problem in
     let number = c.args.case.number in
     let f = c.in_ok-form.form in
-    let i = c.place_of-i.result in
+    let i = c.index_of-i.result in
     let row = c.row.result.now in
-    let below = subst (λ n. i < n) (sym c.requires.one_each) c.place_of-i.ensures.within in
+    let below = subst (λ n. i < n) (sym c.requires.one_each) c.index_of-i.ensures.within in
     let cast = c.in_ok-form.ensures.numbers.0 ∙ back c.start_scale-scale.result c.start_scale-scale.ensures.in_range in
-    start_is_made lts tree basis class problem number c.args.names.now (map row_in c.args.rows.now) i c.initial.result c.initial.ensures.value c.place_of-i.ensures.within c.place_of-i.ensures.here (simp length-map below) c.requires.rows row
-    (held_is c.args.rows.now i c.index-rows-i.result row below c.index-rows-i.is c.row.ensures) (column_count lts basis class) c.args.places.now f c.in_ok-form.ensures.form c.in_ok-form.ensures.row
+    start_is_made lts tree basis class problem number c.args.names.now (map row_in c.args.rows.now) i c.initial.result c.initial.ensures.value c.index_of-i.ensures.within c.index_of-i.ensures.here (simp length-map below) c.requires.rows row
+    (held_is c.args.rows.now i c.index-rows-i.result row below c.index-rows-i.is c.row.ensures) (column_count lts basis class) c.args.indices.now f c.in_ok-form.ensures.form c.in_ok-form.ensures.row
     (cast ∙ c.start_scale-scale.ensures.value) c.in_ok-form.ensures.bounds.0 c.in_ok-form.ensures.bounds.1 (ap length c.in_ok-form.ensures.numbers.1 ∙ c.in_ok-scaled.ensures.one_each)
     (subst InRange (sym cast) c.start_scale-scale.ensures.in_range)
     (subst (All InRange) (sym c.in_ok-form.ensures.numbers.1) c.in_ok-scaled.scaled.numbers_in_range) c.in_ok-form.ensures.in_range

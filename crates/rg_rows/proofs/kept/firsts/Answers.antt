@@ -6,7 +6,7 @@ use Rattle.rg_linear.specs.View.{linear_row}
 use Rattle.rg_cycles.proofs.Firsts.{has_numbers}
 use Rattle.rg_rows.specs.View.{kept_row, row_in}
 use Rattle.rg_rows.proofs.Keeping.{kept-start, kept-end, kept-drop, row_next, asked-new, asked-old}
-use Rattle.rg_rows.proofs.Placing.{PlacesSoFar, places-start, places-end, places-idle, places-new, places-old, keys_stay, place_fits, row_got}
+use Rattle.rg_rows.proofs.Placing.{IndicesSoFar, indices-start, indices-end, indices-idle, indices-new, indices-old, keys_stay, index_fits, row_got}
 use Rattle.rg_rows.proofs.Sharing.{held_is}
 use Rattle.rg_rows.proofs.kept.firsts.Goals as goal
 use Rattle.rg_rows.proofs.kept.firsts.Goals.{then-is_new+in_ok-push-2, else-is_new}
@@ -16,12 +16,12 @@ loop-held-init c = (
   [],
   record { rows = ap (map linear_row) c.new.ensures.items; names = c.new-2.ensures.items; factors = ap (map ratio_of) c.new-3.ensures.items },
   kept-start (map kept_row (map row_in c.args.all.now)) _ (λ q. ap (λ k. has_numbers k q) c.new-seen.ensures.empty),
-  places-start (map kept_row (map row_in c.args.all.now)) c.new-seen.result.keys c.new-places.result.items c.new-seen.ensures.empty c.new-places.ensures.items,
+  indices-start (map kept_row (map row_in c.args.all.now)) c.new-seen.result.keys c.new-indices.result.items c.new-seen.ensures.empty c.new-indices.ensures.items,
 )
 
 pub loop-held-preserved-then-is_idle : goal.loop-held-preserved-then-is_idle
 loop-held-preserved-then-is_idle c =
-    let (kept, shows, so_far, places) = c.loop-held.invariant in
+    let (kept, shows, so_far, indices) = c.loop-held.invariant in
     let row = c.row-row.result.now in
     let rows = map row_in c.args.all.now in
     let all = map kept_row rows in
@@ -31,28 +31,28 @@ loop-held-preserved-then-is_idle c =
       kept,
       shows,
       kept-drop all _ _ c.loop-held.held-index kept so_far (kept_row row) (row_next rows c.loop-held.held-index row below at) (inl idle) (λ q. refl),
-      subst (PlacesSoFar all (c.loop-held.held-index + 1) kept c.loop-held.seen.keys) (sym c.in_ok-push.ensures.items) (places-idle all c.loop-held.held-index kept c.loop-held.seen.keys c.loop-held.places.items places (kept_row row) (row_got rows c.loop-held.held-index row below at) idle),
+      subst (IndicesSoFar all (c.loop-held.held-index + 1) kept c.loop-held.seen.keys) (sym c.in_ok-push.ensures.items) (indices-idle all c.loop-held.held-index kept c.loop-held.seen.keys c.loop-held.indices.items indices (kept_row row) (row_got rows c.loop-held.held-index row below at) idle),
     )
 
-pub overflow_cast-place : goal.overflow_cast-place
-overflow_cast-place c =
-    let (kept, shows, so_far, places) = c.loop-held.invariant in
+pub overflow_cast-index : goal.overflow_cast-index
+overflow_cast-index c =
+    let (kept, shows, so_far, indices) = c.loop-held.invariant in
     let row = c.row-row.result.now in
     let rows = map row_in c.args.all.now in
     let all = map kept_row rows in
     let below : c.loop-held.held-index < length rows = simp length-map c.loop-held-test.true in
     let at = held_is c.args.all.now c.loop-held.held-index c.held-item.result row c.loop-held-test.true c.held-item.is c.row-row.ensures in
-    let (k, stored, equal) = c.in_ok-place.ensures.stored in
-    let lt = place_fits all c.loop-held.held-index kept c.loop-held.seen.keys c.loop-held.places.items places (kept_row row)
-    (row_got rows c.loop-held.held-index row below at) c.insert_full.new.self.keys c.key.result k c.in_ok-place.place
-    (c.key.ensures ∙ row.numbers_are) c.in_ok-place.is_new c.in_ok-place.ensures.added c.in_ok-place.ensures.keys stored equal in
+    let (k, stored, equal) = c.in_ok-index.ensures.stored in
+    let lt = index_fits all c.loop-held.held-index kept c.loop-held.seen.keys c.loop-held.indices.items indices (kept_row row)
+    (row_got rows c.loop-held.held-index row below at) c.insert_full.new.self.keys c.key.result k c.in_ok-index.index
+    (c.key.ensures ∙ row.numbers_are) c.in_ok-index.is_new c.in_ok-index.ensures.added c.in_ok-index.ensures.keys stored equal in
     let below = c.loop-held-test.true in
     let few = c.requires.few in
     omega arith
 
 pub loop-held-preserved : goal.loop-held-preserved
 loop-held-preserved c =
-    let (kept, shows, so_far, places) = c.loop-held.invariant in
+    let (kept, shows, so_far, indices) = c.loop-held.invariant in
     let row = c.row-row.result.now in
     let rows = map row_in c.args.all.now in
     let all = map kept_row rows in
@@ -61,38 +61,38 @@ loop-held-preserved c =
     let next = row_next rows c.loop-held.held-index row below at in
     let got = row_got rows c.loop-held.held-index row below at in
     let is = c.key.ensures ∙ row.numbers_are in
-    let (k, stored, equal) = c.in_ok-place.ensures.stored in
+    let (k, stored, equal) = c.in_ok-index.ensures.stored in
     let pushed = sym c.in_ok-push-3.ensures.items in
     elim c.if-is_new.branch [
       | then-is_new+in_ok-push-2 w ↦ rw w.kept-is (
         kept ++ kept_row row ∷ [],
         w.in_ok-push-2.ensures kept shows,
-        asked-new all c.loop-held.held-index kept _ _ c.key.result so_far (kept_row row) next is c.in_ok-place.is_new c.in_ok-place.ensures.added (λ idle. false≢true (sym c.if-is_idle.false ∙ c.is_idle.ensures.1 idle)) w.if-is_new.true c.in_ok-place.ensures.updates.0,
-        subst (PlacesSoFar all (c.loop-held.held-index + 1) (kept ++ kept_row row ∷ []) c.insert_full.new.self.keys) pushed
-            (places-new all c.loop-held.held-index kept c.loop-held.seen.keys c.loop-held.places.items places
-            (kept_row row) got c.insert_full.new.self.keys c.key.result k c.in_ok-place.place is c.in_ok-place.is_new c.in_ok-place.ensures.added
-            c.in_ok-place.ensures.keys stored equal w.if-is_new.true),
+        asked-new all c.loop-held.held-index kept _ _ c.key.result so_far (kept_row row) next is c.in_ok-index.is_new c.in_ok-index.ensures.added (λ idle. false≢true (sym c.if-is_idle.false ∙ c.is_idle.ensures.1 idle)) w.if-is_new.true c.in_ok-index.ensures.updates.0,
+        subst (IndicesSoFar all (c.loop-held.held-index + 1) (kept ++ kept_row row ∷ []) c.insert_full.new.self.keys) pushed
+            (indices-new all c.loop-held.held-index kept c.loop-held.seen.keys c.loop-held.indices.items indices
+            (kept_row row) got c.insert_full.new.self.keys c.key.result k c.in_ok-index.index is c.in_ok-index.is_new c.in_ok-index.ensures.added
+            c.in_ok-index.ensures.keys stored equal w.if-is_new.true),
       )
       | else-is_new w ↦ rw w.kept-is (
         kept,
         shows,
-        asked-old all c.loop-held.held-index kept _ _ c.key.result so_far (kept_row row) next is c.in_ok-place.is_new c.in_ok-place.ensures.added w.if-is_new.false
-            (keys_stay all c.loop-held.held-index kept c.loop-held.seen.keys c.loop-held.places.items places
-            (kept_row row) got c.insert_full.new.self.keys c.key.result k c.in_ok-place.place is c.in_ok-place.is_new c.in_ok-place.ensures.added
-            c.in_ok-place.ensures.keys stored equal w.if-is_new.false),
-        subst (PlacesSoFar all (c.loop-held.held-index + 1) kept c.insert_full.new.self.keys) pushed
-            (places-old all c.loop-held.held-index kept c.loop-held.seen.keys c.loop-held.places.items places
-            (kept_row row) got c.insert_full.new.self.keys c.key.result k c.in_ok-place.place is c.in_ok-place.is_new c.in_ok-place.ensures.added
-            c.in_ok-place.ensures.keys stored equal w.if-is_new.false),
+        asked-old all c.loop-held.held-index kept _ _ c.key.result so_far (kept_row row) next is c.in_ok-index.is_new c.in_ok-index.ensures.added w.if-is_new.false
+            (keys_stay all c.loop-held.held-index kept c.loop-held.seen.keys c.loop-held.indices.items indices
+            (kept_row row) got c.insert_full.new.self.keys c.key.result k c.in_ok-index.index is c.in_ok-index.is_new c.in_ok-index.ensures.added
+            c.in_ok-index.ensures.keys stored equal w.if-is_new.false),
+        subst (IndicesSoFar all (c.loop-held.held-index + 1) kept c.insert_full.new.self.keys) pushed
+            (indices-old all c.loop-held.held-index kept c.loop-held.seen.keys c.loop-held.indices.items indices
+            (kept_row row) got c.insert_full.new.self.keys c.key.result k c.in_ok-index.index is c.in_ok-index.is_new c.in_ok-index.ensures.added
+            c.in_ok-index.ensures.keys stored equal w.if-is_new.false),
       )
     ]
 
 pub returns : goal.returns
 returns c =
-    let (kept, shows, so_far, places) = c.loop-held.invariant in
+    let (kept, shows, so_far, indices) = c.loop-held.invariant in
     let end = c.loop-held.auto.held-index-end in
     let past = c.loop-held-test.false in
     let rows = map row_in c.args.all.now in
     let size = length-map rows kept_row in
     let held = length-map c.args.all.now row_in in
-    (kept, shows, kept-end (map kept_row (map row_in c.args.all.now)) _ c.loop-held.held-index kept so_far (simp length-map c.loop-held-test.false), places-end (map kept_row (map row_in c.args.all.now)) c.loop-held.held-index kept _ _ places (omega arith))
+    (kept, shows, kept-end (map kept_row (map row_in c.args.all.now)) _ c.loop-held.held-index kept so_far (simp length-map c.loop-held-test.false), indices-end (map kept_row (map row_in c.args.all.now)) c.loop-held.held-index kept _ _ indices (omega arith))

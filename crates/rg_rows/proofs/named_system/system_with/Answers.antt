@@ -12,7 +12,7 @@ use Rattle.rg_order_of_work.specs.Meaning.{IsCaseOver}
 use Rattle.rg_linear.specs.System.{LinearSystem}
 use Rattle.rg_cycles.specs.View.{cycle_of}
 use Rattle.rg_rows.specs.declared.held_row.HeldRow.{HeldRow}
-use Rattle.rg_rows.specs.View.{kept_row, row_in, AreNamesWithin, ArePlaces, fold_of}
+use Rattle.rg_rows.specs.View.{kept_row, row_in, AreNamesWithin, AreIndices, fold_of}
 use Rattle.rg_rows.specs.Forms.{linear_form, case_forms, StandsInRow, AreFormsOf}
 use Rattle.rg_rows.specs.Making.{IsMade}
 use Rattle.rg_case_parts.proofs.Picking.{columns_few}
@@ -54,10 +54,10 @@ case_forms-requires-clause-rows c =
 pub case_forms-requires-clause-one_each : goal.case_forms-requires-clause-one_each
 case_forms-requires-clause-one_each c = ap length c.deref-4.ensures.value ∙ c.in_ok-all.ensures.few ∙ ap length (c.deref.ensures.value ∙ sym c.deref-3.ensures.value)
 
-pub case_forms-requires-clause-places : goal.case_forms-requires-clause-places
-case_forms-requires-clause-places c =
-    let (kept, shows, firsts, places) = c.in_ok-kept.ensures in
-    ap length c.deref-5.ensures.value ∙ places.one_each ∙ length-map (map row_in c.deref-2.result.now) kept_row ∙ length-map c.deref-2.result.now row_in ∙ ap length (c.deref-2.ensures.value ∙ sym c.deref-4.ensures.value)
+pub case_forms-requires-clause-indices : goal.case_forms-requires-clause-indices
+case_forms-requires-clause-indices c =
+    let (kept, shows, firsts, indices) = c.in_ok-kept.ensures in
+    ap length c.deref-5.ensures.value ∙ indices.one_each ∙ length-map (map row_in c.deref-2.result.now) kept_row ∙ length-map c.deref-2.result.now row_in ∙ ap length (c.deref-2.ensures.value ∙ sym c.deref-4.ensures.value)
 
 pub case_forms-requires-clause-start : goal.case_forms-requires-clause-start
 case_forms-requires-clause-start c = λ splits.
@@ -84,7 +84,7 @@ pub new-requires : goal.new-requires
 new-requires c =
     let lts = c.args.lts.now in
     let all = map row_in c.in_ok-all.all.items in
-    let (kept, shows, firsts, places) = c.in_ok-kept.ensures in
+    let (kept, shows, firsts, indices) = c.in_ok-kept.ensures in
     let columns : c.count.result ≡ column_count lts (cycle_of c.args.basis.now) c.args.class = c.count.ensures lts c.args.class (sym c.requires.labels) c.requires.common.columns in
     let named = c.deref.ensures.value ∙ c.in_ok-names.ensures in
     let size : length all ≡ length (names_of lts c.args.class c.args.problem c.args.case) = length-map c.in_ok-all.all.items row_in ∙ c.in_ok-all.ensures.few ∙ ap length named in
@@ -106,7 +106,7 @@ returns-clause-system c =
     let class = c.args.class in
     let problem = c.args.problem in
     let number = c.args.case in
-    let (kept, shows, firsts, places) = c.in_ok-kept.ensures in
+    let (kept, shows, firsts, indices) = c.in_ok-kept.ensures in
     let all = map row_in c.in_ok-all.all.items in
     let named = c.deref.ensures.value ∙ c.in_ok-names.ensures in
     let named_again = c.deref-3.ensures.value ∙ c.in_ok-names.ensures in
@@ -132,21 +132,21 @@ returns-clause-rows c =
     let class = c.args.class in
     let problem = c.args.problem in
     let number = c.args.case in
-    let (kept, shows, firsts, places) = c.in_ok-kept.ensures in
+    let (kept, shows, firsts, indices) = c.in_ok-kept.ensures in
     let all = map row_in c.in_ok-all.all.items in
     let named = c.deref.ensures.value ∙ c.in_ok-names.ensures in
     let named_again = c.deref-3.ensures.value ∙ c.in_ok-names.ensures in
     let columns : c.count.result ≡ column_count lts basis class = c.count.ensures lts class (sym c.requires.labels) c.requires.common.columns in
     let shown : CaseSystem = record { columns = c.count.result; kept = kept; forms = map linear_form c.in_ok-forms.forms.items } in
     let kept_firsts = subst (λ l. KeepsFirsts (λ k. k.row) IsIdle [] (map kept_row (map row_in l)) kept) c.deref-2.ensures.value firsts in
-    let kept_places = subst (λ l. ArePlaces l kept c.in_ok-kept.places.items) (ap (λ l. map kept_row (map row_in l)) c.deref-2.ensures.value) places in
-    let made = subst (λ n. All (IsMade lts class n (map kept_row all) c.in_ok-kept.places.items) c.in_ok-forms.forms.items) (sym columns)
+    let kept_indices = subst (λ l. AreIndices l kept c.in_ok-kept.indices.items) (ap (λ l. map kept_row (map row_in l)) c.deref-2.ensures.value) indices in
+    let made = subst (λ n. All (IsMade lts class n (map kept_row all) c.in_ok-kept.indices.items) c.in_ok-forms.forms.items) (sym columns)
     (subst (λ l. All (IsMade lts class (column_count lts basis class) (map kept_row all) l) c.in_ok-forms.forms.items) c.deref-5.ensures.value
     (subst (λ (l : List HeldRow). All (IsMade lts class (column_count lts basis class) (map kept_row (map row_in l)) c.deref-5.result.now) c.in_ok-forms.forms.items)
     c.deref-4.ensures.value c.in_ok-forms.ensures.made)) in
     let system_is = c.new.ensures ∙ (λ i. record { columns = c.count.result; rows = shows.rows i }) in
     subst (λ (s : LinearSystem). All (StandsInRow lts tree basis class problem number s) c.in_ok-forms.forms.items) (sym system_is)
-    (all_stand lts tree basis class problem number c.deref.result.now shown (map kept_row all) c.in_ok-kept.places.items c.in_ok-all.ensures.value kept_places c.in_ok-forms.forms.items made)
+    (all_stand lts tree basis class problem number c.deref.result.now shown (map kept_row all) c.in_ok-kept.indices.items c.in_ok-all.ensures.value kept_indices c.in_ok-forms.forms.items made)
 
 pub returns-clause-forms : goal.returns-clause-forms
 returns-clause-forms c = λ reachable is_basis bound.
@@ -156,15 +156,15 @@ returns-clause-forms c = λ reachable is_basis bound.
     let class = c.args.class in
     let problem = c.args.problem in
     let number = c.args.case in
-    let (kept, shows, firsts, places) = c.in_ok-kept.ensures in
+    let (kept, shows, firsts, indices) = c.in_ok-kept.ensures in
     let all = map row_in c.in_ok-all.all.items in
     let named = c.deref.ensures.value ∙ c.in_ok-names.ensures in
     let named_again = c.deref-3.ensures.value ∙ c.in_ok-names.ensures in
     let columns : c.count.result ≡ column_count lts basis class = c.count.ensures lts class (sym c.requires.labels) c.requires.common.columns in
     let shown : CaseSystem = record { columns = c.count.result; kept = kept; forms = map linear_form c.in_ok-forms.forms.items } in
     let kept_firsts = subst (λ l. KeepsFirsts (λ k. k.row) IsIdle [] (map kept_row (map row_in l)) kept) c.deref-2.ensures.value firsts in
-    let kept_places = subst (λ l. ArePlaces l kept c.in_ok-kept.places.items) (ap (λ l. map kept_row (map row_in l)) c.deref-2.ensures.value) places in
-    let made = subst (λ n. All (IsMade lts class n (map kept_row all) c.in_ok-kept.places.items) c.in_ok-forms.forms.items) (sym columns)
+    let kept_indices = subst (λ l. AreIndices l kept c.in_ok-kept.indices.items) (ap (λ l. map kept_row (map row_in l)) c.deref-2.ensures.value) indices in
+    let made = subst (λ n. All (IsMade lts class n (map kept_row all) c.in_ok-kept.indices.items) c.in_ok-forms.forms.items) (sym columns)
     (subst (λ l. All (IsMade lts class (column_count lts basis class) (map kept_row all) l) c.in_ok-forms.forms.items) c.deref-5.ensures.value
     (subst (λ (l : List HeldRow). All (IsMade lts class (column_count lts basis class) (map kept_row (map row_in l)) c.deref-5.result.now) c.in_ok-forms.forms.items)
     c.deref-4.ensures.value c.in_ok-forms.ensures.made)) in
@@ -181,4 +181,4 @@ returns-clause-forms c = λ reachable is_basis bound.
     let rows : length (rows_of shown).rows ≤ length all = (let h = kept_count (λ (k : KeptRow). k.row) IsIdle [] (map kept_row all) kept kept_firsts in let f = length-map kept (λ (k : KeptRow). k.row) in let g = length-map all kept_row in omega arith) in
     let few : c.count.result + length (rows_of shown).rows + 4096 * (states lts + labels lts + 1) < 2 ^ 32 = omega arith in
     subst (λ (s : LinearSystem). AreFormsOf s c.in_ok-forms.forms.items) (sym system_is)
-    (all_forms lts tree basis class problem number c.deref.result.now shown (map kept_row all) c.in_ok-kept.places.items c.in_ok-all.ensures.value kept_places c.in_ok-forms.forms.items made refl splits over wide bound few)
+    (all_forms lts tree basis class problem number c.deref.result.now shown (map kept_row all) c.in_ok-kept.indices.items c.in_ok-all.ensures.value kept_indices c.in_ok-forms.forms.items made refl splits over wide bound few)

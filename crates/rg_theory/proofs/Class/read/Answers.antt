@@ -4,7 +4,7 @@ use Rattle.std.specs.Str.Pattern.{FindsChar}
 use Rattle.std.proofs.lemmas.Iterator.{YieldsList}
 use Rattle.std.proofs.lemmas.Iterator.Splits.{YieldsList-from_str_split}
 use Rattle.std.proofs.lemmas.Result.{err_from_is_err_and}
-use Rattle.rg_theory.specs.ClassWords.{class_words}
+use Rattle.rg_theory.specs.ClassWords.{class_words, no_condition}
 use Rattle.rg_theory.proofs.ClassLoop.{ReadsTo, few, reads_none, reads_more, reads_end, reads_refused, next_is, none_left, is_other}
 use Rattle.rg_theory.proofs.Class.read.Goals as goal
 
@@ -18,7 +18,7 @@ loop-word-init c =
         class_words c.args.text.now,
         subst (λ s. YieldsList (split_steps FindsChar (λ a b. b ≡ a)) (λ x. x.now) s (class_words c.args.text.now)) (sym same)
             (YieldsList-from_str_split 44 c.args.text.now (omega arith) split.text split.has_more split.pattern),
-        reads_none c.args.text.now c.all-class.result 0 c.all-class.ensures refl,
+        reads_none c.args.text.now no_condition 0 refl refl,
       ),
     )
 

@@ -53,7 +53,7 @@ returns-in_ok-grow-clause-ok c = λ all before h.
     let r = new_label all before c.args.number label d.label_names e.label_names steps c.args.state c.in_ok-t.t h grown named
     c.in_ok-check.ensures.short c.in_ok-check.ensures.whole (c.in_ok-t.ensures.few c.requires.draft.few_labels) new.2 (omega (arith, new.0, c.if-index-ge-MOST_STATES.false)) in
     let u = use_of c.args.number before label in (
-      subst (λ n. IsAt (all ++ u ∷ []) (before ++ label ∷ []) c.grow.new.builder.label_names c.place_of.new.steps.keys (n + 1)) (sym new.0)
+      subst (λ n. IsAt (all ++ u ∷ []) (before ++ label ∷ []) c.grow.new.builder.label_names c.index_of.new.steps.keys (n + 1)) (sym new.0)
           (subst (λ s. IsAt (all ++ u ∷ []) (before ++ label ∷ []) c.grow.new.builder.label_names s (length steps + 1)) (sym new.1)
           (subst (λ l. IsAt (all ++ u ∷ []) (before ++ label ∷ []) l (steps ++ (c.args.state, c.in_ok-t.t) ∷ []) (length steps + 1)) (sym same) r.0)),
       r.1,
@@ -66,7 +66,7 @@ returns-else-new-clause-draft c =
 
 pub returns-else-new-clause-state : goal.returns-else-new-clause-state
 returns-else-new-clause-state c =
-    let within = slice_get_within c.place_of.new.steps.keys c.in_ok-index.index (c.args.state, c.in_ok-t.t) c.in_ok-index.ensures.at in
+    let within = slice_get_within c.index_of.new.steps.keys c.in_ok-index.index (c.args.state, c.in_ok-t.t) c.in_ok-index.ensures.at in
     omega (arith, within)
 
 pub returns-else-new-clause-ok : goal.returns-else-new-clause-ok
@@ -78,7 +78,7 @@ returns-else-new-clause-ok c = λ all before h.
     let name : c.as_name-name.result.now ≡ label = c.as_name-name.ensures in
     let grown : e.label_names ≡ with_new bytes_eq d.label_names label = ap (λ (x : Draft). x.label_names) c.in_ok-t.ensures.added ∙ ap (with_new bytes_eq d.label_names) name in
     let named : slice_get e.label_names c.in_ok-t.t ≡ Some label = c.in_ok-t.ensures.at ∙ ap Some name in
-    let known : c.place_of.new.steps.keys ≡ steps = c.in_ok-index.ensures.known c.if-new.false in
+    let known : c.index_of.new.steps.keys ≡ steps = c.in_ok-index.ensures.known c.if-new.false in
     let at : slice_get steps c.in_ok-index.index ≡ Some (c.args.state, c.in_ok-t.t) = subst (λ s. slice_get s c.in_ok-index.index ≡ Some (c.args.state, c.in_ok-t.t)) known c.in_ok-index.ensures.at in
     let r = old_label all before c.args.number label d.label_names e.label_names steps c.args.state c.in_ok-t.t h grown named
     c.in_ok-check.ensures.short c.in_ok-check.ensures.whole (c.in_ok-t.ensures.few c.requires.draft.few_labels) c.in_ok-index.index at c.requires.draft.few_steps in

@@ -13,8 +13,8 @@ use Rattle.rg_case_parts.proofs.Picking.{used_is, pick_starts, pick_pushed, pick
 use Rattle.rg_case_parts.proofs.columns.Columns.pick.Goals as goal
 use Rattle.rg_case_parts.proofs.columns.Columns.pick.Goals.{then-self+in_ok-push, else-self, then-index+in_ok-push-2, else-index}
 
-pub loop-place-init : goal.loop-place-init
-loop-place-init c = λ lts class same are.
+pub loop-index-init : goal.loop-index-init
+loop-index-init c = λ lts class same are.
     let z = cast_signed w128 (cast_unsigned w128 c.args.start) in
     pick_starts lts class c.args.self.now are (cycle_of c.args.basis.now) (labels_of c.args.basis.now) same (map ratio_of c.if-self.numbers.items) _ (map ratio_of c.args.free.now)
     (elim c.if-self.branch [
@@ -27,36 +27,36 @@ loop-place-init c = λ lts class same are.
 pub index-requires : goal.index-requires
 index-requires c =
     let free = free_labels (labels_of c.args.basis.now) (cycle_of c.args.basis.now) in
-    let lt = subst (λ l. c.loop-place.place < length l) c.free-label-items.ensures c.loop-place-test.true in
+    let lt = subst (λ l. c.loop-index.index < length l) c.free-label-items.ensures c.loop-index-test.true in
     let size : vec_len c.args.self.now.used ≡ length c.args.self.now.used.items = omega arith in
-    let below : slice_index free c.loop-place.place < vec_len c.args.self.now.used = subst (λ n. slice_index free c.loop-place.place < n) (sym (size ∙ c.requires.labels)) (free_below (labels_of c.args.basis.now) (cycle_of c.args.basis.now) c.loop-place.place lt) in
+    let below : slice_index free c.loop-index.index < vec_len c.args.self.now.used = subst (λ n. slice_index free c.loop-index.index < n) (sym (size ∙ c.requires.labels)) (free_below (labels_of c.args.basis.now) (cycle_of c.args.basis.now) c.loop-index.index lt) in
     rw c.free-label-items.ensures below
 
-pub loop-place-preserved : goal.loop-place-preserved
-loop-place-preserved c =
+pub loop-index-preserved : goal.loop-index-preserved
+loop-index-preserved c =
     let free = free_labels (labels_of c.args.basis.now) (cycle_of c.args.basis.now) in
-    let label = slice_index free c.loop-place.place in
-    let lt : c.loop-place.place < length free = subst (λ l. c.loop-place.place < length l) c.free-label-items.ensures c.loop-place-test.true in
-    let lt' : c.loop-place.place < length c.args.free.now = subst (λ n. c.loop-place.place < n) (sym c.requires.one_each) lt in
+    let label = slice_index free c.loop-index.index in
+    let lt : c.loop-index.index < length free = subst (λ l. c.loop-index.index < length l) c.free-label-items.ensures c.loop-index-test.true in
+    let lt' : c.loop-index.index < length c.args.free.now = subst (λ n. c.loop-index.index < n) (sym c.requires.one_each) lt in
     let read = rw c.free-label-items.ensures at c.index.ensures in
-    let below = free_below (labels_of c.args.basis.now) (cycle_of c.args.basis.now) c.loop-place.place lt in
+    let below = free_below (labels_of c.args.basis.now) (cycle_of c.args.basis.now) c.loop-index.index lt in
     elim c.if-index.branch [
       | then-index+in_ok-push-2 w ↦ λ lts class same are. rw (
         w.numbers-is,
-        map_push ratio_of c.loop-place.numbers.items w.push-then-index.new.self.items _ w.in_ok-push-2.ensures.items,
+        map_push ratio_of c.loop-index.numbers.items w.push-then-index.new.self.items _ w.in_ok-push-2.ensures.items,
       )
-          (pick_pushed (λ t. has_label t lts.arcs) free (map ratio_of c.args.free.now) (map ratio_of c.loop-place.numbers.items) _ c.loop-place.place
-          (c.loop-place.invariant lts class same are) (whole (pos 0)) lt (simp length-map lt') (ratio_of w.index-free-place.result)
-          (get_or-map ratio_of c.args.free.now c.loop-place.place w.index-free-place.result (whole (pos 0)) lt' ∙ ap ratio_of (sym w.index-free-place.is))
+          (pick_pushed (λ t. has_label t lts.arcs) free (map ratio_of c.args.free.now) (map ratio_of c.loop-index.numbers.items) _ c.loop-index.index
+          (c.loop-index.invariant lts class same are) (whole (pos 0)) lt (simp length-map lt') (ratio_of w.index-free-index.result)
+          (get_or-map ratio_of c.args.free.now c.loop-index.index w.index-free-index.result (whole (pos 0)) lt' ∙ ap ratio_of (sym w.index-free-index.is))
           (used_is lts class c.args.self.now are label c.index.result.now (subst (λ n. label < n) (sym same) below) read ∙ w.if-index.true))
       | else-index w ↦ λ lts class same are. rw w.numbers-is
-          (pick_left (λ t. has_label t lts.arcs) free (map ratio_of c.args.free.now) (map ratio_of c.loop-place.numbers.items) _ c.loop-place.place
-          (c.loop-place.invariant lts class same are) (whole (pos 0)) lt (simp length-map lt')
+          (pick_left (λ t. has_label t lts.arcs) free (map ratio_of c.args.free.now) (map ratio_of c.loop-index.numbers.items) _ c.loop-index.index
+          (c.loop-index.invariant lts class same are) (whole (pos 0)) lt (simp length-map lt')
           (used_is lts class c.args.self.now are label c.index.result.now (subst (λ n. label < n) (sym same) below) read ∙ w.if-index.false))
     ]
 
 pub returns : goal.returns
 returns c = let z = back c.args.start c.requires.in_range in λ lts class same are.
     rw z at (pick_ends (λ t. has_label t lts.arcs) (free_labels (labels_of c.args.basis.now) (cycle_of c.args.basis.now)) (map ratio_of c.args.free.now)
-    (map ratio_of c.loop-place.numbers.items) _ c.loop-place.place (c.loop-place.invariant lts class same are)
-    (subst (λ l. length l ≤ c.loop-place.place) c.free-label-items.ensures c.loop-place-test.false))
+    (map ratio_of c.loop-index.numbers.items) _ c.loop-index.index (c.loop-index.invariant lts class same are)
+    (subst (λ l. length l ≤ c.loop-index.index) c.free-label-items.ensures c.loop-index-test.false))

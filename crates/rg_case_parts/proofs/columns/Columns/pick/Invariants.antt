@@ -7,7 +7,7 @@ use Rattle.rg_cycles.specs.View.{labels_of, cycle_of}
 use Rattle.rg_case_parts.specs.ColumnViews.{AreColumns}
 use Rattle.rg_case_parts.proofs.columns.Columns.pick.Given as goal
 
-abbrev pub invariant-loop-place : goal.invariant-loop-place
-invariant-loop-place l = (lts : System) (class : Class) → labels lts ≡ labels_of l.basis → AreColumns lts class l.self
-    → map ratio_of l.numbers.items ++ pick (λ t. has_label t lts.arcs) (drop l.place (free_labels (labels_of l.basis) (cycle_of l.basis)))
-    (drop l.place (map ratio_of l.free)) ≡ columns_of lts (cycle_of l.basis) class l.start (map ratio_of l.free)
+abbrev pub invariant-loop-index : goal.invariant-loop-index
+invariant-loop-index l = (lts : System) (class : Class) → labels lts ≡ labels_of l.basis → AreColumns lts class l.self
+    → map ratio_of l.numbers.items ++ pick (λ t. has_label t lts.arcs) (drop l.index (free_labels (labels_of l.basis) (cycle_of l.basis)))
+    (drop l.index (map ratio_of l.free)) ≡ columns_of lts (cycle_of l.basis) class l.start (map ratio_of l.free)

@@ -35,20 +35,20 @@ returns-then-row-failing-clause-not_negative c =
     let (i, refuted) = c.requires.refuted in
     subst (λ z. pos 0 ≤ℤ z) (sym (returns-then-row-failing-clause-value c i refuted)) (multiplier_not_negative c.args.self.now i c.args.row refuted c.requires.row)
 
-pub returns-in-Some-place_of-clause-value : goal.returns-in-Some-place_of-clause-value
-returns-in-Some-place_of-clause-value c = λ i refuted.
+pub returns-in-Some-index_of-clause-value : goal.returns-in-Some-index_of-clause-value
+returns-in-Some-index_of-clause-value c = λ i refuted.
     let at = subst (λ (d : DescentState). IsRefutation d i) (sym c.self.view_is) refuted in
     let row = rw c.columns-columns.ensures at c.numbers-numbers.ensures.row in
-    let found = rw (c.columns-columns.ensures, c.members.ensures) at c.in-Some-place_of.ensures.found in
-    let first = rw (c.columns-columns.ensures, c.members.ensures) at c.in-Some-place_of.ensures.first in
+    let found = rw (c.columns-columns.ensures, c.members.ensures) at c.in-Some-index_of.ensures.found in
+    let first = rw (c.columns-columns.ensures, c.members.ensures) at c.in-Some-index_of.ensures.first in
     negated (number_at c.numbers-numbers.result.now _) (c.numbers-numbers.ensures.in_range _)
-    ∙ reads_at _ i c.in-Some.failing c.args.row at c.in-Some.is c.numbers-numbers.result.now row c.in-Some-place_of.place c.if-row-failing.false c.numbers-numbers.ensures.length found.0 found.1 first
+    ∙ reads_at _ i c.in-Some.failing c.args.row at c.in-Some.is c.numbers-numbers.result.now row c.in-Some-index_of.index c.if-row-failing.false c.numbers-numbers.ensures.length found.0 found.1 first
     ∙ ap (λ (d : DescentState). multiplier_with d.table i c.args.row) c.self.view_is
 
-pub returns-in-Some-place_of-clause-not_negative : goal.returns-in-Some-place_of-clause-not_negative
-returns-in-Some-place_of-clause-not_negative c =
+pub returns-in-Some-index_of-clause-not_negative : goal.returns-in-Some-index_of-clause-not_negative
+returns-in-Some-index_of-clause-not_negative c =
     let (i, refuted) = c.requires.refuted in
-    subst (λ z. pos 0 ≤ℤ z) (sym (returns-in-Some-place_of-clause-value c i refuted)) (multiplier_not_negative c.args.self.now i c.args.row refuted c.requires.row)
+    subst (λ z. pos 0 ≤ℤ z) (sym (returns-in-Some-index_of-clause-value c i refuted)) (multiplier_not_negative c.args.self.now i c.args.row refuted c.requires.row)
 
 pub returns-in-None-clause-value : goal.returns-in-None-clause-value
 returns-in-None-clause-value c = λ i refuted.

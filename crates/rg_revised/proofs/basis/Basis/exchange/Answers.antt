@@ -32,7 +32,7 @@ returns-clause-exchanged c =
     let all = subst (λ n. TableRenewed (length c.args.self.now.slots.items + 1) c.turn-negative.new.numbers c.args.self.now.table.items c.renew_table.new.table c.args.p c.turn-negative.result
     c.args.self.now.d (unsigned_abs c.args.most) n) cols kept in
     let back = written_back c.args.self.now.table.len c.renew_table.new.table (drop (length c.renew_table.new.table) c.args.self.now.table.items) (all.same_length ∙ sym c.args.self.now.table.ok.0) in
-    let inside : c.args.p < length c.args.self.now.numbers.items = omega (arith, c.requires.place, c.requires.width) in
+    let inside : c.args.p < length c.args.self.now.numbers.items = omega (arith, c.requires.index, c.requires.width) in
     let vback = written_back c.args.self.now.numbers.len c.turn-negative.new.numbers _ (signed.same_length ∙ sym c.args.self.now.numbers.ok.0) in
     let is : c.index-size.result.now ≡ number_at c.turn-negative.new.numbers c.args.p = c.index-size.ensures ∙ ap (λ xs. get_or xs c.args.p c.index-size.result.now) vback
     ∙ get_or_default c.turn-negative.new.numbers c.args.p c.index-size.result.now (pos 0) (omega (arith, inside, signed.same_length)) in
@@ -41,4 +41,4 @@ returns-clause-exchanged c =
     let positive = size_is_size c.args.self.now.numbers.items c.turn-negative.new.numbers c.args.p c.turn-negative.result c.index-size.result.now signed inside is in
     let small = small_enough c.index-size.result.now c.args.most positive (search rules) in
     rw (s, back) (λ yes. exchange_of c.args.self.now.slots.items c.args.self.now.d c.args.self.now.table.items c.renew_table.new.table c.args.self.now.numbers.items c.turn-negative.new.numbers
-    c.args.p c.args.variable c.turn-negative.result (unsigned_abs c.args.most) c.index-size.result.now c.requires.place c.requires.width c.requires.named signed all is small)
+    c.args.p c.args.variable c.turn-negative.result (unsigned_abs c.args.most) c.index-size.result.now c.requires.index c.requires.width c.requires.named signed all is small)
