@@ -1,10 +1,13 @@
 //! Certificates as texts, written by hand.
-use crate::samples::{FORKED, system};
 use rg_cert::{print, read};
 use rg_lts::Lts;
+use rg_samples::system;
 use rg_text::MOST_BYTES;
 use std::alloc::Global;
 use std::test::Fail;
+
+// The label a leads from s0 to s1 and to s2, and the label b has no arc.
+const FORKED: &str = ".type LTS .states s0[initial] s1 s2 .labels a b .arcs s0 a s1 s0 a s2";
 
 // Texts of certificates for the forked system, as they are printed. The second has each row.
 const KEPT: [&str; 4] = [
@@ -31,7 +34,7 @@ fn is_kept(alloc: Global, text: &[u8], lts: &Lts) -> bool {
 #[test]
 fn reads_what_it_prints(rt: HostRuntime) -> Result<(), Fail> {
     let alloc = rt.alloc();
-    let lts = system(alloc, FORKED.as_bytes()).ok_or("a system")?;
+    let lts = system(alloc, FORKED).ok_or("a system")?;
     for text in KEPT {
         assert!(rt; is_kept(alloc, text.as_bytes(), &lts), "{text}");
     }

@@ -1,4 +1,5 @@
 //! Classes as words.
+use rg_samples::SAFE;
 use rg_theory::{ALL_NETS, Class, ClassFault};
 
 const ALL: Class = Class {
@@ -7,11 +8,6 @@ const ALL: Class = Class {
     bound: Some(255),
     marking: None,
     nonbranching: true,
-};
-
-const SAFE: Class = Class {
-    bound: Some(1),
-    ..ALL_NETS
 };
 
 // Words, and the classes that they name.

@@ -10,8 +10,6 @@ mod laws;
 #[cfg(test)]
 mod outside;
 #[cfg(test)]
-mod samples;
-#[cfg(test)]
 mod trees;
 #[cfg(test)]
 mod walks;

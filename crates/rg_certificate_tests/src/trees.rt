@@ -1,11 +1,18 @@
 //! That trees are grown, and what an unreachable state answers.
 ghost use Rattle.rg_spanning.specs.Spanning.{IsTreeOf};
 
-use crate::samples::{APART, LOCK, system};
 use rg_lts::Lts;
+use rg_samples::system;
 use rg_spanning::{GrowStop, Tree};
 use rg_theory::Arc;
 use std::alloc::Global;
+
+// Two states without an arc.
+const APART: &str = ".type LTS .states s0[initial] s1 .labels a .arcs";
+
+// Two users who ask for a lock, get it and put it back. A state says what each does: i is idle, w waits, c has the lock.
+const LOCK: &str =
+    ".type LTS .states ii[initial] iw ic wi ww wc ci cw .labels ask1 get1 put1 ask2 get2 put2 .arcs ii ask1 wi iw ask1 ww ic ask1 wc wi get1 ci ww get1 cw ci put1 ii cw put1 iw ii ask2 iw wi ask2 ww ci ask2 cw iw get2 ic ww get2 wc ic put2 ii wc put2 wi";
 
 // The arc (from, label, to).
 fn arc(from: u32, label: u32, to: u32) -> Arc {
@@ -14,7 +21,7 @@ fn arc(from: u32, label: u32, to: u32) -> Arc {
 
 // Why no tree is grown of the system that a text spells.
 fn stop_of(alloc: Global, text: &str) -> Option<GrowStop> {
-    let lts = system(alloc, text.as_bytes())?;
+    let lts = system(alloc, text)?;
     match Tree::grow(alloc, &lts) {
         Ok(_) => None,
         Err(stop) => Some(stop),
@@ -28,7 +35,7 @@ fn tells_the_least_unreachable_state(rt: HostRuntime) {
 
 // Whether the right tree is grown of the system of the lock.
 fn is_grown(alloc: Global) -> bool {
-    let Some(lts) = system(alloc, LOCK.as_bytes()) else {
+    let Some(lts) = system(alloc, LOCK) else {
         return false;
     };
     match Tree::grow(alloc, &lts) {

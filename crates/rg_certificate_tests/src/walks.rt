@@ -1,6 +1,6 @@
 //! How states are reached.
-use crate::samples::system;
 use rg_checks::{Step, reach};
+use rg_samples::system;
 use std::alloc::Global;
 
 // s4 leads to s0, and is apart.
@@ -13,7 +13,7 @@ fn step(before: u32, label: u32) -> Option<Step> {
 
 // Whether the line's states are reached by these steps.
 fn has_steps(alloc: Global, wanted: &[Option<Step>]) -> bool {
-    let Some(lts) = system(alloc, LINE.as_bytes()) else {
+    let Some(lts) = system(alloc, LINE) else {
         return false;
     };
     match reach(alloc, &lts) {

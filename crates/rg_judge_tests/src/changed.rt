@@ -1,11 +1,11 @@
 //! The judge beside the second judge, over small nets and nets that are changed in one number.
 ghost use Rattle.std.specs.Prelude.{◌<◌};
 
-use crate::samples::{CYCLE, LOOP_AND_STEP, net, system};
 use crate::second::{Told, second_verdict};
 use rg_lts::Lts;
 use rg_net::{Class, Net};
 use rg_net_verdict::{CheckStop, NetVerdict, check_net};
+use rg_samples::{CHOICE, CYCLE, IN_TURN, LOOP_AND_STEP, PURE_AND_SAFE, TWO_BOUNDED, net, system};
 use rg_theory::ALL_NETS;
 use std::alloc::{AllocError, Global};
 
@@ -24,10 +24,6 @@ const SETS: [(&str, usize); 5] = [
 /// The members of sets, by the number of the place and its weight.
 const MEMBERS: [[&str; 4]; 2] = [["", "p", "2*p", "3*p"], ["", "q", "2*q", "3*q"]];
 
-const BACK_AND_FORTH: &str = ".type LTS .states s0[initial] s1 .labels a b .arcs s0 a s1 s1 b s0";
-
-const CHOICE: &str = ".type LTS .states s0[initial] s1 s2 .labels a b .arcs s0 a s1 s0 b s2";
-
 const SQUARE: &str =
     ".type LTS .states s0[initial] s1 s2 s3 .labels a b .arcs s0 a s1 s0 b s2 s1 b s3 s2 a s3";
 
@@ -37,20 +33,13 @@ const SOLVED: [(&str, [Numbers; 2]); 5] = [
     (CHOICE, [[1, 1, 1, 0, 1], [1, 1, 1, 1, 0]]),
     (CYCLE, [[0, 0, 2, 1, 0], [2, 1, 0, 0, 2]]),
     (SQUARE, [[1, 1, 0, 0, 0], [1, 0, 1, 0, 0]]),
-    (BACK_AND_FORTH, [[1, 1, 0, 0, 1], [0, 0, 1, 1, 0]]),
+    (IN_TURN, [[1, 1, 0, 0, 1], [0, 0, 1, 1, 0]]),
 ];
 
 const STRICT: Class = Class {
-    pure: true,
     plain: true,
-    bound: Some(1),
-    marking: None,
     nonbranching: true,
-};
-
-const TWO_BOUNDED: Class = Class {
-    bound: Some(2),
-    ..ALL_NETS
+    ..PURE_AND_SAFE
 };
 
 // The text of the net with these places.

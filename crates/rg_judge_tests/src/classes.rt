@@ -2,9 +2,9 @@
 ghost use Rattle.std.specs.Prelude.{◌≡◌, length, All, IsTrue};
 ghost use Rattle.rg_net.specs.ClassBreaks.{shown_markings};
 
-use crate::samples::{CYCLE, CYCLE_NET, net_for};
+use crate::samples::{CYCLE_NET, net_for};
 use rg_net::{Class, ClassBreak, Net, in_class};
-use rg_theory::ALL_NETS;
+use rg_samples::{CYCLE, SAFE, TWO_BOUNDED};
 use std::alloc::{AllocError, Global};
 use std::test::Fail;
 
@@ -25,16 +25,6 @@ pub(crate) fn fit(net: &Net, markings: &[Vec<u128>]) -> bool
 const IN_ORDER: [[u128; 2]; 3] = [[0, 2], [1, 1], [2, 0]];
 
 const TURNED: [[u128; 2]; 3] = [[2, 0], [1, 1], [0, 2]];
-
-const SAFE: Class = Class {
-    bound: Some(1),
-    ..ALL_NETS
-};
-
-const TWO_BOUNDED: Class = Class {
-    bound: Some(2),
-    ..ALL_NETS
-};
 
 // What is asked of the cycle's net, the markings and class of which it is asked, and the first break.
 const ASKED: [(&str, [[u128; 2]; 3], Class, Result<(), ClassBreak>); 3] = [

@@ -1,7 +1,8 @@
 //! Single firings.
-use crate::samples::{STEP, net_for};
+use crate::samples::net_for;
 use rg_integers::GREATEST;
 use rg_net::{FireStop, Net, enabled, fire};
+use rg_samples::STEP;
 use std::alloc::Global;
 use std::test::Fail;
 

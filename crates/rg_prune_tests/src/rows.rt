@@ -6,7 +6,7 @@ use rg_lts::Lts;
 use rg_net::{Net, Place};
 use rg_net_verdict::{NetVerdict, check_net, verdict_is_sound};
 use rg_prune::prune;
-use rg_samples::{CHOICE, CHOICE_NET, LOOP, STEP, net, system};
+use rg_samples::{CHOICE, CHOICE_NET, DEAD, LOOP, STEP, net, system};
 use rg_theory::{ALL_NETS, solved_is_separated};
 use std::alloc::{AllocError, Global};
 
@@ -59,7 +59,7 @@ const CHOICES: [(&str, &str, &str); 6] = [
 const STEPS_AND_LOOPS: [(&str, &str, &str); 6] = [
     (LOOP, ".type PN .transitions a", ".type PN .transitions a"),
     (
-        ".type LTS .states s0[initial] .labels a",
+        DEAD,
         ".type PN .places u v .transitions a .flows a: {u, v} -> {}",
         ".type PN .places u .transitions a .flows a: {u} -> {}",
     ),

@@ -1,10 +1,10 @@
 //! Nets in memory, and the texts that spell them.
-use crate::samples::system;
 use rg_lts::Lts;
 use rg_net::{Class, Net, Place, net_is_told, prefix_is_free};
 use rg_netfile::{one_answer, print_net, printed_is_spelled, read_net};
+use rg_samples::{DEAD, SAFE, TWO_MARKING, system, system_of};
 use rg_text::MOST_BYTES;
-use rg_theory::class_text;
+use rg_theory::{ALL_NETS, class_text};
 use std::alloc::Global;
 use std::test::Fail;
 
@@ -51,28 +51,26 @@ const PRINTED: [(&str, &str, &str); 3] = [
     ),
 ];
 
+// Classes, and their texts.
+const CLASSES: [(Class, &str); 4] = [
+    (ALL_NETS, "none"),
+    (SAFE, "safe"),
+    (TWO_MARKING, "2-marking"),
+    (
+        Class {
+            pure: true,
+            plain: true,
+            bound: Some(255),
+            marking: Some(3),
+            nonbranching: true,
+        },
+        "pure,plain,255-bounded,3-marking,output-nonbranching",
+    ),
+];
+
 #[test]
 fn classes(rt: HostRuntime) -> Result<(), Fail> {
-    for (pure, plain, bound, marking, nonbranching, wanted) in [
-        (false, false, None, None, false, "none"),
-        (false, false, Some(1), None, false, "safe"),
-        (false, false, None, Some(2), false, "2-marking"),
-        (
-            true,
-            true,
-            Some(255),
-            Some(3),
-            true,
-            "pure,plain,255-bounded,3-marking,output-nonbranching",
-        ),
-    ] {
-        let class = Class {
-            pure,
-            plain,
-            bound,
-            marking,
-            nonbranching,
-        };
+    for (class, wanted) in CLASSES {
         assert!(rt;
             class_text(rt.alloc(), class)?.as_slice() == wanted.as_bytes(),
             "{wanted}"
@@ -116,7 +114,7 @@ fn is_net(alloc: Global, text: &[u8], lts: &Lts, weight: u128, start: u128) -> b
 #[test]
 fn numbers_add_up(rt: HostRuntime) -> Result<(), Fail> {
     let alloc = rt.alloc();
-    let lts = system(alloc, b".type TS .states s[initial] .labels a").ok_or("a system")?;
+    let lts = system(alloc, DEAD).ok_or("a system")?;
     for (text, weight, start) in NUMBERS {
         assert!(rt;
             is_net(alloc, text.as_bytes(), &lts, weight, start),
@@ -137,7 +135,7 @@ fn printed(alloc: Global, text: &[u8], lts: &Lts) -> Option<Vec<u8>> {
 
 // Whether the net that a text spells for the system of another is printed so, and again so when it is read.
 fn is_printed(alloc: Global, labels: &[u8], text: &[u8], wanted: &[u8]) -> bool {
-    let Some(lts) = system(alloc, labels) else {
+    let Some(lts) = system_of(alloc, labels) else {
         return false;
     };
     let Some(made) = printed(alloc, text, &lts) else {

@@ -1,16 +1,5 @@
-//! Systems and texts for the tests.
-use rg_apt::read_lts;
-use rg_lts::Lts;
-use rg_text::MOST_BYTES;
+//! Texts for the tests.
 use std::alloc::{AllocError, Global};
-
-/// The system that a text spells.
-pub fn system(alloc: Global, text: &[u8]) -> Option<Lts> {
-    if text.len() > MOST_BYTES {
-        return None;
-    }
-    read_lts(alloc, text).ok()
-}
 
 /// Adds a name of three letters and a space: another one for each number below 17,576.
 pub fn push_name(text: &mut Vec<u8>, number: u32) -> Result<(), AllocError> {
