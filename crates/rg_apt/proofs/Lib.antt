@@ -6,7 +6,6 @@ pub mod WholeTexts
 pub mod Complete
 pub mod Going
 pub mod Existing
-pub mod FoundLemmas
 pub mod Names
 pub mod Marks
 pub mod StateSteps

@@ -6,14 +6,15 @@ use Rattle.rg_lexer.specs.declared.token.Kind.{Kind}
 use Rattle.rg_lexer.specs.declared.token.Kind.TheVariants.{Name, LeftBracket}
 use Rattle.rg_items.specs.Entry.{Setting, Entry, IsOptionally, IsEntry, AreEach}
 use Rattle.rg_items.specs.ListPosition.{first_key}
+use Rattle.rg_items.proofs.Last.{change_push}
 use Rattle.rg_items.proofs.Moves.{moves_both, moves_same, step, take_all, each_move}
 use Rattle.rg_items.proofs.Moves as moves
 use Rattle.rg_items.proofs.Lists.{HasLists, free_of, optional_move}
-use Rattle.rg_apt.specs.declared.fault.TextFault.{TextFault}
+use Rattle.rg_items.specs.declared.fault.ItemFault.{ItemFault}
 use Rattle.rg_apt.specs.Item.{Triple, IsTriple}
 use Rattle.rg_apt.specs.Table.{Section, states, labels, arcs, Position, in_section, after_entry, second, third, in_list, leads_by}
 use Rattle.rg_apt.specs.Contents.{marks, StateEntry, ArcNames, Declared}
-use Rattle.rg_apt.specs.Reading.{mark_last, marked, with_setting, with_name, adds_by, system_grammar}
+use Rattle.rg_apt.specs.Reading.{marked_entry, mark_last, marked, with_setting, with_name, adds_by, system_grammar}
 
 -- from a position the tokens lead to another, whatever follows them
 abbrev pub Moves : Position → Declared → List Lexeme → Position → Declared → Type 0
@@ -26,7 +27,7 @@ kind_step p q d e x kind same lead add = step system_grammar p q d e x (ap (λ k
 both : (p q r : Position) (d e f : Declared) (xs ys : List Lexeme) → Moves p d xs q e → Moves q e ys r f → Moves p d (xs ++ ys) r f
 both p q r d e f xs ys one two = moves_both system_grammar p q r d e f xs ys one two
 
-lists : (s : Section) → HasLists Position Declared TextFault system_grammar (in_list s) (after_entry s) (in_section s) (with_setting s)
+lists : (s : Section) → HasLists Position Declared ItemFault system_grammar (in_list s) (after_entry s) (in_section s) (with_setting s)
 lists s = record {
   opens = λ d x bracket. kind_step (after_entry s) (in_list s first_key) d d x LeftBracket bracket refl refl;
   leads = λ position x. refl;
@@ -71,16 +72,11 @@ optional_moves s d settings xs is =
       moves_same system_grammar (after_entry s) (free s to.0) d (take_all (with_setting s) settings d) (marked s (list_any marks settings) d) xs (all_marked s settings d) to.1,
     )
 
-mark_last-push : (es : List StateEntry) (e : StateEntry) → mark_last (es ++ e ∷ []) ≡ es ++ record { name = e.name; initial = true } ∷ []
-mark_last-push [] e = refl
-mark_last-push (f ∷ []) e = refl
-mark_last-push (f ∷ g ∷ more) e = ap (λ l. f ∷ l) (mark_last-push (g ∷ more) e)
-
 abbrev pub state_of : Entry → StateEntry
 state_of e = record { name = e.name; initial = list_any marks e.settings }
 
 marked_name : (x : Lexeme) (mark : Bool) (d : Declared) → marked states mark (with_name states x d) ≡ record d { states = d.states ++ record { name = x; initial = mark } ∷ [] }
-marked_name x true d = ap (λ l. record d { states = l }) (mark_last-push d.states (record { name = x; initial = false }))
+marked_name x true d = ap (λ l. record d { states = l }) (change_push marked_entry d.states (record { name = x; initial = false }))
 marked_name x false d = refl
 
 name_moves : (b : Bool) (s : Section) (d : Declared) (x : Lexeme) → x.kind ≡ Name → (q : Position) → leads_by (in_section s) Name x ≡ Some q → Moves (free s b) d (x ∷ []) q (with_name s x d)

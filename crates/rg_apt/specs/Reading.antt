@@ -7,9 +7,10 @@ use Rattle.rg_lexer.specs.declared.token.Kind.TheVariants.{Name}
 use Rattle.rg_items.specs.Entry.{Setting}
 use Rattle.rg_items.specs.ListPosition.{completed_by, with_completed}
 use Rattle.rg_items.specs.Grammar.{Grammar}
+use Rattle.rg_items.specs.Last.{change_last}
 use Rattle.rg_items.specs.Grammar as grammar
-use Rattle.rg_apt.specs.declared.fault.TextFault.{TextFault}
-use Rattle.rg_apt.specs.declared.fault.TextFault.TheVariants.{Expected}
+use Rattle.rg_items.specs.declared.fault.ItemFault.{ItemFault}
+use Rattle.rg_items.specs.declared.fault.ItemFault.TheVariants.{Expected}
 use Rattle.rg_apt.specs.Table.{Section, states, labels, arcs, Position, section, type_name, in_section, after_entry, third, in_list, wanted, may_end, leads, refusal_by}
 use Rattle.rg_apt.specs.Contents.{marks, StateEntry, Declared}
 
@@ -17,11 +18,12 @@ use Rattle.rg_apt.specs.Contents.{marks, StateEntry, Declared}
 abbrev pub nothing : Declared
 nothing = record { typed = false; states = []; labels = []; arcs = [] }
 
+abbrev pub marked_entry : StateEntry → StateEntry
+marked_entry e = record e { initial = true }
+
 -- the last entry is marked
 abbrev pub mark_last : List StateEntry → List StateEntry
-mark_last [] = []
-mark_last (e ∷ []) = record { name = e.name; initial = true } ∷ []
-mark_last (e ∷ f ∷ more) = e ∷ mark_last (f ∷ more)
+mark_last es = change_last marked_entry es
 
 -- an option that marks is seen in a section's list
 abbrev pub marked : Section → Bool → Declared → Declared
@@ -51,7 +53,7 @@ abbrev pub adds : Position → Lexeme → Declared → Declared
 adds position x d = adds_by position x.kind x d
 
 -- the grammar of system files
-abbrev pub system_grammar : Grammar Position Declared TextFault
+abbrev pub system_grammar : Grammar Position Declared ItemFault
 system_grammar = record {
   start = section;
   nothing = nothing;
@@ -63,5 +65,5 @@ system_grammar = record {
 }
 
 -- the first token that can't continue the grammar
-abbrev pub FirstRefusal : List Lexeme → ℕ → TextFault → Type 0
+abbrev pub FirstRefusal : List Lexeme → ℕ → ItemFault → Type 0
 FirstRefusal xs end fault = grammar.FirstRefusal system_grammar xs end fault

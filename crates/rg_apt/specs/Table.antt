@@ -8,8 +8,8 @@ use Rattle.rg_lexer.specs.declared.token.Kind.TheVariants.{Name, Word, Text, Lef
 use Rattle.rg_lexer.specs.declared.token.Want.{Want}
 use Rattle.rg_lexer.specs.declared.token.Want.TheVariants as want
 use Rattle.rg_items.specs.ListPosition.{ListPosition, first_key, list_wanted, list_leads_by, list_to}
-use Rattle.rg_apt.specs.declared.fault.TextFault.{TextFault}
-use Rattle.rg_apt.specs.declared.fault.TextFault.TheVariants.{Expected, WrongType}
+use Rattle.rg_items.specs.declared.fault.ItemFault.{ItemFault}
+use Rattle.rg_items.specs.declared.fault.ItemFault.TheVariants.{Expected, WrongType}
 
 pub data Section : Type 0 where
   states : Section
@@ -82,6 +82,6 @@ abbrev pub leads : Position → Lexeme → Option Position
 leads position x = leads_by position x.kind x
 
 -- the fault of a token that may not stand at a position
-abbrev pub refusal_by : Position → Kind → ℕ → TextFault
+abbrev pub refusal_by : Position → Kind → ℕ → ItemFault
 refusal_by type_name Name at = WrongType at
 refusal_by position _ at = Expected at (wanted position)

@@ -1,9 +1,6 @@
 //! Why a text spells no system.
-ghost use Rattle.std.specs.Prelude.{◌≡◌};
-ghost use Rattle.rg_apt.specs.declared.fault.TextFault.TheVariants as fault;
-
-use rg_lexer::{LexFault, Want};
-use std::alloc::{AllocError, AllocFailed};
+use rg_items::ItemFault;
+use rg_lexer::Want;
 
 /// The first fault of a text. Each position is the number of a byte, from 0.
 #[derive(Clone, Copy, Debug, PartialEq, Eq)]
@@ -46,35 +43,21 @@ pub enum TextFault {
     NoMemory,
 }
 
-impl From<AllocError> for TextFault {
-    ghost from_gives = { λ _ e. e ≡ fault.NoMemory };
-
-    fn from(_: AllocError) -> TextFault {
-        TextFault::NoMemory
-    }
-}
-
-impl<T: Drop> From<AllocFailed<T>> for TextFault {
-    ghost from_gives = { λ _ e. e ≡ fault.NoMemory };
-
-    fn from(_: AllocFailed<T>) -> TextFault {
-        TextFault::NoMemory
-    }
-}
-
-impl From<LexFault> for TextFault {
+impl From<ItemFault> for TextFault {
     ghost use Rattle.std.specs.Prelude.{◌≡◌};
-    ghost use Rattle.rg_apt.specs.Spells.{of_lexer};
+    ghost use Rattle.rg_apt.specs.Spells.{of_items};
 
-    ghost from_gives = { λ e t. t ≡ of_lexer e };
+    ghost from_gives = { λ e f. f ≡ of_items e };
 
-    fn from(e: LexFault) -> TextFault {
+    fn from(e: ItemFault) -> TextFault {
         match e {
-            LexFault::BadByte(at) => TextFault::BadByte(at),
-            LexFault::OpenString(at) => TextFault::OpenString(at),
-            LexFault::OpenComment(at) => TextFault::OpenComment(at),
-            LexFault::LongName(at) => TextFault::LongName(at),
-            LexFault::NoMemory => TextFault::NoMemory,
+            ItemFault::BadByte(at) => TextFault::BadByte(at),
+            ItemFault::OpenString(at) => TextFault::OpenString(at),
+            ItemFault::OpenComment(at) => TextFault::OpenComment(at),
+            ItemFault::LongName(at) => TextFault::LongName(at),
+            ItemFault::Expected(at, want) => TextFault::Expected(at, want),
+            ItemFault::WrongType(at) => TextFault::WrongType(at),
+            ItemFault::NoMemory => TextFault::NoMemory,
         }
     }
 }

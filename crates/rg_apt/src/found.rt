@@ -3,18 +3,21 @@ ghost use Rattle.std.specs.Prelude.{◌≡◌, ◌≤◌, ◌++◌, ◌∷◌, [
 ghost use Rattle.rg_lexer.specs.Lexeme.{lexeme};
 ghost use Rattle.rg_lexer.specs.Tokens.{IsTokenOf};
 ghost use Rattle.rg_items.specs.Entry.{IsNameOf};
-ghost use Rattle.rg_apt.specs.Contents.{is_initial, is_true, marks};
+ghost use Rattle.rg_apt.specs.Contents.{Declared, is_initial, is_true, marks};
 ghost use Rattle.rg_items.specs.ListView.{list_position_in, setting_in, HoldsKey, HoldsSetting};
-ghost use Rattle.rg_apt.specs.Reading.{marked, with_name, adds, nothing, mark_last};
+ghost use Rattle.rg_apt.specs.Reading.{marked, with_name, adds, mark_last, system_grammar};
 ghost use Rattle.rg_apt.specs.View.{section_in, position_in, HoldsTokens};
 ghost use Rattle.rg_apt.specs.Table.{type_name, in_section, after_entry, third, in_list};
+ghost use Rattle.rg_apt.specs.Table as table;
 ghost use Rattle.rg_apt.specs.FoundView.{state_in, states_in, labels_in, arcs_in, found_in, IsStateOf, HoldsNames};
-ghost use Rattle.rg_apt.specs.declared.fault.TextFault.TheVariants.{NoMemory};
+ghost use Rattle.rg_items.specs.declared.fault.ItemFault.TheVariants.{NoMemory};
 
-use crate::fault::TextFault;
-use crate::position::{Position, Section};
-use rg_items::{FoundSetting, ListPosition, completed, text_of, value_of};
-use rg_lexer::{Kind, Token};
+use crate::position::{
+    Position, Section, from_entry, from_list, from_second, from_section, from_start, from_third,
+    from_type, from_word, wanted,
+};
+use rg_items::{FoundSetting, ItemFault, ListPosition, Reader, completed, text_of, value_of};
+use rg_lexer::{Kind, Token, Want};
 use std::alloc::Global;
 
 /// A declared state, and whether it is marked initial.
@@ -84,19 +87,6 @@ fn mark_last(states: &mut Vec<FoundState>)
 }
 
 impl Found {
-    /// Nothing is found.
-    pub fn new(alloc: Global) -> Found
-        ensures found { (bytes : List ℕ) → found_in bytes result ≡ nothing }
-        ensures names { (bytes : List ℕ) → HoldsNames bytes result }
-    {
-        Found {
-            typed: false,
-            states: Vec::new(alloc),
-            labels: Vec::new(alloc),
-            arcs: Vec::new(alloc),
-        }
-    }
-
     // An option is seen in a section's list.
     fn mark(&mut self, section: Section, mark: bool)
         ensures found { (bytes : List ℕ) → found_in bytes self.new ≡ marked (section_in section) mark (found_in bytes self.old) }
@@ -114,7 +104,7 @@ impl Found {
     }
 
     // A name begins an entry or triple.
-    fn name(&mut self, section: Section, name: Token) -> Result<(), TextFault>
+    fn name(&mut self, section: Section, name: Token) -> Result<(), ItemFault>
         ensures ok { OnOk result ((bytes : List ℕ) → found_in bytes self.new ≡ with_name (section_in section) (lexeme bytes name) (found_in bytes self.old)) }
         ensures names { OnOk result ((bytes : List ℕ) → IsNameOf bytes name → HoldsNames bytes self.old → HoldsNames bytes self.new) }
         ensures err { IfErr result (λ e. e ≡ NoMemory) }
@@ -142,7 +132,7 @@ impl Found {
     }
 
     // A token stands where an entry or triple may begin.
-    fn at_entry(&mut self, section: Section, token: Token) -> Result<(), TextFault>
+    fn at_entry(&mut self, section: Section, token: Token) -> Result<(), ItemFault>
         ensures ok { OnOk result ((bytes : List ℕ) → found_in bytes self.new ≡ adds (in_section (section_in section)) (lexeme bytes token) (found_in bytes self.old)) }
         ensures after { OnOk result ((bytes : List ℕ) → found_in bytes self.new ≡ adds (after_entry (section_in section)) (lexeme bytes token) (found_in bytes self.old)) }
         ensures names { OnOk result ((bytes : List ℕ) → IsTokenOf bytes token → HoldsNames bytes self.old → HoldsNames bytes self.new) }
@@ -156,7 +146,7 @@ impl Found {
     }
 
     // A token stands at the third name of a triple.
-    fn at_third(&mut self, from: Token, label: Token, token: Token) -> Result<(), TextFault>
+    fn at_third(&mut self, from: Token, label: Token, token: Token) -> Result<(), ItemFault>
         ensures ok { OnOk result ((bytes : List ℕ) → found_in bytes self.new ≡ adds (third (lexeme bytes from) (lexeme bytes label)) (lexeme bytes token) (found_in bytes self.old)) }
         ensures names { OnOk result ((bytes : List ℕ) → IsTokenOf bytes token → IsNameOf bytes from → IsNameOf bytes label
             → HoldsNames bytes self.old → HoldsNames bytes self.new) }
@@ -189,15 +179,59 @@ impl Found {
             None => {}
         }
     }
+}
 
-    /// Adds what is found with a token that stands at a position.
-    pub fn add(&mut self, bytes: &[u8], position: Position, token: Token) -> Result<(), TextFault>
-        requires token { IsTokenOf bytes.now token }
-        requires held { HoldsTokens bytes.now position }
-        ensures ok { OnOk result (found_in bytes.now self.new ≡ adds (position_in bytes.now position) (lexeme bytes.now token) (found_in bytes.now self.old)) }
-        ensures names { OnOk result (HoldsNames bytes.now self.old → HoldsNames bytes.now self.new) }
-        ensures err { IfErr result (λ e. e ≡ NoMemory) }
-    {
+impl Reader for Found {
+    type Position = Position;
+
+    ghost GrammarPosition = { table.Position };
+
+    ghost Content = { Declared };
+
+    ghost grammar = { system_grammar };
+
+    ghost grammar_position_in = { position_in };
+
+    ghost content_in = { found_in };
+
+    ghost holds_tokens = { HoldsTokens };
+
+    ghost holds_names = { HoldsNames };
+
+    fn new(alloc: Global) -> Found {
+        Found {
+            typed: false,
+            states: Vec::new(alloc),
+            labels: Vec::new(alloc),
+            arcs: Vec::new(alloc),
+        }
+    }
+
+    fn start() -> Position {
+        Position::Start
+    }
+
+    fn lead(bytes: &[u8], position: Position, token: Token) -> Option<Position> {
+        let text = text_of(bytes, token);
+        match position {
+            Position::Start => from_start(token, text),
+            Position::TypeName => from_type(token, text),
+            Position::PassedText => from_word(token),
+            Position::InSection(section) => from_section(section, token, text),
+            Position::AfterEntry(section) => from_entry(section, token, text),
+            Position::Second(from) => from_second(from, token),
+            Position::Third(from, label) => from_third(from, label, token),
+            Position::InList(section, position) => from_list(section, position, token),
+        }
+    }
+
+    fn add(
+        &mut self,
+        _alloc: Global,
+        bytes: &[u8],
+        position: Position,
+        token: Token,
+    ) -> Result<(), ItemFault> {
         match position {
             Position::Start => {}
             Position::TypeName => self.at_type(token),
@@ -209,5 +243,28 @@ impl Found {
             Position::InList(section, position) => self.at_option(bytes, section, position, token),
         }
         Ok(())
+    }
+
+    fn may_end(position: Position) -> bool {
+        match position {
+            Position::Start => true,
+            Position::InSection(_) => true,
+            Position::AfterEntry(_) => true,
+            _ => false,
+        }
+    }
+
+    fn refusal(position: Position, token: Token) -> ItemFault {
+        match position {
+            Position::TypeName => match token.kind {
+                Kind::Name => ItemFault::WrongType(token.from),
+                _ => ItemFault::Expected(token.from, Want::Name),
+            },
+            _ => ItemFault::Expected(token.from, wanted(position)),
+        }
+    }
+
+    fn end_refusal(position: Position, end: u32) -> ItemFault {
+        ItemFault::Expected(end, wanted(position))
     }
 }

@@ -4,6 +4,7 @@ ghost use Rattle.rg_items.specs.Grammar.{leads_all};
 ghost use Rattle.rg_apt.specs.Table.{Position, section};
 ghost use Rattle.rg_theory.specs.System.{System};
 ghost use Rattle.rg_lexer.specs.Lexeme.{Lexeme};
+ghost use Rattle.rg_items.specs.declared.fault.ItemFault.{ItemFault};
 ghost use Rattle.rg_apt.specs.declared.fault.TextFault.{TextFault};
 ghost use Rattle.rg_apt.specs.Item.{Item, AreItems};
 ghost use Rattle.rg_apt.specs.Reading.{FirstRefusal, system_grammar};
@@ -24,8 +25,8 @@ pub fn one_answer()
 /// declare is one. Tokens that lead anywhere from the start go on to the tokens of a whole file, so the first that
 /// is refused is the first that can't continue any file.
 pub fn items_are_read()
-    ensures some { (xs : List Lexeme) (end : ℕ) → ((items : List Item) × AreItems items xs) ⊎ ((f : TextFault) × FirstRefusal xs end f) }
-    ensures not_refused { (items : List Item) (xs : List Lexeme) (end : ℕ) (f : TextFault) → AreItems items xs → ¬ FirstRefusal xs end f }
+    ensures some { (xs : List Lexeme) (end : ℕ) → ((items : List Item) × AreItems items xs) ⊎ ((f : ItemFault) × FirstRefusal xs end f) }
+    ensures not_refused { (items : List Item) (xs : List Lexeme) (end : ℕ) (f : ItemFault) → AreItems items xs → ¬ FirstRefusal xs end f }
     ensures one_meaning { (a b : List Item) (xs : List Lexeme) → AreItems a xs → AreItems b xs → declared a ≡ declared b }
     ensures goes_on { (front : List Lexeme) (position : Position) → leads_all system_grammar section front ≡ Some position → (more : List Lexeme) × (items : List Item) × AreItems items (front ++ more) }
 {}

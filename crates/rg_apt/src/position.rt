@@ -1,14 +1,13 @@
 //! Where a token stands in a file, and where it leads.
 ghost use Rattle.std.specs.Prelude.{◌≡◌, ◌≤◌, ℕ, List, length, option_map, slice_range, IfSome};
 ghost use Rattle.rg_lexer.specs.Lexeme.{lexeme};
-ghost use Rattle.rg_apt.specs.Table.{wanted, may_end, after_word, is_type_name, after_name, leads, refusal_by};
+ghost use Rattle.rg_apt.specs.Table.{wanted, after_word, is_type_name, after_name, leads};
 ghost use Rattle.rg_apt.specs.Table as table;
 ghost use Rattle.rg_apt.specs.View.{section_in, position_in, HoldsTokens};
 ghost use Rattle.rg_lexer.specs.Tokens.{IsTokenOf};
 ghost use Rattle.rg_items.specs.Entry.{IsNameOf};
 ghost use Rattle.rg_items.specs.ListView.{list_position_in, HoldsKey};
 
-use crate::fault::TextFault;
 use rg_items::{ListPosition, ListStep, list_lead, list_wanted};
 use rg_lexer::{Kind, Token, Want};
 
@@ -77,8 +76,8 @@ fn after_name(section: Section, name: Token) -> Position
     }
 }
 
-// Where a token leads from a position where an entry may begin.
-fn from_section(section: Section, token: Token, text: &[u8]) -> Option<Position>
+/// Where a token leads from a position where an entry may begin.
+pub fn from_section(section: Section, token: Token, text: &[u8]) -> Option<Position>
     ensures leads { (bytes : List ℕ) → slice_range bytes token.from token.to ≡ text.now
         → option_map (position_in bytes) result ≡ leads (table.in_section (section_in section)) (lexeme bytes token) }
     ensures holds { (bytes : List ℕ) → IsTokenOf bytes token → IfSome result (HoldsTokens bytes) }
@@ -90,8 +89,8 @@ fn from_section(section: Section, token: Token, text: &[u8]) -> Option<Position>
     }
 }
 
-// Where a token leads directly after an entry or triple.
-fn from_entry(section: Section, token: Token, text: &[u8]) -> Option<Position>
+/// Where a token leads directly after an entry or triple.
+pub fn from_entry(section: Section, token: Token, text: &[u8]) -> Option<Position>
     ensures leads { (bytes : List ℕ) → slice_range bytes token.from token.to ≡ text.now
         → option_map (position_in bytes) result ≡ leads (table.after_entry (section_in section)) (lexeme bytes token) }
     ensures holds { (bytes : List ℕ) → IsTokenOf bytes token → IfSome result (HoldsTokens bytes) }
@@ -110,8 +109,8 @@ fn is_type_name(text: &[u8]) -> bool
     text == b"LTS".as_slice() || text == b"TS".as_slice()
 }
 
-// Where a token leads after `.type`.
-fn from_type(token: Token, text: &[u8]) -> Option<Position>
+/// Where a token leads after `.type`.
+pub fn from_type(token: Token, text: &[u8]) -> Option<Position>
     ensures leads { (bytes : List ℕ) → slice_range bytes token.from token.to ≡ text.now
         → option_map (position_in bytes) result ≡ leads table.type_name (lexeme bytes token) }
     ensures holds { (bytes : List ℕ) → IsTokenOf bytes token → IfSome result (HoldsTokens bytes) }
@@ -128,8 +127,8 @@ fn from_type(token: Token, text: &[u8]) -> Option<Position>
     }
 }
 
-// Where a token leads in an option list.
-fn from_list(section: Section, position: ListPosition, token: Token) -> Option<Position>
+/// Where a token leads in an option list.
+pub fn from_list(section: Section, position: ListPosition, token: Token) -> Option<Position>
     ensures leads { (bytes : List ℕ) → option_map (position_in bytes) result
         ≡ leads (table.in_list (section_in section) (list_position_in bytes position)) (lexeme bytes token) }
     ensures holds { (bytes : List ℕ) → IsTokenOf bytes token → HoldsKey bytes position → IfSome result (HoldsTokens bytes) }
@@ -141,8 +140,8 @@ fn from_list(section: Section, position: ListPosition, token: Token) -> Option<P
     }
 }
 
-// Where a token leads at the start and after a passed-over text.
-fn from_start(token: Token, text: &[u8]) -> Option<Position>
+/// Where a token leads at the start and after a passed-over text.
+pub fn from_start(token: Token, text: &[u8]) -> Option<Position>
     ensures leads { (bytes : List ℕ) → slice_range bytes token.from token.to ≡ text.now
         → option_map (position_in bytes) result ≡ leads table.section (lexeme bytes token) }
     ensures holds { (bytes : List ℕ) → IsTokenOf bytes token → IfSome result (HoldsTokens bytes) }
@@ -153,8 +152,8 @@ fn from_start(token: Token, text: &[u8]) -> Option<Position>
     }
 }
 
-// Where a token leads after a word that isn't a section's.
-fn from_word(token: Token) -> Option<Position>
+/// Where a token leads after a word that isn't a section's.
+pub fn from_word(token: Token) -> Option<Position>
     ensures leads { (bytes : List ℕ) → option_map (position_in bytes) result ≡ leads table.passed_text (lexeme bytes token) }
     ensures holds { (bytes : List ℕ) → IsTokenOf bytes token → IfSome result (HoldsTokens bytes) }
 {
@@ -164,8 +163,8 @@ fn from_word(token: Token) -> Option<Position>
     }
 }
 
-// Where a name leads at the three positions where only a name may stand.
-fn from_second(from: Token, token: Token) -> Option<Position>
+/// Where a token leads at the second name of a triple.
+pub fn from_second(from: Token, token: Token) -> Option<Position>
     ensures leads { (bytes : List ℕ) → option_map (position_in bytes) result ≡ leads (table.second (lexeme bytes from)) (lexeme bytes token) }
     ensures holds { (bytes : List ℕ) → IsTokenOf bytes token → IsNameOf bytes from → IfSome result (HoldsTokens bytes) }
 {
@@ -175,55 +174,13 @@ fn from_second(from: Token, token: Token) -> Option<Position>
     }
 }
 
-fn from_third(from: Token, label: Token, token: Token) -> Option<Position>
+/// Where a token leads at the third name of a triple.
+pub fn from_third(from: Token, label: Token, token: Token) -> Option<Position>
     ensures leads { (bytes : List ℕ) → option_map (position_in bytes) result ≡ leads (table.third (lexeme bytes from) (lexeme bytes label)) (lexeme bytes token) }
     ensures holds { (bytes : List ℕ) → IsTokenOf bytes token → IfSome result (HoldsTokens bytes) }
 {
     match token.kind {
         Kind::Name => Some(Position::AfterEntry(Section::Arcs)),
         _ => None,
-    }
-}
-
-/// Where a token of this text leads from a position, if it may stand there.
-pub fn lead(position: Position, token: Token, text: &[u8]) -> Option<Position>
-    ensures leads { (bytes : List ℕ) → slice_range bytes token.from token.to ≡ text.now
-        → option_map (position_in bytes) result ≡ leads (position_in bytes position) (lexeme bytes token) }
-    ensures holds { (bytes : List ℕ) → IsTokenOf bytes token → HoldsTokens bytes position → IfSome result (HoldsTokens bytes) }
-{
-    match position {
-        Position::Start => from_start(token, text),
-        Position::TypeName => from_type(token, text),
-        Position::PassedText => from_word(token),
-        Position::InSection(section) => from_section(section, token, text),
-        Position::AfterEntry(section) => from_entry(section, token, text),
-        Position::Second(from) => from_second(from, token),
-        Position::Third(from, label) => from_third(from, label, token),
-        Position::InList(section, position) => from_list(section, position, token),
-    }
-}
-
-/// Whether the file may end at a position.
-pub fn may_end(position: Position) -> bool
-    ensures { (bytes : List ℕ) → result ≡ may_end (position_in bytes position) }
-{
-    match position {
-        Position::Start => true,
-        Position::InSection(_) => true,
-        Position::AfterEntry(_) => true,
-        _ => false,
-    }
-}
-
-/// The fault of a token that may not stand at a position.
-pub fn refusal(position: Position, token: Token) -> TextFault
-    ensures { (bytes : List ℕ) → result ≡ refusal_by (position_in bytes position) token.kind token.from }
-{
-    match position {
-        Position::TypeName => match token.kind {
-            Kind::Name => TextFault::WrongType(token.from),
-            _ => TextFault::Expected(token.from, Want::Name),
-        },
-        _ => TextFault::Expected(token.from, wanted(position)),
     }
 }

@@ -5,12 +5,12 @@ use Rattle.std.specs.Option.{option_and_then}
 use Rattle.std.proofs.lemmas.List.{drop_more, drop_all}
 use Rattle.rg_lexer.specs.declared.token.Token.{Token}
 use Rattle.rg_lexer.specs.Lexeme.{Lexeme, lexeme}
-use Rattle.rg_items.specs.Grammar.{Grammar, leads_all, read_on, FirstRefusal}
+use Rattle.rg_items.specs.Grammar.{Grammar, leads_all, read_on, Finds, FirstRefusal}
 use Rattle.rg_items.proofs.Refusals.{refusal, refused_is, some_same, read_not_refused, read_leads, refused_from_none, refusal_is}
 
 -- the grammar reads such things to what they mean, and what it leads to an end is such things
 pub record Describes (P D F I : Type 0) (g : Grammar P D F) (Are : I → List Lexeme → Type 0) (meaning : I → D) : Type 0 where
-  pub read : (items : I) (xs : List Lexeme) → Are items xs → (p : P) × (g.may_end p ≡ true) × (read_on g g.start g.nothing xs ≡ Some (p, meaning items))
+  pub read : (items : I) (xs : List Lexeme) → Are items xs → Finds g xs (meaning items)
   pub complete : (q : P) (xs : List Lexeme) → leads_all g g.start xs ≡ Some q → g.may_end q ≡ true → (items : I) × Are items xs
 
 -- the tokens of items are not refused
@@ -38,6 +38,14 @@ items_or_refused {P} {D} {F} {I} g Are meaning is xs end = by (refusal g g.start
     by None e = let r = refused_from_none g g.start xs end e in inl (is.complete r.0 xs r.1 r.2)
     by (Some f) e = inr (f, refusal_is g g.start xs end f e)
 
+-- what is found of tokens is what the items mean that they are
+pub found_items : {P D F I : Type 0} (g : Grammar P D F) (Are : I → List Lexeme → Type 0) (meaning : I → D) → Describes P D F I g Are meaning
+    → (xs : List Lexeme) (d : D) → Finds g xs d → (items : I) × Are items xs × (d ≡ meaning items)
+found_items {P} {D} g Are meaning by xs d found =
+    let items = by.complete found.0 xs (read_leads g g.start found.0 g.nothing d xs found.2) found.1 in
+    let meant = by.read items.0 xs items.1 in
+    (items.0, items.1, ap (λ (x : P × D). x.1) (some_same (found.0, d) (meant.0, meaning items.0) (sym found.2 ∙ meant.2)))
+
 abbrev pub lexemes : List ℕ → List Token → List Lexeme
 lexemes bytes tokens = map (lexeme bytes) tokens
 
@@ -46,8 +54,12 @@ pub record ReadsTo (P D F : Type 0) (g : Grammar P D F) (bytes : List ℕ) (toke
   pub reads : read_on g g.start g.nothing (lexemes bytes tokens) ≡ read_on g position found (lexemes bytes (drop i tokens))
   pub refused : refusal g g.start (lexemes bytes tokens) (length bytes) ≡ refusal g position (lexemes bytes (drop i tokens)) (length bytes)
 
-pub reads_none : {P D F : Type 0} (g : Grammar P D F) (bytes : List ℕ) (tokens : List Token) (found : D) → found ≡ g.nothing → ReadsTo P D F g bytes tokens 0 g.start found
-reads_none g bytes tokens found e = record { reads = ap (λ d. read_on g g.start d (lexemes bytes tokens)) (sym e); refused = refl }
+pub reads_none : {P D F : Type 0} (g : Grammar P D F) (bytes : List ℕ) (tokens : List Token) (position : P) (found : D) → position ≡ g.start → found ≡ g.nothing
+    → ReadsTo P D F g bytes tokens 0 position found
+reads_none g bytes tokens position found at none = record {
+  reads = ap (λ p. read_on g p g.nothing (lexemes bytes tokens)) (sym at) ∙ ap (λ d. read_on g position d (lexemes bytes tokens)) (sym none);
+  refused = ap (λ p. refusal g p (lexemes bytes tokens) (length bytes)) (sym at);
+}
 
 -- the next token
 rest_is : (bytes : List ℕ) (tokens : List Token) (i : ℕ) (x : Token) → i < length tokens → x ≡ get_or tokens i x → lexemes bytes (drop i tokens) ≡ lexeme bytes x ∷ lexemes bytes (drop (i + 1) tokens)
@@ -83,12 +95,6 @@ refused_end g bytes tokens i p d past ends r =
     (r.refused ∙ ap (λ l. refusal g p (lexemes bytes l) (length bytes)) (drop_all i tokens past)
     ∙ ap (λ b. cond b None (Some (g.ends p (length bytes)))) ends)
 
-pub read_end : {P D F I : Type 0} (g : Grammar P D F) (Are : I → List Lexeme → Type 0) (meaning : I → D) → Describes P D F I g Are meaning
-    → (bytes : List ℕ) (tokens : List Token) (i : ℕ) (p : P) (d : D) → length tokens ≤ i → g.may_end p ≡ true → ReadsTo P D F g bytes tokens i p d
-    → (items : I) × Are items (lexemes bytes tokens) × (d ≡ meaning items)
-read_end {P} {D} g Are meaning by bytes tokens i p d past ends r =
-    let xs = lexemes bytes tokens in
-    let found : read_on g g.start g.nothing xs ≡ Some (p, d) = r.reads ∙ ap (λ l. read_on g p d (lexemes bytes l)) (drop_all i tokens past) in
-    let items = by.complete p xs (read_leads g g.start p g.nothing d xs found) ends in
-    let meant = by.read items.0 xs items.1 in
-    (items.0, items.1, ap (λ (x : P × D). x.1) (some_same (p, d) (meant.0, meaning items.0) (sym found ∙ meant.2)))
+pub read_end : {P D F : Type 0} (g : Grammar P D F) (bytes : List ℕ) (tokens : List Token) (i : ℕ) (p : P) (d : D) → length tokens ≤ i → g.may_end p ≡ true
+    → ReadsTo P D F g bytes tokens i p d → Finds g (lexemes bytes tokens) d
+read_end g bytes tokens i p d past ends r = (p, ends, r.reads ∙ ap (λ l. read_on g p d (lexemes bytes l)) (drop_all i tokens past))

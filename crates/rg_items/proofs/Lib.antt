@@ -2,8 +2,11 @@ pub mod Printed
 pub mod Names
 pub mod Refusals
 pub mod Described
+pub mod Last
 pub mod Moves
+pub mod Words
 pub mod Lists
 pub mod Complete
 pub mod Tokens
 pub mod Going
+pub mod WholeTexts

@@ -30,10 +30,10 @@ abbrev pub take_all : {X D : Type 0} → (X → D → D) → List X → D → D
 take_all take [] d = d
 take_all take (x ∷ xs) d = take_all take xs (take x d)
 
--- things of one sort, each of which leads from one of two positions to one of them
-pub each_move : {P D F X : Type 0} (g : Grammar P D F) (free : Bool → P) (Is : X → List Lexeme → Type 0) (take : X → D → D)
-    → ((b : Bool) (d : D) (thing : X) (xs : List Lexeme) → Is thing xs → (c : Bool) × Moves g (free b) d xs (free c) (take thing d))
-    → (b : Bool) (d : D) (things : List X) (xs : List Lexeme) → AreEach Is things xs → (c : Bool) × Moves g (free b) d xs (free c) (take_all take things d)
+-- things of one sort, each of which leads from one of some positions to one of them
+pub each_move : {P D F X B : Type 0} (g : Grammar P D F) (free : B → P) (Is : X → List Lexeme → Type 0) (take : X → D → D)
+    → ((b : B) (d : D) (thing : X) (xs : List Lexeme) → Is thing xs → (c : B) × Moves g (free b) d xs (free c) (take thing d))
+    → (b : B) (d : D) (things : List X) (xs : List Lexeme) → AreEach Is things xs → (c : B) × Moves g (free b) d xs (free c) (take_all take things d)
 each_move g free Is take one b d [] xs is = (b, subst (λ l. Moves g (free b) d l (free b) d) (sym is) (moves_none g (free b) d))
 each_move g free Is take one b d (thing ∷ things) xs is =
     let first = one b d thing is.0 is.2 in

@@ -1,5 +1,5 @@
 -- The bytes of a token that is a name.
-use Rattle.std.proofs.Common.{◌≡◌, ℕ, List, subst, slice_range}
+use Rattle.std.proofs.Common.{ℕ, List, subst, slice_range}
 use Rattle.rg_text.specs.Byte.{IsName}
 use Rattle.rg_lexer.specs.declared.token.Token.{Token}
 use Rattle.rg_lexer.specs.Piece.{IsToken}

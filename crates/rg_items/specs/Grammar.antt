@@ -1,5 +1,5 @@
 -- A grammar as a table: where a token may stand, where it leads, and what it adds to what is found.
-use Rattle.std.specs.Prelude.{◌≡◌, ℕ, Bool, false, List, [], ◌∷◌, ◌++◌, Option, None, Some}
+use Rattle.std.specs.Prelude.{◌≡◌, ℕ, Bool, true, false, List, [], ◌∷◌, ◌++◌, Option, None, Some}
 use Rattle.std.specs.Option.{option_and_then}
 use Rattle.rg_lexer.specs.Lexeme.{Lexeme}
 
@@ -22,6 +22,10 @@ leads_all g position (x ∷ xs) = option_and_then (λ next. leads_all g next xs)
 abbrev pub read_on : {P D F : Type 0} → Grammar P D F → P → D → List Lexeme → Option (P × D)
 read_on g position found [] = Some (position, found)
 read_on g position found (x ∷ xs) = option_and_then (λ next. read_on g next (g.adds position x found) xs) (g.leads position x)
+
+-- the tokens lead to a position where the text may end, and this is found with them
+abbrev pub Finds : {P D F : Type 0} → Grammar P D F → List Lexeme → D → Type 0
+Finds {P} g xs found = (position : P) × (g.may_end position ≡ true) × (read_on g g.start g.nothing xs ≡ Some (position, found))
 
 -- the rest begins with a token that may not stand at the position, or the text may not end there
 abbrev pub IsRefused : {P D F : Type 0} → Grammar P D F → P → List Lexeme → ℕ → F → Type 0

@@ -1,9 +1,13 @@
-//! What the texts of systems and nets share: names, options, entries, lists of things, and grammars as
-//! tables of positions.
+//! What the texts of systems and nets share: names, options, entries, lists of things, grammars as tables of
+//! positions, and the loop that reads a text by such a grammar, or tells its first fault.
 #![tactic(auto)]
 
+mod fault;
 mod list_position;
+mod reading;
 mod texts;
 
+pub use fault::ItemFault;
 pub use list_position::{FoundSetting, ListPosition, ListStep, completed, list_lead, list_wanted};
+pub use reading::{Reader, read};
 pub use texts::{name_of, text_of, value_of};

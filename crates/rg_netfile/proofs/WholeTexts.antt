@@ -7,7 +7,7 @@ use Rattle.rg_text.proofs.Left.{one_first, none_or_first, some_first}
 use Rattle.rg_netitems.specs.Item.{Item}
 use Rattle.rg_netitems.specs.Contents.{Declared, declared}
 use Rattle.rg_netitems.specs.Text.{AreItemsOf, FirstItemFault}
-use Rattle.rg_netitems.specs.declared.fault.ItemFault.{ItemFault}
+use Rattle.rg_items.specs.declared.fault.ItemFault.{ItemFault}
 use Rattle.rg_netitems.proofs.WholeTexts.{one_meaning, items_not_fault, one_first_fault as one_item_fault, items_or_fault}
 use Rattle.rg_netfile.specs.declared.fault.NetFault.{NetFault}
 use Rattle.rg_netfile.specs.declared.fault.NetFault.TheVariants.{NoType, TransitionsDiffer}

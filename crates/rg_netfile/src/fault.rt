@@ -2,8 +2,8 @@
 ghost use Rattle.std.specs.Prelude.{◌≡◌};
 ghost use Rattle.rg_netfile.specs.declared.fault.NetFault.TheVariants as fault;
 
+use rg_items::ItemFault;
 use rg_lexer::Want;
-use rg_netitems::ItemFault;
 use std::alloc::{AllocError, AllocFailed};
 
 /// The first fault of a net file. Each position is the number of a byte, from 0.

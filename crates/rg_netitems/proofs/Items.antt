@@ -1,29 +1,27 @@
 -- Whole files: items lead to a position where the file may end, and what is found is what they declare.
-use Rattle.std.proofs.Common.{◌≡◌, ◌⊎◌, inl, inr, Bool, true, false, cond, ◌||◌, ℕ, List, [], ◌∷◌, ◌++◌, map, None, Some, codes, refl, sym, ap, subst, ◌∙◌, append_assoc, append-nil, flat_map}
+use Rattle.std.proofs.Common.{◌≡◌, ◌⊎◌, inl, inr, Bool, true, false, cond, ◌||◌, ℕ, List, [], ◌∷◌, ◌++◌, map, Option, None, Some, codes, refl, sym, ap, ◌∙◌, append_assoc, append-nil, flat_map}
 use Rattle.std.specs.List.{list_any}
-use Rattle.std.specs.Str.{bytes_eq}
-use Rattle.std.proofs.lemmas.Bool.{false_from_ne_true}
 use Rattle.std.proofs.lemmas.List.{map-append}
-use Rattle.std.proofs.lemmas.Slice.Eq.{bytes_eq-Decides}
 use Rattle.rg_lexer.specs.Lexeme.{Lexeme}
 use Rattle.rg_lexer.specs.declared.token.Kind.TheVariants.{Name, Word, Text}
 use Rattle.rg_items.specs.Entry.{Entry}
-use Rattle.rg_items.specs.Grammar.{read_on}
-use Rattle.rg_items.proofs.Moves as moves
+use Rattle.rg_items.specs.Grammar.{Finds, read_on}
+use Rattle.rg_items.proofs.Moves.{take_all, each_move}
+use Rattle.rg_items.proofs.Words.{ItemPosition, word_moves, differ, or_false, or_true, or_assoc}
+use Rattle.rg_items.proofs.Words as words
 use Rattle.rg_netitems.specs.Item.{Item, IsItem, AreItems, IsOtherWord}
 use Rattle.rg_netitems.specs.Item as item
-use Rattle.rg_netitems.specs.Table.{Section, places, transitions, marking, Position, section, type_name, passed_text, in_section, after_entry, in_flows, before_set, after_word, is_type_name, may_end}
+use Rattle.rg_netitems.specs.Table.{Section, places, transitions, marking, Position, section, type_name, passed_text, in_section, after_entry, in_flows, before_set, after_word, is_type_name}
 use Rattle.rg_netitems.specs.Contents.{Declared, Transition, is_type, places_in, transitions_in, flows_in, marking_in, declared}
 use Rattle.rg_netitems.specs.Reading.{Labelled, Progress, nothing, transition_of, declared_by, net_grammar}
-use Rattle.rg_netitems.proofs.Walk.{Moves, kind_step, both, free, name_of, labelled, places_move, transitions_move, marking_moves, flows_move}
+use Rattle.rg_netitems.proofs.Walk.{Moves, kind_step, free, name_of, labelled, places_move, transitions_move, marking_moves, flows_move}
 
-moves_same : (p q : Position) (d e e' : Progress) (xs : List Lexeme) → e ≡ e' → Moves p d xs q e → Moves p d xs q e'
-moves_same p q d e e' xs same one = moves.moves_same net_grammar p q d e e' xs same one
+-- where an item may begin
+abbrev Begins : Position → Type 0
+Begins p = words.Begins net_grammar after_word p
 
--- a position where a word may stand, and the file may end
-pub record Begins (p : Position) : Type 0 where
-  pub word : (x : Lexeme) (d : Progress) → x.kind ≡ Word → Moves p d (x ∷ []) (after_word x.text) d
-  pub end : may_end p ≡ true
+abbrev ItemAt : Type 0
+ItemAt = ItemPosition net_grammar after_word
 
 section_begins : Begins section
 section_begins = record { word = λ x d w. kind_step section (after_word x.text) d d x Word w refl refl; end = refl }
@@ -39,9 +37,9 @@ abbrev labelled_in : Item → List Labelled
 labelled_in (item.transitions entries) = map labelled entries
 labelled_in _ = []
 
--- what is found, and then what an item declares
-abbrev with_item : Progress → Item → Progress
-with_item d i = record {
+-- what an item declares, behind what is found
+abbrev with_item : Item → Progress → Progress
+with_item i d = record {
   typed = d.typed || is_type i;
   places = d.places ++ places_in i;
   transitions = d.transitions ++ labelled_in i;
@@ -49,8 +47,8 @@ with_item d i = record {
   marking = d.marking ++ marking_in i;
 }
 
-abbrev with_items : Progress → List Item → Progress
-with_items d is = record {
+abbrev with_items : List Item → Progress → Progress
+with_items is d = record {
   typed = d.typed || list_any is_type is;
   places = d.places ++ flat_map places_in is;
   transitions = d.transitions ++ flat_map labelled_in is;
@@ -60,28 +58,6 @@ with_items d is = record {
 
 same_progress : (d e : Progress) → d.typed ≡ e.typed → d.places ≡ e.places → d.transitions ≡ e.transitions → d.flows ≡ e.flows → d.marking ≡ e.marking → d ≡ e
 same_progress d e a b c f g = λ i. record { typed = a i; places = b i; transitions = c i; flows = f i; marking = g i }
-
-or_false : (a : Bool) → a ≡ (a || false)
-or_false true = refl
-or_false false = refl
-
-or_true : (a : Bool) → true ≡ (a || true)
-or_true true = refl
-or_true false = refl
-
--- the tokens lead to a position where the next item may begin
-record MovesOn (p : Position) (d : Progress) (xs : List Lexeme) (e : Progress) : Type 0 where
-  position : Position
-  begins : Begins position
-  moves : Moves p d xs position e
-
-word_then : (p q r : Position) (d e : Progress) (word : Lexeme) (rest xs : List Lexeme) → Begins p → word.kind ≡ Word → after_word word.text ≡ q → Moves q d rest r e → xs ≡ word ∷ rest → Moves p d xs r e
-word_then p q r d e word rest xs begins kind to moves same =
-    subst (λ l. Moves p d l r e) (sym same)
-    (both p q r d d e (word ∷ []) rest (subst (λ q. Moves p d (word ∷ []) q d) to (begins.word word d kind)) moves)
-
-differ : (a b : List ℕ) → (a ≡ b → ⊥) → bytes_eq a b ≡ false
-differ a b h = false_from_ne_true (bytes_eq a b) (λ e. h ((bytes_eq-Decides a b).0 e))
 
 type_names : (text : List ℕ) → (text ≡ codes "PN") ⊎ (text ≡ codes "LPN") → is_type_name text ≡ true
 type_names text (inl e) = ap is_type_name e
@@ -97,101 +73,61 @@ other_word word is =
       differ word.text (codes ".initial_marking") is.no_marking,
     ) refl
 
-item_moves : (p : Position) (d : Progress) (i : Item) (xs : List Lexeme) → Begins p → IsItem i xs → MovesOn p d xs (with_item d i)
-item_moves p d (item.type name) xs begins is =
-    let made = with_item d (item.type name) in
-    let typed : Progress = record d { typed = true } in
-    let same : typed ≡ made = same_progress typed made (or_true d.typed) (sym (append-nil d.places)) (sym (append-nil d.transitions)) (sym (append-nil d.flows)) (sym (append-nil d.marking)) in
-    record {
-      position = section;
-      begins = section_begins;
-      moves = moves_same p section d typed made xs same
-          (word_then p type_name section d typed is.0 (name ∷ []) xs begins is.1.0 (ap after_word is.1.1)
-          (kind_step type_name section d typed name Name is.2.0 (ap (λ t. cond t (Some section) None) (type_names name.text is.2.1)) refl) is.3);
-    }
-item_moves p d (item.places es) xs begins is =
-    let made = with_item d (item.places es) in
-    let more = places_move d es is.1 is.3 in
+item_moves : (b : ItemAt) (d : Progress) (i : Item) (xs : List Lexeme) → IsItem i xs → (c : ItemAt) × Moves b.0 d xs c.0 (with_item i d)
+item_moves b d (item.type name) xs is =
+    let made = with_item (item.type name) d in
+    let found : Progress = record d { typed = true } in
+    word_moves net_grammar after_word b (section, section_begins) type_name d found made is.0 (name ∷ []) xs is.1.0 (ap after_word is.1.1)
+    (kind_step type_name section d found name Name is.2.0 (ap (λ t. cond t (Some section) None) (type_names name.text is.2.1)) refl) is.3
+    (same_progress found made (or_true d.typed) (sym (append-nil d.places)) (sym (append-nil d.transitions)) (sym (append-nil d.flows)) (sym (append-nil d.marking)))
+item_moves b d (item.places es) xs is =
+    let made = with_item (item.places es) d in
     let found : Progress = record d { places = d.places ++ map name_of es } in
-    let same : found ≡ made = same_progress found made (or_false d.typed) refl (sym (append-nil d.transitions)) (sym (append-nil d.flows)) (sym (append-nil d.marking)) in
-    record {
-      position = free places more.0;
-      begins = free_begins places more.0;
-      moves = moves_same p (free places more.0) d found made xs same (word_then p (in_section places) (free places more.0) d found is.0 is.1 xs begins is.2.0 (ap after_word is.2.1) more.1 is.4);
-    }
-item_moves p d (item.transitions es) xs begins is =
-    let made = with_item d (item.transitions es) in
-    let more = transitions_move d es is.1 is.3 in
+    let more = places_move d es is.1 is.3 in
+    word_moves net_grammar after_word b (free places more.0, free_begins places more.0) (in_section places) d found made is.0 is.1 xs is.2.0 (ap after_word is.2.1) more.1 is.4
+    (same_progress found made (or_false d.typed) refl (sym (append-nil d.transitions)) (sym (append-nil d.flows)) (sym (append-nil d.marking)))
+item_moves b d (item.transitions es) xs is =
+    let made = with_item (item.transitions es) d in
     let found : Progress = record d { transitions = d.transitions ++ map labelled es } in
-    let same : found ≡ made = same_progress found made (or_false d.typed) (sym (append-nil d.places)) refl (sym (append-nil d.flows)) (sym (append-nil d.marking)) in
-    record {
-      position = free transitions more.0;
-      begins = free_begins transitions more.0;
-      moves = moves_same p (free transitions more.0) d found made xs same
-          (word_then p (in_section transitions) (free transitions more.0) d found is.0 is.1 xs begins is.2.0 (ap after_word is.2.1) more.1 is.4);
-    }
-item_moves p d (item.flows many) xs begins is =
-    let made = with_item d (item.flows many) in
+    let more = transitions_move d es is.1 is.3 in
+    word_moves net_grammar after_word b (free transitions more.0, free_begins transitions more.0) (in_section transitions) d found made is.0 is.1 xs is.2.0 (ap after_word is.2.1) more.1 is.4
+    (same_progress found made (or_false d.typed) (sym (append-nil d.places)) refl (sym (append-nil d.flows)) (sym (append-nil d.marking)))
+item_moves b d (item.flows many) xs is =
+    let made = with_item (item.flows many) d in
     let found : Progress = record d { flows = d.flows ++ many } in
-    let same : found ≡ made = same_progress found made (or_false d.typed) (sym (append-nil d.places)) (sym (append-nil d.transitions)) refl (sym (append-nil d.marking)) in
-    record {
-      position = in_flows;
-      begins = flows_begin;
-      moves = moves_same p in_flows d found made xs same (word_then p in_flows in_flows d found is.0 is.1 xs begins is.2.0 (ap after_word is.2.1) (flows_move d many is.1 is.3) is.4);
-    }
-item_moves p d (item.marking members) xs begins is =
-    let made = with_item d (item.marking members) in
+    word_moves net_grammar after_word b (in_flows, flows_begin) in_flows d found made is.0 is.1 xs is.2.0 (ap after_word is.2.1) (flows_move d many is.1 is.3) is.4
+    (same_progress found made (or_false d.typed) (sym (append-nil d.places)) (sym (append-nil d.transitions)) refl (sym (append-nil d.marking)))
+item_moves b d (item.marking members) xs is =
+    let made = with_item (item.marking members) d in
     let found : Progress = record d { marking = d.marking ++ members } in
-    let same : found ≡ made = same_progress found made (or_false d.typed) (sym (append-nil d.places)) (sym (append-nil d.transitions)) (sym (append-nil d.flows)) refl in
-    record {
-      position = section;
-      begins = section_begins;
-      moves = moves_same p section d found made xs same (word_then p (before_set marking) section d found is.0 is.1 xs begins is.2.0 (ap after_word is.2.1) (marking_moves d members is.1 is.3) is.4);
-    }
-item_moves p d item.other xs begins is =
-    let made = with_item d item.other in
-    let same : d ≡ made = same_progress d made (or_false d.typed) (sym (append-nil d.places)) (sym (append-nil d.transitions)) (sym (append-nil d.flows)) (sym (append-nil d.marking)) in
-    record {
-      position = section;
-      begins = section_begins;
-      moves = moves_same p section d d made xs same
-          (word_then p passed_text section d d is.0 (is.1 ∷ []) xs begins is.2.kind (other_word is.0 is.2) (kind_step passed_text section d d is.1 Text is.3 refl refl) is.4);
-    }
+    word_moves net_grammar after_word b (section, section_begins) (before_set marking) d found made is.0 is.1 xs is.2.0 (ap after_word is.2.1) (marking_moves d members is.1 is.3) is.4
+    (same_progress found made (or_false d.typed) (sym (append-nil d.places)) (sym (append-nil d.transitions)) (sym (append-nil d.flows)) refl)
+item_moves b d item.other xs is =
+    let made = with_item item.other d in
+    word_moves net_grammar after_word b (section, section_begins) passed_text d d made is.0 (is.1 ∷ []) xs is.2.kind (other_word is.0 is.2) (kind_step passed_text section d d is.1 Text is.3 refl refl) is.4
+    (same_progress d made (or_false d.typed) (sym (append-nil d.places)) (sym (append-nil d.transitions)) (sym (append-nil d.flows)) (sym (append-nil d.marking)))
 
-or_assoc : (a b c : Bool) → ((a || b) || c) ≡ (a || (b || c))
-or_assoc true b c = refl
-or_assoc false b c = refl
-
-items_move : (p : Position) (d : Progress) (is : List Item) (xs : List Lexeme) → Begins p → AreItems is xs → MovesOn p d xs (with_items d is)
-items_move p d [] xs begins are =
-    let made = with_items d [] in
-    let same : d ≡ made = same_progress d made (or_false d.typed) (sym (append-nil d.places)) (sym (append-nil d.transitions)) (sym (append-nil d.flows)) (sym (append-nil d.marking)) in
-    record { position = p; begins = begins; moves = subst (λ l. Moves p d l p made) (sym are) (moves_same p p d d made [] same (moves.moves_none net_grammar p d)) }
-items_move p d (i ∷ is) xs begins are =
-    let one = item_moves p d i are.0 begins are.2 in
-    let d' = with_item d i in
-    let more = items_move one.position d' is are.1 one.begins are.3 in
-    let made = with_items d (i ∷ is) in
-    let same : with_items d' is ≡ made = same_progress (with_items d' is) made (or_assoc d.typed (is_type i) (list_any is_type is))
+all_items : (is : List Item) (d : Progress) → take_all with_item is d ≡ with_items is d
+all_items [] d =
+    same_progress d (with_items [] d) (or_false d.typed) (sym (append-nil d.places)) (sym (append-nil d.transitions)) (sym (append-nil d.flows)) (sym (append-nil d.marking))
+all_items (i ∷ is) d =
+    all_items is (with_item i d)
+    ∙ same_progress (with_items is (with_item i d)) (with_items (i ∷ is) d) (or_assoc d.typed (is_type i) (list_any is_type is))
     (append_assoc d.places (places_in i) (flat_map places_in is)) (append_assoc d.transitions (labelled_in i) (flat_map labelled_in is))
-    (append_assoc d.flows (flows_in i) (flat_map flows_in is)) (append_assoc d.marking (marking_in i) (flat_map marking_in is)) in
-    record {
-      position = more.position;
-      begins = more.begins;
-      moves = subst (λ l. Moves p d l more.position made) (sym are.4)
-          (moves_same p more.position d (with_items d' is) made (are.0 ++ are.1) same
-          (both p one.position more.position d d' (with_items d' is) are.0 are.1 one.moves more.moves));
-    }
+    (append_assoc d.flows (flows_in i) (flat_map flows_in is)) (append_assoc d.marking (marking_in i) (flat_map marking_in is))
 
 -- what is found of items
 abbrev pub progress_of : List Item → Progress
-progress_of is = with_items nothing is
+progress_of is = with_items is nothing
 
 -- items are read to what they declare
-pub items_read : (is : List Item) (xs : List Lexeme) → AreItems is xs → (p : Position) × (may_end p ≡ true) × (read_on net_grammar section nothing xs ≡ Some (p, progress_of is))
+pub items_read : (is : List Item) (xs : List Lexeme) → AreItems is xs → Finds net_grammar xs (progress_of is)
 items_read is xs are =
-    let all = items_move section nothing is xs section_begins are in
-    (all.position, all.begins.end, ap (read_on net_grammar section nothing) (sym (append-nil xs)) ∙ all.moves [])
+    let all = each_move net_grammar (λ (b : ItemAt). b.0) IsItem with_item item_moves (section, section_begins) nothing is xs are in (
+      all.0.0,
+      all.0.1.end,
+      ap (read_on net_grammar section nothing) (sym (append-nil xs)) ∙ all.1 [] ∙ ap {B = Option (Position × Progress)} (λ (d : Progress). Some (all.0.0, d)) (all_items is nothing),
+    )
 
 -- a transition's label is the first value of a label, or its name
 labels_named : (es : List Entry) → transitions_in (item.transitions es) ≡ map transition_of (map labelled es)

@@ -9,14 +9,15 @@ use Rattle.rg_lexer.specs.declared.token.Kind.{Kind}
 use Rattle.rg_lexer.specs.declared.token.Kind.TheVariants.{Name, LeftBracket, LeftBrace, RightBrace, Comma, Colon, Star, Arrow}
 use Rattle.rg_items.specs.Entry.{Setting, Entry, IsEntry, AreEach}
 use Rattle.rg_items.specs.ListPosition.{first_key}
+use Rattle.rg_items.proofs.Last.{change_push}
 use Rattle.rg_items.proofs.Moves.{moves_both, moves_same, step, take_all, each_move, thing_position, Encloses, enclosed_move}
 use Rattle.rg_items.proofs.Moves as moves
 use Rattle.rg_items.proofs.Lists.{HasLists, free_of, optional_move}
-use Rattle.rg_netitems.specs.declared.fault.ItemFault.{ItemFault}
+use Rattle.rg_items.specs.declared.fault.ItemFault.{ItemFault}
 use Rattle.rg_netitems.specs.Item.{Member, Flow, IsMember, IsSet, IsFlow}
 use Rattle.rg_netitems.specs.Contents.{label_in, first_label}
 use Rattle.rg_netitems.specs.Table.{Section, places, transitions, Side, pre, post, marking, first_member, next_member, after_name, after_star, after_member, Position, in_section, after_entry, in_list, in_flows, after_flow_name, before_set, in_set, after_pre, after_set, leads_by}
-use Rattle.rg_netitems.specs.Reading.{Labelled, Progress, change_last, with_value, with_setting, with_name, with_pre, with_post, with_member, adds_by, net_grammar}
+use Rattle.rg_netitems.specs.Reading.{Labelled, Progress, with_value, with_setting, with_name, with_pre, with_post, with_member, adds_by, net_grammar}
 
 -- from a position the tokens lead to another, whatever follows them
 abbrev pub Moves : Position → Progress → List Lexeme → Position → Progress → Type 0
@@ -26,7 +27,7 @@ Moves p d xs q e = moves.Moves net_grammar p d xs q e
 pub kind_step : (p q : Position) (d e : Progress) (x : Lexeme) (kind : Kind) → x.kind ≡ kind → leads_by p kind x ≡ Some q → adds_by p kind x d ≡ e → Moves p d (x ∷ []) q e
 kind_step p q d e x kind same lead add = step net_grammar p q d e x (ap (λ k. leads_by p k x) same ∙ lead) (ap (λ k. adds_by p k x d) same ∙ add)
 
-pub both : (p q r : Position) (d e f : Progress) (xs ys : List Lexeme) → Moves p d xs q e → Moves q e ys r f → Moves p d (xs ++ ys) r f
+both : (p q r : Position) (d e f : Progress) (xs ys : List Lexeme) → Moves p d xs q e → Moves q e ys r f → Moves p d (xs ++ ys) r f
 both p q r d e f xs ys one two = moves_both net_grammar p q r d e f xs ys one two
 
 lists : (s : Section) → HasLists Position Progress ItemFault net_grammar (in_list s) (after_entry s) (in_section s) (with_setting s)
@@ -84,11 +85,6 @@ places_move d es xs is =
     (to.0, moves_same net_grammar (in_section places) (free places to.0) d (take_all (with_entry places) es d) (record d { places = d.places ++ map name_of es }) xs (all_places es d) to.1)
 
 -- transitions: the first value of a label stays
-pub change_push : {X : Type 0} (change : X → X) (xs : List X) (x : X) → change_last change (xs ++ x ∷ []) ≡ xs ++ change x ∷ []
-change_push change [] x = refl
-change_push change (y ∷ []) x = refl
-change_push change (y ∷ z ∷ more) x = ap (λ l. y ∷ l) (change_push change (z ∷ more) x)
-
 abbrev with_transition : Labelled → Progress → Progress
 with_transition t d = record d { transitions = d.transitions ++ t ∷ [] }
 

@@ -7,8 +7,9 @@ use Rattle.rg_lexer.specs.declared.token.Kind.TheVariants.{Name, RightBrace, Com
 use Rattle.rg_items.specs.Entry.{Setting}
 use Rattle.rg_items.specs.ListPosition.{completed_by, with_completed}
 use Rattle.rg_items.specs.Grammar.{Grammar}
-use Rattle.rg_netitems.specs.declared.fault.ItemFault.{ItemFault}
-use Rattle.rg_netitems.specs.declared.fault.ItemFault.TheVariants.{Expected}
+use Rattle.rg_items.specs.Last.{change_last}
+use Rattle.rg_items.specs.declared.fault.ItemFault.{ItemFault}
+use Rattle.rg_items.specs.declared.fault.ItemFault.TheVariants.{Expected}
 use Rattle.rg_netitems.specs.Item.{Member, Flow}
 use Rattle.rg_netitems.specs.Contents.{Transition, Declared, label_in, label_of}
 use Rattle.rg_netitems.specs.Table.{Section, places, transitions, Side, pre, post, marking, SetPosition, after_name, after_star, Position, section, type_name, in_section, after_entry, in_list, in_flows, in_set, wanted, may_end, leads_by, refusal_by}
@@ -35,12 +36,6 @@ transition_of t = record { name = t.name; label = label_of t.name t.value }
 -- what is declared, where no more tokens come
 abbrev pub declared_by : Progress → Declared
 declared_by d = record { typed = d.typed; places = d.places; transitions = map transition_of d.transitions; flows = d.flows; marking = d.marking }
-
--- the last thing of a list is changed
-abbrev pub change_last : {X : Type 0} → (X → X) → List X → List X
-change_last change [] = []
-change_last change (x ∷ []) = change x ∷ []
-change_last change (x ∷ y ∷ more) = x ∷ change_last change (y ∷ more)
 
 -- a transition gets the value of an option, if the option gives one and none came before
 abbrev pub with_value : Setting → Labelled → Labelled

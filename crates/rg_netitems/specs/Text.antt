@@ -1,28 +1,14 @@
--- The items of a text, and its first fault in tokens or grammar.
-use Rattle.std.specs.Prelude.{ℕ, List, length}
-use Rattle.rg_lexer.specs.declared.token.LexFault.{LexFault}
-use Rattle.rg_lexer.specs.declared.token.LexFault.TheVariants as lex
-use Rattle.rg_lexer.specs.Tokens.{FirstLexFault}
-use Rattle.rg_lexer.specs.Lexeme.{Lexeme, AreLexemes}
-use Rattle.rg_items.specs.Grammar.{FirstRefusal}
-use Rattle.rg_netitems.specs.declared.fault.ItemFault.{ItemFault}
-use Rattle.rg_netitems.specs.declared.fault.ItemFault.TheVariants.{BadByte, OpenString, OpenComment, LongName, NoMemory}
+-- The items of a net file, and its first fault in tokens or grammar.
+use Rattle.std.specs.Prelude.{ℕ, List}
+use Rattle.rg_items.specs.declared.fault.ItemFault.{ItemFault}
+use Rattle.rg_items.specs.Text as texts
 use Rattle.rg_netitems.specs.Item.{Item, AreItems}
 use Rattle.rg_netitems.specs.Reading.{net_grammar}
 
 -- the bytes are a text of these items
 abbrev pub AreItemsOf : List ℕ → List Item → Type 0
-AreItemsOf bytes items = (xs : List Lexeme) × AreLexemes bytes xs × AreItems items xs
-
--- the lexer's faults among those of a text
-abbrev pub of_lexer : LexFault → ItemFault
-of_lexer (lex.BadByte at) = BadByte at
-of_lexer (lex.OpenString at) = OpenString at
-of_lexer (lex.OpenComment at) = OpenComment at
-of_lexer (lex.LongName at) = LongName at
-of_lexer lex.NoMemory = NoMemory
+AreItemsOf bytes items = texts.AreItemsOf AreItems bytes items
 
 -- the first fault of a text that has no items: the lexer's, else that of the grammar
-pub data FirstItemFault (bytes : List ℕ) : ItemFault → Type 0 where
-  in_tokens : (e : LexFault) → FirstLexFault bytes e → FirstItemFault bytes (of_lexer e)
-  in_grammar : (xs : List Lexeme) (fault : ItemFault) → AreLexemes bytes xs → FirstRefusal net_grammar xs (length bytes) fault → FirstItemFault bytes fault
+abbrev pub FirstItemFault : List ℕ → ItemFault → Type 0
+FirstItemFault bytes fault = texts.FirstItemFault net_grammar bytes fault

@@ -3,19 +3,22 @@ ghost use Rattle.std.specs.Prelude.{◌≡◌, ◌≤◌, ◌++◌, ◌∷◌, [
 ghost use Rattle.rg_lexer.specs.Lexeme.{Lexeme, lexeme};
 ghost use Rattle.rg_lexer.specs.Tokens.{IsTokenOf};
 ghost use Rattle.rg_items.specs.Entry.{Setting, IsNameOf, IsValueOf};
+ghost use Rattle.rg_items.specs.Last.{change_last};
 ghost use Rattle.rg_items.specs.ListView.{list_position_in, setting_in, HoldsKey, HoldsSetting};
 ghost use Rattle.rg_netitems.specs.Contents.{label_in};
-ghost use Rattle.rg_netitems.specs.Reading.{nothing, change_last, with_value, with_setting, with_name, with_pre, with_post, with_member, member_by, adds};
+ghost use Rattle.rg_netitems.specs.Reading.{Progress, with_value, with_setting, with_name, with_pre, with_post, with_member, member_by, adds, net_grammar};
 ghost use Rattle.rg_netitems.specs.Table as table;
 ghost use Rattle.rg_netitems.specs.View.{section_in, side_in, set_position_in, position_in, HoldsMember, HoldsTokens};
 ghost use Rattle.rg_netitems.specs.FoundView.{member_in, members_in, flows_in, labelled_in, progress_in, IsNumberOf, IsMemberOf, IsFlowOf, IsTransitionOf, HoldsNames};
-ghost use Rattle.rg_netitems.specs.declared.fault.ItemFault.TheVariants.{NoMemory};
+ghost use Rattle.rg_items.specs.declared.fault.ItemFault.TheVariants.{NoMemory};
 
-use crate::fault::ItemFault;
-use crate::position::{Position, Section};
-use crate::set_position::{SetPosition, Side};
-use rg_items::{FoundSetting, ListPosition, completed, text_of};
-use rg_lexer::{Kind, Token};
+use crate::position::{
+    Position, Section, from_before_set, from_entry, from_flow_name, from_flows, from_list,
+    from_pre, from_section, from_start, from_type, from_word, wanted,
+};
+use crate::set_position::{SetPosition, Side, from_set, set_refusal};
+use rg_items::{FoundSetting, ItemFault, ListPosition, Reader, completed, text_of};
+use rg_lexer::{Kind, Token, Want};
 use std::alloc::Global;
 
 /// A member of a set: the number that stands before the name of a place, if one does, and the name.
@@ -152,20 +155,6 @@ fn add_post(flows: &mut Vec<FoundFlow>, member: FoundMember) -> Result<(), ItemF
 }
 
 impl Found {
-    /// Nothing is found.
-    pub fn new(alloc: Global) -> Found
-        ensures found { (bytes : List ℕ) → progress_in bytes result ≡ nothing }
-        ensures names { (bytes : List ℕ) → HoldsNames bytes result }
-    {
-        Found {
-            typed: false,
-            places: Vec::new(alloc),
-            transitions: Vec::new(alloc),
-            flows: Vec::new(alloc),
-            marking: Vec::new(alloc),
-        }
-    }
-
     // A name begins an entry.
     fn entry(&mut self, section: Section, name: Token) -> Result<(), ItemFault>
         ensures ok { OnOk result ((bytes : List ℕ) → progress_in bytes self.new ≡ with_name (section_in section) (lexeme bytes name) (progress_in bytes self.old)) }
@@ -283,21 +272,63 @@ impl Found {
         }
         Ok(())
     }
+}
 
-    /// Adds what is found with a token that stands at a position.
-    pub fn add(
+impl Reader for Found {
+    type Position = Position;
+
+    ghost GrammarPosition = { table.Position };
+
+    ghost Content = { Progress };
+
+    ghost grammar = { net_grammar };
+
+    ghost grammar_position_in = { position_in };
+
+    ghost content_in = { progress_in };
+
+    ghost holds_tokens = { HoldsTokens };
+
+    ghost holds_names = { HoldsNames };
+
+    fn new(alloc: Global) -> Found {
+        Found {
+            typed: false,
+            places: Vec::new(alloc),
+            transitions: Vec::new(alloc),
+            flows: Vec::new(alloc),
+            marking: Vec::new(alloc),
+        }
+    }
+
+    fn start() -> Position {
+        Position::Start
+    }
+
+    fn lead(bytes: &[u8], position: Position, token: Token) -> Option<Position> {
+        let text = text_of(bytes, token);
+        match position {
+            Position::Start => from_start(token, text),
+            Position::TypeName => from_type(token, text),
+            Position::PassedText => from_word(token),
+            Position::InSection(section) => from_section(section, token, text),
+            Position::AfterEntry(section) => from_entry(section, token, text),
+            Position::InList(section, position) => from_list(section, position, token),
+            Position::InFlows => from_flows(token, text),
+            Position::AfterFlowName => from_flow_name(token),
+            Position::BeforeSet(side) => from_before_set(side, token),
+            Position::InSet(side, position) => from_set(bytes, side, position, token),
+            Position::AfterPre => from_pre(token),
+        }
+    }
+
+    fn add(
         &mut self,
         alloc: Global,
         bytes: &[u8],
         position: Position,
         token: Token,
-    ) -> Result<(), ItemFault>
-        requires token { IsTokenOf bytes.now token }
-        requires held { HoldsTokens bytes.now position }
-        ensures ok { OnOk result (progress_in bytes.now self.new ≡ adds (position_in bytes.now position) (lexeme bytes.now token) (progress_in bytes.now self.old)) }
-        ensures names { OnOk result (HoldsNames bytes.now self.old → HoldsNames bytes.now self.new) }
-        ensures err { IfErr result (λ e. e ≡ NoMemory) }
-    {
+    ) -> Result<(), ItemFault> {
         match position {
             Position::Start => {}
             Position::TypeName => self.at_type(token),
@@ -312,5 +343,30 @@ impl Found {
             Position::AfterPre => {}
         }
         Ok(())
+    }
+
+    fn may_end(position: Position) -> bool {
+        match position {
+            Position::Start => true,
+            Position::InSection(_) => true,
+            Position::AfterEntry(_) => true,
+            Position::InFlows => true,
+            _ => false,
+        }
+    }
+
+    fn refusal(position: Position, token: Token) -> ItemFault {
+        match position {
+            Position::TypeName => match token.kind {
+                Kind::Name => ItemFault::WrongType(token.from),
+                _ => ItemFault::Expected(token.from, Want::Name),
+            },
+            Position::InSet(_, position) => set_refusal(position, token),
+            _ => ItemFault::Expected(token.from, wanted(position)),
+        }
+    }
+
+    fn end_refusal(position: Position, end: u32) -> ItemFault {
+        ItemFault::Expected(end, wanted(position))
     }
 }

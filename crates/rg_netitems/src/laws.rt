@@ -1,6 +1,6 @@
 //! A text has items with one meaning, or one first fault.
 ghost use Rattle.std.specs.Prelude.{◌≡◌, ℕ, ◌⊎◌, ◌++◌, List, Some};
-ghost use Rattle.rg_netitems.specs.declared.fault.ItemFault.{ItemFault};
+ghost use Rattle.rg_items.specs.declared.fault.ItemFault.{ItemFault};
 ghost use Rattle.rg_lexer.specs.Lexeme.{Lexeme};
 ghost use Rattle.rg_items.specs.Grammar.{leads_all};
 ghost use Rattle.rg_netitems.specs.Item.{Item, AreItems};

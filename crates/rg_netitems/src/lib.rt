@@ -1,14 +1,13 @@
 //! The grammar of net files: what a file declares, or its first fault in tokens or grammar.
 #![tactic(auto)]
 
-mod fault;
 mod found;
 mod laws;
 mod position;
 mod set_position;
 mod whole;
 
-pub use fault::ItemFault;
 pub use found::{Found, FoundFlow, FoundMember, FoundTransition};
 pub use laws::{one_answer, tokens_go_on};
+pub use rg_items::ItemFault;
 pub use whole::read_items;

@@ -3,14 +3,13 @@ ghost use Rattle.std.specs.Prelude.{◌≡◌, ◌≤◌, ℕ, List, length, opt
 ghost use Rattle.rg_lexer.specs.Lexeme.{lexeme};
 ghost use Rattle.rg_lexer.specs.Tokens.{IsTokenOf};
 ghost use Rattle.rg_items.specs.ListView.{list_position_in, HoldsKey};
-ghost use Rattle.rg_netitems.specs.Table.{wanted, may_end, after_word, is_type_name, refusal_by};
+ghost use Rattle.rg_netitems.specs.Table.{wanted, after_word, is_type_name};
 ghost use Rattle.rg_netitems.specs.Reading.{leads};
 ghost use Rattle.rg_netitems.specs.Table as table;
 ghost use Rattle.rg_netitems.specs.View.{section_in, side_in, position_in, HoldsTokens};
 
-use crate::fault::ItemFault;
-use crate::set_position::{SetPosition, Side, from_set, set_refusal, set_wanted};
-use rg_items::{ListPosition, ListStep, list_lead, list_wanted, text_of};
+use crate::set_position::{SetPosition, Side, set_wanted};
+use rg_items::{ListPosition, ListStep, list_lead, list_wanted};
 use rg_lexer::{Kind, Token, Want};
 
 /// The sections of entries.
@@ -74,8 +73,8 @@ fn after_word(text: &[u8]) -> Position
     }
 }
 
-// Where a token leads at the start, after a passed-over text and after the marking's set.
-fn from_start(token: Token, text: &[u8]) -> Option<Position>
+/// Where a token leads at the start, after a passed-over text and after the marking's set.
+pub fn from_start(token: Token, text: &[u8]) -> Option<Position>
     ensures leads { (bytes : List ℕ) → slice_range bytes token.from token.to ≡ text.now
         → option_map (position_in bytes) result ≡ leads table.section (lexeme bytes token) }
     ensures holds { (bytes : List ℕ) → IfSome result (HoldsTokens bytes) }
@@ -92,8 +91,8 @@ fn is_type_name(text: &[u8]) -> bool
     text == b"PN".as_slice() || text == b"LPN".as_slice()
 }
 
-// Where a token leads after `.type`.
-fn from_type(token: Token, text: &[u8]) -> Option<Position>
+/// Where a token leads after `.type`.
+pub fn from_type(token: Token, text: &[u8]) -> Option<Position>
     ensures leads { (bytes : List ℕ) → slice_range bytes token.from token.to ≡ text.now
         → option_map (position_in bytes) result ≡ leads table.type_name (lexeme bytes token) }
     ensures holds { (bytes : List ℕ) → IfSome result (HoldsTokens bytes) }
@@ -110,8 +109,8 @@ fn from_type(token: Token, text: &[u8]) -> Option<Position>
     }
 }
 
-// Where a token leads after a word that isn't a section's.
-fn from_word(token: Token) -> Option<Position>
+/// Where a token leads after a word that isn't a section's.
+pub fn from_word(token: Token) -> Option<Position>
     ensures leads { (bytes : List ℕ) → option_map (position_in bytes) result ≡ leads table.passed_text (lexeme bytes token) }
     ensures holds { (bytes : List ℕ) → IfSome result (HoldsTokens bytes) }
 {
@@ -121,8 +120,8 @@ fn from_word(token: Token) -> Option<Position>
     }
 }
 
-// Where a token leads from a position where an entry may begin.
-fn from_section(section: Section, token: Token, text: &[u8]) -> Option<Position>
+/// Where a token leads from a position where an entry may begin.
+pub fn from_section(section: Section, token: Token, text: &[u8]) -> Option<Position>
     ensures leads { (bytes : List ℕ) → slice_range bytes token.from token.to ≡ text.now
         → option_map (position_in bytes) result ≡ leads (table.in_section (section_in section)) (lexeme bytes token) }
     ensures holds { (bytes : List ℕ) → IfSome result (HoldsTokens bytes) }
@@ -134,8 +133,8 @@ fn from_section(section: Section, token: Token, text: &[u8]) -> Option<Position>
     }
 }
 
-// Where a token leads directly after an entry.
-fn from_entry(section: Section, token: Token, text: &[u8]) -> Option<Position>
+/// Where a token leads directly after an entry.
+pub fn from_entry(section: Section, token: Token, text: &[u8]) -> Option<Position>
     ensures leads { (bytes : List ℕ) → slice_range bytes token.from token.to ≡ text.now
         → option_map (position_in bytes) result ≡ leads (table.after_entry (section_in section)) (lexeme bytes token) }
     ensures holds { (bytes : List ℕ) → IfSome result (HoldsTokens bytes) }
@@ -148,8 +147,8 @@ fn from_entry(section: Section, token: Token, text: &[u8]) -> Option<Position>
     }
 }
 
-// Where a token leads in an option list.
-fn from_list(section: Section, position: ListPosition, token: Token) -> Option<Position>
+/// Where a token leads in an option list.
+pub fn from_list(section: Section, position: ListPosition, token: Token) -> Option<Position>
     ensures leads { (bytes : List ℕ) → option_map (position_in bytes) result
         ≡ leads (table.in_list (section_in section) (list_position_in bytes position)) (lexeme bytes token) }
     ensures holds { (bytes : List ℕ) → IsTokenOf bytes token → HoldsKey bytes position → IfSome result (HoldsTokens bytes) }
@@ -161,8 +160,8 @@ fn from_list(section: Section, position: ListPosition, token: Token) -> Option<P
     }
 }
 
-// Where a token leads from a position where a flow may begin.
-fn from_flows(token: Token, text: &[u8]) -> Option<Position>
+/// Where a token leads from a position where a flow may begin.
+pub fn from_flows(token: Token, text: &[u8]) -> Option<Position>
     ensures leads { (bytes : List ℕ) → slice_range bytes token.from token.to ≡ text.now
         → option_map (position_in bytes) result ≡ leads table.in_flows (lexeme bytes token) }
     ensures holds { (bytes : List ℕ) → IfSome result (HoldsTokens bytes) }
@@ -174,8 +173,8 @@ fn from_flows(token: Token, text: &[u8]) -> Option<Position>
     }
 }
 
-// Where a token leads after a flow's name.
-fn from_flow_name(token: Token) -> Option<Position>
+/// Where a token leads after a flow's name.
+pub fn from_flow_name(token: Token) -> Option<Position>
     ensures leads { (bytes : List ℕ) → option_map (position_in bytes) result ≡ leads table.after_flow_name (lexeme bytes token) }
     ensures holds { (bytes : List ℕ) → IfSome result (HoldsTokens bytes) }
 {
@@ -185,8 +184,8 @@ fn from_flow_name(token: Token) -> Option<Position>
     }
 }
 
-// Where a token leads after the first set of a flow.
-fn from_pre(token: Token) -> Option<Position>
+/// Where a token leads after the first set of a flow.
+pub fn from_pre(token: Token) -> Option<Position>
     ensures leads { (bytes : List ℕ) → option_map (position_in bytes) result ≡ leads table.after_pre (lexeme bytes token) }
     ensures holds { (bytes : List ℕ) → IfSome result (HoldsTokens bytes) }
 {
@@ -196,63 +195,13 @@ fn from_pre(token: Token) -> Option<Position>
     }
 }
 
-// Where a token leads where a set is due.
-fn from_before_set(side: Side, token: Token) -> Option<Position>
+/// Where a token leads where a set is due.
+pub fn from_before_set(side: Side, token: Token) -> Option<Position>
     ensures leads { (bytes : List ℕ) → option_map (position_in bytes) result ≡ leads (table.before_set (side_in side)) (lexeme bytes token) }
     ensures holds { (bytes : List ℕ) → IfSome result (HoldsTokens bytes) }
 {
     match token.kind {
         Kind::LeftBrace => Some(Position::InSet(side, SetPosition::FirstMember)),
         _ => None,
-    }
-}
-
-/// Where a token of the text leads from a position, if it may stand there.
-pub fn lead(bytes: &[u8], position: Position, token: Token) -> Option<Position>
-    requires token { IsTokenOf bytes.now token }
-    requires held { HoldsTokens bytes.now position }
-    ensures leads { option_map (position_in bytes.now) result ≡ leads (position_in bytes.now position) (lexeme bytes.now token) }
-    ensures holds { IfSome result (HoldsTokens bytes.now) }
-{
-    let text = text_of(bytes, token);
-    match position {
-        Position::Start => from_start(token, text),
-        Position::TypeName => from_type(token, text),
-        Position::PassedText => from_word(token),
-        Position::InSection(section) => from_section(section, token, text),
-        Position::AfterEntry(section) => from_entry(section, token, text),
-        Position::InList(section, position) => from_list(section, position, token),
-        Position::InFlows => from_flows(token, text),
-        Position::AfterFlowName => from_flow_name(token),
-        Position::BeforeSet(side) => from_before_set(side, token),
-        Position::InSet(side, position) => from_set(bytes, side, position, token),
-        Position::AfterPre => from_pre(token),
-    }
-}
-
-/// Whether the file may end at a position.
-pub fn may_end(position: Position) -> bool
-    ensures { (bytes : List ℕ) → result ≡ may_end (position_in bytes position) }
-{
-    match position {
-        Position::Start => true,
-        Position::InSection(_) => true,
-        Position::AfterEntry(_) => true,
-        Position::InFlows => true,
-        _ => false,
-    }
-}
-
-/// The fault of a token that may not stand at a position.
-pub fn refusal(position: Position, token: Token) -> ItemFault
-    ensures { (bytes : List ℕ) → result ≡ refusal_by (position_in bytes position) token.kind token.from }
-{
-    match position {
-        Position::TypeName => match token.kind {
-            Kind::Name => ItemFault::WrongType(token.from),
-            _ => ItemFault::Expected(token.from, Want::Name),
-        },
-        Position::InSet(_, position) => set_refusal(position, token),
-        _ => ItemFault::Expected(token.from, wanted(position)),
     }
 }

@@ -9,9 +9,8 @@ ghost use Rattle.rg_netitems.specs.Table.{set_wanted, is_digits, after_set, set_
 ghost use Rattle.rg_netitems.specs.Table as table;
 ghost use Rattle.rg_netitems.specs.View.{side_in, set_position_in, position_in, HoldsMember, HoldsTokens};
 
-use crate::fault::ItemFault;
 use crate::position::Position;
-use rg_items::text_of;
+use rg_items::{ItemFault, text_of};
 use rg_lexer::{Kind, Token, Want};
 
 /// The set that is read: the first or second one of a flow, or that of the marking.

@@ -1,6 +1,12 @@
-use Rattle.std.proofs.Common.{◌-◌, arith}
-use Rattle.rg_apt.proofs.FoundLemmas.{mark_set}
+use Rattle.std.proofs.Common.{◌-◌, true, refl, arith}
+use Rattle.rg_items.proofs.Last.{last_set}
+use Rattle.rg_apt.specs.declared.found.FoundState.{FoundState}
+use Rattle.rg_apt.specs.Reading.{marked_entry}
+use Rattle.rg_apt.specs.FoundView.{state_in}
 use Rattle.rg_apt.proofs.found.mark_last.Goals as goal
 
 pub returns-then-n-gt0-clause-found : goal.returns-then-n-gt0-clause-found
-returns-then-n-gt0-clause-found c = λ bytes. mark_set bytes c.args.states.now.items (c.len-n.result - 1) c.index_mut.result.now (omega (arith, c.args.states.now.ok.0)) c.index_mut.ensures.value
+returns-then-n-gt0-clause-found c = λ bytes.
+    let old = c.index_mut.result.now in
+    let new : FoundState = record { name = old.name; initial = true } in
+    last_set (state_in bytes) marked_entry c.args.states.now.items (c.len-n.result - 1) old new (omega (arith, c.args.states.now.ok.0)) c.index_mut.ensures.value refl

@@ -4,8 +4,8 @@ use Rattle.rg_text.specs.Faults.{IsFirst, AreNone}
 use Rattle.rg_theory.specs.System.{System}
 use Rattle.rg_netitems.specs.Contents.{Declared}
 use Rattle.rg_netitems.specs.Text.{FirstItemFault}
-use Rattle.rg_netitems.specs.declared.fault.ItemFault.{ItemFault}
-use Rattle.rg_netitems.specs.declared.fault.ItemFault.TheVariants as item
+use Rattle.rg_items.specs.declared.fault.ItemFault.{ItemFault}
+use Rattle.rg_items.specs.declared.fault.ItemFault.TheVariants as item
 use Rattle.rg_netfile.specs.declared.fault.NetFault.TheVariants.{NoMemory}
 use Rattle.rg_netfile.specs.Contents.{faults, IsNetOf}
 use Rattle.rg_netfile.specs.Spells.{FirstFault, of_items, in_items, in_net}

@@ -6,7 +6,7 @@ use Rattle.rg_netitems.specs.Item.{Flow}
 use Rattle.rg_netitems.specs.Reading.{with_pre}
 use Rattle.rg_netitems.specs.FoundView.{member_in, members_in, flow_in, IsMemberOf, IsFlowOf}
 use Rattle.rg_lexer.specs.Lexeme.{lexeme}
-use Rattle.rg_netitems.proofs.FoundLemmas.{last_set, all_set}
+use Rattle.rg_items.proofs.Last.{last_set, all_set}
 use Rattle.rg_netitems.proofs.found.add_pre.Goals as goal
 
 pub returns-in_ok-push-clause-ok : goal.returns-in_ok-push-clause-ok

@@ -5,7 +5,7 @@ use Rattle.rg_lexer.specs.Lexeme.{Lexeme, lexeme}
 use Rattle.rg_netitems.specs.declared.found.FoundTransition.{FoundTransition}
 use Rattle.rg_netitems.specs.Reading.{Labelled, with_value}
 use Rattle.rg_netitems.specs.FoundView.{labelled_in}
-use Rattle.rg_netitems.proofs.FoundLemmas.{last_set}
+use Rattle.rg_items.proofs.Last.{last_set}
 use Rattle.rg_netitems.proofs.found.label_last.Goals as goal
 
 or_map : {X Y : Type 0} (f : X → Y) (a b : Option X) → option_map f (option_or a b) ≡ option_or (option_map f a) (option_map f b)

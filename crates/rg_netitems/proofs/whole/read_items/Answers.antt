@@ -1,47 +1,26 @@
-use Rattle.std.proofs.Common.{◌≡◌, ◌≢◌, ℕ, List, All, length, map, refl, sym, ap, subst}
-use Rattle.std.proofs.lemmas.Result.{err_from_is_err_and}
-use Rattle.rg_lexer.specs.declared.token.LexFault.{LexFault}
-use Rattle.rg_lexer.specs.declared.token.LexFault.TheVariants as lex
-use Rattle.rg_lexer.specs.declared.token.Token.{Token}
-use Rattle.rg_lexer.specs.Tokens.{IsTokenOf, AreTokens, FirstLexFault}
-use Rattle.rg_lexer.specs.Lexeme.{lexeme}
-use Rattle.rg_lexer.proofs.TokenSpans.{tokens_are_of}
-use Rattle.rg_items.specs.Grammar.{FirstRefusal}
-use Rattle.rg_netitems.specs.declared.fault.ItemFault.{ItemFault}
-use Rattle.rg_netitems.specs.declared.fault.ItemFault.TheVariants.{NoMemory}
-use Rattle.rg_netitems.specs.Item.{AreItems}
-use Rattle.rg_netitems.specs.Reading.{net_grammar}
-use Rattle.rg_netitems.specs.Text.{of_lexer, FirstItemFault, in_tokens, in_grammar}
+use Rattle.std.proofs.Common.{◌≡◌, List, sym, ap, ◌∙◌}
+use Rattle.std.proofs.lemmas.Result.{IfOk-weaker}
+use Rattle.rg_lexer.specs.Lexeme.{Lexeme, AreLexemes}
+use Rattle.rg_items.specs.Grammar.{Finds}
+use Rattle.rg_items.proofs.Described.{found_items}
+use Rattle.rg_netitems.specs.declared.found.Found.{Found}
+use Rattle.rg_netitems.specs.Item.{Item, AreItems}
+use Rattle.rg_netitems.specs.Contents.{declared}
+use Rattle.rg_netitems.specs.Reading.{declared_by, net_grammar}
+use Rattle.rg_netitems.specs.Text.{AreItemsOf}
+use Rattle.rg_netitems.specs.FoundView.{progress_in, found_in}
+use Rattle.rg_netitems.proofs.Items.{progress_of, declared_is}
+use Rattle.rg_netitems.proofs.FoundLemmas.{found_is}
+use Rattle.rg_netitems.proofs.WholeTexts.{describes}
 use Rattle.rg_netitems.proofs.whole.read_items.Goals as goal
-
-of_tokens : (bytes : List ℕ) (e : LexFault) → (e ≢ lex.NoMemory → FirstLexFault bytes e) → of_lexer e ≢ NoMemory → FirstItemFault bytes (of_lexer e)
-of_tokens bytes e first memory = in_tokens e (first (λ same. memory (ap of_lexer same)))
-
-of_grammar : (bytes : List ℕ) (tokens seen : List Token) (e : ItemFault) → AreTokens bytes tokens → seen ≡ tokens
-    → (e ≢ NoMemory → FirstRefusal net_grammar (map (lexeme bytes) seen) (length bytes) e) → e ≢ NoMemory → FirstItemFault bytes e
-of_grammar bytes tokens seen e are same first memory =
-    in_grammar (map (lexeme bytes) tokens) e (tokens, are, refl)
-    (subst (λ ts. FirstRefusal net_grammar (map (lexeme bytes) ts) (length bytes) e) same (first memory))
-
-pub returns-in_err-tokens-clause-fault : goal.returns-in_err-tokens-clause-fault
-returns-in_err-tokens-clause-fault c =
-    let p = err_from_is_err_and c.from_residual.result c.from_residual.ensures.1 in
-    rw (p.1, p.2) (of_tokens c.args.bytes.now _ c.in_err-tokens.ensures.fault)
-
-pub found_of-requires-clause-tokens : goal.found_of-requires-clause-tokens
-found_of-requires-clause-tokens c =
-    subst (λ ts. All (IsTokenOf c.args.bytes.now) ts) (sym c.deref.ensures.value)
-    (tokens_are_of c.args.bytes.now c.in_ok-tokens.tokens.items c.in_ok-tokens.ensures.ok)
-
-pub returns-in_err-found-clause-fault : goal.returns-in_err-found-clause-fault
-returns-in_err-found-clause-fault c =
-    let p = err_from_is_err_and c.from_residual-in_err-found.result c.from_residual-in_err-found.ensures.1 in
-    rw (p.1, p.2)
-    (of_grammar c.args.bytes.now c.in_ok-tokens.tokens.items c.deref.result.now _ c.in_ok-tokens.ensures.ok c.deref.ensures.value c.in_err-found.ensures.fault)
 
 pub returns-clause-ok : goal.returns-clause-ok
 returns-clause-ok c =
     let bytes = c.args.bytes.now in
-    let tokens = c.in_ok-tokens.tokens.items in
-    let r = c.in_ok-found.ensures.ok in
-    (r.0, (map (lexeme bytes) tokens, (tokens, c.in_ok-tokens.ensures.ok, refl), subst (λ ts. AreItems r.0 (map (lexeme bytes) ts)) c.deref.ensures.value r.1), r.2)
+    IfOk-weaker c.read.result
+    (λ (f : Found). (xs : List Lexeme) × AreLexemes bytes xs × Finds net_grammar xs (progress_in bytes f))
+    (λ (f : Found). (items : List Item) × AreItemsOf bytes items × (found_in bytes f ≡ declared items))
+    (λ f found.
+    let items = found_items net_grammar AreItems progress_of describes found.0 (progress_in bytes f) found.2 in
+    (items.0, (found.0, found.1, items.1), found_is bytes f ∙ ap declared_by items.2 ∙ sym (declared_is items.0)))
+    c.read.ensures.ok

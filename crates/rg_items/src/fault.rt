@@ -1,11 +1,11 @@
-//! Why a text has no items of a net.
+//! Why a text has no items.
 ghost use Rattle.std.specs.Prelude.{◌≡◌};
-ghost use Rattle.rg_netitems.specs.declared.fault.ItemFault.TheVariants as fault;
+ghost use Rattle.rg_items.specs.declared.fault.ItemFault.TheVariants as fault;
 
 use rg_lexer::{LexFault, Want};
 use std::alloc::{AllocError, AllocFailed};
 
-/// The first fault of a text in its tokens or in the grammar of net files. Each position is the number of a
+/// The first fault of a text in its tokens or in the grammar of its items. Each position is the number of a
 /// byte, from 0.
 #[derive(Clone, Copy, Debug, PartialEq, Eq)]
 pub enum ItemFault {
@@ -19,7 +19,7 @@ pub enum ItemFault {
     LongName(u32),
     /// The token at this position, or the end of the text, can't continue the grammar, which wants this.
     Expected(u32, Want),
-    /// The name at this position is no type of nets: those are `PN` and `LPN`.
+    /// The name at this position, after `.type`, is none of the types that the grammar has.
     WrongType(u32),
     /// There is no memory for what is read.
     NoMemory,
@@ -43,7 +43,7 @@ impl<T: Drop> From<AllocFailed<T>> for ItemFault {
 
 impl From<LexFault> for ItemFault {
     ghost use Rattle.std.specs.Prelude.{◌≡◌};
-    ghost use Rattle.rg_netitems.specs.Text.{of_lexer};
+    ghost use Rattle.rg_items.specs.Text.{of_lexer};
 
     ghost from_gives = { λ e t. t ≡ of_lexer e };
 
