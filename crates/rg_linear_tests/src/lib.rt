@@ -17,3 +17,5 @@ mod narrow;
 mod plain;
 #[cfg(test)]
 mod revised;
+#[cfg(test)]
+mod walks;
