@@ -2,3 +2,4 @@ pub mod Multiples
 pub mod Picking
 pub mod Marking
 pub mod Counting
+pub mod ChordVectors

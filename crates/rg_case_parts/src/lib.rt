@@ -1,5 +1,5 @@
-//! The parts of a case's system: its columns, how often they count in what the named rows of a certificate say, and
-//! rows of fractions brought to whole numbers.
+//! The parts of a case's system: the vectors of the chords, its columns, how often they count in what the named rows of
+//! a certificate say, and rows of fractions brought to whole numbers.
 //!
 //! The terms of a row are tokens of states and effects of labels; here they are counted over the tokens of the
 //! initial state and the effects of labels. A row of fractions says the same as its multiple by a common denominator,
@@ -11,8 +11,10 @@ mod columns;
 mod counts;
 mod denominators;
 mod scaled;
+mod vectors;
 
 pub use columns::{Columns, has_start, used_labels};
 pub use counts::{count, start};
 pub use denominators::{common_denominator, products, without_denominators};
 pub use scaled::Scaled;
+pub use vectors::chord_vectors;

@@ -7,7 +7,7 @@ use std::alloc::{AllocError, Global};
 use std::collections::HashSet;
 
 // The indices of the vectors that aren't 0, each at its first index.
-pub(crate) fn first_indices(alloc: Global, vectors: &[Vec<i128>]) -> Result<Vec<u32>, AllocError>
+pub(crate) fn first_indices(alloc: Global, vectors: &[Vec<i64>]) -> Result<Vec<u32>, AllocError>
     requires { length vectors.now < 2 ^ 32 }
     ensures { IfOk result (λ kept. KeepsVectors (numbers_in vectors.now) kept.items) }
 {
@@ -26,7 +26,7 @@ pub(crate) fn first_indices(alloc: Global, vectors: &[Vec<i128>]) -> Result<Vec<
 }
 
 // Whether each number is 0.
-fn is_zero(vector: &[i128]) -> bool
+fn is_zero(vector: &[i64]) -> bool
     ensures { IsTrue result ↔ IsZeroVector vector.now }
 {
     vector.iter().all(|z| *z == 0)

@@ -15,6 +15,7 @@ mod solving;
 mod stop;
 mod substitution;
 mod walk;
+mod widened;
 
 pub use basis::Basis;
 pub use relation::Relation;

@@ -18,6 +18,7 @@ use crate::distinct::first_indices;
 use crate::relations::Relations;
 use crate::stop::Stop;
 use crate::walk::walk;
+use crate::widened::widened;
 use rg_dictionary::RelationTable;
 use rg_revised::RevisedWalk;
 use std::alloc::{AllocError, Global};
@@ -28,7 +29,7 @@ use std::alloc::{AllocError, Global};
 ///
 /// `Stop::Wide` comes exactly where a term on this walk is out of range, with the first such term.
 /// `Stop::NoMemory` where there is no memory.
-pub fn reduce(alloc: Global, labels: u32, chords: &[Vec<i128>]) -> Result<Basis, Stop>
+pub fn reduce(alloc: Global, labels: u32, chords: &[Vec<i64>]) -> Result<Basis, Stop>
     requires labels { labels ≤ most_labels }
     requires chords { length chords.now ≤ most_arcs }
     requires vectors { AreVectors labels (numbers_in chords.now) }
@@ -46,12 +47,7 @@ pub fn reduce(alloc: Global, labels: u32, chords: &[Vec<i128>]) -> Result<Basis,
 }
 
 // The basis of the vectors, of which these are kept.
-fn basis_of(
-    alloc: Global,
-    labels: u32,
-    vectors: &[Vec<i128>],
-    kept: Vec<u32>,
-) -> Result<Basis, Stop>
+fn basis_of(alloc: Global, labels: u32, vectors: &[Vec<i64>], kept: Vec<u32>) -> Result<Basis, Stop>
     requires few { labels + length kept.items < 2 ^ 32 }
     requires keeps { KeepsVectors (numbers_in vectors.now) kept.items }
     requires vectors { AreVectors labels (numbers_in vectors.now) }
@@ -60,7 +56,7 @@ fn basis_of(
     ensures wide { (w : CycleWide) → IsErrOf result (stop.Wide w) → PassesAt labels (numbers_in vectors.now) (shown_term w) }
 {
     let mut columns = RevisedWalk::new(alloc, labels)?;
-    if walk_columns(&mut columns, labels, vectors, &kept) {
+    if walk_columns(alloc, &mut columns, labels, vectors, &kept)? {
         let basis = Basis::read(alloc, Relations::OfColumns(&columns), kept)?;
         return Ok(basis);
     }
@@ -71,7 +67,7 @@ fn basis_of(
 fn full_basis(
     alloc: Global,
     labels: u32,
-    vectors: &[Vec<i128>],
+    vectors: &[Vec<i64>],
     kept: Vec<u32>,
 ) -> Result<Basis, Stop>
     requires few { labels + length kept.items < 2 ^ 32 }
@@ -91,7 +87,7 @@ fn full_basis(
 fn filled(
     alloc: Global,
     labels: u32,
-    vectors: &[Vec<i128>],
+    vectors: &[Vec<i64>],
     kept: &[u32],
 ) -> Result<RelationTable, AllocError>
     requires few { labels + length kept.now < 2 ^ 32 }
@@ -102,7 +98,8 @@ fn filled(
 {
     let mut dictionary = RelationTable::with_columns(alloc, labels, kept.len() as u32)?;
     for &index in kept {
-        dictionary.push_row(&vectors[index as usize], 0);
+        let row = widened(alloc, &vectors[index as usize])?;
+        dictionary.push_row(&row, 0);
     }
     Ok(dictionary)
 }

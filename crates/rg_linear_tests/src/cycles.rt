@@ -13,10 +13,10 @@ use std::test::Fail;
 const HALF: i128 = 85070591730234615865843651857942052864;
 
 // Chord i says that twice the effect of label i is the effect of label i + 1.
-fn doubling(alloc: Global, labels: u32) -> Result<Vec<Vec<i128>>, AllocError> {
+fn doubling(alloc: Global, labels: u32) -> Result<Vec<Vec<i64>>, AllocError> {
     let mut chords = Vec::new(alloc);
     for i in 1..labels as usize {
-        let mut chord = vec![in alloc; 0i128; labels as usize]?;
+        let mut chord = vec![in alloc; 0i64; labels as usize]?;
         chord[i - 1] = 2;
         chord[i] = -1;
         chords.push(chord)?;
@@ -25,7 +25,7 @@ fn doubling(alloc: Global, labels: u32) -> Result<Vec<Vec<i128>>, AllocError> {
 }
 
 // The basis of these chords, each as its entries.
-fn basis<const N: usize>(alloc: Global, labels: u32, chords: &[[i128; N]]) -> Option<Basis>
+fn basis<const N: usize>(alloc: Global, labels: u32, chords: &[[i64; N]]) -> Option<Basis>
     ensures { IfSome result (λ b. labels_of b ≡ labels) }
 {
     let mut list = Vec::new(alloc);

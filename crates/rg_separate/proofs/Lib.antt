@@ -5,7 +5,6 @@ pub mod Siding
 pub mod Visits
 pub mod Walking
 pub mod DeadLabels
-pub mod ChordVectors
 pub mod Reasons
 pub mod Passing
 pub mod PointValues

@@ -12,6 +12,5 @@ mod setting;
 mod shares;
 mod sides;
 mod solving;
-mod vectors;
 
 pub use separation::{Separation, separate};

@@ -17,12 +17,21 @@ pub fn is_in_range(numbers: &[i128]) -> bool
         .all(|z| z.unsigned_abs() <= i128::MAX.unsigned_abs())
 }
 
+// The same of numbers of 64 bits, which all do.
+fn are_in_range(numbers: &[i64]) -> bool
+    ensures { IsTrue result → All InRange numbers.now }
+{
+    numbers
+        .iter()
+        .all(|z| i128::from(*z).unsigned_abs() <= i128::MAX.unsigned_abs())
+}
+
 // Whether each chord has one entry in range for each label.
-fn are_vectors(labels: u32, chords: &[Vec<i128>]) -> bool
+fn are_vectors(labels: u32, chords: &[Vec<i64>]) -> bool
     ensures { IsTrue result → AreVectors labels (numbers_in chords.now) }
 {
     for chord in chords {
-        if chord.len() != labels as usize || !is_in_range(chord) {
+        if chord.len() != labels as usize || !are_in_range(chord) {
             return false;
         }
     }
@@ -31,7 +40,7 @@ fn are_vectors(labels: u32, chords: &[Vec<i128>]) -> bool
 
 /// The basis of these chords, as `reduce` gives it. `NoMemory` also where there are more labels or chords than a system has, or where a
 /// chord hasn't one entry in range for each label.
-pub fn solved(alloc: Global, labels: u32, chords: &[Vec<i128>]) -> Result<Basis, Stop>
+pub fn solved(alloc: Global, labels: u32, chords: &[Vec<i64>]) -> Result<Basis, Stop>
     ensures labels { IfOk result (λ b. labels_of b ≡ labels) }
     ensures basis { IfOk result (λ b. IsCycleBasis labels (numbers_in chords.now) (cycle_of b)) }
 {

@@ -14,7 +14,7 @@ pub loop-index-preserved : goal.loop-index-preserved
 loop-index-preserved c =
     let at = slice_index c.args.kept.now c.loop-index.index-index in
     let lt = c.requires.kept at (Contains-get_or c.args.kept.now c.loop-index.index-index 0 c.loop-index-test.true) in
-    let is = vector_is c.args.vectors.now at c.index-vectors-index.result lt c.index-vectors-index.is ∙ sym c.deref.ensures.value in
+    let is = vector_is c.args.vectors.now at c.index-vectors-index.result lt c.index-vectors-index.is ∙ sym c.deref.ensures.value ∙ sym c.in_ok-row.ensures ∙ sym c.deref-in-loop-index.ensures.value in
     norms_more (numbers_in c.args.vectors.now) c.args.kept.now c.loop-index.index-index c.norm.result c.loop-index.greatest c.max-greatest.result
     (c.norm.ensures ∙ ap (λ xs. kept_norm (row_norm xs (pos 0))) (sym is)) c.max-greatest.ensures c.loop-index.invariant
 

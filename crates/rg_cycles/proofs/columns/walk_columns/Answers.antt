@@ -16,20 +16,20 @@ loop-i-init c =
     let members = c.if-not-start.ensures.members refl in
     record {
       columns = columns;
-      are = c.if-not-start.ensures.held refl (vector_system c.args.labels (numbers_in c.args.vectors.now) c.args.kept.now) (sym columns) (c.greatest_norm.ensures c.args.labels small);
+      are = c.if-not-start.ensures.held refl (vector_system c.args.labels (numbers_in c.args.vectors.now) c.args.kept.now) (sym columns) (c.in_ok-norm.ensures c.args.labels small);
       ahead = first_ahead _ c.args.labels (rw columns at members);
       leads = first_leads c.args.labels (numbers_in c.args.vectors.now) c.args.kept.now _ (rw columns at members);
     }
 
-pub bounds-vectors-index : goal.bounds-vectors-index
-bounds-vectors-index c = c.requires.kept (slice_index c.args.kept.now c.loop-i.i) (Contains-get_or c.args.kept.now c.loop-i.i 0 c.loop-i-test.true)
+pub bounds-vectors-kept : goal.bounds-vectors-kept
+bounds-vectors-kept c = c.requires.kept (slice_index c.args.kept.now c.loop-i.i) (Contains-get_or c.args.kept.now c.loop-i.i 0 c.loop-i-test.true)
 
 pub take-taken-requires-clause-whole : goal.take-taken-requires-clause-whole
 take-taken-requires-clause-whole c =
     let system = vector_system c.args.labels (numbers_in c.args.vectors.now) c.args.kept.now in
     let at = slice_index c.args.kept.now c.loop-i.i in
     let below = c.requires.kept at (Contains-get_or c.args.kept.now c.loop-i.i 0 c.loop-i-test.true) in
-    let is = vector_is c.args.vectors.now at c.index-vectors-index.result below c.index-vectors-index.is ∙ sym c.deref.ensures.value in
+    let is = vector_is c.args.vectors.now at c.index-vectors-kept.result below c.index-vectors-kept.is ∙ sym c.deref.ensures.value ∙ sym c.in_ok-row.ensures ∙ sym c.deref-in-loop-i.ensures.value in
     let count = count_rows c.args.labels (numbers_in c.args.vectors.now) c.args.kept.now in
     let lt : c.loop-i.i < length system.rows = subst (λ n. c.loop-i.i < n) (sym count) c.loop-i-test.true in (
       system,
@@ -46,14 +46,14 @@ pub take-taken-requires-clause-each : goal.take-taken-requires-clause-each
 take-taken-requires-clause-each c =
     let at = slice_index c.args.kept.now c.loop-i.i in
     let below = c.requires.kept at (Contains-get_or c.args.kept.now c.loop-i.i 0 c.loop-i-test.true) in
-    rw (c.deref.ensures.value, c.loop-i.invariant.columns) (vector_length c.args.labels c.args.vectors.now c.requires.vectors at below c.index-vectors-index.result c.index-vectors-index.is)
+    rw (c.deref-in-loop-i.ensures.value, c.in_ok-row.ensures, c.deref.ensures.value, c.loop-i.invariant.columns) (vector_length c.args.labels c.args.vectors.now c.requires.vectors at below c.index-vectors-kept.result c.index-vectors-kept.is)
 
 pub loop-i-preserved : goal.loop-i-preserved
 loop-i-preserved c =
     let system = vector_system c.args.labels (numbers_in c.args.vectors.now) c.args.kept.now in
     let at = slice_index c.args.kept.now c.loop-i.i in
     let below = c.requires.kept at (Contains-get_or c.args.kept.now c.loop-i.i 0 c.loop-i-test.true) in
-    let is = vector_is c.args.vectors.now at c.index-vectors-index.result below c.index-vectors-index.is ∙ sym c.deref.ensures.value in
+    let is = vector_is c.args.vectors.now at c.index-vectors-kept.result below c.index-vectors-kept.is ∙ sym c.deref.ensures.value ∙ sym c.in_ok-row.ensures ∙ sym c.deref-in-loop-i.ensures.value in
     let count = count_rows c.args.labels (numbers_in c.args.vectors.now) c.args.kept.now in
     let lt : c.loop-i.i < length system.rows = subst (λ n. c.loop-i.i < n) (sym count) c.loop-i-test.true in
     let coeffs = row_coeffs c.args.labels (numbers_in c.args.vectors.now) c.args.kept.now c.loop-i.i c.loop-i-test.true _ is in

@@ -12,14 +12,14 @@ walk_columns-requires-clause-kept c = rw c.deref.ensures.value (λ index has. (l
 
 pub read-requires : goal.read-requires
 read-requires c =
-    let are = rw c.deref.ensures.value at c.if-walk_columns.ensures.are refl in
-    let ends = rw c.deref.ensures.value at c.if-walk_columns.ensures.ends refl in
+    let are = rw c.deref.ensures.value at c.in_ok-walk_columns.ensures.are c.if-branch.true in
+    let ends = rw c.deref.ensures.value at c.in_ok-walk_columns.ensures.ends c.if-branch.true in
     record { solved = (numbers_in c.args.vectors.now, solved_by c.args.labels (numbers_in c.args.vectors.now) c.args.kept.items _ c.requires.keeps c.walk_columns.ensures.columns are ends) }
 
-pub returns-then-walk_columns-clause-basis : goal.returns-then-walk_columns-clause-basis
-returns-then-walk_columns-clause-basis c =
-    let are = rw c.deref.ensures.value at c.if-walk_columns.ensures.are refl in
-    let ends = rw c.deref.ensures.value at c.if-walk_columns.ensures.ends refl in
+pub returns-then-branch-clause-basis : goal.returns-then-branch-clause-basis
+returns-then-branch-clause-basis c =
+    let are = rw c.deref.ensures.value at c.in_ok-walk_columns.ensures.are c.if-branch.true in
+    let ends = rw c.deref.ensures.value at c.in_ok-walk_columns.ensures.ends c.if-branch.true in
     subst (λ n. IsCycleBasis n (numbers_in c.args.vectors.now) (cycle_of c.in_ok-basis.basis)) c.walk_columns.ensures.columns
     (c.in_ok-basis.ensures.basis (numbers_in c.args.vectors.now)
     (solved_by c.args.labels (numbers_in c.args.vectors.now) c.args.kept.items _ c.requires.keeps c.walk_columns.ensures.columns are ends))

@@ -13,20 +13,20 @@ bounds-vectors-index c = c.requires.kept (slice_index c.args.kept.now c.loop-ind
 pub push_row-requires-clause-one_each : goal.push_row-requires-clause-one_each
 push_row-requires-clause-one_each c =
     let lt = c.requires.kept (slice_index c.args.kept.now c.loop-index.index-index) (Contains-get_or c.args.kept.now c.loop-index.index-index 0 c.loop-index-test.true) in
-    rw (c.deref.ensures.value, c.loop-index.invariant.columns) (vector_length c.args.labels c.args.vectors.now c.requires.vectors (slice_index c.args.kept.now c.loop-index.index-index) lt c.index-vectors-index.result c.index-vectors-index.is)
+    rw (c.deref-in-loop-index.ensures.value, c.in_ok-row.ensures, c.deref.ensures.value, c.loop-index.invariant.columns) (vector_length c.args.labels c.args.vectors.now c.requires.vectors (slice_index c.args.kept.now c.loop-index.index-index) lt c.index-vectors-index.result c.index-vectors-index.is)
 
 pub push_row-requires-clause-coeffs_in_range : goal.push_row-requires-clause-coeffs_in_range
 push_row-requires-clause-coeffs_in_range c =
     let lt = c.requires.kept (slice_index c.args.kept.now c.loop-index.index-index) (Contains-get_or c.args.kept.now c.loop-index.index-index 0 c.loop-index-test.true) in
-    rw c.deref.ensures.value (vector_in_range c.args.labels c.args.vectors.now c.requires.vectors (slice_index c.args.kept.now c.loop-index.index-index) lt c.index-vectors-index.result c.index-vectors-index.is)
+    rw (c.deref-in-loop-index.ensures.value, c.in_ok-row.ensures, c.deref.ensures.value) (vector_in_range c.args.labels c.args.vectors.now c.requires.vectors (slice_index c.args.kept.now c.loop-index.index-index) lt c.index-vectors-index.result c.index-vectors-index.is)
 
 pub loop-index-preserved : goal.loop-index-preserved
 loop-index-preserved c =
     let lt = c.requires.kept (slice_index c.args.kept.now c.loop-index.index-index) (Contains-get_or c.args.kept.now c.loop-index.index-index 0 c.loop-index-test.true) in
-    let is = vector_is c.args.vectors.now (slice_index c.args.kept.now c.loop-index.index-index) c.index-vectors-index.result lt c.index-vectors-index.is ∙ sym c.deref.ensures.value in
+    let is = vector_is c.args.vectors.now (slice_index c.args.kept.now c.loop-index.index-index) c.index-vectors-index.result lt c.index-vectors-index.is ∙ sym c.deref.ensures.value ∙ sym c.in_ok-row.ensures ∙ sym c.deref-in-loop-index.ensures.value in
     let room = c.push_row.ensures.room in
     record {
-      whole = subst (λ system. IsDictionary system c.push_row.new.self) (row_added c.args.labels (numbers_in c.args.vectors.now) c.args.kept.now c.loop-index.index-index c.loop-index-test.true c.deref.result.now is) (c.push_row.ensures.system _ c.loop-index.invariant.whole);
+      whole = subst (λ system. IsDictionary system c.push_row.new.self) (row_added c.args.labels (numbers_in c.args.vectors.now) c.args.kept.now c.loop-index.index-index c.loop-index-test.true c.deref-in-loop-index.result.now is) (c.push_row.ensures.system _ c.loop-index.invariant.whole);
       start = c.push_row.ensures.members ∙ c.loop-index.invariant.start;
       columns = c.push_row.ensures.columns ∙ c.loop-index.invariant.columns;
       room = (let r = c.loop-index.invariant.room in omega arith);

@@ -15,7 +15,7 @@ loop-chord-preserved c =
     let is = vector_is c.args.chords.now c.loop-chord.chord-index c.chord-item.result c.loop-chord-test.true c.chord-item.is in
     let size : length c.chord-item.result.items ≡ c.args.labels = search rules in
     below_more _ _ c.loop-chord.invariant
-    (ap length is ∙ size, subst (All InRange) (c.deref.ensures.value ∙ sym is) (c.if-not-is_in_range.ensures.0 refl))
+    (ap length is ∙ size, subst (All InRange) (c.deref.ensures.value ∙ sym is) (c.if-not-are_in_range.ensures refl))
 
 pub returns : goal.returns
 returns c = λ e.

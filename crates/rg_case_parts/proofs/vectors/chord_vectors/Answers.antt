@@ -4,9 +4,9 @@ use Rattle.rg_theory.specs.declared.Arc.{Arc}
 use Rattle.rg_theory.specs.Tree.{chords}
 use Rattle.rg_order_of_work.specs.Chords.{chord_vector, chord_vectors}
 use Rattle.rg_cycles.specs.Vectors.{numbers_in}
-use Rattle.rg_separate.proofs.ChordVectors.{chord_in_range, few_vectors, are_vectors}
-use Rattle.rg_separate.proofs.vectors.chord_vectors.Goals as goal
-use Rattle.rg_separate.proofs.vectors.chord_vectors.Goals.{After-chord_vector-arg-1, After-loop-a}
+use Rattle.rg_case_parts.proofs.ChordVectors.{chord_in_range, few_vectors, are_vectors}
+use Rattle.rg_case_parts.proofs.vectors.chord_vectors.Goals as goal
+use Rattle.rg_case_parts.proofs.vectors.chord_vectors.Goals.{After-chord_vector-arg-1, After-loop-a}
 
 abbrev no_arc : Arc
 no_arc = record { from = 0; label = 0; to = 0 }

@@ -1,5 +1,6 @@
 //! The vectors of the chords.
-ghost use Rattle.std.specs.Prelude.{◌≡◌, ◌<◌, ◌≤◌, length, map, All, IfOk, if◌then◌else◌, pos, ◌+ℤ◌, ◌-ℤ◌};
+ghost use Rattle.std.specs.Prelude.{◌≡◌, ◌<◌, ◌≤◌, length, map, All, IfOk, if◌then◌else◌, pos, ◌+ℤ◌, ◌-ℤ◌, FitsSigned};
+ghost use Rattle.std.specs.Int.{w64};
 ghost use Rattle.rg_theory.specs.Limits.{most_arcs};
 ghost use Rattle.rg_theory.specs.System.{labels};
 ghost use Rattle.rg_theory.specs.Tree.{chord_entry};
@@ -13,12 +14,14 @@ use rg_lts::{Arc, Lts};
 use rg_spanning::Tree;
 use std::alloc::{AllocError, Global};
 
-// The vectors of all chords, in order, with one entry for each label.
-pub(crate) fn chord_vectors(
+/// The vectors of all chords, in order, with one entry for each label: how often the label stands on the way to the
+/// chord's source and on the chord, less how often it stands on the way to its target. A region's effects, each times its
+/// entry, add up to 0 (Badouel, Bernardinello and Darondeau, *Petri Net Synthesis*). `AllocError` where there is no memory.
+pub fn chord_vectors(
     alloc: Global,
     lts: &Lts,
     tree: &Tree,
-) -> Result<Vec<Vec<i128>>, AllocError>
+) -> Result<Vec<Vec<i64>>, AllocError>
     requires { IsTreeOf lts.now tree.now }
     ensures vectors { IfOk result (λ v. numbers_in v.items ≡ chord_vectors lts.now tree.now.arcs) }
     ensures few { IfOk result (λ v. length v.items ≤ most_arcs) }
@@ -34,7 +37,7 @@ pub(crate) fn chord_vectors(
 
 // The vector of one chord: how often each label stands on the way to its source and on it, less how often it
 // stands on the way to its target.
-fn chord_vector(alloc: Global, tree: &Tree, labels: u32, a: Arc) -> Result<Vec<i128>, AllocError>
+fn chord_vector(alloc: Global, tree: &Tree, labels: u32, a: Arc) -> Result<Vec<i64>, AllocError>
     requires labels { labels ≡ tree.now.labels }
     requires from { a.from < tree.now.states }
     requires to { a.to < tree.now.states }
@@ -52,9 +55,10 @@ fn chord_vector(alloc: Global, tree: &Tree, labels: u32, a: Arc) -> Result<Vec<i
 }
 
 // The source's count, and one where the chord has the label, less the target's.
-fn difference(source: u32, own: bool, target: u32) -> i128
+fn difference(source: u32, own: bool, target: u32) -> i64
     ensures value { result ≡ (pos source +ℤ (if own then pos 1 else pos 0)) -ℤ pos target }
     ensures in_range { InRange result }
+    ensures fits { FitsSigned w64 result }
 {
-    i128::from(source) + i128::from(own) - i128::from(target)
+    i64::from(source) + i64::from(own) - i64::from(target)
 }

@@ -2,7 +2,7 @@ use Rattle.std.proofs.Common.{◌≡◌, map, All}
 use Rattle.rg_theory.specs.Tree.{chord_entry}
 use Rattle.rg_integers.specs.Range.{InRange}
 use Rattle.rg_linear.specs.Dictionary.{numbers_from}
-use Rattle.rg_separate.proofs.vectors.chord_vector.Given as goal
+use Rattle.rg_case_parts.proofs.vectors.chord_vector.Given as goal
 
 abbrev pub invariant-loop-t : goal.invariant-loop-t
 invariant-loop-t l = record {
