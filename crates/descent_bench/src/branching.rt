@@ -7,15 +7,8 @@ use crate::boxes::column;
 use crate::counting::{Ending, add_rows, descend};
 use rg_dictionary::RelationTable;
 use rg_linear::System;
+use rg_splits::{Side, turn};
 use std::alloc::{AllocError, Global};
-
-// One side of a split: a column, the number at which it is split, and whether it is the high side.
-#[derive(Clone, Copy)]
-struct Side {
-    column: u32,
-    at: i64,
-    high: bool,
-}
 
 /// How a branching ended, its nodes, its exchanges, and the rows of the table that they renewed.
 #[derive(Clone, Copy)]
@@ -45,7 +38,7 @@ pub(crate) fn branch(alloc: Global, system: &System, most: u64) -> Result<Counte
         match after_node(&table, counted.ending) {
             Next::Split(side) => above.push(side)?,
             Next::Turn => {
-                turn(&mut above)?;
+                turn(&mut above);
                 if above.is_empty() {
                     tree.ending = Ending::Refuted;
                     break;
@@ -63,7 +56,7 @@ pub(crate) fn branch(alloc: Global, system: &System, most: u64) -> Result<Counte
 // What follows a node.
 #[derive(Clone, Copy)]
 enum Next {
-    Split(Side),
+    Split(Side<u32>),
     Turn,
     End(Ending),
 }
@@ -80,7 +73,7 @@ fn after_node(table: &RelationTable, ending: Ending) -> Next {
 }
 
 // The low side of the first column without a whole value at the point of the table.
-fn first_fraction(table: &RelationTable) -> Option<Side> {
+fn first_fraction(table: &RelationTable) -> Option<Side<u32>> {
     for column in 0..table.columns() {
         if table.contains(column) {
             continue;
@@ -90,7 +83,7 @@ fn first_fraction(table: &RelationTable) -> Option<Side> {
         let rest = numbers[1].checked_rem_euclid(numbers[0])?;
         if rest != 0 {
             return Some(Side {
-                column,
+                form: column,
                 at: i64::try_from(floor).ok()?,
                 high: false,
             });
@@ -104,7 +97,7 @@ fn fill(
     alloc: Global,
     table: &mut RelationTable,
     system: &System,
-    above: &[Side],
+    above: &[Side<u32>],
 ) -> Result<(), AllocError>
     requires { table.old.columns ≡ system.now.columns }
     ensures { OnOk result (table.new.columns ≡ table.old.columns) }
@@ -118,24 +111,13 @@ fn fill(
     add_rows(table, rows);
     for side in above {
         let factor = if side.high { 1 } else { -1 };
-        let coeffs = column(alloc, system.columns(), side.column, factor)?;
+        let coeffs = column(alloc, system.columns(), side.form, factor)?;
         let end = if side.high {
             side.at.wrapping_neg().wrapping_sub(1)
         } else {
             side.at
         };
         table.push_row(&coeffs, i128::from(end));
-    }
-    Ok(())
-}
-
-// Goes to the sides above the next node, past a tree that is done.
-fn turn(above: &mut Vec<Side>) -> Result<(), AllocError> {
-    while let Some(side) = above.pop() {
-        if !side.high {
-            above.push(Side { high: true, ..side })?;
-            break;
-        }
     }
     Ok(())
 }

@@ -6,13 +6,14 @@ use Rattle.std.proofs.lemmas.List.Elements.{All-append, All-nil}
 use Rattle.rg_fraction.specs.declared.fraction.Fraction.{Fraction}
 use Rattle.rg_linear.specs.System.{LinearSystem}
 use Rattle.rg_linear.specs.Descent.{WideAt, Outcome.wide, DescentFromStart}
-use Rattle.rg_linear.specs.Branching.{Form, SplitSide, SplitTree, SplitTree.split, low_side, high_side, Weight, SplitTree.leaf, node_system, BranchOutcome}
+use Rattle.rg_splits.specs.Trees.{Tree.split, low_side, high_side, Tree.leaf, TreeNode.leaf_node, TreeNode.split_node, preorder}
+use Rattle.rg_splits.specs.Turning.{turned_back, turned}
+use Rattle.rg_linear.specs.Branching.{Form, SplitSide, SplitTree, Weight, node_system, BranchOutcome}
 use Rattle.rg_linear.specs.Branching.{BranchOutcome.found, BranchOutcome.tree, BranchOutcome.stopped, IsEnd, BranchFrom, BranchFrom.passes, BranchFrom.refutes}
 use Rattle.rg_linear.specs.Branching.{BranchFrom.whole, BranchFrom.low_ends, BranchFrom.high_ends, BranchFrom.both_refuted, Branching, AreBounded, low_at, high_at}
 use Rattle.rg_linear.specs.Room.{room}
-use Rattle.rg_branch.specs.View.{TreeNode, TreeNode.leaf_node, TreeNode.split_node, preorder}
+use Rattle.rg_branch.specs.View.{TreeNode}
 use Rattle.rg_branch.specs.Asked.{IsSideOf, AreSidesOf}
-use Rattle.rg_branch.specs.Turning.{turned_back, turned}
 use Rattle.rg_branch.specs.Answer.{IsFractionAt, IsWholePoint, IsRefutedWith, IsFoundPoint, IsSplitTree}
 use Rattle.rg_branch.specs.Work.{pending, work}
 use Rattle.rg_linear.proofs.Stacks.{power_positive, power-less}

@@ -13,9 +13,10 @@ use Rattle.rg_linear.proofs.Splits.{front_row, index-neg}
 use Rattle.rg_linear.specs.declared.row.Row.{Row}
 use Rattle.rg_linear.specs.View.{linear_row, IsWellFormed}
 use Rattle.rg_branch.specs.declared.bounded.Bounded.{Bounded}
-use Rattle.rg_branch.specs.View.{form_of, forms_of, side_of, sides_of}
+use Rattle.rg_splits.specs.Turning.{turned_back, turned}
+use Rattle.rg_branch.specs.View.{form_of, forms_of}
 use Rattle.rg_branch.specs.Asked.{IsFormOf, CanBranch, IsSideOf, AreSidesOf}
-use Rattle.rg_branch.specs.Turning.{row_of_side, turned_back, turned}
+use Rattle.rg_branch.specs.SideRows.{row_of_side}
 use Rattle.rg_branch.proofs.Orders.{product_between, high_constant}
 use Rattle.rg_branch.proofs.Points.{form_is}
 
@@ -155,25 +156,24 @@ turns above = ⊎_elim
     (turns_back (reverse above))
 
 -- what the code has to add behind the rows of the outer sides: the row of the last one, which is on the same form and number as before
-pub record TurnsTo (forms : List Form) (rows : List Row) (new : List (ℕ × ℤ × Bool)) (last : ℕ × ℤ × Bool) : Type 0 where
-  pub asked : IsSideOf forms (side_of last)
-  pub rows_are : map linear_row (take (length new - 1) rows) ++ side_row forms (side_of last) ∷ [] ≡ map (side_row forms) (sides_of new)
+pub record TurnsTo (forms : List Form) (rows : List Row) (new : List SplitSide) (last : SplitSide) : Type 0 where
+  pub asked : IsSideOf forms last
+  pub rows_are : map linear_row (take (length new - 1) rows) ++ side_row forms last ∷ [] ≡ map (side_row forms) new
 
-module _ (forms : List Form) (above : List SplitSide) (rows : List Row) (new : List (ℕ × ℤ × Bool)) (last : ℕ × ℤ × Bool) (each : All (IsSideOf forms) above)
-    (are : map linear_row rows ≡ map (side_row forms) above) (next : sides_of new ≡ turned above) (some : 0 < length new)
+module _ (forms : List Form) (above : List SplitSide) (rows : List Row) (new : List SplitSide) (last : SplitSide) (each : All (IsSideOf forms) above)
+    (are : map linear_row rows ≡ map (side_row forms) above) (next : new ≡ turned above) (some : 0 < length new)
     (is_last : slice_index_or new (length new - 1) last ≡ last) where
   turns_at : TurnsAt above → TurnsTo forms rows new last
   turns_at at = record {
     asked = subst (IsSideOf forms) (sym same) (record { form = before.form; low = before.low; high = before.high });
-    rows_are = ap (λ xs. xs ++ side_row forms (side_of last) ∷ []) outer_rows ∙ sym (map-append (side_row forms) at.outer (side_of last ∷ [])) ∙ ap (λ side. map (side_row forms) (at.outer ++ side ∷ [])) same ∙ ap (map (side_row forms)) (sym (next ∙ at.turned_is));
+    rows_are = ap (λ xs. xs ++ side_row forms last ∷ []) outer_rows ∙ sym (map-append (side_row forms) at.outer (last ∷ [])) ∙ ap (λ side. map (side_row forms) (at.outer ++ side ∷ [])) same ∙ ap (map (side_row forms)) (sym (next ∙ at.turned_is));
   }
     where
       count : length new ≡ length at.outer + 1
-      count = sym (length-map new side_of) ∙ ap length (next ∙ at.turned_is) ∙ length-append at.outer (record at.side { high = true } ∷ [])
+      count = ap length (next ∙ at.turned_is) ∙ length-append at.outer (record at.side { high = true } ∷ [])
 
-      same : side_of last ≡ record at.side { high = true }
-      same = ap side_of (sym is_last) ∙ sym (get_or-map side_of new (length new - 1) last (side_of last) (omega (arith, count)))
-          ∙ ap (λ xs. slice_index_or xs (length new - 1) (side_of last)) (next ∙ at.turned_is) ∙ get_or_at at.outer (record at.side { high = true }) [] (side_of last)
+      same : last ≡ record at.side { high = true }
+      same = sym is_last ∙ ap (λ xs. slice_index_or xs (length new - 1) last) (next ∙ at.turned_is) ∙ get_or_at at.outer (record at.side { high = true }) [] last
           (length new - 1) (omega (arith, count))
 
       before : IsSideOf forms at.side
@@ -185,4 +185,4 @@ module _ (forms : List Form) (above : List SplitSide) (rows : List Row) (new : L
           ∙ ap (map (side_row forms)) (take_at at.outer (at.side ∷ at.inner) (length new - 1) (omega (arith, count)))
 
   pub turns_to : TurnsTo forms rows new last
-  turns_to = ⊎_elim (λ none. absurd (omega (arith, sym (length-map new side_of) ∙ ap length (next ∙ none)))) turns_at (turns above)
+  turns_to = ⊎_elim (λ none. absurd (omega (arith, ap length (next ∙ none)))) turns_at (turns above)

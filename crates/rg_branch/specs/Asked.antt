@@ -8,7 +8,7 @@ use Rattle.rg_linear.specs.View.{linear_row}
 use Rattle.rg_branch.specs.declared.bounded.Bounded.{Bounded}
 use Rattle.rg_branch.specs.declared.splits.Splits.{Splits}
 use Rattle.rg_linear.specs.Room.{room}
-use Rattle.rg_branch.specs.View.{forms_of, sides_of}
+use Rattle.rg_branch.specs.View.{forms_of}
 
 -- one coefficient a column, a whole multiple of those of a row; the scale is positive, and the numbers are in range
 pub record IsFormOf (system : LinearSystem) (b : Bounded) : Type 0 where
@@ -44,4 +44,4 @@ pub record AreSidesOf (forms : List Form) (above : List SplitSide) : Type 0 wher
 
 -- the rows are those of the splits
 abbrev pub HasRowsOf : List Form → Splits → Type 0
-HasRowsOf forms splits = map linear_row splits.rows.items ≡ map (side_row forms) (sides_of splits.above.items)
+HasRowsOf forms splits = map linear_row splits.rows.items ≡ map (side_row forms) splits.above.items

@@ -1,7 +1,7 @@
 pub mod View
 pub mod Asked
 pub mod Numbers
-pub mod Turning
+pub mod SideRows
 pub mod Work
 pub mod Relating
 pub mod Points

@@ -4,7 +4,7 @@ ghost use Rattle.rg_linear.specs.System.{LinearSystem};
 ghost use Rattle.rg_linear.specs.Dictionary.{Relation};
 ghost use Rattle.rg_linear.specs.Descent.{multiplier_of};
 ghost use Rattle.rg_linear.specs.Branching.{SplitSide, node_system, weights_from};
-ghost use Rattle.rg_branch.specs.View.{forms_of, sides_of, weight_of};
+ghost use Rattle.rg_branch.specs.View.{forms_of, weight_of};
 ghost use Rattle.rg_branch.specs.Asked.{CanBranch, AreSidesOf, HasRowsOf};
 ghost use Rattle.rg_branch.specs.Relating.{IsPointOf, IsRefutedBy};
 ghost use Rattle.rg_branch.specs.Answer.{NodeTells};
@@ -62,10 +62,10 @@ pub(crate) fn node_end(
     splits: &Splits,
 ) -> Result<NodeEnd, NoMemory>
     requires can { CanBranch system.now forms.now }
-    requires sides { AreSidesOf (forms_of forms.now) (sides_of splits.now.above.items) }
+    requires sides { AreSidesOf (forms_of forms.now) splits.now.above.items }
     requires rows { HasRowsOf (forms_of forms.now) splits.now }
     requires columns { solver.old.revised.columns ≡ system.now.columns }
-    ensures node { IfOk result (NodeTells system.now (forms_of forms.now) (sides_of splits.now.above.items)) }
+    ensures node { IfOk result (NodeTells system.now (forms_of forms.now) splits.now.above.items) }
     ensures columns { solver.new.revised.columns ≡ system.now.columns }
 {
     match settled_small(alloc, &mut solver.revised, system, forms, splits)? {
@@ -83,10 +83,10 @@ fn settled_small(
     splits: &Splits,
 ) -> Result<Option<NodeEnd>, NoMemory>
     requires can { CanBranch system.now forms.now }
-    requires sides { AreSidesOf (forms_of forms.now) (sides_of splits.now.above.items) }
+    requires sides { AreSidesOf (forms_of forms.now) splits.now.above.items }
     requires rows { HasRowsOf (forms_of forms.now) splits.now }
     requires columns { revised.old.columns ≡ system.now.columns }
-    ensures node { IfOk result (λ end. IfSome end (NodeTells system.now (forms_of forms.now) (sides_of splits.now.above.items))) }
+    ensures node { IfOk result (λ end. IfSome end (NodeTells system.now (forms_of forms.now) splits.now.above.items)) }
     ensures columns { revised.new.columns ≡ system.now.columns }
 {
     let count = system.rows().len() + splits.rows.len();
@@ -114,9 +114,9 @@ fn settled_full(
     splits: &Splits,
 ) -> Result<NodeEnd, NoMemory>
     requires can { CanBranch system.now forms.now }
-    requires sides { AreSidesOf (forms_of forms.now) (sides_of splits.now.above.items) }
+    requires sides { AreSidesOf (forms_of forms.now) splits.now.above.items }
     requires rows { HasRowsOf (forms_of forms.now) splits.now }
-    ensures { IfOk result (NodeTells system.now (forms_of forms.now) (sides_of splits.now.above.items)) }
+    ensures { IfOk result (NodeTells system.now (forms_of forms.now) splits.now.above.items) }
 {
     let columns = system.columns();
     if full.is_none() {
@@ -137,9 +137,9 @@ fn filled_end(
     splits: &Splits,
 ) -> Result<NodeEnd, NoMemory>
     requires can { CanBranch system.now forms.now }
-    requires sides { AreSidesOf (forms_of forms.now) (sides_of splits.now.above.items) }
+    requires sides { AreSidesOf (forms_of forms.now) splits.now.above.items }
     requires rows { HasRowsOf (forms_of forms.now) splits.now }
-    ensures { IfOk result (NodeTells system.now (forms_of forms.now) (sides_of splits.now.above.items)) }
+    ensures { IfOk result (NodeTells system.now (forms_of forms.now) splits.now.above.items) }
 {
     let columns = system.columns();
     let count = system.rows().len() + splits.rows.len();

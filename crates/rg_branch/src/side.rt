@@ -1,10 +1,10 @@
-//! Splits as rows, and the way through a tree.
+//! Splits as rows.
 ghost use Rattle.std.specs.Prelude.{◌≡◌, map, ℤ, pos, neg_ℤ, ◌+ℤ◌, ◌-ℤ◌, ◌*ℤ◌, All, if◌then◌else◌, IfOk};
 ghost use Rattle.std.specs.Arc.{arc_slice_items};
 ghost use Rattle.rg_integers.specs.Range.{InRange};
 ghost use Rattle.rg_linear.specs.View.{linear_row};
-ghost use Rattle.rg_branch.specs.View.{form_of, sides_of};
-ghost use Rattle.rg_branch.specs.Turning.{turned, row_of_side};
+ghost use Rattle.rg_branch.specs.View.{form_of};
+ghost use Rattle.rg_branch.specs.SideRows.{row_of_side};
 
 use crate::bounded::Bounded;
 use rg_linear::Row;
@@ -63,24 +63,4 @@ fn negative(z: i128) -> i128
     ensures in_range { InRange result }
 {
     -z
-}
-
-/// Goes from the splits above the last node of a tree, or of a side, to those above the next node in preorder: the
-/// innermost low side becomes the high one, and the high sides within it end. Where all sides are high, none is left.
-///
-/// A split is the number of its form, the number at which it is split, and whether the way goes to its high side;
-/// the outermost comes first.
-pub fn turn(above: &mut Vec<(u32, i64, bool)>)
-    ensures { sides_of above.new.items ≡ turned (sides_of above.old.items) }
-{
-    let mut depth = above.len();
-    while depth > 0 {
-        depth -= 1;
-        if !above[depth].2 {
-            above[depth].2 = true;
-            above.truncate(depth + 1);
-            return;
-        }
-    }
-    above.clear();
 }

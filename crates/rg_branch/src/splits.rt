@@ -1,22 +1,24 @@
 //! The splits above a node.
 ghost use Rattle.std.specs.Prelude.{◌≡◌, ◌++◌, ◌∷◌, [], map, OnOk};
 ghost use Rattle.rg_linear.specs.System.{LinearSystem};
-ghost use Rattle.rg_linear.specs.Branching.{low_side, side_row};
+ghost use Rattle.rg_splits.specs.Trees.{low_side};
+ghost use Rattle.rg_splits.specs.Turning.{turned};
+ghost use Rattle.rg_linear.specs.Branching.{side_row};
 ghost use Rattle.rg_linear.specs.View.{linear_row};
-ghost use Rattle.rg_branch.specs.View.{forms_of, side_of, sides_of};
+ghost use Rattle.rg_branch.specs.View.{forms_of};
 ghost use Rattle.rg_branch.specs.Asked.{CanBranch, IsSideOf, AreSidesOf, HasRowsOf};
-ghost use Rattle.rg_branch.specs.Turning.{turned};
 
 use crate::bounded::Bounded;
-use crate::side::{side_row, turn};
+use crate::side::side_row;
 use rg_linear::Row;
 use rg_memory::NoMemory;
+use rg_splits::{Side, turn};
 use std::alloc::Global;
 
 // The splits above a node, outermost first, and their rows.
 #[derive(Drop)]
 pub(crate) struct Splits {
-    pub(crate) above: Vec<(u32, i64, bool)>,
+    pub(crate) above: Vec<Side<u32>>,
     pub(crate) rows: Vec<Row>,
 }
 
@@ -32,10 +34,14 @@ impl Splits {
         requires can { (system : LinearSystem) × CanBranch system forms.now }
         requires side { IsSideOf (forms_of forms.now) (low_side form at) }
         requires rows { HasRowsOf (forms_of forms.now) self.old }
-        ensures above { OnOk result (sides_of self.new.above.items ≡ sides_of self.old.above.items ++ low_side form at ∷ []) }
+        ensures above { OnOk result (self.new.above.items ≡ self.old.above.items ++ low_side form at ∷ []) }
         ensures rows { OnOk result (HasRowsOf (forms_of forms.now) self.new) }
     {
-        let side = (form, at, false);
+        let side = Side {
+            form,
+            at,
+            high: false,
+        };
         self.above.push(side)?;
         push_row(alloc, &mut self.rows, forms, side)
     }
@@ -43,9 +49,9 @@ impl Splits {
     // Goes to the splits above the next node, past a tree that is done.
     pub(crate) fn turn(&mut self, alloc: Global, forms: &[Bounded]) -> Result<(), NoMemory>
         requires can { (system : LinearSystem) × CanBranch system forms.now }
-        requires sides { AreSidesOf (forms_of forms.now) (sides_of self.old.above.items) }
+        requires sides { AreSidesOf (forms_of forms.now) self.old.above.items }
         requires rows { HasRowsOf (forms_of forms.now) self.old }
-        ensures above { OnOk result (sides_of self.new.above.items ≡ turned (sides_of self.old.above.items)) }
+        ensures above { OnOk result (self.new.above.items ≡ turned self.old.above.items) }
         ensures rows { OnOk result (HasRowsOf (forms_of forms.now) self.new) }
     {
         turn(&mut self.above);
@@ -63,13 +69,13 @@ fn push_row(
     alloc: Global,
     rows: &mut Vec<Row>,
     forms: &[Bounded],
-    side: (u32, i64, bool),
+    side: Side<u32>,
 ) -> Result<(), NoMemory>
     requires can { (system : LinearSystem) × CanBranch system forms.now }
-    requires side { IsSideOf (forms_of forms.now) (side_of side) }
-    ensures { OnOk result (map linear_row rows.new.items ≡ map linear_row rows.old.items ++ side_row (forms_of forms.now) (side_of side) ∷ []) }
+    requires side { IsSideOf (forms_of forms.now) side }
+    ensures { OnOk result (map linear_row rows.new.items ≡ map linear_row rows.old.items ++ side_row (forms_of forms.now) side ∷ []) }
 {
-    let (form, at, high) = side;
+    let Side { form, at, high } = side;
     rows.push(side_row(alloc, &forms[form as usize], at, high)?)?;
     Ok(())
 }

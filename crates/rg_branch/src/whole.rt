@@ -5,14 +5,15 @@ ghost use Rattle.rg_branch.specs.declared.whole.BranchStop.TheVariants as stop;
 use rg_feasible::PivotWide;
 use rg_fraction::Fraction;
 use rg_memory::NoMemory;
+use rg_splits::Side;
 use std::alloc::AllocFailed;
 
 /// A point with whole forms, or a tree that leaves none.
 #[derive(Debug, PartialEq, Eq, Drop)]
 pub enum Whole {
-    /// The values of the columns, and the splits above the node of the point, outermost first: the number of the
-    /// form, the number at which it is split, and whether the node is on the high side.
-    Point(Vec<Fraction>, Vec<(u32, i64, bool)>),
+    /// The values of the columns, and the sides above the node of the point, outermost first, each on the number of
+    /// its form.
+    Point(Vec<Fraction>, Vec<Side<u32>>),
     /// The nodes in preorder: each split, then its low side, then its high side.
     Tree(Vec<RawNode>),
 }
@@ -32,7 +33,7 @@ pub enum RawNode {
 pub enum BranchStop {
     /// A term of the descent below these splits is out of range, at the set of these members.
     Wide {
-        above: Vec<(u32, i64, bool)>,
+        above: Vec<Side<u32>>,
         members: Vec<u32>,
         wide: PivotWide,
     },

@@ -8,6 +8,7 @@ use rg_branch::{Bounded, RawNode, Whole};
 use rg_feasible::{Dictionary, Settled};
 use rg_fraction::Fraction;
 use rg_linear::{Row, System};
+use rg_splits::Side;
 use std::alloc::{AllocError, Global};
 use std::test::Fail;
 
@@ -160,7 +161,7 @@ pub(crate) fn branching(
     columns: u32,
     rows: &[Row],
     forms: &[Bounded],
-    above: &[(u32, i64, bool)],
+    above: &[Side<u32>],
     depth: u32,
 ) -> Result<Whole, Fail> {
     if depth == 0 {
@@ -175,13 +176,13 @@ pub(crate) fn branching(
         return Err(Fail::from("no such form"));
     };
     let low = side(alloc, rows, form, at, false)?;
-    let sides = below(alloc, above, (f, at, false))?;
+    let sides = below(alloc, above, f, at, false)?;
     let low = match branching(alloc, columns, &low, forms, &sides, depth - 1)? {
         Whole::Tree(nodes) => nodes,
         point => return Ok(point),
     };
     let high = side(alloc, rows, form, at, true)?;
-    let sides = below(alloc, above, (f, at, true))?;
+    let sides = below(alloc, above, f, at, true)?;
     let high = match branching(alloc, columns, &high, forms, &sides, depth - 1)? {
         Whole::Tree(nodes) => nodes,
         point => return Ok(point),
@@ -193,10 +194,12 @@ pub(crate) fn branching(
 // The sides with one more.
 fn below(
     alloc: Global,
-    above: &[(u32, i64, bool)],
-    side: (u32, i64, bool),
-) -> Result<Vec<(u32, i64, bool)>, AllocError> {
+    above: &[Side<u32>],
+    form: u32,
+    at: i64,
+    high: bool,
+) -> Result<Vec<Side<u32>>, AllocError> {
     let mut sides = above.to_vec(alloc)?;
-    sides.push(side)?;
+    sides.push(Side { form, at, high })?;
     Ok(sides)
 }

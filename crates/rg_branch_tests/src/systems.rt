@@ -5,6 +5,7 @@ ghost use Rattle.rg_linear.specs.View.{linear_row};
 
 use rg_branch::Bounded;
 use rg_linear::{Row, System};
+use rg_splits::Side;
 use std::alloc::{AllocError, Global};
 use std::sync::ArcSlice;
 
@@ -81,4 +82,16 @@ pub(crate) fn forms(alloc: Global, told: &[ToldForm]) -> Result<Vec<Bounded>, Al
         })?;
     }
     Ok(list)
+}
+
+/// The sides of splits, each the number of its form, the number at which that is split, and whether it is the high side.
+pub(crate) fn sides(
+    alloc: Global,
+    told: &[(u32, i64, bool)],
+) -> Result<Vec<Side<u32>>, AllocError> {
+    let mut sides = Vec::new(alloc);
+    for &(form, at, high) in told {
+        sides.push(Side { form, at, high })?;
+    }
+    Ok(sides)
 }

@@ -1,5 +1,6 @@
 //! The way from one node of a tree of splits to the next.
-use rg_branch::turn;
+use crate::systems::sides;
+use rg_splits::turn;
 use std::test::Fail;
 
 // The splits above a node, outermost first.
@@ -21,9 +22,9 @@ fn sides_are_turned(rt: HostRuntime) -> Result<(), Fail> {
         ),
     ];
     for (before, after) in cases {
-        let mut above = before.to_vec(rt.alloc())?;
+        let mut above = sides(rt.alloc(), before)?;
         turn(&mut above);
-        assert_eq!(rt; above.as_slice(), after);
+        assert_eq!(rt; above, sides(rt.alloc(), after)?);
     }
     Ok(())
 }

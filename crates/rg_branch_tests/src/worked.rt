@@ -1,5 +1,5 @@
 //! Small systems worked by hand.
-use crate::systems::{Told, ToldForm, forms, system};
+use crate::systems::{Told, ToldForm, forms, sides, system};
 use rg_bounded_forms::{Top, can_branch};
 use rg_branch::{BranchStop, RawNode, Whole, solve_whole};
 use rg_feasible::PivotWide;
@@ -55,7 +55,7 @@ fn result_of(alloc: Global, told: Answer) -> Result<Result<Whole, BranchStop>, A
     match told {
         Answer::Point(numbers, above) => {
             let values = values(alloc, numbers)?;
-            let above = above.to_vec(alloc)?;
+            let above = sides(alloc, above)?;
             Ok(Ok(Whole::Point(values, above)))
         }
         Answer::Tree(told) => {
@@ -63,7 +63,7 @@ fn result_of(alloc: Global, told: Answer) -> Result<Result<Whole, BranchStop>, A
             Ok(Ok(Whole::Tree(nodes)))
         }
         Answer::Wide(above, members, wide) => {
-            let above = above.to_vec(alloc)?;
+            let above = sides(alloc, above)?;
             let members = members.to_vec(alloc)?;
             Ok(Err(BranchStop::Wide {
                 above,

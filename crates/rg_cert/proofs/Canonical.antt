@@ -14,8 +14,9 @@ use Rattle.rg_theory.specs.ClassWords.{NamesClass}
 use Rattle.rg_lts.specs.WellFormed.{AreNames, IsWellFormed}
 use Rattle.rg_refuting.specs.declared.Form.{Form}
 use Rattle.rg_refuting.specs.Refutes as refutes
-use Rattle.rg_refuting.specs.Refutes.{NamedRow, Tree, Tree.leaf, Tree.split}
-use Rattle.rg_reasons.specs.Trees.{TreeNode, leaf_node, split_node, preorder}
+use Rattle.rg_splits.specs.Trees.{Tree.leaf, Tree.split, TreeNode.leaf_node, TreeNode.split_node, preorder}
+use Rattle.rg_refuting.specs.Refutes.{NamedRow, Tree}
+use Rattle.rg_reasons.specs.Trees.{TreeNode}
 use Rattle.rg_reasons.specs.Certificates.{Claim, IsMultiplierInRange, IsRowOf, IsNodeOf, IsTreeOf, IsReasonOf}
 use Rattle.rg_cert.specs.Text.{Version, version_one, version_two, heading, class_version, splits_start, reason_nodes, asks_two, state_name, label_name}
 use Rattle.rg_cert.specs.Text.{Subject, of_none, of_arc, of_state, of_label, of_depth, word_and_subject, subject_fields, named_fields, form_fields, node_lines, case_lines, reason_lines, spaced, cert_lines}

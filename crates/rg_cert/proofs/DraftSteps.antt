@@ -10,7 +10,8 @@ use Rattle.std.proofs.lemmas.List.Elements.{All-push, All-nil}
 use Rattle.rg_theory.specs.System.{System}
 use Rattle.rg_refuting.specs.declared.Form.{Form}
 use Rattle.rg_refuting.specs.Refutes.{NamedRow}
-use Rattle.rg_reasons.specs.Trees.{TreeNode, leaf_node, split_node}
+use Rattle.rg_splits.specs.Trees.{TreeNode.leaf_node, TreeNode.split_node}
+use Rattle.rg_reasons.specs.Trees.{TreeNode}
 use Rattle.rg_reasons.specs.Certificates.{IsRowOf}
 use Rattle.rg_cert.specs.Text.{Version, version_one, version_two, splits_start, named_fields, node_lines}
 use Rattle.rg_cert.specs.Lines.{word, HasFieldForm, AreAsked, LineForm, heading_line, class_line, unreachable_line, fork_line, event_line, states_line, case_line}

@@ -18,8 +18,8 @@ use Rattle.rg_lts.specs.WellFormed.{AreNames, IsWellFormed}
 use Rattle.rg_refuting.specs.declared.Form.{Form}
 use Rattle.rg_refuting.specs.declared.RowName.{RowName}
 use Rattle.rg_refuting.specs.Refutes as refutes
-use Rattle.rg_refuting.specs.Refutes.{NamedRow, Tree, Tree.leaf, Tree.split}
-use Rattle.rg_reasons.specs.Trees.{leaf_node, split_node, preorder}
+use Rattle.rg_splits.specs.Trees.{Tree.leaf, Tree.split, TreeNode.leaf_node, TreeNode.split_node, preorder}
+use Rattle.rg_refuting.specs.Refutes.{NamedRow, Tree}
 use Rattle.rg_reasons.specs.Certificates.{Claim, IsRowNameOf, IsRowOf, IsFormOf, IsNodeOf, IsTreeOf, IsReasonOf, IsClaimOf}
 use Rattle.rg_cert.specs.Text.{Version, state_name, label_name, row_fields, named_fields, form_fields, node_lines, case_lines, reason_lines, spaced, cert_lines, text_with, cert_text}
 use Rattle.rg_cert.specs.Spells.{Spells}

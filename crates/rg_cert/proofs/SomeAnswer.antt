@@ -18,7 +18,8 @@ use Rattle.rg_refuting.specs.Refutes as refutes
 use Rattle.rg_refuting.specs.Refutes.{NamedRow, Tree}
 use Rattle.rg_cert.specs.declared.fault.CertFault.{CertFault}
 use Rattle.rg_cert.specs.declared.fault.CertFault.TheVariants.{Expected, UnknownName, NumberPasses, TreeShort, TreeLong}
-use Rattle.rg_reasons.specs.Trees.{TreeNode, preorder}
+use Rattle.rg_splits.specs.Trees.{preorder}
+use Rattle.rg_reasons.specs.Trees.{TreeNode}
 use Rattle.rg_reasons.specs.Certificates.{Claim, IsMultiplierInRange, IsSplitInRange, IsRowOf, IsNodeOf, IsTreeOf, IsReasonOf}
 use Rattle.rg_cert.specs.Text.{Version, version_one, version_two, heading, splits_start, reason_nodes, asks_two, Subject, of_none, of_arc, of_state, of_label, of_depth, subject_fields, named_fields, node_lines, case_lines, reason_lines, spaced, cert_lines, text_with}
 use Rattle.rg_cert.specs.Spells.{Spells}

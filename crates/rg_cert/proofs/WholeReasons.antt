@@ -7,7 +7,8 @@ use Rattle.rg_theory.specs.System.{System}
 use Rattle.rg_reasons.specs.declared.certificate.Case.{Case}
 use Rattle.rg_reasons.specs.declared.certificate.Reason.{Reason}
 use Rattle.rg_reasons.specs.declared.certificate.Reason.TheVariants.{Unreachable, Fork, Event, States}
-use Rattle.rg_reasons.specs.Trees.{TreeNode, preorder, IsWholeTree, tree_of, nodes_of}
+use Rattle.rg_splits.specs.Trees.{preorder}
+use Rattle.rg_reasons.specs.Trees.{TreeNode, IsWholeTree, tree_of, nodes_of}
 use Rattle.rg_reasons.specs.Certificates.{case_tree, reason_of, IsWhole, HasWholeCases, IsNodeOf, IsTreeOf, IsReasonOf}
 use Rattle.rg_cert.specs.Text.{Version, version_one, splits_start, reason_nodes, node_lines, case_lines, reason_lines}
 use Rattle.rg_cert.specs.Drafts.{head_fields, IsHeadOf, nodes_lines, IsNodeIn, IsCase}

@@ -12,7 +12,8 @@ use Rattle.rg_theory.specs.declared.Problem.TheVariants.{Event, States}
 use Rattle.rg_refuting.specs.declared.Form.{Form}
 use Rattle.rg_refuting.specs.Refutes as refutes
 use Rattle.rg_refuting.specs.Refutes.{NamedRow, Tree}
-use Rattle.rg_reasons.specs.Trees.{TreeNode, TreeNode.leaf_node, TreeNode.split_node, preorder}
+use Rattle.rg_splits.specs.Trees.{TreeNode.leaf_node, TreeNode.split_node, preorder}
+use Rattle.rg_reasons.specs.Trees.{TreeNode}
 use Rattle.rg_reasons.specs.Certificates.{Claim}
 use Rattle.rg_refuting.specs.declared.RowName.{RowName}
 use Rattle.rg_refuting.specs.declared.RowName.TheVariants as row_name

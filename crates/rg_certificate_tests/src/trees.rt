@@ -8,10 +8,10 @@ use rg_theory::Arc;
 use std::alloc::Global;
 
 // Two states without an arc.
-const APART: &str = ".type LTS .states s0[initial] s1 .labels a .arcs";
+const NO_ARC: &str = ".type LTS .states s0[initial] s1 .labels a .arcs";
 
-// Two users who ask for a lock, get it and put it back. A state says what each does: i is idle, w waits, c has the lock.
-const LOCK: &str =
+// Two users who ask for a lock, get it and put it back, user by user. A state says what each does: i is idle, w waits, c has the lock.
+const LOCK_BY_USERS: &str =
     ".type LTS .states ii[initial] iw ic wi ww wc ci cw .labels ask1 get1 put1 ask2 get2 put2 .arcs ii ask1 wi iw ask1 ww ic ask1 wc wi get1 ci ww get1 cw ci put1 ii cw put1 iw ii ask2 iw wi ask2 ww ci ask2 cw iw get2 ic ww get2 wc ic put2 ii wc put2 wi";
 
 // The arc (from, label, to).
@@ -30,12 +30,12 @@ fn stop_of(alloc: Global, text: &str) -> Option<GrowStop> {
 
 #[test]
 fn tells_the_least_unreachable_state(rt: HostRuntime) {
-    assert!(rt; stop_of(rt.alloc(), APART) == Some(GrowStop::Unreachable(1)));
+    assert!(rt; stop_of(rt.alloc(), NO_ARC) == Some(GrowStop::Unreachable(1)));
 }
 
 // Whether the right tree is grown of the system of the lock.
 fn is_grown(alloc: Global) -> bool {
-    let Some(lts) = system(alloc, LOCK) else {
+    let Some(lts) = system(alloc, LOCK_BY_USERS) else {
         return false;
     };
     match Tree::grow(alloc, &lts) {

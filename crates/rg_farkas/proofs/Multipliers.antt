@@ -21,10 +21,9 @@ use Rattle.rg_linear.proofs.Columns.{below_test, past_test}
 use Rattle.rg_linear.proofs.Splits.{index-front}
 use Rattle.rg_refuting.specs.Expression.{Expression, plus, minus, sum_of, value_in}
 use Rattle.rg_refuting.specs.declared.Variable.{Variable}
-use Rattle.rg_refuting.specs.Row.{form_variable, step_of, FormStands, RowStands, row_expression, side_expression}
+use Rattle.rg_refuting.specs.Row.{form_variable, step_of, FormStands, RowStands, row_expression, side_expression, Side}
 use Rattle.rg_refuting.specs.declared.Form.{Form as SplitForm}
 use Rattle.rg_refuting.specs.declared.RowName.{RowName}
-use Rattle.rg_refuting.specs.declared.Side.{Side}
 use Rattle.rg_refuting.specs.Refutes.{NamedRow, constant_sum}
 use Rattle.rg_order_of_work.specs.Fold.{each, whole, Ratio}
 use Rattle.rg_order_of_work.specs.Rewriting.{has_start, split_forms, form_fold, KeptRow, CaseSystem, rows_of}

@@ -11,7 +11,7 @@ use Rattle.rg_integers.proofs.Order.{mul-cancel, mul_positive, positive_differs,
 use Rattle.rg_integers.proofs.Sums.{sum_below-same, sum_below-first}
 use Rattle.rg_linear.specs.Branching.{weights_from, SplitSide}
 use Rattle.rg_refuting.specs.declared.RowName.{RowName}
-use Rattle.rg_refuting.specs.declared.Side.{Side}
+use Rattle.rg_refuting.specs.Row.{Side}
 use Rattle.rg_refuting.specs.Refutes.{NamedRow}
 use Rattle.rg_order_of_work.specs.Fold.{each}
 use Rattle.rg_order_of_work.specs.Rewriting.{CaseSystem}

@@ -3,11 +3,12 @@ use Rattle.std.specs.Prelude.{◌≡◌, ℕ, ◌^◌, ◌<◌, List, length, ma
 use Rattle.rg_theory.specs.declared.Class.{Class}
 use Rattle.rg_theory.specs.declared.Problem.{Problem}
 use Rattle.rg_theory.specs.System.{System, labels, IsAllReachable}
-use Rattle.rg_refuting.specs.Row.{RowStands, row_expression, cases_of}
+use Rattle.rg_refuting.specs.Row.{RowStands, row_expression, cases_of, Side}
 use Rattle.rg_refuting.specs.Refutes.{NamedRow, IsSeparationProblem}
 use Rattle.rg_spanning.specs.Spanning.{Spanning, IsTreeOf}
 use Rattle.rg_fraction.specs.declared.fraction.Fraction.{Fraction}
-use Rattle.rg_reasons.specs.Trees.{TreeNode, TreeNode.leaf_node, TreeNode.split_node}
+use Rattle.rg_splits.specs.Trees.{TreeNode.leaf_node, TreeNode.split_node}
+use Rattle.rg_reasons.specs.Trees.{TreeNode}
 use Rattle.rg_reasons.specs.Certificates.{IsFormOf, IsRowNameOf}
 use Rattle.rg_cycles.specs.declared.basis.Basis.{Basis}
 use Rattle.rg_cycles.specs.View.{labels_of, cycle_of}
@@ -16,7 +17,6 @@ use Rattle.rg_order_of_work.specs.Fold.{ratio_of}
 use Rattle.rg_order_of_work.specs.Spreading.{Share}
 use Rattle.rg_farkas.specs.Refuting.{SharesRefute}
 use Rattle.rg_refuting.specs.declared.RowName.{RowName}
-use Rattle.rg_refuting.specs.declared.Side.{Side}
 
 -- a named row times a fraction
 abbrev pub share_of : RowName × Fraction → Share

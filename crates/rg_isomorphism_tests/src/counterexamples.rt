@@ -1,5 +1,5 @@
 //! The first label that is lost, and the first state from which there is no way back.
-use crate::samples::{APART, FORK, STILL};
+use crate::samples::{FORK, LOST_APART, STILL};
 use rg_checks::{persistent, reversible};
 use rg_samples::{LOOP_AND_STEP, THERE_AND_BACK, system};
 use std::alloc::Global;
@@ -19,7 +19,7 @@ fn losses(rt: HostRuntime) {
         (THERE_AND_BACK, None),
         (LOOP_AND_STEP, Some((0, 1, 0, 1))),
         (FORK, Some((0, 0, 1, 2))),
-        (APART, Some((1, 0, 1, 2))),
+        (LOST_APART, Some((1, 0, 1, 2))),
     ] {
         assert!(rt; is_lost(rt.alloc(), text, wanted), "{text}");
     }
@@ -40,7 +40,7 @@ fn stranded(rt: HostRuntime) {
         (THERE_AND_BACK, None),
         (LOOP_AND_STEP, Some(1)),
         (FORK, Some(1)),
-        (APART, None),
+        (LOST_APART, None),
     ] {
         assert!(rt; is_stranded(rt.alloc(), text, wanted), "{text}");
     }

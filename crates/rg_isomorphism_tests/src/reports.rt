@@ -1,5 +1,5 @@
 //! Reports on systems, each worked by hand.
-use crate::samples::{APART, FORK, STILL};
+use crate::samples::{FORK, LOST_APART, STILL};
 use rg_report::{examine, json_text, lines_text, report_on};
 use rg_samples::{LOOP_AND_STEP, system};
 use std::alloc::Global;
@@ -44,7 +44,7 @@ const REPORTS: [(&str, &str, &str); 4] = [
         "{\"arcs\":6,\"deterministic\":[\"s0\",\"a\",\"s1\",\"s2\"],\"labels\":3,\"persistent\":[\"s0\",\"a\",\"b\",\"s2\"],\"reachable\":true,\"reversible\":[\"s1\"],\"states\":4}\n",
     ),
     (
-        APART,
+        LOST_APART,
         "states 3\nlabels 2\narcs 3\nreachable no s1\ndeterministic yes\npersistent no s1 a b s2\nreversible yes\n",
         "{\"arcs\":3,\"deterministic\":true,\"labels\":2,\"persistent\":[\"s1\",\"a\",\"b\",\"s2\"],\"reachable\":[\"s1\"],\"reversible\":true,\"states\":3}\n",
     ),

@@ -2,6 +2,9 @@
 use Rattle.std.specs.Prelude.{◌≡◌, ℕ, zero, suc, ◌<◌, Bool, true, false, ◌==◌, if◌then◌else◌, List, [], ◌∷◌, ◌++◌, length, map, slice_index_or, ℤ, pos, neg_ℤ, ◌+ℤ◌, ◌-ℤ◌, ◌*ℤ◌, ◌≤ℤ◌, ◌<ℤ◌, int_lt, ◌||◌}
 use Rattle.rg_linear.specs.System.{LinearRow, LinearSystem, row_variable, IsPoint, MeetsRows, AreFarkasMultipliers}
 use Rattle.rg_integers.specs.Sum.{sum_below}
+use Rattle.rg_splits.specs.declared.Side.{Side}
+use Rattle.rg_splits.specs.Trees as splits
+use Rattle.rg_splits.specs.Trees.{Tree.leaf, Tree.split, low_side, high_side}
 use Rattle.rg_linear.specs.Dictionary.{Relation, DictionaryRow}
 use Rattle.rg_linear.specs.Descent.{WideAt, DescentFromStart, IsAtZero, multiplier_of}
 use Rattle.rg_linear.specs.Descent.Outcome.{point, refuted, wide}
@@ -21,10 +24,8 @@ abbrev pub scaled_value : LinearSystem → Form → (ℕ → ℤ) → ℤ
 scaled_value system form x = sum_below system.columns (λ j. slice_index_or form.coeffs j (pos 0) *ℤ x j)
 
 -- one side of a split: form number f is at most the number, or above it
-pub record SplitSide : Type 0 where
-  pub form : ℕ
-  pub at : ℤ
-  pub high : Bool
+abbrev pub SplitSide : Type 0
+SplitSide = Side ℕ
 
 -- scale * at - coeffs on the low side, coeffs - scale * at - scale on the high side
 abbrev pub side_row : List Form → SplitSide → LinearRow
@@ -65,9 +66,9 @@ pub record Weight : Type 0 where
   pub row : ℕ
   pub multiplier : ℤ
 
-pub data SplitTree : Type 0 where
-  leaf : List Weight → SplitTree
-  split : ℕ → ℤ → SplitTree → SplitTree → SplitTree
+-- a tree of splits, with weights at its leaves
+abbrev pub SplitTree : Type 0
+SplitTree = splits.Tree (List Weight) ℕ
 
 -- the multipliers of the n rows from the first one on, in order, but those that are 0
 abbrev pub weights_from : (ℕ → ℤ) → ℕ → ℕ → List Weight
@@ -87,12 +88,6 @@ abbrev pub IsEnd : BranchOutcome → Type 0
 IsEnd (found members above) = Unit {0}
 IsEnd (tree t) = ⊥
 IsEnd (stopped above w) = Unit {0}
-
-abbrev pub low_side : ℕ → ℤ → SplitSide
-low_side f u = record { form = f; at = u; high = false }
-
-abbrev pub high_side : ℕ → ℤ → SplitSide
-high_side f u = record { form = f; at = u; high = true }
 
 -- what the node below the splits comes to
 pub data BranchFrom (system : LinearSystem) (forms : List Form) : List SplitSide → BranchOutcome → Type 0 where

@@ -8,10 +8,9 @@ use Rattle.rg_theory.specs.System.{System, labels}
 use Rattle.rg_theory.specs.declared.Class.{Class}
 use Rattle.rg_theory.specs.declared.Problem.{Problem}
 use Rattle.rg_refuting.specs.Expression.{Term, Expression, plus}
-use Rattle.rg_refuting.specs.Row.{form_variable, row_expression}
+use Rattle.rg_refuting.specs.Row.{form_variable, row_expression, Side}
 use Rattle.rg_refuting.specs.declared.Form.{Form as SplitForm}
 use Rattle.rg_refuting.specs.declared.RowName.{RowName}
-use Rattle.rg_refuting.specs.declared.Side.{Side}
 use Rattle.rg_refuting.specs.Refutes.{NamedRow}
 use Rattle.rg_linear.specs.System.{LinearRow}
 use Rattle.rg_linear.specs.Branching.{Form, Weight, SplitSide}

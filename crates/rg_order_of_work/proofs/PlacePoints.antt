@@ -16,7 +16,8 @@ use Rattle.rg_integers.proofs.Order.{mul-cancel, mul_positive, positive_differs}
 use Rattle.rg_linear.specs.System.{LinearSystem, IsPoint, MeetsRows}
 use Rattle.rg_linear.specs.Dictionary.{Relation, DictionaryRow}
 use Rattle.rg_linear.specs.Descent.{IsAtZero}
-use Rattle.rg_linear.specs.Branching.{Form, form_at, FormsWhole, SplitSide, node_system, AllWhole, BranchOutcome, BranchOutcome.found, low_side, high_side, BranchFrom}
+use Rattle.rg_splits.specs.Trees.{low_side, high_side}
+use Rattle.rg_linear.specs.Branching.{Form, form_at, FormsWhole, SplitSide, node_system, AllWhole, BranchOutcome, BranchOutcome.found, BranchFrom}
 use Rattle.rg_linear.specs.Branching.{BranchFrom.passes, BranchFrom.refutes, BranchFrom.whole as whole_end, BranchFrom.low_ends, BranchFrom.high_ends}
 use Rattle.rg_linear.specs.Branching.{BranchFrom.both_refuted, Branching}
 use Rattle.rg_linear.proofs.Points.{constant_left}

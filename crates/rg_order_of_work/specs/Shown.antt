@@ -6,13 +6,13 @@ use Rattle.rg_theory.specs.declared.Class.{Class}
 use Rattle.rg_theory.specs.declared.Problem.{Problem}
 use Rattle.rg_theory.specs.declared.Problem.TheVariants.{Event, States}
 use Rattle.rg_theory.specs.Problem.{IsProblem}
-use Rattle.rg_refuting.specs.Row.{cases_of}
-use Rattle.rg_refuting.specs.declared.Side.{Side}
+use Rattle.rg_refuting.specs.Row.{cases_of, Side}
 use Rattle.rg_linear.specs.System.{LinearSystem}
 use Rattle.rg_linear.specs.Dictionary.{Relation, DictionaryRow}
 use Rattle.rg_linear.specs.Descent.{WideAt}
 use Rattle.rg_linear.specs.Cycle.{CycleWalk, CycleOutcome.too_wide, CycleBasis}
-use Rattle.rg_linear.specs.Branching.{Weight, SplitTree, SplitTree.leaf, SplitTree.split, low_side, high_side, node_system, Branching, BranchOutcome.found, BranchOutcome.tree, BranchOutcome.stopped, SplitSide}
+use Rattle.rg_splits.specs.Trees.{Tree.leaf, Tree.split, low_side, high_side}
+use Rattle.rg_linear.specs.Branching.{Weight, SplitTree, node_system, Branching, BranchOutcome.found, BranchOutcome.tree, BranchOutcome.stopped, SplitSide}
 use Rattle.rg_integers.specs.declared.term.Wide.{Wide}
 use Rattle.rg_order_of_work.specs.Fold.{Ratio, whole, IsRatio}
 use Rattle.rg_theory.specs.Tree.{IsTree}

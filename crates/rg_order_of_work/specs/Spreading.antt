@@ -6,10 +6,9 @@ use Rattle.rg_theory.specs.declared.Class.{Class}
 use Rattle.rg_theory.specs.declared.Problem.{Problem}
 use Rattle.rg_refuting.specs.Expression.{Expression, coefficient_in}
 use Rattle.rg_refuting.specs.declared.Variable.{Variable}
-use Rattle.rg_refuting.specs.Row.{row_expression}
+use Rattle.rg_refuting.specs.Row.{row_expression, Side}
 use Rattle.rg_refuting.specs.declared.RowName.{RowName}
 use Rattle.rg_refuting.specs.declared.Form.{Form as SplitForm}
-use Rattle.rg_refuting.specs.declared.Side.{Side}
 use Rattle.rg_refuting.specs.Refutes.{NamedRow}
 use Rattle.rg_integers.specs.Sign.{size}
 use Rattle.rg_linear.specs.Branching.{Weight, Form, form_at, SplitSide}

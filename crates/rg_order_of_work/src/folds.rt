@@ -7,7 +7,7 @@ ghost use Rattle.rg_theory.specs.Class.{IsMultiple};
 ghost use Rattle.rg_integers.specs.Range.{InRange};
 ghost use Rattle.rg_refuting.specs.Expression.{Expression};
 ghost use Rattle.rg_refuting.specs.declared.RowName.{RowName};
-ghost use Rattle.rg_refuting.specs.declared.Side.{Side};
+ghost use Rattle.rg_refuting.specs.Row.{Side};
 ghost use Rattle.rg_linear.specs.Branching.{Weight, SplitSide};
 ghost use Rattle.rg_fraction.specs.Fractions.{numerator_of, denominator_of, IsValue, IsSum, IsProduct};
 ghost use Rattle.rg_order_of_work.specs.Fold.{IsOne, Ratio, whole, ratio_of, shown_result, and_then, further, quotient, term, add, mul, multiple_of_all};

@@ -5,10 +5,11 @@ use Rattle.rg_theory.specs.System.{System}
 use Rattle.rg_theory.specs.Net.{Place}
 use Rattle.rg_theory.specs.declared.Class.{Class}
 use Rattle.rg_theory.specs.declared.Problem.{Problem}
-use Rattle.rg_refuting.specs.Refutes.{Tree, Tree.leaf as refuting_leaf, Tree.split as refuting_split}
+use Rattle.rg_splits.specs.Trees.{Tree.leaf, Tree.split, low_side, high_side}
+use Rattle.rg_refuting.specs.Refutes.{Tree}
 use Rattle.rg_integers.specs.declared.term.Wide.{Wide}
 use Rattle.rg_linear.specs.Cycle.{CycleBasis}
-use Rattle.rg_linear.specs.Branching.{SplitTree, SplitTree.leaf, SplitTree.split, SplitSide, low_side, high_side, node_system, Branching, BranchOutcome, BranchOutcome.found, BranchOutcome.tree, BranchOutcome.stopped}
+use Rattle.rg_linear.specs.Branching.{SplitTree, SplitSide, node_system, Branching, BranchOutcome, BranchOutcome.found, BranchOutcome.tree, BranchOutcome.stopped}
 use Rattle.rg_linear.proofs.Branches.{same_branch}
 use Rattle.rg_order_of_work.specs.Fold.{Ratio}
 use Rattle.rg_order_of_work.specs.Rewriting.{CaseSystem, rows_of, system_fold}
@@ -40,7 +41,7 @@ module _ (lts : System) (arcs : List Arc) (basis : CycleBasis) (class : Class) (
   pub same_tree : (above : List SplitSide) (t : SplitTree) (r r' : Result Tree LeafWide) → spread_tree lts arcs basis class problem number case above t r → spread_tree lts arcs basis class problem number case above t r' → r ≡ r'
   same_tree above (leaf weights) (Ok t) (Ok t') (rows, made, e) (rows', made', e') =
       let same : rows ≡ rows' = ok_is rows rows' ((spread_one lts arcs basis class problem number case above (named_sides lts class problem above) weights).one (Ok rows) (Ok rows') made made') in
-      ap Ok (e ∙ ap refuting_leaf same ∙ sym e')
+      ap Ok (e ∙ ap leaf same ∙ sym e')
   same_tree above (leaf weights) (Ok t) (Err at) (rows, made, e) (e', err) = absurd (ok_not_err rows at.wide ((spread_one lts arcs basis class problem number case above (named_sides lts class problem above) weights).one (Ok rows) (Err at.wide) made err))
   same_tree above (leaf weights) (Err at) (Ok t) (e, err) (rows, made, e') = absurd (ok_not_err rows at.wide ((spread_one lts arcs basis class problem number case above (named_sides lts class problem above) weights).one (Ok rows) (Err at.wide) made err))
   same_tree above (leaf weights) (Err at) (Err at') (e, err) (e', err') =
@@ -48,7 +49,7 @@ module _ (lts : System) (arcs : List Arc) (basis : CycleBasis) (class : Class) (
   same_tree above (split f u low high) (Ok t) (Ok t') (l, h, is_l, is_h, e) (l', h', is_l', is_h', e') =
       let el : l ≡ l' = tree_ok l l' (same_tree (above ++ low_side f u ∷ []) low (Ok l) (Ok l') is_l is_l') in
       let eh : h ≡ h' = tree_ok h h' (same_tree (above ++ high_side f u ∷ []) high (Ok h) (Ok h') is_h is_h') in
-      ap Ok (e ∙ ap (λ x. refuting_split (named_side lts class problem (low_side f u)).form u x h) el ∙ ap (λ x. refuting_split (named_side lts class problem (low_side f u)).form u l' x) eh ∙ sym e')
+      ap Ok (e ∙ ap (λ x. split (named_side lts class problem (low_side f u)).form u x h) el ∙ ap (λ x. split (named_side lts class problem (low_side f u)).form u l' x) eh ∙ sym e')
   same_tree above (split f u low high) (Ok t) (Err at) (l, h, is_l, is_h, e) (inl err) = absurd (tree_ok_not_err l at (same_tree (above ++ low_side f u ∷ []) low (Ok l) (Err at) is_l err))
   same_tree above (split f u low high) (Ok t) (Err at) (l, h, is_l, is_h, e) (inr (l', is_l', err)) = absurd (tree_ok_not_err h at (same_tree (above ++ high_side f u ∷ []) high (Ok h) (Err at) is_h err))
   same_tree above (split f u low high) (Err at) (Ok t) (inl err) (l, h, is_l, is_h, e) = absurd (tree_ok_not_err l at (same_tree (above ++ low_side f u ∷ []) low (Ok l) (Err at) is_l err))

@@ -10,12 +10,12 @@ use Rattle.rg_integers.specs.Sum.{number_at}
 use Rattle.rg_integers.proofs.Divisors.{gcd_below}
 use Rattle.rg_integers.specs.declared.term.Wide.{Wide}
 use Rattle.rg_refuting.specs.Expression.{Expression, coefficient_in}
-use Rattle.rg_refuting.specs.Row.{row_expression}
+use Rattle.rg_refuting.specs.Row.{row_expression, Side}
 use Rattle.rg_refuting.specs.declared.RowName.{RowName}
-use Rattle.rg_refuting.specs.declared.Side.{Side}
 use Rattle.rg_refuting.specs.declared.Form.{Form as SplitForm}
-use Rattle.rg_refuting.specs.Refutes.{NamedRow, Tree, Tree.leaf as refuting_leaf, Tree.split as refuting_split}
-use Rattle.rg_linear.specs.Branching.{Form, Weight, form_at, SplitSide, SplitTree, SplitTree.leaf, SplitTree.split, low_side, high_side}
+use Rattle.rg_splits.specs.Trees.{Tree.leaf, Tree.split, low_side, high_side}
+use Rattle.rg_refuting.specs.Refutes.{NamedRow, Tree}
+use Rattle.rg_linear.specs.Branching.{Form, Weight, form_at, SplitSide, SplitTree}
 use Rattle.rg_linear.specs.Cycle.{CycleBasis}
 use Rattle.rg_linear.proofs.Firsts.{kept_is}
 use Rattle.rg_order_of_work.specs.Fold.{gives, and_then, each, joined, whole, quotient, add, mul, whole_sum, whole_product}
@@ -191,7 +191,7 @@ module _ (lts : System) (arcs : List Arc) (basis : CycleBasis) (class : Class) (
   some_spread_tree above (leaf weights) = by (some_spread above (named_sides lts class problem above) weights)
     where
       by : HasSome (spread_fold lts arcs basis class problem n case above (named_sides lts class problem above) weights) → (r : Result Tree LeafWide) × spread_tree lts arcs basis class problem n case above (leaf weights) r
-      by (Ok rows, h) = (Ok (refuting_leaf rows), (rows, h, refl))
+      by (Ok rows, h) = (Ok (leaf rows), (rows, h, refl))
       by (Err w, h) = (Err (record { above = above; wide = w }), (refl, h))
   some_spread_tree above (split f u low high) = by (some_spread_tree (above ++ low_side f u ∷ []) low) (some_spread_tree (above ++ high_side f u ∷ []) high)
     where
@@ -199,4 +199,4 @@ module _ (lts : System) (arcs : List Arc) (basis : CycleBasis) (class : Class) (
           → (r : Result Tree LeafWide) × spread_tree lts arcs basis class problem n case above (split f u low high) r
       by (Err at, h) _ = (Err at, inl h)
       by (Ok l, h) (Err at, g) = (Err at, inr (l, h, g))
-      by (Ok l, h) (Ok r, g) = (Ok (refuting_split (named_side lts class problem (low_side f u)).form u l r), (l, r, h, g, refl))
+      by (Ok l, h) (Ok r, g) = (Ok (split (named_side lts class problem (low_side f u)).form u l r), (l, r, h, g, refl))

@@ -15,7 +15,8 @@ use Rattle.rg_theory.proofs.Leaving.{left_solves}
 use Rattle.rg_refuting.specs.Row.{cases_of}
 use Rattle.rg_refuting.specs.Refutes.{Tree}
 use Rattle.rg_linear.specs.Cycle.{CycleBasis}
-use Rattle.rg_linear.specs.Branching.{Weight, SplitTree, SplitTree.leaf, SplitTree.split, SplitSide, low_side, high_side}
+use Rattle.rg_splits.specs.Trees.{Tree.leaf, Tree.split, low_side, high_side}
+use Rattle.rg_linear.specs.Branching.{Weight, SplitTree, SplitSide}
 use Rattle.rg_order_of_work.specs.Chords.{IsBasis}
 use Rattle.rg_order_of_work.specs.Rewriting.{CaseSystem, system_fold}
 use Rattle.rg_order_of_work.specs.Spreading.{spread_fold}

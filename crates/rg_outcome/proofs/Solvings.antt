@@ -11,7 +11,8 @@ use Rattle.rg_theory.specs.declared.Class.{Class}
 use Rattle.rg_theory.specs.declared.Problem.TheVariants.{Event, States}
 use Rattle.rg_theory.proofs.Lists.{slice_get_some}
 use Rattle.rg_refuting.specs.Row.{cases_of}
-use Rattle.rg_refuting.specs.Refutes.{Tree, Tree.leaf as refuting_leaf}
+use Rattle.rg_splits.specs.Trees.{Tree.leaf}
+use Rattle.rg_refuting.specs.Refutes.{Tree}
 use Rattle.rg_linear.specs.Cycle.{CycleBasis}
 use Rattle.rg_order_of_work.specs.Shown.{Shown}
 use Rattle.rg_outcome.specs.Casing.{CaseResult, CaseResult.makes, CaseResult.refutes, CaseResult.passes, CaseComes}
@@ -55,14 +56,14 @@ module _ (comes : ℕ → CaseResult → Type 0) (n : ℕ) (one : (i : ℕ) (r r
   not_passed trees long each i w lt has = let (t, is) = refuted_at trees long each i lt in passes_or_refutes w t (one i (passes w) (refutes t) has is)
 
   same_trees : (trees trees' : List Tree) → length trees ≡ n → length trees' ≡ n → ((i : ℕ) (t : Tree) → slice_get trees i ≡ Some t → comes i (refutes t)) → ((i : ℕ) (t : Tree) → slice_get trees' i ≡ Some t → comes i (refutes t)) → trees ≡ trees'
-  same_trees trees trees' long long' each each' = ext_get_or (refuting_leaf []) trees trees' (long ∙ sym long') at
+  same_trees trees trees' long long' each each' = ext_get_or (leaf []) trees trees' (long ∙ sym long') at
     where
-      at : (i : ℕ) → i < length trees → get_or trees i (refuting_leaf []) ≡ get_or trees' i (refuting_leaf [])
+      at : (i : ℕ) → i < length trees → get_or trees i (leaf []) ≡ get_or trees' i (leaf [])
       at i lt =
           let (t, is) = slice_get_some trees i lt in
           let (t', is') = slice_get_some trees' i (omega arith) in
           let same : t ≡ t' = same_refutation t t' (one i (refutes t) (refutes t') (each i t is) (each' i t' is')) in
-          get_or_from_slice_get trees i t (refuting_leaf []) is ∙ same ∙ sym (get_or_from_slice_get trees' i t' (refuting_leaf []) is')
+          get_or_from_slice_get trees i t (leaf []) is ∙ same ∙ sym (get_or_from_slice_get trees' i t' (leaf []) is')
 
   pub same_cases : (r r' : Solved) → CasesCome comes n r → CasesCome comes n r' → r ≡ r'
   same_cases r r' (first_place i p lt has none) (first_place i' p' lt' has' none') =

@@ -5,12 +5,13 @@ use Rattle.rg_theory.specs.System.{System}
 use Rattle.rg_theory.specs.Net.{Place}
 use Rattle.rg_theory.specs.declared.Class.{Class}
 use Rattle.rg_theory.specs.declared.Problem.{Problem}
-use Rattle.rg_refuting.specs.declared.Side.{Side}
-use Rattle.rg_refuting.specs.Refutes.{NamedRow, Tree, Tree.leaf as refuting_leaf, Tree.split as refuting_split}
+use Rattle.rg_refuting.specs.Row.{Side}
+use Rattle.rg_splits.specs.Trees.{Tree.leaf, Tree.split, low_side, high_side}
+use Rattle.rg_refuting.specs.Refutes.{NamedRow, Tree}
 use Rattle.rg_integers.specs.declared.term.Wide.{Wide}
 use Rattle.rg_linear.specs.Descent.{WideAt}
 use Rattle.rg_linear.specs.Cycle.{CycleBasis}
-use Rattle.rg_linear.specs.Branching.{SplitTree, SplitTree.leaf, SplitTree.split, SplitSide, low_side, high_side, node_system, Branching, BranchOutcome.found, BranchOutcome.tree, BranchOutcome.stopped}
+use Rattle.rg_linear.specs.Branching.{SplitTree, SplitSide, node_system, Branching, BranchOutcome.found, BranchOutcome.tree, BranchOutcome.stopped}
 use Rattle.rg_order_of_work.specs.Fold.{Ratio}
 use Rattle.rg_order_of_work.specs.Rewriting.{CaseSystem, rows_of, system_fold}
 use Rattle.rg_order_of_work.specs.Placing.{place_fold}
@@ -32,12 +33,12 @@ pub record LeafWide : Type 0 where
 
 -- the tree of the leaves of all the multipliers, or the first step out of range, the low side before the high one
 abbrev pub spread_tree : System → List Arc → CycleBasis → Class → Problem → ℕ → CaseSystem → List SplitSide → SplitTree → Result Tree LeafWide → Type 0
-spread_tree lts arcs basis class problem number case above (leaf weights) (Ok t) = (rows : List NamedRow) × spread_fold lts arcs basis class problem number case above (named_sides lts class problem above) weights (Ok rows) × (t ≡ refuting_leaf rows)
+spread_tree lts arcs basis class problem number case above (leaf weights) (Ok t) = (rows : List NamedRow) × spread_fold lts arcs basis class problem number case above (named_sides lts class problem above) weights (Ok rows) × (t ≡ leaf rows)
 spread_tree lts arcs basis class problem number case above (leaf weights) (Err at) = (at.above ≡ above) × spread_fold lts arcs basis class problem number case above (named_sides lts class problem above) weights (Err at.wide)
 spread_tree lts arcs basis class problem number case above (split f u low high) (Ok t) =
     (l h : Tree) × spread_tree lts arcs basis class problem number case (above ++ low_side f u ∷ []) low (Ok l)
     × spread_tree lts arcs basis class problem number case (above ++ high_side f u ∷ []) high (Ok h)
-    × (t ≡ refuting_split (named_side lts class problem (low_side f u)).form u l h)
+    × (t ≡ split (named_side lts class problem (low_side f u)).form u l h)
 spread_tree lts arcs basis class problem number case above (split f u low high) (Err at) =
     spread_tree lts arcs basis class problem number case (above ++ low_side f u ∷ []) low (Err at)
     ⊎ ((l : Tree) × spread_tree lts arcs basis class problem number case (above ++ low_side f u ∷ []) low (Ok l) × spread_tree lts arcs basis class problem number case (above ++ high_side f u ∷ []) high (Err at))

@@ -1,7 +1,8 @@
 -- The nodes of a tree in preorder tell the tree.
 use Rattle.std.proofs.Common.{◌≡◌, List, [], ◌∷◌, ◌++◌, append-nil, append_assoc, refl, sym, ap, ◌∙◌}
-use Rattle.rg_refuting.specs.Refutes.{Tree, Tree.leaf, Tree.split}
-use Rattle.rg_reasons.specs.Trees.{TreeNode, preorder, IsWholeTree, joined, trees_of, first_tree, tree_of}
+use Rattle.rg_splits.specs.Trees.{Tree.leaf, Tree.split, preorder}
+use Rattle.rg_refuting.specs.Refutes.{Tree}
+use Rattle.rg_reasons.specs.Trees.{TreeNode, IsWholeTree, joined, trees_of, first_tree, tree_of}
 
 -- the first of the trees that stand one after the other
 pub trees_preorder : (tree : Tree) (more : List TreeNode) → trees_of (preorder tree ++ more) ≡ tree ∷ trees_of more

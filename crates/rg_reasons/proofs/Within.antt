@@ -8,12 +8,9 @@ use Rattle.rg_theory.specs.declared.Problem.TheVariants.{Event, States}
 use Rattle.rg_theory.specs.System.{System, states, labels}
 use Rattle.rg_refuting.specs.Expression.{Term, Expression, plus, minus, sum_of}
 use Rattle.rg_refuting.specs.declared.Variable.{Variable}
-use Rattle.rg_refuting.specs.Row.{form_variable, step_of}
+use Rattle.rg_refuting.specs.Row.{form_variable, step_of, Side, side_expression, shared_expression, event_expression, state_expression, apart_expression, row_expression, order_of}
 use Rattle.rg_refuting.specs.declared.Form.{Form}
-use Rattle.rg_refuting.specs.declared.Side.{Side}
 use Rattle.rg_refuting.specs.declared.RowName.{RowName}
-use Rattle.rg_refuting.specs.Row.{side_expression, shared_expression, event_expression}
-use Rattle.rg_refuting.specs.Row.{state_expression, apart_expression, row_expression, order_of}
 use Rattle.rg_refuting.specs.Refutes.{IsSeparationProblem}
 use Rattle.rg_reasons.specs.Certificates.{IsFormOf, IsRowNameOf, IsTermWithin}
 use Rattle.rg_refuting.specs.declared.RowName.TheVariants as row_name

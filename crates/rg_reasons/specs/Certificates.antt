@@ -13,7 +13,8 @@ use Rattle.rg_reasons.specs.declared.certificate.Case.{Case}
 use Rattle.rg_reasons.specs.declared.certificate.Reason.{Reason}
 use Rattle.rg_reasons.specs.declared.certificate.Reason.TheVariants.{Unreachable, Fork, Event, States}
 use Rattle.rg_reasons.specs.declared.certificate.Certificate.{Certificate}
-use Rattle.rg_reasons.specs.Trees.{TreeNode, TreeNode.leaf_node, TreeNode.split_node, preorder, IsWholeTree, tree_of, nodes_of}
+use Rattle.rg_splits.specs.Trees.{TreeNode.leaf_node, TreeNode.split_node, preorder}
+use Rattle.rg_reasons.specs.Trees.{TreeNode, IsWholeTree, tree_of, nodes_of}
 use Rattle.rg_refuting.specs.declared.RowName.{RowName}
 use Rattle.rg_refuting.specs.declared.Form.{Form}
 use Rattle.rg_refuting.specs.declared.RowName.TheVariants as row_name

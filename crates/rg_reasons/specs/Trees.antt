@@ -2,20 +2,16 @@
 use Rattle.std.specs.Prelude.{◌≡◌, List, [], ◌∷◌, ◌++◌, map, ℤ}
 use Rattle.rg_refuting.specs.declared.RowName.{RowName}
 use Rattle.rg_refuting.specs.declared.Form.{Form}
-use Rattle.rg_refuting.specs.Refutes.{NamedRow, Tree, Tree.leaf, Tree.split}
+use Rattle.rg_splits.specs.Trees as splits
+use Rattle.rg_splits.specs.Trees.{Tree.leaf, Tree.split, TreeNode.leaf_node, TreeNode.split_node, preorder}
+use Rattle.rg_refuting.specs.Refutes.{NamedRow, Tree}
 use Rattle.rg_reasons.specs.declared.certificate.Node.{Node}
 use Rattle.rg_reasons.specs.declared.certificate.Node.TheVariants.{Leaf, Split}
 use Rattle.rg_reasons.specs.declared.certificate.Case.{Case}
 
--- a node of a tree, without what is below it
-pub data TreeNode : Type 0 where
-  leaf_node : List NamedRow → TreeNode
-  split_node : Form → ℤ → TreeNode
-
--- the nodes of a tree: each split, then its low side, then its high side
-abbrev pub preorder : Tree → List TreeNode
-preorder (leaf rows) = leaf_node rows ∷ []
-preorder (split form at low high) = split_node form at ∷ (preorder low ++ preorder high)
+-- a node of a tree
+abbrev pub TreeNode : Type 0
+TreeNode = splits.TreeNode (List NamedRow) Form
 
 -- the nodes are those of one whole tree
 abbrev pub IsWholeTree : List TreeNode → Tree → Type 0

@@ -10,6 +10,8 @@ use Rattle.rg_theory.specs.Region.{RegionIn}
 use Rattle.rg_theory.specs.declared.Problem.{Problem}
 use Rattle.rg_theory.specs.declared.Problem.TheVariants.{Event, States}
 use Rattle.rg_theory.specs.Problem.{Separates}
+use Rattle.rg_splits.specs.Trees as splits
+use Rattle.rg_splits.specs.Trees.{Tree.leaf, Tree.split, low_side, high_side}
 use Rattle.rg_refuting.specs.declared.RowName.TheVariants.{Arc}
 use Rattle.rg_refuting.specs.Expression.{Variable, Expression, coefficient_in, numbers_by}
 use Rattle.rg_refuting.specs.Row.{Form, FormStands, Side, RowName, RowStands, row_expression, KeepsRows, cases_of}
@@ -47,17 +49,16 @@ pub record LeafRefutes (stands : RowName → Type 0) (expression : RowName → E
   pub contradicts : constant_sum expression rows <ℤ pos 0
 
 -- a tree of splits, with rows at its leaves
-pub data Tree : Type 0 where
-  leaf : List NamedRow → Tree
-  split : Form → ℤ → Tree → Tree → Tree
+abbrev pub Tree : Type 0
+Tree = splits.Tree (List NamedRow) Form
 
 -- each split may be on its form, and every leaf refutes, below the sides that lead to it, outermost first
 abbrev pub TreeRefutes : System → Class → Problem → ℕ → List Side → Tree → Type 0
 TreeRefutes lts class problem number above (leaf rows) = LeafRefutes (RowStands lts class problem number above) (row_expression lts class problem number above) rows
 TreeRefutes lts class problem number above (split form at low high) =
     FormStands class form
-    × TreeRefutes lts class problem number (above ++ record { form = form; at = at; high = false } ∷ []) low
-    × TreeRefutes lts class problem number (above ++ record { form = form; at = at; high = true } ∷ []) high
+    × TreeRefutes lts class problem number (above ++ low_side form at ∷ []) low
+    × TreeRefutes lts class problem number (above ++ high_side form at ∷ []) high
 
 -- the reason that a certificate gives
 pub data Reason : Type 0 where

@@ -64,13 +64,8 @@ pub enum Form {
     Start,
 }
 
-/// One side of a split: on the low side the form is at most the number, on the high side it is above the number.
-#[derive(Clone, Copy, Debug, PartialEq, Eq)]
-pub struct Side {
-    pub form: Form,
-    pub at: i64,
-    pub high: bool,
-}
+/// One side of a split on a form.
+pub type Side = rg_splits::Side<Form>;
 
 impl Form {
     /// The variable that the form counts, where this is the initial state.

@@ -10,7 +10,7 @@ use Rattle.rg_integers.specs.declared.term.Wide.{Wide}
 use Rattle.rg_fraction.specs.declared.fraction.Fraction.{Fraction}
 use Rattle.rg_fraction.specs.Fractions.{IsValue, IsProduct, numerator_of, denominator_of}
 use Rattle.rg_integers.specs.Range.{InRange}
-use Rattle.rg_refuting.specs.declared.Side.{Side}
+use Rattle.rg_refuting.specs.Row.{Side}
 use Rattle.rg_linear.specs.System.{LinearSystem}
 use Rattle.rg_linear.specs.Branching.{Weight, weights_from, form_at, SplitSide}
 use Rattle.rg_order_of_work.specs.Fold.{Ratio, whole, ratio_of, shown_result, mul}

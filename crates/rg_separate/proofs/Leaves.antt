@@ -9,9 +9,8 @@ use Rattle.rg_theory.specs.declared.Arc.{Arc}
 use Rattle.rg_theory.specs.System.{System, labels}
 use Rattle.rg_theory.specs.declared.Class.{Class}
 use Rattle.rg_theory.specs.declared.Problem.{Problem}
-use Rattle.rg_refuting.specs.Row.{RowStands, row_expression}
+use Rattle.rg_refuting.specs.Row.{RowStands, row_expression, Side}
 use Rattle.rg_refuting.specs.declared.Form.{Form as SplitForm}
-use Rattle.rg_refuting.specs.declared.Side.{Side}
 use Rattle.rg_refuting.specs.Refutes.{LeafRefutes}
 use Rattle.rg_integers.specs.declared.term.Wide.{Wide}
 use Rattle.rg_fraction.specs.declared.fraction.Fraction.{Fraction}
@@ -25,9 +24,9 @@ use Rattle.rg_order_of_work.specs.Spreading.{Share, share_fold, leaf_fold, sprea
 use Rattle.rg_order_of_work.specs.Shown.{SpreadShown, HasLeaf, named_side, named_sides}
 use Rattle.rg_cycles.specs.View.{cycle_of}
 use Rattle.rg_reasons.specs.Trees as reasons
-use Rattle.rg_reasons.specs.Trees.{TreeNode.leaf_node as made_leaf, TreeNode.split_node as made_split}
+use Rattle.rg_splits.specs.Trees.{TreeNode.leaf_node, TreeNode.split_node}
 use Rattle.rg_reasons.specs.Certificates.{IsFormOf, IsNodeOf}
-use Rattle.rg_branch.specs.View.{TreeNode, TreeNode.leaf_node, TreeNode.split_node}
+use Rattle.rg_branch.specs.View.{TreeNode}
 use Rattle.rg_branch.specs.Asked.{IsSideOf}
 use Rattle.rg_rows.specs.declared.named_system.NamedSystem.{NamedSystem}
 use Rattle.rg_rows.specs.declared.named_form.NamedForm.{NamedForm}
@@ -111,7 +110,7 @@ shares_named c named system sides weights result fold case shows = subst (λ (ss
 
 pub leaf_asked : (c : CaseSetting) (named : NamedSystem) (sides : List SplitSide) (above : List Side) (weights : List Weight)
     (shares : List (RowName × Fraction)) → IsCase c → IsNamedSystem c named
-    → VisitStands named.system (forms_in named) (record { sides = sides; node = leaf_node weights })
+    → VisitStands named.system (forms_in named) (record { above = sides; node = leaf_node weights })
     → above ≡ named_sides c.setting.lts.now c.setting.class c.problem sides → length shares ≡ length weights
     → SharesFold named sides weights (Ok (map share_of shares))
     → RefutesCase c.setting.lts.now c.setting.tree.now c.setting.basis.now c.setting.class c.problem c.number shares above
@@ -172,7 +171,7 @@ pub leaf_made : (c : CaseSetting) (named : NamedSystem) (sides : List SplitSide)
     → IsNamedSystem c named → above ≡ named_sides c.setting.lts.now c.setting.class c.problem sides → SharesFold named sides weights (Ok shares)
     → IsLeafWith (λ rows. leaf_fold c.setting.lts.now c.setting.tree.now.arcs (cycle_of c.setting.basis.now) (row_expression c.setting.lts.now c.setting.class c.problem c.number above) shares (Ok rows)) n
     → IsLeafWith (LeafRefutes (RowStands c.setting.lts.now c.setting.class c.problem c.number above) (row_expression c.setting.lts.now c.setting.class c.problem c.number above)) n → IsMadeOf c named sides (leaf_node weights) n
-leaf_made c named sides above weights shares (made_leaf rows) system e fold leaf is = record {
+leaf_made c named sides above weights shares (leaf_node rows) system e fold leaf is = record {
   refutes = subst (λ ss. LeafRefutes (RowStands c.setting.lts.now c.setting.class c.problem c.number ss) (row_expression c.setting.lts.now c.setting.class c.problem c.number ss) rows) e is;
   spreads = λ case shows. (
     shares,
@@ -181,7 +180,7 @@ leaf_made c named sides above weights shares (made_leaf rows) system e fold leaf
         (row_expression c.setting.lts.now c.setting.class c.problem c.number ss) shares (Ok rows)) e leaf,
   );
 }
-leaf_made c named sides above weights shares (made_split form at) system e fold leaf is = absurd is
+leaf_made c named sides above weights shares (split_node form at) system e fold leaf is = absurd is
 
 -- ---- the split that is made
 
@@ -196,7 +195,7 @@ lows_of lts arcs basis class (s ∷ splits) forms (x, (scaled, made, is), (more,
     low (split_form.Effect t) = omega (arith, ints)
     low split_form.Start = omega (arith, ints)
 
-pub split_fits : (c : CaseSetting) (named : NamedSystem) (f : ℕ) (u : ℤ) (d : NamedForm) → IsNamedSystem c named → f < length (forms_in named) → (form_at (forms_in named) f).low ≤ℤ u → FitsSigned w64 u → IsNodeOf c.setting.lts.now (made_split (get_or named.forms.items f d).form u)
+pub split_fits : (c : CaseSetting) (named : NamedSystem) (f : ℕ) (u : ℤ) (d : NamedForm) → IsNamedSystem c named → f < length (forms_in named) → (form_at (forms_in named) f).low ≤ℤ u → FitsSigned w64 u → IsNodeOf c.setting.lts.now (split_node (get_or named.forms.items f d).form u)
 split_fits c named f u d system lt le fits = (
   subst (IsFormOf c.setting.lts.now) (ap (λ fs. get_or fs f (split_form.Tokens 0)) (sym system.by_name) ∙ get_or-map split_of named.forms.items f d (split_form.Tokens 0) within)
       (forms_of_system c.setting.lts.now c.setting.class c.problem f (split_form.Tokens 0)

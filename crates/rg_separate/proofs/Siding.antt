@@ -4,32 +4,27 @@ use Rattle.std.specs.Prelude.{ℤ}
 use Rattle.std.proofs.lemmas.List.{get_or-map, length-map, map-append, take_more}
 use Rattle.std.proofs.lemmas.List.Elements.{All-nil, All-cons, All-weaker}
 use Rattle.rg_refuting.specs.declared.Form.{Form as SplitForm}
-use Rattle.rg_refuting.specs.declared.Side.{Side}
+use Rattle.rg_refuting.specs.Row.{Side}
 use Rattle.rg_linear.specs.Branching.{Form, SplitSide, SidesWithin, Weight}
 use Rattle.rg_branch.specs.Asked.{IsSideOf, AreSidesOf}
-use Rattle.rg_branch.specs.View.{side_of, sides_of, weight_of}
+use Rattle.rg_branch.specs.View.{weight_of}
 use Rattle.rg_rows.specs.declared.named_form.NamedForm.{NamedForm}
 use Rattle.rg_rows.specs.Forms.{linear_form, split_of}
 use Rattle.rg_separate.specs.Casing.{sides_among}
 use Rattle.rg_refuting.specs.declared.Form.TheVariants as split_form
 
-pub side_within : (n : ℕ) (above : List (ℕ × ℤ × Bool)) (i : ℕ) (d : ℕ × ℤ × Bool) → All (λ s. s.form < n) (sides_of above) → i < length above → (get_or above i d).0 < n
-side_within n above i d all lt = subst (λ (s : SplitSide). s.form < n) (get_or-map side_of above i d (side_of d) lt) (all i (side_of d) (let e = length-map above side_of in omega arith))
-
 -- one side by name
 abbrev named : List SplitForm → SplitSide → Side
 named forms side = record { form = get_or forms side.form (split_form.Tokens 0); at = side.at; high = side.high }
 
-pub sides_more : (forms : List NamedForm) (above : List (ℕ × ℤ × Bool)) (i : ℕ) (d : ℕ × ℤ × Bool) (f : NamedForm) (sides : List Side) → i < length above
-    → (get_or above i d).0 < length forms → sides ≡ sides_among (map split_of forms) (sides_of (take i above))
-    → (sides ++ record { form = (get_or forms (get_or above i d).0 f).form; at = (get_or above i d).1; high = (get_or above i d).2 } ∷ []) ≡
-    sides_among (map split_of forms) (sides_of (take (i + 1) above))
+pub sides_more : (forms : List NamedForm) (above : List SplitSide) (i : ℕ) (d : SplitSide) (f : NamedForm) (sides : List Side) → i < length above
+    → (get_or above i d).form < length forms → sides ≡ sides_among (map split_of forms) (take i above)
+    → (sides ++ record { form = (get_or forms (get_or above i d).form f).form; at = (get_or above i d).at; high = (get_or above i d).high } ∷ []) ≡
+    sides_among (map split_of forms) (take (i + 1) above)
 sides_more forms above i d f sides lt within so_far =
-    ap (λ xs. xs ++ record { form = split_of (get_or forms (get_or above i d).0 f); at = (get_or above i d).1; high = (get_or above i d).2 } ∷ []) so_far
-    ∙ ap (λ g. sides_among (map split_of forms) (sides_of (take i above)) ++ record { form = g; at = (get_or above i d).1; high = (get_or above i d).2 } ∷ []) (sym (get_or-map split_of forms (get_or above i d).0 f (split_form.Tokens 0) within))
-    ∙ sym (ap (λ xs. sides_among (map split_of forms) (sides_of xs)) (take_more above i d lt)
-    ∙ ap (sides_among (map split_of forms)) (map-append side_of (take i above) (get_or above i d ∷ []))
-    ∙ map-append (named (map split_of forms)) (sides_of (take i above)) (side_of (get_or above i d) ∷ []))
+    ap (λ xs. xs ++ record { form = split_of (get_or forms (get_or above i d).form f); at = (get_or above i d).at; high = (get_or above i d).high } ∷ []) so_far
+    ∙ ap (λ g. sides_among (map split_of forms) (take i above) ++ record { form = g; at = (get_or above i d).at; high = (get_or above i d).high } ∷ []) (sym (get_or-map split_of forms (get_or above i d).form f (split_form.Tokens 0) within))
+    ∙ sym (ap (sides_among (map split_of forms)) (take_more above i d lt) ∙ map-append (named (map split_of forms)) (take i above) (get_or above i d ∷ []))
 
 -- the splits of a branching are on its forms
 pub sides_on_forms : (forms : List Form) (above sides : List SplitSide) → SidesWithin forms above sides → All (λ s. s.form < length forms) sides

@@ -7,7 +7,10 @@ use Rattle.std.proofs.lemmas.List.{map-append, length-map, reverse-append}
 use Rattle.std.proofs.lemmas.List.Elements.{All-nil, All-cons, All-append, All-push, All-head, All-tail, All-weaker}
 use Rattle.rg_linear.specs.System.{LinearSystem}
 use Rattle.rg_linear.specs.Descent.{DescentFromStart, Outcome.point, multiplier_of}
-use Rattle.rg_linear.specs.Branching.{Form, form_at, SplitSide, Weight, SplitTree, SplitTree.leaf, SplitTree.split, low_side, high_side, side_row, node_system}
+use Rattle.rg_splits.specs.Trees.{Tree.leaf, Tree.split, low_side, high_side, TreeNode.leaf_node, TreeNode.split_node, preorder, placed_nodes}
+use Rattle.rg_splits.specs.Turning.{turned}
+use Rattle.rg_splits.proofs.Turning.{turned_low, turned_high}
+use Rattle.rg_linear.specs.Branching.{Form, form_at, SplitSide, Weight, SplitTree, side_row, node_system}
 use Rattle.rg_linear.specs.Branching.{FirstFraction, BranchOutcome, BranchOutcome.found, BranchOutcome.tree, BranchOutcome.stopped, IsEnd, BranchFrom, BranchFrom.passes}
 use Rattle.rg_linear.specs.Branching.{BranchFrom.refutes, BranchFrom.whole, BranchFrom.low_ends, BranchFrom.high_ends, BranchFrom.both_refuted, Branching, AreBounded}
 use Rattle.rg_linear.specs.Branching.{low_end, high_end, low_at, high_at}
@@ -15,65 +18,48 @@ use Rattle.rg_linear.specs.Room.{room}
 use Rattle.rg_linear.proofs.Refuting.{refuted_is_sound}
 use Rattle.rg_linear.proofs.Endings.{Within, within_start, within_low, within_high, split_within, gap-low, gap-high}
 use Rattle.rg_order_of_work.specs.Shown.{HasLeaf}
-use Rattle.rg_branch.specs.View.{TreeNode.leaf_node, TreeNode.split_node, preorder}
 use Rattle.rg_branch.specs.Asked.{IsSideOf, AreSidesOf}
-use Rattle.rg_branch.specs.Turning.{turned_back, turned}
-use Rattle.rg_separate.specs.Casing.{Visit, visits, next_sides, VisitStands}
-
--- ---- turning
-
-reverse_twice : {X : Type 0} (xs : List X) → reverse (reverse xs) ≡ xs
-reverse_twice [] = refl
-reverse_twice (x ∷ xs) = ap reverse (reverse-append (x ∷ []) xs) ∙ reverse-append (reverse xs) (x ∷ []) ∙ ap (λ ys. x ∷ ys) (reverse_twice xs)
-
-turned_low : (above : List SplitSide) (f : ℕ) (u : ℤ) → turned (above ++ low_side f u ∷ []) ≡ above ++ high_side f u ∷ []
-turned_low above f u =
-    ap (λ xs. reverse (turned_back xs)) (reverse-append above (low_side f u ∷ []))
-    ∙ reverse-append (high_side f u ∷ []) (reverse above)
-    ∙ ap (λ xs. xs ++ high_side f u ∷ []) (reverse_twice above)
-
-turned_high : (above : List SplitSide) (f : ℕ) (u : ℤ) → turned (above ++ high_side f u ∷ []) ≡ turned above
-turned_high above f u = ap (λ xs. reverse (turned_back xs)) (reverse-append above (high_side f u ∷ []))
+use Rattle.rg_separate.specs.Casing.{Visit, next_sides, VisitStands}
 
 -- ---- each node stands below the sides to which the way has gone on
 
 abbrev pub Follows : List SplitSide → List Visit → List SplitSide → Type 0
 Follows start [] end = start ≡ end
-Follows start (v ∷ more) end = (v.sides ≡ start) × Follows (next_sides v.sides v.node) more end
+Follows start (v ∷ more) end = (v.above ≡ start) × Follows (next_sides v.above v.node) more end
 
 follows_append : (start middle end : List SplitSide) (xs ys : List Visit) → Follows start xs middle → Follows middle ys end → Follows start (xs ++ ys) end
 follows_append start middle end [] ys e h = subst (λ s. Follows s ys end) (sym e) h
-follows_append start middle end (v ∷ xs) ys (e, more) h = (e, follows_append (next_sides v.sides v.node) middle end xs ys more h)
+follows_append start middle end (v ∷ xs) ys (e, more) h = (e, follows_append (next_sides v.above v.node) middle end xs ys more h)
 
-pub tree_follows : (above : List SplitSide) (t : SplitTree) → Follows above (visits above t) (turned above)
+pub tree_follows : (above : List SplitSide) (t : SplitTree) → Follows above (placed_nodes above t) (turned above)
 tree_follows above (leaf weights) = (refl, refl)
 tree_follows above (split f u low high) = (
   refl,
-  follows_append (above ++ low_side f u ∷ []) (above ++ high_side f u ∷ []) (turned above) (visits (above ++ low_side f u ∷ []) low) (visits (above ++ high_side f u ∷ []) high)
-      (subst (Follows (above ++ low_side f u ∷ []) (visits (above ++ low_side f u ∷ []) low)) (turned_low above f u) (tree_follows (above ++ low_side f u ∷ []) low))
-      (subst (Follows (above ++ high_side f u ∷ []) (visits (above ++ high_side f u ∷ []) high)) (turned_high above f u) (tree_follows (above ++ high_side f u ∷ []) high)),
+  follows_append (above ++ low_side f u ∷ []) (above ++ high_side f u ∷ []) (turned above) (placed_nodes (above ++ low_side f u ∷ []) low) (placed_nodes (above ++ high_side f u ∷ []) high)
+      (subst (Follows (above ++ low_side f u ∷ []) (placed_nodes (above ++ low_side f u ∷ []) low)) (turned_low above f u) (tree_follows (above ++ low_side f u ∷ []) low))
+      (subst (Follows (above ++ high_side f u ∷ []) (placed_nodes (above ++ high_side f u ∷ []) high)) (turned_high above f u) (tree_follows (above ++ high_side f u ∷ []) high)),
 )
 
-pub nodes_visited : (above : List SplitSide) (t : SplitTree) → map (λ v. v.node) (visits above t) ≡ preorder t
+pub nodes_visited : (above : List SplitSide) (t : SplitTree) → map (λ v. v.node) (placed_nodes above t) ≡ preorder t
 nodes_visited above (leaf weights) = refl
 nodes_visited above (split f u low high) =
     ap (λ nodes. split_node f u ∷ nodes)
-    (map-append (λ (v : Visit). v.node) (visits (above ++ low_side f u ∷ []) low) (visits (above ++ high_side f u ∷ []) high)
+    (map-append (λ (v : Visit). v.node) (placed_nodes (above ++ low_side f u ∷ []) low) (placed_nodes (above ++ high_side f u ∷ []) high)
     ∙ ap₂ (λ xs ys. xs ++ ys) (nodes_visited (above ++ low_side f u ∷ []) low) (nodes_visited (above ++ high_side f u ∷ []) high))
 
 -- ---- a leaf that is visited is a leaf of the tree
 
 abbrev pub IsLeafOf : List SplitSide → SplitTree → Visit → Type 0
-IsLeafOf above t v = (weights : List Weight) → v.node ≡ leaf_node weights → HasLeaf above t v.sides weights
+IsLeafOf above t v = (weights : List Weight) → v.node ≡ leaf_node weights → HasLeaf above t v.above weights
 
-pub leaves_visited : (above : List SplitSide) (t : SplitTree) → All (IsLeafOf above t) (visits above t)
-leaves_visited above (leaf weights) = All-cons (IsLeafOf above (leaf weights)) (record { sides = above; node = leaf_node weights }) [] (λ out e. (refl, (let same : out ≡ weights = cc in same))) (All-nil (IsLeafOf above (leaf weights)))
+pub leaves_visited : (above : List SplitSide) (t : SplitTree) → All (IsLeafOf above t) (placed_nodes above t)
+leaves_visited above (leaf weights) = All-cons (IsLeafOf above (leaf weights)) (record { above = above; node = leaf_node weights }) [] (λ out e. (refl, (let same : out ≡ weights = cc in same))) (All-nil (IsLeafOf above (leaf weights)))
 leaves_visited above (split f u low high) =
     let t = split f u low high in
-    All-cons (IsLeafOf above t) (record { sides = above; node = split_node f u }) (visits (above ++ low_side f u ∷ []) low ++ visits (above ++ high_side f u ∷ []) high) (λ out e. absurd cc)
-    (All-append (IsLeafOf above t) (visits (above ++ low_side f u ∷ []) low) (visits (above ++ high_side f u ∷ []) high)
-    (All-weaker (IsLeafOf (above ++ low_side f u ∷ []) low) (IsLeafOf above t) (λ v is out e. inl (is out e)) (visits (above ++ low_side f u ∷ []) low) (leaves_visited (above ++ low_side f u ∷ []) low))
-    (All-weaker (IsLeafOf (above ++ high_side f u ∷ []) high) (IsLeafOf above t) (λ v is out e. inr (is out e)) (visits (above ++ high_side f u ∷ []) high) (leaves_visited (above ++ high_side f u ∷ []) high)))
+    All-cons (IsLeafOf above t) (record { above = above; node = split_node f u }) (placed_nodes (above ++ low_side f u ∷ []) low ++ placed_nodes (above ++ high_side f u ∷ []) high) (λ out e. absurd cc)
+    (All-append (IsLeafOf above t) (placed_nodes (above ++ low_side f u ∷ []) low) (placed_nodes (above ++ high_side f u ∷ []) high)
+    (All-weaker (IsLeafOf (above ++ low_side f u ∷ []) low) (IsLeafOf above t) (λ v is out e. inl (is out e)) (placed_nodes (above ++ low_side f u ∷ []) low) (leaves_visited (above ++ low_side f u ∷ []) low))
+    (All-weaker (IsLeafOf (above ++ high_side f u ∷ []) high) (IsLeafOf above t) (λ v is out e. inr (is out e)) (placed_nodes (above ++ high_side f u ∷ []) high) (leaves_visited (above ++ high_side f u ∷ []) high)))
 
 -- ---- the splits on a form stay between its bounds
 
@@ -140,7 +126,7 @@ module _ (system : LinearSystem) (forms : List Form) (bounded : AreBounded syste
 
   abbrev TreeStands : List SplitSide → BranchOutcome → Type 0
   TreeStands above (found members sides) = Unit {0}
-  TreeStands above (tree t) = All (VisitStands system forms) (visits above t)
+  TreeStands above (tree t) = All (VisitStands system forms) (placed_nodes above t)
   TreeStands above (stopped sides w) = Unit {0}
 
   no_tree : (above : List SplitSide) (o : BranchOutcome) → IsEnd o → TreeStands above o
@@ -164,9 +150,9 @@ module _ (system : LinearSystem) (forms : List Form) (bounded : AreBounded syste
   tree_stands above o within asked (both_refuted members f u t t' d first low high) =
       let a = tree_stands (above ++ low_side f u ∷ []) (tree t) (within_low system forms above within f u) (low_asked above within asked members f u d first) low in
       let b = tree_stands (above ++ high_side f u ∷ []) (tree t') (within_high system forms above within f u) (high_asked above within asked members f u d first) high in
-      All-cons (VisitStands system forms) (record { sides = above; node = split_node f u }) (visits (above ++ low_side f u ∷ []) t ++ visits (above ++ high_side f u ∷ []) t')
+      All-cons (VisitStands system forms) (record { above = above; node = split_node f u }) (placed_nodes (above ++ low_side f u ∷ []) t ++ placed_nodes (above ++ high_side f u ∷ []) t')
       (record { sides = asked; few = few_above above asked; node = (first.within, low_bound above within asked members f u d first) })
-      (All-append (VisitStands system forms) (visits (above ++ low_side f u ∷ []) t) (visits (above ++ high_side f u ∷ []) t') a b)
+      (All-append (VisitStands system forms) (placed_nodes (above ++ low_side f u ∷ []) t) (placed_nodes (above ++ high_side f u ∷ []) t') a b)
 
-  pub visits_stand : (t : SplitTree) → Branching system forms (tree t) → All (VisitStands system forms) (visits [] t)
+  pub visits_stand : (t : SplitTree) → Branching system forms (tree t) → All (VisitStands system forms) (placed_nodes [] t)
   visits_stand t b = tree_stands [] (tree t) (within_start system forms bounded) (record { each = All-nil (IsSideOf forms); few = omega arith }) b

@@ -4,25 +4,25 @@ use Rattle.std.specs.Prelude.{ℤ, slice_index_or}
 use Rattle.std.proofs.lemmas.List.{map-append, length-map, get_or_default}
 use Rattle.std.proofs.Math.Seq.{get_or-append_seam}
 use Rattle.std.proofs.lemmas.List.Elements.{All-nil, All-push, All-head, All-tail}
-use Rattle.rg_refuting.specs.Row.{FormStands}
+use Rattle.rg_refuting.specs.Row.{FormStands, Side}
 use Rattle.rg_refuting.specs.declared.Form.{Form}
-use Rattle.rg_refuting.specs.declared.Side.{Side}
 use Rattle.rg_theory.specs.System.{System}
 use Rattle.rg_theory.specs.declared.Class.{Class}
 use Rattle.rg_theory.specs.declared.Problem.{Problem}
-use Rattle.rg_refuting.specs.Refutes.{Tree, Tree.leaf as leaf_of, Tree.split as split_of, TreeRefutes}
+use Rattle.rg_splits.specs.Trees.{Tree.leaf, Tree.split, low_side, high_side, TreeNode.leaf_node, TreeNode.split_node, preorder, placed_nodes}
+use Rattle.rg_refuting.specs.Refutes.{Tree, TreeRefutes}
 use Rattle.rg_integers.specs.declared.term.Wide.{Wide}
-use Rattle.rg_linear.specs.Branching.{SplitSide, Weight, SplitTree, SplitTree.leaf, SplitTree.split, low_side, high_side, BranchOutcome.tree, Branching, AreBounded}
+use Rattle.rg_linear.specs.Branching.{SplitSide, Weight, SplitTree, BranchOutcome.tree, Branching, AreBounded}
 use Rattle.rg_linear.specs.Room.{room}
 use Rattle.rg_order_of_work.specs.Rewriting.{split_forms, CaseSystem, rows_of}
 use Rattle.rg_order_of_work.proofs.Forms.{IsSplitOf, split_is, start_split}
 use Rattle.rg_order_of_work.specs.Shown.{HasLeaf, named_side, named_sides}
 use Rattle.rg_reasons.specs.declared.certificate.Case.{Case}
 use Rattle.rg_reasons.specs.Trees as reasons
-use Rattle.rg_reasons.specs.Trees.{TreeNode.leaf_node as made_leaf, TreeNode.split_node as made_split, nodes_of}
+use Rattle.rg_reasons.specs.Trees.{nodes_of}
 use Rattle.rg_reasons.specs.Certificates.{IsNodeOf, case_tree}
 use Rattle.rg_reasons.proofs.Trees.{tree_is}
-use Rattle.rg_branch.specs.View.{TreeNode, TreeNode.leaf_node, TreeNode.split_node, preorder}
+use Rattle.rg_branch.specs.View.{TreeNode}
 use Rattle.rg_branch.specs.Answer.{IsSplitTree}
 use Rattle.rg_cycles.specs.View.{cycle_of}
 use Rattle.rg_outcome.specs.Casing.{spread_tree, CaseResult.passes, CaseComes, CaseComes.is_refuted, CaseComes.leaf_passes}
@@ -31,7 +31,7 @@ use Rattle.rg_rows.specs.Shown.{ShowsCase}
 use Rattle.rg_separate.specs.declared.case.CaseAnswer.TheVariants as answer
 use Rattle.rg_separate.specs.declared.setting.CaseSetting.{CaseSetting}
 use Rattle.rg_reasons.specs.declared.wide_at.Stage.TheVariants.{Spread}
-use Rattle.rg_separate.specs.Casing.{IsNamedSystem, forms_in, Visit, visits, next_sides, VisitStands, IsMadeOf, LeafPasses}
+use Rattle.rg_separate.specs.Casing.{IsNamedSystem, forms_in, Visit, next_sides, VisitStands, IsMadeOf, LeafPasses}
 use Rattle.rg_separate.specs.Passing.{passed_at}
 use Rattle.rg_separate.specs.Deciding.{RefutesCase, CaseComesTo}
 use Rattle.rg_separate.proofs.Visits.{Follows, tree_follows, nodes_visited, IsLeafOf, leaves_visited, visits_stand}
@@ -62,9 +62,9 @@ module _ (c : CaseSetting) (named : NamedSystem) where
   AreMadeOf [] [] = Unit {0}
   AreMadeOf [] (n ∷ nodes) = ⊥
   AreMadeOf (v ∷ more) [] = ⊥
-  AreMadeOf (v ∷ more) (n ∷ nodes) = IsMadeOf c named v.sides v.node n × AreMadeOf more nodes
+  AreMadeOf (v ∷ more) (n ∷ nodes) = IsMadeOf c named v.above v.node n × AreMadeOf more nodes
 
-  made_more : (vs : List Visit) (nodes : List reasons.TreeNode) (v : Visit) (n : reasons.TreeNode) → AreMadeOf vs nodes → IsMadeOf c named v.sides v.node n → AreMadeOf (vs ++ v ∷ []) (nodes ++ n ∷ [])
+  made_more : (vs : List Visit) (nodes : List reasons.TreeNode) (v : Visit) (n : reasons.TreeNode) → AreMadeOf vs nodes → IsMadeOf c named v.above v.node n → AreMadeOf (vs ++ v ∷ []) (nodes ++ n ∷ [])
   made_more [] [] v n made is = (is, tt)
   made_more [] (m ∷ nodes) v n made is = absurd made
   made_more (w ∷ vs) [] v n made is = absurd made
@@ -81,30 +81,30 @@ module _ (c : CaseSetting) (named : NamedSystem) where
   -- the nodes of a tree are those of a tree that refutes, which has the leaves of all the multipliers
   pub record IsTreeMade (above : List SplitSide) (t : SplitTree) (nodes : List reasons.TreeNode) : Type 0 where
     pub made : Tree
-    pub nodes_are : nodes ≡ reasons.preorder made
+    pub nodes_are : nodes ≡ preorder made
     pub refutes : TreeRefutes c.setting.lts.now c.setting.class c.problem c.number (named_sides c.setting.lts.now c.setting.class c.problem above) made
     pub spreads : (case : CaseSystem) → ShowsCase named case → spread_tree c.setting.lts.now c.setting.tree.now.arcs (cycle_of c.setting.basis.now) c.setting.class c.problem c.number case above t (Ok made)
 
-  pub tree_made : (above : List SplitSide) (t : SplitTree) (nodes : List reasons.TreeNode) → AreMadeOf (visits above t) nodes → IsTreeMade above t nodes
+  pub tree_made : (above : List SplitSide) (t : SplitTree) (nodes : List reasons.TreeNode) → AreMadeOf (placed_nodes above t) nodes → IsTreeMade above t nodes
   tree_made above (leaf weights) [] made = absurd made
-  tree_made above (leaf weights) (made_leaf rows ∷ []) (here, made) = record { made = leaf_of rows; nodes_are = refl; refutes = here.refutes; spreads = λ case shows. (rows, here.spreads case shows, refl) }
-  tree_made above (leaf weights) (made_split form at ∷ []) (here, made) = absurd here
+  tree_made above (leaf weights) (leaf_node rows ∷ []) (here, made) = record { made = leaf rows; nodes_are = refl; refutes = here.refutes; spreads = λ case shows. (rows, here.spreads case shows, refl) }
+  tree_made above (leaf weights) (split_node form at ∷ []) (here, made) = absurd here
   tree_made above (leaf weights) (n ∷ m ∷ nodes) (here, made) = absurd made
   tree_made above (split f u low high) [] made = absurd made
-  tree_made above (split f u low high) (made_leaf rows ∷ nodes) (here, made) = absurd here
-  tree_made above (split f u low high) (made_split form at ∷ nodes) ((by_name, number_is), made) =
-      let (front, back, e, a, b) = made_apart (visits (above ++ low_side f u ∷ []) low) (visits (above ++ high_side f u ∷ []) high) nodes made in
+  tree_made above (split f u low high) (leaf_node rows ∷ nodes) (here, made) = absurd here
+  tree_made above (split f u low high) (split_node form at ∷ nodes) ((by_name, number_is), made) =
+      let (front, back, e, a, b) = made_apart (placed_nodes (above ++ low_side f u ∷ []) low) (placed_nodes (above ++ high_side f u ∷ []) high) nodes made in
       let one = tree_made (above ++ low_side f u ∷ []) low front a in
       let two = tree_made (above ++ high_side f u ∷ []) high back b in
       record {
-        made = split_of form at one.made two.made;
-        nodes_are = ap (λ ns. made_split form at ∷ ns) (e ∙ ap₂ (λ xs ys. xs ++ ys) one.nodes_are two.nodes_are);
+        made = split form at one.made two.made;
+        nodes_are = ap (λ ns. split_node form at ∷ ns) (e ∙ ap₂ (λ xs ys. xs ++ ys) one.nodes_are two.nodes_are);
         refutes = (
           subst (FormStands c.setting.class) (sym by_name) (form_stands c.setting.lts.now c.setting.class c.problem f),
           subst (λ sides. TreeRefutes c.setting.lts.now c.setting.class c.problem c.number sides one.made) (below (low_side f u) false by_name number_is refl refl refl) one.refutes,
           subst (λ sides. TreeRefutes c.setting.lts.now c.setting.class c.problem c.number sides two.made) (below (high_side f u) true by_name number_is refl refl refl) two.refutes,
         );
-        spreads = λ case shows. (one.made, two.made, one.spreads case shows, two.spreads case shows, ap₂ (λ g z. split_of g z one.made two.made) by_name number_is);
+        spreads = λ case shows. (one.made, two.made, one.spreads case shows, two.spreads case shows, ap₂ (λ g z. split g z one.made two.made) by_name number_is);
       }
     where
       below : (side : SplitSide) (is_high : Bool) → form ≡ slice_index_or (split_forms c.setting.lts.now c.setting.class c.problem) f (split_form.Tokens 0) → at ≡ u
@@ -132,24 +132,24 @@ module _ (c : CaseSetting) (named : NamedSystem) where
       (list_apart xs ys front v rest (let t : xs ++ ys ≡ front ++ v ∷ rest = cc in t))
 
   -- the leaves before it are made, so it is the first whose step is shown
-  pub tree_fails : (above : List SplitSide) (t : SplitTree) (front : List Visit) (nodes : List reasons.TreeNode) (v : Visit) (rest : List Visit) (w : Wide) → visits above t ≡ front ++ v ∷ rest → AreMadeOf front nodes → LeafPasses c named v.sides v.node w
-      → (case : CaseSystem) → ShowsCase named case → spread_tree c.setting.lts.now c.setting.tree.now.arcs (cycle_of c.setting.basis.now) c.setting.class c.problem c.number case above t (Err (record { above = v.sides; wide = w }))
+  pub tree_fails : (above : List SplitSide) (t : SplitTree) (front : List Visit) (nodes : List reasons.TreeNode) (v : Visit) (rest : List Visit) (w : Wide) → placed_nodes above t ≡ front ++ v ∷ rest → AreMadeOf front nodes → LeafPasses c named v.above v.node w
+      → (case : CaseSystem) → ShowsCase named case → spread_tree c.setting.lts.now c.setting.tree.now.arcs (cycle_of c.setting.basis.now) c.setting.class c.problem c.number case above t (Err (record { above = v.above; wide = w }))
   tree_fails above (leaf weights) [] nodes v rest w e made fails case shows =
-      let is : record { sides = above; node = leaf_node weights } ≡ v = cc in
-      subst (λ (x : Visit). spread_tree c.setting.lts.now c.setting.tree.now.arcs (cycle_of c.setting.basis.now) c.setting.class c.problem c.number case above (leaf weights) (Err (record { above = x.sides; wide = w }))) is
-      (refl, subst (λ (x : Visit). LeafPasses c named x.sides x.node w) (sym is) fails case shows)
+      let is : record { above = above; node = leaf_node weights } ≡ v = cc in
+      subst (λ (x : Visit). spread_tree c.setting.lts.now c.setting.tree.now.arcs (cycle_of c.setting.basis.now) c.setting.class c.problem c.number case above (leaf weights) (Err (record { above = x.above; wide = w }))) is
+      (refl, subst (λ (x : Visit). LeafPasses c named x.above x.node w) (sym is) fails case shows)
   tree_fails above (leaf weights) (d ∷ front) nodes v rest w e made fails case shows = absurd (let l = ap length e ∙ ap suc (length-append front (v ∷ rest)) in omega arith)
   tree_fails above (split f u low high) [] nodes v rest w e made fails case shows =
-      let is : record { sides = above; node = split_node f u } ≡ v = cc in
-      absurd (subst (λ (x : Visit). LeafPasses c named x.sides x.node w) (sym is) fails)
+      let is : record { above = above; node = split_node f u } ≡ v = cc in
+      absurd (subst (λ (x : Visit). LeafPasses c named x.above x.node w) (sym is) fails)
   tree_fails above (split f u low high) (d ∷ front) [] v rest w e made fails case shows = absurd made
   tree_fails above (split f u low high) (d ∷ front) (n ∷ nodes) v rest w e (here, made) fails case shows =
       ⊎_elim
       (λ (more, is). inl (tree_fails (above ++ low_side f u ∷ []) low front nodes v more w is made fails case shows))
-      (λ (further, is, left). (let (before, behind, same, a, b) = made_apart (visits (above ++ low_side f u ∷ []) low) further nodes (subst (λ vs. AreMadeOf vs nodes) is made) in
+      (λ (further, is, left). (let (before, behind, same, a, b) = made_apart (placed_nodes (above ++ low_side f u ∷ []) low) further nodes (subst (λ vs. AreMadeOf vs nodes) is made) in
       let one = tree_made (above ++ low_side f u ∷ []) low before a in
       inr (one.made, one.spreads case shows, tree_fails (above ++ high_side f u ∷ []) high further behind v rest w left b fails case shows)))
-      (list_apart (visits (above ++ low_side f u ∷ []) low) (visits (above ++ high_side f u ∷ []) high) front v rest (let t : visits (above ++ low_side f u ∷ []) low ++ visits (above ++ high_side f u ∷ []) high ≡ front ++ v ∷ rest = cc in t))
+      (list_apart (placed_nodes (above ++ low_side f u ∷ []) low) (placed_nodes (above ++ high_side f u ∷ []) high) front v rest (let t : placed_nodes (above ++ low_side f u ∷ []) low ++ placed_nodes (above ++ high_side f u ∷ []) high ≡ front ++ v ∷ rest = cc in t))
 
 -- ---- the loop
 
@@ -159,7 +159,7 @@ pub record IsWalk (c : CaseSetting) (named : NamedSystem) (nodes : List TreeNode
   pub outcome : Branching named.system (forms_in named) (tree whole)
   pub done : List Visit
   pub left : List Visit
-  pub visits_are : visits [] whole ≡ done ++ left
+  pub visits_are : placed_nodes [] whole ≡ done ++ left
   pub nodes_are : nodes ≡ map (λ v. v.node) done ++ map (λ v. v.node) left
   pub count : length done ≡ i
   pub follows : Follows above left []
@@ -172,11 +172,11 @@ module _ (c : CaseSetting) (named : NamedSystem) (nodes : List TreeNode) where
     whole = t.whole;
     outcome = t.outcome;
     done = [];
-    left = visits [] t.whole;
+    left = placed_nodes [] t.whole;
     visits_are = refl;
     nodes_are = t.nodes_are ∙ sym (nodes_visited [] t.whole);
     count = refl;
-    follows = subst (λ s. Follows s (visits [] t.whole) []) (sym none) (tree_follows [] t.whole);
+    follows = subst (λ s. Follows s (placed_nodes [] t.whole) []) (sym none) (tree_follows [] t.whole);
     made_are = subst (AreMadeOf c named []) (sym empty) tt;
     in_range = subst (All (IsNodeOf c.setting.lts.now)) (sym empty) (All-nil (IsNodeOf c.setting.lts.now));
   }
@@ -187,7 +187,7 @@ module _ (c : CaseSetting) (named : NamedSystem) (nodes : List TreeNode) where
       v : Visit
       rest : List Visit
       left_is : w.left ≡ v ∷ rest
-      sides : v.sides ≡ above
+      sides : v.above ≡ above
       node : v.node ≡ n
 
     visit_here : (n : TreeNode) → i < length nodes → get_or nodes i n ≡ n → HasVisit n
@@ -207,19 +207,19 @@ module _ (c : CaseSetting) (named : NamedSystem) (nodes : List TreeNode) where
         }
 
     -- what holds of all visits holds of this one
-    held : (P : Visit → Type 0) (n : TreeNode) → All P (visits [] w.whole) → HasVisit n → P (record { sides = above; node = n })
-    held P n all h = subst (λ s. P (record { sides = s; node = n })) h.sides (subst (λ m. P (record { sides = h.v.sides; node = m })) h.node (subst P (at (h.v)) (all (length w.done) h.v within)))
+    held : (P : Visit → Type 0) (n : TreeNode) → All P (placed_nodes [] w.whole) → HasVisit n → P (record { above = above; node = n })
+    held P n all h = subst (λ s. P (record { above = s; node = n })) h.sides (subst (λ m. P (record { above = h.v.above; node = m })) h.node (subst P (at (h.v)) (all (length w.done) h.v within)))
       where
-        is : visits [] w.whole ≡ w.done ++ h.v ∷ h.rest
+        is : placed_nodes [] w.whole ≡ w.done ++ h.v ∷ h.rest
         is = w.visits_are ∙ ap (λ xs. w.done ++ xs) h.left_is
 
-        at : (d : Visit) → get_or (visits [] w.whole) (length w.done) d ≡ h.v
+        at : (d : Visit) → get_or (placed_nodes [] w.whole) (length w.done) d ≡ h.v
         at d = ap (λ vs. get_or vs (length w.done) d) is ∙ get_or-append_seam w.done h.v h.rest d
 
-        within : length w.done < length (visits [] w.whole)
+        within : length w.done < length (placed_nodes [] w.whole)
         within = let e = ap length is ∙ length-append w.done (h.v ∷ h.rest) in omega arith
 
-    pub walk_stands : AreBounded named.system (forms_in named) → named.system.columns + length named.system.rows + room (forms_in named) [] < 4294967296 → (n : TreeNode) → i < length nodes → get_or nodes i n ≡ n → VisitStands named.system (forms_in named) (record { sides = above; node = n })
+    pub walk_stands : AreBounded named.system (forms_in named) → named.system.columns + length named.system.rows + room (forms_in named) [] < 4294967296 → (n : TreeNode) → i < length nodes → get_or nodes i n ≡ n → VisitStands named.system (forms_in named) (record { above = above; node = n })
     walk_stands bounded small n lt here = held (VisitStands named.system (forms_in named)) n (visits_stand named.system (forms_in named) bounded small w.whole w.outcome) (visit_here n lt here)
 
     pub walk_leaf : (weights : List Weight) → i < length nodes → get_or nodes i (leaf_node weights) ≡ leaf_node weights → HasLeaf [] w.whole above weights
@@ -228,7 +228,7 @@ module _ (c : CaseSetting) (named : NamedSystem) (nodes : List TreeNode) where
     pub walk_next : (n : TreeNode) (m : reasons.TreeNode) → i < length nodes → get_or nodes i n ≡ n → IsMadeOf c named above n m → IsNodeOf c.setting.lts.now m → IsWalk c named nodes (i + 1) (next_sides above n) (made ++ m ∷ [])
     walk_next n m lt here is fits =
         let h = visit_here n lt here in
-        let follows : (h.v.sides ≡ above) × Follows (next_sides h.v.sides h.v.node) h.rest [] = subst (λ vs. Follows above vs []) h.left_is w.follows in
+        let follows : (h.v.above ≡ above) × Follows (next_sides h.v.above h.v.node) h.rest [] = subst (λ vs. Follows above vs []) h.left_is w.follows in
         record {
           whole = w.whole;
           outcome = w.outcome;
@@ -265,9 +265,9 @@ walk_refutes c named nodes i above case w past =
     let end = walk_end c named nodes i above (nodes_of case) w past in
     let same = tree_is (nodes_of case) end.made end.nodes_are in
     record {
-      whole = end.nodes_are ∙ ap reasons.preorder (sym same);
+      whole = end.nodes_are ∙ ap preorder (sym same);
       refutes = subst (TreeRefutes c.setting.lts.now c.setting.class c.problem c.number []) (sym same) end.refutes;
-      in_range = subst (All (IsNodeOf c.setting.lts.now)) (end.nodes_are ∙ ap reasons.preorder (sym same)) w.in_range;
+      in_range = subst (All (IsNodeOf c.setting.lts.now)) (end.nodes_are ∙ ap preorder (sym same)) w.in_range;
     }
 
 -- ---- what a case with a tree comes to

@@ -1,26 +1,26 @@
 -- One case: its system, and what its branching leaves.
 use Rattle.std.specs.Prelude.{◌≡◌, ℕ, ◌^◌, ◌<◌, List, [], ◌∷◌, ◌++◌, map, length, slice_index_or, ℤ, ◌≤ℤ◌, Result, Ok, Err}
 use Rattle.rg_theory.specs.Problem.{IsProblem}
-use Rattle.rg_refuting.specs.Row.{RowStands, row_expression, cases_of}
+use Rattle.rg_refuting.specs.Row.{RowStands, row_expression, cases_of, Side}
 use Rattle.rg_refuting.specs.declared.Form.{Form as SplitForm}
-use Rattle.rg_refuting.specs.declared.Side.{Side}
 use Rattle.rg_refuting.specs.Refutes.{NamedRow, LeafRefutes}
 use Rattle.rg_integers.specs.declared.term.Wide.{Wide}
 use Rattle.rg_linear.specs.System.{LinearSystem, AreFarkasMultipliers}
-use Rattle.rg_linear.specs.Branching.{Form, form_at, SplitSide, Weight, SplitTree, SplitTree.leaf, SplitTree.split, low_side, high_side, weights_from, node_system}
+use Rattle.rg_splits.specs.Trees as splits
+use Rattle.rg_splits.specs.Trees.{low_side, TreeNode.leaf_node, TreeNode.split_node}
+use Rattle.rg_splits.specs.Turning.{turned}
+use Rattle.rg_linear.specs.Branching.{Form, form_at, SplitSide, Weight, SplitTree, weights_from, node_system}
 use Rattle.rg_order_of_work.specs.Fold.{each}
 use Rattle.rg_order_of_work.specs.Rewriting.{CaseSystem, split_forms, system_fold}
 use Rattle.rg_order_of_work.specs.Spreading.{Share, share_fold, spread_fold}
 use Rattle.rg_order_of_work.specs.Shown.{IsLive, named_sides}
 use Rattle.rg_cycles.specs.View.{cycle_of}
-use Rattle.rg_branch.specs.View.{TreeNode, TreeNode.leaf_node, TreeNode.split_node}
+use Rattle.rg_branch.specs.View.{TreeNode}
 use Rattle.rg_branch.specs.Asked.{AreSidesOf}
-use Rattle.rg_branch.specs.Turning.{turned}
 use Rattle.rg_rows.specs.Forms.{linear_form, split_of, AreFormsOf}
 use Rattle.rg_rows.specs.Shown.{ShowsCase}
 use Rattle.rg_rows.specs.declared.named_system.NamedSystem.{NamedSystem}
 use Rattle.rg_reasons.specs.Trees as reasons
-use Rattle.rg_reasons.specs.Trees.{TreeNode.leaf_node as made_leaf, TreeNode.split_node as made_split}
 use Rattle.rg_separate.specs.declared.setting.CaseSetting.{CaseSetting}
 use Rattle.rg_separate.specs.Keeping.{IsSetting}
 use Rattle.rg_refuting.specs.declared.Form.TheVariants as split_form
@@ -47,14 +47,8 @@ pub record IsNamedSystem (c : CaseSetting) (named : NamedSystem) : Type 0 where
 -- ---- the way through a tree of splits
 
 -- a node of a tree of splits, below the sides that lead to it
-pub record Visit : Type 0 where
-  pub sides : List SplitSide
-  pub node : TreeNode
-
--- the nodes of a tree in preorder: each split, then its low side, then its high side
-abbrev pub visits : List SplitSide → SplitTree → List Visit
-visits above (leaf weights) = record { sides = above; node = leaf_node weights } ∷ []
-visits above (split f u low high) = record { sides = above; node = split_node f u } ∷ (visits (above ++ low_side f u ∷ []) low ++ visits (above ++ high_side f u ∷ []) high)
+abbrev pub Visit : Type 0
+Visit = splits.PlacedNode (List Weight) ℕ
 
 -- the sides above the node behind this one
 abbrev pub next_sides : List SplitSide → TreeNode → List SplitSide
@@ -75,9 +69,9 @@ NodeStands system forms above (split_node f u) = (f < length forms) × ((form_at
 
 -- and so few splits on the forms stand above it as the bounds allow
 pub record VisitStands (system : LinearSystem) (forms : List Form) (v : Visit) : Type 0 where
-  pub sides : AreSidesOf forms v.sides
-  pub few : length v.sides < 2 ^ 32
-  pub node : NodeStands system forms v.sides v.node
+  pub sides : AreSidesOf forms v.above
+  pub few : length v.above < 2 ^ 32
+  pub node : NodeStands system forms v.above v.node
 
 -- ---- what is made of a node
 
@@ -92,10 +86,10 @@ pub record IsLeafMade (c : CaseSetting) (named : NamedSystem) (above : List Spli
 
 -- the leaf is made; the split has its form's name
 abbrev pub IsMadeOf : CaseSetting → NamedSystem → List SplitSide → TreeNode → reasons.TreeNode → Type 0
-IsMadeOf c named above (leaf_node weights) (made_leaf rows) = IsLeafMade c named above weights rows
-IsMadeOf c named above (leaf_node weights) (made_split form at) = ⊥
-IsMadeOf c named above (split_node f u) (made_leaf rows) = ⊥
-IsMadeOf c named above (split_node f u) (made_split form at) = (form ≡ slice_index_or (split_forms c.setting.lts.now c.setting.class c.problem) f (split_form.Tokens 0)) × (at ≡ u)
+IsMadeOf c named above (leaf_node weights) (leaf_node rows) = IsLeafMade c named above weights rows
+IsMadeOf c named above (leaf_node weights) (split_node form at) = ⊥
+IsMadeOf c named above (split_node f u) (leaf_node rows) = ⊥
+IsMadeOf c named above (split_node f u) (split_node form at) = (form ≡ slice_index_or (split_forms c.setting.lts.now c.setting.class c.problem) f (split_form.Tokens 0)) × (at ≡ u)
 
 -- the shares of the weights below the sides: the fold's result
 abbrev pub SharesFold : NamedSystem → List SplitSide → List Weight → Result (List Share) Wide → Type 0

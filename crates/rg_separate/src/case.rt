@@ -1,7 +1,7 @@
 //! One case of a problem.
 ghost use Rattle.std.specs.Prelude.{◌≡◌, map, IfOk};
 ghost use Rattle.rg_linear.specs.Branching.{form_at};
-ghost use Rattle.rg_branch.specs.View.{forms_of, sides_of};
+ghost use Rattle.rg_branch.specs.View.{forms_of};
 ghost use Rattle.rg_branch.specs.Asked.{CanBranch, AreSidesOf};
 ghost use Rattle.rg_rows.specs.Forms.{linear_form, split_of, AreFormsOf};
 ghost use Rattle.rg_separate.specs.Casing.{IsCase, IsNamedSystem, forms_in, sides_among};

@@ -1,6 +1,5 @@
 //! The place of a case's point.
 ghost use Rattle.std.specs.Prelude.{IfOk};
-ghost use Rattle.rg_branch.specs.View.{sides_of};
 ghost use Rattle.rg_branch.specs.Answer.{IsFoundPoint, IsWholeSolution};
 ghost use Rattle.rg_separate.specs.Casing.{IsCase, IsNamedSystem, forms_in};
 ghost use Rattle.rg_separate.specs.Deciding.{CaseTells, CaseComesTo};
@@ -12,6 +11,7 @@ use rg_fraction::{FoldStop, Fraction};
 use rg_places::make_place;
 use rg_reasons::Stage;
 use rg_rows::NamedSystem;
+use rg_splits::Side;
 use std::alloc::{AllocError, Global};
 
 // The place of the point at which the branching has ended, below these splits.
@@ -20,11 +20,11 @@ pub(crate) fn placed(
     c: CaseSetting<'_>,
     named: &NamedSystem,
     point: &[Fraction],
-    above: &[(u32, i64, bool)],
+    above: &[Side<u32>],
 ) -> Result<CaseAnswer, AllocError>
     requires case { IsCase c }
     requires system { IsNamedSystem c named.now }
-    requires found { IsFoundPoint named.now.system (forms_in named.now) (sides_of above.now) point.now }
+    requires found { IsFoundPoint named.now.system (forms_in named.now) above.now point.now }
     requires solves { IsWholeSolution named.now.system (forms_in named.now) point.now }
     ensures tells { IfOk result (CaseTells c.entry.setting.lts.now c.entry.setting.class c.entry.problem c.entry.number) }
     ensures comes { IfOk result (CaseComesTo c.entry) }

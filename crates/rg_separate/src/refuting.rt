@@ -4,7 +4,8 @@ ghost use Rattle.rg_integers.specs.declared.term.Wide.{Wide};
 ghost use Rattle.rg_fraction.specs.declared.fold_stop.FoldStop.TheVariants as stop;
 ghost use Rattle.rg_reasons.specs.Trees.{node_of as made_node_of};
 ghost use Rattle.rg_reasons.specs.Certificates.{IsNodeOf};
-ghost use Rattle.rg_branch.specs.View.{TreeNode.leaf_node, sides_of, weight_of, node_of};
+ghost use Rattle.rg_splits.specs.Trees.{TreeNode.leaf_node};
+ghost use Rattle.rg_branch.specs.View.{weight_of, node_of};
 ghost use Rattle.rg_branch.specs.Answer.{IsSplitTree};
 ghost use Rattle.rg_separate.specs.Casing.{IsCase, IsNamedSystem, forms_in, VisitStands, next_sides, IsMadeOf, LeafPasses};
 ghost use Rattle.rg_separate.specs.Deciding.{CaseTells, CaseComesTo};
@@ -13,11 +14,12 @@ use crate::case::{CaseAnswer, passed};
 use crate::setting::{CaseSetting, Setting};
 use crate::shares::shares;
 use crate::sides::named_sides;
-use rg_branch::{RawNode, turn};
+use rg_branch::RawNode;
 use rg_farkas::spread;
 use rg_fraction::FoldStop;
 use rg_reasons::{Case, Node, Stage};
 use rg_rows::NamedSystem;
+use rg_splits::{Side, turn};
 use std::alloc::{AllocError, Global};
 
 // The tree with which the branching has ended, node by node in preorder.
@@ -50,11 +52,15 @@ pub(crate) fn refuted(
 }
 
 // Goes to the sides above the next node.
-fn go_on(above: &mut Vec<(u32, i64, bool)>, node: &RawNode) -> Result<(), AllocError>
-    ensures { OnOk result (sides_of above.new.items ≡ next_sides (sides_of above.old.items) (node_of node.now)) }
+fn go_on(above: &mut Vec<Side<u32>>, node: &RawNode) -> Result<(), AllocError>
+    ensures { OnOk result (above.new.items ≡ next_sides above.old.items (node_of node.now)) }
 {
     match node {
-        RawNode::Split(form, at) => above.push((*form, *at, false))?,
+        RawNode::Split(form, at) => above.push(Side {
+            form: *form,
+            at: *at,
+            high: false,
+        })?,
         RawNode::Leaf(_) => turn(above),
     }
     Ok(())
@@ -65,15 +71,15 @@ fn made_of(
     alloc: Global,
     c: CaseSetting<'_>,
     named: &NamedSystem,
-    above: &[(u32, i64, bool)],
+    above: &[Side<u32>],
     node: &RawNode,
 ) -> Result<Node, FoldStop>
     requires case { IsCase c }
     requires system { IsNamedSystem c named.now }
-    requires node { VisitStands named.now.system (forms_in named.now) (record { sides = sides_of above.now; node = node_of node.now }) }
-    ensures made { IfOk result (λ made. IsMadeOf c.entry named.now (sides_of above.now) (node_of node.now) (made_node_of made)) }
+    requires node { VisitStands named.now.system (forms_in named.now) (record { above = above.now; node = node_of node.now }) }
+    ensures made { IfOk result (λ made. IsMadeOf c.entry named.now above.now (node_of node.now) (made_node_of made)) }
     ensures in_range { IfOk result (λ made. IsNodeOf c.entry.setting.lts.now (made_node_of made)) }
-    ensures wide { (w : Wide) → IsErrOf result (stop.Wide w) → LeafPasses c.entry named.now (sides_of above.now) (node_of node.now) w }
+    ensures wide { (w : Wide) → IsErrOf result (stop.Wide w) → LeafPasses c.entry named.now above.now (node_of node.now) w }
 {
     match node {
         RawNode::Split(form, at) => Ok(Node::Split(named.forms[*form as usize].form, *at)),
@@ -86,15 +92,15 @@ fn leaf(
     alloc: Global,
     c: CaseSetting<'_>,
     named: &NamedSystem,
-    above: &[(u32, i64, bool)],
+    above: &[Side<u32>],
     weights: &[(u32, i128)],
 ) -> Result<Node, FoldStop>
     requires case { IsCase c }
     requires system { IsNamedSystem c named.now }
-    requires leaf { VisitStands named.now.system (forms_in named.now) (record { sides = sides_of above.now; node = leaf_node (map weight_of weights.now) }) }
-    ensures made { IfOk result (λ made. IsMadeOf c.entry named.now (sides_of above.now) (leaf_node (map weight_of weights.now)) (made_node_of made)) }
+    requires leaf { VisitStands named.now.system (forms_in named.now) (record { above = above.now; node = leaf_node (map weight_of weights.now) }) }
+    ensures made { IfOk result (λ made. IsMadeOf c.entry named.now above.now (leaf_node (map weight_of weights.now)) (made_node_of made)) }
     ensures in_range { IfOk result (λ made. IsNodeOf c.entry.setting.lts.now (made_node_of made)) }
-    ensures wide { (w : Wide) → IsErrOf result (stop.Wide w) → LeafPasses c.entry named.now (sides_of above.now) (leaf_node (map weight_of weights.now)) w }
+    ensures wide { (w : Wide) → IsErrOf result (stop.Wide w) → LeafPasses c.entry named.now above.now (leaf_node (map weight_of weights.now)) w }
 {
     let Setting {
         lts,

@@ -6,7 +6,7 @@ ghost use Rattle.rg_integers.specs.Range.{InRange};
 ghost use Rattle.rg_order_of_work.specs.Fold.{whole, ratio_of, shown_result};
 ghost use Rattle.rg_order_of_work.specs.Rewriting.{CaseSystem};
 ghost use Rattle.rg_order_of_work.specs.Spreading.{share_fold, name_of, split_factor, factor_of};
-ghost use Rattle.rg_branch.specs.View.{sides_of, weight_of};
+ghost use Rattle.rg_branch.specs.View.{weight_of};
 ghost use Rattle.rg_rows.specs.Forms.{linear_form, split_of};
 ghost use Rattle.rg_rows.specs.Shown.{ShowsCase};
 ghost use Rattle.rg_farkas.specs.Leaves.{share_of};
@@ -16,23 +16,24 @@ use rg_fraction::{FoldStop, Fraction};
 use rg_integers::Wide;
 use rg_refuting::{Form, RowName};
 use rg_rows::{NamedForm, NamedSystem};
+use rg_splits::Side;
 use std::alloc::Global;
 
 // The named rows of the weights below these splits, each with its row's multiplier times its factor.
 pub(crate) fn shares(
     alloc: Global,
     named: &NamedSystem,
-    above: &[(u32, i64, bool)],
+    above: &[Side<u32>],
     weights: &[(u32, i128)],
 ) -> Result<Vec<(RowName, Fraction)>, FoldStop>
     requires shows { (case : CaseSystem) × ShowsCase named.now case }
-    requires sides { All (λ s. s.form < length named.now.forms.items) (sides_of above.now) }
+    requires sides { All (λ s. s.form < length named.now.forms.items) above.now }
     requires scales { All (λ f. InRange f.scale) named.now.forms.items }
     requires rows { All (λ w. w.row < length named.now.system.rows + length above.now) (map weight_of weights.now) }
     requires not_negative { All (λ w. pos 0 ≤ℤ w.multiplier) (map weight_of weights.now) }
     ensures one_each { IfOk result (λ v. length v.items ≡ length weights.now) }
-    ensures shares { IfOk result (λ v. SharesFold named.now (sides_of above.now) (map weight_of weights.now) (Ok (map share_of v.items))) }
-    ensures wide { (w : Wide) → IsErrOf result (stop.Wide w) → SharesFold named.now (sides_of above.now) (map weight_of weights.now) (Err w) }
+    ensures shares { IfOk result (λ v. SharesFold named.now above.now (map weight_of weights.now) (Ok (map share_of v.items))) }
+    ensures wide { (w : Wide) → IsErrOf result (stop.Wide w) → SharesFold named.now above.now (map weight_of weights.now) (Err w) }
 {
     let mut shares = Vec::new(alloc);
     for &(row, multiplier) in weights {
@@ -47,16 +48,16 @@ pub(crate) fn shares(
 // The name of a row below these splits, and its multiplier times its factor.
 fn share(
     named: &NamedSystem,
-    above: &[(u32, i64, bool)],
+    above: &[Side<u32>],
     row: u32,
     multiplier: i128,
 ) -> Result<(RowName, Fraction), Wide>
     requires shows { (case : CaseSystem) × ShowsCase named.now case }
-    requires sides { All (λ s. s.form < length named.now.forms.items) (sides_of above.now) }
+    requires sides { All (λ s. s.form < length named.now.forms.items) above.now }
     requires scales { All (λ f. InRange f.scale) named.now.forms.items }
     requires row { row < length named.now.system.rows + length above.now }
     requires not_negative { pos 0 ≤ℤ multiplier }
-    ensures { (case : CaseSystem) → ShowsCase named.now case → share_fold case (sides_of above.now) (sides_among (map split_of named.now.forms.items) (sides_of above.now)) (record { row = row; multiplier = multiplier }) (shown_result share_of result) }
+    ensures { (case : CaseSystem) → ShowsCase named.now case → share_fold case above.now (sides_among (map split_of named.now.forms.items) above.now) (record { row = row; multiplier = multiplier }) (shown_result share_of result) }
 {
     let (name, factor) = row_of(named, above, row);
     match Fraction::new(multiplier, 1).mul(factor) {
@@ -66,13 +67,13 @@ fn share(
 }
 
 // The name and the factor of a row below these splits, whose rows come behind those of the system.
-fn row_of(named: &NamedSystem, above: &[(u32, i64, bool)], row: u32) -> (RowName, Fraction)
+fn row_of(named: &NamedSystem, above: &[Side<u32>], row: u32) -> (RowName, Fraction)
     requires shows { (case : CaseSystem) × ShowsCase named.now case }
-    requires sides { All (λ s. s.form < length named.now.forms.items) (sides_of above.now) }
+    requires sides { All (λ s. s.form < length named.now.forms.items) above.now }
     requires scales { All (λ f. InRange f.scale) named.now.forms.items }
     requires row { row < length named.now.system.rows + length above.now }
     ensures name { (case : CaseSystem) → ShowsCase named.now case → result.0 ≡ name_of case row }
-    ensures factor { (case : CaseSystem) → ShowsCase named.now case → ratio_of result.1 ≡ factor_of case (sides_of above.now) (sides_among (map split_of named.now.forms.items) (sides_of above.now)) row }
+    ensures factor { (case : CaseSystem) → ShowsCase named.now case → ratio_of result.1 ≡ factor_of case above.now (sides_among (map split_of named.now.forms.items) above.now) row }
 {
     let rows = named.system.rows().len();
     let row = row as usize;
@@ -80,7 +81,7 @@ fn row_of(named: &NamedSystem, above: &[(u32, i64, bool)], row: u32) -> (RowName
         return (named.names[row], named.factors[row]);
     }
     let depth = row - rows;
-    let form = above[depth].0;
+    let form = above[depth].form;
     let factor = split_factor(&named.forms[form as usize]);
     (RowName::Above(depth as u32), Fraction::new(factor, 1))
 }

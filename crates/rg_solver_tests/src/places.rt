@@ -26,11 +26,12 @@ use std::process::Abort;
 use std::test::Fail;
 
 // Each of two users gets the lock and puts it back.
-const LOCK: &str =
+const GET_AND_PUT: &str =
     ".type LTS .states s0[initial] s1 s2 .labels get1 put1 get2 put2 .arcs s0 get1 s1 s1 put1 s0 s0 get2 s2 s2 put2 s0";
 
 // One b goes as far as two a.
-const TWICE: &str = ".type LTS .states s0[initial] s1 s2 .labels a b .arcs s0 a s1 s1 a s2 s0 b s2";
+const TWO_A_OR_ONE_B: &str =
+    ".type LTS .states s0[initial] s1 s2 .labels a b .arcs s0 a s1 s1 a s2 s0 b s2";
 
 // Whether the point has one number for each column.
 fn is_point(
@@ -210,7 +211,7 @@ const TWO_LABELS: [Worked; 7] = [
     },
     // the effect of b follows from that of a
     Worked {
-        text: TWICE,
+        text: TWO_A_OR_ONE_B,
         class: ALL_NETS,
         problem: Event(2, 0),
         numbers: &[(-1, 1)],
@@ -238,7 +239,7 @@ const WITH_TOKENS: [Worked; 6] = [
         tokens: Some(&[3, 1, 3, 1]),
     },
     Worked {
-        text: LOCK,
+        text: GET_AND_PUT,
         class: ALL_NETS,
         problem: Event(1, 2),
         numbers: &[(1, 1), (1, 1)],
@@ -279,7 +280,7 @@ const WITH_TOKENS: [Worked; 6] = [
         tokens: Some(&[1, 0]),
     },
     Worked {
-        text: TWICE,
+        text: TWO_A_OR_ONE_B,
         class: ALL_NETS,
         problem: Event(2, 0),
         numbers: &[(-1, 1)],
@@ -351,7 +352,7 @@ fn starts_are_multiples(rt: HostRuntime) {
 
 // What the point of these numbers passes, in a problem of the lock.
 fn passed(alloc: Global, numbers: &[(i128, i128)]) -> Option<FoldStop> {
-    placed(alloc, LOCK, ALL_NETS, Event(1, 2), numbers)?.err()
+    placed(alloc, GET_AND_PUT, ALL_NETS, Event(1, 2), numbers)?.err()
 }
 
 #[test]

@@ -25,12 +25,13 @@ use rg_theory::{ALL_NETS, Class};
 use std::alloc::{AllocError, Global};
 use std::test::Fail;
 
-// Each of two users is idle, asks for the lock, gets it and puts it back.
-const LOCK: &str =
+// Each of two users is idle, asks for the lock, gets it and puts it back. States and labels stand as the arcs name them.
+const LOCK_BY_ARCS: &str =
     ".type LTS .states ii[initial] wi iw ww ic wc ci cw .labels ask1 ask2 get2 put2 get1 put1 .arcs ii ask1 wi ii ask2 iw iw ask1 ww iw get2 ic ic ask1 wc ic put2 ii wi get1 ci wi ask2 ww ww get1 cw ww get2 wc wc put2 wi ci put1 ii ci ask2 cw cw put1 iw";
 
 // One a or two b lead from s0 to s1.
-const TWICE: &str = ".type LTS .states s0[initial] s1 s2 .labels a b .arcs s0 a s1 s0 b s2 s2 b s1";
+const ONE_A_OR_TWO_B: &str =
+    ".type LTS .states s0[initial] s1 s2 .labels a b .arcs s0 a s1 s0 b s2 s2 b s1";
 
 // The effect of a is 0, so s1 and s2 have equal tokens.
 const IDLE: &str = ".type LTS .states s0[initial] s1 s2 .labels a b .arcs s0 a s0 s0 b s1 s1 a s2";
@@ -169,7 +170,7 @@ const SYSTEMS: [(&str, Class, Problem, u32, &str); 19] = [
     ),
     // a row that is divided, and one that is multiplied
     (
-        TWICE,
+        ONE_A_OR_TWO_B,
         NONBRANCHING,
         States(0, 1),
         1,
@@ -243,14 +244,14 @@ const SYSTEMS: [(&str, Class, Problem, u32, &str); 19] = [
         "2 2; Apart [0, -1] -1 1/1; Tokens(0) [1, 0] 0 1/1; Tokens(1) [1, 1] 0 1/1; Cap(0) [-1, 0] 2 1/1; Cap(1) [-1, -1] 2 1/1; Tokens(0) 1 [1, 0] 0 2 1 1; Tokens(1) 1 [1, 1] 0 2 2 1; Start 2 [1, 0] 0 2 1 1",
     ),
     (
-        LOCK,
+        LOCK_BY_ARCS,
         ALL_NETS,
         Event(5, 4),
         0,
         "1 4; Stop(1) [0, 1, 0, 0] -1 1/1; Stop(3) [-1, 0, 0, 0] -1 1/1",
     ),
     (
-        LOCK,
+        LOCK_BY_ARCS,
         PURE_PLAIN_SAFE,
         Event(0, 2),
         0,

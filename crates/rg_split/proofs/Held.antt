@@ -17,9 +17,8 @@ use Rattle.rg_integers.specs.Sign.{size}
 use Rattle.rg_integers.specs.declared.term.Wide.{Wide}
 use Rattle.rg_refuting.specs.Expression.{Expression, coefficient_in}
 use Rattle.rg_refuting.specs.declared.Variable.{Variable}
-use Rattle.rg_refuting.specs.declared.Side.{Side}
+use Rattle.rg_refuting.specs.Row.{Side, SharedStands, shared_expression, EventStands, event_expression, consumer_of, RowStands, row_expression}
 use Rattle.rg_refuting.specs.declared.RowName.{RowName}
-use Rattle.rg_refuting.specs.Row.{SharedStands, shared_expression, EventStands, event_expression, consumer_of, RowStands, row_expression}
 use Rattle.rg_refuting.specs.Refutes.{NamedRow, IsSeparationProblem}
 use Rattle.rg_linear.specs.System.{AreFarkasMultipliers}
 use Rattle.rg_linear.specs.Cycle.{CycleBasis}

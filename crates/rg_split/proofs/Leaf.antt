@@ -9,11 +9,12 @@ use Rattle.rg_theory.specs.declared.Problem.TheVariants.{Event, States}
 use Rattle.rg_theory.specs.ClassWords.{no_condition}
 use Rattle.rg_theory.specs.Problem.{IsProblem}
 use Rattle.rg_lts.specs.WellFormed.{IsWellFormed}
-use Rattle.rg_refuting.specs.Refutes.{NamedRow, Tree, Tree.leaf as refuting_leaf, Reason.unreachable as of_state, Reason.fork, Reason.refuted as of_trees}
+use Rattle.rg_splits.specs.Trees.{Tree.leaf}
+use Rattle.rg_refuting.specs.Refutes.{NamedRow, Tree, Reason.unreachable as of_state, Reason.fork, Reason.refuted as of_trees}
 use Rattle.rg_linear.specs.System.{LinearSystem, AreFarkasMultipliers}
 use Rattle.rg_linear.specs.Cycle.{CycleBasis}
 use Rattle.rg_linear.specs.Descent.{multiplier_of}
-use Rattle.rg_linear.specs.Branching.{Form, SplitTree, SplitTree.leaf, BranchFrom, BranchFrom.passes as branch_passes, BranchFrom.refutes as branch_refutes, BranchFrom.whole, BranchFrom.low_ends}
+use Rattle.rg_linear.specs.Branching.{Form, SplitTree, BranchFrom, BranchFrom.passes as branch_passes, BranchFrom.refutes as branch_refutes, BranchFrom.whole, BranchFrom.low_ends}
 use Rattle.rg_linear.specs.Branching.{BranchFrom.high_ends, BranchFrom.both_refuted, BranchOutcome, BranchOutcome.tree, SplitSide, IsEnd, weights_from, node_system}
 use Rattle.rg_linear.proofs.Refuting.{refuted_is_sound}
 use Rattle.rg_order_of_work.specs.Rewriting.{CaseSystem, rows_of, system_fold}
@@ -69,7 +70,7 @@ record IsSpread (lts : System) (arcs : List Arc) (basis : CycleBasis) (problem :
   pub farkas : AreFarkasMultipliers (node_system (rows_of case) case.forms []) multiplier
   pub rows : List NamedRow
   pub spread : spread_fold lts arcs basis no_condition problem 0 case [] [] (weights_from multiplier 0 (length (node_system (rows_of case) case.forms []).rows)) (Ok rows)
-  pub is : t ≡ refuting_leaf rows
+  pub is : t ≡ leaf rows
 
 no_forms : (lts : System) (arcs : List Arc) (basis : CycleBasis) (problem : Problem) (case : CaseSystem) → system_fold lts arcs basis no_condition problem 0 (Ok case) → case.forms ≡ []
 no_forms lts arcs basis (Event s t) case (all, made, (forms, none, (columns, keeps, same))) = same ∙ none
@@ -141,7 +142,7 @@ pub record HasLeaf (lts : System) (problem : Problem) (trees : List Tree) : Type
   pub problem_is : IsProblem lts problem
   pub rows : List NamedRow
   pub more : List Tree
-  pub are : trees ≡ refuting_leaf rows ∷ more
+  pub are : trees ≡ leaf rows ∷ more
   pub refutes : RefutesFirst lts problem rows
 
 same_problem : (p q : Problem) (ts us : List Tree) → of_trees p ts ≡ of_trees q us → p ≡ q

@@ -8,18 +8,18 @@ use Rattle.rg_theory.specs.System.{System}
 use Rattle.rg_theory.specs.declared.Class.{Class}
 use Rattle.rg_theory.specs.declared.Problem.{Problem}
 use Rattle.rg_refuting.specs.Expression.{Expression}
-use Rattle.rg_refuting.specs.Row.{RowStands, row_expression}
-use Rattle.rg_refuting.specs.declared.Side.{Side}
+use Rattle.rg_refuting.specs.Row.{RowStands, row_expression, Side}
 use Rattle.rg_refuting.specs.declared.RowName.{RowName}
-use Rattle.rg_refuting.specs.Refutes.{NamedRow, LeafRefutes, Tree, Tree.leaf, Tree.split, TreeRefutes, IsSeparationProblem, IsRefuted, Accepts}
+use Rattle.rg_splits.specs.Trees.{Tree.leaf, Tree.split, TreeNode.leaf_node, TreeNode.split_node, low_side, high_side, placed_nodes}
+use Rattle.rg_refuting.specs.Refutes.{NamedRow, LeafRefutes, Tree, TreeRefutes, IsSeparationProblem, IsRefuted, Accepts}
 use Rattle.rg_refuting.specs.Refutes as refutes
-use Rattle.rg_reasons.specs.Trees.{TreeNode, leaf_node, split_node}
+use Rattle.rg_reasons.specs.Trees.{TreeNode}
 use Rattle.rg_reasons.specs.Certificates.{Claim, IsVariableOf}
 use Rattle.rg_verify.specs.declared.verdict.Defect.{Defect}
 use Rattle.rg_verify.specs.declared.verdict.Defect.TheVariants.{WrongRow, NotPositive, LeftOver, NoContradiction, SumPasses, WrongForm, CaseMissing, NotSo}
 use Rattle.rg_verify.specs.declared.verdict.Verdict.{Verdict}
 use Rattle.rg_verify.specs.declared.verdict.Verdict.TheVariants.{Accepted, Refused}
-use Rattle.rg_verify.specs.Judged.{IsReached, IsVariableBefore, IsRightRow, IsFirstLeft, IsDefectOf, PlacedNode, placed_nodes, HoldsAt, NodeHolds, IsNodeDefect, IsDefectIn, HasAllCases, IsDefectAmong, IsDefectFor, IsFirstDefect, Holds, Judges}
+use Rattle.rg_verify.specs.Judged.{IsReached, IsVariableBefore, IsRightRow, IsFirstLeft, IsDefectOf, PlacedNode, HoldsAt, NodeHolds, IsNodeDefect, IsDefectIn, HasAllCases, IsDefectAmong, IsDefectFor, IsFirstDefect, Holds, Judges}
 use Rattle.rg_verify.proofs.Variables.{before_or_not}
 use Rattle.rg_refuting.specs.declared.Variable.{Variable}
 
@@ -124,10 +124,10 @@ nodes_hold : (lts : System) (class : Class) (problem : Problem) (number : ℕ) (
 nodes_hold lts class problem number above (leaf rows) good = All-cons (NodeHolds lts class problem number) (record { above = above; node = leaf_node rows }) [] good (All-nil _)
 nodes_hold lts class problem number above (split form at low high) (form_stands, left, right) =
     All-cons (NodeHolds lts class problem number) (record { above = above; node = split_node form at })
-    (placed_nodes (above ++ record { form = form; at = at; high = false } ∷ []) low ++ placed_nodes (above ++ record { form = form; at = at; high = true } ∷ []) high) form_stands
-    (All-append (NodeHolds lts class problem number) (placed_nodes (above ++ record { form = form; at = at; high = false } ∷ []) low) (placed_nodes (above ++ record { form = form; at = at; high = true } ∷ []) high)
-    (nodes_hold lts class problem number (above ++ record { form = form; at = at; high = false } ∷ []) low left)
-    (nodes_hold lts class problem number (above ++ record { form = form; at = at; high = true } ∷ []) high right))
+    (placed_nodes (above ++ low_side form at ∷ []) low ++ placed_nodes (above ++ high_side form at ∷ []) high) form_stands
+    (All-append (NodeHolds lts class problem number) (placed_nodes (above ++ low_side form at ∷ []) low) (placed_nodes (above ++ high_side form at ∷ []) high)
+    (nodes_hold lts class problem number (above ++ low_side form at ∷ []) low left)
+    (nodes_hold lts class problem number (above ++ high_side form at ∷ []) high right))
 
 not_holding : (lts : System) (class : Class) (problem : Problem) (number : ℕ) (above : List Side) (node : TreeNode) (d : Defect) → IsNodeDefect lts class problem number above node d → HoldsAt lts class problem number above node → ⊥
 not_holding lts class problem number above (leaf_node rows) d wrong good = no_defect lts (RowStands lts class problem number above) (row_expression lts class problem number above) rows d wrong good

@@ -9,7 +9,7 @@ use Rattle.rg_theory.specs.System.{System, states, labels}
 use Rattle.rg_refuting.specs.Expression as linear
 use Rattle.rg_refuting.specs.Expression.{coefficient_in}
 use Rattle.rg_refuting.specs.declared.RowName.{RowName}
-use Rattle.rg_refuting.specs.declared.Side.{Side}
+use Rattle.rg_refuting.specs.Row.{Side}
 use Rattle.rg_refuting.specs.Refutes.{NamedRow, IsSmall}
 use Rattle.rg_integers.specs.Range.{InRange}
 use Rattle.rg_reasons.specs.Certificates.{IsRowOf, IsFormOf, IsTermWithin}

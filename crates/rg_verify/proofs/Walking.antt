@@ -6,35 +6,23 @@ use Rattle.std.proofs.lemmas.List.Elements.{All-contains, Contains-get_or, Conta
 use Rattle.rg_theory.specs.System.{System}
 use Rattle.rg_theory.specs.declared.Class.{Class}
 use Rattle.rg_theory.specs.declared.Problem.{Problem}
-use Rattle.rg_refuting.specs.Row.{FormStands, RowStands, row_expression}
-use Rattle.rg_refuting.specs.declared.Side.{Side}
-use Rattle.rg_refuting.specs.Refutes.{NamedRow, LeafRefutes, Tree, Tree.leaf, Tree.split, TreeRefutes}
+use Rattle.rg_refuting.specs.Row.{FormStands, RowStands, row_expression, Side}
+use Rattle.rg_splits.specs.Trees.{Tree.leaf, Tree.split, TreeNode.leaf_node, TreeNode.split_node, preorder, low_side, high_side, placed_nodes}
+use Rattle.rg_splits.specs.Turning.{turned_back, turned}
+use Rattle.rg_splits.proofs.Turning.{turned_low, turned_high}
+use Rattle.rg_refuting.specs.Refutes.{NamedRow, LeafRefutes, Tree, TreeRefutes}
 use Rattle.rg_reasons.specs.declared.certificate.Case.{Case}
 use Rattle.rg_reasons.specs.declared.certificate.Node.{Node}
 use Rattle.rg_reasons.specs.Certificates.{case_tree, IsWhole, IsNodeOf, IsTreeOf}
-use Rattle.rg_reasons.specs.Trees.{TreeNode, TreeNode.leaf_node, TreeNode.split_node, preorder, node_of}
+use Rattle.rg_reasons.specs.Trees.{TreeNode, node_of}
 use Rattle.rg_verify.specs.declared.verdict.Defect.{Defect}
 use Rattle.rg_verify.specs.declared.verdict.Defect.TheVariants.{WrongForm}
-use Rattle.rg_verify.specs.Judged.{IsReached, PlacedNode, placed_nodes, HoldsAt, NodeHolds, IsDefectOf, IsNodeDefect, IsDefectIn}
+use Rattle.rg_verify.specs.Judged.{IsReached, PlacedNode, HoldsAt, NodeHolds, IsDefectOf, IsNodeDefect, IsDefectIn}
 use Rattle.rg_verify.proofs.Places.{image_at}
-use Rattle.rg_verify.specs.Sides.{turned_back, turned, IsSideOf}
+use Rattle.rg_verify.specs.Sides.{IsSideOf}
 use Rattle.rg_refuting.specs.declared.Form.{Form}
 
 -- ---- the sides above the next node
-
-abbrev low_side : Form → ℤ → Side
-low_side form at = record { form = form; at = at; high = false }
-
-abbrev high_side : Form → ℤ → Side
-high_side form at = record { form = form; at = at; high = true }
-
-turned_low : (above : List Side) (form : Form) (at : ℤ) → turned (above ++ low_side form at ∷ []) ≡ above ++ high_side form at ∷ []
-turned_low above form at =
-    ap (λ sides. reverse (turned_back sides)) (reverse-append above (low_side form at ∷ []))
-    ∙ reverse-append (high_side form at ∷ []) (reverse above) ∙ ap (λ sides. sides ++ high_side form at ∷ []) (reverse-reverse above)
-
-turned_high : (above : List Side) (form : Form) (at : ℤ) → turned (above ++ high_side form at ∷ []) ≡ turned above
-turned_high above form at = ap (λ sides. reverse (turned_back sides)) (reverse-append above (high_side form at ∷ []))
 
 -- they are sides of the system
 back_sides : (lts : System) (sides : List Side) → All (IsSideOf lts) sides → All (IsSideOf lts) (turned_back sides)

@@ -4,12 +4,14 @@ use Rattle.rg_theory.specs.System.{System}
 use Rattle.rg_theory.specs.declared.Class.{Class}
 use Rattle.rg_theory.specs.declared.Problem.{Problem}
 use Rattle.rg_refuting.specs.Expression.{Expression}
-use Rattle.rg_refuting.specs.Row.{FormStands, RowStands, row_expression, cases_of}
-use Rattle.rg_refuting.specs.declared.Side.{Side}
+use Rattle.rg_refuting.specs.Row.{FormStands, RowStands, row_expression, cases_of, Side}
+use Rattle.rg_refuting.specs.declared.Form.{Form}
 use Rattle.rg_refuting.specs.declared.RowName.{RowName}
-use Rattle.rg_refuting.specs.Refutes.{NamedRow, IsMultiplier, IsSmall, coefficient_sum, constant_sum, LeafRefutes, Tree, Tree.leaf, Tree.split, TreeRefutes, IsSeparationProblem, IsRefuted, Accepts}
+use Rattle.rg_splits.specs.Trees as splits
+use Rattle.rg_splits.specs.Trees.{TreeNode.leaf_node, TreeNode.split_node, placed_nodes}
+use Rattle.rg_refuting.specs.Refutes.{NamedRow, IsMultiplier, IsSmall, coefficient_sum, constant_sum, LeafRefutes, Tree, TreeRefutes, IsSeparationProblem, IsRefuted, Accepts}
 use Rattle.rg_refuting.specs.Refutes as refutes
-use Rattle.rg_reasons.specs.Trees.{TreeNode, leaf_node, split_node}
+use Rattle.rg_reasons.specs.Trees.{TreeNode}
 use Rattle.rg_reasons.specs.Certificates.{Claim, IsVariableOf}
 use Rattle.rg_verify.specs.declared.verdict.Defect.{Defect}
 use Rattle.rg_verify.specs.declared.verdict.Defect.TheVariants.{WrongRow, NotPositive, LeftOver, NoContradiction, SumPasses, WrongForm, CaseMissing, NotSo}
@@ -60,17 +62,9 @@ IsDefectOf lts stands expression rows WrongForm = ⊥
 IsDefectOf lts stands expression rows CaseMissing = ⊥
 IsDefectOf lts stands expression rows NotSo = ⊥
 
--- a node of a tree: the sides above it, outermost first, and what it is
-pub record PlacedNode : Type 0 where
-  pub above : List Side
-  pub node : TreeNode
-
--- the nodes of a tree in preorder, where the tree stands below the sides
-abbrev pub placed_nodes : List Side → Tree → List PlacedNode
-placed_nodes above (leaf rows) = record { above = above; node = leaf_node rows } ∷ []
-placed_nodes above (split form at low high) =
-    record { above = above; node = split_node form at }
-    ∷ (placed_nodes (above ++ record { form = form; at = at; high = false } ∷ []) low ++ placed_nodes (above ++ record { form = form; at = at; high = true } ∷ []) high)
+-- a node of a tree, below the sides that lead to it
+abbrev pub PlacedNode : Type 0
+PlacedNode = splits.PlacedNode (List NamedRow) Form
 
 -- below the sides a leaf refutes in one case of a problem; a split may be on its form
 abbrev pub HoldsAt : System → Class → Problem → ℕ → List Side → TreeNode → Type 0

@@ -2,10 +2,9 @@
 use Rattle.std.specs.Prelude.{List}
 use Rattle.rg_theory.specs.System.{System}
 use Rattle.rg_refuting.specs.Expression.{Expression}
-use Rattle.rg_refuting.specs.Row.{RowStands, row_expression}
+use Rattle.rg_refuting.specs.Row.{RowStands, row_expression, Side}
 use Rattle.rg_refuting.specs.declared.RowName.{RowName}
 use Rattle.rg_reasons.specs.declared.problem_case.ProblemCase.{ProblemCase}
-use Rattle.rg_refuting.specs.declared.Side.{Side}
 
 -- where a row stands
 abbrev pub StandsIn : System → ProblemCase → List Side → RowName → Type 0

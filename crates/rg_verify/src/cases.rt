@@ -3,7 +3,7 @@ ghost use Rattle.std.specs.Prelude.{◌≡◌, [], IfOk, MatchOption};
 ghost use Rattle.rg_refuting.specs.Refutes.{TreeRefutes, IsSeparationProblem};
 ghost use Rattle.rg_reasons.specs.Certificates.{case_tree, IsWhole, IsTreeOf};
 ghost use Rattle.rg_verify.specs.Judged.{IsDefectIn};
-ghost use Rattle.rg_verify.specs.Sides.{AreSidesOf, turned};
+ghost use Rattle.rg_verify.specs.Sides.{AreSidesOf};
 ghost use Rattle.rg_verify.specs.Sums.{IsClear};
 ghost use Rattle.rg_verify.specs.declared.verdict.Verdict.TheVariants as verdict;
 
@@ -14,6 +14,7 @@ use rg_lts::Lts;
 use rg_memory::NoMemory;
 use rg_reasons::{Case, Node, ProblemCase};
 use rg_refuting::Side;
+use rg_splits::turn;
 use std::alloc::Global;
 
 /// A defect and the node that has it.
@@ -80,21 +81,4 @@ pub(crate) fn case_defect(
         }
     }
     Ok(None)
-}
-
-// Goes to the sides above the next node, past a tree that is done: the innermost low side becomes the high one, and
-// the high sides within it end.
-fn turn(above: &mut Vec<Side>)
-    ensures { above.new.items ≡ turned above.old.items }
-{
-    let mut depth = above.len();
-    while depth > 0 {
-        depth -= 1;
-        if !above[depth].high {
-            above[depth].high = true;
-            above.truncate(depth + 1);
-            return;
-        }
-    }
-    above.clear();
 }

@@ -5,7 +5,7 @@ use Rattle.rg_outcome.specs.Casing.{CaseResult.passes, CaseComes, CaseComes.row_
 use Rattle.rg_reasons.specs.declared.wide_at.Stage.TheVariants.{Row}
 use Rattle.rg_separate.specs.Passing.{passed_at}
 use Rattle.rg_separate.proofs.case.solve_case.Goals as goal
-use Rattle.rg_refuting.specs.declared.Side.{Side}
+use Rattle.rg_refuting.specs.Row.{Side}
 
 pub returns-in-Err-Wide-clause-comes : goal.returns-in-Err-Wide-clause-comes
 returns-in-Err-Wide-clause-comes c =

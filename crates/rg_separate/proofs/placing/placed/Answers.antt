@@ -1,12 +1,11 @@
 use Rattle.std.proofs.Common.{◌<◌, List, [], All, length, map, Err, ap, sym, subst, ◌∙◌}
-use Rattle.rg_refuting.specs.declared.Side.{Side}
+use Rattle.rg_refuting.specs.Row.{Side}
 use Rattle.rg_linear.specs.Branching.{SplitSide, BranchOutcome.found}
 use Rattle.rg_linear.proofs.Endings.{splits_within}
 use Rattle.rg_order_of_work.specs.Shown.{Shown, ShownWide}
 use Rattle.rg_net.specs.Shown.{shown_place}
 use Rattle.rg_cycles.specs.View.{cycle_of}
 use Rattle.rg_outcome.specs.Casing.{CaseResult.passes, CaseComes}
-use Rattle.rg_branch.specs.View.{sides_of}
 use Rattle.rg_rows.specs.declared.named_form.NamedForm.{NamedForm}
 use Rattle.rg_rows.specs.Forms.{split_of}
 use Rattle.rg_reasons.specs.declared.wide_at.Stage.TheVariants.{Place}
@@ -19,7 +18,7 @@ use Rattle.rg_separate.proofs.placing.placed.Goals as goal
 pub named_sides-requires : goal.named_sides-requires
 named_sides-requires c =
     let named = c.args.named.now in
-    let sides = sides_of c.args.above.now in
+    let sides = c.args.above.now in
     subst (λ (fs : List NamedForm). All (λ (s : SplitSide). s.form < length fs) sides) (sym c.deref.ensures.value)
     (sides_on_named named.forms.items sides (sides_on_forms (forms_in named) [] sides (splits_within named.system (forms_in named) (found c.requires.found.members sides) c.requires.system.forms.bounded c.requires.found.outcome)))
 
@@ -30,19 +29,19 @@ pub returns-in_ok-above-in-Err-Wide-clause-tells : goal.returns-in_ok-above-in-E
 returns-in_ok-above-in-Err-Wide-clause-tells c =
     let lts = c.args.c.setting.lts.now in
     let class = c.args.c.setting.class in
-    let sides = sides_of c.args.above.now in
+    let sides = c.args.above.now in
     let by_name = c.in_ok-above-in-Err-Wide.ensures ∙ ap (λ (fs : List NamedForm). sides_among (map split_of fs) sides) c.deref.ensures.value ∙ ap (λ fs. sides_among fs sides) c.requires.system.by_name in
     subst (λ (w : Shown). ShownWide lts class w) (sym (c.passed.ensures ∙ ap (λ (ss : List Side). passed_at Place c.args.c ss c.in-Err-Wide.wide) by_name))
     (place_shown c.args.c c.args.named.now sides c.args.point.now c.in-Err-Wide.wide c.requires.case c.requires.system c.requires.found (c.in-Err-Wide.ensures.wide c.in-Err-Wide.wide (ap Err c.in-Err-Wide.field-0-is)))
 
 pub returns-in-Ok-clause-comes : goal.returns-in-Ok-clause-comes
-returns-in-Ok-clause-comes c = place_comes c.args.c c.args.named.now (sides_of c.args.above.now) c.args.point.now c.requires.system c.requires.found (shown_place c.in-Ok.region.place) c.in-Ok.ensures.place
+returns-in-Ok-clause-comes c = place_comes c.args.c c.args.named.now c.args.above.now c.args.point.now c.requires.system c.requires.found (shown_place c.in-Ok.region.place) c.in-Ok.ensures.place
 
 pub returns-in_ok-above-in-Err-Wide-clause-comes : goal.returns-in_ok-above-in-Err-Wide-clause-comes
 returns-in_ok-above-in-Err-Wide-clause-comes c =
     let lts = c.args.c.setting.lts.now in
     let class = c.args.c.setting.class in
-    let sides = sides_of c.args.above.now in
+    let sides = c.args.above.now in
     let by_name = c.in_ok-above-in-Err-Wide.ensures ∙ ap (λ (fs : List NamedForm). sides_among (map split_of fs) sides) c.deref.ensures.value ∙ ap (λ fs. sides_among fs sides) c.requires.system.by_name in
     subst (λ (w : Shown). CaseComes lts c.args.c.setting.tree.now.arcs (cycle_of c.args.c.setting.basis.now) class c.args.c.problem c.args.c.number (passes w)) (sym (c.passed.ensures ∙ ap (λ (ss : List Side). passed_at Place c.args.c ss c.in-Err-Wide.wide) by_name))
     (place_fails c.args.c c.args.named.now sides c.args.point.now c.requires.system c.requires.found c.in-Err-Wide.wide (c.in-Err-Wide.ensures.wide c.in-Err-Wide.wide (ap Err c.in-Err-Wide.field-0-is)))

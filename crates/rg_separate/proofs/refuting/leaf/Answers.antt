@@ -1,8 +1,7 @@
 use Rattle.std.proofs.Common.{rules, ◌≡◌, ◌+◌, ◌<◌, List, All, Result, length, map, Ok, Err, inl, inr, ap, sym, subst, ◌∙◌}
 use Rattle.std.specs.Result.{IfOk}
 use Rattle.std.proofs.lemmas.List.{length-map}
-use Rattle.rg_refuting.specs.Row.{row_expression}
-use Rattle.rg_refuting.specs.declared.Side.{Side}
+use Rattle.rg_refuting.specs.Row.{row_expression, Side}
 use Rattle.rg_linear.specs.Branching.{Weight}
 use Rattle.rg_order_of_work.specs.Shown.{named_sides}
 use Rattle.rg_cycles.specs.View.{cycle_of}
@@ -10,7 +9,7 @@ use Rattle.rg_order_of_work.specs.Spreading.{leaf_fold}
 use Rattle.rg_fraction.specs.declared.fold_stop.FoldStop.TheVariants as stop
 use Rattle.rg_fraction.specs.declared.fraction.Fraction.{Fraction}
 use Rattle.rg_reasons.specs.Trees.{node_of as made_node_of}
-use Rattle.rg_branch.specs.View.{side_of, sides_of, weight_of}
+use Rattle.rg_branch.specs.View.{weight_of}
 use Rattle.rg_rows.specs.declared.named_form.NamedForm.{NamedForm}
 use Rattle.rg_rows.specs.Forms.{split_of}
 use Rattle.rg_farkas.specs.Leaves.{share_of, RefutesCase}
@@ -25,16 +24,15 @@ IfOk_both (Ok a) p q f = f a p q
 IfOk_both (Err e) p q f = p
 
 pub shares-requires-clause-rows : goal.shares-requires-clause-rows
-shares-requires-clause-rows c = subst (λ n. All (λ (w : Weight). w.row < length c.args.named.now.system.rows + n) (map weight_of c.args.weights.now))
-    (length-map c.args.above.now side_of) (leaf_rows c.args.c c.args.named.now (sides_of c.args.above.now) (map weight_of c.args.weights.now) c.requires.leaf.node)
+shares-requires-clause-rows c = leaf_rows c.args.c c.args.named.now c.args.above.now (map weight_of c.args.weights.now) c.requires.leaf.node
 
 pub shares-requires-clause-not_negative : goal.shares-requires-clause-not_negative
-shares-requires-clause-not_negative c = leaf_not_negative c.args.c c.args.named.now (sides_of c.args.above.now) (map weight_of c.args.weights.now) c.requires.leaf.node
+shares-requires-clause-not_negative c = leaf_not_negative c.args.c c.args.named.now c.args.above.now (map weight_of c.args.weights.now) c.requires.leaf.node
 
 pub spread-requires : goal.spread-requires
 spread-requires c =
     let named = c.args.named.now in
-    let sides = sides_of c.args.above.now in
+    let sides = c.args.above.now in
     let by_name = c.in_ok-above.ensures ∙ ap (λ (fs : List NamedForm). sides_among (map split_of fs) sides) c.deref.ensures.value ∙ ap (λ fs. sides_among fs sides) c.requires.system.by_name in
     subst (λ (above : List Side). RefutesCase c.args.c.setting.lts.now c.args.c.setting.tree.now c.args.c.setting.basis.now c.args.c.setting.class c.args.c.problem c.args.c.number c.deref-2.result.now above) (sym c.deref-3.ensures.value)
     (subst (λ (shares : List (RowName × Fraction)). RefutesCase c.args.c.setting.lts.now c.args.c.setting.tree.now c.args.c.setting.basis.now c.args.c.setting.class c.args.c.problem c.args.c.number shares c.in_ok-above.above.items) (sym c.deref-2.ensures.value)
@@ -42,7 +40,7 @@ spread-requires c =
 
 pub returns-clause-made : goal.returns-clause-made
 returns-clause-made c =
-    let sides = sides_of c.args.above.now in
+    let sides = c.args.above.now in
     let by_name = c.in_ok-above.ensures ∙ ap (λ (fs : List NamedForm). sides_among (map split_of fs) sides) c.deref.ensures.value ∙ ap (λ fs. sides_among fs sides) c.requires.system.by_name in
     let fold = subst (λ (shares : List (RowName × Fraction)). SharesFold c.args.named.now sides (map weight_of c.args.weights.now) (Ok (map share_of shares))) (sym c.deref-2.ensures.value) c.in_ok-shares.ensures.shares in
     IfOk_both c.spread.result c.spread.ensures.leaf c.spread.ensures.refutes
@@ -53,7 +51,7 @@ pub returns-clause-wide : goal.returns-clause-wide
 returns-clause-wide c = λ w is case shows.
     let lts = c.args.c.setting.lts.now in
     let class = c.args.c.setting.class in
-    let sides = sides_of c.args.above.now in
+    let sides = c.args.above.now in
     let by_name = c.in_ok-above.ensures ∙ ap (λ (fs : List NamedForm). sides_among (map split_of fs) sides) c.deref.ensures.value ∙ ap (λ fs. sides_among fs sides) c.requires.system.by_name in
     let Fails : List Side → List (RowName × Fraction) → Type 0 = λ above shares. leaf_fold lts c.args.c.setting.tree.now.arcs (cycle_of c.args.c.setting.basis.now) (row_expression lts class c.args.c.problem c.args.c.number above) (map share_of shares) (Err w) in
     inr (
@@ -68,4 +66,4 @@ pub returns-in_err-shares-clause-wide : goal.returns-in_err-shares-clause-wide
 returns-in_err-shares-clause-wide c = λ w is case shows.
     let result : c.from_residual.result ≡ Err c.in_err-shares.field-0.0 = search rules in
     let passes : c.in_err-shares.field-0.0 ≡ stop.Wide w = cc in
-    inl (shares_named c.args.c c.args.named.now c.requires.system (sides_of c.args.above.now) (map weight_of c.args.weights.now) (Err w) (c.in_err-shares.ensures.wide w (ap Err passes)) case shows)
+    inl (shares_named c.args.c c.args.named.now c.requires.system c.args.above.now (map weight_of c.args.weights.now) (Err w) (c.in_err-shares.ensures.wide w (ap Err passes)) case shows)

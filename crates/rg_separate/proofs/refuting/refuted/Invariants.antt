@@ -1,8 +1,8 @@
 use Rattle.std.proofs.Common.{map}
 use Rattle.rg_reasons.specs.Trees.{node_of as made_node_of}
-use Rattle.rg_branch.specs.View.{sides_of, node_of}
+use Rattle.rg_branch.specs.View.{node_of}
 use Rattle.rg_separate.proofs.Walking.{IsWalk}
 use Rattle.rg_separate.proofs.refuting.refuted.Given as goal
 
 abbrev pub invariant-loop-node : goal.invariant-loop-node
-invariant-loop-node l = IsWalk l.c l.named (map node_of l.nodes) l.node-index (sides_of l.above.items) (map made_node_of l.made.items)
+invariant-loop-node l = IsWalk l.c l.named (map node_of l.nodes) l.node-index l.above.items (map made_node_of l.made.items)

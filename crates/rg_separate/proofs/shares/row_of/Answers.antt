@@ -8,11 +8,9 @@ use Rattle.rg_linear.specs.System.{LinearRow}
 use Rattle.rg_linear.specs.View.{linear_row}
 use Rattle.rg_order_of_work.specs.Fold.{ratio_of}
 use Rattle.rg_order_of_work.specs.Spreading.{side_at}
-use Rattle.rg_branch.specs.View.{side_of, sides_of}
 use Rattle.rg_rows.specs.declared.named_form.NamedForm.{NamedForm}
 use Rattle.rg_rows.specs.Forms.{split_of}
 use Rattle.rg_separate.specs.Casing.{sides_among}
-use Rattle.rg_separate.proofs.Siding.{side_within}
 use Rattle.rg_separate.proofs.Factors.{own_name, own_factor, factor_of_split}
 use Rattle.rg_separate.proofs.shares.row_of.Goals as goal
 
@@ -26,19 +24,19 @@ pub returns-then-row-rows-clause-factor : goal.returns-then-row-rows-clause-fact
 returns-then-row-rows-clause-factor c = λ case shows.
     let many : length c.rows-rows.result.now ≡ length c.args.named.now.system.rows = sym (length-map c.rows-rows.result.now linear_row) ∙ ap (length {A = LinearRow}) c.rows-rows.ensures.value in
     let lt : c.args.row < length c.args.named.now.system.rows = (let t = c.if-row-rows.true in omega arith) in
-    ap ratio_of c.index-then-row-rows.ensures ∙ own_factor c.args.named.now case shows (sides_of c.args.above.now) (sides_among (map split_of c.args.named.now.forms.items) (sides_of c.args.above.now)) c.args.row c.index-then-row-rows.result.now lt
+    ap ratio_of c.index-then-row-rows.ensures ∙ own_factor c.args.named.now case shows c.args.above.now (sides_among (map split_of c.args.named.now.forms.items) c.args.above.now) c.args.row c.index-then-row-rows.result.now lt
 
 pub index-requires-2 : goal.index-requires-2
 index-requires-2 c =
     let many : length c.rows-rows.result.now ≡ length c.args.named.now.system.rows = sym (length-map c.rows-rows.result.now linear_row) ∙ ap (length {A = LinearRow}) c.rows-rows.ensures.value in
-    let within = side_within (length c.args.named.now.forms.items) c.args.above.now (c.args.row - length c.rows-rows.result.now) (0, pos 0, false) c.requires.sides (let r = c.requires.row in let t = c.if-row-rows.false in omega arith) in
+    let within = c.requires.sides (c.args.row - length c.rows-rows.result.now) (record { form = 0; at = pos 0; high = false }) (let r = c.requires.row in let t = c.if-row-rows.false in omega arith) in
     let e = c.args.named.now.forms.ok.0 in
     omega arith
 
 pub split_factor-factor-requires : goal.split_factor-factor-requires
 split_factor-factor-requires c =
     let many : length c.rows-rows.result.now ≡ length c.args.named.now.system.rows = sym (length-map c.rows-rows.result.now linear_row) ∙ ap (length {A = LinearRow}) c.rows-rows.ensures.value in
-    let within = side_within (length c.args.named.now.forms.items) c.args.above.now (c.args.row - length c.rows-rows.result.now) (0, pos 0, false) c.requires.sides (let r = c.requires.row in let t = c.if-row-rows.false in omega arith) in
+    let within = c.requires.sides (c.args.row - length c.rows-rows.result.now) (record { form = 0; at = pos 0; high = false }) (let r = c.requires.row in let t = c.if-row-rows.false in omega arith) in
     subst (λ (f : NamedForm). InRange f.scale) (sym c.index-2.ensures) (c.requires.scales _ c.index-2.result.now within)
 
 pub new-requires-clause-n_in_range : goal.new-requires-clause-n_in_range
@@ -49,9 +47,9 @@ returns-clause-factor c = λ case shows.
     let named = c.args.named.now in
     let many : length c.rows-rows.result.now ≡ length named.system.rows = sym (length-map c.rows-rows.result.now linear_row) ∙ ap (length {A = LinearRow}) c.rows-rows.ensures.value in
     let depth : c.args.row - length c.rows-rows.result.now < length c.args.above.now = (let r = c.requires.row in let t = c.if-row-rows.false in omega arith) in
-    let within = side_within (length named.forms.items) c.args.above.now (c.args.row - length c.rows-rows.result.now) (0, pos 0, false) c.requires.sides depth in
+    let within = c.requires.sides (c.args.row - length c.rows-rows.result.now) (record { form = 0; at = pos 0; high = false }) depth in
     let value = subst (λ (z : ℤ). IsValue c.new.result z (pos 1)) (back c.split_factor-factor.result c.split_factor-factor.ensures.in_range) c.new.ensures in
-    let side = side_of (get_or c.args.above.now (c.args.row - length c.rows-rows.result.now) (0, pos 0, false)) in
-    factor_of_split named case shows (sides_of c.args.above.now) c.args.row side c.index-2.result.now c.new.result c.split_factor-factor.result (let t = c.if-row-rows.false in omega arith) (let e = length-map c.args.above.now side_of in let d = depth in let t = c.if-row-rows.false in omega arith)
-    (ap (λ n. side_at (sides_of c.args.above.now) (c.args.row - n)) (sym many) ∙ get_or-map side_of c.args.above.now (c.args.row - length c.rows-rows.result.now) (0, pos 0, false) (record { form = 0; at = pos 0; high = false }) depth)
+    let side = side_at c.args.above.now (c.args.row - length c.rows-rows.result.now) in
+    factor_of_split named case shows c.args.above.now c.args.row side c.index-2.result.now c.new.result c.split_factor-factor.result (let t = c.if-row-rows.false in omega arith) (let d = depth in let t = c.if-row-rows.false in omega arith)
+    (ap (λ n. side_at c.args.above.now (c.args.row - n)) (sym many))
     within (sym c.index-2.ensures) value c.split_factor-factor.ensures.factor

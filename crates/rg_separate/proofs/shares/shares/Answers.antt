@@ -8,7 +8,7 @@ use Rattle.rg_linear.specs.Branching.{Weight}
 use Rattle.rg_order_of_work.specs.Fold.{each}
 use Rattle.rg_order_of_work.specs.Spreading.{share_fold}
 use Rattle.rg_order_of_work.proofs.Items.{item_next, item_fails, items_end, map_push}
-use Rattle.rg_branch.specs.View.{sides_of, weight_of}
+use Rattle.rg_branch.specs.View.{weight_of}
 use Rattle.rg_rows.specs.Forms.{split_of}
 use Rattle.rg_farkas.specs.Leaves.{share_of}
 use Rattle.rg_separate.specs.Casing.{sides_among}
@@ -32,7 +32,7 @@ pub returns-in-Err-clause-wide : goal.returns-in-Err-clause-wide
 returns-in-Err-clause-wide c = λ w is case shows.
     let weights = c.args.weights.now in
     let i = c.loop-row.row-index in
-    let fold = share_fold case (sides_of c.args.above.now) (sides_among (map split_of c.args.named.now.forms.items) (sides_of c.args.above.now)) in
+    let fold = share_fold case c.args.above.now (sides_among (map split_of c.args.named.now.forms.items) c.args.above.now) in
     let fits : FitsSigned w128 (get_or weights i (0, pos 0)).1 = search rules in
     let one = subst (λ z. fold (record { row = (get_or weights i (0, pos 0)).0; multiplier = z }) (Err c.in-Err.wide)) (to_z-of_z w128 (get_or weights i (0, pos 0)).1 fits) (c.in-Err.ensures case shows) in
     let here = subst (λ (x : Weight). fold x (Err c.in-Err.wide)) (sym (get_or-map weight_of weights i (0, pos 0) none c.loop-row-test.true)) one in
@@ -44,7 +44,7 @@ loop-row-preserved c = record {
   so_far = λ case shows.
       (let weights = c.args.weights.now in
       let i = c.loop-row.row-index in
-      let fold = share_fold case (sides_of c.args.above.now) (sides_among (map split_of c.args.named.now.forms.items) (sides_of c.args.above.now)) in
+      let fold = share_fold case c.args.above.now (sides_among (map split_of c.args.named.now.forms.items) c.args.above.now) in
       let fits : FitsSigned w128 (get_or weights i (0, pos 0)).1 = search rules in
       let one = subst (λ z. fold (record { row = (get_or weights i (0, pos 0)).0; multiplier = z }) (Ok (share_of c.in-Ok.share))) (to_z-of_z w128 (get_or weights i (0, pos 0)).1 fits) (c.in-Ok.ensures case shows) in
       let here = subst (λ (x : Weight). fold x (Ok (share_of c.in-Ok.share))) (sym (get_or-map weight_of weights i (0, pos 0) none c.loop-row-test.true)) one in
@@ -56,6 +56,6 @@ loop-row-preserved c = record {
 
 pub returns-clause-shares : goal.returns-clause-shares
 returns-clause-shares c = λ case shows. items_end
-    (share_fold case (sides_of c.args.above.now) (sides_among (map split_of c.args.named.now.forms.items) (sides_of c.args.above.now)))
+    (share_fold case c.args.above.now (sides_among (map split_of c.args.named.now.forms.items) c.args.above.now))
     (map weight_of c.args.weights.now) c.loop-row.row-index none (map share_of c.loop-row.shares.items) (c.loop-row.invariant.so_far case shows)
     (let t = c.loop-row-test.false in let e = length-map c.args.weights.now weight_of in omega arith)

@@ -4,7 +4,7 @@ use Rattle.rg_order_of_work.specs.Fold.{each}
 use Rattle.rg_order_of_work.specs.Rewriting.{CaseSystem}
 use Rattle.rg_order_of_work.specs.Spreading.{Share, share_fold}
 use Rattle.rg_order_of_work.proofs.Folding.{behind}
-use Rattle.rg_branch.specs.View.{sides_of, weight_of}
+use Rattle.rg_branch.specs.View.{weight_of}
 use Rattle.rg_rows.specs.Forms.{split_of}
 use Rattle.rg_rows.specs.Shown.{ShowsCase}
 use Rattle.rg_farkas.specs.Leaves.{share_of}
@@ -14,7 +14,7 @@ use Rattle.rg_separate.proofs.shares.shares.Given as goal
 abbrev pub invariant-loop-row : goal.invariant-loop-row
 invariant-loop-row l = record {
   so_far : (case : CaseSystem) → ShowsCase l.named case → (r : Result (List Share) Wide)
-      → each (share_fold case (sides_of l.above) (sides_among (map split_of l.named.forms.items) (sides_of l.above))) (drop l.row-index (map weight_of l.weights)) r
-      → each (share_fold case (sides_of l.above) (sides_among (map split_of l.named.forms.items) (sides_of l.above))) (map weight_of l.weights) (behind (map share_of l.shares.items) r);
+      → each (share_fold case l.above (sides_among (map split_of l.named.forms.items) l.above)) (drop l.row-index (map weight_of l.weights)) r
+      → each (share_fold case l.above (sides_among (map split_of l.named.forms.items) l.above)) (map weight_of l.weights) (behind (map share_of l.shares.items) r);
   one_each : length l.shares.items ≡ l.row-index;
 }

@@ -1,8 +1,7 @@
 use Rattle.std.proofs.Common.{◌≡◌, map, take}
-use Rattle.rg_branch.specs.View.{sides_of}
 use Rattle.rg_rows.specs.Forms.{split_of}
 use Rattle.rg_separate.specs.Casing.{sides_among}
 use Rattle.rg_separate.proofs.sides.named_sides.Given as goal
 
 abbrev pub invariant-loop-form : goal.invariant-loop-form
-invariant-loop-form l = l.sides.items ≡ sides_among (map split_of l.forms) (sides_of (take l.form-index l.above))
+invariant-loop-form l = l.sides.items ≡ sides_among (map split_of l.forms) (take l.form-index l.above)

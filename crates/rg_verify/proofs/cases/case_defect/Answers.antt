@@ -5,12 +5,13 @@ use Rattle.std.proofs.lemmas.List.{map-append, length-map}
 use Rattle.std.proofs.Math.ListN.{drop_of_length-le}
 use Rattle.rg_reasons.specs.declared.certificate.Node.{Node}
 use Rattle.rg_reasons.specs.Certificates.{case_tree, IsNodeOf}
-use Rattle.rg_reasons.specs.Trees.{TreeNode, TreeNode.leaf_node, named_row, node_of, nodes_of}
+use Rattle.rg_splits.specs.Trees.{TreeNode.leaf_node}
+use Rattle.rg_reasons.specs.Trees.{TreeNode, named_row, node_of, nodes_of}
 use Rattle.rg_verify.proofs.Walking.{IsAtNode, at_first, node_in_range, after_split, after_leaf, found_at, found_split, at_last}
 use Rattle.rg_verify.proofs.Places.{drop_image}
 use Rattle.rg_verify.proofs.cases.case_defect.Goals as goal
 use Rattle.rg_verify.proofs.cases.case_defect.Goals.{in-Split+else-not-stands+in_ok-push-in-Split, in-Leaf+in_ok-defect-in-Leaf+in_default}
-use Rattle.rg_refuting.specs.declared.Side.{Side}
+use Rattle.rg_refuting.specs.Row.{Side}
 
 pub loop-node-init : goal.loop-node-init
 loop-node-init c = record {
