@@ -1,3 +1,4 @@
 pub mod WholeNumbers
 pub mod ColumnViews
 pub mod StatesNamed
+pub mod SettingViews

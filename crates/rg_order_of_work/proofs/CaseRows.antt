@@ -12,8 +12,8 @@ use Rattle.rg_theory.proofs.Lists.{Contains-cons_cases}
 use Rattle.rg_refuting.specs.declared.Variable.{Variable}
 use Rattle.rg_refuting.specs.Row.{RowStands, Says}
 use Rattle.rg_refuting.specs.declared.RowName.{RowName}
+use Rattle.rg_order_of_work.specs.Setting.{CaseSetting}
 use Rattle.rg_order_of_work.specs.Potentials.{potential}
-use Rattle.rg_linear.specs.Cycle.{CycleBasis}
 use Rattle.rg_order_of_work.specs.Rewriting.{has_start, problem_rows, names_of, CaseSystem}
 use Rattle.rg_order_of_work.specs.Values.{numbers_along, UnusedAreZero}
 use Rattle.rg_order_of_work.proofs.ChordRows.{effects_exact}
@@ -60,20 +60,20 @@ pub arc_stands : (lts : System) (class : Class) (problem : Problem) (number q t 
 arc_stands lts class (Event s u) number q t q' h = h
 arc_stands lts class (States s s') number q t q' h = h
 
-pub arcs_hold : (lts : System) (tree : List Arc) (basis : CycleBasis) (class : Class) (problem : Problem) (number : ℕ) (case : CaseSystem) (start : ℤ) (effect : ℕ → ℤ)
-    (scale : ℤ) (q t q' : ℕ) → IsCaseOver lts tree basis class problem number case → AreEffects lts tree basis effect → HasArc lts q t q'
-    → RowHolds lts class problem number scale (numbers_along lts tree start effect) (row_name.Arc (arc q t q'))
-arcs_hold lts tree basis class problem number case start effect scale q t q' c e has = by problem
+pub arcs_hold : (it : CaseSetting) (case : CaseSystem) (start : ℤ) (effect : ℕ → ℤ) (scale : ℤ) (q t q' : ℕ) → IsCaseOver it case
+    → AreEffects it.lts it.tree it.basis effect → HasArc it.lts q t q'
+    → RowHolds it.lts it.class it.problem it.number scale (numbers_along it.lts it.tree start effect) (row_name.Arc (arc q t q'))
+arcs_hold it case start effect scale q t q' c e has = by it.problem
   where
-    kept : potential lts tree start effect q +ℤ effect t ≡ potential lts tree start effect q'
-    kept = (effects_exact lts tree basis start effect c.in_range c.is_tree c.is_basis).1 e.follows (arc q t q') has
+    kept : potential it.lts it.tree start effect q +ℤ effect t ≡ potential it.lts it.tree start effect q'
+    kept = (effects_exact it.lts it.tree it.basis start effect c.in_range c.is_tree c.is_basis).1 e.follows (arc q t q') has
 
     zero_row : (a e b k : ℤ) → a +ℤ e ≡ b → ((pos 1 *ℤ a) +ℤ ((pos 1 *ℤ e) +ℤ ((negsuc 0 *ℤ b) +ℤ pos 0))) +ℤ (pos 0 *ℤ k) ≡ pos 0
     zero_row a e b k p = omega (arith, ints)
 
-    by : (p : Problem) → RowHolds lts class p number scale (numbers_along lts tree start effect) (row_name.Arc (arc q t q'))
-    by (Event s u) = zero_row (potential lts tree start effect q) (effect t) (potential lts tree start effect q') scale kept
-    by (States s s') = zero_row (potential lts tree start effect q) (effect t) (potential lts tree start effect q') scale kept
+    by : (p : Problem) → RowHolds it.lts it.class p it.number scale (numbers_along it.lts it.tree start effect) (row_name.Arc (arc q t q'))
+    by (Event s u) = zero_row (potential it.lts it.tree start effect q) (effect t) (potential it.lts it.tree start effect q') scale kept
+    by (States s s') = zero_row (potential it.lts it.tree start effect q) (effect t) (potential it.lts it.tree start effect q') scale kept
 
 -- ---- rows that are left out
 

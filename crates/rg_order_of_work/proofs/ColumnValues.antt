@@ -3,14 +3,13 @@ use Rattle.std.proofs.Common.{◌≡◌, ℕ, zero, suc, ◌+◌, ◌<◌, ◌&&
 use Rattle.std.specs.Prelude.{ℤ, pos, ◌*ℤ◌}
 use Rattle.std.proofs.lemmas.List.{length-map, get_or-map}
 use Rattle.std.proofs.Math.IntN.{*ℤ_comm}
-use Rattle.rg_theory.specs.declared.Arc.{Arc}
 use Rattle.rg_theory.specs.declared.Class.{Class}
-use Rattle.rg_theory.specs.declared.Problem.{Problem}
 use Rattle.rg_theory.specs.System.{System, labels}
 use Rattle.rg_integers.specs.Sum.{sum_below, number_at, dot}
 use Rattle.rg_integers.proofs.Sums.{sum_below-same}
 use Rattle.rg_integers.proofs.Dots.{dot_comm, dot-sum_below}
 use Rattle.rg_linear.specs.Cycle.{CycleBasis}
+use Rattle.rg_order_of_work.specs.Setting.{CaseSetting}
 use Rattle.rg_order_of_work.specs.Rewriting.{is_in, numbers_where, has_label, free_labels, free_columns, has_start, column_count, CaseSystem, system_fold}
 use Rattle.rg_order_of_work.specs.Values.{picked, column_values}
 use Rattle.rg_order_of_work.specs.Meaning.{first_column}
@@ -42,12 +41,12 @@ columns_counted lts basis class start effect = ap length (columns_split lts basi
     go true = ap suc (length-map (free_columns lts basis) effect ∙ sym (length-map (free_columns lts basis) pos))
     go false = length-map (free_columns lts basis) effect ∙ sym (length-map (free_columns lts basis) pos)
 
-pub columns_of_case : (lts : System) (tree : List Arc) (basis : CycleBasis) (class : Class) (problem : Problem) (number : ℕ) (case : CaseSystem) → system_fold lts tree basis class problem number (Ok case) → case.columns ≡ column_count lts basis class
-columns_of_case lts tree basis class problem number case (all, made, (forms, forms_made, (columns, keeps, form_list))) = columns
+pub columns_of_case : (s : CaseSetting) (case : CaseSystem) → system_fold s (Ok case) → case.columns ≡ column_count s.lts s.basis s.class
+columns_of_case s case (all, made, (forms, forms_made, (columns, keeps, form_list))) = columns
 
-pub values_counted : (lts : System) (tree : List Arc) (basis : CycleBasis) (class : Class) (problem : Problem) (number : ℕ) (case : CaseSystem) (start : ℤ)
-    (effect : ℕ → ℤ) → system_fold lts tree basis class problem number (Ok case) → length (column_values lts basis class start effect) ≡ case.columns
-values_counted lts tree basis class problem number case start effect fold = columns_counted lts basis class start effect ∙ sym (columns_of_case lts tree basis class problem number case fold)
+pub values_counted : (s : CaseSetting) (case : CaseSystem) (start : ℤ) (effect : ℕ → ℤ) → system_fold s (Ok case)
+    → length (column_values s.lts s.basis s.class start effect) ≡ case.columns
+values_counted s case start effect fold = columns_counted s.lts s.basis s.class start effect ∙ sym (columns_of_case s case fold)
 
 pub first_value : (lts : System) (basis : CycleBasis) (class : Class) (start : ℤ) (effect : ℕ → ℤ) → has_start class ≡ true → number_at (column_values lts basis class start effect) 0 ≡ start
 first_value lts basis class start effect starts = ap (λ b. number_at ((if b then (start ∷ []) else []) ++ picked (λ t. has_label t lts.arcs) (free_labels (labels lts) basis) effect) 0) starts
@@ -69,23 +68,23 @@ free_value lts basis class start effect i lt = ap (λ l. number_at l (first_colu
 dot_over : (xs ys : List ℤ) → dot xs ys ≡ sum_below (length ys) (λ j. number_at xs j *ℤ number_at ys j)
 dot_over xs ys = dot_comm xs ys ∙ dot-sum_below ys xs ∙ sum_below-same (length ys) (λ j. number_at ys j *ℤ number_at xs j) (λ j. number_at xs j *ℤ number_at ys j) (λ j lt. *ℤ_comm (number_at ys j) (number_at xs j))
 
-pub row_sum : (lts : System) (tree : List Arc) (basis : CycleBasis) (class : Class) (problem : Problem) (number : ℕ) (case : CaseSystem) (start : ℤ) (effect : ℕ → ℤ)
-    (coeffs : List ℤ) → system_fold lts tree basis class problem number (Ok case) → dot coeffs (column_values lts basis class start effect) ≡ sum_below case.columns
-    (λ j. number_at coeffs j *ℤ number_at (column_values lts basis class start effect) j)
-row_sum lts tree basis class problem number case start effect coeffs fold = dot_over coeffs (column_values lts basis class start effect)
-    ∙ ap (λ n. sum_below n (λ j. number_at coeffs j *ℤ number_at (column_values lts basis class start effect) j))
-    (values_counted lts tree basis class problem number case start effect fold)
+pub row_sum : (s : CaseSetting) (case : CaseSystem) (start : ℤ) (effect : ℕ → ℤ) (coeffs : List ℤ) → system_fold s (Ok case)
+    → dot coeffs (column_values s.lts s.basis s.class start effect)
+    ≡ sum_below case.columns (λ j. number_at coeffs j *ℤ number_at (column_values s.lts s.basis s.class start effect) j)
+row_sum s case start effect coeffs fold = dot_over coeffs (column_values s.lts s.basis s.class start effect)
+    ∙ ap (λ n. sum_below n (λ j. number_at coeffs j *ℤ number_at (column_values s.lts s.basis s.class start effect) j))
+    (values_counted s case start effect fold)
 
 -- Start and the free labels with an arc have columns
-pub start_below : (lts : System) (tree : List Arc) (basis : CycleBasis) (class : Class) (problem : Problem) (number : ℕ) (case : CaseSystem) → system_fold lts tree basis class problem number (Ok case) → has_start class ≡ true → 0 < case.columns
-start_below lts tree basis class problem number case fold starts =
-    let is = columns_of_case lts tree basis class problem number case fold ∙ ap (λ b. length ((if b then (pos 0 ∷ []) else []) ++ map pos (free_columns lts basis))) starts in
+pub start_below : (s : CaseSetting) (case : CaseSystem) → system_fold s (Ok case) → has_start s.class ≡ true → 0 < case.columns
+start_below s case fold starts =
+    let is = columns_of_case s case fold ∙ ap (λ b. length ((if b then (pos 0 ∷ []) else []) ++ map pos (free_columns s.lts s.basis))) starts in
     omega arith
 
-pub free_below : (lts : System) (tree : List Arc) (basis : CycleBasis) (class : Class) (problem : Problem) (number : ℕ) (case : CaseSystem) (i : ℕ) → system_fold lts tree basis class problem number (Ok case) → i < length (free_columns lts basis) → first_column class + i < case.columns
-free_below lts tree basis class problem number case i fold lt = go (has_start class) case.columns (columns_of_case lts tree basis class problem number case fold) (length-map (free_columns lts basis) pos)
+pub free_below : (s : CaseSetting) (case : CaseSystem) (i : ℕ) → system_fold s (Ok case) → i < length (free_columns s.lts s.basis) → first_column s.class + i < case.columns
+free_below s case i fold lt = go (has_start s.class) case.columns (columns_of_case s case fold) (length-map (free_columns s.lts s.basis) pos)
   where
-    go : (b : Bool) (n : ℕ) → n ≡ length ((if b then (pos 0 ∷ []) else []) ++ map pos (free_columns lts basis)) → length (map pos (free_columns lts basis)) ≡ length (free_columns lts basis) → (if b then 1 else 0) + i < n
+    go : (b : Bool) (n : ℕ) → n ≡ length ((if b then (pos 0 ∷ []) else []) ++ map pos (free_columns s.lts s.basis)) → length (map pos (free_columns s.lts s.basis)) ≡ length (free_columns s.lts s.basis) → (if b then 1 else 0) + i < n
     go true n is same = omega arith
     go false n is same = omega arith
 

@@ -5,7 +5,6 @@ use Rattle.std.proofs.lemmas.Int.{ints, unsigned_abs-mul}
 use Rattle.std.specs.Int.{◌∣◌}
 use Rattle.std.proofs.Math.Nat.{dvd-mul_right}
 use Rattle.rg_theory.specs.declared.Arc.{Arc}
-use Rattle.rg_theory.specs.declared.Class.{Class}
 use Rattle.rg_theory.specs.System.{System, labels}
 use Rattle.rg_theory.proofs.Lists.{Contains-cons_cases}
 use Rattle.rg_refuting.specs.Expression.{Term, Expression, value_in}
@@ -17,6 +16,7 @@ use Rattle.std.proofs.Math.IntN.{*ℤ_comm}
 use Rattle.rg_integers.proofs.Order.{mul-cancel, mul-cancel_left, mul_positive, positive_differs}
 use Rattle.rg_integers.proofs.Sums.{sum_below-same}
 use Rattle.rg_integers.proofs.Divisors.{exact}
+use Rattle.rg_order_of_work.specs.Setting.{Setting}
 use Rattle.rg_order_of_work.specs.Fold.{each, Ratio, whole}
 use Rattle.rg_order_of_work.specs.Chords.{chord_system, IsBasis}
 use Rattle.rg_order_of_work.specs.Rewriting.{is_in, numbers_where, has_label, free_labels, dependent_labels, start_of, count_of, coefficient_fold, has_start, pick, Scaled, scaled_fold, terms_fold, KeptRow, row_fold}
@@ -185,57 +185,59 @@ free_sum lts tree basis counts effect part b is follows divides =
 -- ---- the row
 
 -- the numbers of the expression over the columns are worth the expression, times the multiple
-pub terms_value : (lts : System) (tree : List Arc) (basis : CycleBasis) (class : Class) (terms : List Term) (start : ℤ) (effect : ℕ → ℤ) (scaled : Scaled)
-    → IsBasis lts tree basis → NamesLabels (labels lts) terms → (has_start class ≡ false → start ≡ pos 0)
-    → FollowsRelations (chord_system lts tree basis.kept) basis.members effect → UnusedAreZero lts effect → terms_fold lts tree basis class terms (Ok scaled)
-    → dot scaled.numbers (column_values lts basis class start effect) ≡ scaled.multiple *ℤ value_in (numbers_along lts tree start effect) terms
-terms_value lts tree basis class terms start effect scaled is names no_start follows unused (free, substituted, scales) =
-    let (b, positive, divides) = common_bottom (λ t. (basis.relation t).d) (dependent_labels (labels lts) basis) (λ t has. (is.relations t (dependent lts basis t has).0 (dependent lts basis t has).1).positive) in
-    let part : ℕ → ℤ = λ t. int_div b (basis.relation t).d in
-    let parts : (t : ℕ) → Contains (dependent_labels (labels lts) basis) t → b ≡ (basis.relation t).d *ℤ int_div b (basis.relation t).d = λ t has. part_exact (basis.relation t).d b (divides t has) in
-    let counts = count_of tree terms in
-    let x : ℕ → ℤ = λ f. (count_of tree terms f *ℤ b) +ℤ sum_over (λ t. count_of tree terms t *ℤ ((basis.relation t).coefficient f *ℤ int_div b (basis.relation t).d)) (dependent_labels (labels lts) basis) in
-    let over = picked_over lts basis (count_of tree terms) b x (λ t. has_label t lts.arcs) (free_labels (labels lts) basis) free (λ f h fold. coefficient_over lts basis (count_of tree terms) f h b part parts fold) substituted in
-    let free_value = dot_picked (λ t. has_label t lts.arcs) x effect (free_labels (labels lts) basis) unused ∙ free_sum lts tree basis (count_of tree terms) effect part b is follows parts in
-    mul-cancel (dot scaled.numbers (column_values lts basis class start effect)) (scaled.multiple *ℤ value_in (numbers_along lts tree start effect) terms) b (positive_differs b positive)
-    (columns (has_start class) refl b x (pick (λ t. has_label t lts.arcs) (free_labels (labels lts) basis) free) over free_value scales ∙ ap (λ z. (scaled.multiple *ℤ z) *ℤ b) (sym (rewritten lts tree start effect terms names)))
+pub terms_value : (it : Setting) (terms : List Term) (start : ℤ) (effect : ℕ → ℤ) (scaled : Scaled) → IsBasis it.lts it.tree it.basis
+    → NamesLabels (labels it.lts) terms → (has_start it.class ≡ false → start ≡ pos 0)
+    → FollowsRelations (chord_system it.lts it.tree it.basis.kept) it.basis.members effect → UnusedAreZero it.lts effect → terms_fold it terms (Ok scaled)
+    → dot scaled.numbers (column_values it.lts it.basis it.class start effect) ≡ scaled.multiple *ℤ value_in (numbers_along it.lts it.tree start effect) terms
+terms_value it terms start effect scaled is names no_start follows unused (free, substituted, scales) =
+    let (b, positive, divides) = common_bottom (λ t. (it.basis.relation t).d) (dependent_labels (labels it.lts) it.basis) (λ t has. (is.relations t (dependent it.lts it.basis t has).0 (dependent it.lts it.basis t has).1).positive) in
+    let part : ℕ → ℤ = λ t. int_div b (it.basis.relation t).d in
+    let parts : (t : ℕ) → Contains (dependent_labels (labels it.lts) it.basis) t → b ≡ (it.basis.relation t).d *ℤ int_div b (it.basis.relation t).d = λ t has. part_exact (it.basis.relation t).d b (divides t has) in
+    let counts = count_of it.tree terms in
+    let x : ℕ → ℤ = λ f. (count_of it.tree terms f *ℤ b) +ℤ sum_over (λ t. count_of it.tree terms t *ℤ ((it.basis.relation t).coefficient f *ℤ int_div b (it.basis.relation t).d)) (dependent_labels (labels it.lts) it.basis) in
+    let over = picked_over it.lts it.basis (count_of it.tree terms) b x (λ t. has_label t it.lts.arcs) (free_labels (labels it.lts) it.basis) free (λ f h fold. coefficient_over it.lts it.basis (count_of it.tree terms) f h b part parts fold) substituted in
+    let free_value = dot_picked (λ t. has_label t it.lts.arcs) x effect (free_labels (labels it.lts) it.basis) unused ∙ free_sum it.lts it.tree it.basis (count_of it.tree terms) effect part b is follows parts in
+    mul-cancel (dot scaled.numbers (column_values it.lts it.basis it.class start effect)) (scaled.multiple *ℤ value_in (numbers_along it.lts it.tree start effect) terms) b (positive_differs b positive)
+    (columns (has_start it.class) refl b x (pick (λ t. has_label t it.lts.arcs) (free_labels (labels it.lts) it.basis) free) over free_value scales ∙ ap (λ z. (scaled.multiple *ℤ z) *ℤ b) (sym (rewritten it.lts it.tree start effect terms names)))
   where
-    columns : (s : Bool) → has_start class ≡ s → (b : ℤ) (x : ℕ → ℤ) (rs : List Ratio)
-        → AllOver b rs (picked (λ t. has_label t lts.arcs) (free_labels (labels lts) basis) x)
-        → dot (picked (λ t. has_label t lts.arcs) (free_labels (labels lts) basis) x) (picked (λ t. has_label t lts.arcs) (free_labels (labels lts) basis) effect) ≡ b *ℤ
-        sum_below (labels lts) (λ t. count_of tree terms t *ℤ effect t)
+    columns : (s : Bool) → has_start it.class ≡ s → (b : ℤ) (x : ℕ → ℤ) (rs : List Ratio)
+        → AllOver b rs (picked (λ t. has_label t it.lts.arcs) (free_labels (labels it.lts) it.basis) x)
+        → dot (picked (λ t. has_label t it.lts.arcs) (free_labels (labels it.lts) it.basis) x) (picked (λ t. has_label t it.lts.arcs) (free_labels (labels it.lts) it.basis) effect) ≡ b *ℤ
+        sum_below (labels it.lts) (λ t. count_of it.tree terms t *ℤ effect t)
         → scaled_fold ((if s then (whole (start_of terms) ∷ []) else []) ++ rs) (Ok scaled)
-        → dot scaled.numbers ((if s then (start ∷ []) else []) ++ picked (λ t. has_label t lts.arcs) (free_labels (labels lts) basis) effect) *ℤ b ≡ (scaled.multiple *ℤ ((start_of terms *ℤ start) +ℤ sum_below (labels lts) (λ t. count_of tree terms t *ℤ effect t))) *ℤ b
+        → dot scaled.numbers ((if s then (start ∷ []) else []) ++ picked (λ t. has_label t it.lts.arcs) (free_labels (labels it.lts) it.basis) effect) *ℤ b ≡ (scaled.multiple *ℤ ((start_of terms *ℤ start) +ℤ sum_below (labels it.lts) (λ t. count_of it.tree terms t *ℤ effect t))) *ℤ b
     columns true e b x rs over value scales =
-        scaled_dot b (whole (start_of terms) ∷ rs) ((start_of terms *ℤ b) ∷ picked (λ t. has_label t lts.arcs) (free_labels (labels lts) basis) x) (start ∷ picked (λ t. has_label t lts.arcs) (free_labels (labels lts) basis) effect) scaled (whole_over b (start_of terms), over) scales
+        scaled_dot b (whole (start_of terms) ∷ rs) ((start_of terms *ℤ b) ∷ picked (λ t. has_label t it.lts.arcs) (free_labels (labels it.lts) it.basis) x)
+        (start ∷ picked (λ t. has_label t it.lts.arcs) (free_labels (labels it.lts) it.basis) effect) scaled (whole_over b (start_of terms), over) scales
         ∙ ap (λ z. (((start_of terms *ℤ b) *ℤ start) +ℤ z) *ℤ scaled.multiple) value
-        ∙ close (start_of terms) b start (sum_below (labels lts) (λ t. count_of tree terms t *ℤ effect t)) scaled.multiple
+        ∙ close (start_of terms) b start (sum_below (labels it.lts) (λ t. count_of it.tree terms t *ℤ effect t)) scaled.multiple
       where
         close : (c b z s m : ℤ) → (((c *ℤ b) *ℤ z) +ℤ (b *ℤ s)) *ℤ m ≡ (m *ℤ ((c *ℤ z) +ℤ s)) *ℤ b
         close c b z s m = simp ring (omega (arith, ints))
     columns false e b x rs over value scales =
-        scaled_dot b rs (picked (λ t. has_label t lts.arcs) (free_labels (labels lts) basis) x) (picked (λ t. has_label t lts.arcs) (free_labels (labels lts) basis) effect) scaled over scales
+        scaled_dot b rs (picked (λ t. has_label t it.lts.arcs) (free_labels (labels it.lts) it.basis) x) (picked (λ t. has_label t it.lts.arcs) (free_labels (labels it.lts) it.basis) effect) scaled over scales
         ∙ ap (λ z. z *ℤ scaled.multiple) value
-        ∙ close (start_of terms) b (sum_below (labels lts) (λ t. count_of tree terms t *ℤ effect t)) scaled.multiple
-        ∙ ap (λ z. (scaled.multiple *ℤ ((start_of terms *ℤ z) +ℤ sum_below (labels lts) (λ t. count_of tree terms t *ℤ effect t))) *ℤ b) (sym (no_start e))
+        ∙ close (start_of terms) b (sum_below (labels it.lts) (λ t. count_of it.tree terms t *ℤ effect t)) scaled.multiple
+        ∙ ap (λ z. (scaled.multiple *ℤ ((start_of terms *ℤ z) +ℤ sum_below (labels it.lts) (λ t. count_of it.tree terms t *ℤ effect t))) *ℤ b) (sym (no_start e))
       where
         close : (c b s m : ℤ) → (b *ℤ s) *ℤ m ≡ (m *ℤ ((c *ℤ pos 0) +ℤ s)) *ℤ b
         close c b s m = simp ring (omega (arith, ints))
 
 -- the value of a row, times the factor's bottom, is that of its named row, times the factor's top
-pub row_value_is : (lts : System) (tree : List Arc) (basis : CycleBasis) (class : Class) (name : RowName) (e : Expression) (start : ℤ) (effect : ℕ → ℤ) (scale : ℤ)
-    (out : KeptRow) → IsBasis lts tree basis → NamesLabels (labels lts) e.terms → (has_start class ≡ false → start ≡ pos 0)
-    → FollowsRelations (chord_system lts tree basis.kept) basis.members effect → UnusedAreZero lts effect → row_fold lts tree basis class name e (Ok out)
-    → out.factor.bottom *ℤ (dot out.row.coeffs (column_values lts basis class start effect) +ℤ (out.row.constant *ℤ scale)) ≡ out.factor.top *ℤ
-    (value_in (numbers_along lts tree start effect) e.terms +ℤ (e.constant *ℤ scale))
-row_value_is lts tree basis class name e start effect scale out is names no_start follows unused (scaled, terms, (constant, product, (named, d))) =
+pub row_value_is : (it : Setting) (name : RowName) (e : Expression) (start : ℤ) (effect : ℕ → ℤ) (scale : ℤ) (out : KeptRow) → IsBasis it.lts it.tree it.basis
+    → NamesLabels (labels it.lts) e.terms → (has_start it.class ≡ false → start ≡ pos 0)
+    → FollowsRelations (chord_system it.lts it.tree it.basis.kept) it.basis.members effect → UnusedAreZero it.lts effect → row_fold it name e (Ok out)
+    → out.factor.bottom *ℤ (dot out.row.coeffs (column_values it.lts it.basis it.class start effect) +ℤ (out.row.constant *ℤ scale))
+    ≡ out.factor.top *ℤ (value_in (numbers_along it.lts it.tree start effect) e.terms +ℤ (e.constant *ℤ scale))
+row_value_is it name e start effect scale out is names no_start follows unused (scaled, terms, (constant, product, (named, d))) =
     let g = pos (max d.divisor 1) in
-    let value = terms_value lts tree basis class e.terms start effect scaled is names no_start follows unused terms in
-    let numbers : pos (max d.divisor 1) *ℤ dot out.row.coeffs (column_values lts basis class start effect) ≡ scaled.multiple *ℤ value_in
-    (numbers_along lts tree start effect) e.terms = sym (dot-times (pos (max d.divisor 1)) out.row.coeffs (column_values lts basis class start effect))
-    ∙ ap (λ l. dot l (column_values lts basis class start effect)) (sym d.coeffs) ∙ value in
+    let value = terms_value it e.terms start effect scaled is names no_start follows unused terms in
+    let numbers : pos (max d.divisor 1) *ℤ dot out.row.coeffs (column_values it.lts it.basis it.class start effect) ≡ scaled.multiple *ℤ value_in
+    (numbers_along it.lts it.tree start effect) e.terms = sym (dot-times (pos (max d.divisor 1)) out.row.coeffs (column_values it.lts it.basis it.class start effect))
+    ∙ ap (λ l. dot l (column_values it.lts it.basis it.class start effect)) (sym d.coeffs) ∙ value in
     let constants : pos (max d.divisor 1) *ℤ out.row.constant ≡ e.constant *ℤ scaled.multiple = sym d.constant ∙ whole_product_is e.constant scaled.multiple constant product in
-    close (pos (max d.divisor 1)) scaled.multiple out.factor.top out.factor.bottom (dot out.row.coeffs (column_values lts basis class start effect)) out.row.constant (value_in (numbers_along lts tree start effect) e.terms) e.constant scale d.factor.nonzero numbers constants d.factor.value
+    close (pos (max d.divisor 1)) scaled.multiple out.factor.top out.factor.bottom (dot out.row.coeffs (column_values it.lts it.basis it.class start effect)) out.row.constant
+    (value_in (numbers_along it.lts it.tree start effect) e.terms) e.constant scale d.factor.nonzero numbers constants d.factor.value
   where
     close : (g m t u r k v c s : ℤ) → g ≢ pos 0 → g *ℤ r ≡ m *ℤ v → g *ℤ k ≡ c *ℤ m → t *ℤ g ≡ m *ℤ u → u *ℤ (r +ℤ (k *ℤ s)) ≡ t *ℤ (v +ℤ (c *ℤ s))
     close g m t u r k v c s ne p q f = mul-cancel_left g (u *ℤ (r +ℤ (k *ℤ s))) (t *ℤ (v +ℤ (c *ℤ s))) ne

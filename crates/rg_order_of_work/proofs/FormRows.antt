@@ -6,7 +6,6 @@ use Rattle.std.proofs.lemmas.Int.{ints}
 use Rattle.std.proofs.lemmas.Bool.{true≢false}
 use Rattle.std.proofs.lemmas.List.{get_or_default, length-map}
 use Rattle.std.proofs.lemmas.List.Elements.{All-head, All-tail}
-use Rattle.rg_theory.specs.declared.Arc.{Arc}
 use Rattle.rg_theory.specs.declared.Class.{Class}
 use Rattle.rg_theory.specs.declared.Problem.{Problem}
 use Rattle.rg_theory.specs.declared.Problem.TheVariants.{Event, States}
@@ -20,12 +19,12 @@ use Rattle.rg_integers.specs.Sum.{number_at}
 use Rattle.rg_fraction.proofs.Ones.{first_part}
 use Rattle.rg_linear.specs.System.{LinearRow, row_at}
 use Rattle.rg_linear.specs.Branching.{Form, form_at}
-use Rattle.rg_linear.specs.Cycle.{CycleBasis}
 use Rattle.rg_linear.proofs.Firsts.{item_stays}
 use Rattle.rg_refuting.specs.Expression.{Term, Expression, plus, minus}
 use Rattle.rg_refuting.specs.Row.{RowStands, row_expression, form_variable, step_of}
 use Rattle.rg_refuting.specs.declared.RowName.{RowName}
 use Rattle.rg_refuting.specs.declared.Form.{Form as SplitForm}
+use Rattle.rg_order_of_work.specs.Setting.{Setting, CaseSetting}
 use Rattle.rg_order_of_work.specs.Fold.{Ratio, whole, mul}
 use Rattle.rg_order_of_work.specs.Rewriting.{Scaled, has_start, terms_fold, form_fold, row_fold, split_forms, form_low, form_high, names_of, KeptRow, IsIdle, CaseSystem, rows_of, system_fold}
 use Rattle.rg_order_of_work.specs.Meaning.{IsCaseOver}
@@ -51,11 +50,11 @@ same_terms lts class (States s s') n (split_form.Effect u) = refl
 same_terms lts class (States s s') n split_form.Start = refl
 
 -- the form is the row, times what the row was divided by
-pub form_over_row : (lts : System) (tree : List Arc) (basis : CycleBasis) (class : Class) (problem : Problem) (n : ℕ) (split : SplitForm) (form : Form) (k : KeptRow)
-    → form_fold lts tree basis class split (Ok form) → row_fold lts tree basis class (form_row lts.initial split)
-    (row_expression lts class problem n [] (form_row lts.initial split)) (Ok k) → (divisor : ℕ) × (form.coeffs ≡ map (λ z. pos (max divisor 1) *ℤ z) k.row.coeffs)
-form_over_row lts tree basis class problem n split form k (scaled, fold, e) (scaled', fold', (constant, product, (named, d))) =
-    let one = (terms_one lts tree basis class (plus (form_variable lts.initial split) ∷ [])).one (Ok scaled) (Ok scaled') fold (subst (λ (ts : List Term). terms_fold lts tree basis class ts (Ok scaled')) (same_terms lts class problem n split) fold') in
+pub form_over_row : (it : CaseSetting) (split : SplitForm) (form : Form) (k : KeptRow) → form_fold it.setting split (Ok form)
+    → row_fold it.setting (form_row it.lts.initial split) (row_expression it.lts it.class it.problem it.number [] (form_row it.lts.initial split)) (Ok k)
+    → (divisor : ℕ) × (form.coeffs ≡ map (λ z. pos (max divisor 1) *ℤ z) k.row.coeffs)
+form_over_row it split form k (scaled, fold, e) (scaled', fold', (constant, product, (named, d))) =
+    let one = (terms_one it.setting (plus (form_variable it.lts.initial split) ∷ [])).one (Ok scaled) (Ok scaled') fold (subst (λ (ts : List Term). terms_fold it.setting ts (Ok scaled')) (same_terms it.lts it.class it.problem it.number split) fold') in
     let same : scaled ≡ scaled' = cc in
     (d.divisor, ap (λ (f : Form). f.coeffs) e ∙ ap (λ (s : Scaled). s.numbers) same ∙ d.coeffs)
 
@@ -114,17 +113,16 @@ multiple_of_none case form k divisor e zeros = record {
     none : (z : ℤ) → pos 0 *ℤ z ≡ pos 0
     none z = omega (arith, ints)
 
-pub form_multiple : (lts : System) (tree : List Arc) (basis : CycleBasis) (class : Class) (problem : Problem) (n : ℕ) (case : CaseSystem)
-    → IsCaseOver lts tree basis class problem n case → (f : ℕ) → f < length case.forms → (row : ℕ) × (times : ℤ)
-    × IsMultipleOfRow (rows_of case) (form_at case.forms f) row times
-form_multiple lts tree basis class problem n case c f lt = from c.is_case
+pub form_multiple : (s : CaseSetting) (case : CaseSystem) → IsCaseOver s case → (f : ℕ) → f < length case.forms
+    → (row : ℕ) × (times : ℤ) × IsMultipleOfRow (rows_of case) (form_at case.forms f) row times
+form_multiple s case c f lt = from c.is_case
   where
-    from : system_fold lts tree basis class problem n (Ok case) → (row : ℕ) × (times : ℤ) × IsMultipleOfRow (rows_of case) (form_at case.forms f) row times
+    from : system_fold s (Ok case) → (row : ℕ) × (times : ℤ) × IsMultipleOfRow (rows_of case) (form_at case.forms f) row times
     from (all, made, (forms, forms_made, (columns, keeps, form_list))) =
-        let split = slice_index_or (split_forms lts class problem) f (split_form.Tokens 0) in
-        let (names, has, fold) = form_named lts tree basis class problem n case f c.is_case lt in
-        let (k, in_all, row) = made_of (λ name. row_fold lts tree basis class name (row_expression lts class problem n [] name)) (names_of lts class problem n) all (form_row lts.initial split) made (form_row_named lts class problem n split c.in_range has) in
-        let (divisor, e) = form_over_row lts tree basis class problem n split (form_at case.forms f) k fold row in
+        let split = slice_index_or (split_forms s.lts s.class s.problem) f (split_form.Tokens 0) in
+        let (names, has, fold) = form_named s case f c.is_case lt in
+        let (k, in_all, row) = made_of (λ name. row_fold s.setting name (row_expression s.lts s.class s.problem s.number [] name)) (names_of s.lts s.class s.problem s.number) all (form_row s.lts.initial split) made (form_row_named s.lts s.class s.problem s.number split c.in_range has) in
+        let (divisor, e) = form_over_row s split (form_at case.forms f) k fold row in
         found k divisor e (item_stays (λ x. x.row) IsIdle [] all case.kept k keeps in_all)
       where
         found : (k : KeptRow) (divisor : ℕ) → (form_at case.forms f).coeffs ≡ map (λ z. pos (max divisor 1) *ℤ z) k.row.coeffs → IsIdle k
@@ -150,33 +148,30 @@ by_one n m e = subst (λ k. m ≡ pos k *ℤ m) (sym e) (one m)
     one m = omega (arith, ints)
 
 -- the scale times the constant of a row with the terms of the form, where a step is 1
-fits_one : (lts : System) (tree : List Arc) (basis : CycleBasis) (class : Class) (split : SplitForm) (form : Form) (name : RowName) (e : Expression) (k : KeptRow)
-    → step_of class split ≡ 1 → form_fold lts tree basis class split (Ok form) → e.terms ≡ plus (form_variable lts.initial split) ∷ []
-    → row_fold lts tree basis class name e (Ok k) → InRange (e.constant *ℤ form.scale)
-fits_one lts tree basis class split form name e k step (scaled, fold, is) same (scaled', fold', (constant, product, divided)) =
-    let one = (terms_one lts tree basis class (plus (form_variable lts.initial split) ∷ [])).one (Ok scaled) (Ok scaled') fold (subst (λ (ts : List Term). terms_fold lts tree basis class ts (Ok scaled')) same fold') in
+fits_one : (it : Setting) (split : SplitForm) (form : Form) (name : RowName) (e : Expression) (k : KeptRow) → step_of it.class split ≡ 1 → form_fold it split (Ok form)
+    → e.terms ≡ plus (form_variable it.lts.initial split) ∷ [] → row_fold it name e (Ok k) → InRange (e.constant *ℤ form.scale)
+fits_one it split form name e k step (scaled, fold, is) same (scaled', fold', (constant, product, divided)) =
+    let one = (terms_one it (plus (form_variable it.lts.initial split) ∷ [])).one (Ok scaled) (Ok scaled') fold (subst (λ (ts : List Term). terms_fold it ts (Ok scaled')) same fold') in
     let equal : scaled ≡ scaled' = cc in
-    subst (λ z. InRange (e.constant *ℤ z)) (ap (λ (s : Scaled). s.multiple) (sym equal) ∙ by_one (step_of class split) scaled.multiple step ∙ ap (λ (f : Form). f.scale) (sym is)) (product_in_range e.constant scaled'.multiple constant product)
+    subst (λ z. InRange (e.constant *ℤ z)) (ap (λ (s : Scaled). s.multiple) (sym equal) ∙ by_one (step_of it.class split) scaled.multiple step ∙ ap (λ (f : Form). f.scale) (sym is)) (product_in_range e.constant scaled'.multiple constant product)
 
 -- or with their opposites
-fits_opposite : (lts : System) (tree : List Arc) (basis : CycleBasis) (class : Class) (split : SplitForm) (form : Form) (name : RowName) (e : Expression) (k : KeptRow)
-    → step_of class split ≡ 1 → form_fold lts tree basis class split (Ok form) → e.terms ≡ minus (form_variable lts.initial split) ∷ []
-    → row_fold lts tree basis class name e (Ok k) → InRange (e.constant *ℤ form.scale)
-fits_opposite lts tree basis class split form name e k step (scaled, fold, is) opposite (scaled', fold', (constant, product, divided)) =
-    subst (λ z. InRange (e.constant *ℤ z)) (same_multiple lts tree basis class (form_variable lts.initial split) scaled scaled' fold
-    (subst (λ (ts : List Term). terms_fold lts tree basis class ts (Ok scaled')) opposite fold') ∙ by_one (step_of class split) scaled.multiple step
+fits_opposite : (s : Setting) (split : SplitForm) (form : Form) (name : RowName) (e : Expression) (k : KeptRow) → step_of s.class split ≡ 1
+    → form_fold s split (Ok form) → e.terms ≡ minus (form_variable s.lts.initial split) ∷ [] → row_fold s name e (Ok k) → InRange (e.constant *ℤ form.scale)
+fits_opposite s split form name e k step (scaled, fold, is) opposite (scaled', fold', (constant, product, divided)) =
+    subst (λ z. InRange (e.constant *ℤ z)) (same_multiple s (form_variable s.lts.initial split) scaled scaled' fold
+    (subst (λ (ts : List Term). terms_fold s ts (Ok scaled')) opposite fold') ∙ by_one (step_of s.class split) scaled.multiple step
     ∙ ap (λ (f : Form). f.scale) (sym is)) (product_in_range e.constant scaled'.multiple constant product)
 
-pub start_scale : (lts : System) (tree : List Arc) (basis : CycleBasis) (class : Class) (form : Form) → IsTree lts tree → form_fold lts tree basis class split_form.Start (Ok form) → form.scale ≡ pos (step_of class split_form.Start)
-start_scale lts tree basis class form g (scaled, fold, e) = ap (λ (f : Form). f.scale) e ∙ ap (λ m. pos (step_of class split_form.Start) *ℤ m) (start_alone lts tree basis class scaled g fold) ∙ once (pos (step_of class split_form.Start))
+pub start_scale : (s : Setting) (form : Form) → IsTree s.lts s.tree → form_fold s split_form.Start (Ok form) → form.scale ≡ pos (step_of s.class split_form.Start)
+start_scale s form g (scaled, fold, e) = ap (λ (f : Form). f.scale) e ∙ ap (λ m. pos (step_of s.class split_form.Start) *ℤ m) (start_alone s scaled g fold) ∙ once (pos (step_of s.class split_form.Start))
   where
     once : (z : ℤ) → z *ℤ pos 1 ≡ z
     once z = omega (arith, ints)
 
-pub form_fits : (lts : System) (tree : List Arc) (basis : CycleBasis) (class : Class) (problem : Problem) (n : ℕ) (case : CaseSystem)
-    → IsCaseOver lts tree basis class problem n case → states lts ≤ most_states → (f : ℕ) → f < length case.forms
+pub form_fits : (it : CaseSetting) (case : CaseSystem) → IsCaseOver it case → states it.lts ≤ most_states → (f : ℕ) → f < length case.forms
     → InRange ((form_at case.forms f).scale *ℤ (form_at case.forms f).low) × InRange ((form_at case.forms f).scale *ℤ (form_at case.forms f).high)
-form_fits lts tree basis class problem n case c few f lt = from c.is_case
+form_fits it case c few f lt = from c.is_case
   where
     turn : (a b : ℤ) → a *ℤ b ≡ b *ℤ a
     turn a b = simp ring
@@ -191,10 +186,10 @@ form_fits lts tree basis class problem n case c few f lt = from c.is_case
         less s h = omega (arith, ints)
 
     -- of the start a step is at most 255, and there are at most 4,096 states
-    start_fits : (form : Form) → form_fold lts tree basis class split_form.Start (Ok form) → InRange (form.scale *ℤ form_high lts class split_form.Start)
-    start_fits form (scaled, fold, e) = subst (λ (x : Form). InRange (x.scale *ℤ form_high lts class split_form.Start)) (sym e)
-        (subst (λ m. InRange ((pos (step_of class split_form.Start) *ℤ m) *ℤ form_high lts class split_form.Start)) (sym (start_alone lts tree basis class scaled c.is_tree fold))
-        (by_numbers (step_of class split_form.Start) (unwrap_or class.bound (states lts)) (step_few class.marking c.numbers.marking) (high_few class.bound c.numbers.bound)))
+    start_fits : (form : Form) → form_fold it.setting split_form.Start (Ok form) → InRange (form.scale *ℤ form_high it.lts it.class split_form.Start)
+    start_fits form (scaled, fold, e) = subst (λ (x : Form). InRange (x.scale *ℤ form_high it.lts it.class split_form.Start)) (sym e)
+        (subst (λ m. InRange ((pos (step_of it.class split_form.Start) *ℤ m) *ℤ form_high it.lts it.class split_form.Start)) (sym (start_alone it.setting scaled c.is_tree fold))
+        (by_numbers (step_of it.class split_form.Start) (unwrap_or it.class.bound (states it.lts)) (step_few it.class.marking c.numbers.marking) (high_few it.class.bound c.numbers.bound)))
       where
         by_numbers : (n h : ℕ) → n ≤ 255 → h ≤ 4096 → InRange ((pos n *ℤ pos 1) *ℤ pos h)
         by_numbers n h few low = let most = abs-times (pos n *ℤ pos 1) (pos h) 255 4096 (omega (arith, ints)) (omega (arith, ints)) in omega (arith, most)
@@ -203,44 +198,44 @@ form_fits lts tree basis class problem n case c few f lt = from c.is_case
         step_few None h = omega arith
         step_few (Some n) h = h.1
 
-        high_few : (o : Option ℕ) → IfSome o (λ n. (0 < n) × (n ≤ 255)) → unwrap_or o (states lts) ≤ 4096
+        high_few : (o : Option ℕ) → IfSome o (λ n. (0 < n) × (n ≤ 255)) → unwrap_or o (states it.lts) ≤ 4096
         high_few None h = few
         high_few (Some n) h = let lt = h.1 in omega arith
 
-    from : system_fold lts tree basis class problem n (Ok case) → InRange ((form_at case.forms f).scale *ℤ (form_at case.forms f).low) × InRange ((form_at case.forms f).scale *ℤ (form_at case.forms f).high)
+    from : system_fold it (Ok case) → InRange ((form_at case.forms f).scale *ℤ (form_at case.forms f).low) × InRange ((form_at case.forms f).scale *ℤ (form_at case.forms f).high)
     from (all, made, rest) =
-        let split = slice_index_or (split_forms lts class problem) f (split_form.Tokens 0) in
-        let (names, has, fold) = form_named lts tree basis class problem n case f c.is_case lt in
-        with_bounds split (form_at case.forms f) fold (bounds split (form_at case.forms f) (split_is lts class problem split has) fold)
+        let split = slice_index_or (split_forms it.lts it.class it.problem) f (split_form.Tokens 0) in
+        let (names, has, fold) = form_named it case f c.is_case lt in
+        with_bounds split (form_at case.forms f) fold (bounds split (form_at case.forms f) (split_is it.lts it.class it.problem split has) fold)
       where
-        row_of : (name : RowName) → Contains (names_of lts class problem n) name → (k : KeptRow) × row_fold lts tree basis class name (row_expression lts class problem n [] name) (Ok k)
-        row_of name has = let (k, in_all, row) = made_of (λ m. row_fold lts tree basis class m (row_expression lts class problem n [] m)) (names_of lts class problem n) all name made has in (k, row)
+        row_of : (name : RowName) → Contains (names_of it.lts it.class it.problem it.number) name → (k : KeptRow) × row_fold it.setting name (row_expression it.lts it.class it.problem it.number [] name) (Ok k)
+        row_of name has = let (k, in_all, row) = made_of (λ m. row_fold it.setting m (row_expression it.lts it.class it.problem it.number [] m)) (names_of it.lts it.class it.problem it.number) all name made has in (k, row)
 
-        tokens_of : (q : ℕ) (form : Form) (p : Problem) → form_fold lts tree basis class (split_form.Tokens q) (Ok form) → (k : KeptRow) → row_fold lts tree basis class (row_name.Cap q) (row_expression lts class p n [] (row_name.Cap q)) (Ok k) → InRange (pos (unwrap_or class.bound 0) *ℤ form.scale)
-        tokens_of q form (Event s t) fold k row = fits_opposite lts tree basis class (split_form.Tokens q) form (row_name.Cap q) (row_expression lts class (Event s t) n [] (row_name.Cap q)) k refl fold refl row
-        tokens_of q form (States s s') fold k row = fits_opposite lts tree basis class (split_form.Tokens q) form (row_name.Cap q) (row_expression lts class (States s s') n [] (row_name.Cap q)) k refl fold refl row
+        tokens_of : (q : ℕ) (form : Form) (p : Problem) → form_fold it.setting (split_form.Tokens q) (Ok form) → (k : KeptRow) → row_fold it.setting (row_name.Cap q) (row_expression it.lts it.class p it.number [] (row_name.Cap q)) (Ok k) → InRange (pos (unwrap_or it.class.bound 0) *ℤ form.scale)
+        tokens_of q form (Event s t) fold k row = fits_opposite it.setting (split_form.Tokens q) form (row_name.Cap q) (row_expression it.lts it.class (Event s t) it.number [] (row_name.Cap q)) k refl fold refl row
+        tokens_of q form (States s s') fold k row = fits_opposite it.setting (split_form.Tokens q) form (row_name.Cap q) (row_expression it.lts it.class (States s s') it.number [] (row_name.Cap q)) k refl fold refl row
 
-        effect_of_label : (t : ℕ) (form : Form) (p : Problem) → form_fold lts tree basis class (split_form.Effect t) (Ok form) → (k : KeptRow) → row_fold lts tree basis class (row_name.Down t) (row_expression lts class p n [] (row_name.Down t)) (Ok k) → InRange (pos 1 *ℤ form.scale)
-        effect_of_label t form (Event s u) fold k row = fits_one lts tree basis class (split_form.Effect t) form (row_name.Down t) (row_expression lts class (Event s u) n [] (row_name.Down t)) k refl fold refl row
-        effect_of_label t form (States s s') fold k row = fits_one lts tree basis class (split_form.Effect t) form (row_name.Down t) (row_expression lts class (States s s') n [] (row_name.Down t)) k refl fold refl row
+        effect_of_label : (t : ℕ) (form : Form) (p : Problem) → form_fold it.setting (split_form.Effect t) (Ok form) → (k : KeptRow) → row_fold it.setting (row_name.Down t) (row_expression it.lts it.class p it.number [] (row_name.Down t)) (Ok k) → InRange (pos 1 *ℤ form.scale)
+        effect_of_label t form (Event s u) fold k row = fits_one it.setting (split_form.Effect t) form (row_name.Down t) (row_expression it.lts it.class (Event s u) it.number [] (row_name.Down t)) k refl fold refl row
+        effect_of_label t form (States s s') fold k row = fits_one it.setting (split_form.Effect t) form (row_name.Down t) (row_expression it.lts it.class (States s s') it.number [] (row_name.Down t)) k refl fold refl row
 
-        cap_stands : (p : Problem) (q : ℕ) → q < states lts → is_some class.bound ≡ true → RowStands lts class p n [] (row_name.Cap q)
+        cap_stands : (p : Problem) (q : ℕ) → q < states it.lts → is_some it.class.bound ≡ true → RowStands it.lts it.class p it.number [] (row_name.Cap q)
         cap_stands (Event s t) q lt bound = (lt, bound)
         cap_stands (States s s') q lt bound = (lt, bound)
 
-        cap_named : (q : ℕ) → q < states lts → is_some class.bound ≡ true → Contains (names_of lts class problem n) (row_name.Cap q)
-        cap_named q lt bound = ⊎_elim (λ named. named) (λ none. absurd none) (left_out lts class problem n (row_name.Cap q) c.in_range (cap_stands problem q lt bound))
+        cap_named : (q : ℕ) → q < states it.lts → is_some it.class.bound ≡ true → Contains (names_of it.lts it.class it.problem it.number) (row_name.Cap q)
+        cap_named q lt bound = ⊎_elim (λ named. named) (λ none. absurd none) (left_out it.lts it.class it.problem it.number (row_name.Cap q) c.in_range (cap_stands it.problem q lt bound))
 
-        bounds : (split : SplitForm) (form : Form) → IsSplitOf lts class problem split → form_fold lts tree basis class split (Ok form) → InRange (form.scale *ℤ form_low split) × InRange (form.scale *ℤ form_high lts class split)
+        bounds : (split : SplitForm) (form : Form) → IsSplitOf it.lts it.class it.problem split → form_fold it.setting split (Ok form) → InRange (form.scale *ℤ form_low split) × InRange (form.scale *ℤ form_high it.lts it.class split)
         bounds (split_form.Tokens q) form (bound, lt) fold =
             let (k, row) = row_of (row_name.Cap q) (cap_named q lt bound) in
-            (zero_low form.scale, subst InRange (turn (pos (unwrap_or class.bound 0)) form.scale) (tokens_of q form problem fold k row))
+            (zero_low form.scale, subst InRange (turn (pos (unwrap_or it.class.bound 0)) form.scale) (tokens_of q form it.problem fold k row))
         bounds (split_form.Effect t) form (bound, plain, used, lt) fold =
-            let (k, row) = row_of (row_name.Down t) (form_row_named lts class problem n (split_form.Effect t) c.in_range (plain_has lts class problem t bound plain lt used)) in
-            plainly form.scale (effect_of_label t form problem fold k row)
+            let (k, row) = row_of (row_name.Down t) (form_row_named it.lts it.class it.problem it.number (split_form.Effect t) c.in_range (plain_has it.lts it.class it.problem t bound plain lt used)) in
+            plainly form.scale (effect_of_label t form it.problem fold k row)
         bounds split_form.Start form splits fold = (zero_low form.scale, start_fits form fold)
 
-        with_bounds : (split : SplitForm) (form : Form) → form_fold lts tree basis class split (Ok form) → InRange (form.scale *ℤ form_low split) × InRange (form.scale *ℤ form_high lts class split) → InRange (form.scale *ℤ form.low) × InRange (form.scale *ℤ form.high)
+        with_bounds : (split : SplitForm) (form : Form) → form_fold it.setting split (Ok form) → InRange (form.scale *ℤ form_low split) × InRange (form.scale *ℤ form_high it.lts it.class split) → InRange (form.scale *ℤ form.low) × InRange (form.scale *ℤ form.high)
         with_bounds split form (scaled, fold, e) fits =
             subst (λ z. InRange (form.scale *ℤ z) × InRange (form.scale *ℤ form.high)) (sym (ap (λ (x : Form). x.low) e))
             (subst (λ z. InRange (form.scale *ℤ form_low split) × InRange (form.scale *ℤ z)) (sym (ap (λ (x : Form). x.high) e)) fits)

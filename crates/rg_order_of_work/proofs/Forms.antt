@@ -5,7 +5,6 @@ use Rattle.std.proofs.lemmas.Int.{ints}
 use Rattle.std.proofs.lemmas.Bool.{true≢false}
 use Rattle.std.proofs.lemmas.List.{get_or_default}
 use Rattle.std.proofs.lemmas.List.Elements.{Contains-append_left, Contains-append_right, Contains-append_cases}
-use Rattle.rg_theory.specs.declared.Arc.{Arc}
 use Rattle.rg_theory.specs.declared.Class.{Class}
 use Rattle.rg_theory.specs.declared.Problem.{Problem}
 use Rattle.rg_theory.specs.declared.Problem.TheVariants.{Event, States}
@@ -18,10 +17,10 @@ use Rattle.rg_integers.proofs.Order.{mul-cancel_left, positive_differs, mul_posi
 use Rattle.rg_integers.proofs.Sums.{sum_below-same, sum_below-times}
 use Rattle.rg_integers.specs.declared.term.Wide.{Wide}
 use Rattle.rg_linear.specs.Branching.{Form, form_at, scaled_value, FormsWhole}
-use Rattle.rg_linear.specs.Cycle.{CycleBasis}
 use Rattle.rg_refuting.specs.Expression.{plus}
 use Rattle.rg_refuting.specs.Row.{form_variable, step_of}
 use Rattle.rg_refuting.specs.declared.Form.{Form as SplitForm}
+use Rattle.rg_order_of_work.specs.Setting.{Setting, CaseSetting}
 use Rattle.rg_order_of_work.specs.Fold.{each}
 use Rattle.rg_order_of_work.specs.Rewriting.{has_label, has_start, splits_start, split_forms, form_fold, CaseSystem, rows_of, system_fold, used_labels, all_numbers}
 use Rattle.rg_order_of_work.specs.Values.{NamesLabels, numbers_along, column_values}
@@ -44,19 +43,19 @@ each_at make (b ∷ items) xs zero a d (x, is, (rest, each_is, e)) lt = subst (�
 each_at make (b ∷ items) xs (suc f) a d (x, is, (rest, each_is, e)) lt = subst (λ l. make (slice_index_or items f a) (Ok (slice_index_or l (suc f) d))) (sym e) (each_at make items rest f a d each_is (omega arith))
 
 -- what is known of the form with number f
-pub record FormOf (lts : System) (tree : List Arc) (basis : CycleBasis) (class : Class) (case : CaseSystem) (split : SplitForm) : Type 0 where
+pub record FormOf (s : Setting) (case : CaseSystem) (split : SplitForm) : Type 0 where
   pub number : ℕ
   pub within : number < length case.forms
-  pub made : form_fold lts tree basis class split (Ok (form_at case.forms number))
+  pub made : form_fold s split (Ok (form_at case.forms number))
 
-pub form_of_variable : (lts : System) (tree : List Arc) (basis : CycleBasis) (class : Class) (problem : Problem) (n : ℕ) (case : CaseSystem) (split : SplitForm)
-    → system_fold lts tree basis class problem n (Ok case) → Contains (split_forms lts class problem) split → FormOf lts tree basis class case split
-form_of_variable lts tree basis class problem n case split (all, made, (forms, forms_made, (columns, keeps, form_list))) (f, lt, e) = record {
+pub form_of_variable : (s : CaseSetting) (case : CaseSystem) (split : SplitForm) → system_fold s (Ok case) → Contains (split_forms s.lts s.class s.problem) split
+    → FormOf s.setting case split
+form_of_variable s case split (all, made, (forms, forms_made, (columns, keeps, form_list))) (f, lt, e) = record {
   number = f;
-  within = subst (λ k. f < k) (sym (ap length form_list ∙ each_length (form_fold lts tree basis class) (split_forms lts class problem) forms forms_made)) lt;
-  made = subst (λ (w : SplitForm). form_fold lts tree basis class w (Ok (form_at case.forms f))) e
-      (subst (λ (fs : List Form). form_fold lts tree basis class (slice_index_or (split_forms lts class problem) f split) (Ok (form_at fs f))) (sym form_list)
-      (each_at (form_fold lts tree basis class) (split_forms lts class problem) forms f split
+  within = subst (λ k. f < k) (sym (ap length form_list ∙ each_length (form_fold s.setting) (split_forms s.lts s.class s.problem) forms forms_made)) lt;
+  made = subst (λ (w : SplitForm). form_fold s.setting w (Ok (form_at case.forms f))) e
+      (subst (λ (fs : List Form). form_fold s.setting (slice_index_or (split_forms s.lts s.class s.problem) f split) (Ok (form_at fs f))) (sym form_list)
+      (each_at (form_fold s.setting) (split_forms s.lts s.class s.problem) forms f split
       (record { scale = pos 1; coeffs = []; low = pos 0; high = pos 0 }) forms_made lt));
 }
 
@@ -71,22 +70,22 @@ step_positive class split_form.Start numbers = by class.marking numbers.marking
     by None h = omega arith
     by (Some n) h = h.0
 
-module _ (lts : System) (tree : List Arc) (basis : CycleBasis) (class : Class) (problem : Problem) (n : ℕ) (case : CaseSystem) (c : IsCaseOver lts tree basis class problem n case) where
-  pub form_positive : (split : SplitForm) → (form : Form) → form_fold lts tree basis class split (Ok form) → pos 0 <ℤ form.scale
+module _ (it : CaseSetting) (case : CaseSystem) (c : IsCaseOver it case) where
+  pub form_positive : (split : SplitForm) → (form : Form) → form_fold it.setting split (Ok form) → pos 0 <ℤ form.scale
   form_positive split form (scaled, fold, e) = subst (λ (f : Form). pos 0 <ℤ f.scale) (sym e)
-      (mul_positive (pos (step_of class split)) scaled.multiple (let some = step_positive class split c.numbers in omega (arith, ints))
-      (terms_positive lts tree basis class (plus (form_variable lts.initial split) ∷ []) scaled fold))
+      (mul_positive (pos (step_of it.class split)) scaled.multiple (let some = step_positive it.class split c.numbers in omega (arith, ints))
+      (terms_positive it.setting (plus (form_variable it.lts.initial split) ∷ []) scaled fold))
 
-  pub form_value : (split : SplitForm) (form : Form) (start : ℤ) (effect : ℕ → ℤ) → form_fold lts tree basis class split (Ok form)
-      → NamesLabels (labels lts) (plus (form_variable lts.initial split) ∷ []) → (has_start class ≡ false → start ≡ pos 0) → AreEffects lts tree basis effect
-      → pos (step_of class split) *ℤ dot form.coeffs (column_values lts basis class start effect) ≡ form.scale *ℤ numbers_along lts tree start effect
-      (form_variable lts.initial split)
+  pub form_value : (split : SplitForm) (form : Form) (start : ℤ) (effect : ℕ → ℤ) → form_fold it.setting split (Ok form)
+      → NamesLabels (labels it.lts) (plus (form_variable it.lts.initial split) ∷ []) → (has_start it.class ≡ false → start ≡ pos 0) → AreEffects it.lts it.tree it.basis effect
+      → pos (step_of it.class split) *ℤ dot form.coeffs (column_values it.lts it.basis it.class start effect) ≡ form.scale *ℤ numbers_along it.lts it.tree start effect
+      (form_variable it.lts.initial split)
   form_value split form start effect (scaled, fold, e) names no_start given =
-      ap (λ (f : Form). pos (step_of class split) *ℤ dot f.coeffs (column_values lts basis class start effect)) e
-      ∙ ap (λ z. pos (step_of class split) *ℤ z) (terms_value lts tree basis class (plus (form_variable lts.initial split) ∷ []) start effect scaled c.is_basis names no_start given.follows given.unused fold
-      ∙ ap (λ z. scaled.multiple *ℤ z) (one (numbers_along lts tree start effect (form_variable lts.initial split))))
-      ∙ turn (pos (step_of class split)) scaled.multiple (numbers_along lts tree start effect (form_variable lts.initial split))
-      ∙ ap (λ (f : Form). f.scale *ℤ numbers_along lts tree start effect (form_variable lts.initial split)) (sym e)
+      ap (λ (f : Form). pos (step_of it.class split) *ℤ dot f.coeffs (column_values it.lts it.basis it.class start effect)) e
+      ∙ ap (λ z. pos (step_of it.class split) *ℤ z) (terms_value it.setting (plus (form_variable it.lts.initial split) ∷ []) start effect scaled c.is_basis names no_start given.follows given.unused fold
+      ∙ ap (λ z. scaled.multiple *ℤ z) (one (numbers_along it.lts it.tree start effect (form_variable it.lts.initial split))))
+      ∙ turn (pos (step_of it.class split)) scaled.multiple (numbers_along it.lts it.tree start effect (form_variable it.lts.initial split))
+      ∙ ap (λ (f : Form). f.scale *ℤ numbers_along it.lts it.tree start effect (form_variable it.lts.initial split)) (sym e)
     where
       one : (z : ℤ) → (pos 1 *ℤ z) +ℤ pos 0 ≡ z
       one z = omega (arith, ints)
@@ -95,48 +94,48 @@ module _ (lts : System) (tree : List Arc) (basis : CycleBasis) (class : Class) (
       turn n m z = simp ring
 
   -- over the columns of a point
-  pub point_form : (v : ℕ → ℤ) (times start : ℤ) (effect : ℕ → ℤ) (form : Form) → AreGivenBy lts tree basis class case v times start effect → times *ℤ scaled_value (rows_of case) form v ≡ dot form.coeffs (column_values lts basis class start effect)
+  pub point_form : (v : ℕ → ℤ) (times start : ℤ) (effect : ℕ → ℤ) (form : Form) → AreGivenBy it.setting case v times start effect → times *ℤ scaled_value (rows_of case) form v ≡ dot form.coeffs (column_values it.lts it.basis it.class start effect)
   point_form v times start effect form g =
       sym (sum_below-times case.columns times (λ j. number_at form.coeffs j *ℤ v j))
-      ∙ sum_below-same case.columns (λ j. times *ℤ (number_at form.coeffs j *ℤ v j)) (λ j. number_at form.coeffs j *ℤ number_at (column_values lts basis class start effect) j) (λ j lt. turn times (number_at form.coeffs j) (v j) ∙ ap (λ z. number_at form.coeffs j *ℤ z) (g.columns j lt))
-      ∙ sym (row_sum lts tree basis class problem n case start effect form.coeffs c.is_case)
+      ∙ sum_below-same case.columns (λ j. times *ℤ (number_at form.coeffs j *ℤ v j)) (λ j. number_at form.coeffs j *ℤ number_at (column_values it.lts it.basis it.class start effect) j) (λ j lt. turn times (number_at form.coeffs j) (v j) ∙ ap (λ z. number_at form.coeffs j *ℤ z) (g.columns j lt))
+      ∙ sym (row_sum it case start effect form.coeffs c.is_case)
     where
       turn : (a b d : ℤ) → a *ℤ (b *ℤ d) ≡ b *ℤ (a *ℤ d)
       turn a b d = simp ring
 
   -- a variable with a whole form is a multiple of the scale, by its steps
-  pub variable_multiple : (v : ℕ → ℤ) (scale times start : ℤ) (effect : ℕ → ℤ) (split : SplitForm) → has_start class ≡ true
-      → FormsWhole (rows_of case) case.forms scale v → AreGivenBy lts tree basis class case v times start effect
-      → NamesLabels (labels lts) (plus (form_variable lts.initial split) ∷ []) → Contains (split_forms lts class problem) split → (u : ℤ)
-      × (numbers_along lts tree start effect (form_variable lts.initial split) ≡ (times *ℤ scale) *ℤ (pos (step_of class split) *ℤ u))
+  pub variable_multiple : (v : ℕ → ℤ) (scale times start : ℤ) (effect : ℕ → ℤ) (split : SplitForm) → has_start it.class ≡ true
+      → FormsWhole (rows_of case) case.forms scale v → AreGivenBy it.setting case v times start effect
+      → NamesLabels (labels it.lts) (plus (form_variable it.lts.initial split) ∷ []) → Contains (split_forms it.lts it.class it.problem) split → (u : ℤ)
+      × (numbers_along it.lts it.tree start effect (form_variable it.lts.initial split) ≡ (times *ℤ scale) *ℤ (pos (step_of it.class split) *ℤ u))
   variable_multiple v scale times start effect split starts whole g names has =
-      let f = form_of_variable lts tree basis class problem n case split c.is_case has in
+      let f = form_of_variable it case split c.is_case has in
       let (u, e) = whole f.number f.within in
       let value = form_value split (form_at case.forms f.number) start effect f.made names (λ none. absurd (true≢false (sym starts ∙ none))) g.effects in
       let over = point_form v times start effect (form_at case.forms f.number) g in (
         u,
         mul-cancel_left (form_at case.forms f.number).scale _ _
             (positive_differs (form_at case.forms f.number).scale (form_positive split (form_at case.forms f.number) f.made))
-            (sym value ∙ ap (λ z. pos (step_of class split) *ℤ z) (sym over ∙ ap (λ z. times *ℤ z) e)
-            ∙ turn (pos (step_of class split)) times u (form_at case.forms f.number).scale scale),
+            (sym value ∙ ap (λ z. pos (step_of it.class split) *ℤ z) (sym over ∙ ap (λ z. times *ℤ z) e)
+            ∙ turn (pos (step_of it.class split)) times u (form_at case.forms f.number).scale scale),
       )
     where
       turn : (n t u f s : ℤ) → n *ℤ (t *ℤ (u *ℤ (f *ℤ s))) ≡ f *ℤ ((t *ℤ s) *ℤ (n *ℤ u))
       turn n t u f s = simp ring
 
   -- and Start and effects that are whole make every form whole where its variable is so many steps
-  pub whole_forms : (v : ℕ → ℤ) (start : ℤ) (effect : ℕ → ℤ) (f : ℕ) (split : SplitForm) (w : ℤ) → has_start class ≡ true
-      → AreGivenBy lts tree basis class case v (pos 1) start effect → NamesLabels (labels lts) (plus (form_variable lts.initial split) ∷ [])
-      → form_fold lts tree basis class split (Ok (form_at case.forms f)) → numbers_along lts tree start effect (form_variable lts.initial split) ≡ pos
-      (step_of class split) *ℤ w → (u : ℤ) × (scaled_value (rows_of case) (form_at case.forms f) v ≡ u *ℤ ((form_at case.forms f).scale *ℤ pos 1))
+  pub whole_forms : (v : ℕ → ℤ) (start : ℤ) (effect : ℕ → ℤ) (f : ℕ) (split : SplitForm) (w : ℤ) → has_start it.class ≡ true
+      → AreGivenBy it.setting case v (pos 1) start effect → NamesLabels (labels it.lts) (plus (form_variable it.lts.initial split) ∷ [])
+      → form_fold it.setting split (Ok (form_at case.forms f)) → numbers_along it.lts it.tree start effect (form_variable it.lts.initial split) ≡ pos
+      (step_of it.class split) *ℤ w → (u : ℤ) × (scaled_value (rows_of case) (form_at case.forms f) v ≡ u *ℤ ((form_at case.forms f).scale *ℤ pos 1))
   whole_forms v start effect f split w starts g names made is =
       let value = form_value split (form_at case.forms f) start effect made names (λ none. absurd (true≢false (sym starts ∙ none))) g.effects in
       let over = point_form v (pos 1) start effect (form_at case.forms f) g in
-      let some : pos 0 <ℤ pos (step_of class split) = (let h = step_positive class split c.numbers in omega (arith, ints)) in (
+      let some : pos 0 <ℤ pos (step_of it.class split) = (let h = step_positive it.class split c.numbers in omega (arith, ints)) in (
         w,
-        mul-cancel_left (pos (step_of class split)) _ _ (positive_differs (pos (step_of class split)) some)
-            (ap (λ z. pos (step_of class split) *ℤ z) (one (scaled_value (rows_of case) (form_at case.forms f) v) ∙ over) ∙ value
-            ∙ ap (λ z. (form_at case.forms f).scale *ℤ z) is ∙ turn (form_at case.forms f).scale (pos (step_of class split)) w),
+        mul-cancel_left (pos (step_of it.class split)) _ _ (positive_differs (pos (step_of it.class split)) some)
+            (ap (λ z. pos (step_of it.class split) *ℤ z) (one (scaled_value (rows_of case) (form_at case.forms f) v) ∙ over) ∙ value
+            ∙ ap (λ z. (form_at case.forms f).scale *ℤ z) is ∙ turn (form_at case.forms f).scale (pos (step_of it.class split)) w),
       )
     where
       one : (z : ℤ) → z ≡ pos 1 *ℤ z
@@ -233,29 +232,27 @@ form_names lts class problem split has = by split (split_is lts class problem sp
     by split_form.Start h = tt
 
 -- the variable that names form f
-pub form_named : (lts : System) (tree : List Arc) (basis : CycleBasis) (class : Class) (problem : Problem) (n : ℕ) (case : CaseSystem) (f : ℕ)
-    → system_fold lts tree basis class problem n (Ok case) → f < length case.forms
-    → NamesLabels (labels lts) (plus (form_variable lts.initial (slice_index_or (split_forms lts class problem) f (split_form.Tokens 0))) ∷ [])
-    × Contains (split_forms lts class problem) (slice_index_or (split_forms lts class problem) f (split_form.Tokens 0))
-    × form_fold lts tree basis class (slice_index_or (split_forms lts class problem) f (split_form.Tokens 0)) (Ok (form_at case.forms f))
-form_named lts tree basis class problem n case f (all, made, (forms, forms_made, (columns, keeps, form_list))) lt =
-    let within : f < length (split_forms lts class problem) = subst (λ k. f < k) (ap length form_list ∙ each_length (form_fold lts tree basis class) (split_forms lts class problem) forms forms_made) lt in
-    let split = slice_index_or (split_forms lts class problem) f (split_form.Tokens 0) in
-    let has : Contains (split_forms lts class problem) split = (f, within, get_or_default (split_forms lts class problem) f split (split_form.Tokens 0) within) in (
-      form_names lts class problem split has,
+pub form_named : (s : CaseSetting) (case : CaseSystem) (f : ℕ) → system_fold s (Ok case) → f < length case.forms
+    → NamesLabels (labels s.lts) (plus (form_variable s.lts.initial (slice_index_or (split_forms s.lts s.class s.problem) f (split_form.Tokens 0))) ∷ [])
+    × Contains (split_forms s.lts s.class s.problem) (slice_index_or (split_forms s.lts s.class s.problem) f (split_form.Tokens 0))
+    × form_fold s.setting (slice_index_or (split_forms s.lts s.class s.problem) f (split_form.Tokens 0)) (Ok (form_at case.forms f))
+form_named s case f (all, made, (forms, forms_made, (columns, keeps, form_list))) lt =
+    let within : f < length (split_forms s.lts s.class s.problem) = subst (λ k. f < k) (ap length form_list ∙ each_length (form_fold s.setting) (split_forms s.lts s.class s.problem) forms forms_made) lt in
+    let split = slice_index_or (split_forms s.lts s.class s.problem) f (split_form.Tokens 0) in
+    let has : Contains (split_forms s.lts s.class s.problem) split = (f, within, get_or_default (split_forms s.lts s.class s.problem) f split (split_form.Tokens 0) within) in (
+      form_names s.lts s.class s.problem split has,
       has,
-      subst (λ (fs : List Form). form_fold lts tree basis class split (Ok (form_at fs f))) (sym form_list)
-          (each_at (form_fold lts tree basis class) (split_forms lts class problem) forms f (split_form.Tokens 0)
+      subst (λ (fs : List Form). form_fold s.setting split (Ok (form_at fs f))) (sym form_list)
+          (each_at (form_fold s.setting) (split_forms s.lts s.class s.problem) forms f (split_form.Tokens 0)
           (record { scale = pos 1; coeffs = []; low = pos 0; high = pos 0 }) forms_made within),
     )
 
 -- the variable of form f
-pub form_there : (lts : System) (tree : List Arc) (basis : CycleBasis) (class : Class) (problem : Problem) (n : ℕ) (case : CaseSystem) (f : ℕ)
-    → system_fold lts tree basis class problem n (Ok case) → f < length case.forms → (split : SplitForm)
-    × NamesLabels (labels lts) (plus (form_variable lts.initial split) ∷ []) × Contains (split_forms lts class problem) split
-    × form_fold lts tree basis class split (Ok (form_at case.forms f))
-form_there lts tree basis class problem n case f made lt = let (names, has, fold) = form_named lts tree basis class problem n case f made lt in (slice_index_or (split_forms lts class problem) f (split_form.Tokens 0), names, has, fold)
+pub form_there : (s : CaseSetting) (case : CaseSystem) (f : ℕ) → system_fold s (Ok case) → f < length case.forms → (split : SplitForm)
+    × NamesLabels (labels s.lts) (plus (form_variable s.lts.initial split) ∷ []) × Contains (split_forms s.lts s.class s.problem) split
+    × form_fold s.setting split (Ok (form_at case.forms f))
+form_there s case f made lt = let (names, has, fold) = form_named s case f made lt in (slice_index_or (split_forms s.lts s.class s.problem) f (split_form.Tokens 0), names, has, fold)
 
 -- as many forms as variables
-pub form_count : (lts : System) (tree : List Arc) (basis : CycleBasis) (class : Class) (problem : Problem) (n : ℕ) (case : CaseSystem) → system_fold lts tree basis class problem n (Ok case) → length case.forms ≡ length (split_forms lts class problem)
-form_count lts tree basis class problem n case (all, made, (forms, forms_made, (columns, keeps, form_list))) = ap length form_list ∙ each_length (form_fold lts tree basis class) (split_forms lts class problem) forms forms_made
+pub form_count : (s : CaseSetting) (case : CaseSystem) → system_fold s (Ok case) → length case.forms ≡ length (split_forms s.lts s.class s.problem)
+form_count s case (all, made, (forms, forms_made, (columns, keeps, form_list))) = ap length form_list ∙ each_length (form_fold s.setting) (split_forms s.lts s.class s.problem) forms forms_made

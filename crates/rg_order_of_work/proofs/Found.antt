@@ -20,6 +20,7 @@ use Rattle.rg_integers.proofs.Sums.{sum_below-same, sum_below-times}
 use Rattle.rg_integers.proofs.Dots.{dot_comm, dot-times}
 use Rattle.rg_linear.specs.Cycle.{CycleBasis, FollowsRelations}
 use Rattle.rg_linear.specs.System.{LinearRow}
+use Rattle.rg_order_of_work.specs.Setting.{Setting}
 use Rattle.rg_order_of_work.specs.Fold.{gives, and_then, either, each, Ratio, whole, mul, multiple_of_all}
 use Rattle.rg_order_of_work.specs.Chords.{chord_system, IsBasis}
 use Rattle.rg_order_of_work.specs.Rewriting.{is_in, numbers_where, all_numbers, has_label, free_labels, has_start, CaseSystem}
@@ -117,35 +118,34 @@ module _ (lts : System) (tree : List Arc) (basis : CycleBasis) (start : Ratio) (
       none : (n : ℕ) → n - n ≡ 0
       none n = omega arith
 
-products_are : (lts : System) (tree : List Arc) (basis : CycleBasis) (class : Class) (start : Ratio) (value : ℕ → Ratio) (first : ℤ) (effect : ℕ → ℤ) (scale : ℤ)
-    (effects found : List Ratio) → class.plain ≡ false → IsNone class.bound → IsBasis lts tree basis → AreEffects lts tree basis effect
-    → AreValuesOf lts basis start value first effect scale → each (effect_fold lts basis value) (all_numbers (labels lts)) (Ok effects) → (m : ℤ)
-    → multiple_of_all (map (λ r. r.bottom) (effects ++ start ∷ [])) (Ok m) → each (λ r. mul r (whole m)) (effects ++ start ∷ []) (Ok found)
-    → AreFound lts found first effect scale m
-products_are lts tree basis class start value first effect scale effects found plain bound is e v made m multiple products = record {
+products_are : (s : Setting) (start : Ratio) (value : ℕ → Ratio) (first : ℤ) (effect : ℕ → ℤ) (scale : ℤ) (effects found : List Ratio) → s.class.plain ≡ false
+    → IsNone s.class.bound → IsBasis s.lts s.tree s.basis → AreEffects s.lts s.tree s.basis effect → AreValuesOf s.lts s.basis start value first effect scale
+    → each (effect_fold s.lts s.basis value) (all_numbers (labels s.lts)) (Ok effects) → (m : ℤ) → multiple_of_all (map (λ r. r.bottom) (effects ++ start ∷ [])) (Ok m)
+    → each (λ r. mul r (whole m)) (effects ++ start ∷ []) (Ok found) → AreFound s.lts found first effect scale m
+products_are s start value first effect scale effects found plain bound is e v made m multiple products = record {
   positive = all_multiple (map (λ r. r.bottom) numbers) m (positive_all numbers (λ i lt. (at i lt).1.1)) multiple;
   is_whole = λ i. ⊎_elim (λ lt. (made_at numbers found m scale (at i lt).0 i lt multiple products (at i lt).1).0) (λ le. past m products i le) (cases_lt i (length numbers));
   fits = λ i. ⊎_elim (λ lt. (made_at numbers found m scale (at i lt).0 i lt multiple products (at i lt).1).1) (λ le. past_fits m products i le) (cases_lt i (length numbers));
   effects = λ t lt. (made_at numbers found m scale (effect t) t (let k = many in omega arith) multiple products (at_label t lt)).2;
-  start_is = (made_at numbers found m scale first (labels lts) (let k = many in omega arith) multiple products at_start).2;
+  start_is = (made_at numbers found m scale first (labels s.lts) (let k = many in omega arith) multiple products at_start).2;
 }
   where
     numbers : List Ratio
     numbers = effects ++ start ∷ []
 
-    many : length (effects ++ start ∷ []) ≡ labels lts + 1
-    many = length-append effects (start ∷ []) ∙ ap (λ n. n + 1) (effects_count lts tree basis start value first effect scale effects is e v made)
+    many : length (effects ++ start ∷ []) ≡ labels s.lts + 1
+    many = length-append effects (start ∷ []) ∙ ap (λ n. n + 1) (effects_count s.lts s.tree s.basis start value first effect scale effects is e v made)
 
-    at_label : (t : ℕ) → t < labels lts → IsOverAt scale (ratio_at (effects ++ start ∷ []) t) (effect t)
-    at_label = label_at lts tree basis start value first effect scale effects is e v made
+    at_label : (t : ℕ) → t < labels s.lts → IsOverAt scale (ratio_at (effects ++ start ∷ []) t) (effect t)
+    at_label = label_at s.lts s.tree s.basis start value first effect scale effects is e v made
 
-    at_start : IsOverAt scale (ratio_at (effects ++ start ∷ []) (labels lts)) first
-    at_start = start_at lts tree basis start value first effect scale effects is e v made
+    at_start : IsOverAt scale (ratio_at (effects ++ start ∷ []) (labels s.lts)) first
+    at_start = start_at s.lts s.tree s.basis start value first effect scale effects is e v made
 
     at : (i : ℕ) → i < length (effects ++ start ∷ []) → (z : ℤ) × IsOverAt scale (ratio_at (effects ++ start ∷ []) i) z
-    at i lt = ⊎_elim (λ low. (effect i, at_label i low)) (λ le. (first, subst (λ k. IsOverAt scale (ratio_at (effects ++ start ∷ []) k) first) (last le) at_start)) (cases_lt i (labels lts))
+    at i lt = ⊎_elim (λ low. (effect i, at_label i low)) (λ le. (first, subst (λ k. IsOverAt scale (ratio_at (effects ++ start ∷ []) k) first) (last le) at_start)) (cases_lt i (labels s.lts))
       where
-        last : labels lts ≤ i → labels lts ≡ i
+        last : labels s.lts ≤ i → labels s.lts ≡ i
         last le = let k = many in omega arith
 
     past : (m : ℤ) → each (λ r. mul r (whole m)) (effects ++ start ∷ []) (Ok found) → (i : ℕ) → length (effects ++ start ∷ []) ≤ i → ratio_at found i ≡ whole (top_at found i)
@@ -217,14 +217,14 @@ times_are lts class products found first effect scale m numbers many f times = b
         moved : (a p s e m n : ℤ) → a ≡ p *ℤ n → p *ℤ s ≡ e *ℤ m → a *ℤ s ≡ e *ℤ (m *ℤ n)
         moved a p s e m n g h = ap (λ z. z *ℤ s) g ∙ turn p n s ∙ ap (λ z. z *ℤ n) h ∙ turn' e m n
 
-pub found_is : (lts : System) (tree : List Arc) (basis : CycleBasis) (class : Class) (start : Ratio) (value : ℕ → Ratio) (first : ℤ) (effect : ℕ → ℤ) (scale : ℤ)
-    (effects found : List Ratio) → HasNumbersInRange class → class.plain ≡ false → IsNone class.bound → IsBasis lts tree basis → AreEffects lts tree basis effect
-    → AreValuesOf lts basis start value first effect scale → each (effect_fold lts basis value) (all_numbers (labels lts)) (Ok effects)
-    → made_whole class (effects ++ start ∷ []) (Ok found) → (m : ℤ) × AreFound lts found first effect scale m × AreSteps class found
-found_is lts tree basis class start value first effect scale effects found numbers plain bound is e v made whole_made =
-    let (m, multiple, (products, are, times)) = subst (λ b. whole_by class b (effects ++ start ∷ []) found) (ap₂ ◌||◌ plain (not_bounded class.bound bound)) whole_made in
-    let f = products_are lts tree basis class start value first effect scale effects products plain bound is e v made m multiple are in
-    times_are lts class products found first effect scale m numbers (each_length (λ r. mul r (whole m)) (effects ++ start ∷ []) products are ∙ length-append effects (start ∷ []) ∙ ap (λ n. n + 1) (effects_count lts tree basis start value first effect scale effects is e v made)) f times
+pub found_is : (s : Setting) (start : Ratio) (value : ℕ → Ratio) (first : ℤ) (effect : ℕ → ℤ) (scale : ℤ) (effects found : List Ratio) → HasNumbersInRange s.class
+    → s.class.plain ≡ false → IsNone s.class.bound → IsBasis s.lts s.tree s.basis → AreEffects s.lts s.tree s.basis effect
+    → AreValuesOf s.lts s.basis start value first effect scale → each (effect_fold s.lts s.basis value) (all_numbers (labels s.lts)) (Ok effects)
+    → made_whole s.class (effects ++ start ∷ []) (Ok found) → (m : ℤ) × AreFound s.lts found first effect scale m × AreSteps s.class found
+found_is s start value first effect scale effects found numbers plain bound is e v made whole_made =
+    let (m, multiple, (products, are, times)) = subst (λ b. whole_by s.class b (effects ++ start ∷ []) found) (ap₂ ◌||◌ plain (not_bounded s.class.bound bound)) whole_made in
+    let f = products_are s start value first effect scale effects products plain bound is e v made m multiple are in
+    times_are s.lts s.class products found first effect scale m numbers (each_length (λ r. mul r (whole m)) (effects ++ start ∷ []) products are ∙ length-append effects (start ∷ []) ∙ ap (λ n. n + 1) (effects_count s.lts s.tree s.basis start value first effect scale effects is e v made)) f times
 
 -- ---- the rows over the multiple
 
@@ -307,11 +307,11 @@ row_over row xs ys a b pa pb same met = factor_not_negative b (dot row.coeffs ys
     dots : a *ℤ dot row.coeffs xs ≡ b *ℤ dot row.coeffs ys
     dots = ap (λ z. a *ℤ z) (dot_comm row.coeffs xs) ∙ sym (dot-times a xs row.coeffs) ∙ ap (λ l. dot l row.coeffs) same ∙ dot-times b ys row.coeffs ∙ ap (λ z. b *ℤ z) (dot_comm ys row.coeffs)
 
-pub found_meets : (lts : System) (tree : List Arc) (basis : CycleBasis) (class : Class) (case : CaseSystem) (found : List Ratio) (first : ℤ) (effect : ℕ → ℤ)
-    (scale m : ℤ) → pos 0 <ℤ scale → AreEffects lts tree basis effect → AreFound lts found first effect scale m → MeetsCase lts basis class case first effect scale
-    → MeetsCase lts basis class case (top_at found (labels lts)) (found_effect lts found) m
-found_meets lts tree basis class case found first effect scale m positive e f met k has = row_over k.row (column_values lts basis class first effect) (column_values lts basis class (top_at found (labels lts)) (found_effect lts found)) m scale f.positive positive
-    (columns_times lts basis class m scale first (top_at found (labels lts)) effect (found_effect lts found) (swap m first ∙ sym f.start_is ∙ swap (top_at found (labels lts)) scale) (λ t lt. over_both lts tree basis found first effect scale m t positive e f lt))
+pub found_meets : (s : Setting) (case : CaseSystem) (found : List Ratio) (first : ℤ) (effect : ℕ → ℤ) (scale m : ℤ) → pos 0 <ℤ scale
+    → AreEffects s.lts s.tree s.basis effect → AreFound s.lts found first effect scale m → MeetsCase s case first effect scale
+    → MeetsCase s case (top_at found (labels s.lts)) (found_effect s.lts found) m
+found_meets s case found first effect scale m positive e f met k has = row_over k.row (column_values s.lts s.basis s.class first effect) (column_values s.lts s.basis s.class (top_at found (labels s.lts)) (found_effect s.lts found)) m scale f.positive positive
+    (columns_times s.lts s.basis s.class m scale first (top_at found (labels s.lts)) effect (found_effect s.lts found) (swap m first ∙ sym f.start_is ∙ swap (top_at found (labels s.lts)) scale) (λ t lt. over_both s.lts s.tree s.basis found first effect scale m t positive e f lt))
     (met k has)
   where
     swap : (a b : ℤ) → a *ℤ b ≡ b *ℤ a

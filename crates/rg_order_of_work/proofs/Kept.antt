@@ -1,5 +1,5 @@
 -- Numbers that keep all rows keep them with the effect 0 for labels without an arc.
-use Rattle.std.proofs.Common.{◌≡◌, ⊎_elim, ℕ, zero, suc, ◌<◌, ◌≤◌, true, false, if◌then◌else◌, List, [], unwrap_or, sym, ap, subst, ◌∙◌, arith}
+use Rattle.std.proofs.Common.{◌≡◌, ⊎_elim, ℕ, zero, suc, ◌<◌, ◌≤◌, true, false, if◌then◌else◌, [], unwrap_or, sym, ap, subst, ◌∙◌, arith}
 use Rattle.std.specs.Prelude.{ℤ, pos, negsuc, ◌+ℤ◌, ◌*ℤ◌, ◌≤ℤ◌, ◌<ℤ◌}
 use Rattle.std.proofs.lemmas.Int.{ints}
 use Rattle.std.proofs.lemmas.Bool.{true≢false, cases_Bool, cases_lt}
@@ -15,7 +15,8 @@ use Rattle.rg_refuting.specs.declared.RowName.{RowName}
 use Rattle.rg_refuting.specs.Row.{SharedStands, RowStands}
 use Rattle.rg_refuting.specs.Row.{shared_expression, apart_expression, order_of, consumer_of, Says}
 use Rattle.rg_refuting.specs.Refutes.{IsSeparationProblem}
-use Rattle.rg_linear.specs.Cycle.{FollowsRelations, CycleBasis}
+use Rattle.rg_linear.specs.Cycle.{FollowsRelations}
+use Rattle.rg_order_of_work.specs.Setting.{CaseSetting}
 use Rattle.rg_order_of_work.specs.Potentials.{potential}
 use Rattle.rg_order_of_work.specs.Chords.{chord_system}
 use Rattle.rg_order_of_work.specs.Rewriting.{has_label, has_start, CaseSystem}
@@ -44,24 +45,24 @@ arc_value lts class problem number scale x q t q' keeps has = close (x (Tokens q
 keeps_arcs : (lts : System) (class : Class) (problem : Problem) (number : ℕ) (scale : ℤ) (x : Variable → ℤ) (effect : ℕ → ℤ) → KeepsRowsOver lts class problem number scale x → AgreeOnUsed lts x effect → KeepsArcs lts (λ q. x (Tokens q)) effect
 keeps_arcs lts class problem number scale x effect keeps agree a has = ap (λ z. x (Tokens a.from) +ℤ z) (agree a.label (finds_label a lts.arcs has)) ∙ arc_value lts class problem number scale x a.from a.label a.to keeps has
 
-pub follow_given : (lts : System) (tree : List Arc) (basis : CycleBasis) (class : Class) (problem : Problem) (number : ℕ) (case : CaseSystem) (x : Variable → ℤ)
-    (effect : ℕ → ℤ) (scale : ℤ) → IsCaseOver lts tree basis class problem number case → KeepsRowsOver lts class problem number scale x → AgreeOnUsed lts x effect
-    → FollowsRelations (chord_system lts tree basis.kept) basis.members effect
-follow_given lts tree basis class problem number case x effect scale c keeps agree = own_effects lts tree basis (λ q. x (Tokens q)) effect c.in_range c.reachable c.is_tree c.is_basis (keeps_arcs lts class problem number scale x effect keeps agree)
+pub follow_given : (s : CaseSetting) (case : CaseSystem) (x : Variable → ℤ) (effect : ℕ → ℤ) (scale : ℤ) → IsCaseOver s case
+    → KeepsRowsOver s.lts s.class s.problem s.number scale x → AgreeOnUsed s.lts x effect
+    → FollowsRelations (chord_system s.lts s.tree s.basis.kept) s.basis.members effect
+follow_given s case x effect scale c keeps agree = own_effects s.lts s.tree s.basis (λ q. x (Tokens q)) effect c.in_range c.reachable c.is_tree c.is_basis (keeps_arcs s.lts s.class s.problem s.number scale x effect keeps agree)
 
-pub numbers_given : (lts : System) (tree : List Arc) (basis : CycleBasis) (class : Class) (problem : Problem) (number : ℕ) (case : CaseSystem) (x : Variable → ℤ)
-    (effect : ℕ → ℤ) (scale : ℤ) (q : ℕ) → IsCaseOver lts tree basis class problem number case → KeepsRowsOver lts class problem number scale x
-    → AgreeOnUsed lts x effect → q < states lts → x (Tokens q) ≡ potential lts tree (x (Tokens lts.initial)) effect q
-numbers_given lts tree basis class problem number case x effect scale q c keeps agree lt = own_number lts tree (λ q. x (Tokens q)) effect q c.in_range c.reachable c.is_tree (keeps_arcs lts class problem number scale x effect keeps agree) lt
+pub numbers_given : (s : CaseSetting) (case : CaseSystem) (x : Variable → ℤ) (effect : ℕ → ℤ) (scale : ℤ) (q : ℕ) → IsCaseOver s case
+    → KeepsRowsOver s.lts s.class s.problem s.number scale x → AgreeOnUsed s.lts x effect → q < states s.lts
+    → x (Tokens q) ≡ potential s.lts s.tree (x (Tokens s.lts.initial)) effect q
+numbers_given s case x effect scale q c keeps agree lt = own_number s.lts s.tree (λ q. x (Tokens q)) effect q c.in_range c.reachable c.is_tree (keeps_arcs s.lts s.class s.problem s.number scale x effect keeps agree) lt
 
 pub used_agrees : (lts : System) (x : Variable → ℤ) → AgreeOnUsed lts x (used_effect lts x)
 used_agrees lts x t e = ap (λ b. if b then x (Effect t) else pos 0) e
 
-pub effects_given : (lts : System) (tree : List Arc) (basis : CycleBasis) (class : Class) (problem : Problem) (number : ℕ) (case : CaseSystem) (x : Variable → ℤ)
-    (scale : ℤ) → IsCaseOver lts tree basis class problem number case → KeepsRowsOver lts class problem number scale x → AreEffects lts tree basis (used_effect lts x)
-effects_given lts tree basis class problem number case x scale c keeps =
+pub effects_given : (s : CaseSetting) (case : CaseSystem) (x : Variable → ℤ) (scale : ℤ) → IsCaseOver s case → KeepsRowsOver s.lts s.class s.problem s.number scale x
+    → AreEffects s.lts s.tree s.basis (used_effect s.lts x)
+effects_given s case x scale c keeps =
     record {
-      follows = follow_given lts tree basis class problem number case x (used_effect lts x) scale c keeps (used_agrees lts x);
+      follows = follow_given s case x (used_effect s.lts x) scale c keeps (used_agrees s.lts x);
       unused = λ t e. ap (λ b. if b then x (Effect t) else pos 0) e;
     }
 
@@ -153,26 +154,25 @@ rows_stay lts class (Event s t) number scale x y fine (lt, _, _) live same posit
     (live_label lts t live) same positive (λ q. tokens_stay lts class (Event s t) number scale x y q fine.initial same keeps) stands (keeps name stands)
 rows_stay lts class (States s s') number scale x y fine (lt, lt', _) live same positive keeps name stands = state_stays lts class s s' number scale x y name fine lt lt' same positive (λ q. tokens_stay lts class (States s s') number scale x y q fine.initial same keeps) stands (keeps name stands)
 
-pub rows_given : (lts : System) (tree : List Arc) (basis : CycleBasis) (class : Class) (problem : Problem) (number : ℕ) (case : CaseSystem) (x : Variable → ℤ)
-    (scale : ℤ) → IsCaseOver lts tree basis class problem number case → IsLive lts problem → pos 0 <ℤ scale → KeepsRowsOver lts class problem number scale x
-    → KeepsRowsOver lts class problem number scale (numbers_along lts tree (x (Tokens lts.initial)) (used_effect lts x))
-rows_given lts tree basis class problem number case x scale c live positive keeps =
-    rows_stay lts class problem number scale x (numbers_along lts tree (x (Tokens lts.initial)) (used_effect lts x)) c.in_range c.asked live
+pub rows_given : (s : CaseSetting) (case : CaseSystem) (x : Variable → ℤ) (scale : ℤ) → IsCaseOver s case → IsLive s.lts s.problem → pos 0 <ℤ scale
+    → KeepsRowsOver s.lts s.class s.problem s.number scale x
+    → KeepsRowsOver s.lts s.class s.problem s.number scale (numbers_along s.lts s.tree (x (Tokens s.lts.initial)) (used_effect s.lts x))
+rows_given s case x scale c live positive keeps =
+    rows_stay s.lts s.class s.problem s.number scale x (numbers_along s.lts s.tree (x (Tokens s.lts.initial)) (used_effect s.lts x)) c.in_range c.asked live
     (record {
-      tokens = λ q lt. numbers_given lts tree basis class problem number case x (used_effect lts x) scale q c keeps (used_agrees lts x) lt;
-      past = λ q le. number_past lts tree (x (Tokens lts.initial)) (used_effect lts x) q c.in_range c.is_tree le;
-      used = λ t e. sym (used_agrees lts x t e);
+      tokens = λ q lt. numbers_given s case x (used_effect s.lts x) scale q c keeps (used_agrees s.lts x) lt;
+      past = λ q le. number_past s.lts s.tree (x (Tokens s.lts.initial)) (used_effect s.lts x) q c.in_range c.is_tree le;
+      used = λ t e. sym (used_agrees s.lts x t e);
       unused = λ t e. ap (λ b. if b then x (Effect t) else pos 0) e;
     })
     positive keeps
 
-pub meets_given : (lts : System) (tree : List Arc) (basis : CycleBasis) (class : Class) (problem : Problem) (number : ℕ) (case : CaseSystem) (x : Variable → ℤ)
-    (scale : ℤ) → IsCaseOver lts tree basis class problem number case → IsLive lts problem → pos 0 <ℤ scale → KeepsRowsOver lts class problem number scale x
-    → MeetsCase lts basis class case (x (Tokens lts.initial)) (used_effect lts x) scale
-meets_given lts tree basis class problem number case x scale c live positive keeps =
-    let e = effects_given lts tree basis class problem number case x scale c keeps in
-    let rows = rows_given lts tree basis class problem number case x scale c live positive keeps in
+pub meets_given : (s : CaseSetting) (case : CaseSystem) (x : Variable → ℤ) (scale : ℤ) → IsCaseOver s case → IsLive s.lts s.problem → pos 0 <ℤ scale
+    → KeepsRowsOver s.lts s.class s.problem s.number scale x → MeetsCase s.setting case (x (Tokens s.lts.initial)) (used_effect s.lts x) scale
+meets_given s case x scale c live positive keeps =
+    let e = effects_given s case x scale c keeps in
+    let rows = rows_given s case x scale c live positive keeps in
     ⊎_elim
-    (λ starts. (start_means lts tree basis class problem number case (x (Tokens lts.initial)) (used_effect lts x) scale c e positive starts).1 rows)
-    (λ none. (no_start_means lts tree basis class problem number case (x (Tokens lts.initial)) (used_effect lts x) scale c e positive none).1 (λ name stands other. rows name stands))
-    (cases_Bool (has_start class))
+    (λ starts. (start_means s case (x (Tokens s.lts.initial)) (used_effect s.lts x) scale c e positive starts).1 rows)
+    (λ none. (no_start_means s case (x (Tokens s.lts.initial)) (used_effect s.lts x) scale c e positive none).1 (λ name stands other. rows name stands))
+    (cases_Bool (has_start s.class))

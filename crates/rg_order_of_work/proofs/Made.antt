@@ -5,7 +5,6 @@ use borrow.Author.Differences.{up, down}
 use Rattle.std.proofs.lemmas.Int.{ints}
 use Rattle.std.proofs.lemmas.Bool.{true≢false, cases_Bool, cases_eq, cases_lt}
 use Rattle.std.proofs.lemmas.List.{get_or_past}
-use Rattle.rg_theory.specs.declared.Arc.{Arc}
 use Rattle.rg_theory.specs.declared.Class.{Class}
 use Rattle.rg_theory.specs.declared.Problem.{Problem}
 use Rattle.rg_theory.specs.declared.Problem.TheVariants.{Event, States}
@@ -21,7 +20,7 @@ use Rattle.rg_refuting.specs.Refutes.{IsSeparationProblem}
 use Rattle.rg_refuting.proofs.Making.{place_by, weight_by, Suits, suited_region, Facts, below, event_facts, state_facts, effect_suits, at_label, at_label_other, stopping_suits, state_place}
 use Rattle.rg_integers.specs.Range.{InRange}
 use Rattle.rg_integers.proofs.Ranges.{zero_in_range}
-use Rattle.rg_linear.specs.Cycle.{CycleBasis}
+use Rattle.rg_order_of_work.specs.Setting.{CaseSetting}
 use Rattle.rg_order_of_work.specs.Fold.{each, Ratio, whole, whole_sum}
 use Rattle.rg_order_of_work.specs.Rewriting.{has_label_at, all_numbers, states_with, CaseSystem}
 use Rattle.rg_order_of_work.specs.Shown.{IsLive}
@@ -349,39 +348,38 @@ made_for lts class (Event s t) number found numbers x given fine asked live k ma
 made_for lts class (States s s') number found numbers x given fine asked live k made = state_made lts class s s' number found numbers x given fine asked k made
 
 -- numbers that are kept
-kept_for : (lts : System) (tree : List Arc) (basis : CycleBasis) (class : Class) (problem : Problem) (number : ℕ) (case : CaseSystem) (start : Ratio) (value : ℕ → Ratio)
-    (first : ℤ) (effect : ℕ → ℤ) (scale : ℤ) (effects found numbers : List Ratio) (out : ℕ → Ratio)
-    → IsCaseOver lts tree basis class problem number case → IsLive lts problem → AreEffects lts tree basis effect → MeetsCase lts basis class case first effect scale
-    → AreFormsWhole lts basis class case first effect scale → AreValuesOf lts basis start value first effect scale
-    → each (effect_fold lts basis value) (all_numbers (labels lts)) (Ok effects) → made_whole class (effects ++ start ∷ []) (Ok found)
-    → along_tree (ratio_at found) (λ s. ratio_at found (labels lts)) tree (Ok out) → shift_fold lts class problem (map out (all_numbers (states lts))) (Ok numbers)
-    → (x : Variable → ℤ) × AreKept lts class problem number found numbers x
-kept_for lts tree basis class problem number case start value first effect scale effects found numbers out c live e met whole_forms v effects_made whole_made along (moved, shift, lift) = ⊎_elim
-    (λ is. (let (x, k, allowed) = whole_kept lts tree basis class problem number case first effect scale start value effects found moved out c live e v whole_forms met
-    is effects_made whole_made along shift in lift_kept lts class problem number found moved numbers x c.in_range c.numbers k lift allowed))
-    (λ other. (let (plain, bound) = neither class.plain class.bound other in
-    let (m, f, steps) = found_is lts tree basis class start value first effect scale effects found c.numbers plain bound c.is_basis e v effects_made whole_made in
-    let (x, k, allowed) = kept_is lts tree basis class problem number case first effect scale m found moved out plain bound c e v.positive f steps met along shift in
-    lift_kept lts class problem number found moved numbers x c.in_range c.numbers k lift (λ none. allowed)))
-    (cases_Bool (class.plain || is_some class.bound))
+kept_for : (it : CaseSetting) (case : CaseSystem) (start : Ratio) (value : ℕ → Ratio) (first : ℤ) (effect : ℕ
+    → ℤ) (scale : ℤ) (effects found numbers : List Ratio) (out : ℕ → Ratio) → IsCaseOver it case → IsLive it.lts it.problem → AreEffects it.lts it.tree it.basis effect
+    → MeetsCase it.setting case first effect scale → AreFormsWhole it.setting case first effect scale → AreValuesOf it.lts it.basis start value first effect scale
+    → each (effect_fold it.lts it.basis value) (all_numbers (labels it.lts)) (Ok effects) → made_whole it.class (effects ++ start ∷ []) (Ok found)
+    → along_tree (ratio_at found) (λ s. ratio_at found (labels it.lts)) it.tree (Ok out)
+    → shift_fold it.lts it.class it.problem (map out (all_numbers (states it.lts))) (Ok numbers)
+    → (x : Variable → ℤ) × AreKept it.lts it.class it.problem it.number found numbers x
+kept_for it case start value first effect scale effects found numbers out c live e met whole_forms v effects_made whole_made along (moved, shift, lift) = ⊎_elim
+    (λ is. (let (x, k, allowed) = whole_kept it case first effect scale start value effects found moved out c live e v whole_forms met
+    is effects_made whole_made along shift in lift_kept it.lts it.class it.problem it.number found moved numbers x c.in_range c.numbers k lift allowed))
+    (λ other. (let (plain, bound) = neither it.class.plain it.class.bound other in
+    let (m, f, steps) = found_is it.setting start value first effect scale effects found c.numbers plain bound c.is_basis e v effects_made whole_made in
+    let (x, k, allowed) = kept_is it case first effect scale m found moved out plain bound c e v.positive f steps met along shift in
+    lift_kept it.lts it.class it.problem it.number found moved numbers x c.in_range c.numbers k lift (λ none. allowed)))
+    (cases_Bool (it.class.plain || is_some it.class.bound))
   where
     neither : (p : Bool) (o : Option ℕ) → (p || is_some o) ≡ false → (p ≡ false) × IsNone o
     neither true o e = absurd (true≢false e)
     neither false None e = (refl, refl)
     neither false (Some k) e = absurd (true≢false e)
 
-pub place_made : (lts : System) (tree : List Arc) (basis : CycleBasis) (class : Class) (problem : Problem) (number : ℕ) (case : CaseSystem) (start : Ratio)
-    (value : ℕ → Ratio) (first : ℤ) (effect : ℕ → ℤ) (scale : ℤ) (place : Place) → IsCaseOver lts tree basis class problem number case → IsLive lts problem
-    → AreEffects lts tree basis effect → MeetsCase lts basis class case first effect scale → AreFormsWhole lts basis class case first effect scale
-    → AreValuesOf lts basis start value first effect scale → place_fold lts tree basis class problem start value (Ok place)
-    → PlaceIsMade lts tree basis class problem start value place
-place_made lts tree basis class problem number case start value first effect scale place c live e met whole_forms v (effects, effects_made, (found, whole_made, (out, along, (numbers, shift, (given, posts, is))))) =
-    let (x, k) = kept_for lts tree basis class problem number case start value first effect scale effects found numbers out c live e met whole_forms v effects_made whole_made along shift in
-    let p = made_for lts class problem number found numbers x given c.in_range c.asked live k posts in
+pub place_made : (s : CaseSetting) (case : CaseSystem) (start : Ratio) (value : ℕ → Ratio) (first : ℤ) (effect : ℕ → ℤ) (scale : ℤ) (place : Place) → IsCaseOver s case
+    → IsLive s.lts s.problem → AreEffects s.lts s.tree s.basis effect → MeetsCase s.setting case first effect scale → AreFormsWhole s.setting case first effect scale
+    → AreValuesOf s.lts s.basis start value first effect scale → place_fold s.setting s.problem start value (Ok place)
+    → PlaceIsMade s.setting s.problem start value place
+place_made s case start value first effect scale place c live e met whole_forms v (effects, effects_made, (found, whole_made, (out, along, (numbers, shift, (given, posts, is))))) =
+    let (x, k) = kept_for s case start value first effect scale effects found numbers out c live e met whole_forms v effects_made whole_made along shift in
+    let p = made_for s.lts s.class s.problem s.number found numbers x given c.in_range c.asked live k posts in
     record {
       numbers = numbers;
       made = (effects, effects_made, (found, whole_made, (out, along, shift)));
-      region = subst (λ q. RegionIn lts class q (tokens_of numbers)) (sym is) p.region;
-      separates = subst (λ q. Separates q (tokens_of numbers) problem) (sym is) p.separates;
+      region = subst (λ q. RegionIn s.lts s.class q (tokens_of numbers)) (sym is) p.region;
+      separates = subst (λ q. Separates q (tokens_of numbers) s.problem) (sym is) p.separates;
       fit = subst (λ q. NumbersFit q (tokens_of numbers)) (sym is) p.fit;
     }

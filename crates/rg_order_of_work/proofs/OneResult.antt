@@ -17,6 +17,7 @@ use Rattle.rg_linear.specs.Branching.{Form, Weight, SplitSide}
 use Rattle.rg_integers.proofs.Order.{mul-cancel_left}
 use Rattle.rg_integers.specs.declared.term.Wide.{Wide}
 use Rattle.rg_fraction.specs.Rows.{IsRowGcd}
+use Rattle.rg_order_of_work.specs.Setting.{Setting, CaseSetting}
 use Rattle.rg_order_of_work.specs.Fold.{either, IsOne, Ratio, whole, IsRatio, add, mul, whole_sum}
 use Rattle.rg_linear.specs.Cycle.{CycleBasis}
 use Rattle.rg_order_of_work.specs.Rewriting.{dependent_term, coefficient_fold, substitute_fold, dependent_labels, free_labels, Scaled, scaled_fold, terms_fold, KeptRow, divided, row_fold, IsIdle, form_fold, CaseSystem, kept_of, system_fold, has_label, is_in, names_of, split_forms}
@@ -87,30 +88,30 @@ substitute_one labels basis counts = each_one (coefficient_fold labels basis cou
 pub scaled_one : (numbers : List Ratio) → IsOne (scaled_fold numbers)
 scaled_one numbers = and_then_one _ _ (multiple_one _) (λ m. and_then_one _ _ (each_one (λ r. mul r (whole m)) (λ r. two_terms_one _ _ _ _) numbers) (λ products. gives_one _))
 
-pub terms_one : (lts : System) (tree : List Arc) (basis : CycleBasis) (class : Class) (terms : List Term) → IsOne (terms_fold lts tree basis class terms)
-terms_one lts tree basis class terms = and_then_one _ _ (substitute_one (labels lts) basis _) (λ free. scaled_one _)
+pub terms_one : (s : Setting) (terms : List Term) → IsOne (terms_fold s terms)
+terms_one s terms = and_then_one _ _ (substitute_one (labels s.lts) s.basis _) (λ free. scaled_one _)
 
-pub row_one : (lts : System) (tree : List Arc) (basis : CycleBasis) (class : Class) (name : RowName) (e : Expression) → IsOne (row_fold lts tree basis class name e)
-row_one lts tree basis class name e = and_then_one _ _ (terms_one lts tree basis class e.terms) (λ scaled. and_then_one _ _ (two_terms_one _ _ _ _) (λ constant. divided_one name scaled constant.top))
+pub row_one : (s : Setting) (name : RowName) (e : Expression) → IsOne (row_fold s name e)
+row_one s name e = and_then_one _ _ (terms_one s e.terms) (λ scaled. and_then_one _ _ (two_terms_one _ _ _ _) (λ constant. divided_one name scaled constant.top))
 
-pub form_one : (lts : System) (tree : List Arc) (basis : CycleBasis) (class : Class) (form : SplitForm) → IsOne (form_fold lts tree basis class form)
-form_one lts tree basis class form = and_then_one _ _ (terms_one lts tree basis class (plus (form_variable lts.initial form) ∷ [])) (λ scaled. gives_one _)
+pub form_one : (s : Setting) (form : SplitForm) → IsOne (form_fold s form)
+form_one s form = and_then_one _ _ (terms_one s (plus (form_variable s.lts.initial form) ∷ [])) (λ scaled. gives_one _)
 
 same_case : (c c' : CaseSystem) → c.columns ≡ c'.columns → c.kept ≡ c'.kept → c.forms ≡ c'.forms → c ≡ c'
 same_case c c' e f g = λ i. record { columns = e i; kept = f i; forms = g i }
 
-pub kept_same : (lts : System) (basis : CycleBasis) (class : Class) (all : List KeptRow) (forms : List Form) → Same (kept_of lts basis class all forms)
-kept_same lts basis class all forms (Ok c) (Ok c') (e, k, f) (e', k', f') = ap Ok (same_case c c' (e ∙ sym e') (same_kept (λ k. k.row) IsIdle [] all c.kept c'.kept k k') (f ∙ sym f'))
-kept_same lts basis class all forms (Ok c) (Err w) h h' = absurd h'
-kept_same lts basis class all forms (Err w) r h h' = absurd h
+pub kept_same : (s : Setting) (all : List KeptRow) (forms : List Form) → Same (kept_of s all forms)
+kept_same s all forms (Ok c) (Ok c') (e, k, f) (e', k', f') = ap Ok (same_case c c' (e ∙ sym e') (same_kept (λ k. k.row) IsIdle [] all c.kept c'.kept k k') (f ∙ sym f'))
+kept_same s all forms (Ok c) (Err w) h h' = absurd h'
+kept_same s all forms (Err w) r h h' = absurd h
 
-pub kept_one : (lts : System) (basis : CycleBasis) (class : Class) (all : List KeptRow) (forms : List Form) → IsOne (kept_of lts basis class all forms)
-kept_one lts basis class all forms = record { one = kept_same lts basis class all forms }
+pub kept_one : (s : Setting) (all : List KeptRow) (forms : List Form) → IsOne (kept_of s all forms)
+kept_one s all forms = record { one = kept_same s all forms }
 
-pub system_one : (lts : System) (tree : List Arc) (basis : CycleBasis) (class : Class) (problem : Problem) (number : ℕ) → IsOne (system_fold lts tree basis class problem number)
-system_one lts tree basis class problem n = and_then_one _ _
-    (each_one _ (λ name. row_one lts tree basis class name (row_expression lts class problem n [] name)) (names_of lts class problem n))
-    (λ all. and_then_one _ _ (each_one _ (form_one lts tree basis class) (split_forms lts class problem)) (λ forms. kept_one lts basis class all forms))
+pub system_one : (s : CaseSetting) → IsOne (system_fold s)
+system_one s = and_then_one _ _
+    (each_one _ (λ name. row_one s.setting name (row_expression s.lts s.class s.problem s.number [] name)) (names_of s.lts s.class s.problem s.number))
+    (λ all. and_then_one _ _ (each_one _ (form_one s.setting) (split_forms s.lts s.class s.problem)) (λ forms. kept_one s.setting all forms))
 
 -- ---- places
 
@@ -129,12 +130,12 @@ pub shift_one : (lts : System) (class : Class) (problem : Problem) (numbers : Li
 shift_one lts class problem numbers = and_then_one _ _ (either_one (is_shifted class) _ _ (each_one _ (λ m. two_terms_one _ _ _ _) _) (gives_one _))
     (λ moved. either_one (is_lifted class problem) _ _ (each_one _ (λ m. two_terms_one _ _ _ _) _) (gives_one _))
 
-pub place_one : (lts : System) (tree : List Arc) (basis : CycleBasis) (class : Class) (problem : Problem) (start : Ratio) (value : ℕ → Ratio) → IsOne (place_fold lts tree basis class problem start value)
-place_one lts tree basis class problem start value =
-    and_then_one _ _ (each_one _ (effect_one lts basis value) _)
-    (λ effects. and_then_one _ _ (whole_one class _)
-    (λ found. and_then_one _ _ (along_one _ _ tree)
-    (λ m. and_then_one _ _ (shift_one lts class problem _)
+pub place_one : (s : Setting) (problem : Problem) (start : Ratio) (value : ℕ → Ratio) → IsOne (place_fold s problem start value)
+place_one s problem start value =
+    and_then_one _ _ (each_one _ (effect_one s.lts s.basis value) _)
+    (λ effects. and_then_one _ _ (whole_one s.class _)
+    (λ found. and_then_one _ _ (along_one _ _ s.tree)
+    (λ m. and_then_one _ _ (shift_one s.lts s.class problem _)
     (λ numbers. and_then_one _ _ (each_one _ (λ u. term_one _) _) (λ post. gives_one _)))))
 
 -- ---- spreading
@@ -180,7 +181,7 @@ leaf_of_shares_one lts tree basis expression shares =
     (λ arcs. and_then_one _ _ (parts_one (scaled.numbers ++ map (λ x. x.multiplier) arcs))
     (λ parts. leaf_one lts expression (not_zero (named_from (map (λ r. r.name) shares) parts ++ map (λ a. record { multiplier = multiplier_among (chord_arcs lts tree basis ++ map (λ x. x.arc) arcs) (drop (length shares) parts) a; name = arc_name a }) lts.arcs))))))
 
-pub spread_one : (lts : System) (tree : List Arc) (basis : CycleBasis) (class : Class) (problem : Problem) (number : ℕ) (case : CaseSystem) (sides : List SplitSide) (above : List Side) (weights : List Weight) → IsOne (spread_fold lts tree basis class problem number case sides above weights)
-spread_one lts tree basis class problem n case sides above weights =
+pub spread_one : (s : CaseSetting) (case : CaseSystem) (sides : List SplitSide) (above : List Side) (weights : List Weight) → IsOne (spread_fold s case sides above weights)
+spread_one s case sides above weights =
     and_then_one _ _ (each_one _ (share_one case sides above) weights)
-    (λ shares. leaf_of_shares_one lts tree basis (row_expression lts class problem n above) shares)
+    (λ shares. leaf_of_shares_one s.lts s.tree s.basis (row_expression s.lts s.class s.problem s.number above) shares)

@@ -3,13 +3,13 @@ use Rattle.std.proofs.Common.{◌≡◌, ℕ, Bool, true, false, if◌then◌els
 use Rattle.std.specs.Prelude.{ℤ, pos, negsuc, neg_ℤ, ◌+ℤ◌, ◌*ℤ◌, unsigned_abs}
 use Rattle.std.specs.Int.{IsGcd}
 use Rattle.std.proofs.lemmas.Int.{ints}
-use Rattle.rg_theory.specs.declared.Arc.{Arc}
 use Rattle.rg_theory.specs.declared.Class.{Class}
 use Rattle.rg_theory.specs.System.{System, labels}
 use Rattle.rg_integers.proofs.Ring.{ring}
 use Rattle.rg_linear.specs.Cycle.{CycleBasis}
 use Rattle.rg_refuting.specs.Expression.{plus, minus}
 use Rattle.rg_refuting.specs.declared.Variable.{Variable}
+use Rattle.rg_order_of_work.specs.Setting.{Setting}
 use Rattle.rg_order_of_work.specs.Fold.{each, further, Ratio, whole, IsRatio, add, mul, multiple_of_all}
 use Rattle.rg_order_of_work.specs.Rewriting.{has_label, free_labels, dependent_labels, variable_count, start_of, count_of, dependent_term, coefficient_fold, has_start, pick, columns_of, Scaled, terms_fold}
 use Rattle.rg_order_of_work.specs.Placing.{negated}
@@ -98,11 +98,11 @@ bottoms_same lts basis class start start' rs = go (has_start class)
     go false = bottoms_picked (λ t. has_label t lts.arcs) (free_labels (labels lts) basis) rs
 
 -- a variable and its opposite are multiplied alike
-pub same_multiple : (lts : System) (tree : List Arc) (basis : CycleBasis) (class : Class) (v : Variable) (s s' : Scaled) → terms_fold lts tree basis class (plus v ∷ []) (Ok s) → terms_fold lts tree basis class (minus v ∷ []) (Ok s') → s'.multiple ≡ s.multiple
-same_multiple lts tree basis class v s s' (free, substituted, (m, multiple, (ps, products, e))) (free', substituted', (m', multiple', (ps', products', e'))) =
-    let negatives : free' ≡ map negated free = negated_all (labels lts) basis (count_of tree (plus v ∷ [])) (count_of tree (minus v ∷ [])) (λ t. opposite (variable_count tree v t)) (free_labels (labels lts) basis) free free' substituted substituted' in
-    let bottoms = ap (λ rs. map (λ (r : Ratio). r.bottom) (columns_of lts basis class (start_of (minus v ∷ [])) rs)) negatives ∙ bottoms_same lts basis class (start_of (plus v ∷ [])) (start_of (minus v ∷ [])) free in
-    let one = (multiple_one (map (λ (r : Ratio). r.bottom) (columns_of lts basis class (start_of (plus v ∷ [])) free))).one (Ok m') (Ok m) (subst (λ ds. multiple_of_all ds (Ok m')) bottoms multiple') multiple in
+pub same_multiple : (it : Setting) (v : Variable) (s s' : Scaled) → terms_fold it (plus v ∷ []) (Ok s) → terms_fold it (minus v ∷ []) (Ok s') → s'.multiple ≡ s.multiple
+same_multiple it v s s' (free, substituted, (m, multiple, (ps, products, e))) (free', substituted', (m', multiple', (ps', products', e'))) =
+    let negatives : free' ≡ map negated free = negated_all (labels it.lts) it.basis (count_of it.tree (plus v ∷ [])) (count_of it.tree (minus v ∷ [])) (λ t. opposite (variable_count it.tree v t)) (free_labels (labels it.lts) it.basis) free free' substituted substituted' in
+    let bottoms = ap (λ rs. map (λ (r : Ratio). r.bottom) (columns_of it.lts it.basis it.class (start_of (minus v ∷ [])) rs)) negatives ∙ bottoms_same it.lts it.basis it.class (start_of (plus v ∷ [])) (start_of (minus v ∷ [])) free in
+    let one = (multiple_one (map (λ (r : Ratio). r.bottom) (columns_of it.lts it.basis it.class (start_of (plus v ∷ [])) free))).one (Ok m') (Ok m) (subst (λ ds. multiple_of_all ds (Ok m')) bottoms multiple') multiple in
     let same : m' ≡ m = cc in
     ap (λ (x : Scaled). x.multiple) e' ∙ same ∙ sym (ap (λ (x : Scaled). x.multiple) e)
   where

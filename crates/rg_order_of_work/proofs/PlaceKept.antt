@@ -6,7 +6,6 @@ use Rattle.std.proofs.lemmas.Int.{ints}
 use Rattle.std.proofs.lemmas.Bool.{true≢false, cases_Bool}
 use Rattle.std.proofs.lemmas.List.{length-map, get_or-map, get_or_default}
 use Rattle.std.proofs.lemmas.List.Elements.{Contains-get_or}
-use Rattle.rg_theory.specs.declared.Arc.{Arc}
 use Rattle.rg_theory.specs.declared.Class.{Class}
 use Rattle.rg_theory.specs.declared.Problem.{Problem}
 use Rattle.rg_theory.specs.declared.Problem.TheVariants.{Event, States}
@@ -14,13 +13,13 @@ use Rattle.rg_theory.specs.Class.{IsMultiple, AllowsStart}
 use Rattle.rg_theory.specs.ClassWords.{HasNumbersInRange}
 use Rattle.rg_integers.specs.Sum.{sum_below}
 use Rattle.rg_integers.proofs.Ring.{ring}
+use Rattle.rg_order_of_work.specs.Setting.{CaseSetting}
 use Rattle.rg_order_of_work.proofs.CaseRows.{tokens_row_holds}
 use Rattle.rg_order_of_work.proofs.Lifts.{lifted_keeps}
 use Rattle.rg_order_of_work.proofs.Missing.{missing_is_least}
 use Rattle.rg_order_of_work.proofs.Times.{allows_by, multiple_positive}
 use Rattle.rg_theory.specs.System.{System, IsInRange, states, labels}
 use Rattle.rg_refuting.specs.declared.Variable.{Variable}
-use Rattle.rg_linear.specs.Cycle.{CycleBasis}
 use Rattle.rg_order_of_work.specs.Fold.{gives, either, each, Ratio, whole, add}
 use Rattle.rg_order_of_work.specs.Potentials.{potential}
 use Rattle.rg_theory.specs.Tree.{parikh}
@@ -169,49 +168,48 @@ sum_times k (suc n) f each =
     let (w, g) = each n (omega arith) in
     (u +ℤ w, join k (sum_below n f) (f n) u w e g)
 
-pub kept_is : (lts : System) (tree : List Arc) (basis : CycleBasis) (class : Class) (problem : Problem) (number : ℕ) (case : CaseSystem) (first : ℤ) (effect : ℕ → ℤ)
-    (scale m : ℤ) (found numbers : List Ratio) (out : ℕ → Ratio) → class.plain ≡ false → IsNone class.bound
-    → IsCaseOver lts tree basis class problem number case → AreEffects lts tree basis effect → pos 0 <ℤ scale → AreFound lts found first effect scale m
-    → AreSteps class found → MeetsCase lts basis class case first effect scale → along_tree (ratio_at found) (λ s. ratio_at found (labels lts)) tree (Ok out)
-    → shift_by (is_shifted class) (map out (all_numbers (states lts))) numbers → (x : Variable → ℤ) × AreMoved lts class problem number found numbers x
-    × AllowsStart class (unsigned_abs (x (Tokens lts.initial)))
-kept_is lts tree basis class problem number case first effect scale m found numbers out plain bound c e positive f steps met made shift = ⊎_elim pure_case other_case (cases_Bool class.pure)
+pub kept_is : (it : CaseSetting) (case : CaseSystem) (first : ℤ) (effect : ℕ → ℤ) (scale m : ℤ) (found numbers : List Ratio) (out : ℕ → Ratio) → it.class.plain ≡ false
+    → IsNone it.class.bound → IsCaseOver it case → AreEffects it.lts it.tree it.basis effect → pos 0 <ℤ scale → AreFound it.lts found first effect scale m
+    → AreSteps it.class found → MeetsCase it.setting case first effect scale → along_tree (ratio_at found) (λ s. ratio_at found (labels it.lts)) it.tree (Ok out)
+    → shift_by (is_shifted it.class) (map out (all_numbers (states it.lts))) numbers
+    → (x : Variable → ℤ) × AreMoved it.lts it.class it.problem it.number found numbers x × AllowsStart it.class (unsigned_abs (x (Tokens it.lts.initial)))
+kept_is it case first effect scale m found numbers out plain bound c e positive f steps met made shift = ⊎_elim pure_case other_case (cases_Bool it.class.pure)
   where
     start : ℤ
-    start = top_at found (labels lts)
+    start = top_at found (labels it.lts)
 
     list : List Ratio
-    list = map out (all_numbers (states lts))
+    list = map out (all_numbers (states it.lts))
 
-    effects : AreEffects lts tree basis (found_effect lts found)
-    effects = found_effects lts tree basis found first effect scale m positive e f
+    effects : AreEffects it.lts it.tree it.basis (found_effect it.lts found)
+    effects = found_effects it.lts it.tree it.basis found first effect scale m positive e f
 
-    meets : MeetsCase lts basis class case (top_at found (labels lts)) (found_effect lts found) m
-    meets = found_meets lts tree basis class case found first effect scale m positive e f met
+    meets : MeetsCase it.setting case (top_at found (labels it.lts)) (found_effect it.lts found) m
+    meets = found_meets it.setting case found first effect scale m positive e f met
 
-    same : (t : ℕ) → t < labels lts → top_at found t ≡ found_effect lts found t
-    same t lt = sym (same_effect lts tree basis found first effect scale m t positive e f lt)
+    same : (t : ℕ) → t < labels it.lts → top_at found t ≡ found_effect it.lts found t
+    same t lt = sym (same_effect it.lts it.tree it.basis found first effect scale m t positive e f lt)
 
-    at : AreWholeAt (map out (all_numbers (states lts))) (states lts) (potential lts tree (top_at found (labels lts)) (found_effect lts found))
+    at : AreWholeAt (map out (all_numbers (states it.lts))) (states it.lts) (potential it.lts it.tree (top_at found (labels it.lts)) (found_effect it.lts found))
     at = (
-      length-map (all_numbers (states lts)) out ∙ all_length (states lts),
+      length-map (all_numbers (states it.lts)) out ∙ all_length (states it.lts),
       λ s lt.
-          subst (λ r. IsWholeAt r (potential lts tree (top_at found (labels lts)) (found_effect lts found) s))
-          (sym (get_or-map out (all_numbers (states lts)) s 0 (whole (pos 0)) (subst (λ k. s < k) (sym (all_length (states lts))) lt) ∙ ap out (all_at (states lts) s lt)))
-          (along_gives lts tree (ratio_at found) out (top_at found (labels lts)) (top_at found) (found_effect lts found) s c.in_range c.is_tree (c.reachable.each s lt)
-          (f.fits (labels lts)) f.is_whole same (subst (λ r. along_tree (ratio_at found) (λ q. r) tree (Ok out)) (f.is_whole (labels lts)) made)),
+          subst (λ r. IsWholeAt r (potential it.lts it.tree (top_at found (labels it.lts)) (found_effect it.lts found) s))
+          (sym (get_or-map out (all_numbers (states it.lts)) s 0 (whole (pos 0)) (subst (λ k. s < k) (sym (all_length (states it.lts))) lt) ∙ ap out (all_at (states it.lts) s lt)))
+          (along_gives it.lts it.tree (ratio_at found) out (top_at found (labels it.lts)) (top_at found) (found_effect it.lts found) s c.in_range c.is_tree (c.reachable.each s lt)
+          (f.fits (labels it.lts)) f.is_whole same (subst (λ r. along_tree (ratio_at found) (λ q. r) it.tree (Ok out)) (f.is_whole (labels it.lts)) made)),
     )
 
-    -- the number of each state is so many steps
-    steps_at : (s : ℕ) → (u : ℤ) × (potential lts tree (top_at found (labels lts)) (found_effect lts found) s ≡ pos (unwrap_or class.marking 1) *ℤ u)
+    -- the it.number of each state is so many steps
+    steps_at : (s : ℕ) → (u : ℤ) × (potential it.lts it.tree (top_at found (labels it.lts)) (found_effect it.lts found) s ≡ pos (unwrap_or it.class.marking 1) *ℤ u)
     steps_at s =
-        let (u, is) = steps (labels lts) in
-        let (w, is') = sum_times (pos (unwrap_or class.marking 1)) (labels lts) (λ t. pos (parikh tree s t) *ℤ found_effect lts found t) (λ t lt. scaled (pos (unwrap_or class.marking 1)) (pos (parikh tree s t)) (found_effect lts found t) (used t (has_label t lts.arcs))) in
-        (u +ℤ w, join (pos (unwrap_or class.marking 1)) (top_at found (labels lts)) (sum_below (labels lts) (λ t. pos (parikh tree s t) *ℤ found_effect lts found t)) u w is is')
+        let (u, is) = steps (labels it.lts) in
+        let (w, is') = sum_times (pos (unwrap_or it.class.marking 1)) (labels it.lts) (λ t. pos (parikh it.tree s t) *ℤ found_effect it.lts found t) (λ t lt. scaled (pos (unwrap_or it.class.marking 1)) (pos (parikh it.tree s t)) (found_effect it.lts found t) (used t (has_label t it.lts.arcs))) in
+        (u +ℤ w, join (pos (unwrap_or it.class.marking 1)) (top_at found (labels it.lts)) (sum_below (labels it.lts) (λ t. pos (parikh it.tree s t) *ℤ found_effect it.lts found t)) u w is is')
       where
-        used : (t : ℕ) (b : Bool) → (u : ℤ) × ((if b then top_at found t else pos 0) ≡ pos (unwrap_or class.marking 1) *ℤ u)
+        used : (t : ℕ) (b : Bool) → (u : ℤ) × ((if b then top_at found t else pos 0) ≡ pos (unwrap_or it.class.marking 1) *ℤ u)
         used t true = steps t
-        used t false = (pos 0, sym (*ℤ-zero (pos (unwrap_or class.marking 1))))
+        used t false = (pos 0, sym (*ℤ-zero (pos (unwrap_or it.class.marking 1))))
 
         scaled : (k n z : ℤ) → (u : ℤ) × (z ≡ k *ℤ u) → (u : ℤ) × (n *ℤ z ≡ k *ℤ u)
         scaled k n z (u, e) = (n *ℤ u, ap (λ y. n *ℤ y) e ∙ turn n k u)
@@ -222,39 +220,39 @@ kept_is lts tree basis class problem number case first effect scale m found numb
     less : (k a b by u w : ℤ) → a ≡ k *ℤ u → b ≡ k *ℤ w → by ≡ neg_ℤ b → a +ℤ by ≡ k *ℤ (u -ℤ w)
     less k a b by u w e g h = let d : k *ℤ (u -ℤ w) ≡ (k *ℤ u) -ℤ (k *ℤ w) = simp ring (omega (arith, ints)) in omega (arith, ints)
 
-    moves : (b : Bool) → class.pure ≡ b → is_shifted class ≡ (not false && (false || not b))
-    moves b is = ap₂ (λ x y. not x && y) (not_bounded class.bound bound) (ap₂ (λ x y. x || not y) plain is)
+    moves : (b : Bool) → it.class.pure ≡ b → is_shifted it.class ≡ (not false && (false || not b))
+    moves b is = ap₂ (λ x y. not x && y) (not_bounded it.class.bound bound) (ap₂ (λ x y. x || not y) plain is)
 
-    pure_case : class.pure ≡ true → (x : Variable → ℤ) × AreMoved lts class problem number found numbers x × AllowsStart class (unsigned_abs (x (Tokens lts.initial)))
+    pure_case : it.class.pure ≡ true → (x : Variable → ℤ) × AreMoved it.lts it.class it.problem it.number found numbers x × AllowsStart it.class (unsigned_abs (x (Tokens it.lts.initial)))
     pure_case pure =
-        let stays : numbers ≡ map out (all_numbers (states lts)) = subst (λ b. shift_by b (map out (all_numbers (states lts))) numbers) (moves true pure) shift in (
-          numbers_along lts tree (top_at found (labels lts)) (found_effect lts found),
+        let stays : numbers ≡ map out (all_numbers (states it.lts)) = subst (λ b. shift_by b (map out (all_numbers (states it.lts))) numbers) (moves true pure) shift in (
+          numbers_along it.lts it.tree (top_at found (labels it.lts)) (found_effect it.lts found),
           record {
-            keeps = at_one lts class problem number m (numbers_along lts tree (top_at found (labels lts)) (found_effect lts found)) plain bound f.positive
-                ((start_means lts tree basis class problem number case (top_at found (labels lts)) (found_effect lts found) m c effects f.positive
-                (ap (λ b. b || (class.plain || is_some class.bound)) pure)).0 meets);
-            at = subst (λ l. AreWholeAt l (states lts) (potential lts tree (top_at found (labels lts)) (found_effect lts found))) (sym stays) at;
+            keeps = at_one it.lts it.class it.problem it.number m (numbers_along it.lts it.tree (top_at found (labels it.lts)) (found_effect it.lts found)) plain bound f.positive
+                ((start_means it case (top_at found (labels it.lts)) (found_effect it.lts found) m c effects f.positive
+                (ap (λ b. b || (it.class.plain || is_some it.class.bound)) pure)).0 meets);
+            at = subst (λ l. AreWholeAt l (states it.lts) (potential it.lts it.tree (top_at found (labels it.lts)) (found_effect it.lts found))) (sym stays) at;
             effects = same;
           },
-          (let (u, is) = steps_at lts.initial in allows_by class (potential lts tree (top_at found (labels lts)) (found_effect lts found) lts.initial) u is),
+          (let (u, is) = steps_at it.lts.initial in allows_by it.class (potential it.lts it.tree (top_at found (labels it.lts)) (found_effect it.lts found) it.lts.initial) u is),
         )
 
-    other_case : class.pure ≡ false → (x : Variable → ℤ) × AreMoved lts class problem number found numbers x × AllowsStart class (unsigned_abs (x (Tokens lts.initial)))
+    other_case : it.class.pure ≡ false → (x : Variable → ℤ) × AreMoved it.lts it.class it.problem it.number found numbers x × AllowsStart it.class (unsigned_abs (x (Tokens it.lts.initial)))
     other_case impure =
-        let starts : has_start class ≡ false = ap₂ (λ x y. x || y) impure (ap₂ (λ x y. x || y) plain (not_bounded class.bound bound)) in
-        let moved = subst (λ b. shift_by b (map out (all_numbers (states lts))) numbers) (moves false impure) shift in
-        let (by, at', above, (l, l_lt, by_is)) = shifted_at (map out (all_numbers (states lts))) numbers (states lts) (potential lts tree (top_at found (labels lts)) (found_effect lts found)) (let lt = c.in_range.initial in omega arith) at moved in (
-          shifted by (numbers_along lts tree (top_at found (labels lts)) (found_effect lts found)),
+        let starts : has_start it.class ≡ false = ap₂ (λ x y. x || y) impure (ap₂ (λ x y. x || y) plain (not_bounded it.class.bound bound)) in
+        let moved = subst (λ b. shift_by b (map out (all_numbers (states it.lts))) numbers) (moves false impure) shift in
+        let (by, at', above, (l, l_lt, by_is)) = shifted_at (map out (all_numbers (states it.lts))) numbers (states it.lts) (potential it.lts it.tree (top_at found (labels it.lts)) (found_effect it.lts found)) (let lt = c.in_range.initial in omega arith) at moved in (
+          shifted by (numbers_along it.lts it.tree (top_at found (labels it.lts)) (found_effect it.lts found)),
           record {
-            keeps = at_one lts class problem number m (shifted by (numbers_along lts tree (top_at found (labels lts)) (found_effect lts found))) plain bound f.positive
-                (shift_means lts tree basis class problem number case (top_at found (labels lts)) (found_effect lts found) m by c starts
-                ((no_start_means lts tree basis class problem number case (top_at found (labels lts)) (found_effect lts found) m c effects f.positive starts).0 meets)
+            keeps = at_one it.lts it.class it.problem it.number m (shifted by (numbers_along it.lts it.tree (top_at found (labels it.lts)) (found_effect it.lts found))) plain bound f.positive
+                (shift_means it case (top_at found (labels it.lts)) (found_effect it.lts found) m by c starts
+                ((no_start_means it case (top_at found (labels it.lts)) (found_effect it.lts found) m c effects f.positive starts).0 meets)
                 above);
             at = at';
             effects = same;
           },
-          (let (u, is) = steps_at lts.initial in let (w, is') = steps_at l in
-              allows_by class (potential lts tree (top_at found (labels lts)) (found_effect lts found) lts.initial +ℤ by) (u -ℤ w)
-              (less (pos (unwrap_or class.marking 1)) (potential lts tree (top_at found (labels lts)) (found_effect lts found) lts.initial)
-              (potential lts tree (top_at found (labels lts)) (found_effect lts found) l) by u w is is' by_is)),
+          (let (u, is) = steps_at it.lts.initial in let (w, is') = steps_at l in
+              allows_by it.class (potential it.lts it.tree (top_at found (labels it.lts)) (found_effect it.lts found) it.lts.initial +ℤ by) (u -ℤ w)
+              (less (pos (unwrap_or it.class.marking 1)) (potential it.lts it.tree (top_at found (labels it.lts)) (found_effect it.lts found) it.lts.initial)
+              (potential it.lts it.tree (top_at found (labels it.lts)) (found_effect it.lts found) l) by u w is is' by_is)),
         )

@@ -4,9 +4,7 @@ use Rattle.std.specs.Prelude.{ℤ, pos, ◌*ℤ◌, ◌<ℤ◌}
 use Rattle.std.proofs.lemmas.Int.{ints}
 use Rattle.std.proofs.lemmas.Bool.{cases_Bool}
 use Rattle.std.proofs.lemmas.List.{get_or_default}
-use Rattle.rg_theory.specs.declared.Arc.{Arc}
 use Rattle.rg_theory.specs.declared.Class.{Class}
-use Rattle.rg_theory.specs.declared.Problem.{Problem}
 use Rattle.rg_theory.specs.System.{System, labels}
 use Rattle.rg_theory.specs.Net.{Place}
 use Rattle.rg_integers.specs.Sum.{number_at}
@@ -23,6 +21,7 @@ use Rattle.rg_linear.specs.Branching.{BranchFrom.both_refuted, Branching}
 use Rattle.rg_linear.proofs.Points.{constant_left}
 use Rattle.rg_linear.proofs.Splits.{found_is_sound}
 use Rattle.rg_linear.specs.Cycle.{CycleBasis}
+use Rattle.rg_order_of_work.specs.Setting.{Setting, CaseSetting}
 use Rattle.rg_order_of_work.specs.Fold.{Ratio, whole, IsRatio}
 use Rattle.rg_order_of_work.specs.Shown.{IsLive, IsValueAt, PointOf}
 use Rattle.rg_order_of_work.specs.Rewriting.{has_label, free_labels, free_columns, has_start, CaseSystem, rows_of}
@@ -38,16 +37,16 @@ use Rattle.rg_order_of_work.proofs.Overs.{whole_reduced}
 use Rattle.rg_order_of_work.proofs.Made.{place_made}
 
 -- where Start is no column, the columns don't depend on it
-other_start : (lts : System) (tree : List Arc) (basis : CycleBasis) (class : Class) (case : CaseSystem) (v : ℕ → ℤ) (times first other : ℤ) (effect : ℕ → ℤ)
-    → has_start class ≡ false → AreGivenBy lts tree basis class case v times first effect → AreGivenBy lts tree basis class case v times other effect
-other_start lts tree basis class case v times first other effect none g = record {
+other_start : (s : Setting) (case : CaseSystem) (v : ℕ → ℤ) (times first other : ℤ) (effect : ℕ → ℤ) → has_start s.class ≡ false
+    → AreGivenBy s case v times first effect → AreGivenBy s case v times other effect
+other_start s case v times first other effect none g = record {
   positive = g.positive;
   effects = g.effects;
   columns = λ j lt. g.columns j lt ∙ ap (λ b. number_at ((if b then (first ∷ []) else []) ++ rest) j) none ∙ sym (ap (λ b. number_at ((if b then (other ∷ []) else []) ++ rest) j) none);
 }
   where
     rest : List ℤ
-    rest = picked (λ t. has_label t lts.arcs) (free_labels (labels lts) basis) effect
+    rest = picked (λ t. has_label t s.lts.arcs) (free_labels (labels s.lts) s.basis) effect
 
 -- the same value over a multiple of the scale
 over_multiple : (top bottom z scale times w : ℤ) → SameValue top bottom z scale → times *ℤ z ≡ w → SameValue top bottom w (times *ℤ scale)
@@ -59,11 +58,10 @@ over_multiple top bottom z scale times w same is = turn top times scale ∙ ap (
     turn' : (t z b : ℤ) → t *ℤ (z *ℤ b) ≡ (t *ℤ z) *ℤ b
     turn' t z b = simp ring
 
-given_values : (lts : System) (tree : List Arc) (basis : CycleBasis) (class : Class) (problem : Problem) (number : ℕ) (case : CaseSystem) (v : ℕ → ℤ)
-    (scale times first : ℤ) (effect : ℕ → ℤ) (start : Ratio) (value : ℕ → Ratio) → IsCaseOver lts tree basis class problem number case → pos 0 <ℤ scale
-    → AreGivenBy lts tree basis class case v times first effect → AreAtPoint lts basis class scale v start value
-    → SameValue start.top start.bottom first (times *ℤ scale) → AreValuesOf lts basis start value first effect (times *ℤ scale)
-given_values lts tree basis class problem number case v scale times first effect start value c positive g a start_is = record {
+given_values : (s : CaseSetting) (case : CaseSystem) (v : ℕ → ℤ) (scale times first : ℤ) (effect : ℕ → ℤ) (start : Ratio) (value : ℕ → Ratio) → IsCaseOver s case
+    → pos 0 <ℤ scale → AreGivenBy s.setting case v times first effect → AreAtPoint s.lts s.basis s.class scale v start value
+    → SameValue start.top start.bottom first (times *ℤ scale) → AreValuesOf s.lts s.basis start value first effect (times *ℤ scale)
+given_values s case v scale times first effect start value c positive g a start_is = record {
   positive = mul_positive times scale g.positive positive;
   start_bottom = a.start_bottom;
   start_reduced = a.start_reduced;
@@ -71,46 +69,45 @@ given_values lts tree basis class problem number case v scale times first effect
   reduced = λ f (i, lt, e). subst (λ u. IsReduced (value u)) (there f i lt e) (a.reduced i lt);
   bottoms = λ f (i, lt, e). subst (λ u. pos 0 <ℤ (value u).bottom) (there f i lt e) (a.bottoms i lt);
   values = λ f (i, lt, e). subst (λ u. SameValue (value u).top (value u).bottom (effect u) (times *ℤ scale)) (there f i lt e)
-      (over_multiple (value (slice_index_or (free_columns lts basis) i 0)).top (value (slice_index_or (free_columns lts basis) i 0)).bottom
-      (v (first_column class + i)) scale times (effect (slice_index_or (free_columns lts basis) i 0)) (a.values i lt) (at i lt));
+      (over_multiple (value (slice_index_or (free_columns s.lts s.basis) i 0)).top (value (slice_index_or (free_columns s.lts s.basis) i 0)).bottom
+      (v (first_column s.class + i)) scale times (effect (slice_index_or (free_columns s.lts s.basis) i 0)) (a.values i lt) (at i lt));
 }
   where
-    there : (f i : ℕ) → i < length (free_columns lts basis) → slice_index_or (free_columns lts basis) i f ≡ f → slice_index_or (free_columns lts basis) i 0 ≡ f
-    there f i lt e = get_or_default (free_columns lts basis) i 0 f lt ∙ e
+    there : (f i : ℕ) → i < length (free_columns s.lts s.basis) → slice_index_or (free_columns s.lts s.basis) i f ≡ f → slice_index_or (free_columns s.lts s.basis) i 0 ≡ f
+    there f i lt e = get_or_default (free_columns s.lts s.basis) i 0 f lt ∙ e
 
-    at : (i : ℕ) → i < length (free_columns lts basis) → times *ℤ v (first_column class + i) ≡ effect (slice_index_or (free_columns lts basis) i 0)
-    at i lt = g.columns (first_column class + i) (free_below lts tree basis class problem number case i c.is_case lt) ∙ free_value lts basis class first effect i lt
+    at : (i : ℕ) → i < length (free_columns s.lts s.basis) → times *ℤ v (first_column s.class + i) ≡ effect (slice_index_or (free_columns s.lts s.basis) i 0)
+    at i lt = g.columns (first_column s.class + i) (free_below s case i c.is_case lt) ∙ free_value s.lts s.basis s.class first effect i lt
 
 -- forms that are whole at a point are so at what it gives
-forms_over : (lts : System) (tree : List Arc) (basis : CycleBasis) (class : Class) (problem : Problem) (number : ℕ) (case : CaseSystem) (v : ℕ → ℤ)
-    (scale times first : ℤ) (effect : ℕ → ℤ) → IsCaseOver lts tree basis class problem number case → AreGivenBy lts tree basis class case v times first effect
-    → FormsWhole (rows_of case) case.forms scale v → AreFormsWhole lts basis class case first effect (times *ℤ scale)
-forms_over lts tree basis class problem number case v scale times first effect c g forms_whole f lt =
+forms_over : (it : CaseSetting) (case : CaseSystem) (v : ℕ → ℤ) (scale times first : ℤ) (effect : ℕ → ℤ) → IsCaseOver it case
+    → AreGivenBy it.setting case v times first effect → FormsWhole (rows_of case) case.forms scale v → AreFormsWhole it.setting case first effect (times *ℤ scale)
+forms_over it case v scale times first effect c g forms_whole f lt =
     let (u, is) = forms_whole f lt in
-    (u, sym (point_form lts tree basis class problem number case c v times first effect (form_at case.forms f) g) ∙ ap (λ z. times *ℤ z) is ∙ turn times u (form_at case.forms f).scale scale)
+    (u, sym (point_form it case c v times first effect (form_at case.forms f) g) ∙ ap (λ z. times *ℤ z) is ∙ turn times u (form_at case.forms f).scale scale)
   where
     turn : (t u f s : ℤ) → t *ℤ (u *ℤ (f *ℤ s)) ≡ u *ℤ (f *ℤ (t *ℤ s))
     turn t u f s = simp ring
 
-pub point_makes : (lts : System) (tree : List Arc) (basis : CycleBasis) (class : Class) (problem : Problem) (number : ℕ) (case : CaseSystem) (scale : ℤ) (v : ℕ → ℤ)
-    (start : Ratio) (value : ℕ → Ratio) (place : Place) → IsCaseOver lts tree basis class problem number case → IsLive lts problem → IsPoint (rows_of case) scale v
-    → MeetsRows (rows_of case) v → FormsWhole (rows_of case) case.forms scale v → AreAtPoint lts basis class scale v start value
-    → place_fold lts tree basis class problem start value (Ok place) → PlaceIsMade lts tree basis class problem start value place
-point_makes lts tree basis class problem number case scale v start value place c live p met forms_whole a fold =
-    let (times, first, effect, g) = point_gives lts tree basis class problem number case v c in
+pub point_makes : (it : CaseSetting) (case : CaseSystem) (scale : ℤ) (v : ℕ → ℤ) (start : Ratio) (value : ℕ → Ratio) (place : Place) → IsCaseOver it case
+    → IsLive it.lts it.problem → IsPoint (rows_of case) scale v → MeetsRows (rows_of case) v → FormsWhole (rows_of case) case.forms scale v
+    → AreAtPoint it.lts it.basis it.class scale v start value → place_fold it.setting it.problem start value (Ok place)
+    → PlaceIsMade it.setting it.problem start value place
+point_makes it case scale v start value place c live p met forms_whole a fold =
+    let (times, first, effect, g) = point_gives it case v c in
     ⊎_elim
-    (λ starts. by times first effect g (over_multiple start.top start.bottom (v 0) scale times first (a.start_is starts) (g.columns 0 (start_below lts tree basis class problem number case c.is_case starts) ∙ first_value lts basis class first effect starts)))
-    (λ none. by times (pos 0) effect (other_start lts tree basis class case v times first (pos 0) effect none g) (subst (λ (r : Ratio). SameValue r.top r.bottom (pos 0) (times *ℤ scale)) (sym (a.no_start none)) (zeros (times *ℤ scale))))
-    (cases_Bool (has_start class))
+    (λ starts. by times first effect g (over_multiple start.top start.bottom (v 0) scale times first (a.start_is starts) (g.columns 0 (start_below it case c.is_case starts) ∙ first_value it.lts it.basis it.class first effect starts)))
+    (λ none. by times (pos 0) effect (other_start it.setting case v times first (pos 0) effect none g) (subst (λ (r : Ratio). SameValue r.top r.bottom (pos 0) (times *ℤ scale)) (sym (a.no_start none)) (zeros (times *ℤ scale))))
+    (cases_Bool (has_start it.class))
   where
     zeros : (s : ℤ) → pos 0 *ℤ s ≡ pos 0 *ℤ pos 1
     zeros s = omega (arith, ints)
 
-    by : (times first : ℤ) (effect : ℕ → ℤ) → AreGivenBy lts tree basis class case v times first effect → SameValue start.top start.bottom first (times *ℤ scale) → PlaceIsMade lts tree basis class problem start value place
-    by times first effect g start_is = place_made lts tree basis class problem number case start value first effect (times *ℤ scale) place c live g.effects
-        ((point_meets lts tree basis class problem number case v scale times first effect c p g).0 met)
-        (forms_over lts tree basis class problem number case v scale times first effect c g forms_whole)
-        (given_values lts tree basis class problem number case v scale times first effect start value c p.positive g a start_is) fold
+    by : (times first : ℤ) (effect : ℕ → ℤ) → AreGivenBy it.setting case v times first effect → SameValue start.top start.bottom first (times *ℤ scale) → PlaceIsMade it.setting it.problem start value place
+    by times first effect g start_is = place_made it case start value first effect (times *ℤ scale) place c live g.effects
+        ((point_meets it case v scale times first effect c p g).0 met)
+        (forms_over it case v scale times first effect c g forms_whole)
+        (given_values it case v scale times first effect start value c p.positive g a start_is) fold
 
 -- ---- the point that a branching finds
 
@@ -163,11 +160,11 @@ at_point lts basis class system members start value scale v p zeros of = record 
   values = λ i lt. (value_at system members (first_column class + i) (value (slice_index_or (free_columns lts basis) i 0)) scale v p zeros (of.values i (slice_index_or (free_columns lts basis) i 0) lt refl)).0;
 }
 
-pub found_makes : (lts : System) (tree : List Arc) (basis : CycleBasis) (class : Class) (problem : Problem) (number : ℕ) (case : CaseSystem) (members : List ℕ)
-    (sides : List SplitSide) (start : Ratio) (value : ℕ → Ratio) (place : Place) → IsCaseOver lts tree basis class problem number case → IsLive lts problem
-    → Branching (rows_of case) case.forms (found members sides) → PointOf lts basis class (node_system (rows_of case) case.forms sides) members start value
-    → place_fold lts tree basis class problem start value (Ok place) → PlaceIsMade lts tree basis class problem start value place
-found_makes lts tree basis class problem number case members sides start value place c live b of fold =
+pub found_makes : (s : CaseSetting) (case : CaseSystem) (members : List ℕ) (sides : List SplitSide) (start : Ratio) (value : ℕ → Ratio) (place : Place)
+    → IsCaseOver s case → IsLive s.lts s.problem → Branching (rows_of case) case.forms (found members sides)
+    → PointOf s.lts s.basis s.class (node_system (rows_of case) case.forms sides) members start value → place_fold s.setting s.problem start value (Ok place)
+    → PlaceIsMade s.setting s.problem start value place
+found_makes s case members sides start value place c live b of fold =
     let all = found_whole (rows_of case) case.forms [] (found members sides) b in
     let (p, met, forms_whole) = found_is_sound (rows_of case) case.forms [] sides members b all.scale all.v all.point all.zeros in
-    point_makes lts tree basis class problem number case all.scale all.v start value place c live p met forms_whole (at_point lts basis class (node_system (rows_of case) case.forms sides) members start value all.scale all.v all.point all.zeros of) fold
+    point_makes s case all.scale all.v start value place c live p met forms_whole (at_point s.lts s.basis s.class (node_system (rows_of case) case.forms sides) members start value all.scale all.v all.point all.zeros of) fold

@@ -6,8 +6,6 @@ use Rattle.std.proofs.lemmas.Bool.{true≢false, cases_Bool, cases_eq, eqb-true,
 use Rattle.std.proofs.lemmas.List.{length-map}
 use Rattle.std.proofs.Math.IntN.{zero-*ℤ}
 use Rattle.rg_theory.specs.declared.Arc.{Arc}
-use Rattle.rg_theory.specs.declared.Class.{Class}
-use Rattle.rg_theory.specs.declared.Problem.{Problem}
 use Rattle.rg_theory.specs.System.{System, IsInRange, IsAllReachable, labels}
 use Rattle.rg_theory.specs.Tree.{IsTree}
 use Rattle.rg_theory.proofs.Lists.{Contains-cons_cases}
@@ -19,6 +17,7 @@ use Rattle.rg_linear.specs.Dictionary.{Relation}
 use Rattle.rg_linear.specs.Cycle.{FollowsRelations, CycleBasis}
 use Rattle.rg_linear.proofs.Members.{is_member}
 use Rattle.rg_linear.proofs.Unique.{same_relation}
+use Rattle.rg_order_of_work.specs.Setting.{CaseSetting}
 use Rattle.rg_order_of_work.specs.Chords.{chord_system, IsBasis}
 use Rattle.rg_order_of_work.specs.Rewriting.{is_in, numbers_where, has_label, free_columns, has_start, CaseSystem}
 use Rattle.rg_order_of_work.specs.Values.{column_values}
@@ -180,28 +179,28 @@ given_follow lts tree basis b part w fine reached g is exact t k lt row =
 positive_d : (lts : System) (tree : List Arc) (basis : CycleBasis) → IsBasis lts tree basis → (t : ℕ) → t < labels lts → pos 0 <ℤ (basis.relation t).d
 positive_d lts tree basis is t lt = ⊎_elim (λ has. subst (λ (k : Relation). pos 0 <ℤ k.d) (sym (is.others t (inr has))) (omega (arith, ints))) (λ outside. (is.relations t lt outside).positive) (is_member basis.members t)
 
-pub point_gives : (lts : System) (tree : List Arc) (basis : CycleBasis) (class : Class) (problem : Problem) (number : ℕ) (case : CaseSystem) (v : ℕ → ℤ)
-    → IsCaseOver lts tree basis class problem number case → (times : ℤ) × (start : ℤ) × (effect : ℕ → ℤ) × AreGivenBy lts tree basis class case v times start effect
-point_gives lts tree basis class problem number case v c =
-    let (b, part, positive, exact) = multiple_below (labels lts) (λ t. (basis.relation t).d) (positive_d lts tree basis c.is_basis) in
-    let (w, at) = assigned (λ t. is_in basis.members t && has_label t lts.arcs) 0 (labels lts) (λ j. v (first_column class + j)) in (
+pub point_gives : (it : CaseSetting) (case : CaseSystem) (v : ℕ → ℤ) → IsCaseOver it case
+    → (times : ℤ) × (start : ℤ) × (effect : ℕ → ℤ) × AreGivenBy it.setting case v times start effect
+point_gives it case v c =
+    let (b, part, positive, exact) = multiple_below (labels it.lts) (λ t. (it.basis.relation t).d) (positive_d it.lts it.tree it.basis c.is_basis) in
+    let (w, at) = assigned (λ t. is_in it.basis.members t && has_label t it.lts.arcs) 0 (labels it.lts) (λ j. v (first_column it.class + j)) in (
       b,
       b *ℤ v 0,
-      given_effect lts basis b part w,
+      given_effect it.lts it.basis b part w,
       record {
         positive = positive;
         effects = record {
-          follows = given_follow lts tree basis b part w c.in_range c.reachable c.is_tree c.is_basis exact;
-          unused = λ t e. unused_effect lts basis b part w t e;
+          follows = given_follow it.lts it.tree it.basis b part w c.in_range c.reachable c.is_tree c.is_basis exact;
+          unused = λ t e. unused_effect it.lts it.basis b part w t e;
         };
         columns = λ j lt. columns b part w at j lt;
       },
     )
   where
-    free_times : (b : ℤ) (part w : ℕ → ℤ) → map (given_effect lts basis b part w) (free_columns lts basis) ≡ map (λ t. b *ℤ w t) (free_columns lts basis)
-    free_times b part w = map_same (given_effect lts basis b part w) (λ t. b *ℤ w t) (free_columns lts basis)
-        (λ t has. (let (e, _, _) = where_is (λ t. is_in basis.members t && has_label t lts.arcs) 0 (labels lts) t has in let (member, used) = and_parts
-        (is_in basis.members t) (has_label t lts.arcs) e in free_effect lts basis b part w t used member))
+    free_times : (b : ℤ) (part w : ℕ → ℤ) → map (given_effect it.lts it.basis b part w) (free_columns it.lts it.basis) ≡ map (λ t. b *ℤ w t) (free_columns it.lts it.basis)
+    free_times b part w = map_same (given_effect it.lts it.basis b part w) (λ t. b *ℤ w t) (free_columns it.lts it.basis)
+        (λ t has. (let (e, _, _) = where_is (λ t. is_in it.basis.members t && has_label t it.lts.arcs) 0 (labels it.lts) t has in let (member, used) = and_parts
+        (is_in it.basis.members t) (has_label t it.lts.arcs) e in free_effect it.lts it.basis b part w t used member))
 
     number_times : (b : ℤ) (w : ℕ → ℤ) (xs : List ℕ) (j : ℕ) → number_at (map (λ t. b *ℤ w t) xs) j ≡ b *ℤ number_at (map w xs) j
     number_times b w [] j = none b
@@ -211,19 +210,22 @@ point_gives lts tree basis class problem number case v c =
     number_times b w (x ∷ xs) zero = refl
     number_times b w (x ∷ xs) (suc j) = number_times b w xs j
 
-    by : (s : Bool) (b : ℤ) (w : ℕ → ℤ) → ((j : ℕ) → j < length (free_columns lts basis) → v ((if s then 1 else 0) + j) ≡ number_at (map w (free_columns lts basis)) j)
-        → (j : ℕ) → j < length ((if s then ((b *ℤ v 0) ∷ []) else []) ++ map (λ t. b *ℤ w t) (free_columns lts basis))
-        → b *ℤ v j ≡ number_at ((if s then ((b *ℤ v 0) ∷ []) else []) ++ map (λ t. b *ℤ w t) (free_columns lts basis)) j
+    by : (s : Bool) (b : ℤ) (w : ℕ → ℤ)
+        → ((j : ℕ) → j < length (free_columns it.lts it.basis) → v ((if s then 1 else 0) + j) ≡ number_at (map w (free_columns it.lts it.basis)) j) → (j : ℕ)
+        → j < length ((if s then ((b *ℤ v 0) ∷ []) else []) ++ map (λ t. b *ℤ w t) (free_columns it.lts it.basis))
+        → b *ℤ v j ≡ number_at ((if s then ((b *ℤ v 0) ∷ []) else []) ++ map (λ t. b *ℤ w t) (free_columns it.lts it.basis)) j
     by true b w at zero lt = refl
-    by true b w at (suc j) lt = ap (λ k. b *ℤ v k) (next j) ∙ ap (λ z. b *ℤ z) (at j (let same = length-map (free_columns lts basis) (λ t. b *ℤ w t) in omega arith)) ∙ sym (number_times b w (free_columns lts basis) j)
+    by true b w at (suc j) lt = ap (λ k. b *ℤ v k) (next j) ∙ ap (λ z. b *ℤ z) (at j (let same = length-map (free_columns it.lts it.basis) (λ t. b *ℤ w t) in omega arith)) ∙ sym (number_times b w (free_columns it.lts it.basis) j)
       where
         next : (j : ℕ) → suc j ≡ 1 + j
         next j = omega arith
-    by false b w at j lt = ap (λ k. b *ℤ v k) (sym (zero-add j)) ∙ ap (λ z. b *ℤ z) (at j (let same = length-map (free_columns lts basis) (λ t. b *ℤ w t) in omega arith)) ∙ sym (number_times b w (free_columns lts basis) j)
+    by false b w at j lt = ap (λ k. b *ℤ v k) (sym (zero-add j)) ∙ ap (λ z. b *ℤ z) (at j (let same = length-map (free_columns it.lts it.basis) (λ t. b *ℤ w t) in omega arith)) ∙ sym (number_times b w (free_columns it.lts it.basis) j)
 
-    columns : (b : ℤ) (part w : ℕ → ℤ) → ((j : ℕ) → j < length (free_columns lts basis) → v (first_column class + j) ≡ number_at (map w (free_columns lts basis)) j) → (j : ℕ) → j < case.columns → b *ℤ v j ≡ number_at (column_values lts basis class (b *ℤ v 0) (given_effect lts basis b part w)) j
+    columns : (b : ℤ) (part w : ℕ → ℤ)
+        → ((j : ℕ) → j < length (free_columns it.lts it.basis) → v (first_column it.class + j) ≡ number_at (map w (free_columns it.lts it.basis)) j) → (j : ℕ)
+        → j < case.columns → b *ℤ v j ≡ number_at (column_values it.lts it.basis it.class (b *ℤ v 0) (given_effect it.lts it.basis b part w)) j
     columns b part w at j lt =
-        let split = columns_split lts basis class (b *ℤ v 0) (given_effect lts basis b part w) ∙ ap (λ l. (if has_start class then ((b *ℤ v 0) ∷ []) else []) ++ l) (free_times b part w) in
-        let count = values_counted lts tree basis class problem number case (b *ℤ v 0) (given_effect lts basis b part w) c.is_case in
-        let below : j < length (column_values lts basis class (b *ℤ v 0) (given_effect lts basis b part w)) = omega arith in
-        by (has_start class) b w at j (subst (λ l. j < length l) split below) ∙ sym (ap (λ l. number_at l j) split)
+        let split = columns_split it.lts it.basis it.class (b *ℤ v 0) (given_effect it.lts it.basis b part w) ∙ ap (λ l. (if has_start it.class then ((b *ℤ v 0) ∷ []) else []) ++ l) (free_times b part w) in
+        let count = values_counted it case (b *ℤ v 0) (given_effect it.lts it.basis b part w) c.is_case in
+        let below : j < length (column_values it.lts it.basis it.class (b *ℤ v 0) (given_effect it.lts it.basis b part w)) = omega arith in
+        by (has_start it.class) b w at j (subst (λ l. j < length l) split below) ∙ sym (ap (λ l. number_at l j) split)

@@ -2,12 +2,12 @@
 use Rattle.std.proofs.Common.{◌≡◌, [], ◌∷◌, Err, ap, subst, sym, ◌∙◌}
 use Rattle.std.proofs.lemmas.Option.{same_Some}
 use Rattle.rg_theory.specs.declared.Class.{Class}
-use Rattle.rg_theory.specs.declared.Problem.{Problem}
 use Rattle.rg_theory.specs.System.{System, labels}
 use Rattle.rg_linear.specs.Dictionary.{column_set}
 use Rattle.rg_linear.specs.Descent.{WideAt}
-use Rattle.rg_linear.specs.Cycle.{CycleOutcome.too_wide, CycleWalk, CycleBasis}
+use Rattle.rg_linear.specs.Cycle.{CycleOutcome.too_wide, CycleWalk}
 use Rattle.rg_linear.proofs.Cycles.{same_cycle}
+use Rattle.rg_order_of_work.specs.Setting.{CaseSetting, setting_at, case_at}
 use Rattle.rg_order_of_work.specs.Chords.{KeepsChords, chord_vectors, chord_system, IsBasis}
 use Rattle.rg_order_of_work.specs.Rewriting.{system_fold}
 use Rattle.rg_order_of_work.specs.Shown.{Shown, CycleShown, RowShown}
@@ -34,8 +34,7 @@ row_is_one lts class w w' h h' problems cases =
     let is' : IsBasis lts h.arcs h'.basis = subst (λ a. IsBasis lts a h'.basis) (sym arcs) h'.is_basis in
     let basis : h.basis ≡ h'.basis = cycle_basis_is_one (labels lts) (chord_vectors lts h.arcs) h.basis h'.basis h.is_basis is' in
     let problem : h.problem ≡ h'.problem = same_Some h.problem h'.problem (sym h.stands.problem_is ∙ problems ∙ h'.stands.problem_is) in
-    let p1 = subst (λ n. system_fold lts h'.arcs h'.basis class h'.problem n (Err w'.wide)) (sym cases) h'.passes in
-    let p2 = subst (λ (p : Problem). system_fold lts h'.arcs h'.basis class p w.case_number (Err w'.wide)) (sym problem) p1 in
-    let p3 = subst (λ (b : CycleBasis). system_fold lts h'.arcs b class h.problem w.case_number (Err w'.wide)) (sym basis) p2 in
-    let p4 = subst (λ a. system_fold lts a h.basis class h.problem w.case_number (Err w'.wide)) (sym arcs) p3 in
-    err_is w.wide w'.wide ((system_one lts h.arcs h.basis class h.problem w.case_number).one (Err w.wide) (Err w'.wide) h.passes p4)
+    let s : CaseSetting = case_at (setting_at lts h.arcs h.basis class) h.problem w.case_number in
+    let s' : CaseSetting = case_at (setting_at lts h'.arcs h'.basis class) h'.problem w'.case_number in
+    let same : s ≡ s' = λ i. case_at (setting_at lts (arcs i) (basis i) class) (problem i) (cases i) in
+    err_is w.wide w'.wide ((system_one s).one (Err w.wide) (Err w'.wide) h.passes (subst (λ x. system_fold x (Err w'.wide)) (sym same) h'.passes))

@@ -2,8 +2,6 @@
 use Rattle.std.proofs.Common.{◌≡◌, ℕ, max, ◌↔◌, Bool, true, false, if◌then◌else◌, List, [], ◌∷◌, ◌++◌, map, Result, Ok, subst, sym, ◌∙◌, arith}
 use Rattle.std.specs.Prelude.{ℤ, pos, ◌+ℤ◌, ◌-ℤ◌, ◌*ℤ◌, ◌≤ℤ◌, ◌<ℤ◌, unsigned_abs, int_div}
 use Rattle.std.proofs.lemmas.Int.{ints}
-use Rattle.rg_theory.specs.declared.Arc.{Arc}
-use Rattle.rg_theory.specs.declared.Class.{Class}
 use Rattle.rg_theory.specs.System.{System, labels}
 use Rattle.rg_refuting.specs.Expression.{Term, Expression, value_in}
 use Rattle.rg_refuting.specs.declared.RowName.{RowName}
@@ -13,6 +11,7 @@ use Rattle.rg_integers.proofs.Order.{mul_positive, factor_positive, quotient_pos
 use Rattle.rg_integers.specs.Divisor.{int_gcd, gcd_of}
 use Rattle.rg_integers.proofs.Divisors.{gcd_of-is, exact}
 use Rattle.rg_integers.specs.declared.term.Wide.{Wide}
+use Rattle.rg_order_of_work.specs.Setting.{Setting}
 use Rattle.rg_order_of_work.specs.Fold.{gives, each, further, Ratio, whole, add, common_multiple, multiple_of_all}
 use Rattle.rg_order_of_work.specs.Chords.{chord_system, IsBasis}
 use Rattle.rg_order_of_work.specs.Rewriting.{has_label, free_labels, dependent_labels, start_of, count_of, dependent_term, coefficient_fold, has_start, pick, columns_of, Scaled, terms_fold, KeptRow, row_fold}
@@ -58,16 +57,16 @@ picked_positive lts basis counts test (f ∷ fs) rs (h, is, (rest, each_is, e)) 
     go true p q = (p, q)
     go false p q = q
 
-pub terms_positive : (lts : System) (tree : List Arc) (basis : CycleBasis) (class : Class) (terms : List Term) (scaled : Scaled) → terms_fold lts tree basis class terms (Ok scaled) → pos 0 <ℤ scaled.multiple
-terms_positive lts tree basis class terms scaled (free, substituted, (m, multiple, (ps, products, e))) = subst (λ (s : Scaled). pos 0 <ℤ s.multiple) (sym e) (all_multiple (map (λ r. r.bottom) (columns_of lts basis class (start_of terms) free)) m (start (has_start class)) multiple)
+pub terms_positive : (it : Setting) (terms : List Term) (scaled : Scaled) → terms_fold it terms (Ok scaled) → pos 0 <ℤ scaled.multiple
+terms_positive it terms scaled (free, substituted, (m, multiple, (ps, products, e))) = subst (λ (s : Scaled). pos 0 <ℤ s.multiple) (sym e) (all_multiple (map (λ r. r.bottom) (columns_of it.lts it.basis it.class (start_of terms) free)) m (start (has_start it.class)) multiple)
   where
-    start : (s : Bool) → AllPositive (map (λ r. r.bottom) ((if s then (whole (start_of terms) ∷ []) else []) ++ pick (λ t. has_label t lts.arcs) (free_labels (labels lts) basis) free))
-    start true = (omega (arith, ints), picked_positive lts basis (count_of tree terms) (λ t. has_label t lts.arcs) (free_labels (labels lts) basis) free substituted)
-    start false = picked_positive lts basis (count_of tree terms) (λ t. has_label t lts.arcs) (free_labels (labels lts) basis) free substituted
+    start : (s : Bool) → AllPositive (map (λ r. r.bottom) ((if s then (whole (start_of terms) ∷ []) else []) ++ pick (λ t. has_label t it.lts.arcs) (free_labels (labels it.lts) it.basis) free))
+    start true = (omega (arith, ints), picked_positive it.lts it.basis (count_of it.tree terms) (λ t. has_label t it.lts.arcs) (free_labels (labels it.lts) it.basis) free substituted)
+    start false = picked_positive it.lts it.basis (count_of it.tree terms) (λ t. has_label t it.lts.arcs) (free_labels (labels it.lts) it.basis) free substituted
 
-pub factor_is_positive : (lts : System) (tree : List Arc) (basis : CycleBasis) (class : Class) (name : RowName) (e : Expression) (out : KeptRow) → row_fold lts tree basis class name e (Ok out) → (pos 0 <ℤ out.factor.top) × (pos 0 <ℤ out.factor.bottom)
-factor_is_positive lts tree basis class name e out (scaled, terms, (constant, product, (named, d))) =
-    let m = terms_positive lts tree basis class e.terms scaled terms in
+pub factor_is_positive : (s : Setting) (name : RowName) (e : Expression) (out : KeptRow) → row_fold s name e (Ok out) → (pos 0 <ℤ out.factor.top) × (pos 0 <ℤ out.factor.bottom)
+factor_is_positive s name e out (scaled, terms, (constant, product, (named, d))) =
+    let m = terms_positive s e.terms scaled terms in
     let product' : pos 0 <ℤ (out.factor.top *ℤ pos (max d.divisor 1)) = subst (λ w. pos 0 <ℤ w) (sym d.factor.value) (mul_positive scaled.multiple out.factor.bottom m d.factor.positive) in
     (factor_positive (pos (max d.divisor 1)) out.factor.top (not_negative d.divisor) (subst (λ w. pos 0 <ℤ w) (*ℤ_comm out.factor.top (pos (max d.divisor 1))) product'), d.factor.positive)
   where
@@ -75,13 +74,13 @@ factor_is_positive lts tree basis class name e out (scaled, terms, (constant, pr
     not_negative n = omega (arith, ints)
 
 -- the row is met exactly where its named row is
-pub row_is_met : (lts : System) (tree : List Arc) (basis : CycleBasis) (class : Class) (name : RowName) (e : Expression) (start : ℤ) (effect : ℕ → ℤ) (scale : ℤ)
-    (out : KeptRow) → IsBasis lts tree basis → NamesLabels (labels lts) e.terms → (has_start class ≡ false → start ≡ pos 0)
-    → FollowsRelations (chord_system lts tree basis.kept) basis.members effect → UnusedAreZero lts effect → row_fold lts tree basis class name e (Ok out)
-    → (pos 0 ≤ℤ (dot out.row.coeffs (column_values lts basis class start effect) +ℤ (out.row.constant *ℤ scale))) ↔
-    (pos 0 ≤ℤ (value_in (numbers_along lts tree start effect) e.terms +ℤ (e.constant *ℤ scale)))
-row_is_met lts tree basis class name e start effect scale out is names no_start follows unused fold =
-    let (t, u) = factor_is_positive lts tree basis class name e out fold in
-    same_sign out.factor.top out.factor.bottom (dot out.row.coeffs (column_values lts basis class start effect) +ℤ (out.row.constant *ℤ scale))
-    (value_in (numbers_along lts tree start effect) e.terms +ℤ (e.constant *ℤ scale)) t u
-    (row_value_is lts tree basis class name e start effect scale out is names no_start follows unused fold)
+pub row_is_met : (s : Setting) (name : RowName) (e : Expression) (start : ℤ) (effect : ℕ → ℤ) (scale : ℤ) (out : KeptRow) → IsBasis s.lts s.tree s.basis
+    → NamesLabels (labels s.lts) e.terms → (has_start s.class ≡ false → start ≡ pos 0)
+    → FollowsRelations (chord_system s.lts s.tree s.basis.kept) s.basis.members effect → UnusedAreZero s.lts effect → row_fold s name e (Ok out)
+    → (pos 0 ≤ℤ (dot out.row.coeffs (column_values s.lts s.basis s.class start effect) +ℤ (out.row.constant *ℤ scale)))
+    ↔ (pos 0 ≤ℤ (value_in (numbers_along s.lts s.tree start effect) e.terms +ℤ (e.constant *ℤ scale)))
+row_is_met s name e start effect scale out is names no_start follows unused fold =
+    let (t, u) = factor_is_positive s name e out fold in
+    same_sign out.factor.top out.factor.bottom (dot out.row.coeffs (column_values s.lts s.basis s.class start effect) +ℤ (out.row.constant *ℤ scale))
+    (value_in (numbers_along s.lts s.tree start effect) e.terms +ℤ (e.constant *ℤ scale)) t u
+    (row_value_is s name e start effect scale out is names no_start follows unused fold)

@@ -3,9 +3,7 @@ use Rattle.std.proofs.Common.{◌≡◌, ℕ, Bool, true, false, if◌then◌els
 use Rattle.std.specs.Prelude.{ℤ, pos, ◌+ℤ◌, ◌*ℤ◌, int_div}
 use Rattle.std.proofs.lemmas.Int.{ints}
 use Rattle.std.proofs.Math.IntN.{zero-*ℤ}
-use Rattle.rg_theory.specs.declared.Arc.{Arc}
-use Rattle.rg_theory.specs.declared.Class.{Class}
-use Rattle.rg_theory.specs.System.{System, labels}
+use Rattle.rg_theory.specs.System.{labels}
 use Rattle.rg_theory.specs.Tree.{IsTree, count}
 use Rattle.rg_theory.proofs.Trees.{way_of_initial}
 use Rattle.rg_integers.specs.Divisor as divisor
@@ -15,6 +13,7 @@ use Rattle.rg_fraction.specs.Terms.{product_term}
 use Rattle.rg_integers.specs.Term.{term_value}
 use Rattle.rg_linear.specs.Cycle.{CycleBasis}
 use Rattle.rg_refuting.specs.Expression.{plus}
+use Rattle.rg_order_of_work.specs.Setting.{Setting}
 use Rattle.rg_order_of_work.specs.Fold.{further, each, gives, Ratio, whole, IsRatio, add, common_multiple, multiple_of_all}
 use Rattle.rg_order_of_work.specs.Rewriting.{Scaled, has_label, has_start, free_labels, dependent_labels, count_of, start_of, dependent_term, coefficient_fold, pick, terms_fold}
 use Rattle.rg_order_of_work.proofs.FoldLemmas.{quotient_one}
@@ -77,14 +76,14 @@ multiple_ones (z ∷ zs) m (one, ones) (x, is, h) = further_ones zs x m (is ∙ 
 
 -- ---- the start
 
-pub start_alone : (lts : System) (tree : List Arc) (basis : CycleBasis) (class : Class) (scaled : Scaled) → IsTree lts tree → terms_fold lts tree basis class (plus (Tokens lts.initial) ∷ []) (Ok scaled) → scaled.multiple ≡ pos 1
-start_alone lts tree basis class scaled g (free, substituted, (m, multiple, (ps, products, e))) =
+pub start_alone : (it : Setting) (scaled : Scaled) → IsTree it.lts it.tree → terms_fold it (plus (Tokens it.lts.initial) ∷ []) (Ok scaled) → scaled.multiple ≡ pos 1
+start_alone it scaled g (free, substituted, (m, multiple, (ps, products, e))) =
     ap (λ (s : Scaled). s.multiple) e
-    ∙ multiple_ones _ m (start_ones (has_start class) (start_of (plus (Tokens lts.initial) ∷ []))
-    (pick (λ t. has_label t lts.arcs) (free_labels (labels lts) basis) free)
-    (pick_ones (λ t. has_label t lts.arcs) (free_labels (labels lts) basis) free
-    (each_ones (coefficient_fold (labels lts) basis (count_of tree (plus (Tokens lts.initial) ∷ []))) (free_labels (labels lts) basis) free
-    (λ f r made. coefficient_zero (labels lts) basis (count_of tree (plus (Tokens lts.initial) ∷ [])) f r none made) substituted))) multiple
+    ∙ multiple_ones _ m (start_ones (has_start it.class) (start_of (plus (Tokens it.lts.initial) ∷ []))
+    (pick (λ t. has_label t it.lts.arcs) (free_labels (labels it.lts) it.basis) free)
+    (pick_ones (λ t. has_label t it.lts.arcs) (free_labels (labels it.lts) it.basis) free
+    (each_ones (coefficient_fold (labels it.lts) it.basis (count_of it.tree (plus (Tokens it.lts.initial) ∷ []))) (free_labels (labels it.lts) it.basis) free
+    (λ f r made. coefficient_zero (labels it.lts) it.basis (count_of it.tree (plus (Tokens it.lts.initial) ∷ [])) f r none made) substituted))) multiple
   where
-    none : (t : ℕ) → count_of tree (plus (Tokens lts.initial) ∷ []) t ≡ pos 0
-    none t = ap (λ ts. (pos 1 *ℤ pos (count t ts)) +ℤ pos 0) (way_of_initial lts tree g)
+    none : (t : ℕ) → count_of it.tree (plus (Tokens it.lts.initial) ∷ []) t ≡ pos 0
+    none t = ap (λ ts. (pos 1 *ℤ pos (count t ts)) +ℤ pos 0) (way_of_initial it.lts it.tree g)

@@ -3,17 +3,15 @@ use Rattle.std.proofs.Common.{◌≡◌, ◌⊎◌, ⊎_elim, ℕ, suc, ◌↔�
 use Rattle.std.specs.Prelude.{ℤ, pos, ◌+ℤ◌, ◌*ℤ◌, ◌≤ℤ◌, ◌<ℤ◌}
 use Rattle.std.proofs.lemmas.Int.{ints}
 use Rattle.std.proofs.lemmas.List.Elements.{All-head, All-tail}
-use Rattle.rg_theory.specs.declared.Arc.{Arc}
-use Rattle.rg_theory.specs.declared.Class.{Class}
-use Rattle.rg_theory.specs.declared.Problem.{Problem}
-use Rattle.rg_theory.specs.System.{System, labels}
+use Rattle.rg_theory.specs.System.{labels}
 use Rattle.rg_theory.proofs.Lists.{Contains-cons_cases}
 use Rattle.rg_refuting.specs.Row.{row_expression}
 use Rattle.rg_refuting.specs.declared.RowName.{RowName}
 use Rattle.rg_linear.specs.System.{LinearRow}
-use Rattle.rg_linear.specs.Cycle.{FollowsRelations, CycleBasis}
+use Rattle.rg_linear.specs.Cycle.{FollowsRelations}
 use Rattle.rg_integers.proofs.Order.{mul_not_negative}
 use Rattle.rg_integers.specs.declared.term.Wide.{Wide}
+use Rattle.rg_order_of_work.specs.Setting.{CaseSetting}
 use Rattle.rg_order_of_work.specs.Fold.{each}
 use Rattle.rg_order_of_work.specs.Chords.{chord_system, IsBasis}
 use Rattle.rg_order_of_work.specs.Rewriting.{has_start, names_of, KeptRow, IsIdle, row_fold, CaseSystem, system_fold}
@@ -65,21 +63,21 @@ idle_is_met k values scale h (zeros, constant) =
     close : (d p : ℤ) → d ≡ pos 0 → pos 0 ≤ℤ p → pos 0 ≤ℤ (d +ℤ p)
     close d p e h = omega (arith, ints)
 
-pub system_is_met : (lts : System) (tree : List Arc) (basis : CycleBasis) (class : Class) (problem : Problem) (number : ℕ) (start : ℤ) (effect : ℕ → ℤ) (scale : ℤ)
-    (case : CaseSystem) → IsBasis lts tree basis
-    → ((name : RowName) → Contains (names_of lts class problem number) name → NamesLabels (labels lts) (row_expression lts class problem number [] name).terms)
-    → pos 0 <ℤ scale → (has_start class ≡ false → start ≡ pos 0) → FollowsRelations (chord_system lts tree basis.kept) basis.members effect → UnusedAreZero lts effect
-    → system_fold lts tree basis class problem number (Ok case)
-    → ((k : KeptRow) → Contains case.kept k → RowIsMet (column_values lts basis class start effect) scale k) ↔ ((name : RowName) → Contains (names_of lts class problem number) name → NameIsMet lts tree start effect scale (row_expression lts class problem number [] name))
-system_is_met lts tree basis class problem number start effect scale case is names positive no_start follows unused (all, made, (forms, forms_made, (columns, keeps, form_list))) = (
-  (λ met name has. (let (k, has', fold) = made_of (λ n. row_fold lts tree basis class n (row_expression lts class problem number [] n)) (names_of lts class problem number) all name made has in
-      (row_is_met lts tree basis class name (row_expression lts class problem number [] name) start effect scale k is (names name has) no_start follows unused fold).0
+pub system_is_met : (s : CaseSetting) (start : ℤ) (effect : ℕ → ℤ) (scale : ℤ) (case : CaseSystem) → IsBasis s.lts s.tree s.basis → ((name : RowName)
+    → Contains (names_of s.lts s.class s.problem s.number) name → NamesLabels (labels s.lts) (row_expression s.lts s.class s.problem s.number [] name).terms)
+    → pos 0 <ℤ scale → (has_start s.class ≡ false → start ≡ pos 0) → FollowsRelations (chord_system s.lts s.tree s.basis.kept) s.basis.members effect
+    → UnusedAreZero s.lts effect → system_fold s (Ok case)
+    → ((k : KeptRow) → Contains case.kept k → RowIsMet (column_values s.lts s.basis s.class start effect) scale k) ↔ ((name : RowName)
+    → Contains (names_of s.lts s.class s.problem s.number) name → NameIsMet s.lts s.tree start effect scale (row_expression s.lts s.class s.problem s.number [] name))
+system_is_met s start effect scale case is names positive no_start follows unused (all, made, (forms, forms_made, (columns, keeps, form_list))) = (
+  (λ met name has. (let (k, has', fold) = made_of (λ n. row_fold s.setting n (row_expression s.lts s.class s.problem s.number [] n)) (names_of s.lts s.class s.problem s.number) all name made has in
+      (row_is_met s.setting name (row_expression s.lts s.class s.problem s.number [] name) start effect scale k is (names name has) no_start follows unused fold).0
       (row_met met k (item_stays (λ x. x.row) IsIdle [] all case.kept k keeps has')))),
-  (λ met k has. (let (name, has', fold) = made_from (λ n. row_fold lts tree basis class n (row_expression lts class problem number [] n)) (names_of lts class problem number) all k made (kept_is (λ x. x.row) IsIdle [] all case.kept k keeps has) in
-      (row_is_met lts tree basis class name (row_expression lts class problem number [] name) start effect scale k is (names name has') no_start follows unused fold).1 (met name has'))),
+  (λ met k has. (let (name, has', fold) = made_from (λ n. row_fold s.setting n (row_expression s.lts s.class s.problem s.number [] n)) (names_of s.lts s.class s.problem s.number) all k made (kept_is (λ x. x.row) IsIdle [] all case.kept k keeps has) in
+      (row_is_met s.setting name (row_expression s.lts s.class s.problem s.number [] name) start effect scale k is (names name has') no_start follows unused fold).1 (met name has'))),
 )
   where
-    row_met : ((k : KeptRow) → Contains case.kept k → RowIsMet (column_values lts basis class start effect) scale k) → (k : KeptRow) → IsIdle k ⊎ (Contains [] k.row ⊎ ((y : KeptRow) × Contains case.kept y × (y.row ≡ k.row))) → RowIsMet (column_values lts basis class start effect) scale k
-    row_met met k (inl idle) = idle_is_met k (column_values lts basis class start effect) scale positive idle
+    row_met : ((k : KeptRow) → Contains case.kept k → RowIsMet (column_values s.lts s.basis s.class start effect) scale k) → (k : KeptRow) → IsIdle k ⊎ (Contains [] k.row ⊎ ((y : KeptRow) × Contains case.kept y × (y.row ≡ k.row))) → RowIsMet (column_values s.lts s.basis s.class start effect) scale k
+    row_met met k (inl idle) = idle_is_met k (column_values s.lts s.basis s.class start effect) scale positive idle
     row_met met k (inr (inl (i, lt, e))) = absurd (omega arith)
-    row_met met k (inr (inr (y, has, e))) = subst (λ (r : LinearRow). pos 0 ≤ℤ (dot r.coeffs (column_values lts basis class start effect) +ℤ (r.constant *ℤ scale))) e (met y has)
+    row_met met k (inr (inr (y, has, e))) = subst (λ (r : LinearRow). pos 0 ≤ℤ (dot r.coeffs (column_values s.lts s.basis s.class start effect) +ℤ (r.constant *ℤ scale))) e (met y has)

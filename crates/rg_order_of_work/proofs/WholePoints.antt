@@ -17,13 +17,13 @@ use Rattle.rg_theory.specs.Tree.{IsTree, parikh}
 use Rattle.rg_integers.specs.Sum.{sum_below}
 use Rattle.rg_integers.proofs.Ring.{ring}
 use Rattle.rg_integers.proofs.Order.{mul_positive}
-use Rattle.rg_linear.specs.Cycle.{CycleBasis}
 use Rattle.rg_refuting.specs.Expression.{numbers_by}
 use Rattle.rg_refuting.specs.declared.Variable.{Variable}
 use Rattle.rg_refuting.specs.Row.{form_variable, step_of, cases_of}
 use Rattle.rg_refuting.specs.declared.Form.{Form}
 use Rattle.rg_refuting.specs.Refutes.{IsSeparationProblem, IsSeparable}
 use Rattle.rg_refuting.proofs.Making.{rows_exact}
+use Rattle.rg_order_of_work.specs.Setting.{Setting, CaseSetting, case_at}
 use Rattle.rg_order_of_work.specs.Rewriting.{has_label, has_start, splits_start, split_forms, CaseSystem, used_labels, all_numbers}
 use Rattle.rg_order_of_work.specs.Shown.{IsLive}
 use Rattle.rg_order_of_work.specs.Values.{numbers_along}
@@ -222,24 +222,24 @@ allowed class m some = by class.marking some
     by None h = tt
     by (Some n) h = h refl
 
-module _ (lts : System) (tree : List Arc) (basis : CycleBasis) (class : Class) (problem : Problem) (number : ℕ) (fine : IsInRange lts) (g : IsTree lts tree) (k : ℤ)
-    (positive : pos 0 <ℤ k) (start : ℤ) (effect : ℕ → ℤ) (e : AreEffects lts tree basis effect)
-    (keeps : KeepsRowsOver lts class problem number k (numbers_along lts tree start effect))
-    (whole : (split : Form) → Contains (split_forms lts class problem) split → IsTimes k (numbers_along lts tree start effect (form_variable lts.initial split)))
-    (starts : splits_start class problem ≡ true → (u : ℤ) × (numbers_along lts tree start effect (Tokens lts.initial) ≡ k *ℤ (pos (unwrap_or class.marking 1) *ℤ u)))
+module _ (it : CaseSetting) (fine : IsInRange it.lts) (g : IsTree it.lts it.tree) (k : ℤ)
+    (positive : pos 0 <ℤ k) (start : ℤ) (effect : ℕ → ℤ) (e : AreEffects it.lts it.tree it.basis effect)
+    (keeps : KeepsRowsOver it.lts it.class it.problem it.number k (numbers_along it.lts it.tree start effect))
+    (whole : (split : Form) → Contains (split_forms it.lts it.class it.problem) split → IsTimes k (numbers_along it.lts it.tree start effect (form_variable it.lts.initial split)))
+    (starts : splits_start it.class it.problem ≡ true → (u : ℤ) × (numbers_along it.lts it.tree start effect (Tokens it.lts.initial) ≡ k *ℤ (pos (unwrap_or it.class.marking 1) *ℤ u)))
   where
     -- where all tokens are whole
-    pub bounded_parts : is_some class.bound ≡ true → (y : Variable → ℤ) × AreWholeParts lts k (numbers_along lts tree start effect) y × AllowsStart class (unsigned_abs (y (Tokens lts.initial)))
+    pub bounded_parts : is_some it.class.bound ≡ true → (y : Variable → ℤ) × AreWholeParts it.lts k (numbers_along it.lts it.tree start effect) y × AllowsStart it.class (unsigned_abs (y (Tokens it.lts.initial)))
     bounded_parts bound =
-        let tokens : (q : ℕ) → q < states lts → (u : ℤ) × (numbers_along lts tree start effect (Tokens q) ≡ (k *ℤ u) +ℤ pos 0) = λ q lt. (let (u, h) = whole (split_form.Tokens q) (bounded_has lts class problem q bound lt) in (u, more _ _ h)) in
-        let effects : (t : ℕ) → has_label t lts.arcs ≡ true → IsTimes k (effect t) = λ t h. of_arc t (label_found t lts.arcs h) in
-        let (y, parts, exact) = some_parts lts k positive (numbers_along lts tree start effect) (pos 0) (omega (arith, ints)) positive tokens effects in (
+        let tokens : (q : ℕ) → q < states it.lts → (u : ℤ) × (numbers_along it.lts it.tree start effect (Tokens q) ≡ (k *ℤ u) +ℤ pos 0) = λ q lt. (let (u, h) = whole (split_form.Tokens q) (bounded_has it.lts it.class it.problem q bound lt) in (u, more _ _ h)) in
+        let effects : (t : ℕ) → has_label t it.lts.arcs ≡ true → IsTimes k (effect t) = λ t h. of_arc t (label_found t it.lts.arcs h) in
+        let (y, parts, exact) = some_parts it.lts k positive (numbers_along it.lts it.tree start effect) (pos 0) (omega (arith, ints)) positive tokens effects in (
           y,
           parts,
-          allowed class (unsigned_abs (y (Tokens lts.initial)))
-              (λ some. (let (u, h) = starts (bounded_splits class problem some bound) in allows_by class (y (Tokens lts.initial)) u
-              (start_steps (unwrap_or class.marking 1) k (numbers_along lts tree start effect (Tokens lts.initial)) (y (Tokens lts.initial)) (pos 0) u
-              (omega (arith, ints)) positive (exact lts.initial fine.initial) h))),
+          allowed it.class (unsigned_abs (y (Tokens it.lts.initial)))
+              (λ some. (let (u, h) = starts (bounded_splits it.class it.problem some bound) in allows_by it.class (y (Tokens it.lts.initial)) u
+              (start_steps (unwrap_or it.class.marking 1) k (numbers_along it.lts it.tree start effect (Tokens it.lts.initial)) (y (Tokens it.lts.initial)) (pos 0) u
+              (omega (arith, ints)) positive (exact it.lts.initial fine.initial) h))),
         )
       where
         more : (z y : ℤ) → z ≡ y → z ≡ y +ℤ pos 0
@@ -248,28 +248,28 @@ module _ (lts : System) (tree : List Arc) (basis : CycleBasis) (class : Class) (
         less : (k a e b u w : ℤ) → a ≡ k *ℤ u → b ≡ k *ℤ w → a +ℤ e ≡ b → e ≡ k *ℤ (w -ℤ u)
         less k a e b u w h g m = let d : k *ℤ (w -ℤ u) ≡ (k *ℤ w) -ℤ (k *ℤ u) = simp ring (omega (arith, ints)) in omega (arith, ints)
 
-        of_arc : (t : ℕ) → (a : Arc) × Contains lts.arcs a × (a.label ≡ t) → IsTimes k (effect t)
+        of_arc : (t : ℕ) → (a : Arc) × Contains it.lts.arcs a × (a.label ≡ t) → IsTimes k (effect t)
         of_arc t (a, has, is) =
-            let ranges = arc_in_range lts fine a.from a.label a.to has in
-            let (u, h) = whole (split_form.Tokens a.from) (bounded_has lts class problem a.from bound ranges.0) in
-            let (w, h') = whole (split_form.Tokens a.to) (bounded_has lts class problem a.to bound ranges.2) in
-            let m = arc_value lts class problem number k (numbers_along lts tree start effect) a.from a.label a.to keeps has in
+            let ranges = arc_in_range it.lts fine a.from a.label a.to has in
+            let (u, h) = whole (split_form.Tokens a.from) (bounded_has it.lts it.class it.problem a.from bound ranges.0) in
+            let (w, h') = whole (split_form.Tokens a.to) (bounded_has it.lts it.class it.problem a.to bound ranges.2) in
+            let m = arc_value it.lts it.class it.problem it.number k (numbers_along it.lts it.tree start effect) a.from a.label a.to keeps has in
             (w -ℤ u, subst (λ n. effect n ≡ k *ℤ (w -ℤ u)) is (less k _ _ _ u w h h' m))
 
     -- where all effects of labels with an arc are whole
-    pub plain_parts : is_some class.bound ≡ false → class.plain ≡ true → (y : Variable → ℤ) × AreWholeParts lts k (numbers_along lts tree start effect) y × (splits_start class problem ≡ true → (u : ℤ) × (y (Tokens lts.initial) ≡ pos (unwrap_or class.marking 1) *ℤ u))
+    pub plain_parts : is_some it.class.bound ≡ false → it.class.plain ≡ true → (y : Variable → ℤ) × AreWholeParts it.lts k (numbers_along it.lts it.tree start effect) y × (splits_start it.class it.problem ≡ true → (u : ℤ) × (y (Tokens it.lts.initial) ≡ pos (unwrap_or it.class.marking 1) *ℤ u))
     plain_parts bound plain =
-        let effects : (t : ℕ) → has_label t lts.arcs ≡ true → IsTimes k (effect t) = λ t h. (let (a, has, is) = label_found t lts.arcs h in
-        let lt : t < labels lts = subst (λ n. n < labels lts) is (arc_in_range lts fine a.from a.label a.to has).1 in
-        whole (split_form.Effect t) (plain_has lts class problem t bound plain lt h)) in
+        let effects : (t : ℕ) → has_label t it.lts.arcs ≡ true → IsTimes k (effect t) = λ t h. (let (a, has, is) = label_found t it.lts.arcs h in
+        let lt : t < labels it.lts = subst (λ n. n < labels it.lts) is (arc_in_range it.lts fine a.from a.label a.to has).1 in
+        whole (split_form.Effect t) (plain_has it.lts it.class it.problem t bound plain lt h)) in
         let parts = parts_by start k positive in
-        let tokens : (q : ℕ) → q < states lts → (u : ℤ) × (numbers_along lts tree start effect (Tokens q) ≡ (k *ℤ u) +ℤ parts.rest) = λ q lt.
-        (let (u, h) = sum_times k (labels lts) (λ t. pos (parikh tree q t) *ℤ effect t)
-        (λ t below. scaled k (pos (parikh tree q t)) (effect t)
-        (⊎_elim (λ used. effects t used) (λ none. (pos 0, e.unused t none ∙ sym (*ℤ-zero k))) (cases_Bool (has_label t lts.arcs)))) in
+        let tokens : (q : ℕ) → q < states it.lts → (u : ℤ) × (numbers_along it.lts it.tree start effect (Tokens q) ≡ (k *ℤ u) +ℤ parts.rest) = λ q lt.
+        (let (u, h) = sum_times k (labels it.lts) (λ t. pos (parikh it.tree q t) *ℤ effect t)
+        (λ t below. scaled k (pos (parikh it.tree q t)) (effect t)
+        (⊎_elim (λ used. effects t used) (λ none. (pos 0, e.unused t none ∙ sym (*ℤ-zero k))) (cases_Bool (has_label t it.lts.arcs)))) in
         (parts.part +ℤ u, joined k start _ parts.part parts.rest u parts.is h)) in
-        let (y, are, exact) = some_parts lts k positive (numbers_along lts tree start effect) parts.rest parts.not_negative parts.below tokens effects in
-        (y, are, λ splits. (let (u, h) = starts splits in (u, start_steps (unwrap_or class.marking 1) k (numbers_along lts tree start effect (Tokens lts.initial)) (y (Tokens lts.initial)) parts.rest u parts.not_negative parts.below (exact lts.initial fine.initial) h)))
+        let (y, are, exact) = some_parts it.lts k positive (numbers_along it.lts it.tree start effect) parts.rest parts.not_negative parts.below tokens effects in
+        (y, are, λ splits. (let (u, h) = starts splits in (u, start_steps (unwrap_or it.class.marking 1) k (numbers_along it.lts it.tree start effect (Tokens it.lts.initial)) (y (Tokens it.lts.initial)) parts.rest u parts.not_negative parts.below (exact it.lts.initial fine.initial) h)))
       where
         scaled : (k n z : ℤ) → IsTimes k z → IsTimes k (n *ℤ z)
         scaled k n z (u, e) = (n *ℤ u, ap (λ y. n *ℤ y) e ∙ turn n k u)
@@ -292,90 +292,90 @@ by_problem lts class (States s s') number k x y fine asked live numbers bound pl
 
 -- ---- points with whole forms
 
-module _ (lts : System) (tree : List Arc) (basis : CycleBasis) (class : Class) (problem : Problem) (number : ℕ) (case : CaseSystem) (c : IsCaseOver lts tree basis class problem number case) (live : IsLive lts problem) where
+module _ (it : CaseSetting) (case : CaseSystem) (c : IsCaseOver it case) (live : IsLive it.lts it.problem) where
   abbrev WholeAt : ℤ → ℤ → (ℕ → ℤ) → Type 0
-  WholeAt k start effect = ((split : Form) → Contains (split_forms lts class problem) split
-      → IsTimes k (numbers_along lts tree start effect (form_variable lts.initial split)))
-      × (splits_start class problem ≡ true → (u : ℤ) × (numbers_along lts tree start effect (Tokens lts.initial) ≡ k *ℤ (pos (unwrap_or class.marking 1) *ℤ u)))
+  WholeAt k start effect = ((split : Form) → Contains (split_forms it.lts it.class it.problem) split
+      → IsTimes k (numbers_along it.lts it.tree start effect (form_variable it.lts.initial split)))
+      × (splits_start it.class it.problem ≡ true → (u : ℤ) × (numbers_along it.lts it.tree start effect (Tokens it.lts.initial) ≡ k *ℤ (pos (unwrap_or it.class.marking 1) *ℤ u)))
 
-  -- the point gives numbers along the tree with whole forms
-  point_solution : has_start class ≡ true → ((k : ℤ) (start : ℤ) (effect : ℕ → ℤ) → pos 0 <ℤ k → AreEffects lts tree basis effect
-      → KeepsRowsOver lts class problem number k (numbers_along lts tree start effect) → WholeAt k start effect → HasWholeSolutionIn lts class problem number)
-      → HasWholePoint case → HasWholeSolutionIn lts class problem number
+  -- the point gives numbers along the it.tree with whole forms
+  point_solution : has_start it.class ≡ true → ((k : ℤ) (start : ℤ) (effect : ℕ → ℤ) → pos 0 <ℤ k → AreEffects it.lts it.tree it.basis effect
+      → KeepsRowsOver it.lts it.class it.problem it.number k (numbers_along it.lts it.tree start effect) → WholeAt k start effect
+      → HasWholeSolutionIn it.lts it.class it.problem it.number) → HasWholePoint case → HasWholeSolutionIn it.lts it.class it.problem it.number
   point_solution starts solve (scale, v, p, meets, whole) =
-      let (times, start, effect, g) = point_gives lts tree basis class problem number case v c in
+      let (times, start, effect, g) = point_gives it case v c in
       let k : pos 0 <ℤ (times *ℤ scale) = mul_positive times scale g.positive p.positive in
-      let keeps = (start_means lts tree basis class problem number case start effect (times *ℤ scale) c g.effects k starts).0 ((point_meets lts tree basis class problem number case v scale times start effect c p g).0 meets) in
-      let steps : (split : Form) → Contains (split_forms lts class problem) split → (u : ℤ)
-      × (numbers_along lts tree start effect (form_variable lts.initial split) ≡ (times *ℤ scale) *ℤ (pos (step_of class split) *ℤ u)) = λ split has.
-      variable_multiple lts tree basis class problem number case c v scale times start effect split starts whole g (form_names lts class problem split has) has in
+      let keeps = (start_means it case start effect (times *ℤ scale) c g.effects k starts).0 ((point_meets it case v scale times start effect c p g).0 meets) in
+      let steps : (split : Form) → Contains (split_forms it.lts it.class it.problem) split → (u : ℤ)
+      × (numbers_along it.lts it.tree start effect (form_variable it.lts.initial split) ≡ (times *ℤ scale) *ℤ (pos (step_of it.class split) *ℤ u)) = λ split has.
+      variable_multiple it case c v scale times start effect split starts whole g (form_names it.lts it.class it.problem split has) has in
       solve (times *ℤ scale) start effect k g.effects keeps
-      ((λ split has. (let (u, h) = steps split has in (pos (step_of class split) *ℤ u, h))), (λ splits. steps split_form.Start (start_has lts class problem splits)))
+      ((λ split has. (let (u, h) = steps split has in (pos (step_of it.class split) *ℤ u, h))), (λ splits. steps split_form.Start (start_has it.lts it.class it.problem splits)))
 
-  bounded_solution : is_some class.bound ≡ true → HasWholePoint case → HasWholeSolutionIn lts class problem number
-  bounded_solution bound = point_solution (start_of_bound class bound) (λ k start effect positive e keeps (whole, steps).
-      (let (y, are, allows) = bounded_parts lts tree basis class problem number c.in_range c.is_tree k positive start effect e keeps whole steps bound in
-      solve_parts lts class problem number k (numbers_along lts tree start effect) y c.in_range c.asked live allows are keeps))
+  bounded_solution : is_some it.class.bound ≡ true → HasWholePoint case → HasWholeSolutionIn it.lts it.class it.problem it.number
+  bounded_solution bound = point_solution (start_of_bound it.class bound) (λ k start effect positive e keeps (whole, steps).
+      (let (y, are, allows) = bounded_parts it c.in_range c.is_tree k positive start effect e keeps whole steps bound in
+      solve_parts it.lts it.class it.problem it.number k (numbers_along it.lts it.tree start effect) y c.in_range c.asked live allows are keeps))
 
-  plain_solution : is_some class.bound ≡ false → class.plain ≡ true → HasWholePoint case → HasWholeSolutionIn lts class problem number
-  plain_solution bound plain = point_solution (start_of_plain class plain) (λ k start effect positive e keeps (whole, steps).
-      (let (y, are, start_is) = plain_parts lts tree basis class problem number c.in_range c.is_tree k positive start effect e keeps whole steps bound plain in
-      by_problem lts class problem number k (numbers_along lts tree start effect) y c.in_range c.asked live c.numbers bound plain are keeps start_is))
+  plain_solution : is_some it.class.bound ≡ false → it.class.plain ≡ true → HasWholePoint case → HasWholeSolutionIn it.lts it.class it.problem it.number
+  plain_solution bound plain = point_solution (start_of_plain it.class plain) (λ k start effect positive e keeps (whole, steps).
+      (let (y, are, start_is) = plain_parts it c.in_range c.is_tree k positive start effect e keeps whole steps bound plain in
+      by_problem it.lts it.class it.problem it.number k (numbers_along it.lts it.tree start effect) y c.in_range c.asked live c.numbers bound plain are keeps start_is))
 
   -- whole numbers give a point with whole forms
-  whole_point : has_start class ≡ true → HasWholeSolutionIn lts class problem number → HasWholePoint case
+  whole_point : has_start it.class ≡ true → HasWholeSolutionIn it.lts it.class it.problem it.number → HasWholePoint case
   whole_point starts (tokens, effect, allows, keeps) =
       let x = numbers_by tokens effect in
-      let keeps' = (whole_means lts class problem number x).1 keeps in
-      let e = effects_given lts tree basis class problem number case x (pos 1) c keeps' in
-      let (v, p, g) = given_point lts tree basis class problem number case (x (Tokens lts.initial)) (used_effect lts x) (pos 1) c e (omega (arith, ints)) in (
+      let keeps' = (whole_means it.lts it.class it.problem it.number x).1 keeps in
+      let e = effects_given it case x (pos 1) c keeps' in
+      let (v, p, g) = given_point it case (x (Tokens it.lts.initial)) (used_effect it.lts x) (pos 1) c e (omega (arith, ints)) in (
         pos 1,
         v,
         p,
-        (point_meets lts tree basis class problem number case v (pos 1) (pos 1) (x (Tokens lts.initial)) (used_effect lts x) c p g).1
-            (meets_given lts tree basis class problem number case x (pos 1) c live (omega (arith, ints)) keeps'),
-        λ f lt. (let (var, names, has, made) = form_there lts tree basis class problem number case f c.is_case lt in let (w, is) = steps_of tokens allows
-            (used_effect lts x) var in whole_forms lts tree basis class problem number case c v (x (Tokens lts.initial))
-            (used_effect lts x) f var w starts g names made is),
+        (point_meets it case v (pos 1) (pos 1) (x (Tokens it.lts.initial)) (used_effect it.lts x) c p g).1
+            (meets_given it case x (pos 1) c live (omega (arith, ints)) keeps'),
+        λ f lt. (let (var, names, has, made) = form_there it case f c.is_case lt in let (w, is) = steps_of tokens allows
+            (used_effect it.lts x) var in whole_forms it case c v (x (Tokens it.lts.initial))
+            (used_effect it.lts x) f var w starts g names made is),
       )
     where
       one : (z : ℤ) → z ≡ pos 1 *ℤ z
       one z = omega (arith, ints)
 
-      steps_of : (tokens : ℕ → ℕ) → AllowsStart class (tokens lts.initial) → (effect : ℕ → ℤ) (split : Form) → (w : ℤ) × (numbers_along lts tree (pos (tokens lts.initial)) effect (form_variable lts.initial split) ≡ pos (step_of class split) *ℤ w)
-      steps_of tokens allows effect (split_form.Tokens q) = (numbers_along lts tree (pos (tokens lts.initial)) effect (Tokens q), one (numbers_along lts tree (pos (tokens lts.initial)) effect (Tokens q)))
+      steps_of : (tokens : ℕ → ℕ) → AllowsStart it.class (tokens it.lts.initial) → (effect : ℕ → ℤ) (split : Form) → (w : ℤ) × (numbers_along it.lts it.tree (pos (tokens it.lts.initial)) effect (form_variable it.lts.initial split) ≡ pos (step_of it.class split) *ℤ w)
+      steps_of tokens allows effect (split_form.Tokens q) = (numbers_along it.lts it.tree (pos (tokens it.lts.initial)) effect (Tokens q), one (numbers_along it.lts it.tree (pos (tokens it.lts.initial)) effect (Tokens q)))
       steps_of tokens allows effect (split_form.Effect t) = (effect t, one (effect t))
-      steps_of tokens allows effect split_form.Start = let (w, is) = steps_by class (tokens lts.initial) allows in (w, number_at_first lts tree (pos (tokens lts.initial)) effect c.is_tree ∙ is)
+      steps_of tokens allows effect split_form.Start = let (w, is) = steps_by it.class (tokens it.lts.initial) allows in (w, number_at_first it.lts it.tree (pos (tokens it.lts.initial)) effect c.is_tree ∙ is)
 
-  -- a class without forms
-  no_bound : is_some class.bound ≡ false → IsNone class.bound
-  no_bound e = go class.bound e
+  -- a it.class without forms
+  no_bound : is_some it.class.bound ≡ false → IsNone it.class.bound
+  no_bound e = go it.class.bound e
     where
       go : (o : Option ℕ) → is_some o ≡ false → IsNone o
       go None e = refl
       go (Some k) e = absurd (true≢false e)
 
-  formless : is_some class.bound ≡ false → class.plain ≡ false → HasWholePoint case ↔ HasWholeSolutionIn lts class problem number
+  formless : is_some it.class.bound ≡ false → it.class.plain ≡ false → HasWholePoint case ↔ HasWholeSolutionIn it.lts it.class it.problem it.number
   formless bound plain = (
-    (λ (scale, v, p, meets, whole). whole_of_solution lts class problem number plain (no_bound bound) c.numbers ((points_exact lts tree basis class problem number case c live).0 (scale, v, p, meets))),
-    (λ solution. (let (scale, v, p, meets) = (points_exact lts tree basis class problem number case c live).1 (solution_of_whole lts class problem number solution) in
-        (scale, v, p, meets, λ f lt. absurd (none f (form_count lts tree basis class problem number case c.is_case ∙ ap length (no_variable bound plain)) lt)))),
+    (λ (scale, v, p, meets, whole). whole_of_solution it.lts it.class it.problem it.number plain (no_bound bound) c.numbers ((points_exact it case c live).0 (scale, v, p, meets))),
+    (λ solution. (let (scale, v, p, meets) = (points_exact it case c live).1 (solution_of_whole it.lts it.class it.problem it.number solution) in
+        (scale, v, p, meets, λ f lt. absurd (none f (form_count it case c.is_case ∙ ap length (no_variable bound plain)) lt)))),
   )
     where
-      no_variable : is_some class.bound ≡ false → class.plain ≡ false → split_forms lts class problem ≡ []
+      no_variable : is_some it.class.bound ≡ false → it.class.plain ≡ false → split_forms it.lts it.class it.problem ≡ []
       no_variable b p =
-          ap (λ x. (if x then map split_form.Tokens (all_numbers (states lts)) else (if class.plain then map split_form.Effect (used_labels lts) else [])) ++ (if splits_start class problem then (split_form.Start ∷ []) else [])) b
-          ∙ ap (λ x. (if x then map split_form.Effect (used_labels lts) else []) ++ (if splits_start class problem then (split_form.Start ∷ []) else [])) p
-          ∙ ap (λ x. if x then (split_form.Start ∷ []) else []) (no_splits problem)
+          ap (λ x. (if x then map split_form.Tokens (all_numbers (states it.lts)) else (if it.class.plain then map split_form.Effect (used_labels it.lts) else [])) ++ (if splits_start it.class it.problem then (split_form.Start ∷ []) else [])) b
+          ∙ ap (λ x. (if x then map split_form.Effect (used_labels it.lts) else []) ++ (if splits_start it.class it.problem then (split_form.Start ∷ []) else [])) p
+          ∙ ap (λ x. if x then (split_form.Start ∷ []) else []) (no_splits it.problem)
         where
-          no_splits : (p' : Problem) → splits_start class p' ≡ false
-          no_splits (Event s t) = by (is_some class.marking) class.plain (is_some class.bound) p b
+          no_splits : (p' : Problem) → splits_start it.class p' ≡ false
+          no_splits (Event s t) = by (is_some it.class.marking) it.class.plain (is_some it.class.bound) p b
             where
               by : (m p b : Bool) → p ≡ false → b ≡ false → (m && (p || b)) ≡ false
               by true true b e f = e
               by true false b e f = f
               by false p b e f = refl
-          no_splits (States s s') = by (is_some class.marking) (is_some class.bound) b
+          no_splits (States s s') = by (is_some it.class.marking) (is_some it.class.bound) b
             where
               by : (m b : Bool) → b ≡ false → (m && b) ≡ false
               by true b f = f
@@ -384,17 +384,17 @@ module _ (lts : System) (tree : List Arc) (basis : CycleBasis) (class : Class) (
       none : (f : ℕ) → length case.forms ≡ 0 → f < length case.forms → ⊥
       none f e lt = omega arith
 
-  pub whole_points_exact : HasWholePoint case ↔ HasWholeSolutionIn lts class problem number
+  pub whole_points_exact : HasWholePoint case ↔ HasWholeSolutionIn it.lts it.class it.problem it.number
   whole_points_exact = ⊎_elim
-      (λ bound. (bounded_solution bound, whole_point (start_of_bound class bound)))
-      (λ bound. ⊎_elim (λ plain. (plain_solution bound plain, whole_point (start_of_plain class plain))) (λ plain. formless bound plain) (cases_Bool class.plain))
-      (cases_Bool (is_some class.bound))
+      (λ bound. (bounded_solution bound, whole_point (start_of_bound it.class bound)))
+      (λ bound. ⊎_elim (λ plain. (plain_solution bound plain, whole_point (start_of_plain it.class plain))) (λ plain. formless bound plain) (cases_Bool it.class.plain))
+      (cases_Bool (is_some it.class.bound))
 
-pub whole_point_separates : (lts : System) (tree : List Arc) (basis : CycleBasis) (class : Class) (problem : Problem) (case : ℕ → CaseSystem) → IsLive lts problem
-    → 0 < cases_of lts class problem → ((number : ℕ) → number < cases_of lts class problem → IsCaseOver lts tree basis class problem number (case number))
-    → SomeCaseHasWholePoint lts class problem case ↔ IsSeparable lts class problem
-whole_point_separates lts tree basis class problem case live some c =
-    let exact = rows_exact lts class problem (c 0 some).in_range (c 0 some).asked some in (
-      (λ (number, lt, point). (let (tokens, effect, allows, keeps) = (whole_points_exact lts tree basis class problem number (case number) (c number lt) live).0 point in exact.1 (number, lt, tokens, effect, allows, keeps))),
-      (λ separable. (let (number, lt, tokens, effect, allows, keeps) = exact.0 separable in (number, lt, (whole_points_exact lts tree basis class problem number (case number) (c number lt) live).1 (tokens, effect, allows, keeps)))),
+pub whole_point_separates : (s : Setting) (problem : Problem) (case : ℕ → CaseSystem) → IsLive s.lts problem → 0 < cases_of s.lts s.class problem
+    → ((number : ℕ) → number < cases_of s.lts s.class problem → IsCaseOver (case_at s problem number) (case number))
+    → SomeCaseHasWholePoint s.lts s.class problem case ↔ IsSeparable s.lts s.class problem
+whole_point_separates s problem case live some c =
+    let exact = rows_exact s.lts s.class problem (c 0 some).in_range (c 0 some).asked some in (
+      (λ (number, lt, point). (let (tokens, effect, allows, keeps) = (whole_points_exact (case_at s problem number) (case number) (c number lt) live).0 point in exact.1 (number, lt, tokens, effect, allows, keeps))),
+      (λ separable. (let (number, lt, tokens, effect, allows, keeps) = exact.0 separable in (number, lt, (whole_points_exact (case_at s problem number) (case number) (c number lt) live).1 (tokens, effect, allows, keeps)))),
     )

@@ -1,6 +1,7 @@
 pub mod Fold
 pub mod Potentials
 pub mod Chords
+pub mod Setting
 pub mod Rewriting
 pub mod Values
 pub mod Placing

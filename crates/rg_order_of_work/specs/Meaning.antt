@@ -16,6 +16,7 @@ use Rattle.rg_integers.specs.Sum.{number_at}
 use Rattle.rg_linear.specs.System.{IsPoint, MeetsRows}
 use Rattle.rg_linear.specs.Cycle.{FollowsRelations, CycleBasis}
 use Rattle.rg_order_of_work.specs.Chords.{chord_system, IsBasis}
+use Rattle.rg_order_of_work.specs.Setting.{Setting, CaseSetting}
 use Rattle.rg_order_of_work.specs.Rewriting.{has_label, has_start, KeptRow, CaseSystem, rows_of, system_fold}
 use Rattle.rg_order_of_work.specs.Values.{column_values, UnusedAreZero, RowIsMet}
 use Rattle.rg_refuting.specs.declared.RowName.TheVariants as row_name
@@ -61,14 +62,14 @@ shifted by x (Effect t) = x (Effect t)
 -- ---- the system of a case
 
 -- the system of a case of an asked problem, over the tree of the system and its basis; all states can be reached
-pub record IsCaseOver (lts : System) (tree : List Arc) (basis : CycleBasis) (class : Class) (problem : Problem) (number : ℕ) (case : CaseSystem) : Type 0 where
-  pub in_range : IsInRange lts
-  pub reachable : IsAllReachable lts
-  pub is_tree : IsTree lts tree
-  pub is_basis : IsBasis lts tree basis
-  pub asked : IsSeparationProblem lts problem
-  pub numbers : HasNumbersInRange class
-  pub is_case : system_fold lts tree basis class problem number (Ok case)
+pub record IsCaseOver (s : CaseSetting) (case : CaseSystem) : Type 0 where
+  pub in_range : IsInRange s.lts
+  pub reachable : IsAllReachable s.lts
+  pub is_tree : IsTree s.lts s.tree
+  pub is_basis : IsBasis s.lts s.tree s.basis
+  pub asked : IsSeparationProblem s.lts s.problem
+  pub numbers : HasNumbersInRange s.class
+  pub is_case : system_fold s (Ok case)
 
 -- the effects follow the relations of the basis, and those of labels without an arc are 0
 pub record AreEffects (lts : System) (tree : List Arc) (basis : CycleBasis) (effect : ℕ → ℤ) : Type 0 where
@@ -76,8 +77,8 @@ pub record AreEffects (lts : System) (tree : List Arc) (basis : CycleBasis) (eff
   pub unused : UnusedAreZero lts effect
 
 -- Start and the effects over the scale meet every row of the case's system
-abbrev pub MeetsCase : System → CycleBasis → Class → CaseSystem → ℤ → (ℕ → ℤ) → ℤ → Type 0
-MeetsCase lts basis class case start effect scale = (k : KeptRow) → Contains case.kept k → RowIsMet (column_values lts basis class start effect) scale k
+abbrev pub MeetsCase : Setting → CaseSystem → ℤ → (ℕ → ℤ) → ℤ → Type 0
+MeetsCase s case start effect scale = (k : KeptRow) → Contains case.kept k → RowIsMet (column_values s.lts s.basis s.class start effect) scale k
 
 -- ---- all solutions
 
@@ -96,10 +97,10 @@ abbrev pub first_column : Class → ℕ
 first_column class = if has_start class then 1 else 0
 
 -- the columns of the point have these values of Start and effects, over so many times the scale of the point
-pub record AreGivenBy (lts : System) (tree : List Arc) (basis : CycleBasis) (class : Class) (case : CaseSystem) (v : ℕ → ℤ) (times start : ℤ) (effect : ℕ → ℤ) : Type 0 where
+pub record AreGivenBy (s : Setting) (case : CaseSystem) (v : ℕ → ℤ) (times start : ℤ) (effect : ℕ → ℤ) : Type 0 where
   pub positive : pos 0 <ℤ times
-  pub effects : AreEffects lts tree basis effect
-  pub columns : (j : ℕ) → j < case.columns → times *ℤ v j ≡ number_at (column_values lts basis class start effect) j
+  pub effects : AreEffects s.lts s.tree s.basis effect
+  pub columns : (j : ℕ) → j < case.columns → times *ℤ v j ≡ number_at (column_values s.lts s.basis s.class start effect) j
 
 -- some point over the columns meets every row of the case's system
 abbrev pub HasPoint : CaseSystem → Type 0

@@ -1,7 +1,6 @@
 -- The numbers of the states that are made on the way to a place, and what a place that is made is.
 use Rattle.std.specs.Prelude.{◌≡◌, ℕ, ◌+◌, ◌<◌, ◌≤◌, IsTrue, IsFalse, List, [], ◌∷◌, ◌++◌, map, length, slice_index_or, All, Contains, ℤ, pos, ◌*ℤ◌, ◌<ℤ◌, unsigned_abs, Result, Ok}
 use Rattle.std.specs.Int.{IsGcd}
-use Rattle.rg_theory.specs.declared.Arc.{Arc}
 use Rattle.rg_theory.specs.System.{System, states, labels}
 use Rattle.rg_theory.specs.Net.{Place}
 use Rattle.rg_theory.specs.declared.Class.{Class}
@@ -15,6 +14,7 @@ use Rattle.rg_integers.specs.declared.term.Wide.{Wide}
 use Rattle.rg_linear.specs.Branching.{form_at}
 use Rattle.rg_linear.specs.Cycle.{CycleBasis}
 use Rattle.rg_order_of_work.specs.Fold.{and_then, each, Ratio, whole}
+use Rattle.rg_order_of_work.specs.Setting.{Setting}
 use Rattle.rg_order_of_work.specs.Rewriting.{free_columns, all_numbers, has_start, CaseSystem}
 use Rattle.rg_order_of_work.specs.Values.{column_values}
 use Rattle.rg_order_of_work.specs.Meaning.{first_column}
@@ -45,16 +45,16 @@ pub record AreAtPoint (lts : System) (basis : CycleBasis) (class : Class) (scale
   pub values : (i : ℕ) → i < length (free_columns lts basis) → SameValue (value (slice_index_or (free_columns lts basis) i 0)).top (value (slice_index_or (free_columns lts basis) i 0)).bottom (v (first_column class + i)) scale
 
 -- every form of the case is a whole number where Start and the effects over the scale are these
-abbrev pub AreFormsWhole : System → CycleBasis → Class → CaseSystem → ℤ → (ℕ → ℤ) → ℤ → Type 0
-AreFormsWhole lts basis class case first effect scale = (f : ℕ) → f < length case.forms → (u : ℤ) × (dot (form_at case.forms f).coeffs (column_values lts basis class first effect) ≡ u *ℤ ((form_at case.forms f).scale *ℤ scale))
+abbrev pub AreFormsWhole : Setting → CaseSystem → ℤ → (ℕ → ℤ) → ℤ → Type 0
+AreFormsWhole s case first effect scale = (f : ℕ) → f < length case.forms → (u : ℤ) × (dot (form_at case.forms f).coeffs (column_values s.lts s.basis s.class first effect) ≡ u *ℤ ((form_at case.forms f).scale *ℤ scale))
 
 -- the numbers of the states that Start and the values of the free labels make on the way to a place
-abbrev pub numbers_fold : System → List Arc → CycleBasis → Class → Problem → Ratio → (ℕ → Ratio) → Result (List Ratio) Wide → Type 0
-numbers_fold lts tree basis class problem start value =
-    and_then (each (effect_fold lts basis value) (all_numbers (labels lts)))
-    (λ effects. and_then (made_whole class (effects ++ start ∷ []))
-    (λ found. and_then (along_tree (ratio_at found) (λ s. ratio_at found (labels lts)) tree)
-    (λ number. shift_fold lts class problem (map number (all_numbers (states lts))))))
+abbrev pub numbers_fold : Setting → Problem → Ratio → (ℕ → Ratio) → Result (List Ratio) Wide → Type 0
+numbers_fold s problem start value =
+    and_then (each (effect_fold s.lts s.basis value) (all_numbers (labels s.lts)))
+    (λ effects. and_then (made_whole s.class (effects ++ start ∷ []))
+    (λ found. and_then (along_tree (ratio_at found) (λ q. ratio_at found (labels s.lts)) s.tree)
+    (λ number. shift_fold s.lts s.class problem (map number (all_numbers (states s.lts))))))
 
 -- the tokens of the states by these numbers
 abbrev pub tokens_of : List Ratio → ℕ → ℕ
@@ -68,9 +68,9 @@ pub record NumbersFit (place : Place) (m : ℕ → ℕ) : Type 0 where
   pub tokens : (s : ℕ) → m s ≤ greatest
 
 -- the place, with the numbers of the states that are made on the way to it, is a region of the class that separates, and its numbers fit
-pub record PlaceIsMade (lts : System) (tree : List Arc) (basis : CycleBasis) (class : Class) (problem : Problem) (start : Ratio) (value : ℕ → Ratio) (place : Place) : Type 0 where
+pub record PlaceIsMade (s : Setting) (problem : Problem) (start : Ratio) (value : ℕ → Ratio) (place : Place) : Type 0 where
   pub numbers : List Ratio
-  pub made : numbers_fold lts tree basis class problem start value (Ok numbers)
-  pub region : RegionIn lts class place (tokens_of numbers)
+  pub made : numbers_fold s problem start value (Ok numbers)
+  pub region : RegionIn s.lts s.class place (tokens_of numbers)
   pub separates : Separates place (tokens_of numbers) problem
   pub fit : NumbersFit place (tokens_of numbers)

@@ -9,6 +9,7 @@ use Rattle.rg_theory.specs.declared.Problem.TheVariants.{Event, States}
 use Rattle.rg_integers.specs.declared.term.Wide.{Wide}
 use Rattle.rg_order_of_work.specs.Fold.{gives, and_then, either, each, joined, Ratio, whole, quotient, add, mul, whole_sum, multiple_of_all}
 use Rattle.rg_linear.specs.Cycle.{CycleBasis}
+use Rattle.rg_order_of_work.specs.Setting.{Setting}
 use Rattle.rg_order_of_work.specs.Rewriting.{is_in, has_label, free_columns, all_numbers, states_with}
 
 -- the effect of label t, where free label f has the value value f
@@ -90,11 +91,11 @@ abbrev pub place_of : System → List Ratio → List ℤ → List ℤ → Place
 place_of lts numbers pre post = record { start = unsigned_abs (top_at numbers lts.initial); pre = map unsigned_abs pre; post = map unsigned_abs post }
 
 -- the place of the point that has Start and the values of the free labels
-abbrev pub place_fold : System → List Arc → CycleBasis → Class → Problem → Ratio → (ℕ → Ratio) → Result Place Wide → Type 0
-place_fold lts tree basis class problem start value =
-    and_then (each (effect_fold lts basis value) (all_numbers (labels lts)))
-    (λ effects. and_then (made_whole class (effects ++ start ∷ []))
-    (λ found. and_then (along_tree (ratio_at found) (λ s. ratio_at found (labels lts)) tree)
-    (λ number. and_then (shift_fold lts class problem (map number (all_numbers (states lts))))
-    (λ numbers. and_then (each (λ u. whole_sum (taken lts class problem numbers found u) (top_at found u)) (all_numbers (labels lts)))
-    (λ post. gives (place_of lts numbers (map (taken lts class problem numbers found) (all_numbers (labels lts))) post))))))
+abbrev pub place_fold : Setting → Problem → Ratio → (ℕ → Ratio) → Result Place Wide → Type 0
+place_fold s problem start value =
+    and_then (each (effect_fold s.lts s.basis value) (all_numbers (labels s.lts)))
+    (λ effects. and_then (made_whole s.class (effects ++ start ∷ []))
+    (λ found. and_then (along_tree (ratio_at found) (λ q. ratio_at found (labels s.lts)) s.tree)
+    (λ number. and_then (shift_fold s.lts s.class problem (map number (all_numbers (states s.lts))))
+    (λ numbers. and_then (each (λ u. whole_sum (taken s.lts s.class problem numbers found u) (top_at found u)) (all_numbers (labels s.lts)))
+    (λ post. gives (place_of s.lts numbers (map (taken s.lts s.class problem numbers found) (all_numbers (labels s.lts))) post))))))

@@ -19,6 +19,7 @@ use Rattle.rg_order_of_work.specs.Fold.{gives, and_then, each, further, Ratio, w
 use Rattle.rg_theory.specs.Tree.{parikh}
 use Rattle.rg_linear.specs.Cycle.{CycleBasis, IsZeroVector}
 use Rattle.rg_linear.specs.Firsts.{KeepsFirsts}
+use Rattle.rg_order_of_work.specs.Setting.{Setting, CaseSetting}
 use Rattle.rg_refuting.specs.declared.RowName.TheVariants as row_name
 use Rattle.rg_refuting.specs.declared.Form.TheVariants as split_form
 use Rattle.rg_refuting.specs.declared.Variable.TheVariants.{Tokens, Effect}
@@ -118,8 +119,8 @@ abbrev pub scaled_fold : List Ratio → Result Scaled Wide → Type 0
 scaled_fold numbers = and_then (multiple_of_all (map (λ r. r.bottom) numbers)) (λ m. and_then (each (λ r. mul r (whole m)) numbers) (λ products. gives (record { multiple = m; numbers = map (λ r. r.top) products })))
 
 -- the expression over the columns, without denominators
-abbrev pub terms_fold : System → List Arc → CycleBasis → Class → List Term → Result Scaled Wide → Type 0
-terms_fold lts tree basis class terms = and_then (substitute_fold (labels lts) basis (count_of tree terms)) (λ free. scaled_fold (columns_of lts basis class (start_of terms) free))
+abbrev pub terms_fold : Setting → List Term → Result Scaled Wide → Type 0
+terms_fold s terms = and_then (substitute_fold (labels s.lts) s.basis (count_of s.tree terms)) (λ free. scaled_fold (columns_of s.lts s.basis s.class (start_of terms) free))
 
 -- a row of the system: the named row that it stands for, and the factor from that to it
 pub record KeptRow : Type 0 where
@@ -140,8 +141,8 @@ divided name scaled constant (Ok out) = (out.name ≡ name) × IsDivided scaled 
 divided name scaled constant (Err w) = ⊥
 
 -- the named row over the columns
-abbrev pub row_fold : System → List Arc → CycleBasis → Class → RowName → Expression → Result KeptRow Wide → Type 0
-row_fold lts tree basis class name e = and_then (terms_fold lts tree basis class e.terms) (λ scaled. and_then (mul (whole e.constant) (whole scaled.multiple)) (λ constant. divided name scaled constant.top))
+abbrev pub row_fold : Setting → RowName → Expression → Result KeptRow Wide → Type 0
+row_fold s name e = and_then (terms_fold s e.terms) (λ scaled. and_then (mul (whole e.constant) (whole scaled.multiple)) (λ constant. divided name scaled constant.top))
 
 -- ---- the system of a case
 
@@ -195,8 +196,8 @@ form_high lts class (split_form.Tokens q) = pos (unwrap_or class.bound 0)
 form_high lts class (split_form.Effect t) = pos 1
 form_high lts class split_form.Start = pos (unwrap_or class.bound (states lts))
 
-abbrev pub form_fold : System → List Arc → CycleBasis → Class → SplitForm → Result Form Wide → Type 0
-form_fold lts tree basis class form = and_then (terms_fold lts tree basis class (plus (form_variable lts.initial form) ∷ [])) (λ scaled. gives (record { scale = pos (step_of class form) *ℤ scaled.multiple; coeffs = scaled.numbers; low = form_low form; high = form_high lts class form }))
+abbrev pub form_fold : Setting → SplitForm → Result Form Wide → Type 0
+form_fold s form = and_then (terms_fold s (plus (form_variable s.lts.initial form) ∷ [])) (λ scaled. gives (record { scale = pos (step_of s.class form) *ℤ scaled.multiple; coeffs = scaled.numbers; low = form_low form; high = form_high s.lts s.class form }))
 
 -- the rows and forms of a case
 pub record CaseSystem : Type 0 where
@@ -207,12 +208,12 @@ pub record CaseSystem : Type 0 where
 abbrev pub rows_of : CaseSystem → LinearSystem
 rows_of case = record { columns = case.columns; rows = map (λ k. k.row) case.kept }
 
-abbrev pub kept_of : System → CycleBasis → Class → List KeptRow → List Form → Result CaseSystem Wide → Type 0
-kept_of lts basis class all forms (Ok case) = (case.columns ≡ column_count lts basis class) × KeepsFirsts (λ k. k.row) IsIdle [] all case.kept × (case.forms ≡ forms)
-kept_of lts basis class all forms (Err w) = ⊥
+abbrev pub kept_of : Setting → List KeptRow → List Form → Result CaseSystem Wide → Type 0
+kept_of s all forms (Ok case) = (case.columns ≡ column_count s.lts s.basis s.class) × KeepsFirsts (λ k. k.row) IsIdle [] all case.kept × (case.forms ≡ forms)
+kept_of s all forms (Err w) = ⊥
 
 -- the system of a case of a problem
-abbrev pub system_fold : System → List Arc → CycleBasis → Class → Problem → ℕ → Result CaseSystem Wide → Type 0
-system_fold lts tree basis class problem number =
-    and_then (each (λ name. row_fold lts tree basis class name (row_expression lts class problem number [] name)) (names_of lts class problem number))
-    (λ all. and_then (each (form_fold lts tree basis class) (split_forms lts class problem)) (λ forms. kept_of lts basis class all forms))
+abbrev pub system_fold : CaseSetting → Result CaseSystem Wide → Type 0
+system_fold s =
+    and_then (each (λ name. row_fold s.setting name (row_expression s.lts s.class s.problem s.number [] name)) (names_of s.lts s.class s.problem s.number))
+    (λ all. and_then (each (form_fold s.setting) (split_forms s.lts s.class s.problem)) (λ forms. kept_of s.setting all forms))

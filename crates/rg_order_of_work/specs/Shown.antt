@@ -17,6 +17,7 @@ use Rattle.rg_integers.specs.declared.term.Wide.{Wide}
 use Rattle.rg_order_of_work.specs.Fold.{Ratio, whole, IsRatio}
 use Rattle.rg_theory.specs.Tree.{IsTree}
 use Rattle.rg_order_of_work.specs.Chords.{KeepsChords, chord_system, IsBasis}
+use Rattle.rg_order_of_work.specs.Setting.{setting_at, case_at}
 use Rattle.rg_order_of_work.specs.Rewriting.{has_start, free_columns, split_forms, CaseSystem, rows_of, system_fold}
 use Rattle.rg_order_of_work.specs.Placing.{place_fold}
 use Rattle.rg_order_of_work.specs.Spreading.{spread_fold}
@@ -101,7 +102,7 @@ pub record CaseOf (lts : System) (class : Class) (w : Shown) (case : CaseSystem)
   pub is_tree : IsTree lts arcs
   pub is_basis : IsBasis lts arcs basis
   pub stands : StandsIn lts class w problem
-  pub is_case : system_fold lts arcs basis class problem w.case_number (Ok case)
+  pub is_case : system_fold (case_at (setting_at lts arcs basis class) problem w.case_number) (Ok case)
 
 -- the term of the walk over the chords
 pub record CycleShown (lts : System) (w : Shown) : Type 0 where
@@ -126,7 +127,7 @@ pub record RowShown (lts : System) (class : Class) (w : Shown) : Type 0 where
   pub stands : StandsIn lts class w problem
   pub nowhere : StandsNowhere w
   pub no_split : w.above ≡ []
-  pub passes : system_fold lts arcs basis class problem w.case_number (Err w.wide)
+  pub passes : system_fold (case_at (setting_at lts arcs basis class) problem w.case_number) (Err w.wide)
 
 -- the term of the first descent that has one
 pub record PivotShown (lts : System) (class : Class) (w : Shown) : Type 0 where
@@ -150,7 +151,7 @@ pub record PlaceShown (lts : System) (class : Class) (w : Shown) : Type 0 where
   pub above_is : w.above ≡ named_sides lts class of_case.problem sides
   pub nowhere : StandsNowhere w
   pub point : PointOf lts of_case.basis class (node_system (rows_of case) case.forms sides) set start value
-  pub passes : place_fold lts of_case.arcs of_case.basis class of_case.problem start value (Err w.wide)
+  pub passes : place_fold (setting_at lts of_case.arcs of_case.basis class) of_case.problem start value (Err w.wide)
 
 -- the first step out of range of a leaf's multipliers
 pub record SpreadShown (lts : System) (class : Class) (w : Shown) : Type 0 where
@@ -163,7 +164,7 @@ pub record SpreadShown (lts : System) (class : Class) (w : Shown) : Type 0 where
   pub has_leaf : HasLeaf [] refuting sides weights
   pub above_is : w.above ≡ named_sides lts class of_case.problem sides
   pub nowhere : StandsNowhere w
-  pub passes : spread_fold lts of_case.arcs of_case.basis class of_case.problem w.case_number case sides (named_sides lts class of_case.problem sides) weights (Err w.wide)
+  pub passes : spread_fold (case_at (setting_at lts of_case.arcs of_case.basis class) of_case.problem w.case_number) case sides (named_sides lts class of_case.problem sides) weights (Err w.wide)
 
 abbrev pub ShownAt : Stage → System → Class → Shown → Type 0
 ShownAt cycle lts class w = CycleShown lts w

@@ -2,8 +2,6 @@
 use Rattle.std.specs.Prelude.{◌≡◌, ℕ, max, ◌+◌, ◌-◌, ◌==◌, ◌||◌, nat_lt, int_lt, if◌then◌else◌, List, [], ◌∷◌, ◌++◌, map, reverse, length, drop, slice_index_or, ℤ, pos, ◌*ℤ◌, Result, Ok, Err}
 use Rattle.rg_theory.specs.declared.Arc.{Arc}
 use Rattle.rg_theory.specs.System.{System, states, labels}
-use Rattle.rg_theory.specs.declared.Class.{Class}
-use Rattle.rg_theory.specs.declared.Problem.{Problem}
 use Rattle.rg_refuting.specs.Expression.{Expression, coefficient_in}
 use Rattle.rg_refuting.specs.declared.Variable.{Variable}
 use Rattle.rg_refuting.specs.Row.{row_expression, Side}
@@ -18,6 +16,7 @@ use Rattle.rg_order_of_work.specs.Fold.{gives, and_then, each, joined, Ratio, wh
 use Rattle.rg_theory.specs.Tree.{same_arc}
 use Rattle.rg_linear.specs.Cycle.{CycleBasis}
 use Rattle.rg_order_of_work.specs.Chords.{chord_at}
+use Rattle.rg_order_of_work.specs.Setting.{CaseSetting}
 use Rattle.rg_order_of_work.specs.Rewriting.{is_in, numbers_where, dependent_labels, all_numbers, count_of, scaled_fold, KeptRow, CaseSystem}
 use Rattle.rg_order_of_work.specs.Placing.{negated}
 use Rattle.rg_refuting.specs.declared.RowName.TheVariants as row_name
@@ -168,7 +167,7 @@ leaf_fold lts tree basis expression shares =
     (not_zero (named_from (map (λ r. r.name) shares) parts ++ map (λ a. record { multiplier = multiplier_among (chord_arcs lts tree basis ++ map (λ x. x.arc) arcs) (drop (length shares) parts) a; name = arc_name a }) lts.arcs))))))
 
 -- the leaf of the weights of a node's rows
-abbrev pub spread_fold : System → List Arc → CycleBasis → Class → Problem → ℕ → CaseSystem → List SplitSide → List Side → List Weight → Result (List NamedRow) Wide → Type 0
-spread_fold lts tree basis class problem case_number case form_sides above weights =
+abbrev pub spread_fold : CaseSetting → CaseSystem → List SplitSide → List Side → List Weight → Result (List NamedRow) Wide → Type 0
+spread_fold s case form_sides above weights =
     and_then (each (share_fold case form_sides above) weights)
-    (λ shares. leaf_fold lts tree basis (row_expression lts class problem case_number above) shares)
+    (λ shares. leaf_fold s.lts s.tree s.basis (row_expression s.lts s.class s.problem s.number above) shares)

@@ -10,6 +10,7 @@ ghost use Rattle.rg_refuting.specs.declared.RowName.{RowName};
 ghost use Rattle.rg_refuting.specs.Row.{Side};
 ghost use Rattle.rg_linear.specs.Branching.{Weight, SplitSide};
 ghost use Rattle.rg_fraction.specs.Fractions.{numerator_of, denominator_of, IsValue, IsSum, IsProduct};
+ghost use Rattle.rg_order_of_work.specs.Setting.{Setting, CaseSetting};
 ghost use Rattle.rg_order_of_work.specs.Fold.{IsOne, Ratio, whole, ratio_of, shown_result, and_then, further, quotient, term, add, mul, multiple_of_all};
 ghost use Rattle.rg_linear.specs.Cycle.{CycleBasis};
 ghost use Rattle.rg_order_of_work.specs.Rewriting.{dependent_term, substitute_fold, row_fold, CaseSystem, system_fold};
@@ -18,7 +19,7 @@ ghost use Rattle.rg_order_of_work.specs.Spreading.{Share, leaf_fold, spread_fold
 
 use rg_fraction::Fraction;
 use rg_integers::Wide;
-use rg_theory::{Arc, Class, Problem};
+use rg_theory::{Arc, Problem};
 
 /// Each step has one result at most.
 pub fn steps_are_one()
@@ -49,11 +50,11 @@ pub fn zeros_add_nothing()
 /// The folds of rows, of a case's system, of a place and of a leaf have one result at most each.
 pub fn folds_are_one()
     ensures substitute { (labels : ℕ) (basis : CycleBasis) (counts : ℕ → ℤ) → IsOne (substitute_fold labels basis counts) }
-    ensures row { (lts : System) (tree : List Arc) (basis : CycleBasis) (class : Class) (name : RowName) (e : Expression) → IsOne (row_fold lts tree basis class name e) }
-    ensures system { (lts : System) (tree : List Arc) (basis : CycleBasis) (class : Class) (problem : Problem) (number : ℕ) → IsOne (system_fold lts tree basis class problem number) }
-    ensures place { (lts : System) (tree : List Arc) (basis : CycleBasis) (class : Class) (problem : Problem) (start : Ratio) (value : ℕ → Ratio) → IsOne (place_fold lts tree basis class problem start value) }
+    ensures row { (s : Setting) (name : RowName) (e : Expression) → IsOne (row_fold s name e) }
+    ensures system { (s : CaseSetting) → IsOne (system_fold s) }
+    ensures place { (s : Setting) (problem : Problem) (start : Ratio) (value : ℕ → Ratio) → IsOne (place_fold s problem start value) }
     ensures leaf { (lts : System) (tree : List Arc) (basis : CycleBasis) (expression : RowName → Expression) (shares : List Share) → IsOne (leaf_fold lts tree basis expression shares) }
-    ensures spread { (lts : System) (tree : List Arc) (basis : CycleBasis) (class : Class) (problem : Problem) (number : ℕ) (case : CaseSystem) (sides : List SplitSide) (above : List Side) (weights : List Weight) → IsOne (spread_fold lts tree basis class problem number case sides above weights) }
+    ensures spread { (s : CaseSetting) (case : CaseSystem) (sides : List SplitSide) (above : List Side) (weights : List Weight) → IsOne (spread_fold s case sides above weights) }
 {}
 
 /// So many more make a number a multiple, and no fewer do.

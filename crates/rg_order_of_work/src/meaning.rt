@@ -19,6 +19,7 @@ ghost use Rattle.rg_linear.specs.System.{IsPoint, MeetsRows};
 ghost use Rattle.rg_linear.specs.Branching.{Form, form_at, AreBounded};
 ghost use Rattle.rg_linear.specs.Cycle.{FollowsRelations, CycleBasis};
 ghost use Rattle.rg_theory.specs.Tree.{IsTree};
+ghost use Rattle.rg_order_of_work.specs.Setting.{Setting, CaseSetting, case_at};
 ghost use Rattle.rg_order_of_work.specs.Potentials.{potential};
 ghost use Rattle.rg_order_of_work.specs.Chords.{chord_system, IsBasis};
 ghost use Rattle.rg_order_of_work.specs.Shown.{IsLive};
@@ -46,21 +47,19 @@ pub fn rows_are_named()
 /// system; where it is none, all rows but those of tokens, and some shift of all numbers keeps these too:
 /// each that leaves no state below 0.
 pub fn start_and_free_effects_mean()
-    ensures arcs { (lts : System) (tree : List Arc) (basis : CycleBasis) (class : Class) (problem : Problem) (number : ℕ) (case : CaseSystem) (start : ℤ)
-        (effect : ℕ → ℤ) (scale : ℤ) (q t q' : ℕ) → IsCaseOver lts tree basis class problem number case → AreEffects lts tree basis effect → HasArc lts q t q'
-        → RowHolds lts class problem number scale (numbers_along lts tree start effect) (row_name.Arc (arc q t q')) }
-    ensures start { (lts : System) (tree : List Arc) (basis : CycleBasis) (class : Class) (problem : Problem) (number : ℕ) (case : CaseSystem) (start : ℤ)
-        (effect : ℕ → ℤ) (scale : ℤ) → IsCaseOver lts tree basis class problem number case → AreEffects lts tree basis effect → pos 0 <ℤ scale → IsTrue (has_start class)
-        → MeetsCase lts basis class case start effect scale ↔ KeepsRowsOver lts class problem number scale (numbers_along lts tree start effect) }
-    ensures no_start { (lts : System) (tree : List Arc) (basis : CycleBasis) (class : Class) (problem : Problem) (number : ℕ) (case : CaseSystem) (start : ℤ)
-        (effect : ℕ → ℤ) (scale : ℤ) → IsCaseOver lts tree basis class problem number case → AreEffects lts tree basis effect → pos 0 <ℤ scale
-        → IsFalse (has_start class) → MeetsCase lts basis class case start effect scale ↔ KeepsAllButTokens lts class problem number scale
-        (numbers_along lts tree start effect) }
-    ensures shift { (lts : System) (tree : List Arc) (basis : CycleBasis) (class : Class) (problem : Problem) (number : ℕ) (case : CaseSystem) (start : ℤ)
-        (effect : ℕ → ℤ) (scale by : ℤ) → IsCaseOver lts tree basis class problem number case → IsFalse (has_start class)
-        → KeepsAllButTokens lts class problem number scale (numbers_along lts tree start effect)
-        → ((q : ℕ) → q < states lts → pos 0 ≤ℤ shifted by (numbers_along lts tree start effect) (Tokens q))
-        → KeepsRowsOver lts class problem number scale (shifted by (numbers_along lts tree start effect)) }
+    ensures arcs { (s : CaseSetting) (case : CaseSystem) (start : ℤ) (effect : ℕ → ℤ) (scale : ℤ) (q t q' : ℕ) → IsCaseOver s case
+        → AreEffects s.lts s.tree s.basis effect → HasArc s.lts q t q'
+        → RowHolds s.lts s.class s.problem s.number scale (numbers_along s.lts s.tree start effect) (row_name.Arc (arc q t q')) }
+    ensures start { (s : CaseSetting) (case : CaseSystem) (start : ℤ) (effect : ℕ → ℤ) (scale : ℤ) → IsCaseOver s case → AreEffects s.lts s.tree s.basis effect
+        → pos 0 <ℤ scale → IsTrue (has_start s.class)
+        → MeetsCase s.setting case start effect scale ↔ KeepsRowsOver s.lts s.class s.problem s.number scale (numbers_along s.lts s.tree start effect) }
+    ensures no_start { (s : CaseSetting) (case : CaseSystem) (start : ℤ) (effect : ℕ → ℤ) (scale : ℤ) → IsCaseOver s case → AreEffects s.lts s.tree s.basis effect
+        → pos 0 <ℤ scale → IsFalse (has_start s.class)
+        → MeetsCase s.setting case start effect scale ↔ KeepsAllButTokens s.lts s.class s.problem s.number scale (numbers_along s.lts s.tree start effect) }
+    ensures shift { (s : CaseSetting) (case : CaseSystem) (start : ℤ) (effect : ℕ → ℤ) (scale by : ℤ) → IsCaseOver s case → IsFalse (has_start s.class)
+        → KeepsAllButTokens s.lts s.class s.problem s.number scale (numbers_along s.lts s.tree start effect)
+        → ((q : ℕ) → q < states s.lts → pos 0 ≤ℤ shifted by (numbers_along s.lts s.tree start effect) (Tokens q))
+        → KeepsRowsOver s.lts s.class s.problem s.number scale (shifted by (numbers_along s.lts s.tree start effect)) }
     ensures some_shift { (lts : System) (x : Variable → ℤ) → (by : ℤ) × ((q : ℕ) → q < states lts → pos 0 ≤ℤ shifted by x (Tokens q)) }
     ensures whole { (lts : System) (class : Class) (problem : Problem) (number : ℕ) (x : Variable → ℤ) → KeepsRowsOver lts class problem number (pos 1) x ↔ KeepsRows lts class problem number x }
 {}
@@ -75,33 +74,30 @@ pub fn unused_labels_are_free()
 /// their own effects, which follow the relations; only the effects of labels without an arc may differ.
 /// With 0 for these they keep all rows still, so they meet the case's system.
 pub fn solutions_are_given()
-    ensures follow { (lts : System) (tree : List Arc) (basis : CycleBasis) (class : Class) (problem : Problem) (number : ℕ) (case : CaseSystem) (x : Variable → ℤ)
-        (effect : ℕ → ℤ) (scale : ℤ) → IsCaseOver lts tree basis class problem number case → KeepsRowsOver lts class problem number scale x → AgreeOnUsed lts x effect
-        → FollowsRelations (chord_system lts tree basis.kept) basis.members effect }
-    ensures numbers { (lts : System) (tree : List Arc) (basis : CycleBasis) (class : Class) (problem : Problem) (number : ℕ) (case : CaseSystem) (x : Variable → ℤ)
-        (effect : ℕ → ℤ) (scale : ℤ) (q : ℕ) → IsCaseOver lts tree basis class problem number case → KeepsRowsOver lts class problem number scale x
-        → AgreeOnUsed lts x effect → q < states lts → x (Tokens q) ≡ potential lts tree (x (Tokens lts.initial)) effect q }
-    ensures effects { (lts : System) (tree : List Arc) (basis : CycleBasis) (class : Class) (problem : Problem) (number : ℕ) (case : CaseSystem) (x : Variable → ℤ)
-        (scale : ℤ) → IsCaseOver lts tree basis class problem number case → KeepsRowsOver lts class problem number scale x
-        → AreEffects lts tree basis (used_effect lts x) }
-    ensures rows { (lts : System) (tree : List Arc) (basis : CycleBasis) (class : Class) (problem : Problem) (number : ℕ) (case : CaseSystem) (x : Variable → ℤ)
-        (scale : ℤ) → IsCaseOver lts tree basis class problem number case → IsLive lts problem → pos 0 <ℤ scale → KeepsRowsOver lts class problem number scale x
-        → KeepsRowsOver lts class problem number scale (numbers_along lts tree (x (Tokens lts.initial)) (used_effect lts x)) }
-    ensures meets { (lts : System) (tree : List Arc) (basis : CycleBasis) (class : Class) (problem : Problem) (number : ℕ) (case : CaseSystem) (x : Variable → ℤ)
-        (scale : ℤ) → IsCaseOver lts tree basis class problem number case → IsLive lts problem → pos 0 <ℤ scale → KeepsRowsOver lts class problem number scale x
-        → MeetsCase lts basis class case (x (Tokens lts.initial)) (used_effect lts x) scale }
+    ensures follow { (s : CaseSetting) (case : CaseSystem) (x : Variable → ℤ) (effect : ℕ → ℤ) (scale : ℤ) → IsCaseOver s case
+        → KeepsRowsOver s.lts s.class s.problem s.number scale x → AgreeOnUsed s.lts x effect
+        → FollowsRelations (chord_system s.lts s.tree s.basis.kept) s.basis.members effect }
+    ensures numbers { (s : CaseSetting) (case : CaseSystem) (x : Variable → ℤ) (effect : ℕ → ℤ) (scale : ℤ) (q : ℕ) → IsCaseOver s case
+        → KeepsRowsOver s.lts s.class s.problem s.number scale x → AgreeOnUsed s.lts x effect → q < states s.lts
+        → x (Tokens q) ≡ potential s.lts s.tree (x (Tokens s.lts.initial)) effect q }
+    ensures effects { (s : CaseSetting) (case : CaseSystem) (x : Variable → ℤ) (scale : ℤ) → IsCaseOver s case → KeepsRowsOver s.lts s.class s.problem s.number scale x
+        → AreEffects s.lts s.tree s.basis (used_effect s.lts x) }
+    ensures rows { (s : CaseSetting) (case : CaseSystem) (x : Variable → ℤ) (scale : ℤ) → IsCaseOver s case → IsLive s.lts s.problem → pos 0 <ℤ scale
+        → KeepsRowsOver s.lts s.class s.problem s.number scale x
+        → KeepsRowsOver s.lts s.class s.problem s.number scale (numbers_along s.lts s.tree (x (Tokens s.lts.initial)) (used_effect s.lts x)) }
+    ensures meets { (s : CaseSetting) (case : CaseSystem) (x : Variable → ℤ) (scale : ℤ) → IsCaseOver s case → IsLive s.lts s.problem → pos 0 <ℤ scale
+        → KeepsRowsOver s.lts s.class s.problem s.number scale x → MeetsCase s.setting case (x (Tokens s.lts.initial)) (used_effect s.lts x) scale }
 {}
 
 /// The columns of a case's system are Start, where it is one, and the effects of the free labels with an
 /// arc, in order. A row's value at a point is its value at them.
 pub fn columns_are_values()
-    ensures count { (lts : System) (tree : List Arc) (basis : CycleBasis) (class : Class) (problem : Problem) (number : ℕ) (case : CaseSystem) (start : ℤ)
-        (effect : ℕ → ℤ) → system_fold lts tree basis class problem number (Ok case) → length (column_values lts basis class start effect) ≡ case.columns }
+    ensures count { (s : CaseSetting) (case : CaseSystem) (start : ℤ) (effect : ℕ → ℤ) → system_fold s (Ok case)
+        → length (column_values s.lts s.basis s.class start effect) ≡ case.columns }
     ensures start { (lts : System) (basis : CycleBasis) (class : Class) (start : ℤ) (effect : ℕ → ℤ) → IsTrue (has_start class) → number_at (column_values lts basis class start effect) 0 ≡ start }
     ensures effects { (lts : System) (basis : CycleBasis) (class : Class) (start : ℤ) (effect : ℕ → ℤ) (i : ℕ) → i < length (free_columns lts basis) → number_at (column_values lts basis class start effect) (first_column class + i) ≡ effect (slice_index_or (free_columns lts basis) i 0) }
-    ensures sum { (lts : System) (tree : List Arc) (basis : CycleBasis) (class : Class) (problem : Problem) (number : ℕ) (case : CaseSystem) (start : ℤ) (effect : ℕ → ℤ)
-        (coeffs : List ℤ) → system_fold lts tree basis class problem number (Ok case) → dot coeffs (column_values lts basis class start effect) ≡ sum_below case.columns
-        (λ j. number_at coeffs j *ℤ number_at (column_values lts basis class start effect) j) }
+    ensures sum { (s : CaseSetting) (case : CaseSystem) (start : ℤ) (effect : ℕ → ℤ) (coeffs : List ℤ) → system_fold s (Ok case)
+        → dot coeffs (column_values s.lts s.basis s.class start effect) ≡ sum_below case.columns (λ j. number_at coeffs j *ℤ number_at (column_values s.lts s.basis s.class start effect) j) }
 {}
 
 /// Each point over the columns gives Start and effects, over a multiple of its scale and one choice for
@@ -109,38 +105,31 @@ pub fn columns_are_values()
 /// given by a point. So some point
 /// meets all rows exactly where some numbers over a scale keep all rows that stand in the case.
 pub fn points_are_exact()
-    ensures give { (lts : System) (tree : List Arc) (basis : CycleBasis) (class : Class) (problem : Problem) (number : ℕ) (case : CaseSystem) (v : ℕ → ℤ)
-        → IsCaseOver lts tree basis class problem number case → (times : ℤ) × (start : ℤ) × (effect : ℕ → ℤ) × AreGivenBy lts tree basis class case v times start effect }
-    ensures one { (lts : System) (tree : List Arc) (basis : CycleBasis) (class : Class) (problem : Problem) (number : ℕ) (case : CaseSystem) (v : ℕ → ℤ)
-        (times start start' : ℤ) (effect effect' : ℕ → ℤ)
-        → IsCaseOver lts tree basis class problem number case → AreGivenBy lts tree basis class case v times start effect
-        → AreGivenBy lts tree basis class case v times start' effect' → (IsTrue (has_start class) → start ≡ start') × ((t : ℕ) → t < labels lts → effect t ≡ effect' t) }
-    ensures given { (lts : System) (tree : List Arc) (basis : CycleBasis) (class : Class) (problem : Problem) (number : ℕ) (case : CaseSystem) (start : ℤ)
-        (effect : ℕ → ℤ) (scale : ℤ) → IsCaseOver lts tree basis class problem number case → AreEffects lts tree basis effect → pos 0 <ℤ scale → (v : ℕ → ℤ)
-        × IsPoint (rows_of case) scale v × AreGivenBy lts tree basis class case v (pos 1) start effect }
-    ensures meets { (lts : System) (tree : List Arc) (basis : CycleBasis) (class : Class) (problem : Problem) (number : ℕ) (case : CaseSystem) (v : ℕ → ℤ)
-        (scale times start : ℤ) (effect : ℕ → ℤ) → IsCaseOver lts tree basis class problem number case → IsPoint (rows_of case) scale v
-        → AreGivenBy lts tree basis class case v times start effect → MeetsRows (rows_of case) v ↔ MeetsCase lts basis class case start effect (times *ℤ scale) }
-    ensures exact { (lts : System) (tree : List Arc) (basis : CycleBasis) (class : Class) (problem : Problem) (number : ℕ) (case : CaseSystem) → IsCaseOver lts tree basis class problem number case → IsLive lts problem → HasPoint case ↔ HasSolution lts class problem number }
+    ensures give { (s : CaseSetting) (case : CaseSystem) (v : ℕ → ℤ) → IsCaseOver s case
+        → (times : ℤ) × (start : ℤ) × (effect : ℕ → ℤ) × AreGivenBy s.setting case v times start effect }
+    ensures one { (s : CaseSetting) (case : CaseSystem) (v : ℕ → ℤ) (times start start' : ℤ) (effect effect' : ℕ → ℤ) → IsCaseOver s case
+        → AreGivenBy s.setting case v times start effect → AreGivenBy s.setting case v times start' effect'
+        → (IsTrue (has_start s.class) → start ≡ start') × ((t : ℕ) → t < labels s.lts → effect t ≡ effect' t) }
+    ensures given { (s : CaseSetting) (case : CaseSystem) (start : ℤ) (effect : ℕ → ℤ) (scale : ℤ) → IsCaseOver s case → AreEffects s.lts s.tree s.basis effect
+        → pos 0 <ℤ scale → (v : ℕ → ℤ) × IsPoint (rows_of case) scale v × AreGivenBy s.setting case v (pos 1) start effect }
+    ensures meets { (s : CaseSetting) (case : CaseSystem) (v : ℕ → ℤ) (scale times start : ℤ) (effect : ℕ → ℤ) → IsCaseOver s case → IsPoint (rows_of case) scale v
+        → AreGivenBy s.setting case v times start effect → MeetsRows (rows_of case) v ↔ MeetsCase s.setting case start effect (times *ℤ scale) }
+    ensures exact { (s : CaseSetting) (case : CaseSystem) → IsCaseOver s case → IsLive s.lts s.problem → HasPoint case ↔ HasSolution s.lts s.class s.problem s.number }
 {}
 
 /// The form of a split, with its scale, is worth the tokens or the effect that Start and the effects give
 /// it, by its steps; that of the start is Start alone, once. The forms of a case lie between their bounds wherever its
 /// rows are met; each has the coefficients of a row, so many times; and its bounds times its scale are in range.
 pub fn forms_are_exact()
-    ensures value { (lts : System) (tree : List Arc) (basis : CycleBasis) (class : Class) (problem : Problem) (number : ℕ) (case : CaseSystem)
-        → IsCaseOver lts tree basis class problem number case → (split : SplitForm) (form : Form) (start : ℤ) (effect : ℕ → ℤ)
-        → form_fold lts tree basis class split (Ok form) → NamesLabels (labels lts) (plus (form_variable lts.initial split) ∷ [])
-        → (IsFalse (has_start class) → start ≡ pos 0) → AreEffects lts tree basis effect
-        → pos (step_of class split) *ℤ dot form.coeffs (column_values lts basis class start effect) ≡ form.scale *ℤ numbers_along lts tree start effect
-        (form_variable lts.initial split) }
-    ensures start { (lts : System) (tree : List Arc) (basis : CycleBasis) (class : Class) (form : Form) → IsTree lts tree → form_fold lts tree basis class split_form.Start (Ok form) → form.scale ≡ pos (step_of class split_form.Start) }
-    ensures bounded { (lts : System) (tree : List Arc) (basis : CycleBasis) (class : Class) (problem : Problem) (number : ℕ) (case : CaseSystem) → IsCaseOver lts tree basis class problem number case → AreBounded (rows_of case) case.forms }
-    ensures multiple { (lts : System) (tree : List Arc) (basis : CycleBasis) (class : Class) (problem : Problem) (number : ℕ) (case : CaseSystem)
-        → IsCaseOver lts tree basis class problem number case → (f : ℕ) → f < length case.forms → (row : ℕ) × (times : ℤ)
-        × IsMultipleOfRow (rows_of case) (form_at case.forms f) row times }
-    ensures fit { (lts : System) (tree : List Arc) (basis : CycleBasis) (class : Class) (problem : Problem) (number : ℕ) (case : CaseSystem)
-        → IsCaseOver lts tree basis class problem number case → states lts ≤ most_states → (f : ℕ) → f < length case.forms
+    ensures value { (s : CaseSetting) (case : CaseSystem) → IsCaseOver s case → (split : SplitForm) (form : Form) (start : ℤ) (effect : ℕ → ℤ)
+        → form_fold s.setting split (Ok form) → NamesLabels (labels s.lts) (plus (form_variable s.lts.initial split) ∷ [])
+        → (IsFalse (has_start s.class) → start ≡ pos 0) → AreEffects s.lts s.tree s.basis effect
+        → pos (step_of s.class split) *ℤ dot form.coeffs (column_values s.lts s.basis s.class start effect) ≡ form.scale *ℤ numbers_along s.lts s.tree start effect (form_variable s.lts.initial split) }
+    ensures start { (s : Setting) (form : Form) → IsTree s.lts s.tree → form_fold s split_form.Start (Ok form) → form.scale ≡ pos (step_of s.class split_form.Start) }
+    ensures bounded { (s : CaseSetting) (case : CaseSystem) → IsCaseOver s case → AreBounded (rows_of case) case.forms }
+    ensures multiple { (s : CaseSetting) (case : CaseSystem) → IsCaseOver s case → (f : ℕ) → f < length case.forms
+        → (row : ℕ) × (times : ℤ) × IsMultipleOfRow (rows_of case) (form_at case.forms f) row times }
+    ensures fit { (s : CaseSetting) (case : CaseSystem) → IsCaseOver s case → states s.lts ≤ most_states → (f : ℕ) → f < length case.forms
         → InRange ((form_at case.forms f).scale *ℤ (form_at case.forms f).low) × InRange ((form_at case.forms f).scale *ℤ (form_at case.forms f).high) }
 {}
 
@@ -148,10 +137,10 @@ pub fn forms_are_exact()
 /// its rows; so some case has one exactly where some region of the class separates the problem.
 pub fn whole_points_separate()
     ensures solution { (lts : System) (class : Class) (problem : Problem) (number : ℕ) → HasWholeSolutionIn lts class problem number → HasSolution lts class problem number }
-    ensures whole { (lts : System) (tree : List Arc) (basis : CycleBasis) (class : Class) (problem : Problem) (number : ℕ) (case : CaseSystem) → IsCaseOver lts tree basis class problem number case → IsLive lts problem → HasWholePoint case ↔ HasWholeSolutionIn lts class problem number }
-    ensures separable { (lts : System) (tree : List Arc) (basis : CycleBasis) (class : Class) (problem : Problem) (case : ℕ → CaseSystem) → IsLive lts problem
-        → 0 < cases_of lts class problem → ((number : ℕ) → number < cases_of lts class problem → IsCaseOver lts tree basis class problem number (case number))
-        → SomeCaseHasWholePoint lts class problem case ↔ IsSeparable lts class problem }
+    ensures whole { (s : CaseSetting) (case : CaseSystem) → IsCaseOver s case → IsLive s.lts s.problem → HasWholePoint case ↔ HasWholeSolutionIn s.lts s.class s.problem s.number }
+    ensures separable { (s : Setting) (problem : Problem) (case : ℕ → CaseSystem) → IsLive s.lts problem → 0 < cases_of s.lts s.class problem
+        → ((number : ℕ) → number < cases_of s.lts s.class problem → IsCaseOver (case_at s problem number) (case number))
+        → SomeCaseHasWholePoint s.lts s.class problem case ↔ IsSeparable s.lts s.class problem }
 {}
 
 /// Numbers over a scale that keep all rows of a case, whose effects of labels with an arc are whole and

@@ -13,6 +13,7 @@ use Rattle.rg_linear.specs.Descent.{WideAt}
 use Rattle.rg_linear.specs.Cycle.{CycleBasis, CycleOutcome.free_set, CycleOutcome.too_wide as walk_passes, CycleWalk}
 use Rattle.rg_linear.proofs.Cycles.{same_cycle}
 use Rattle.rg_linear.proofs.Bases.{kept_is_one, cycle_basis_is_one}
+use Rattle.rg_order_of_work.specs.Setting.{setting_at}
 use Rattle.rg_order_of_work.specs.Chords.{KeepsChords, chord_vectors, chord_system, IsBasis}
 use Rattle.rg_order_of_work.specs.Shown.{Stage, Shown, StandsAt, CycleShown}
 use Rattle.rg_outcome.specs.Solving.{ProblemComes}
@@ -115,14 +116,16 @@ same_fork s t a b s' t' a' b' (e, f, p, q) = cc
 -- ---- the answer
 
 module _ (lts : System) (class : Class) where
-  same_problems : (arcs arcs' : List Arc) (basis basis' : CycleBasis) (o o' : Separation) → IsTree lts arcs → IsTree lts arcs' → IsBasis lts arcs basis → IsBasis lts arcs' basis'
-      → Comes lts (ProblemComes lts arcs basis class) o → Comes lts (ProblemComes lts arcs' basis' class) o' → o ≡ o'
+  same_problems : (arcs arcs' : List Arc) (basis basis' : CycleBasis) (o o' : Separation) → IsTree lts arcs → IsTree lts arcs' → IsBasis lts arcs basis
+      → IsBasis lts arcs' basis' → Comes lts (ProblemComes (setting_at lts arcs basis class)) o → Comes lts (ProblemComes (setting_at lts arcs' basis' class)) o'
+      → o ≡ o'
   same_problems arcs arcs' basis basis' o o' is is' is_basis is_basis' d d' =
       let trees : arcs' ≡ arcs = same_tree lts (lts.initial ∷ []) arcs' arcs is' is in
       let is_basis'' : IsBasis lts arcs basis' = subst (λ x. IsBasis lts x basis') trees is_basis' in
       let bases : basis' ≡ basis = cycle_basis_is_one (labels lts) (chord_vectors lts arcs) basis' basis is_basis'' is_basis in
-      let d'' : Comes lts (ProblemComes lts arcs basis class) o' = subst (λ (x : CycleBasis). Comes lts (ProblemComes lts arcs x class) o') bases (subst (λ x. Comes lts (ProblemComes lts x basis' class) o') trees d') in
-      same_separation lts (ProblemComes lts arcs basis class) (same_solved lts arcs basis class) None [] o o' d d''
+      let s = setting_at lts arcs basis class in
+      let same : setting_at lts arcs' basis' class ≡ s = λ i. setting_at lts (trees i) (bases i) class in
+      same_separation lts (ProblemComes s) (same_solved s) None [] o o' d (subst (λ x. Comes lts (ProblemComes x) o') same d')
 
   pub same_search : (o o' : Separation) → Searched lts class o → Searched lts class o' → o ≡ o'
   same_search o o' (a_cycle w stage h) (a_cycle w' stage' h') = ap of_term (same_cycle_shown lts w w' stage stage' h h')

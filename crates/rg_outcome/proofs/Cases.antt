@@ -1,16 +1,12 @@
 -- A case comes to one result.
 use Rattle.std.proofs.Common.{◌≡◌, ◌⊎◌, inl, inr, ℕ, List, [], ◌∷◌, ◌++◌, Result, Ok, Err, refl, sym, ap, subst, ◌∙◌}
-use Rattle.rg_theory.specs.declared.Arc.{Arc}
-use Rattle.rg_theory.specs.System.{System}
 use Rattle.rg_theory.specs.Net.{Place}
-use Rattle.rg_theory.specs.declared.Class.{Class}
-use Rattle.rg_theory.specs.declared.Problem.{Problem}
-use Rattle.rg_splits.specs.Trees.{Tree.leaf, Tree.split, low_side, high_side}
 use Rattle.rg_refuting.specs.Refutes.{Tree}
 use Rattle.rg_integers.specs.declared.term.Wide.{Wide}
-use Rattle.rg_linear.specs.Cycle.{CycleBasis}
 use Rattle.rg_linear.specs.Branching.{SplitTree, SplitSide, node_system, Branching, BranchOutcome, BranchOutcome.found, BranchOutcome.tree, BranchOutcome.stopped}
+use Rattle.rg_splits.specs.Trees.{Tree.leaf, Tree.split, low_side, high_side}
 use Rattle.rg_linear.proofs.Branches.{same_branch}
+use Rattle.rg_order_of_work.specs.Setting.{CaseSetting}
 use Rattle.rg_order_of_work.specs.Fold.{Ratio}
 use Rattle.rg_order_of_work.specs.Rewriting.{CaseSystem, rows_of, system_fold}
 use Rattle.rg_order_of_work.specs.Placing.{place_fold}
@@ -37,19 +33,19 @@ tree_err at at' e = cc
 tree_ok_not_err : (t : Tree) (at : LeafWide) → SameTree (Ok t) (Err at) → ⊥
 tree_ok_not_err t at e = cc
 
-module _ (lts : System) (arcs : List Arc) (basis : CycleBasis) (class : Class) (problem : Problem) (number : ℕ) (case : CaseSystem) where
-  pub same_tree : (above : List SplitSide) (t : SplitTree) (r r' : Result Tree LeafWide) → spread_tree lts arcs basis class problem number case above t r → spread_tree lts arcs basis class problem number case above t r' → r ≡ r'
+module _ (s : CaseSetting) (case : CaseSystem) where
+  pub same_tree : (above : List SplitSide) (t : SplitTree) (r r' : Result Tree LeafWide) → spread_tree s case above t r → spread_tree s case above t r' → r ≡ r'
   same_tree above (leaf weights) (Ok t) (Ok t') (rows, made, e) (rows', made', e') =
-      let same : rows ≡ rows' = ok_is rows rows' ((spread_one lts arcs basis class problem number case above (named_sides lts class problem above) weights).one (Ok rows) (Ok rows') made made') in
+      let same : rows ≡ rows' = ok_is rows rows' ((spread_one s case above (named_sides s.lts s.class s.problem above) weights).one (Ok rows) (Ok rows') made made') in
       ap Ok (e ∙ ap leaf same ∙ sym e')
-  same_tree above (leaf weights) (Ok t) (Err at) (rows, made, e) (e', err) = absurd (ok_not_err rows at.wide ((spread_one lts arcs basis class problem number case above (named_sides lts class problem above) weights).one (Ok rows) (Err at.wide) made err))
-  same_tree above (leaf weights) (Err at) (Ok t) (e, err) (rows, made, e') = absurd (ok_not_err rows at.wide ((spread_one lts arcs basis class problem number case above (named_sides lts class problem above) weights).one (Ok rows) (Err at.wide) made err))
+  same_tree above (leaf weights) (Ok t) (Err at) (rows, made, e) (e', err) = absurd (ok_not_err rows at.wide ((spread_one s case above (named_sides s.lts s.class s.problem above) weights).one (Ok rows) (Err at.wide) made err))
+  same_tree above (leaf weights) (Err at) (Ok t) (e, err) (rows, made, e') = absurd (ok_not_err rows at.wide ((spread_one s case above (named_sides s.lts s.class s.problem above) weights).one (Ok rows) (Err at.wide) made err))
   same_tree above (leaf weights) (Err at) (Err at') (e, err) (e', err') =
-      ap Err (same_leaf_wide at at' (e ∙ sym e') (err_is at.wide at'.wide ((spread_one lts arcs basis class problem number case above (named_sides lts class problem above) weights).one (Err at.wide) (Err at'.wide) err err')))
+      ap Err (same_leaf_wide at at' (e ∙ sym e') (err_is at.wide at'.wide ((spread_one s case above (named_sides s.lts s.class s.problem above) weights).one (Err at.wide) (Err at'.wide) err err')))
   same_tree above (split f u low high) (Ok t) (Ok t') (l, h, is_l, is_h, e) (l', h', is_l', is_h', e') =
       let el : l ≡ l' = tree_ok l l' (same_tree (above ++ low_side f u ∷ []) low (Ok l) (Ok l') is_l is_l') in
       let eh : h ≡ h' = tree_ok h h' (same_tree (above ++ high_side f u ∷ []) high (Ok h) (Ok h') is_h is_h') in
-      ap Ok (e ∙ ap (λ x. split (named_side lts class problem (low_side f u)).form u x h) el ∙ ap (λ x. split (named_side lts class problem (low_side f u)).form u l' x) eh ∙ sym e')
+      ap Ok (e ∙ ap (λ x. split (named_side s.lts s.class s.problem (low_side f u)).form u x h) el ∙ ap (λ x. split (named_side s.lts s.class s.problem (low_side f u)).form u l' x) eh ∙ sym e')
   same_tree above (split f u low high) (Ok t) (Err at) (l, h, is_l, is_h, e) (inl err) = absurd (tree_ok_not_err l at (same_tree (above ++ low_side f u ∷ []) low (Ok l) (Err at) is_l err))
   same_tree above (split f u low high) (Ok t) (Err at) (l, h, is_l, is_h, e) (inr (l', is_l', err)) = absurd (tree_ok_not_err h at (same_tree (above ++ high_side f u ∷ []) high (Ok h) (Err at) is_h err))
   same_tree above (split f u low high) (Err at) (Ok t) (inl err) (l, h, is_l, is_h, e) = absurd (tree_ok_not_err l at (same_tree (above ++ low_side f u ∷ []) low (Ok l) (Err at) is_l err))
@@ -62,37 +58,37 @@ module _ (lts : System) (arcs : List Arc) (basis : CycleBasis) (class : Class) (
 -- ---- a case
 
 -- what the place, or the leaves, of a case come to
-abbrev placing : System → Class → Problem → ℕ → List SplitSide → Result Place Wide → CaseResult
-placing lts class problem number sides (Ok p) = makes p
-placing lts class problem number sides (Err w) = passes (step_at Stage.place problem number (named_sides lts class problem sides) w)
+abbrev placing : CaseSetting → List SplitSide → Result Place Wide → CaseResult
+placing s sides (Ok p) = makes p
+placing s sides (Err w) = passes (step_at Stage.place s.problem s.number (named_sides s.lts s.class s.problem sides) w)
 
-abbrev leaving : System → Class → Problem → ℕ → Result Tree LeafWide → CaseResult
-leaving lts class problem number (Ok t) = refutes t
-leaving lts class problem number (Err at) = passes (step_at Stage.spread problem number (named_sides lts class problem at.above) at.wide)
+abbrev leaving : CaseSetting → Result Tree LeafWide → CaseResult
+leaving s (Ok t) = refutes t
+leaving s (Err at) = passes (step_at Stage.spread s.problem s.number (named_sides s.lts s.class s.problem at.above) at.wide)
 
 -- what follows where a branching ends in this way
-abbrev EndsIn : System → List Arc → CycleBasis → Class → Problem → ℕ → CaseSystem → BranchOutcome → CaseResult → Type 0
-EndsIn lts arcs basis class problem number case (stopped sides at) r = r ≡ passes (term_at problem number (named_sides lts class problem sides) at)
-EndsIn lts arcs basis class problem number case (found members sides) r =
-    (start : Ratio) × (value : ℕ → Ratio) × (made : Result Place Wide) × PointOf lts basis class (node_system (rows_of case) case.forms sides) members start value
-    × place_fold lts arcs basis class problem start value made × (r ≡ placing lts class problem number sides made)
-EndsIn lts arcs basis class problem number case (tree multipliers) r =
-    (made : Result Tree LeafWide) × spread_tree lts arcs basis class problem number case [] multipliers made × (r ≡ leaving lts class problem number made)
+abbrev EndsIn : CaseSetting → CaseSystem → BranchOutcome → CaseResult → Type 0
+EndsIn s case (stopped sides at) r = r ≡ passes (term_at s.problem s.number (named_sides s.lts s.class s.problem sides) at)
+EndsIn s case (found members sides) r =
+    (start : Ratio) × (value : ℕ → Ratio) × (made : Result Place Wide) × PointOf s.lts s.basis s.class (node_system (rows_of case) case.forms sides) members start value
+    × place_fold s.setting s.problem start value made × (r ≡ placing s sides made)
+EndsIn s case (tree multipliers) r =
+    (made : Result Tree LeafWide) × spread_tree s case [] multipliers made × (r ≡ leaving s made)
 
-record Stops (lts : System) (arcs : List Arc) (basis : CycleBasis) (class : Class) (problem : Problem) (number : ℕ) (r : CaseResult) : Type 0 where
+record Stops (s : CaseSetting) (r : CaseResult) : Type 0 where
   pub w : Wide
-  pub passes_at : system_fold lts arcs basis class problem number (Err w)
-  pub is : r ≡ passes (step_at Stage.row problem number [] w)
+  pub passes_at : system_fold s (Err w)
+  pub is : r ≡ passes (step_at Stage.row s.problem s.number [] w)
 
-record GoesOn (lts : System) (arcs : List Arc) (basis : CycleBasis) (class : Class) (problem : Problem) (number : ℕ) (r : CaseResult) : Type 0 where
+record GoesOn (s : CaseSetting) (r : CaseResult) : Type 0 where
   pub case : CaseSystem
-  pub made : system_fold lts arcs basis class problem number (Ok case)
+  pub made : system_fold s (Ok case)
   pub outcome : BranchOutcome
   pub branching : Branching (rows_of case) case.forms outcome
-  pub ends : EndsIn lts arcs basis class problem number case outcome r
+  pub ends : EndsIn s case outcome r
 
-module _ (lts : System) (arcs : List Arc) (basis : CycleBasis) (class : Class) (problem : Problem) (number : ℕ) where
-  unfolded : (r : CaseResult) → CaseComes lts arcs basis class problem number r → Stops lts arcs basis class problem number r ⊎ GoesOn lts arcs basis class problem number r
+module _ (it : CaseSetting) where
+  unfolded : (r : CaseResult) → CaseComes it r → Stops it r ⊎ GoesOn it r
   unfolded r (row_passes w is) = inl (record { w = w; passes_at = is; is = refl })
   unfolded r (pivot_passes case sides at made b) = inr (record { case = case; made = made; outcome = stopped sides at; branching = b; ends = refl })
   unfolded r (place_passes case members sides start value w made b point is) = inr (record { case = case; made = made; outcome = found members sides; branching = b; ends = (start, value, Err w, point, is, refl) })
@@ -100,28 +96,28 @@ module _ (lts : System) (arcs : List Arc) (basis : CycleBasis) (class : Class) (
   unfolded r (leaf_passes case multipliers at made b is) = inr (record { case = case; made = made; outcome = tree multipliers; branching = b; ends = (Err at, is, refl) })
   unfolded r (is_refuted case multipliers t made b is) = inr (record { case = case; made = made; outcome = tree multipliers; branching = b; ends = (Ok t, is, refl) })
 
-  same_end : (case : CaseSystem) (o : BranchOutcome) (r r' : CaseResult) → EndsIn lts arcs basis class problem number case o r → EndsIn lts arcs basis class problem number case o r' → r ≡ r'
+  same_end : (case : CaseSystem) (o : BranchOutcome) (r r' : CaseResult) → EndsIn it case o r → EndsIn it case o r' → r ≡ r'
   same_end case (stopped sides at) r r' e e' = e ∙ sym e'
   same_end case (found members sides) r r' (start, value, made, point, is, e) (start', value', made', point', is', e') =
       let node = node_system (rows_of case) case.forms sides in
-      let starts : start' ≡ start = one_start lts basis class node members start' start value' value point' point in
-      let from_start : place_fold lts arcs basis class problem start value' made' = subst (λ (s : Ratio). place_fold lts arcs basis class problem s value' made') starts is' in
-      let from_value = one_place lts arcs basis class problem start value' value (one_value lts basis class node members start' start value' value point' point) made' from_start in
-      let one : made ≡ made' = (place_one lts arcs basis class problem start value).one made made' is from_value in
-      e ∙ ap (placing lts class problem number sides) one ∙ sym e'
+      let starts : start' ≡ start = one_start it.lts it.basis it.class node members start' start value' value point' point in
+      let from_start : place_fold it.setting it.problem start value' made' = subst (λ (s : Ratio). place_fold it.setting it.problem s value' made') starts is' in
+      let from_value = one_place it.setting it.problem start value' value (one_value it.lts it.basis it.class node members start' start value' value point' point) made' from_start in
+      let one : made ≡ made' = (place_one it.setting it.problem start value).one made made' is from_value in
+      e ∙ ap (placing it sides) one ∙ sym e'
   same_end case (tree multipliers) r r' (made, is, e) (made', is', e') =
-      e ∙ ap (leaving lts class problem number) (same_tree lts arcs basis class problem number case [] multipliers made made' is is') ∙ sym e'
+      e ∙ ap (leaving it) (same_tree it case [] multipliers made made' is is') ∙ sym e'
 
-  pub same_result : (r r' : CaseResult) → CaseComes lts arcs basis class problem number r → CaseComes lts arcs basis class problem number r' → r ≡ r'
+  pub same_result : (r r' : CaseResult) → CaseComes it r → CaseComes it r' → r ≡ r'
   same_result r r' c c' = go (unfolded r c) (unfolded r' c')
     where
-      go : Stops lts arcs basis class problem number r ⊎ GoesOn lts arcs basis class problem number r → Stops lts arcs basis class problem number r' ⊎ GoesOn lts arcs basis class problem number r' → r ≡ r'
-      go (inl a) (inl b) = a.is ∙ ap (λ w. passes (step_at Stage.row problem number [] w)) (err_is a.w b.w ((system_one lts arcs basis class problem number).one (Err a.w) (Err b.w) a.passes_at b.passes_at)) ∙ sym b.is
-      go (inl a) (inr b) = absurd (ok_not_err b.case a.w ((system_one lts arcs basis class problem number).one (Ok b.case) (Err a.w) b.made a.passes_at))
-      go (inr a) (inl b) = absurd (ok_not_err a.case b.w ((system_one lts arcs basis class problem number).one (Ok a.case) (Err b.w) a.made b.passes_at))
+      go : Stops it r ⊎ GoesOn it r → Stops it r' ⊎ GoesOn it r' → r ≡ r'
+      go (inl a) (inl b) = a.is ∙ ap (λ w. passes (step_at Stage.row it.problem it.number [] w)) (err_is a.w b.w ((system_one it).one (Err a.w) (Err b.w) a.passes_at b.passes_at)) ∙ sym b.is
+      go (inl a) (inr b) = absurd (ok_not_err b.case a.w ((system_one it).one (Ok b.case) (Err a.w) b.made a.passes_at))
+      go (inr a) (inl b) = absurd (ok_not_err a.case b.w ((system_one it).one (Ok a.case) (Err b.w) a.made b.passes_at))
       go (inr a) (inr b) =
-          let same : a.case ≡ b.case = ok_is a.case b.case ((system_one lts arcs basis class problem number).one (Ok a.case) (Ok b.case) a.made b.made) in
+          let same : a.case ≡ b.case = ok_is a.case b.case ((system_one it).one (Ok a.case) (Ok b.case) a.made b.made) in
           let branching' : Branching (rows_of b.case) b.case.forms a.outcome = subst (λ (x : CaseSystem). Branching (rows_of x) x.forms a.outcome) same a.branching in
           let outcomes : a.outcome ≡ b.outcome = same_branch (rows_of b.case) b.case.forms [] a.outcome b.outcome branching' b.branching in
-          let ends' = subst (λ o. EndsIn lts arcs basis class problem number b.case o r) outcomes (subst (λ (x : CaseSystem). EndsIn lts arcs basis class problem number x a.outcome r) same a.ends) in
+          let ends' = subst (λ o. EndsIn it b.case o r) outcomes (subst (λ (x : CaseSystem). EndsIn it x a.outcome r) same a.ends) in
           same_end b.case b.outcome r r' ends' b.ends

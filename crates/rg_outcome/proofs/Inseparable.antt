@@ -2,7 +2,6 @@
 use Rattle.std.proofs.Common.{◌≡◌, ◌≢◌, ◌⊎◌, inl, inr, ℕ, ◌*◌, ◌<◌, Bool, true, false, if◌then◌else◌, List, [], ◌∷◌, length, Ok, refl, sym, subst, ◌∙◌, arith}
 use Rattle.std.proofs.lemmas.Bool.{cases_eq}
 use Rattle.std.specs.Prelude.{slice_get, Some}
-use Rattle.rg_theory.specs.declared.Arc.{Arc}
 use Rattle.rg_theory.specs.System.{System, states, labels, Leads, IsInRange, IsAllReachable}
 use Rattle.rg_theory.specs.Net.{Place}
 use Rattle.rg_theory.specs.declared.Class.{Class}
@@ -16,9 +15,9 @@ use Rattle.rg_theory.proofs.Lists.{slice_get_some}
 use Rattle.rg_refuting.specs.Row.{cases_of}
 use Rattle.rg_refuting.specs.Refutes.{Tree, IsSeparationProblem}
 use Rattle.rg_refuting.proofs.Making.{rows_exact}
-use Rattle.rg_linear.specs.Cycle.{CycleBasis}
 use Rattle.rg_linear.specs.Branching.{SplitTree, Branching, BranchOutcome.tree}
 use Rattle.rg_linear.proofs.Splits.{tree_is_sound}
+use Rattle.rg_order_of_work.specs.Setting.{Setting, CaseSetting, case_at}
 use Rattle.rg_order_of_work.specs.Chords.{IsBasis}
 use Rattle.rg_order_of_work.specs.Shown.{Shown, IsLive}
 use Rattle.rg_order_of_work.specs.Rewriting.{CaseSystem, rows_of, system_fold}
@@ -49,9 +48,9 @@ refuted_cases comes n r trees (first_place i p lt has none) e = absurd (placed_o
 refuted_cases comes n r trees (all_refuted trees' long each) e = subst (AllRefuted comes n) (same_refuted trees' trees e) (record { long = long; each = each })
 refuted_cases comes n r trees (first_term i w lt has none makes_none) e = absurd (passed_or_refuted w trees e)
 
-record HasTree (lts : System) (arcs : List Arc) (basis : CycleBasis) (class : Class) (problem : Problem) (number : ℕ) : Type 0 where
+record HasTree (s : CaseSetting) : Type 0 where
   pub case : CaseSystem
-  pub made : system_fold lts arcs basis class problem number (Ok case)
+  pub made : system_fold s (Ok case)
   pub multipliers : SplitTree
   pub branching : Branching (rows_of case) case.forms (tree multipliers)
 
@@ -61,13 +60,13 @@ makes_or_refutes p t e = cc
 passes_or_refutes : (w : Shown) (t : Tree) → passes w ≡ refutes t → ⊥
 passes_or_refutes w t e = cc
 
-has_tree : (lts : System) (arcs : List Arc) (basis : CycleBasis) (class : Class) (problem : Problem) (number : ℕ) (r : CaseResult) (t : Tree) → CaseComes lts arcs basis class problem number r → r ≡ refutes t → HasTree lts arcs basis class problem number
-has_tree lts arcs basis class problem number r t (row_passes w is) e = absurd (passes_or_refutes _ t e)
-has_tree lts arcs basis class problem number r t (pivot_passes case sides at made b) e = absurd (passes_or_refutes _ t e)
-has_tree lts arcs basis class problem number r t (place_passes case members sides start value w made b point is) e = absurd (passes_or_refutes _ t e)
-has_tree lts arcs basis class problem number r t (place_is_made case members sides start value p made b point is) e = absurd (makes_or_refutes p t e)
-has_tree lts arcs basis class problem number r t (leaf_passes case multipliers at made b is) e = absurd (passes_or_refutes _ t e)
-has_tree lts arcs basis class problem number r t (is_refuted case multipliers t' made b is) e = record { case = case; made = made; multipliers = multipliers; branching = b }
+has_tree : (s : CaseSetting) (r : CaseResult) (t : Tree) → CaseComes s r → r ≡ refutes t → HasTree s
+has_tree s r t (row_passes w is) e = absurd (passes_or_refutes _ t e)
+has_tree s r t (pivot_passes case sides at made b) e = absurd (passes_or_refutes _ t e)
+has_tree s r t (place_passes case members sides start value w made b point is) e = absurd (passes_or_refutes _ t e)
+has_tree s r t (place_is_made case members sides start value p made b point is) e = absurd (makes_or_refutes p t e)
+has_tree s r t (leaf_passes case multipliers at made b is) e = absurd (passes_or_refutes _ t e)
+has_tree s r t (is_refuted case multipliers t' made b is) e = record { case = case; made = made; multipliers = multipliers; branching = b }
 
 -- ---- a problem has a case
 
@@ -100,22 +99,22 @@ asked lts (States s s') is = let a = is.0 in let b = is.1 in (omega arith, b, λ
 
 -- ---- no region of the class
 
-module _ (lts : System) (arcs : List Arc) (basis : CycleBasis) (class : Class) (fine : IsInRange lts) (numbers : HasNumbersInRange class) (reachable : IsAllReachable lts) (is_tree : IsTree lts arcs) (is_basis : IsBasis lts arcs basis) where
+module _ (it : Setting) (fine : IsInRange it.lts) (numbers : HasNumbersInRange it.class) (reachable : IsAllReachable it.lts) (is_tree : IsTree it.lts it.tree) (is_basis : IsBasis it.lts it.tree it.basis) where
   -- the system of a case with a tree has no point with whole forms
-  no_point : (problem : Problem) (number : ℕ) (h : HasTree lts arcs basis class problem number) → IsCaseOver lts arcs basis class problem number h.case → ¬ HasWholePoint h.case
+  no_point : (problem : Problem) (number : ℕ) (h : HasTree (case_at it problem number)) → IsCaseOver (case_at it problem number) h.case → ¬ HasWholePoint h.case
   no_point problem number h over (scale, v, point, meets, whole) =
-      tree_is_sound (rows_of h.case) h.case.forms h.multipliers (forms_bounded lts arcs basis class problem number h.case over).positive h.branching scale v point meets whole
+      tree_is_sound (rows_of h.case) h.case.forms h.multipliers (forms_bounded (case_at it problem number) h.case over).positive h.branching scale v point meets whole
 
-  all_inseparable : (problem : Problem) (trees : List Tree) → IsProblem lts problem → IsLive lts problem → CasesCome (CaseComes lts arcs basis class problem) (cases_of lts class problem) (refuted trees) → IsInseparable lts class problem
+  all_inseparable : (problem : Problem) (trees : List Tree) → IsProblem it.lts problem → IsLive it.lts problem → CasesCome (λ i. CaseComes (case_at it problem i)) (cases_of it.lts it.class problem) (refuted trees) → IsInseparable it.lts it.class problem
   all_inseparable problem trees is live c p m region sep =
-      let (number, lt, tokens, effect, allowed, keeps) = (rows_exact lts class problem fine (asked lts problem is) (some_case lts class problem fine reachable is)).0 (p, m, region, sep) in
-      let all = refuted_cases (CaseComes lts arcs basis class problem) (cases_of lts class problem) (refuted trees) trees c refl in
+      let (number, lt, tokens, effect, allowed, keeps) = (rows_exact it.lts it.class problem fine (asked it.lts problem is) (some_case it.lts it.class problem fine reachable is)).0 (p, m, region, sep) in
+      let all = refuted_cases (λ i. CaseComes (case_at it problem i)) (cases_of it.lts it.class problem) (refuted trees) trees c refl in
       let (t, at) = slice_get_some trees number (let l = all.long in omega arith) in
-      let h = has_tree lts arcs basis class problem number (refutes t) t (all.each number t at) refl in
-      let over : IsCaseOver lts arcs basis class problem number h.case = record { in_range = fine; reachable = reachable; is_tree = is_tree; is_basis = is_basis; asked = asked lts problem is; numbers = numbers; is_case = h.made } in
-      no_point problem number h over ((whole_points_exact lts arcs basis class problem number h.case over live).1 (tokens, effect, allowed, keeps))
+      let h = has_tree (case_at it problem number) (refutes t) t (all.each number t at) refl in
+      let over : IsCaseOver (case_at it problem number) h.case = record { in_range = fine; reachable = reachable; is_tree = is_tree; is_basis = is_basis; asked = asked it.lts problem is; numbers = numbers; is_case = h.made } in
+      no_point problem number h over ((whole_points_exact (case_at it problem number) h.case over live).1 (tokens, effect, allowed, keeps))
 
-  pub inseparable : (problem : Problem) (trees : List Tree) → IsProblem lts problem → ProblemComes lts arcs basis class problem (refuted trees) → IsInseparable lts class problem
+  pub inseparable : (problem : Problem) (trees : List Tree) → IsProblem it.lts problem → ProblemComes it problem (refuted trees) → IsInseparable it.lts it.class problem
   inseparable (Event s t) trees is (inl (dead, e)) = absurd (placed_or_refuted _ trees (sym e))
   inseparable (Event s t) trees is (inr (live, c)) = all_inseparable (Event s t) trees is live c
   inseparable (States s s') trees is c = all_inseparable (States s s') trees is tt c

@@ -3,8 +3,6 @@ use Rattle.std.proofs.Common.{◌≢◌, inl, inr, ℕ, zero, suc, ◌+◌, ◌-
 use Rattle.std.specs.Prelude.{ℤ, pos, unsigned_abs}
 use Rattle.rg_theory.specs.declared.Arc.{Arc}
 use Rattle.rg_theory.specs.System.{System, labels}
-use Rattle.rg_theory.specs.declared.Class.{Class}
-use Rattle.rg_theory.specs.declared.Problem.{Problem}
 use Rattle.rg_integers.specs.Sign.{size}
 use Rattle.rg_integers.specs.Sum.{number_at}
 use Rattle.rg_integers.proofs.Divisors.{gcd_below}
@@ -18,6 +16,7 @@ use Rattle.rg_refuting.specs.Refutes.{NamedRow, Tree}
 use Rattle.rg_linear.specs.Branching.{Form, Weight, form_at, SplitSide, SplitTree}
 use Rattle.rg_linear.specs.Cycle.{CycleBasis}
 use Rattle.rg_linear.proofs.Firsts.{kept_is}
+use Rattle.rg_order_of_work.specs.Setting.{CaseSetting}
 use Rattle.rg_order_of_work.specs.Fold.{gives, and_then, each, joined, whole, quotient, add, mul, whole_sum, whole_product}
 use Rattle.rg_order_of_work.specs.Rewriting.{dependent_labels, count_of, scaled_fold, Scaled, KeptRow, IsIdle, row_fold, names_of, CaseSystem, system_fold}
 use Rattle.rg_order_of_work.specs.Placing.{negated}
@@ -41,10 +40,10 @@ use Rattle.rg_refuting.specs.declared.Form.TheVariants as split_form
 abbrev pub HaveFactors : CaseSystem → Type 0
 HaveFactors case = Each (λ (k : KeptRow). IsOver k.factor) case.kept
 
-pub case_factors : (lts : System) (arcs : List Arc) (basis : CycleBasis) (class : Class) (problem : Problem) (n : ℕ) (case : CaseSystem) → system_fold lts arcs basis class problem n (Ok case) → HaveFactors case
-case_factors lts arcs basis class problem n case (all, rows, (forms, made, (columns, keeps, same))) k has =
-    let (name, _, row) = made_from (λ name. row_fold lts arcs basis class name (row_expression lts class problem n [] name)) (names_of lts class problem n) all k rows (kept_is (λ (k : KeptRow). k.row) IsIdle [] all case.kept k keeps has) in
-    (factor_is_positive lts arcs basis class name (row_expression lts class problem n [] name) k row).1
+pub case_factors : (s : CaseSetting) (case : CaseSystem) → system_fold s (Ok case) → HaveFactors case
+case_factors s case (all, rows, (forms, made, (columns, keeps, same))) k has =
+    let (name, _, row) = made_from (λ name. row_fold s.setting name (row_expression s.lts s.class s.problem s.number [] name)) (names_of s.lts s.class s.problem s.number) all k rows (kept_is (λ (k : KeptRow). k.row) IsIdle [] all case.kept k keeps has) in
+    (factor_is_positive s.setting name (row_expression s.lts s.class s.problem s.number [] name) k row).1
 
 kept_factor : (kept : List KeptRow) (d : KeptRow) → Each (λ (k : KeptRow). IsOver k.factor) kept → IsOver d.factor → (i : ℕ) → IsOver (slice_index_or kept i d).factor
 kept_factor [] d all over i = over
@@ -181,22 +180,23 @@ module _ (lts : System) (arcs : List Arc) (basis : CycleBasis) (related : HaveRe
 
 -- ---- the leaves of a tree
 
-module _ (lts : System) (arcs : List Arc) (basis : CycleBasis) (class : Class) (problem : Problem) (n : ℕ) (case : CaseSystem) (related : HaveRelations lts basis) (factors : HaveFactors case) where
-  some_spread : (sides : List SplitSide) (above : List Side) (weights : List Weight) → HasSome (spread_fold lts arcs basis class problem n case sides above weights)
+module _ (s : CaseSetting) (case : CaseSystem) (related : HaveRelations s.lts s.basis) (factors : HaveFactors case) where
+  some_spread : (sides : List SplitSide) (above : List Side) (weights : List Weight) → HasSome (spread_fold s case sides above weights)
   some_spread sides above weights =
-      some_then (each (share_fold case sides above) weights) (λ shares. leaf_fold lts arcs basis (row_expression lts class problem n above) shares) (some_share case sides above weights factors)
-      (λ shares h. some_leaf lts arcs basis related (row_expression lts class problem n above) shares (shares_over case sides above weights shares h))
+      some_then (each (share_fold case sides above) weights) (λ shares. leaf_fold s.lts s.tree s.basis (row_expression s.lts s.class s.problem s.number above) shares) (some_share case sides above weights factors)
+      (λ shares h. some_leaf s.lts s.tree s.basis related (row_expression s.lts s.class s.problem s.number above) shares (shares_over case sides above weights shares h))
 
-  pub some_spread_tree : (above : List SplitSide) (t : SplitTree) → (r : Result Tree LeafWide) × spread_tree lts arcs basis class problem n case above t r
-  some_spread_tree above (leaf weights) = by (some_spread above (named_sides lts class problem above) weights)
+  pub some_spread_tree : (above : List SplitSide) (t : SplitTree) → (r : Result Tree LeafWide) × spread_tree s case above t r
+  some_spread_tree above (leaf weights) = by (some_spread above (named_sides s.lts s.class s.problem above) weights)
     where
-      by : HasSome (spread_fold lts arcs basis class problem n case above (named_sides lts class problem above) weights) → (r : Result Tree LeafWide) × spread_tree lts arcs basis class problem n case above (leaf weights) r
+      by : HasSome (spread_fold s case above (named_sides s.lts s.class s.problem above) weights) → (r : Result Tree LeafWide) × spread_tree s case above (leaf weights) r
       by (Ok rows, h) = (Ok (leaf rows), (rows, h, refl))
       by (Err w, h) = (Err (record { above = above; wide = w }), (refl, h))
   some_spread_tree above (split f u low high) = by (some_spread_tree (above ++ low_side f u ∷ []) low) (some_spread_tree (above ++ high_side f u ∷ []) high)
     where
-      by : (r : Result Tree LeafWide) × spread_tree lts arcs basis class problem n case (above ++ low_side f u ∷ []) low r → (r : Result Tree LeafWide) × spread_tree lts arcs basis class problem n case (above ++ high_side f u ∷ []) high r
-          → (r : Result Tree LeafWide) × spread_tree lts arcs basis class problem n case above (split f u low high) r
+      by : (r : Result Tree LeafWide) × spread_tree s case (above ++ low_side f u ∷ []) low r
+          → (r : Result Tree LeafWide) × spread_tree s case (above ++ high_side f u ∷ []) high r
+          → (r : Result Tree LeafWide) × spread_tree s case above (split f u low high) r
       by (Err at, h) _ = (Err at, inl h)
       by (Ok l, h) (Err at, g) = (Err at, inr (l, h, g))
-      by (Ok l, h) (Ok r, g) = (Ok (split (named_side lts class problem (low_side f u)).form u l r), (l, r, h, g, refl))
+      by (Ok l, h) (Ok r, g) = (Ok (split (named_side s.lts s.class s.problem (low_side f u)).form u l r), (l, r, h, g, refl))

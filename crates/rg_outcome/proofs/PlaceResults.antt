@@ -8,6 +8,7 @@ use Rattle.rg_theory.specs.declared.Class.{Class}
 use Rattle.rg_theory.specs.declared.Problem.{Problem}
 use Rattle.rg_integers.specs.declared.term.Wide.{Wide}
 use Rattle.rg_linear.specs.Cycle.{CycleBasis}
+use Rattle.rg_order_of_work.specs.Setting.{Setting}
 use Rattle.rg_order_of_work.specs.Fold.{gives, and_then, either, each, joined, Ratio, whole, quotient, add, mul, whole_sum, multiple_of_all}
 use Rattle.rg_order_of_work.specs.Rewriting.{is_in, has_label, free_columns, all_numbers}
 use Rattle.rg_order_of_work.specs.Placing.{effect_fold, negated, made_whole, ratio_at, along_tree, lesser, least_from, least_of, is_shifted, is_lifted, missing, shift_fold, top_at, taken, place_of, place_fold}
@@ -165,35 +166,35 @@ along_over effect number (a ∷ arcs) effects numbers =
 
 -- ---- the place
 
-module _ (lts : System) (arcs : List Arc) (basis : CycleBasis) (class : Class) (problem : Problem) where
+module _ (it : Setting) (problem : Problem) where
   abbrev from_shifted : List Ratio → List Ratio → Result Place Wide → Type 0
-  from_shifted found numbers = and_then (each (λ u. whole_sum (taken lts class problem numbers found u) (top_at found u)) (all_numbers (labels lts))) (λ post. gives (place_of lts numbers (map (taken lts class problem numbers found) (all_numbers (labels lts))) post))
+  from_shifted found numbers = and_then (each (λ u. whole_sum (taken it.lts it.class problem numbers found u) (top_at found u)) (all_numbers (labels it.lts))) (λ post. gives (place_of it.lts numbers (map (taken it.lts it.class problem numbers found) (all_numbers (labels it.lts))) post))
 
   abbrev from_number : List Ratio → (ℕ → Ratio) → Result Place Wide → Type 0
-  from_number found number = and_then (shift_fold lts class problem (map number (all_numbers (states lts)))) (from_shifted found)
+  from_number found number = and_then (shift_fold it.lts it.class problem (map number (all_numbers (states it.lts)))) (from_shifted found)
 
   abbrev from_found : List Ratio → Result Place Wide → Type 0
-  from_found found = and_then (along_tree (ratio_at found) (λ s. ratio_at found (labels lts)) arcs) (from_number found)
+  from_found found = and_then (along_tree (ratio_at found) (λ s. ratio_at found (labels it.lts)) it.tree) (from_number found)
 
   some_shifted : (found numbers : List Ratio) → HasSome (from_shifted found numbers)
-  some_shifted found numbers = some_then (each (λ u. whole_sum (taken lts class problem numbers found u) (top_at found u)) (all_numbers (labels lts)))
-      (λ post. gives (place_of lts numbers (map (taken lts class problem numbers found) (all_numbers (labels lts))) post))
-      (some_each (λ u. whole_sum (taken lts class problem numbers found u) (top_at found u)) (all_numbers (labels lts)) (λ u has. some_term _))
-      (λ post _. some_given (place_of lts numbers (map (taken lts class problem numbers found) (all_numbers (labels lts))) post))
+  some_shifted found numbers = some_then (each (λ u. whole_sum (taken it.lts it.class problem numbers found u) (top_at found u)) (all_numbers (labels it.lts)))
+      (λ post. gives (place_of it.lts numbers (map (taken it.lts it.class problem numbers found) (all_numbers (labels it.lts))) post))
+      (some_each (λ u. whole_sum (taken it.lts it.class problem numbers found u) (top_at found u)) (all_numbers (labels it.lts)) (λ u has. some_term _))
+      (λ post _. some_given (place_of it.lts numbers (map (taken it.lts it.class problem numbers found) (all_numbers (labels it.lts))) post))
 
   some_numbered : (found : List Ratio) (number : ℕ → Ratio) → ((s : ℕ) → IsOver (number s)) → HasSome (from_number found number)
-  some_numbered found number over = some_then (shift_fold lts class problem (map number (all_numbers (states lts)))) (from_shifted found)
-      (some_shift lts class problem (map number (all_numbers (states lts))) (each_mapped IsOver number (all_numbers (states lts)) (λ s has. over s)))
+  some_numbered found number over = some_then (shift_fold it.lts it.class problem (map number (all_numbers (states it.lts)))) (from_shifted found)
+      (some_shift it.lts it.class problem (map number (all_numbers (states it.lts))) (each_mapped IsOver number (all_numbers (states it.lts)) (λ s has. over s)))
       (λ numbers _. some_shifted found numbers)
 
   some_found : (found : List Ratio) → Each IsOver found → HasSome (from_found found)
-  some_found found over = some_then (along_tree (ratio_at found) (λ s. ratio_at found (labels lts)) arcs) (from_number found) (some_along (ratio_at found) (λ s. ratio_at found (labels lts)) arcs (at_over found over) (λ s. at_over found over (labels lts)))
-      (λ number h. some_numbered found number (along_over (ratio_at found) (λ s. ratio_at found (labels lts)) arcs (at_over found over) (λ s. at_over found over (labels lts)) number h))
+  some_found found over = some_then (along_tree (ratio_at found) (λ s. ratio_at found (labels it.lts)) it.tree) (from_number found) (some_along (ratio_at found) (λ s. ratio_at found (labels it.lts)) it.tree (at_over found over) (λ s. at_over found over (labels it.lts)))
+      (λ number h. some_numbered found number (along_over (ratio_at found) (λ s. ratio_at found (labels it.lts)) it.tree (at_over found over) (λ s. at_over found over (labels it.lts)) number h))
 
-  pub some_place : (start : Ratio) (value : ℕ → Ratio) → HaveRelations lts basis → IsOver start → Each (λ f. IsOver (value f)) (free_columns lts basis) → HasSome (place_fold lts arcs basis class problem start value)
+  pub some_place : (start : Ratio) (value : ℕ → Ratio) → HaveRelations it.lts it.basis → IsOver start → Each (λ f. IsOver (value f)) (free_columns it.lts it.basis) → HasSome (place_fold it problem start value)
   some_place start value related over values =
-      some_then (each (effect_fold lts basis value) (all_numbers (labels lts))) (λ effects. and_then (made_whole class (effects ++ start ∷ [])) from_found) (some_each (effect_fold lts basis value) (all_numbers (labels lts)) (some_effect lts basis related value values))
-      (λ effects h. some_then (made_whole class (effects ++ start ∷ [])) from_found (some_whole class (effects ++ start ∷ []) (all effects h)) (λ found g. some_found found (whole_made_over class (effects ++ start ∷ []) (all effects h) found g)))
+      some_then (each (effect_fold it.lts it.basis value) (all_numbers (labels it.lts))) (λ effects. and_then (made_whole it.class (effects ++ start ∷ [])) from_found) (some_each (effect_fold it.lts it.basis value) (all_numbers (labels it.lts)) (some_effect it.lts it.basis related value values))
+      (λ effects h. some_then (made_whole it.class (effects ++ start ∷ [])) from_found (some_whole it.class (effects ++ start ∷ []) (all effects h)) (λ found g. some_found found (whole_made_over it.class (effects ++ start ∷ []) (all effects h) found g)))
     where
-      all : (effects : List Ratio) → each (effect_fold lts basis value) (all_numbers (labels lts)) (Ok effects) → Each IsOver (effects ++ start ∷ [])
-      all effects h = each_append IsOver effects (start ∷ []) (makes_each IsOver (effect_fold lts basis value) (all_numbers (labels lts)) (effect_over lts basis related value values) effects h) (each_cons IsOver start [] over (each_none IsOver))
+      all : (effects : List Ratio) → each (effect_fold it.lts it.basis value) (all_numbers (labels it.lts)) (Ok effects) → Each IsOver (effects ++ start ∷ [])
+      all effects h = each_append IsOver effects (start ∷ []) (makes_each IsOver (effect_fold it.lts it.basis value) (all_numbers (labels it.lts)) (effect_over it.lts it.basis related value values) effects h) (each_cons IsOver start [] over (each_none IsOver))

@@ -3,7 +3,6 @@ use Rattle.std.proofs.Common.{◌≡◌, inl, inr, ℕ, ◌&&◌, not, Bool, tru
 use Rattle.std.specs.Prelude.{pos}
 use Rattle.std.proofs.lemmas.Bool.{cases_Bool}
 use Rattle.std.proofs.lemmas.List.{get_or_default}
-use Rattle.rg_theory.specs.declared.Arc.{Arc}
 use Rattle.rg_theory.specs.System.{System, labels}
 use Rattle.rg_theory.specs.declared.Class.{Class}
 use Rattle.rg_theory.specs.declared.Problem.{Problem}
@@ -12,6 +11,7 @@ use Rattle.rg_linear.specs.System.{LinearSystem}
 use Rattle.rg_linear.specs.Dictionary.{Relation}
 use Rattle.rg_linear.specs.Cycle.{CycleBasis}
 use Rattle.rg_linear.proofs.Unique.{same_relation}
+use Rattle.rg_order_of_work.specs.Setting.{Setting}
 use Rattle.rg_order_of_work.specs.Fold.{gives, and_then, either, each, further, joined, Ratio, whole, IsRatio, quotient, add, mul}
 use Rattle.rg_order_of_work.specs.Rewriting.{is_in, has_label, free_columns, all_numbers, has_start}
 use Rattle.rg_order_of_work.specs.Placing.{effect_fold, place_fold}
@@ -76,22 +76,22 @@ effect_too false free v v' rest rest' same too r h = h
 effect_too true true v v' rest rest' same too r h = subst (λ x. gives x r) (same refl refl) h
 effect_too true false v v' rest rest' same too r h = too r h
 
-module _ (lts : System) (arcs : List Arc) (basis : CycleBasis) (class : Class) (problem : Problem) (start : Ratio) (value value' : ℕ → Ratio) (same : (f : ℕ) → Contains (free_columns lts basis) f → value f ≡ value' f) where
-  terms : (t : ℕ) → HasResultsOf (joined add (λ f. and_then (quotient ((basis.relation t).coefficient f) (basis.relation t).d) (λ k. mul (value f) k)) (whole (pos 0))
-      (free_columns lts basis)) (joined add (λ f. and_then (quotient ((basis.relation t).coefficient f) (basis.relation t).d) (λ k. mul (value' f) k)) (whole (pos 0))
-      (free_columns lts basis))
-  terms t = joined_too add (λ f. and_then (quotient ((basis.relation t).coefficient f) (basis.relation t).d) (λ k. mul (value f) k)) (λ f. and_then (quotient ((basis.relation t).coefficient f) (basis.relation t).d) (λ k. mul (value' f) k)) (whole (pos 0)) (free_columns lts basis)
-      (λ f has r h. subst (λ v. and_then (quotient ((basis.relation t).coefficient f) (basis.relation t).d) (λ k. mul v k) r) (same f has) h)
+module _ (s : Setting) (problem : Problem) (start : Ratio) (value value' : ℕ → Ratio) (same : (f : ℕ) → Contains (free_columns s.lts s.basis) f → value f ≡ value' f) where
+  terms : (t : ℕ)
+      → HasResultsOf (joined add (λ f. and_then (quotient ((s.basis.relation t).coefficient f) (s.basis.relation t).d) (λ k. mul (value f) k)) (whole (pos 0)) (free_columns s.lts s.basis))
+      (joined add (λ f. and_then (quotient ((s.basis.relation t).coefficient f) (s.basis.relation t).d) (λ k. mul (value' f) k)) (whole (pos 0)) (free_columns s.lts s.basis))
+  terms t = joined_too add (λ f. and_then (quotient ((s.basis.relation t).coefficient f) (s.basis.relation t).d) (λ k. mul (value f) k)) (λ f. and_then (quotient ((s.basis.relation t).coefficient f) (s.basis.relation t).d) (λ k. mul (value' f) k)) (whole (pos 0)) (free_columns s.lts s.basis)
+      (λ f has r h. subst (λ v. and_then (quotient ((s.basis.relation t).coefficient f) (s.basis.relation t).d) (λ k. mul v k) r) (same f has) h)
 
-  effect : (t : ℕ) → Contains (all_numbers (labels lts)) t → HasResultsOf (effect_fold lts basis value t) (effect_fold lts basis value' t)
+  effect : (t : ℕ) → Contains (all_numbers (labels s.lts)) t → HasResultsOf (effect_fold s.lts s.basis value t) (effect_fold s.lts s.basis value' t)
   effect t has =
-      effect_too (has_label t lts.arcs) (is_in basis.members t) (value t) (value' t) _ _
-      (λ free used. same t (where_has (λ u. is_in basis.members u && has_label u lts.arcs) 0 (labels lts) t (ap₂ (λ x y. x && y) free used) (omega arith) (where_is (λ u. true) 0 (labels lts) t has).2)) (terms t)
+      effect_too (has_label t s.lts.arcs) (is_in s.basis.members t) (value t) (value' t) _ _
+      (λ free used. same t (where_has (λ u. is_in s.basis.members u && has_label u s.lts.arcs) 0 (labels s.lts) t (ap₂ (λ x y. x && y) free used) (omega arith) (where_is (λ u. true) 0 (labels s.lts) t has).2)) (terms t)
 
-  effects : HasResultsOf (each (effect_fold lts basis value) (all_numbers (labels lts))) (each (effect_fold lts basis value') (all_numbers (labels lts)))
-  effects = each_too (effect_fold lts basis value) (effect_fold lts basis value') (all_numbers (labels lts)) effect
+  effects : HasResultsOf (each (effect_fold s.lts s.basis value) (all_numbers (labels s.lts))) (each (effect_fold s.lts s.basis value') (all_numbers (labels s.lts)))
+  effects = each_too (effect_fold s.lts s.basis value) (effect_fold s.lts s.basis value') (all_numbers (labels s.lts)) effect
 
-  pub one_place : HasResultsOf (place_fold lts arcs basis class problem start value) (place_fold lts arcs basis class problem start value')
+  pub one_place : HasResultsOf (place_fold s problem start value) (place_fold s problem start value')
   one_place (Ok p) (found, made, place) = (found, effects (Ok found) made, place)
   one_place (Err w) (inl made) = inl (effects (Err w) made)
   one_place (Err w) (inr (found, made, place)) = inr (found, effects (Ok found) made, place)

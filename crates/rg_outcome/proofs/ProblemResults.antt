@@ -27,6 +27,7 @@ use Rattle.rg_linear.proofs.Having.{columns_have}
 use Rattle.rg_linear.proofs.Widths.{descent_has}
 use Rattle.rg_linear.proofs.Splits.{found_well}
 use Rattle.rg_linear.proofs.Endings.{branching_ends}
+use Rattle.rg_order_of_work.specs.Setting.{Setting, case_at}
 use Rattle.rg_order_of_work.specs.Chords.{IsBasis}
 use Rattle.rg_order_of_work.specs.Fold.{Ratio, whole}
 use Rattle.rg_order_of_work.specs.Rewriting.{is_in, numbers_where, free_columns, has_start, column_count, CaseSystem, rows_of, system_fold}
@@ -155,34 +156,34 @@ found_has system case sides members b =
     let node = node_system (rows_of case) case.forms sides in
     descent_has node (column_set node) [] (length node.rows) 0 (descent.Outcome.point members) (found_well (rows_of case) case.forms [] (found members sides) b).descent (columns_have node)
 
-module _ (lts : System) (arcs : List Arc) (basis : CycleBasis) (class : Class) (fine : IsInRange lts) (numbers : HasNumbersInRange class) (reachable : IsAllReachable lts) (is_tree : IsTree lts arcs) (is_basis : IsBasis lts arcs basis) (problem : Problem) (is : IsProblem lts problem) where
+module _ (s : Setting) (fine : IsInRange s.lts) (numbers : HasNumbersInRange s.class) (reachable : IsAllReachable s.lts) (is_tree : IsTree s.lts s.tree) (is_basis : IsBasis s.lts s.tree s.basis) (problem : Problem) (is : IsProblem s.lts problem) where
   abbrev HasCase : ℕ → Type 0
-  HasCase number = (r : CaseResult) × CaseComes lts arcs basis class problem number r
+  HasCase number = (r : CaseResult) × CaseComes (case_at s problem number) r
 
-  ended : (number : ℕ) (case : CaseSystem) → system_fold lts arcs basis class problem number (Ok case) → (o : BranchOutcome) → Branching (rows_of case) case.forms o → HasCase number
-  ended number case made (stopped sides at) b = (passes (term_at problem number (named_sides lts class problem sides) at), pivot_passes case sides at made b)
-  ended number case made (found members sides) b = by (some_place lts arcs basis class problem h.start h.value (basis_relations lts arcs basis is_basis) h.start_over h.values_over)
+  ended : (number : ℕ) (case : CaseSystem) → system_fold (case_at s problem number) (Ok case) → (o : BranchOutcome) → Branching (rows_of case) case.forms o → HasCase number
+  ended number case made (stopped sides at) b = (passes (term_at problem number (named_sides s.lts s.class problem sides) at), pivot_passes case sides at made b)
+  ended number case made (found members sides) b = by (some_place s problem h.start h.value (basis_relations s.lts s.tree s.basis is_basis) h.start_over h.values_over)
     where
-      h : HasPointOf lts basis class (node_system (rows_of case) case.forms sides) members
-      h = some_point lts basis class (node_system (rows_of case) case.forms sides) members (found_has (rows_of case) case sides members b) (columns_of_case lts arcs basis class problem number case made)
+      h : HasPointOf s.lts s.basis s.class (node_system (rows_of case) case.forms sides) members
+      h = some_point s.lts s.basis s.class (node_system (rows_of case) case.forms sides) members (found_has (rows_of case) case sides members b) (columns_of_case (case_at s problem number) case made)
 
-      by : HasSome (place_fold lts arcs basis class problem h.start h.value) → HasCase number
+      by : HasSome (place_fold s problem h.start h.value) → HasCase number
       by (Ok p, place) = (makes p, place_is_made case members sides h.start h.value p made b h.point place)
-      by (Err w, place) = (passes (step_at Stage.place problem number (named_sides lts class problem sides) w), place_passes case members sides h.start h.value w made b h.point place)
-  ended number case made (tree t) b = by (some_spread_tree lts arcs basis class problem number case (basis_relations lts arcs basis is_basis) (case_factors lts arcs basis class problem number case made) [] t)
+      by (Err w, place) = (passes (step_at Stage.place problem number (named_sides s.lts s.class problem sides) w), place_passes case members sides h.start h.value w made b h.point place)
+  ended number case made (tree t) b = by (some_spread_tree (case_at s problem number) case (basis_relations s.lts s.tree s.basis is_basis) (case_factors (case_at s problem number) case made) [] t)
     where
-      by : (r : Result Tree LeafWide) × spread_tree lts arcs basis class problem number case [] t r → HasCase number
+      by : (r : Result Tree LeafWide) × spread_tree (case_at s problem number) case [] t r → HasCase number
       by (Ok refuting, spread) = (refutes refuting, is_refuted case t refuting made b spread)
-      by (Err at, spread) = (passes (step_at Stage.spread problem number (named_sides lts class problem at.above) at.wide), leaf_passes case t at made b spread)
+      by (Err at, spread) = (passes (step_at Stage.spread problem number (named_sides s.lts s.class problem at.above) at.wide), leaf_passes case t at made b spread)
 
   some_case_result : (number : ℕ) → HasCase number
-  some_case_result number = by (some_system lts arcs basis class problem number (basis_relations lts arcs basis is_basis))
+  some_case_result number = by (some_system (case_at s problem number) (basis_relations s.lts s.tree s.basis is_basis))
     where
-      by : HasSome (system_fold lts arcs basis class problem number) → HasCase number
+      by : HasSome (system_fold (case_at s problem number)) → HasCase number
       by (Err w, stops) = (passes (step_at Stage.row problem number [] w), row_passes w stops)
       by (Ok case, made) =
-          let over : IsCaseOver lts arcs basis class problem number case = record { in_range = fine; reachable = reachable; is_tree = is_tree; is_basis = is_basis; asked = asked lts problem is; numbers = numbers; is_case = made } in
-          let (o, b) = branching_ends (rows_of case) case.forms (forms_bounded lts arcs basis class problem number case over) in
+          let over : IsCaseOver (case_at s problem number) case = record { in_range = fine; reachable = reachable; is_tree = is_tree; is_basis = is_basis; asked = asked s.lts problem is; numbers = numbers; is_case = made } in
+          let (o, b) = branching_ends (rows_of case) case.forms (forms_bounded (case_at s problem number) case over) in
           ended number case made o b
 
 -- ---- the cases of a problem together
@@ -258,14 +259,14 @@ dead_or_not lts t = by (find_any (λ (a : Arc). a.label ≡ t) (λ a. cases_eq a
     by (inl (k, a, lt, at, e)) = inr (λ dead. dead a.from a.to (subst (λ u. Contains lts.arcs (record { from = a.from; label = u; to = a.to })) e (k, lt, at)))
     by (inr none) = inl (λ s s' has. none (record { from = s; label = t; to = s' }) has refl)
 
-pub all_results : (lts : System) (arcs : List Arc) (basis : CycleBasis) (class : Class) → IsInRange lts → HasNumbersInRange class → IsAllReachable lts → IsTree lts arcs → IsBasis lts arcs basis → HasResults lts (ProblemComes lts arcs basis class)
-all_results lts arcs basis class fine numbers reachable is_tree is_basis (Event s t) is = by (dead_or_not lts t)
-    (some_cases (CaseComes lts arcs basis class (Event s t)) (cases_of lts class (Event s t)) (same_result lts arcs basis class (Event s t))
-    (some_case_result lts arcs basis class fine numbers reachable is_tree is_basis (Event s t) is))
+pub all_results : (it : Setting) → IsInRange it.lts → HasNumbersInRange it.class → IsAllReachable it.lts → IsTree it.lts it.tree → IsBasis it.lts it.tree it.basis → HasResults it.lts (ProblemComes it)
+all_results it fine numbers reachable is_tree is_basis (Event s t) is = by (dead_or_not it.lts t)
+    (some_cases (λ i. CaseComes (case_at it (Event s t) i)) (cases_of it.lts it.class (Event s t)) (λ i. same_result (case_at it (Event s t) i))
+    (some_case_result it fine numbers reachable is_tree is_basis (Event s t) is))
   where
-    by : IsDead lts t ⊎ ¬ IsDead lts t → (r : Solved) × CasesCome (CaseComes lts arcs basis class (Event s t)) (cases_of lts class (Event s t)) r → (r : Solved) × ProblemComes lts arcs basis class (Event s t) r
-    by (inl dead) _ = (placed (blocking (labels lts) t), inl (dead, refl))
+    by : IsDead it.lts t ⊎ ¬ IsDead it.lts t → (r : Solved) × CasesCome (λ i. CaseComes (case_at it (Event s t) i)) (cases_of it.lts it.class (Event s t)) r → (r : Solved) × ProblemComes it (Event s t) r
+    by (inl dead) _ = (placed (blocking (labels it.lts) t), inl (dead, refl))
     by (inr live) (r, c) = (r, inr (live, c))
-all_results lts arcs basis class fine numbers reachable is_tree is_basis (States s s') is = some_cases (CaseComes lts arcs basis class (States s s'))
-    (cases_of lts class (States s s')) (same_result lts arcs basis class (States s s'))
-    (some_case_result lts arcs basis class fine numbers reachable is_tree is_basis (States s s') is)
+all_results it fine numbers reachable is_tree is_basis (States s s') is = some_cases (λ i. CaseComes (case_at it (States s s') i))
+    (cases_of it.lts it.class (States s s')) (λ i. same_result (case_at it (States s s') i))
+    (some_case_result it fine numbers reachable is_tree is_basis (States s s') is)

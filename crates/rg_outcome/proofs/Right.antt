@@ -15,8 +15,9 @@ use Rattle.rg_theory.proofs.Leaving.{left_solves}
 use Rattle.rg_refuting.specs.Row.{cases_of}
 use Rattle.rg_refuting.specs.Refutes.{Tree}
 use Rattle.rg_linear.specs.Cycle.{CycleBasis}
-use Rattle.rg_splits.specs.Trees.{Tree.leaf, Tree.split, low_side, high_side}
 use Rattle.rg_linear.specs.Branching.{Weight, SplitTree, SplitSide}
+use Rattle.rg_order_of_work.specs.Setting.{Setting, setting_at, case_at}
+use Rattle.rg_splits.specs.Trees.{Tree.leaf, Tree.split, low_side, high_side}
 use Rattle.rg_order_of_work.specs.Chords.{IsBasis}
 use Rattle.rg_order_of_work.specs.Rewriting.{CaseSystem, system_fold}
 use Rattle.rg_order_of_work.specs.Spreading.{spread_fold}
@@ -55,24 +56,25 @@ shown_by_case comes n r w (first_place i p lt has none) e = absurd (placed_or_pa
 shown_by_case comes n r w (all_refuted trees long each) e = absurd (refuted_or_passed trees w e)
 shown_by_case comes n r w (first_term i w' lt has none makes_none) e = (i, lt, subst (λ x. comes i (passes x)) (same_passed w' w e) has)
 
-module _ (lts : System) (arcs : List Arc) (basis : CycleBasis) (class : Class) (is_tree : IsTree lts arcs) (is_basis : IsBasis lts arcs basis) (problem : Problem) (is : IsProblem lts problem) (live : IsLive lts problem) (number : ℕ) (below : number < cases_of lts class problem) where
+module _ (s : Setting) (is_tree : IsTree s.lts s.tree) (is_basis : IsBasis s.lts s.tree s.basis) (problem : Problem) (is : IsProblem s.lts problem) (live : IsLive s.lts problem) (number : ℕ) (below : number < cases_of s.lts s.class problem) where
   -- the leaf in which the step stands
-  leaf_of : (case : CaseSystem) (above : List SplitSide) (t : SplitTree) (at : LeafWide) → spread_tree lts arcs basis class problem number case above t (Err at)
-      → (weights : List Weight) × HasLeaf above t at.above weights × spread_fold lts arcs basis class problem number case at.above (named_sides lts class problem at.above) weights (Err at.wide)
-  leaf_of case above (leaf weights) at (e, stops) = (weights, (e, refl), subst (λ sides. spread_fold lts arcs basis class problem number case sides (named_sides lts class problem sides) weights (Err at.wide)) (sym e) stops)
+  leaf_of : (case : CaseSystem) (above : List SplitSide) (t : SplitTree) (at : LeafWide) → spread_tree (case_at s problem number) case above t (Err at)
+      → (weights : List Weight) × HasLeaf above t at.above weights
+      × spread_fold (case_at s problem number) case at.above (named_sides s.lts s.class problem at.above) weights (Err at.wide)
+  leaf_of case above (leaf weights) at (e, stops) = (weights, (e, refl), subst (λ sides. spread_fold (case_at s problem number) case sides (named_sides s.lts s.class problem sides) weights (Err at.wide)) (sym e) stops)
   leaf_of case above (split f u low high) at (inl in_low) = let (weights, has, stops) = leaf_of case (above ++ low_side f u ∷ []) low at in_low in (weights, inl has, stops)
   leaf_of case above (split f u low high) at (inr (l, made, in_high)) = let (weights, has, stops) = leaf_of case (above ++ high_side f u ∷ []) high at in_high in (weights, inr has, stops)
 
-  stands_in : (w : Shown) → w.problem ≡ Some problem → w.case_number ≡ number → StandsIn lts class w problem
-  stands_in w e f = record { problem_is = e; has = is; live = live; case_below = subst (λ n. n < cases_of lts class problem) (sym f) below }
+  stands_in : (w : Shown) → w.problem ≡ Some problem → w.case_number ≡ number → StandsIn s.lts s.class w problem
+  stands_in w e f = record { problem_is = e; has = is; live = live; case_below = subst (λ n. n < cases_of s.lts s.class problem) (sym f) below }
 
-  abbrev case_is : (w : Shown) (case : CaseSystem) → w.problem ≡ Some problem → w.case_number ≡ number → system_fold lts arcs basis class problem number (Ok case) → CaseOf lts class w case
-  case_is w case e f made = record { arcs = arcs; basis = basis; problem = problem; is_tree = is_tree; is_basis = is_basis; stands = stands_in w e f; is_case = subst (λ n. system_fold lts arcs basis class problem n (Ok case)) (sym f) made }
+  abbrev case_is : (w : Shown) (case : CaseSystem) → w.problem ≡ Some problem → w.case_number ≡ number → system_fold (case_at s problem number) (Ok case) → CaseOf s.lts s.class w case
+  case_is w case e f made = record { arcs = s.tree; basis = s.basis; problem = problem; is_tree = is_tree; is_basis = is_basis; stands = stands_in w e f; is_case = subst (λ n. system_fold (case_at s problem n) (Ok case)) (sym f) made }
 
-  case_shows : (r : CaseResult) (w : Shown) → CaseComes lts arcs basis class problem number r → r ≡ passes w → ShownWide lts class w
-  case_shows r w (row_passes wide stops) e = subst (ShownWide lts class) (same_shown _ w e) (record {
-    arcs = arcs;
-    basis = basis;
+  case_shows : (r : CaseResult) (w : Shown) → CaseComes (case_at s problem number) r → r ≡ passes w → ShownWide s.lts s.class w
+  case_shows r w (row_passes wide stops) e = subst (ShownWide s.lts s.class) (same_shown _ w e) (record {
+    arcs = s.tree;
+    basis = s.basis;
     problem = problem;
     is_tree = is_tree;
     is_basis = is_basis;
@@ -81,7 +83,7 @@ module _ (lts : System) (arcs : List Arc) (basis : CycleBasis) (class : Class) (
     no_split = refl;
     passes = stops;
   })
-  case_shows r w (pivot_passes case sides at made stops) e = subst (ShownWide lts class) (same_shown _ w e) (record {
+  case_shows r w (pivot_passes case sides at made stops) e = subst (ShownWide s.lts s.class) (same_shown _ w e) (record {
     case = case;
     of_case = case_is _ case refl refl made;
     sides = sides;
@@ -90,7 +92,7 @@ module _ (lts : System) (arcs : List Arc) (basis : CycleBasis) (class : Class) (
     above_is = refl;
     stands = record { members = refl; pivot = refl; leaves = refl; target = refl; entry = refl; wide = refl };
   })
-  case_shows r w (place_passes case members sides start value wide made finds point stops) e = subst (ShownWide lts class) (same_shown _ w e) (record {
+  case_shows r w (place_passes case members sides start value wide made finds point stops) e = subst (ShownWide s.lts s.class) (same_shown _ w e) (record {
     case = case;
     of_case = case_is _ case refl refl made;
     sides = sides;
@@ -105,7 +107,7 @@ module _ (lts : System) (arcs : List Arc) (basis : CycleBasis) (class : Class) (
   })
   case_shows r w (leaf_passes case multipliers at made b spread) e =
       let (weights, has, stops) = leaf_of case [] multipliers at spread in
-      subst (ShownWide lts class) (same_shown _ w e) (record {
+      subst (ShownWide s.lts s.class) (same_shown _ w e) (record {
         case = case;
         of_case = case_is _ case refl refl made;
         refuting = multipliers;
@@ -120,13 +122,13 @@ module _ (lts : System) (arcs : List Arc) (basis : CycleBasis) (class : Class) (
   case_shows r w (place_is_made case members sides start value p made finds point is) e = absurd (makes_or_passes p w e)
   case_shows r w (is_refuted case multipliers t made b spread) e = absurd (refutes_or_passes t w e)
 
-module _ (lts : System) (arcs : List Arc) (basis : CycleBasis) (class : Class) (is_tree : IsTree lts arcs) (is_basis : IsBasis lts arcs basis) where
-  cases_show : (problem : Problem) (w : Shown) → IsProblem lts problem → IsLive lts problem → CasesCome (CaseComes lts arcs basis class problem) (cases_of lts class problem) (passed w) → ShownWide lts class w
+module _ (it : Setting) (is_tree : IsTree it.lts it.tree) (is_basis : IsBasis it.lts it.tree it.basis) where
+  cases_show : (problem : Problem) (w : Shown) → IsProblem it.lts problem → IsLive it.lts problem → CasesCome (λ i. CaseComes (case_at it problem i)) (cases_of it.lts it.class problem) (passed w) → ShownWide it.lts it.class w
   cases_show problem w is live c =
-      let (i, lt, has) = shown_by_case (CaseComes lts arcs basis class problem) (cases_of lts class problem) (passed w) w c refl in
-      case_shows lts arcs basis class is_tree is_basis problem is live i lt (passes w) w has refl
+      let (i, lt, has) = shown_by_case (λ i. CaseComes (case_at it problem i)) (cases_of it.lts it.class problem) (passed w) w c refl in
+      case_shows it is_tree is_basis problem is live i lt (passes w) w has refl
 
-  problem_shows : (problem : Problem) (w : Shown) → IsProblem lts problem → ProblemComes lts arcs basis class problem (passed w) → ShownWide lts class w
+  problem_shows : (problem : Problem) (w : Shown) → IsProblem it.lts problem → ProblemComes it problem (passed w) → ShownWide it.lts it.class w
   problem_shows (Event s t) w is (inl (dead, e)) = absurd (placed_or_passed _ w (sym e))
   problem_shows (Event s t) w is (inr (live, c)) = cases_show (Event s t) w is live c
   problem_shows (States s s') w is c = cases_show (States s s') w is tt c
@@ -134,21 +136,21 @@ module _ (lts : System) (arcs : List Arc) (basis : CycleBasis) (class : Class) (
 -- ---- a search
 
 module _ (lts : System) (class : Class) (fine : IsInRange lts) (numbers : HasNumbersInRange class) (reachable : IsAllReachable lts) where
-  regions_made : (arcs : List Arc) (basis : CycleBasis) (kept : List Place) → IsTree lts arcs → IsBasis lts arcs basis → All (IsMade lts (ProblemComes lts arcs basis class)) kept → All (IsRegionIn lts class) kept
+  regions_made : (arcs : List Arc) (basis : CycleBasis) (kept : List Place) → IsTree lts arcs → IsBasis lts arcs basis → All (IsMade lts (ProblemComes (setting_at lts arcs basis class))) kept → All (IsRegionIn lts class) kept
   regions_made arcs basis kept is_tree is_basis made k p lt =
       let (problem, is, has) = made k p lt in
-      let (m, region, _) = placed_separates lts arcs basis class fine numbers reachable is_tree is_basis problem _ is has in
+      let (m, region, _) = placed_separates (setting_at lts arcs basis class) fine numbers reachable is_tree is_basis problem _ is has in
       (m, region)
 
-  problems_right : (arcs : List Arc) (basis : CycleBasis) (o : Separation) → IsTree lts arcs → IsBasis lts arcs basis → Says lts (ProblemComes lts arcs basis class) o → IsSearchRight lts class o
+  problems_right : (arcs : List Arc) (basis : CycleBasis) (o : Separation) → IsTree lts arcs → IsBasis lts arcs basis → Says lts (ProblemComes (setting_at lts arcs basis class)) o → IsSearchRight lts class o
   problems_right arcs basis (places kept) is_tree is_basis h = (regions_made arcs basis kept is_tree is_basis h.made, h.separate)
-  problems_right arcs basis (of_problem problem trees) is_tree is_basis h = (h.first.0.0, inseparable lts arcs basis class fine numbers reachable is_tree is_basis problem trees h.first.0.0 h.has)
-  problems_right arcs basis (of_term w) is_tree is_basis h = problem_shows lts arcs basis class is_tree is_basis h.problem w h.first.0.0 h.has
+  problems_right arcs basis (of_problem problem trees) is_tree is_basis h = (h.first.0.0, inseparable (setting_at lts arcs basis class) fine numbers reachable is_tree is_basis problem trees h.first.0.0 h.has)
+  problems_right arcs basis (of_term w) is_tree is_basis h = problem_shows (setting_at lts arcs basis class) is_tree is_basis h.problem w h.first.0.0 h.has
 
   pub search_right : (o : Separation) → Searched lts class o → IsSearchRight lts class o
   search_right o (a_cycle w stage h) = subst (λ s. ShownAt s lts class w) (sym stage) h
   search_right o (all_problems arcs basis _ is_tree is_basis d) =
-      problems_right arcs basis o is_tree is_basis (says lts (ProblemComes lts arcs basis class) (same_solved lts arcs basis class) (refuted_stay lts arcs basis class fine numbers reachable is_tree is_basis) o d)
+      problems_right arcs basis o is_tree is_basis (let s = setting_at lts arcs basis class in says lts (ProblemComes s) (same_solved s) (refuted_stay s fine numbers reachable is_tree is_basis) o d)
 
   -- ---- an answer
 

@@ -18,6 +18,7 @@ use Rattle.rg_linear.specs.Dictionary.{Relation, DictionaryRow, HasDictionary, n
 use Rattle.rg_linear.specs.Descent.{WideAt}
 use Rattle.rg_linear.specs.Cycle.{IsZeroVector, vector_at, KeepsVectors, vector_system, CycleOutcome, CycleOutcome.free_set, CycleOutcome.too_wide as walk_passes, CycleWalk, CycleBasis, no_relation, IsCycleBasis}
 use Rattle.rg_linear.proofs.Cycles.{cycle_ends, cycle_set_knows}
+use Rattle.rg_order_of_work.specs.Setting.{setting_at}
 use Rattle.rg_order_of_work.specs.Chords.{chord_vectors, chord_system, IsBasis}
 use Rattle.rg_order_of_work.specs.Shown.{Stage, Shown}
 use Rattle.rg_outcome.specs.Solving.{ProblemComes}
@@ -88,7 +89,8 @@ module _ (lts : System) (arcs : List Arc) (class : Class) (fine : IsInRange lts)
           let has = (cycle_set_knows (chord_system lts arcs kept) members walk).has in
           let basis = basis_of (labels lts) (chord_vectors lts arcs) kept members has in
           let is_basis : IsBasis lts arcs basis = some_basis (labels lts) (chord_vectors lts arcs) kept members has keeps walk in
-          let (o, d) = some_separation lts (ProblemComes lts arcs basis class) reachable (all_results lts arcs basis class fine numbers reachable is_tree is_basis) (places_separate lts arcs basis class fine numbers reachable is_tree is_basis) in
+          let s = setting_at lts arcs basis class in
+          let (o, d) = some_separation lts (ProblemComes s) reachable (all_results s fine numbers reachable is_tree is_basis) (places_separate s fine numbers reachable is_tree is_basis) in
           (o, all_problems arcs basis o is_tree is_basis d)
       by kept keeps (walk_passes at) walk = (
         of_term (cycle_term at),

@@ -4,16 +4,13 @@ use Rattle.std.proofs.lemmas.Bool.{cases_lt}
 use Rattle.std.proofs.lemmas.List.{ext_get_or}
 use Rattle.std.proofs.lemmas.Option.{get_or_from_slice_get}
 use Rattle.std.specs.Prelude.{slice_get, Some}
-use Rattle.rg_theory.specs.declared.Arc.{Arc}
-use Rattle.rg_theory.specs.System.{System}
 use Rattle.rg_theory.specs.Net.{Place}
-use Rattle.rg_theory.specs.declared.Class.{Class}
 use Rattle.rg_theory.specs.declared.Problem.TheVariants.{Event, States}
 use Rattle.rg_theory.proofs.Lists.{slice_get_some}
 use Rattle.rg_refuting.specs.Row.{cases_of}
-use Rattle.rg_splits.specs.Trees.{Tree.leaf}
 use Rattle.rg_refuting.specs.Refutes.{Tree}
-use Rattle.rg_linear.specs.Cycle.{CycleBasis}
+use Rattle.rg_order_of_work.specs.Setting.{Setting, case_at}
+use Rattle.rg_splits.specs.Trees.{Tree.leaf}
 use Rattle.rg_order_of_work.specs.Shown.{Shown}
 use Rattle.rg_outcome.specs.Casing.{CaseResult, CaseResult.makes, CaseResult.refutes, CaseResult.passes, CaseComes}
 use Rattle.rg_outcome.specs.Solving.{Solved, Solved.placed, Solved.refuted, Solved.passed, CasesCome, CasesCome.first_place, CasesCome.all_refuted, CasesCome.first_term, ProblemComes}
@@ -80,10 +77,10 @@ module _ (comes : ℕ → CaseResult → Type 0) (n : ℕ) (one : (i : ℕ) (r r
       let same : i ≡ i' = same_number Shown passes i i' w w' has has' none none' in
       ap passed (same_term w w' (one i' (passes w) (passes w') (subst (λ j. comes j (passes w)) same has) has'))
 
-module _ (lts : System) (arcs : List Arc) (basis : CycleBasis) (class : Class) where
-  pub same_solved : IsOneResult (ProblemComes lts arcs basis class)
+module _ (it : Setting) where
+  pub same_solved : IsOneResult (ProblemComes it)
   same_solved (Event s t) r r' (inl (dead, e)) (inl (dead', e')) = e ∙ sym e'
   same_solved (Event s t) r r' (inl (dead, e)) (inr (live, c)) = absurd (live dead)
   same_solved (Event s t) r r' (inr (live, c)) (inl (dead, e)) = absurd (live dead)
-  same_solved (Event s t) r r' (inr (live, c)) (inr (live', c')) = same_cases (CaseComes lts arcs basis class (Event s t)) (cases_of lts class (Event s t)) (same_result lts arcs basis class (Event s t)) r r' c c'
-  same_solved (States s s') r r' c c' = same_cases (CaseComes lts arcs basis class (States s s')) (cases_of lts class (States s s')) (same_result lts arcs basis class (States s s')) r r' c c'
+  same_solved (Event s t) r r' (inr (live, c)) (inr (live', c')) = same_cases (λ i. CaseComes (case_at it (Event s t) i)) (cases_of it.lts it.class (Event s t)) (λ i. same_result (case_at it (Event s t) i)) r r' c c'
+  same_solved (States s s') r r' c c' = same_cases (λ i. CaseComes (case_at it (States s s') i)) (cases_of it.lts it.class (States s s')) (λ i. same_result (case_at it (States s s') i)) r r' c c'

@@ -11,7 +11,6 @@ use Rattle.std.proofs.lemmas.List.Elements.{All-nil, All-cons, Contains-append_l
 use Rattle.rg_theory.specs.declared.Arc.{Arc}
 use Rattle.rg_theory.specs.System.{System, labels}
 use Rattle.rg_theory.specs.declared.Class.{Class}
-use Rattle.rg_theory.specs.declared.Problem.{Problem}
 use Rattle.rg_theory.proofs.Lists.{Contains-cons_cases}
 use Rattle.rg_integers.specs.Sum.{number_at}
 use Rattle.rg_integers.proofs.Divisors.{exact, gcd_below}
@@ -25,6 +24,7 @@ use Rattle.rg_linear.specs.System.{LinearRow}
 use Rattle.rg_linear.specs.Branching.{Form}
 use Rattle.rg_linear.specs.Cycle.{CycleBasis, IsZeroVector}
 use Rattle.rg_linear.specs.Firsts.{KeepsFirsts}
+use Rattle.rg_order_of_work.specs.Setting.{Setting, CaseSetting}
 use Rattle.rg_order_of_work.specs.Chords.{IsBasis}
 use Rattle.rg_order_of_work.specs.Fold.{gives, and_then, each, Ratio, whole, quotient, add, mul, multiple_of_all}
 use Rattle.rg_order_of_work.specs.Rewriting.{is_in, has_label, free_labels, dependent_labels, dependent_term, coefficient_fold, substitute_fold, has_start, pick}
@@ -100,10 +100,10 @@ some_scaled numbers over =
     (some_each (λ r. mul r (whole m)) numbers (λ r has. some_product r (whole m) (over r has) (whole_over m)))
     (λ products _. some_given (record { multiple = m; numbers = map (λ r. r.top) products })))
 
-some_terms : (lts : System) (arcs : List Arc) (basis : CycleBasis) (class : Class) (terms : List Term) → HaveRelations lts basis → HasSome (terms_fold lts arcs basis class terms)
-some_terms lts arcs basis class terms related =
-    some_then (substitute_fold (labels lts) basis (count_of arcs terms)) (λ free. scaled_fold (columns_of lts basis class (start_of terms) free)) (substitute_some lts basis related (count_of arcs terms))
-    (λ free made. some_scaled (columns_of lts basis class (start_of terms) free) (each_column lts basis class (start_of terms) free (substitute_over lts basis related (count_of arcs terms) free made)))
+some_terms : (s : Setting) (terms : List Term) → HaveRelations s.lts s.basis → HasSome (terms_fold s terms)
+some_terms s terms related =
+    some_then (substitute_fold (labels s.lts) s.basis (count_of s.tree terms)) (λ free. scaled_fold (columns_of s.lts s.basis s.class (start_of terms) free)) (substitute_some s.lts s.basis related (count_of s.tree terms))
+    (λ free made. some_scaled (columns_of s.lts s.basis s.class (start_of terms) free) (each_column s.lts s.basis s.class (start_of terms) free (substitute_over s.lts s.basis related (count_of s.tree terms) free made)))
 
 -- ---- divided by a common divisor
 
@@ -138,9 +138,9 @@ some_divided name scaled number =
     let (factor, f) = some_ratio scaled.multiple (pos (max g 1)) (divisor_differs g) in
     (Ok (record { name = name; row = record { coeffs = coeffs; constant = int_div number (pos (max g 1)) }; factor = factor }), (refl, record { divisor = g; greatest = is; coeffs = e; constant = last; factor = f }))
 
-pub some_row : (lts : System) (arcs : List Arc) (basis : CycleBasis) (class : Class) (name : RowName) (e : Expression) → HaveRelations lts basis → HasSome (row_fold lts arcs basis class name e)
-some_row lts arcs basis class name e related =
-    some_then (terms_fold lts arcs basis class e.terms) (λ scaled. and_then (mul (whole e.constant) (whole scaled.multiple)) (λ constant. divided name scaled constant.top)) (some_terms lts arcs basis class e.terms related)
+pub some_row : (s : Setting) (name : RowName) (e : Expression) → HaveRelations s.lts s.basis → HasSome (row_fold s name e)
+some_row s name e related =
+    some_then (terms_fold s e.terms) (λ scaled. and_then (mul (whole e.constant) (whole scaled.multiple)) (λ constant. divided name scaled constant.top)) (some_terms s e.terms related)
     (λ scaled _. some_then (mul (whole e.constant) (whole scaled.multiple)) (λ constant. divided name scaled constant.top) (some_product (whole e.constant) (whole scaled.multiple) (whole_over e.constant) (whole_over scaled.multiple)) (λ constant _. some_divided name scaled constant.top))
 
 -- ---- the first of equal rows
@@ -220,20 +220,20 @@ some_firsts {X} {K} key Drops drops same seen (x ∷ xs) = by (drops x) (among s
 
 -- ---- the system
 
-some_form : (lts : System) (arcs : List Arc) (basis : CycleBasis) (class : Class) (form : SplitForm) → HaveRelations lts basis → HasSome (form_fold lts arcs basis class form)
-some_form lts arcs basis class form related =
-    some_then (terms_fold lts arcs basis class (plus (form_variable lts.initial form) ∷ []))
-    (λ scaled. gives (record { scale = pos (step_of class form) *ℤ scaled.multiple; coeffs = scaled.numbers; low = form_low form; high = form_high lts class form }))
-    (some_terms lts arcs basis class (plus (form_variable lts.initial form) ∷ []) related)
-    (λ scaled _. some_given (record { scale = pos (step_of class form) *ℤ scaled.multiple; coeffs = scaled.numbers; low = form_low form; high = form_high lts class form }))
+some_form : (s : Setting) (form : SplitForm) → HaveRelations s.lts s.basis → HasSome (form_fold s form)
+some_form s form related =
+    some_then (terms_fold s (plus (form_variable s.lts.initial form) ∷ []))
+    (λ scaled. gives (record { scale = pos (step_of s.class form) *ℤ scaled.multiple; coeffs = scaled.numbers; low = form_low form; high = form_high s.lts s.class form }))
+    (some_terms s (plus (form_variable s.lts.initial form) ∷ []) related)
+    (λ scaled _. some_given (record { scale = pos (step_of s.class form) *ℤ scaled.multiple; coeffs = scaled.numbers; low = form_low form; high = form_high s.lts s.class form }))
 
-pub some_system : (lts : System) (arcs : List Arc) (basis : CycleBasis) (class : Class) (problem : Problem) (number : ℕ) → HaveRelations lts basis → HasSome (system_fold lts arcs basis class problem number)
-some_system lts arcs basis class problem number related =
-    some_then (each (λ name. row_fold lts arcs basis class name (row_expression lts class problem number [] name)) (names_of lts class problem number)) (λ all. and_then (each (form_fold lts arcs basis class) (split_forms lts class problem)) (λ forms. kept_of lts basis class all forms))
-    (some_each (λ name. row_fold lts arcs basis class name (row_expression lts class problem number [] name)) (names_of lts class problem number) (λ name has. some_row lts arcs basis class name (row_expression lts class problem number [] name) related))
-    (λ all _. some_then (each (form_fold lts arcs basis class) (split_forms lts class problem)) (λ forms. kept_of lts basis class all forms)
-    (some_each (form_fold lts arcs basis class) (split_forms lts class problem) (λ form has. some_form lts arcs basis class form related))
+pub some_system : (s : CaseSetting) → HaveRelations s.lts s.basis → HasSome (system_fold s)
+some_system s related =
+    some_then (each (λ name. row_fold s.setting name (row_expression s.lts s.class s.problem s.number [] name)) (names_of s.lts s.class s.problem s.number)) (λ all. and_then (each (form_fold s.setting) (split_forms s.lts s.class s.problem)) (λ forms. kept_of s.setting all forms))
+    (some_each (λ name. row_fold s.setting name (row_expression s.lts s.class s.problem s.number [] name)) (names_of s.lts s.class s.problem s.number) (λ name has. some_row s.setting name (row_expression s.lts s.class s.problem s.number [] name) related))
+    (λ all _. some_then (each (form_fold s.setting) (split_forms s.lts s.class s.problem)) (λ forms. kept_of s.setting all forms)
+    (some_each (form_fold s.setting) (split_forms s.lts s.class s.problem) (λ form has. some_form s.setting form related))
     (λ forms _. kept all forms))
   where
-    kept : (all : List KeptRow) (forms : List Form) → HasSome (kept_of lts basis class all forms)
-    kept all forms = let (rows, keeps) = some_firsts (λ (k : KeptRow). k.row) IsIdle idle same_row [] all in (Ok (record { columns = column_count lts basis class; kept = rows; forms = forms }), (refl, keeps, refl))
+    kept : (all : List KeptRow) (forms : List Form) → HasSome (kept_of s.setting all forms)
+    kept all forms = let (rows, keeps) = some_firsts (λ (k : KeptRow). k.row) IsIdle idle same_row [] all in (Ok (record { columns = column_count s.lts s.basis s.class; kept = rows; forms = forms }), (refl, keeps, refl))

@@ -1,17 +1,14 @@
 -- What one case of a problem comes to.
 use Rattle.std.specs.Prelude.{◌≡◌, ◌⊎◌, ℕ, List, [], ◌∷◌, ◌++◌, Some, Result, Ok, Err}
-use Rattle.rg_theory.specs.declared.Arc.{Arc}
-use Rattle.rg_theory.specs.System.{System}
 use Rattle.rg_theory.specs.Net.{Place}
-use Rattle.rg_theory.specs.declared.Class.{Class}
 use Rattle.rg_theory.specs.declared.Problem.{Problem}
 use Rattle.rg_refuting.specs.Row.{Side}
 use Rattle.rg_splits.specs.Trees.{Tree.leaf, Tree.split, low_side, high_side}
 use Rattle.rg_refuting.specs.Refutes.{NamedRow, Tree}
 use Rattle.rg_integers.specs.declared.term.Wide.{Wide}
 use Rattle.rg_linear.specs.Descent.{WideAt}
-use Rattle.rg_linear.specs.Cycle.{CycleBasis}
 use Rattle.rg_linear.specs.Branching.{SplitTree, SplitSide, node_system, Branching, BranchOutcome.found, BranchOutcome.tree, BranchOutcome.stopped}
+use Rattle.rg_order_of_work.specs.Setting.{CaseSetting}
 use Rattle.rg_order_of_work.specs.Fold.{Ratio}
 use Rattle.rg_order_of_work.specs.Rewriting.{CaseSystem, rows_of, system_fold}
 use Rattle.rg_order_of_work.specs.Placing.{place_fold}
@@ -32,16 +29,16 @@ pub record LeafWide : Type 0 where
   pub wide : Wide
 
 -- the tree of the leaves of all the multipliers, or the first step out of range, the low side before the high one
-abbrev pub spread_tree : System → List Arc → CycleBasis → Class → Problem → ℕ → CaseSystem → List SplitSide → SplitTree → Result Tree LeafWide → Type 0
-spread_tree lts arcs basis class problem number case above (leaf weights) (Ok t) = (rows : List NamedRow) × spread_fold lts arcs basis class problem number case above (named_sides lts class problem above) weights (Ok rows) × (t ≡ leaf rows)
-spread_tree lts arcs basis class problem number case above (leaf weights) (Err at) = (at.above ≡ above) × spread_fold lts arcs basis class problem number case above (named_sides lts class problem above) weights (Err at.wide)
-spread_tree lts arcs basis class problem number case above (split f u low high) (Ok t) =
-    (l h : Tree) × spread_tree lts arcs basis class problem number case (above ++ low_side f u ∷ []) low (Ok l)
-    × spread_tree lts arcs basis class problem number case (above ++ high_side f u ∷ []) high (Ok h)
-    × (t ≡ split (named_side lts class problem (low_side f u)).form u l h)
-spread_tree lts arcs basis class problem number case above (split f u low high) (Err at) =
-    spread_tree lts arcs basis class problem number case (above ++ low_side f u ∷ []) low (Err at)
-    ⊎ ((l : Tree) × spread_tree lts arcs basis class problem number case (above ++ low_side f u ∷ []) low (Ok l) × spread_tree lts arcs basis class problem number case (above ++ high_side f u ∷ []) high (Err at))
+abbrev pub spread_tree : CaseSetting → CaseSystem → List SplitSide → SplitTree → Result Tree LeafWide → Type 0
+spread_tree s case above (leaf weights) (Ok t) = (rows : List NamedRow) × spread_fold s case above (named_sides s.lts s.class s.problem above) weights (Ok rows) × (t ≡ leaf rows)
+spread_tree s case above (leaf weights) (Err at) = (at.above ≡ above) × spread_fold s case above (named_sides s.lts s.class s.problem above) weights (Err at.wide)
+spread_tree s case above (split f u low high) (Ok t) =
+    (l h : Tree) × spread_tree s case (above ++ low_side f u ∷ []) low (Ok l)
+    × spread_tree s case (above ++ high_side f u ∷ []) high (Ok h)
+    × (t ≡ split (named_side s.lts s.class s.problem (low_side f u)).form u l h)
+spread_tree s case above (split f u low high) (Err at) =
+    spread_tree s case (above ++ low_side f u ∷ []) low (Err at)
+    ⊎ ((l : Tree) × spread_tree s case (above ++ low_side f u ∷ []) low (Ok l) × spread_tree s case (above ++ high_side f u ∷ []) high (Err at))
 
 -- ---- what is shown
 
@@ -77,25 +74,25 @@ term_at problem number above at = record {
 
 -- what a case comes to, over the tree of the system and the basis of its chords: its rows, the branching on them, and then the
 -- place of the point or the leaves of the multipliers
-pub data CaseComes (lts : System) (arcs : List Arc) (basis : CycleBasis) (class : Class) (problem : Problem) (number : ℕ) : CaseResult → Type 0 where
-  row_passes : (w : Wide) → system_fold lts arcs basis class problem number (Err w)
-      → CaseComes lts arcs basis class problem number (passes (step_at Stage.row problem number [] w))
-  pivot_passes : (case : CaseSystem) (sides : List SplitSide) (at : WideAt) → system_fold lts arcs basis class problem number (Ok case)
+pub data CaseComes (s : CaseSetting) : CaseResult → Type 0 where
+  row_passes : (w : Wide) → system_fold s (Err w)
+      → CaseComes s (passes (step_at Stage.row s.problem s.number [] w))
+  pivot_passes : (case : CaseSystem) (sides : List SplitSide) (at : WideAt) → system_fold s (Ok case)
       → Branching (rows_of case) case.forms (stopped sides at)
-      → CaseComes lts arcs basis class problem number (passes (term_at problem number (named_sides lts class problem sides) at))
+      → CaseComes s (passes (term_at s.problem s.number (named_sides s.lts s.class s.problem sides) at))
   place_passes : (case : CaseSystem) (members : List ℕ) (sides : List SplitSide) (start : Ratio) (value : ℕ → Ratio) (w : Wide)
-      → system_fold lts arcs basis class problem number (Ok case) → Branching (rows_of case) case.forms (found members sides)
-      → PointOf lts basis class (node_system (rows_of case) case.forms sides) members start value
-      → place_fold lts arcs basis class problem start value (Err w)
-      → CaseComes lts arcs basis class problem number (passes (step_at Stage.place problem number (named_sides lts class problem sides) w))
+      → system_fold s (Ok case) → Branching (rows_of case) case.forms (found members sides)
+      → PointOf s.lts s.basis s.class (node_system (rows_of case) case.forms sides) members start value
+      → place_fold s.setting s.problem start value (Err w)
+      → CaseComes s (passes (step_at Stage.place s.problem s.number (named_sides s.lts s.class s.problem sides) w))
   place_is_made : (case : CaseSystem) (members : List ℕ) (sides : List SplitSide) (start : Ratio) (value : ℕ → Ratio) (p : Place)
-      → system_fold lts arcs basis class problem number (Ok case) → Branching (rows_of case) case.forms (found members sides)
-      → PointOf lts basis class (node_system (rows_of case) case.forms sides) members start value
-      → place_fold lts arcs basis class problem start value (Ok p)
-      → CaseComes lts arcs basis class problem number (makes p)
-  leaf_passes : (case : CaseSystem) (multipliers : SplitTree) (at : LeafWide) → system_fold lts arcs basis class problem number (Ok case)
-      → Branching (rows_of case) case.forms (tree multipliers) → spread_tree lts arcs basis class problem number case [] multipliers (Err at)
-      → CaseComes lts arcs basis class problem number (passes (step_at Stage.spread problem number (named_sides lts class problem at.above) at.wide))
-  is_refuted : (case : CaseSystem) (multipliers : SplitTree) (t : Tree) → system_fold lts arcs basis class problem number (Ok case)
-      → Branching (rows_of case) case.forms (tree multipliers) → spread_tree lts arcs basis class problem number case [] multipliers (Ok t)
-      → CaseComes lts arcs basis class problem number (refutes t)
+      → system_fold s (Ok case) → Branching (rows_of case) case.forms (found members sides)
+      → PointOf s.lts s.basis s.class (node_system (rows_of case) case.forms sides) members start value
+      → place_fold s.setting s.problem start value (Ok p)
+      → CaseComes s (makes p)
+  leaf_passes : (case : CaseSystem) (multipliers : SplitTree) (at : LeafWide) → system_fold s (Ok case)
+      → Branching (rows_of case) case.forms (tree multipliers) → spread_tree s case [] multipliers (Err at)
+      → CaseComes s (passes (step_at Stage.spread s.problem s.number (named_sides s.lts s.class s.problem at.above) at.wide))
+  is_refuted : (case : CaseSystem) (multipliers : SplitTree) (t : Tree) → system_fold s (Ok case)
+      → Branching (rows_of case) case.forms (tree multipliers) → spread_tree s case [] multipliers (Ok t)
+      → CaseComes s (refutes t)

@@ -12,6 +12,7 @@ use Rattle.rg_theory.specs.Tree.{IsTree}
 use Rattle.rg_refuting.specs.Refutes.{Reason, Reason.unreachable, Reason.fork, Reason.refuted}
 use Rattle.rg_theory.specs.Pruned.{IsPruned}
 use Rattle.rg_linear.specs.Cycle.{CycleBasis}
+use Rattle.rg_order_of_work.specs.Setting.{setting_at}
 use Rattle.rg_order_of_work.specs.Chords.{IsBasis}
 use Rattle.rg_order_of_work.specs.Shown.{Stage, Shown, CycleShown, ShownWide}
 use Rattle.rg_outcome.specs.Solving.{ProblemComes}
@@ -35,7 +36,7 @@ Gives lts _ _ = ⊥
 pub data Searched (lts : System) (class : Class) : Separation → Type 0 where
   a_cycle : (w : Shown) → w.stage ≡ Stage.cycle → CycleShown lts w → Searched lts class (of_term w)
   all_problems : (arcs : List Arc) (basis : CycleBasis) (o : Separation) → IsTree lts arcs → IsBasis lts arcs basis
-      → Comes lts (ProblemComes lts arcs basis class) o → Searched lts class o
+      → Comes lts (ProblemComes (setting_at lts arcs basis class)) o → Searched lts class o
 
 -- the answer for a system and a class: the least unreachable state, else the first fork, else what the search comes to
 pub data Out (lts : System) (class : Class) : Answer → Type 0 where

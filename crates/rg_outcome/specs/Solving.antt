@@ -1,15 +1,13 @@
 -- What one problem comes to. Nothing here knows of the places that are kept, so a problem may be solved at any time.
 use Rattle.std.specs.Prelude.{◌≡◌, ◌⊎◌, ℕ, ◌<◌, List, length, slice_get, Some}
-use Rattle.rg_theory.specs.declared.Arc.{Arc}
-use Rattle.rg_theory.specs.System.{System, labels, IsDead}
+use Rattle.rg_theory.specs.System.{labels, IsDead}
 use Rattle.rg_theory.specs.Net.{Place}
-use Rattle.rg_theory.specs.declared.Class.{Class}
 use Rattle.rg_theory.specs.Region.{blocking}
 use Rattle.rg_theory.specs.declared.Problem.{Problem}
 use Rattle.rg_theory.specs.declared.Problem.TheVariants.{Event, States}
 use Rattle.rg_refuting.specs.Row.{cases_of}
 use Rattle.rg_refuting.specs.Refutes.{Tree}
-use Rattle.rg_linear.specs.Cycle.{CycleBasis}
+use Rattle.rg_order_of_work.specs.Setting.{Setting, case_at}
 use Rattle.rg_order_of_work.specs.Shown.{Shown}
 use Rattle.rg_outcome.specs.Casing.{CaseResult, CaseResult.makes, CaseResult.refutes, CaseResult.passes, CaseComes}
 
@@ -34,8 +32,8 @@ pub data CasesCome (comes : ℕ → CaseResult → Type 0) (n : ℕ) : Solved �
   first_term : (i : ℕ) (w : Shown) → i < n → comes i (passes w) → NonePasses comes i → NoneMakes comes n → CasesCome comes n (passed w)
 
 -- what a problem comes to; that of a label without an arc has a place of its own
-abbrev pub ProblemComes : System → List Arc → CycleBasis → Class → Problem → Solved → Type 0
-ProblemComes lts arcs basis class (Event s t) r =
-    (IsDead lts t × (r ≡ placed (blocking (labels lts) t)))
-    ⊎ (¬ IsDead lts t × CasesCome (CaseComes lts arcs basis class (Event s t)) (cases_of lts class (Event s t)) r)
-ProblemComes lts arcs basis class (States s s') r = CasesCome (CaseComes lts arcs basis class (States s s')) (cases_of lts class (States s s')) r
+abbrev pub ProblemComes : Setting → Problem → Solved → Type 0
+ProblemComes s (Event q t) r =
+    (IsDead s.lts t × (r ≡ placed (blocking (labels s.lts) t)))
+    ⊎ (¬ IsDead s.lts t × CasesCome (λ i. CaseComes (case_at s (Event q t) i)) (cases_of s.lts s.class (Event q t)) r)
+ProblemComes s (States q q') r = CasesCome (λ i. CaseComes (case_at s (States q q') i)) (cases_of s.lts s.class (States q q')) r

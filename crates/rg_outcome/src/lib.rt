@@ -13,7 +13,7 @@ ghost use Rattle.rg_theory.specs.Net.{Place};
 ghost use Rattle.rg_theory.specs.Problem.{IsProblem, IsInseparable};
 ghost use Rattle.rg_theory.specs.Tree.{IsTree};
 ghost use Rattle.rg_refuting.specs.Refutes.{Tree};
-ghost use Rattle.rg_linear.specs.Cycle.{CycleBasis};
+ghost use Rattle.rg_order_of_work.specs.Setting.{Setting, CaseSetting};
 ghost use Rattle.rg_order_of_work.specs.Chords.{IsBasis};
 ghost use Rattle.rg_outcome.specs.Casing.{CaseResult, CaseComes};
 ghost use Rattle.rg_outcome.specs.Solving.{Solved, ProblemComes};
@@ -21,50 +21,48 @@ ghost use Rattle.rg_outcome.specs.Coming.{Separation, ComesFrom, Comes, IsSepara
 ghost use Rattle.rg_outcome.specs.Blocks.{ComesByBlocks};
 ghost use Rattle.rg_outcome.specs.Outcome.{Answer, Searched, Out, IsSearchRight, IsRight};
 
-use rg_theory::{Arc, Class, Problem, one_least_fork, pruned_is_one};
+use rg_theory::{Class, Problem, one_least_fork, pruned_is_one};
 
 /// A case of a problem comes to one result: a place, a tree that refutes it, or a term out of range. So does a problem, and
 /// each problem of a system comes to some: every computation ends, or stops at its first step out of range. Neither knows of places that are kept, so a problem may be solved at any time.
 pub fn solving_is_one()
-    ensures case { (lts : System) (arcs : List Arc) (basis : CycleBasis) (class : Class) (problem : Problem) (number : ℕ) (r r' : CaseResult) → CaseComes lts arcs basis class problem number r → CaseComes lts arcs basis class problem number r' → r ≡ r' }
-    ensures problem { (lts : System) (arcs : List Arc) (basis : CycleBasis) (class : Class) (problem : Problem) (r r' : Solved) → ProblemComes lts arcs basis class problem r → ProblemComes lts arcs basis class problem r' → r ≡ r' }
-    ensures some { (lts : System) (arcs : List Arc) (basis : CycleBasis) (class : Class) (problem : Problem) → IsInRange lts → HasNumbersInRange class
-        → IsAllReachable lts → IsTree lts arcs → IsBasis lts arcs basis → IsProblem lts problem → (r : Solved) × ProblemComes lts arcs basis class problem r }
+    ensures case { (s : CaseSetting) (r r' : CaseResult) → CaseComes s r → CaseComes s r' → r ≡ r' }
+    ensures problem { (s : Setting) (problem : Problem) (r r' : Solved) → ProblemComes s problem r → ProblemComes s problem r' → r ≡ r' }
+    ensures some { (s : Setting) (problem : Problem) → IsInRange s.lts → HasNumbersInRange s.class → IsAllReachable s.lts → IsTree s.lts s.tree
+        → IsBasis s.lts s.tree s.basis → IsProblem s.lts problem → (r : Solved) × ProblemComes s problem r }
 {}
 
 /// What is left of all problems, with the places kept so far, comes to one result, and all of them come to some.
 pub fn separation_is_one()
-    ensures one { (lts : System) (arcs : List Arc) (basis : CycleBasis) (class : Class) (last : Option Problem) (kept : List Place) (o o' : Separation) → ComesFrom lts (ProblemComes lts arcs basis class) last kept o → ComesFrom lts (ProblemComes lts arcs basis class) last kept o' → o ≡ o' }
-    ensures some { (lts : System) (arcs : List Arc) (basis : CycleBasis) (class : Class) → IsInRange lts → HasNumbersInRange class → IsAllReachable lts → IsTree lts arcs → IsBasis lts arcs basis → (o : Separation) × Comes lts (ProblemComes lts arcs basis class) o }
+    ensures one { (s : Setting) (last : Option Problem) (kept : List Place) (o o' : Separation) → ComesFrom s.lts (ProblemComes s) last kept o → ComesFrom s.lts (ProblemComes s) last kept o' → o ≡ o' }
+    ensures some { (s : Setting) → IsInRange s.lts → HasNumbersInRange s.class → IsAllReachable s.lts → IsTree s.lts s.tree → IsBasis s.lts s.tree s.basis → (o : Separation) × Comes s.lts (ProblemComes s) o }
 {}
 
 /// Solved in blocks of any lengths, whose results are taken over in the order of the problems, the problems come to what
 /// they come to one after the other.
 pub fn blocks_come_to_the_same()
-    ensures { (lts : System) (arcs : List Arc) (basis : CycleBasis) (class : Class) (last : Option Problem) (kept : List Place) (o : Separation) → ComesByBlocks lts (ProblemComes lts arcs basis class) last kept o → ComesFrom lts (ProblemComes lts arcs basis class) last kept o }
+    ensures { (s : Setting) (last : Option Problem) (kept : List Place) (o : Separation) → ComesByBlocks s.lts (ProblemComes s) last kept o → ComesFrom s.lts (ProblemComes s) last kept o }
 {}
 
 /// A refuted problem that ends the work is the first of all refuted problems, whatever places are kept. Else no problem is
 /// refuted, each place that is kept is that of a problem, and the places separate all problems, or the term is that of the
 /// first problem that none of them separates.
 pub fn separation_says()
-    ensures { (lts : System) (arcs : List Arc) (basis : CycleBasis) (class : Class) (o : Separation) → IsInRange lts → HasNumbersInRange class → IsAllReachable lts
-        → IsTree lts arcs → IsBasis lts arcs basis → Comes lts (ProblemComes lts arcs basis class) o → Says lts (ProblemComes lts arcs basis class) o }
+    ensures { (s : Setting) (o : Separation) → IsInRange s.lts → HasNumbersInRange s.class → IsAllReachable s.lts → IsTree s.lts s.tree → IsBasis s.lts s.tree s.basis
+        → Comes s.lts (ProblemComes s) o → Says s.lts (ProblemComes s) o }
 {}
 
 /// A problem all of whose cases are refuted is separated by no region of the class: a region would give some case a point
 /// with whole forms, and branching leaves none (Schrijver, *Theory of Linear and Integer Programming*).
 pub fn refuted_is_inseparable()
-    ensures { (lts : System) (arcs : List Arc) (basis : CycleBasis) (class : Class) (problem : Problem) (trees : List Tree) → IsInRange lts → HasNumbersInRange class
-        → IsAllReachable lts → IsTree lts arcs → IsBasis lts arcs basis → IsProblem lts problem → ProblemComes lts arcs basis class problem (Solved.refuted trees)
-        → IsInseparable lts class problem }
+    ensures { (s : Setting) (problem : Problem) (trees : List Tree) → IsInRange s.lts → HasNumbersInRange s.class → IsAllReachable s.lts → IsTree s.lts s.tree
+        → IsBasis s.lts s.tree s.basis → IsProblem s.lts problem → ProblemComes s problem (Solved.refuted trees) → IsInseparable s.lts s.class problem }
 {}
 
 /// The place that a problem comes to is a region of the class that separates it.
 pub fn placed_separates()
-    ensures { (lts : System) (arcs : List Arc) (basis : CycleBasis) (class : Class) (problem : Problem) (p : Place) → IsInRange lts → HasNumbersInRange class
-        → IsAllReachable lts → IsTree lts arcs → IsBasis lts arcs basis → IsProblem lts problem → ProblemComes lts arcs basis class problem (Solved.placed p)
-        → IsSeparatedIn lts class problem p }
+    ensures { (s : Setting) (problem : Problem) (p : Place) → IsInRange s.lts → HasNumbersInRange s.class → IsAllReachable s.lts → IsTree s.lts s.tree
+        → IsBasis s.lts s.tree s.basis → IsProblem s.lts problem → ProblemComes s problem (Solved.placed p) → IsSeparatedIn s.lts s.class problem p }
 {}
 
 /// A search for places comes to one result. A system and a class have one answer, and always one.

@@ -2,13 +2,13 @@
 use Rattle.std.proofs.Common.{◌≡◌, ℕ, ◌+◌, ◌||◌, is_some, Some, None, Bool, true, false, List, [], ◌∷◌, ◌++◌, length, map, unsigned_abs, Result, Ok, Err, inl, inr, ap, refl, sym, subst, ◌∙◌}
 use Rattle.std.specs.Prelude.{ℤ, pos, unwrap_or, IfOk}
 use Rattle.std.proofs.lemmas.List.{length-map, length-append}
-use Rattle.rg_theory.specs.declared.Arc.{Arc}
 use Rattle.rg_theory.specs.declared.Class.{Class}
 use Rattle.rg_theory.specs.declared.Problem.{Problem}
 use Rattle.rg_theory.specs.System.{System, states, labels}
 use Rattle.rg_theory.specs.Net.{Place}
 use Rattle.rg_integers.specs.declared.term.Wide.{Wide}
 use Rattle.rg_linear.specs.Cycle.{CycleBasis}
+use Rattle.rg_order_of_work.specs.Setting.{Setting}
 use Rattle.rg_order_of_work.specs.Fold.{gives, and_then, either, each, IsOne, Ratio, whole, add, mul, multiple_of_all}
 use Rattle.rg_order_of_work.proofs.FoldLemmas.{and_then_one, each_one}
 use Rattle.rg_order_of_work.proofs.OneResult.{effect_one, whole_one, along_one, shift_one}
@@ -133,56 +133,56 @@ module _ (lts : System) (basis : CycleBasis) (class : Class) (start : Ratio) (va
 
 -- ---- the place
 
-module _ (lts : System) (tree : List Arc) (basis : CycleBasis) (class : Class) (problem : Problem) (start : Ratio) (value : ℕ → Ratio) where
-  pub found_fails : (w : Wide) → found_fold lts basis class start value (Err w) → place_fold lts tree basis class problem start value (Err w)
+module _ (it : Setting) (problem : Problem) (start : Ratio) (value : ℕ → Ratio) where
+  pub found_fails : (w : Wide) → found_fold it.lts it.basis it.class start value (Err w) → place_fold it problem start value (Err w)
   found_fails w (inl effects) = inl effects
   found_fails w (inr (effects, made, h)) = inr (effects, made, inl h)
 
-  module _ (found : List Ratio) (is_found : found_fold lts basis class start value (Ok found)) where
-    along_passes : (w : Wide) → (effects : List Ratio) × each (effect_fold lts basis value) (all_numbers (labels lts)) (Ok effects)
-        × made_whole class (effects ++ start ∷ []) (Ok found) → along_tree (ratio_at found) (λ s. ratio_at found (labels lts)) tree (Err w)
-        → place_fold lts tree basis class problem start value (Err w)
+  module _ (found : List Ratio) (is_found : found_fold it.lts it.basis it.class start value (Ok found)) where
+    along_passes : (w : Wide) → (effects : List Ratio) × each (effect_fold it.lts it.basis value) (all_numbers (labels it.lts)) (Ok effects)
+        × made_whole it.class (effects ++ start ∷ []) (Ok found) → along_tree (ratio_at found) (λ s. ratio_at found (labels it.lts)) it.tree (Err w)
+        → place_fold it problem start value (Err w)
     along_passes w (effects, made, whole_made) h = inr (effects, made, inr (found, whole_made, inl h))
 
-    pub tree_fails : (w : Wide) → along_tree (ratio_at found) (λ s. ratio_at found (labels lts)) tree (Err w) → place_fold lts tree basis class problem start value (Err w)
+    pub tree_fails : (w : Wide) → along_tree (ratio_at found) (λ s. ratio_at found (labels it.lts)) it.tree (Err w) → place_fold it problem start value (Err w)
     tree_fails w h = along_passes w is_found h
 
-    module _ (before : List Ratio) (is_along : IsAlongTree lts tree found before) where
-      pub before_length : length before ≡ states lts
+    module _ (before : List Ratio) (is_along : IsAlongTree it.lts it.tree found before) where
+      pub before_length : length before ≡ states it.lts
       before_length = count is_along
         where
-          count : IsAlongTree lts tree found before → length before ≡ states lts
-          count (number, h, are) = ap length are ∙ length-map (all_numbers (states lts)) number ∙ all_length (states lts)
+          count : IsAlongTree it.lts it.tree found before → length before ≡ states it.lts
+          count (number, h, are) = ap length are ∙ length-map (all_numbers (states it.lts)) number ∙ all_length (states it.lts)
 
-      pub shift_fails : (w : Wide) → shift_fold lts class problem before (Err w) → place_fold lts tree basis class problem start value (Err w)
+      pub shift_fails : (w : Wide) → shift_fold it.lts it.class problem before (Err w) → place_fold it problem start value (Err w)
       shift_fails w h = go is_found is_along
         where
-          go : (effects : List Ratio) × each (effect_fold lts basis value) (all_numbers (labels lts)) (Ok effects) × made_whole class (effects ++ start ∷ []) (Ok found) → IsAlongTree lts tree found before → place_fold lts tree basis class problem start value (Err w)
-          go (effects, made, whole_made) (number, along, are) = inr (effects, made, inr (found, whole_made, inr (number, along, inl (subst (λ l. shift_fold lts class problem l (Err w)) are h))))
+          go : (effects : List Ratio) × each (effect_fold it.lts it.basis value) (all_numbers (labels it.lts)) (Ok effects) × made_whole it.class (effects ++ start ∷ []) (Ok found) → IsAlongTree it.lts it.tree found before → place_fold it problem start value (Err w)
+          go (effects, made, whole_made) (number, along, are) = inr (effects, made, inr (found, whole_made, inr (number, along, inl (subst (λ l. shift_fold it.lts it.class problem l (Err w)) are h))))
 
-      module _ (numbers : List Ratio) (is_shift : shift_fold lts class problem before (Ok numbers)) where
-        pub numbers_made : numbers_fold lts tree basis class problem start value (Ok numbers)
+      module _ (numbers : List Ratio) (is_shift : shift_fold it.lts it.class problem before (Ok numbers)) where
+        pub numbers_made : numbers_fold it problem start value (Ok numbers)
         numbers_made = go is_found is_along
           where
-            go : (effects : List Ratio) × each (effect_fold lts basis value) (all_numbers (labels lts)) (Ok effects) × made_whole class (effects ++ start ∷ []) (Ok found) → IsAlongTree lts tree found before → numbers_fold lts tree basis class problem start value (Ok numbers)
-            go (effects, made, whole_made) (number, along, are) = (effects, made, (found, whole_made, (number, along, subst (λ l. shift_fold lts class problem l (Ok numbers)) are is_shift)))
+            go : (effects : List Ratio) × each (effect_fold it.lts it.basis value) (all_numbers (labels it.lts)) (Ok effects) × made_whole it.class (effects ++ start ∷ []) (Ok found) → IsAlongTree it.lts it.tree found before → numbers_fold it problem start value (Ok numbers)
+            go (effects, made, whole_made) (number, along, are) = (effects, made, (found, whole_made, (number, along, subst (λ l. shift_fold it.lts it.class problem l (Ok numbers)) are is_shift)))
 
-        pub place_made_by : (r : Result Place Wide) → weights_fold lts class problem found numbers r → place_fold lts tree basis class problem start value r
+        pub place_made_by : (r : Result Place Wide) → weights_fold it.lts it.class problem found numbers r → place_fold it problem start value r
         place_made_by r h = go is_found is_along r h
           where
-            go : (effects : List Ratio) × each (effect_fold lts basis value) (all_numbers (labels lts)) (Ok effects)
-                × made_whole class (effects ++ start ∷ []) (Ok found) → IsAlongTree lts tree found before → (r : Result Place Wide)
-                → weights_fold lts class problem found numbers r → place_fold lts tree basis class problem start value r
-            go (effects, made, whole_made) (number, along, are) (Ok place) h = (effects, made, (found, whole_made, (number, along, (numbers, subst (λ l. shift_fold lts class problem l (Ok numbers)) are is_shift, h))))
-            go (effects, made, whole_made) (number, along, are) (Err w) h = inr (effects, made, inr (found, whole_made, inr (number, along, inr (numbers, subst (λ l. shift_fold lts class problem l (Ok numbers)) are is_shift, h))))
+            go : (effects : List Ratio) × each (effect_fold it.lts it.basis value) (all_numbers (labels it.lts)) (Ok effects)
+                × made_whole it.class (effects ++ start ∷ []) (Ok found) → IsAlongTree it.lts it.tree found before → (r : Result Place Wide)
+                → weights_fold it.lts it.class problem found numbers r → place_fold it problem start value r
+            go (effects, made, whole_made) (number, along, are) (Ok place) h = (effects, made, (found, whole_made, (number, along, (numbers, subst (λ l. shift_fold it.lts it.class problem l (Ok numbers)) are is_shift, h))))
+            go (effects, made, whole_made) (number, along, are) (Err w) h = inr (effects, made, inr (found, whole_made, inr (number, along, inr (numbers, subst (λ l. shift_fold it.lts it.class problem l (Ok numbers)) are is_shift, h))))
 
 -- ---- one list, and weights of all labels
 
-pub numbers_one : (lts : System) (tree : List Arc) (basis : CycleBasis) (class : Class) (problem : Problem) (start : Ratio) (value : ℕ → Ratio) → IsOne (numbers_fold lts tree basis class problem start value)
-numbers_one lts tree basis class problem start value = and_then_one _ _ (each_one _ (effect_one lts basis value) _) (λ effects. and_then_one _ _ (whole_one class _) (λ found. and_then_one _ _ (along_one _ _ tree) (λ number. shift_one lts class problem _)))
+pub numbers_one : (s : Setting) (problem : Problem) (start : Ratio) (value : ℕ → Ratio) → IsOne (numbers_fold s problem start value)
+numbers_one s problem start value = and_then_one _ _ (each_one _ (effect_one s.lts s.basis value) _) (λ effects. and_then_one _ _ (whole_one s.class _) (λ found. and_then_one _ _ (along_one _ _ s.tree) (λ number. shift_one s.lts s.class problem _)))
 
-pub weights_of_all : (lts : System) (tree : List Arc) (basis : CycleBasis) (class : Class) (problem : Problem) (start : Ratio) (value : ℕ → Ratio) (place : Place) → place_fold lts tree basis class problem start value (Ok place) → (length place.pre ≡ labels lts) × (length place.post ≡ labels lts)
-weights_of_all lts tree basis class problem start value place (effects, made, (found, whole_made, (number, along, (numbers, shift, (post, sums, e))))) = (
-  ap (λ (p : Place). length p.pre) e ∙ length-map (map (taken lts class problem numbers found) (all_numbers (labels lts))) unsigned_abs ∙ taken_length (taken lts class problem numbers found) (labels lts),
-  ap (λ (p : Place). length p.post) e ∙ length-map post unsigned_abs ∙ given_length (taken lts class problem numbers found) (top_at found) (labels lts) post sums,
+pub weights_of_all : (s : Setting) (problem : Problem) (start : Ratio) (value : ℕ → Ratio) (place : Place) → place_fold s problem start value (Ok place) → (length place.pre ≡ labels s.lts) × (length place.post ≡ labels s.lts)
+weights_of_all s problem start value place (effects, made, (found, whole_made, (number, along, (numbers, shift, (post, sums, e))))) = (
+  ap (λ (p : Place). length p.pre) e ∙ length-map (map (taken s.lts s.class problem numbers found) (all_numbers (labels s.lts))) unsigned_abs ∙ taken_length (taken s.lts s.class problem numbers found) (labels s.lts),
+  ap (λ (p : Place). length p.post) e ∙ length-map post unsigned_abs ∙ given_length (taken s.lts s.class problem numbers found) (top_at found) (labels s.lts) post sums,
 )

@@ -3,16 +3,14 @@ use Rattle.std.proofs.Common.{◌≡◌, ℕ, zero, suc, ◌≤◌, List, [], �
 use Rattle.std.specs.Prelude.{slice_index, IfOk}
 use Rattle.std.proofs.Math.Path.{fun_ext}
 use Rattle.std.proofs.lemmas.List.{length-map, get_or_default}
-use Rattle.rg_theory.specs.declared.Arc.{Arc}
-use Rattle.rg_theory.specs.declared.Class.{Class}
 use Rattle.rg_theory.specs.declared.Problem.{Problem}
-use Rattle.rg_theory.specs.System.{System, states, labels}
+use Rattle.rg_theory.specs.System.{states, labels}
 use Rattle.rg_theory.specs.Region.{RegionIn}
 use Rattle.rg_theory.specs.Problem.{Separates}
 use Rattle.rg_fraction.specs.declared.fraction.Fraction.{Fraction}
-use Rattle.rg_linear.specs.Cycle.{CycleBasis}
 use Rattle.rg_integers.specs.Range.{greatest}
 use Rattle.rg_net.specs.Shown.{shown_place}
+use Rattle.rg_order_of_work.specs.Setting.{Setting, case_at}
 use Rattle.rg_order_of_work.specs.Fold.{Ratio}
 use Rattle.rg_order_of_work.specs.Rewriting.{column_count}
 use Rattle.rg_order_of_work.specs.Placing.{place_fold}
@@ -31,17 +29,18 @@ tokens_in [] s = refl
 tokens_in (n ∷ numbers) zero = refl
 tokens_in (n ∷ numbers) (suc s) = tokens_in numbers s
 
-module _ (lts : System) (tree : List Arc) (basis : CycleBasis) (class : Class) (problem : Problem) (point : List Fraction) (r : RegionPlace) (numbers : List Ratio) where
-  region_of : numbers_fold lts tree basis class problem (point_start class point) (point_value lts basis class point) (Ok numbers)
-      → r.tokens.items ≡ map (λ n. unsigned_abs n.top) numbers → length numbers ≡ states lts → (length r.place.pre.items ≡ labels lts)
-      × (length r.place.post.items ≡ labels lts) → PlaceIsMade lts tree basis class problem (point_start class point) (point_value lts basis class point)
-      (shown_place r.place) → IsRegionPlace lts class r × PlaceSeparates problem r
+module _ (it : Setting) (problem : Problem) (point : List Fraction) (r : RegionPlace) (numbers : List Ratio) where
+  region_of : numbers_fold it problem (point_start it.class point) (point_value it.lts it.basis it.class point) (Ok numbers)
+      → r.tokens.items ≡ map (λ n. unsigned_abs n.top) numbers → length numbers ≡ states it.lts
+      → (length r.place.pre.items ≡ labels it.lts) × (length r.place.post.items ≡ labels it.lts)
+      → PlaceIsMade it problem (point_start it.class point) (point_value it.lts it.basis it.class point) (shown_place r.place)
+      → IsRegionPlace it.lts it.class r × PlaceSeparates problem r
   region_of made tokens count (pre, post) m = (
     record {
       states = ap length tokens ∙ length-map numbers (λ n. unsigned_abs n.top) ∙ count;
       pre = pre;
       post = post;
-      region = subst (RegionIn lts class (shown_place r.place)) (sym same) m.region;
+      region = subst (RegionIn it.lts it.class (shown_place r.place)) (sym same) m.region;
       in_range = record { start = m.fit.start; pre = m.fit.pre; post = m.fit.post };
       few_tokens = few;
     },
@@ -49,7 +48,7 @@ module _ (lts : System) (tree : List Arc) (basis : CycleBasis) (class : Class) (
   )
     where
       one_list : m.numbers ≡ numbers
-      one_list = ok_is m.numbers numbers ((numbers_one lts tree basis class problem (point_start class point) (point_value lts basis class point)).one (Ok m.numbers) (Ok numbers) m.made made)
+      one_list = ok_is m.numbers numbers ((numbers_one it problem (point_start it.class point) (point_value it.lts it.basis it.class point)).one (Ok m.numbers) (Ok numbers) m.made made)
 
       at : (s : ℕ) → region_tokens r s ≡ tokens_of m.numbers s
       at s = ap (λ l. slice_index l s) tokens ∙ tokens_in numbers s ∙ ap (λ l. tokens_of l s) (sym one_list)
@@ -60,12 +59,12 @@ module _ (lts : System) (tree : List Arc) (basis : CycleBasis) (class : Class) (
       few : All (λ n. n ≤ greatest) r.tokens.items
       few k d lt = subst (λ n. n ≤ greatest) (sym (get_or_default r.tokens.items k d 0 lt ∙ at k)) (m.fit.tokens k)
 
-  pub region_made : length point ≡ column_count lts basis class → IsLive lts problem → SolvesCase lts tree basis class problem point
-      → numbers_fold lts tree basis class problem (point_start class point) (point_value lts basis class point) (Ok numbers)
-      → place_fold lts tree basis class problem (point_start class point) (point_value lts basis class point) (Ok (shown_place r.place))
-      → r.tokens.items ≡ map (λ n. unsigned_abs n.top) numbers → length numbers ≡ states lts → IsRegionPlace lts class r × PlaceSeparates problem r
-  region_made columns live s made fold tokens count = region_of made tokens count (weights_of_all lts tree basis class problem (point_start class point) (point_value lts basis class point) (shown_place r.place) fold)
-      (point_makes lts tree basis class problem s.number s.case s.scale s.v (point_start class point) (point_value lts basis class point) (shown_place r.place) s.of_case live s.is_point s.meets s.whole (at_point lts basis class point columns s.scale s.v s.values) fold)
+  pub region_made : length point ≡ column_count it.lts it.basis it.class → IsLive it.lts problem → SolvesCase it problem point
+      → numbers_fold it problem (point_start it.class point) (point_value it.lts it.basis it.class point) (Ok numbers)
+      → place_fold it problem (point_start it.class point) (point_value it.lts it.basis it.class point) (Ok (shown_place r.place))
+      → r.tokens.items ≡ map (λ n. unsigned_abs n.top) numbers → length numbers ≡ states it.lts → IsRegionPlace it.lts it.class r × PlaceSeparates problem r
+  region_made columns live s made fold tokens count = region_of made tokens count (weights_of_all it problem (point_start it.class point) (point_value it.lts it.basis it.class point) (shown_place r.place) fold)
+      (point_makes (case_at it problem s.number) s.case s.scale s.v (point_start it.class point) (point_value it.lts it.basis it.class point) (shown_place r.place) s.of_case live s.is_point s.meets s.whole (at_point it.lts it.basis it.class point columns s.scale s.v s.values) fold)
 
 pub if_both : {X E : Type 0} (P Q R : X → Type 0) (r : Result X E) → ((x : X) → P x → Q x → R x) → IfOk r P → IfOk r Q → IfOk r R
 if_both P Q R (Ok x) f p q = f x p q

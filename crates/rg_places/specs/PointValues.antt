@@ -1,6 +1,5 @@
 -- What a point over the columns of a case's system says of Start and of the free labels.
 use Rattle.std.specs.Prelude.{ℕ, ◌<◌, ◌==◌, if◌then◌else◌, List, [], ◌∷◌, map, drop, length, ℤ, pos}
-use Rattle.rg_theory.specs.declared.Arc.{Arc}
 use Rattle.rg_theory.specs.System.{System}
 use Rattle.rg_theory.specs.declared.Class.{Class}
 use Rattle.rg_theory.specs.declared.Problem.{Problem}
@@ -9,6 +8,7 @@ use Rattle.rg_fraction.specs.declared.fraction.Fraction.{Fraction}
 use Rattle.rg_linear.specs.System.{IsPoint, MeetsRows}
 use Rattle.rg_linear.specs.Branching.{FormsWhole}
 use Rattle.rg_linear.specs.Cycle.{CycleBasis}
+use Rattle.rg_order_of_work.specs.Setting.{Setting, case_at}
 use Rattle.rg_order_of_work.specs.Fold.{Ratio, whole, ratio_of}
 use Rattle.rg_order_of_work.specs.Rewriting.{free_columns, has_start, CaseSystem, rows_of}
 use Rattle.rg_order_of_work.specs.Placing.{ratio_at}
@@ -37,10 +37,10 @@ abbrev pub HasValues : ℤ → (ℕ → ℤ) → List Fraction → Type 0
 HasValues scale v point = (j : ℕ) → j < length point → SameValue (ratio_at (ratios_of point) j).top (ratio_at (ratios_of point) j).bottom (v j) scale
 
 -- the point meets every row of the system of some case of the problem, and its forms are whole
-pub record SolvesCase (lts : System) (tree : List Arc) (basis : CycleBasis) (class : Class) (problem : Problem) (point : List Fraction) : Type 0 where
+pub record SolvesCase (s : Setting) (problem : Problem) (point : List Fraction) : Type 0 where
   pub number : ℕ
   pub case : CaseSystem
-  pub of_case : IsCaseOver lts tree basis class problem number case
+  pub of_case : IsCaseOver (case_at s problem number) case
   pub scale : ℤ
   pub v : ℕ → ℤ
   pub is_point : IsPoint (rows_of case) scale v

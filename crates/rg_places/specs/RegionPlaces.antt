@@ -1,12 +1,11 @@
 -- Places with their tokens at the states.
 use Rattle.std.specs.Prelude.{◌≡◌, ℕ, ◌≤◌, List, length, map, All, slice_index, Ok, unsigned_abs}
-use Rattle.rg_theory.specs.declared.Arc.{Arc}
 use Rattle.rg_theory.specs.System.{System, states, labels}
 use Rattle.rg_theory.specs.declared.Class.{Class}
 use Rattle.rg_theory.specs.Region.{RegionIn}
 use Rattle.rg_theory.specs.declared.Problem.{Problem}
 use Rattle.rg_theory.specs.Problem.{Separates}
-use Rattle.rg_linear.specs.Cycle.{CycleBasis}
+use Rattle.rg_order_of_work.specs.Setting.{Setting}
 use Rattle.rg_order_of_work.specs.Fold.{Ratio}
 use Rattle.rg_net.specs.Range.{IsPlaceInRange}
 use Rattle.rg_integers.specs.Range.{greatest}
@@ -32,7 +31,7 @@ abbrev pub PlaceSeparates : Problem → RegionPlace → Type 0
 PlaceSeparates problem r = Separates (shown_place r.place) (region_tokens r) problem
 
 -- the tokens are the numbers of the states that are made on the way to the place
-pub record AreTokensMade (lts : System) (tree : List Arc) (basis : CycleBasis) (class : Class) (problem : Problem) (start : Ratio) (value : ℕ → Ratio) (tokens : List ℕ) : Type 0 where
+pub record AreTokensMade (s : Setting) (problem : Problem) (start : Ratio) (value : ℕ → Ratio) (tokens : List ℕ) : Type 0 where
   pub numbers : List Ratio
-  pub made : numbers_fold lts tree basis class problem start value (Ok numbers)
+  pub made : numbers_fold s problem start value (Ok numbers)
   pub tokens_are : tokens ≡ map (λ n. unsigned_abs n.top) numbers

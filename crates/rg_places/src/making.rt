@@ -15,6 +15,7 @@ ghost use Rattle.rg_net.specs.Shown.{shown_place};
 ghost use Rattle.rg_places.specs.PointValues.{ratios_of, point_start, point_value, SolvesCase};
 ghost use Rattle.rg_places.specs.Steps.{found_fold, weights_fold};
 ghost use Rattle.rg_places.specs.RegionPlaces.{IsRegionPlace, PlaceSeparates, AreTokensMade};
+ghost use Rattle.rg_case_parts.specs.SettingViews.{setting_of};
 
 use crate::columns::columns_with;
 use crate::effects::effects;
@@ -60,10 +61,10 @@ pub fn make_place(
     requires labels { labels_of basis.now ≡ labels lts.now }
     requires asked { IsSeparationProblem lts.now problem }
     requires columns { length point.now ≡ column_count lts.now (cycle_of basis.now) class }
-    ensures place { IfOk result (λ r. place_fold lts.now tree.now.arcs (cycle_of basis.now) class problem (point_start class point.now) (point_value lts.now (cycle_of basis.now) class point.now) (Ok (shown_place r.place))) }
-    ensures tokens { IfOk result (λ r. AreTokensMade lts.now tree.now.arcs (cycle_of basis.now) class problem (point_start class point.now) (point_value lts.now (cycle_of basis.now) class point.now) r.tokens.items) }
-    ensures region { IfOk result (λ r. IsLive lts.now problem → SolvesCase lts.now tree.now.arcs (cycle_of basis.now) class problem point.now → IsRegionPlace lts.now class r × PlaceSeparates problem r) }
-    ensures wide { (w : Wide) → IsErrOf result (stop.Wide w) → place_fold lts.now tree.now.arcs (cycle_of basis.now) class problem (point_start class point.now) (point_value lts.now (cycle_of basis.now) class point.now) (Err w) }
+    ensures place { IfOk result (λ r. place_fold (setting_of lts.now tree.now basis.now class) problem (point_start class point.now) (point_value lts.now (cycle_of basis.now) class point.now) (Ok (shown_place r.place))) }
+    ensures tokens { IfOk result (λ r. AreTokensMade (setting_of lts.now tree.now basis.now class) problem (point_start class point.now) (point_value lts.now (cycle_of basis.now) class point.now) r.tokens.items) }
+    ensures region { IfOk result (λ r. IsLive lts.now problem → SolvesCase (setting_of lts.now tree.now basis.now class) problem point.now → IsRegionPlace lts.now class r × PlaceSeparates problem r) }
+    ensures wide { (w : Wide) → IsErrOf result (stop.Wide w) → place_fold (setting_of lts.now tree.now basis.now class) problem (point_start class point.now) (point_value lts.now (cycle_of basis.now) class point.now) (Err w) }
 {
     let found = found_numbers(alloc, lts, basis, class, point)?;
     let numbers = along_tree(alloc, lts, tree.arcs(), &found)?;

@@ -2,21 +2,19 @@
 use Rattle.std.proofs.Common.{◌≡◌, ℕ, max, ◌+◌, ◌<◌, ◌≤◌, ◌&&◌, not, is_some, Bool, true, false, if◌then◌else◌, Some, None, List, [], ◌∷◌, ◌++◌, map, drop, length, Result, Ok, Err, All, ap, refl, subst, sym, ◌∙◌, arith, inl, inr, append_assoc}
 use Rattle.std.proofs.lemmas.Int.{ints}
 use Rattle.std.specs.Prelude.{ℤ, pos, ◌*ℤ◌, ◌<ℤ◌, slice_index_or}
-use Rattle.std.proofs.lemmas.List.{append-nil, drop_all, get_or-map, length-map, get_or_default}
+use Rattle.std.proofs.lemmas.List.{append-nil, drop_all, get_or-map, get_or_default}
 use Rattle.std.specs.Arc.{arc_slice_items}
 use Rattle.rg_theory.specs.declared.Arc.{Arc}
 use Rattle.rg_theory.specs.declared.Class.{Class}
-use Rattle.rg_theory.specs.declared.Problem.{Problem}
-use Rattle.rg_theory.specs.System.{System}
 use Rattle.rg_theory.specs.ClassWords.{HasNumbersInRange}
 use Rattle.rg_integers.specs.declared.term.Wide.{Wide}
 use Rattle.rg_linear.specs.Branching.{Form}
-use Rattle.rg_linear.specs.Cycle.{CycleBasis}
 use Rattle.rg_refuting.specs.Expression.{Term, Expression, plus}
 use Rattle.rg_refuting.specs.declared.RowName.{RowName}
 use Rattle.rg_refuting.specs.Row.{row_expression}
 use Rattle.rg_refuting.specs.Row.{form_variable, step_of}
 use Rattle.rg_refuting.specs.declared.Form.{Form as SplitForm}
+use Rattle.rg_order_of_work.specs.Setting.{Setting, CaseSetting}
 use Rattle.rg_order_of_work.specs.Fold.{each}
 use Rattle.rg_order_of_work.specs.Rewriting.{Scaled, column_count, terms_fold, form_fold, form_low, form_high, KeptRow}
 use Rattle.rg_order_of_work.specs.FormRows.{form_row}
@@ -129,101 +127,100 @@ named_end class names i done so_far past = sym (append-nil done) ∙ ap (λ l. d
 
 -- ---- one form
 
-module _ (lts : System) (tree : List Arc) (basis : CycleBasis) (class : Class) (problem : Problem) (number : ℕ) (split : SplitForm) (e : Expression) (is : e ≡ row_expression lts class problem number [] (form_row lts.initial split)) where
-  pub terms_are : (r : Result Scaled Wide) → terms_fold lts tree basis class e.terms r → terms_fold lts tree basis class (plus (form_variable lts.initial split) ∷ []) r
-  terms_are r h = subst (λ (ts : List Term). terms_fold lts tree basis class ts r) (ap (λ (x : Expression). x.terms) is ∙ same_terms lts class problem number split) h
+module _ (it : CaseSetting) (split : SplitForm) (e : Expression) (is : e ≡ row_expression it.lts it.class it.problem it.number [] (form_row it.lts.initial split)) where
+  pub terms_are : (r : Result Scaled Wide) → terms_fold it.setting e.terms r → terms_fold it.setting (plus (form_variable it.lts.initial split) ∷ []) r
+  terms_are r h = subst (λ (ts : List Term). terms_fold it.setting ts r) (ap (λ (x : Expression). x.terms) is ∙ same_terms it.lts it.class it.problem it.number split) h
 
-  pub form_of_terms : (s : Scaled) (form : Form) → terms_fold lts tree basis class e.terms (Ok s) → form ≡ record { scale = pos (step_of class split) *ℤ s.multiple; coeffs = s.numbers; low = form_low split; high = form_high lts class split } → form_fold lts tree basis class split (Ok form)
+  pub form_of_terms : (s : Scaled) (form : Form) → terms_fold it.setting e.terms (Ok s) → form ≡ record { scale = pos (step_of it.class split) *ℤ s.multiple; coeffs = s.numbers; low = form_low split; high = form_high it.lts it.class split } → form_fold it.setting split (Ok form)
   form_of_terms s form h same = (s, terms_are (Ok s) h, same)
 
-  pub form_of_none : (w : Wide) → terms_fold lts tree basis class e.terms (Err w) → form_fold lts tree basis class split (Err w)
+  pub form_of_none : (w : Wide) → terms_fold it.setting e.terms (Err w) → form_fold it.setting split (Err w)
   form_of_none w h = inl (terms_are (Err w) h)
 
   -- the numbers are those of the row, so many times
-  pub times_row : (s : Scaled) (k : KeptRow) → terms_fold lts tree basis class e.terms (Ok s) → fold_of lts tree basis class problem number (form_row lts.initial split) (Ok k) → (d : ℕ) × (0 < d) × (s.numbers ≡ map (λ z. pos d *ℤ z) k.row.coeffs)
+  pub times_row : (s : Scaled) (k : KeptRow) → terms_fold it.setting e.terms (Ok s) → fold_of it (form_row it.lts.initial split) (Ok k) → (d : ℕ) × (0 < d) × (s.numbers ≡ map (λ z. pos d *ℤ z) k.row.coeffs)
   times_row s k h row =
-      let (divisor, same) = form_over_row lts tree basis class problem number split
-      (record { scale = pos (step_of class split) *ℤ s.multiple; coeffs = s.numbers; low = form_low split; high = form_high lts class split }) k
-      (form_of_terms s (record { scale = pos (step_of class split) *ℤ s.multiple; coeffs = s.numbers; low = form_low split; high = form_high lts class split }) h
+      let (divisor, same) = form_over_row it split
+      (record { scale = pos (step_of it.class split) *ℤ s.multiple; coeffs = s.numbers; low = form_low split; high = form_high it.lts it.class split }) k
+      (form_of_terms s (record { scale = pos (step_of it.class split) *ℤ s.multiple; coeffs = s.numbers; low = form_low split; high = form_high it.lts it.class split }) h
       refl) row in
       (max divisor 1, omega arith, same)
 
 -- the row at an index, and its name
-pub row_at_index : (lts : System) (tree : List Arc) (basis : CycleBasis) (class : Class) (problem : Problem) (number : ℕ) (names : List RowName) (all : List KeptRow)
-    (i : ℕ) (name : RowName) (k : KeptRow) → each (fold_of lts tree basis class problem number) names (Ok all) → i < length names → slice_index_or names i name ≡ name
-    → slice_index_or all i k ≡ k → fold_of lts tree basis class problem number name (Ok k) × (k.name ≡ name)
-row_at_index lts tree basis class problem number names all i name k made lt at at_k =
-    let fold = subst (λ n. fold_of lts tree basis class problem number n (Ok k)) at (subst (λ r. fold_of lts tree basis class problem number (slice_index_or names i name) (Ok r)) at_k (each_at (fold_of lts tree basis class problem number) names all i name k made lt)) in
+pub row_at_index : (s : CaseSetting) (names : List RowName) (all : List KeptRow) (i : ℕ) (name : RowName) (k : KeptRow) → each (fold_of s) names (Ok all)
+    → i < length names → slice_index_or names i name ≡ name → slice_index_or all i k ≡ k → fold_of s name (Ok k) × (k.name ≡ name)
+row_at_index s names all i name k made lt at at_k =
+    let fold = subst (λ n. fold_of s n (Ok k)) at (subst (λ r. fold_of s (slice_index_or names i name) (Ok r)) at_k (each_at (fold_of s) names all i name k made lt)) in
     (fold, named fold)
   where
-    named : fold_of lts tree basis class problem number name (Ok k) → k.name ≡ name
+    named : fold_of s name (Ok k) → k.name ≡ name
     named (scaled, terms, (constant, product, (same, d))) = same
 
 -- ---- the forms of the rows before index i
 
-pub record Keeps (lts : System) (tree : List Arc) (basis : CycleBasis) (class : Class) (names : List RowName) (rows : List CaseRow) (indices : List ℕ) (i : ℕ) (forms : List NamedForm) : Type 0 where
-  pub so_far : (r : Result (List Form) Wide) → each (form_fold lts tree basis class) (forms_in class (drop i names)) r → each (form_fold lts tree basis class) (forms_in class names) (behind (map linear_form forms) r)
-  pub splits : map split_of forms ++ forms_in class (drop i names) ≡ forms_in class names
-  pub made : All (IsMade lts class (column_count lts basis class) (map kept_row rows) indices) forms
+pub record Keeps (s : Setting) (names : List RowName) (rows : List CaseRow) (indices : List ℕ) (i : ℕ) (forms : List NamedForm) : Type 0 where
+  pub so_far : (r : Result (List Form) Wide) → each (form_fold s) (forms_in s.class (drop i names)) r → each (form_fold s) (forms_in s.class names) (behind (map linear_form forms) r)
+  pub splits : map split_of forms ++ forms_in s.class (drop i names) ≡ forms_in s.class names
+  pub made : All (IsMade s.lts s.class (column_count s.lts s.basis s.class) (map kept_row rows) indices) forms
 
 -- ---- the row at index i, which has a form
 
-module _ (lts : System) (tree : List Arc) (basis : CycleBasis) (class : Class) (problem : Problem) (number : ℕ) (names : List RowName) (i : ℕ) (d : RowName) (lt : i < length names) where
+module _ (it : CaseSetting) (names : List RowName) (i : ℕ) (d : RowName) (lt : i < length names) where
   abbrev name : RowName
   name = slice_index_or names i d
 
   pub next_name : drop i names ≡ slice_index_or names i d ∷ drop (i + 1) names
   next_name = from_index names i d lt
 
-  module _ (form : SplitForm) (is_form : Some form ≡ form_in class (slice_index_or names i d)) (e : Expression) (is_e : e ≡ row_expression lts class problem number [] (slice_index_or names i d)) where
-    named : name ≡ form_row lts.initial form
-    named = form_in_row lts.initial class name form (sym is_form)
+  module _ (form : SplitForm) (is_form : Some form ≡ form_in it.class (slice_index_or names i d)) (e : Expression) (is_e : e ≡ row_expression it.lts it.class it.problem it.number [] (slice_index_or names i d)) where
+    named : name ≡ form_row it.lts.initial form
+    named = form_in_row it.lts.initial it.class name form (sym is_form)
 
-    stepped : (m : ℤ) → m ≡ pos (step_of class form) *ℤ m
-    stepped m = once m ∙ ap (λ k. pos k *ℤ m) (sym (form_in_step class name form (sym is_form)))
+    stepped : (m : ℤ) → m ≡ pos (step_of it.class form) *ℤ m
+    stepped m = once m ∙ ap (λ k. pos k *ℤ m) (sym (form_in_step it.class name form (sym is_form)))
       where
         once : (m : ℤ) → m ≡ pos 1 *ℤ m
         once m = omega (arith, ints)
 
-    is_split : e ≡ row_expression lts class problem number [] (form_row lts.initial form)
-    is_split = is_e ∙ ap (row_expression lts class problem number []) named
+    is_split : e ≡ row_expression it.lts it.class it.problem it.number [] (form_row it.lts.initial form)
+    is_split = is_e ∙ ap (row_expression it.lts it.class it.problem it.number []) named
 
-    module _ (xs : List Form) (so_far : (r : Result (List Form) Wide) → each (form_fold lts tree basis class) (forms_in class (drop i names)) r → each (form_fold lts tree basis class) (forms_in class names) (behind xs r)) where
-      pub step_fails : (w : Wide) → terms_fold lts tree basis class e.terms (Err w) → each (form_fold lts tree basis class) (forms_in class names) (Err w)
-      step_fails w h = form_fails class (form_fold lts tree basis class) names i name next_name xs so_far form (sym is_form) w (form_of_none lts tree basis class problem number form e is_split w h)
+    module _ (xs : List Form) (so_far : (r : Result (List Form) Wide) → each (form_fold it.setting) (forms_in it.class (drop i names)) r → each (form_fold it.setting) (forms_in it.class names) (behind xs r)) where
+      pub step_fails : (w : Wide) → terms_fold it.setting e.terms (Err w) → each (form_fold it.setting) (forms_in it.class names) (Err w)
+      step_fails w h = form_fails it.class (form_fold it.setting) names i name next_name xs so_far form (sym is_form) w (form_of_none it form e is_split w h)
 
-      pub step_next : (f : NamedForm) (s : Scaled) → terms_fold lts tree basis class e.terms (Ok s) → f.scale ≡ s.multiple → (arc_slice_items f.coeffs) ≡ s.numbers
-          → f.low ≡ form_low form → f.high ≡ form_high lts class form → (r : Result (List Form) Wide)
-          → each (form_fold lts tree basis class) (forms_in class (drop (i + 1) names)) r
-          → each (form_fold lts tree basis class) (forms_in class names) (behind (xs ++ linear_form f ∷ []) r)
-      step_next f s h scale coeffs low high = form_next class (form_fold lts tree basis class) names i name next_name xs so_far form
-          (sym is_form) (linear_form f) (form_of_terms lts tree basis class problem number form e is_split s (linear_form f) h
+      pub step_next : (f : NamedForm) (s : Scaled) → terms_fold it.setting e.terms (Ok s) → f.scale ≡ s.multiple → (arc_slice_items f.coeffs) ≡ s.numbers
+          → f.low ≡ form_low form → f.high ≡ form_high it.lts it.class form → (r : Result (List Form) Wide)
+          → each (form_fold it.setting) (forms_in it.class (drop (i + 1) names)) r
+          → each (form_fold it.setting) (forms_in it.class names) (behind (xs ++ linear_form f ∷ []) r)
+      step_next f s h scale coeffs low high = form_next it.class (form_fold it.setting) names i name next_name xs so_far form
+          (sym is_form) (linear_form f) (form_of_terms it form e is_split s (linear_form f) h
           (λ j. record { scale = (scale ∙ stepped s.multiple) j; coeffs = coeffs j; low = low j; high = high j }))
 
-    pub step_named : (done : List SplitForm) → done ++ forms_in class (drop i names) ≡ forms_in class names → (f : NamedForm)
-        → f.form ≡ form → (done ++ split_of f ∷ []) ++ forms_in class (drop (i + 1) names) ≡ forms_in class names
-    step_named done so_far f same = ap (λ x. (done ++ x ∷ []) ++ forms_in class (drop (i + 1) names)) same ∙ named_next class names i name next_name done so_far form (sym is_form)
+    pub step_named : (done : List SplitForm) → done ++ forms_in it.class (drop i names) ≡ forms_in it.class names → (f : NamedForm)
+        → f.form ≡ form → (done ++ split_of f ∷ []) ++ forms_in it.class (drop (i + 1) names) ≡ forms_in it.class names
+    step_named done so_far f same = ap (λ x. (done ++ x ∷ []) ++ forms_in it.class (drop (i + 1) names)) same ∙ named_next it.class names i name next_name done so_far form (sym is_form)
 
-    module _ (rows : List CaseRow) (lt' : i < length rows) (made : each (fold_of lts tree basis class problem number) names (Ok (map kept_row rows))) (row : CaseRow) (is_row : row ≡ slice_index_or rows i row) where
-      row_is : fold_of lts tree basis class problem number name (Ok (kept_row row)) × ((kept_row row).name ≡ name)
-      row_is = row_at_index lts tree basis class problem number names (map kept_row rows) i name (kept_row row) made
+    module _ (rows : List CaseRow) (lt' : i < length rows) (made : each (fold_of it) names (Ok (map kept_row rows))) (row : CaseRow) (is_row : row ≡ slice_index_or rows i row) where
+      row_is : fold_of it name (Ok (kept_row row)) × ((kept_row row).name ≡ name)
+      row_is = row_at_index it names (map kept_row rows) i name (kept_row row) made
           lt (get_or_default names i name d lt)
           (get_or-map kept_row rows i row (kept_row row) lt' ∙ ap kept_row (sym is_row))
 
-      pub step_times : (s : Scaled) → terms_fold lts tree basis class e.terms (Ok s) → (t : ℕ) × (0 < t) × (s.numbers ≡ map (λ z. pos t *ℤ z) (arc_slice_items row.coeffs))
-      step_times s h = times_row lts tree basis class problem number form e is_split s (kept_row row) h (subst (λ n. fold_of lts tree basis class problem number n (Ok (kept_row row))) named row_is.0)
+      pub step_times : (s : Scaled) → terms_fold it.setting e.terms (Ok s) → (t : ℕ) × (0 < t) × (s.numbers ≡ map (λ z. pos t *ℤ z) (arc_slice_items row.coeffs))
+      step_times s h = times_row it form e is_split s (kept_row row) h (subst (λ n. fold_of it n (Ok (kept_row row))) named row_is.0)
 
       pub step_made : (columns : ℕ) (indices : List ℕ) (f : NamedForm) → f.form ≡ form → IsPartOf f (arc_slice_items row.coeffs) (slice_index_or indices i 0)
-          → (f.low ≡ form_low form) × (f.high ≡ form_high lts class form) → length (arc_slice_items f.coeffs) ≡ columns
-          → (HasNumbersInRange class → pos 0 <ℤ f.scale) → InRange f.scale → All InRange (arc_slice_items f.coeffs) → InRange f.times
-          → IsMade lts class columns (map kept_row rows) indices f
+          → (f.low ≡ form_low form) × (f.high ≡ form_high it.lts it.class form) → length (arc_slice_items f.coeffs) ≡ columns
+          → (HasNumbersInRange it.class → pos 0 <ℤ f.scale) → InRange f.scale → All InRange (arc_slice_items f.coeffs) → InRange f.times
+          → IsMade it.lts it.class columns (map kept_row rows) indices f
       step_made columns indices f same part bounds one_each positive scale coeffs times = record {
         number = i;
         row = kept_row row;
         at = row_got rows i row lt' is_row;
-        named = row_is.1 ∙ named ∙ ap (λ x. form_row lts.initial x) (sym same);
+        named = row_is.1 ∙ named ∙ ap (λ x. form_row it.lts.initial x) (sym same);
         part = part;
-        bounds = (bounds.0 ∙ ap (λ x. form_low x) (sym same), bounds.1 ∙ ap (λ x. form_high lts class x) (sym same));
+        bounds = (bounds.0 ∙ ap (λ x. form_low x) (sym same), bounds.1 ∙ ap (λ x. form_high it.lts it.class x) (sym same));
         one_each = one_each;
         positive = positive;
         scale_in_range = scale;

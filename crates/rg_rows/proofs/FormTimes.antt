@@ -9,10 +9,6 @@ use Rattle.std.proofs.lemmas.List.{length-map, get_or_default}
 use Rattle.std.proofs.lemmas.List.Elements.{All-nil, All-cons, All-head, All-tail}
 use Rattle.std.proofs.lemmas.Option.{slice_get_within, get_or_from_slice_get}
 use Rattle.std.specs.Arc.{arc_slice_items}
-use Rattle.rg_theory.specs.declared.Arc.{Arc}
-use Rattle.rg_theory.specs.declared.Class.{Class}
-use Rattle.rg_theory.specs.declared.Problem.{Problem}
-use Rattle.rg_theory.specs.System.{System}
 use Rattle.rg_integers.specs.Range.{InRange}
 use Rattle.rg_integers.specs.Sum.{number_at}
 use Rattle.rg_integers.proofs.Ring.{ring}
@@ -20,9 +16,10 @@ use Rattle.rg_integers.proofs.Order.{mul-cancel}
 use Rattle.rg_integers.proofs.Divisors.{exact}
 use Rattle.rg_integers.proofs.Casts.{back}
 use Rattle.rg_linear.specs.System.{row_at}
-use Rattle.rg_linear.specs.Cycle.{CycleBasis, IsZeroVector}
+use Rattle.rg_linear.specs.Cycle.{IsZeroVector}
 use Rattle.rg_refuting.specs.Row.{row_expression}
 use Rattle.rg_refuting.specs.declared.RowName.{RowName}
+use Rattle.rg_order_of_work.specs.Setting.{CaseSetting}
 use Rattle.rg_order_of_work.specs.Fold.{each}
 use Rattle.rg_order_of_work.specs.Rewriting.{KeptRow, CaseSystem, rows_of}
 use Rattle.rg_order_of_work.specs.FormRows.{form_row, IsMultipleOfRow}
@@ -49,24 +46,24 @@ differs t h e = omega (arith, ints)
 has_at : (xs : List KeptRow) (i : ℕ) (r : KeptRow) → slice_get xs i ≡ Some r → Contains xs r
 has_at xs i r at = (i, slice_get_within xs i r at, get_or_from_slice_get xs i r r at)
 
-module _ (lts : System) (tree : List Arc) (basis : CycleBasis) (class : Class) (problem : Problem) (number : ℕ) (names : List RowName) (case : CaseSystem)
-    (all : List KeptRow) (indices : List ℕ) (made : each (fold_of lts tree basis class problem number) names (Ok all)) (are : AreIndices all case.kept indices)
-    (columns : ℕ) (f : NamedForm) (is : IsMade lts class columns all indices f) where
-  own_fold : fold_of lts tree basis class problem number (form_row lts.initial (split_of f)) (Ok is.row)
+module _ (s : CaseSetting) (names : List RowName) (case : CaseSystem)
+    (all : List KeptRow) (indices : List ℕ) (made : each (fold_of s) names (Ok all)) (are : AreIndices all case.kept indices)
+    (columns : ℕ) (f : NamedForm) (is : IsMade s.lts s.class columns all indices f) where
+  own_fold : fold_of s (form_row s.lts.initial (split_of f)) (Ok is.row)
   own_fold =
-      let (name, has, fold) = made_from (fold_of lts tree basis class problem number) names all is.row made (has_at all is.number is.row is.at) in
-      subst (λ n. fold_of lts tree basis class problem number n (Ok is.row)) (sym (name_is name fold) ∙ is.named) fold
+      let (name, has, fold) = made_from (fold_of s) names all is.row made (has_at all is.number is.row is.at) in
+      subst (λ n. fold_of s n (Ok is.row)) (sym (name_is name fold) ∙ is.named) fold
     where
-      name_is : (name : RowName) → fold_of lts tree basis class problem number name (Ok is.row) → is.row.name ≡ name
+      name_is : (name : RowName) → fold_of s name (Ok is.row) → is.row.name ≡ name
       name_is name (scaled, terms, (constant, product, (same, d))) = same
 
   -- a form with coefficients is a multiple of the kept row at its index
   index_is : (arc_slice_items f.coeffs) ≡ map (λ z. f.times *ℤ z) is.row.row.coeffs → f.row ≡ slice_index_or indices is.number 0 → ¬ IsZeroVector (arc_slice_items f.coeffs) → slice_get (rows_of case).rows f.row ≡ Some is.row.row
   index_is e index some = ap (λ p. slice_get (rows_of case).rows p) index ∙ are.each is.number is.row is.at (λ (zeros, weak). some (subst IsZeroVector (sym e) (times_zero f.times is.row.row.coeffs zeros)))
 
-  pub stands_in_row : StandsInRow lts tree basis class problem number (rows_of case) f
+  pub stands_in_row : StandsInRow s (rows_of case) f
   stands_in_row = λ k fold.
-      (let one = (row_one lts tree basis class (form_row lts.initial (split_of f)) (row_expression lts class problem number [] (form_row lts.initial (split_of f)))).one (Ok is.row) (Ok k) own_fold fold in
+      (let one = (row_one s.setting (form_row s.lts.initial (split_of f)) (row_expression s.lts s.class s.problem s.number [] (form_row s.lts.initial (split_of f)))).one (Ok is.row) (Ok k) own_fold fold in
       let same : is.row ≡ k = cc in
       ⊎_elim
       (λ (positive, e, index, some). inl (differs f.times positive, index_is e index some ∙ ap (λ (r : KeptRow). Some r.row) same))

@@ -1,18 +1,14 @@
 -- The steps of a row's fold.
-use Rattle.std.proofs.Common.{◌≡◌, ℕ, ◌<◌, List, [], map, length, Result, Ok, Err, ap, subst, sym, ◌∙◌, inl, inr}
-use Rattle.std.specs.Prelude.{ℤ, pos, slice_index_or, IfOk}
-use Rattle.std.proofs.lemmas.List.{get_or-map}
-use Rattle.rg_theory.specs.declared.Arc.{Arc}
-use Rattle.rg_theory.specs.declared.Class.{Class}
-use Rattle.rg_theory.specs.declared.Problem.{Problem}
-use Rattle.rg_theory.specs.System.{System, labels}
+use Rattle.std.proofs.Common.{◌≡◌, ℕ, ◌<◌, List, [], length, Result, Ok, Err, ap, subst, sym, ◌∙◌, inl, inr}
+use Rattle.std.specs.Prelude.{ℤ, pos, IfOk}
+use Rattle.rg_theory.specs.System.{labels}
 use Rattle.rg_integers.specs.declared.term.Wide.{Wide}
 use Rattle.rg_linear.specs.Branching.{Form}
-use Rattle.rg_linear.specs.Cycle.{CycleBasis}
 use Rattle.rg_refuting.specs.Expression.{Term, Expression}
 use Rattle.rg_refuting.specs.declared.RowName.{RowName}
 use Rattle.rg_fraction.specs.declared.fraction.Fraction.{Fraction}
 use Rattle.rg_fraction.specs.Fractions.{numerator_of, denominator_of, IsValue, IsProduct}
+use Rattle.rg_order_of_work.specs.Setting.{Setting, CaseSetting}
 use Rattle.rg_order_of_work.proofs.FoldLemmas.{mul_step}
 use Rattle.rg_order_of_work.specs.Fold.{shown_result, ratio_of, each, Ratio, whole, mul}
 use Rattle.rg_order_of_work.specs.Rewriting.{start_of, count_of, substitute_fold, columns_of, Scaled, scaled_fold, terms_fold, KeptRow, IsDivided, row_fold, names_of, split_forms, form_fold, column_count, CaseSystem, IsIdle, system_fold}
@@ -24,11 +20,11 @@ use Rattle.rg_order_of_work.proofs.Folding.{whole_is}
 
 -- ---- from the counts of labels to the columns
 
-module _ (lts : System) (tree : List Arc) (basis : CycleBasis) (class : Class) (terms : List Term) where
-  pub terms_unsubstituted : (w : Wide) → substitute_fold (labels lts) basis (count_of tree terms) (Err w) → terms_fold lts tree basis class terms (Err w)
+module _ (it : Setting) (terms : List Term) where
+  pub terms_unsubstituted : (w : Wide) → substitute_fold (labels it.lts) it.basis (count_of it.tree terms) (Err w) → terms_fold it terms (Err w)
   terms_unsubstituted w h = inl h
 
-  pub terms_scaled : (free : List Ratio) → substitute_fold (labels lts) basis (count_of tree terms) (Ok free) → (r : Result Scaled Wide) → scaled_fold (columns_of lts basis class (start_of terms) free) r → terms_fold lts tree basis class terms r
+  pub terms_scaled : (free : List Ratio) → substitute_fold (labels it.lts) it.basis (count_of it.tree terms) (Ok free) → (r : Result Scaled Wide) → scaled_fold (columns_of it.lts it.basis it.class (start_of terms) free) r → terms_fold it terms r
   terms_scaled free h (Ok s) k = (free, h, k)
   terms_scaled free h (Err w) k = inr (free, h, k)
 
@@ -42,46 +38,46 @@ if_ok_more (Ok t) P Q more h = more t h
 if_ok_more (Err e) P Q more h = h
 
 -- the columns of the code, where its counts are those of the terms
-module _ (lts : System) (tree : List Arc) (basis : CycleBasis) (class : Class) (terms : List Term) (n : ℕ) (same : labels lts ≡ n) (counts : ℕ → ℤ) (equal : (t : ℕ) → t < n → counts t ≡ count_of tree terms t) where
-  substituted : (r : Result (List Ratio) Wide) → substitute_fold n basis counts r → substitute_fold (labels lts) basis (count_of tree terms) r
-  substituted r h = subst (λ k. substitute_fold k basis (count_of tree terms) r) (sym same) (substitute_same n basis counts (count_of tree terms) equal r h)
+module _ (s : Setting) (terms : List Term) (n : ℕ) (same : labels s.lts ≡ n) (counts : ℕ → ℤ) (equal : (t : ℕ) → t < n → counts t ≡ count_of s.tree terms t) where
+  substituted : (r : Result (List Ratio) Wide) → substitute_fold n s.basis counts r → substitute_fold (labels s.lts) s.basis (count_of s.tree terms) r
+  substituted r h = subst (λ k. substitute_fold k s.basis (count_of s.tree terms) r) (sym same) (substitute_same n s.basis counts (count_of s.tree terms) equal r h)
 
-  pub columns_unsubstituted : (w : Wide) → substitute_fold n basis counts (Err w) → terms_fold lts tree basis class terms (Err w)
-  columns_unsubstituted w h = terms_unsubstituted lts tree basis class terms w (substituted (Err w) h)
+  pub columns_unsubstituted : (w : Wide) → substitute_fold n s.basis counts (Err w) → terms_fold s terms (Err w)
+  columns_unsubstituted w h = terms_unsubstituted s terms w (substituted (Err w) h)
 
-  module _ (free : List Ratio) (found : substitute_fold n basis counts (Ok free)) (numbers : List Ratio) (start : ℤ) (starts : start ≡ start_of terms) (picked : numbers ≡ columns_of lts basis class start free) where
-    pub columns_scaled : (r : Result Scaled Wide) → scaled_fold numbers r → terms_fold lts tree basis class terms r
-    columns_scaled r h = terms_scaled lts tree basis class terms free (substituted (Ok free) found) r (subst (λ l. scaled_fold l r) (picked ∙ ap (λ z. columns_of lts basis class z free) starts) h)
+  module _ (free : List Ratio) (found : substitute_fold n s.basis counts (Ok free)) (numbers : List Ratio) (start : ℤ) (starts : start ≡ start_of terms) (picked : numbers ≡ columns_of s.lts s.basis s.class start free) where
+    pub columns_scaled : (r : Result Scaled Wide) → scaled_fold numbers r → terms_fold s terms r
+    columns_scaled r h = terms_scaled s terms free (substituted (Ok free) found) r (subst (λ l. scaled_fold l r) (picked ∙ ap (λ z. columns_of s.lts s.basis s.class z free) starts) h)
 
-    pub columns_many : length numbers ≡ column_count lts basis class
-    columns_many = ap length picked ∙ columns_length lts basis class start (count_of tree terms) free (substituted (Ok free) found)
+    pub columns_many : length numbers ≡ column_count s.lts s.basis s.class
+    columns_many = ap length picked ∙ columns_length s.lts s.basis s.class start (count_of s.tree terms) free (substituted (Ok free) found)
 
 -- ---- from the columns to the row
 
-module _ (lts : System) (tree : List Arc) (basis : CycleBasis) (class : Class) (name : RowName) (e : Expression) where
-  pub row_unscaled : (w : Wide) → terms_fold lts tree basis class e.terms (Err w) → row_fold lts tree basis class name e (Err w)
+module _ (s : Setting) (name : RowName) (e : Expression) where
+  pub row_unscaled : (w : Wide) → terms_fold s e.terms (Err w) → row_fold s name e (Err w)
   row_unscaled w h = inl h
 
-  module _ (scaled : Scaled) (terms : terms_fold lts tree basis class e.terms (Ok scaled)) where
-    pub row_unmade : (w : Wide) → mul (whole e.constant) (whole scaled.multiple) (Err w) → row_fold lts tree basis class name e (Err w)
+  module _ (scaled : Scaled) (terms : terms_fold s e.terms (Ok scaled)) where
+    pub row_unmade : (w : Wide) → mul (whole e.constant) (whole scaled.multiple) (Err w) → row_fold s name e (Err w)
     row_unmade w h = inr (scaled, terms, inl h)
 
-    pub row_made : (constant : Ratio) (out : KeptRow) → mul (whole e.constant) (whole scaled.multiple) (Ok constant) → out.name ≡ name → IsDivided scaled constant.top out → row_fold lts tree basis class name e (Ok out)
+    pub row_made : (constant : Ratio) (out : KeptRow) → mul (whole e.constant) (whole scaled.multiple) (Ok constant) → out.name ≡ name → IsDivided scaled constant.top out → row_fold s name e (Ok out)
     row_made constant out h same is = (scaled, terms, (constant, h, (same, is)))
 
 -- ---- the rows of the code
 
 -- ---- from the rows to the case
 
-module _ (lts : System) (tree : List Arc) (basis : CycleBasis) (class : Class) (problem : Problem) (number : ℕ) (names : List RowName) (named : names ≡ names_of lts class problem number) where
-  pub case_fails : (w : Wide) → each (fold_of lts tree basis class problem number) names (Err w) → system_fold lts tree basis class problem number (Err w)
-  case_fails w h = inl (subst (λ l. each (fold_of lts tree basis class problem number) l (Err w)) named h)
+module _ (s : CaseSetting) (names : List RowName) (named : names ≡ names_of s.lts s.class s.problem s.number) where
+  pub case_fails : (w : Wide) → each (fold_of s) names (Err w) → system_fold s (Err w)
+  case_fails w h = inl (subst (λ l. each (fold_of s) l (Err w)) named h)
 
-  module _ (all : List KeptRow) (made : each (fold_of lts tree basis class problem number) names (Ok all)) where
-    pub forms_fail : (w : Wide) → each (form_fold lts tree basis class) (split_forms lts class problem) (Err w) → system_fold lts tree basis class problem number (Err w)
-    forms_fail w h = inr (all, subst (λ l. each (fold_of lts tree basis class problem number) l (Ok all)) named made, inl h)
+  module _ (all : List KeptRow) (made : each (fold_of s) names (Ok all)) where
+    pub forms_fail : (w : Wide) → each (form_fold s.setting) (split_forms s.lts s.class s.problem) (Err w) → system_fold s (Err w)
+    forms_fail w h = inr (all, subst (λ l. each (fold_of s) l (Ok all)) named made, inl h)
 
-    pub case_made : (forms : List Form) (shown : CaseSystem) → each (form_fold lts tree basis class) (split_forms lts class problem) (Ok forms)
-        → shown.columns ≡ column_count lts basis class → KeepsFirsts (λ k. k.row) IsIdle [] all shown.kept → shown.forms ≡ forms
-        → system_fold lts tree basis class problem number (Ok shown)
-    case_made forms shown forms_made columns firsts same = (all, subst (λ l. each (fold_of lts tree basis class problem number) l (Ok all)) named made, (forms, forms_made, (columns, firsts, same)))
+    pub case_made : (forms : List Form) (shown : CaseSystem) → each (form_fold s.setting) (split_forms s.lts s.class s.problem) (Ok forms)
+        → shown.columns ≡ column_count s.lts s.basis s.class → KeepsFirsts (λ k. k.row) IsIdle [] all shown.kept → shown.forms ≡ forms
+        → system_fold s (Ok shown)
+    case_made forms shown forms_made columns firsts same = (all, subst (λ l. each (fold_of s) l (Ok all)) named made, (forms, forms_made, (columns, firsts, same)))

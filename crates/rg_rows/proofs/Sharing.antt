@@ -4,7 +4,6 @@ use Rattle.std.specs.Prelude.{slice_get, slice_index_or, IfOk, IfSome, IsErrOf}
 use Rattle.std.specs.Slice.{IsGetResult}
 use Rattle.std.proofs.lemmas.List.{get_or-map}
 use Rattle.std.specs.Arc.{arc_slice_items}
-use Rattle.rg_theory.specs.declared.Arc.{Arc}
 use Rattle.rg_theory.specs.declared.Class.{Class}
 use Rattle.rg_theory.specs.declared.Problem.{Problem}
 use Rattle.rg_theory.specs.declared.Problem.TheVariants.{Event, States}
@@ -12,10 +11,10 @@ use Rattle.rg_theory.specs.System.{System, states, labels}
 use Rattle.rg_integers.specs.declared.term.Wide.{Wide}
 use Rattle.rg_fraction.specs.declared.fold_stop.FoldStop.{FoldStop}
 use Rattle.rg_fraction.specs.declared.fold_stop.FoldStop.TheVariants as stop
-use Rattle.rg_linear.specs.Cycle.{CycleBasis}
 use Rattle.rg_refuting.specs.Expression.{Expression, plus, minus}
 use Rattle.rg_refuting.specs.Row.{row_expression, shared_expression}
 use Rattle.rg_refuting.specs.declared.RowName.{RowName}
+use Rattle.rg_order_of_work.specs.Setting.{Setting, CaseSetting, setting_at}
 use Rattle.rg_order_of_work.specs.Fold.{shown_result}
 use Rattle.rg_order_of_work.specs.Rewriting.{has_start, column_count, terms_fold, row_fold}
 use Rattle.rg_case_parts.specs.declared.scaled.Scaled.{Scaled}
@@ -73,28 +72,28 @@ terms_within lts class kind.Makes i lt = absurd (omega arith)
 
 -- ---- written once
 
-module _ (lts : System) (tree : List Arc) (basis : CycleBasis) (class : Class) (name : RowName) (e : Expression) (is : e ≡ shared_expression lts class [] name) (n : ℕ) (same : labels lts ≡ n) (columns : Columns) (are : AreColumns lts class columns) where
+module _ (it : Setting) (name : RowName) (e : Expression) (is : e ≡ shared_expression it.lts it.class [] name) (n : ℕ) (same : labels it.lts ≡ n) (columns : Columns) (are : AreColumns it.lts it.class columns) where
   pub row_shared : (result : Result CaseRow FoldStop) (w : Result CaseRow Wide) → result ≡ or_wide w
-      → IfOk result (λ r. (lts : System) (class : Class) → labels lts ≡ n → AreColumns lts class columns → row_fold lts tree basis class name e (Ok (kept_row r)))
-      → IfOk result (λ r. (lts : System) (class : Class) → labels lts ≡ n → AreColumns lts class columns → length (arc_slice_items r.coeffs) ≡ column_count lts basis class)
-      → ((x : Wide) → IsErrOf result (stop.Wide x) → (lts : System) (class : Class) → labels lts ≡ n → AreColumns lts class columns → row_fold lts tree basis class name e (Err x))
-      → IsSharedRow lts tree basis class name w
+      → IfOk result (λ r. (lts : System) (class : Class) → labels lts ≡ n → AreColumns lts class columns → row_fold (setting_at lts it.tree it.basis class) name e (Ok (kept_row r)))
+      → IfOk result (λ r. (lts : System) (class : Class) → labels lts ≡ n → AreColumns lts class columns → length (arc_slice_items r.coeffs) ≡ column_count lts it.basis class)
+      → ((x : Wide) → IsErrOf result (stop.Wide x) → (lts : System) (class : Class) → labels lts ≡ n → AreColumns lts class columns → row_fold (setting_at lts it.tree it.basis class) name e (Err x))
+      → IsSharedRow it name w
   row_shared result (Ok r) so value one_each wide = (
-    subst (λ x. row_fold lts tree basis class name x (Ok (kept_row r))) is (subst (λ y. IfOk y (λ r. (lts : System) (class : Class) → labels lts ≡ n → AreColumns lts class columns → row_fold lts tree basis class name e (Ok (kept_row r)))) so value lts class same are),
-    subst (λ y. IfOk y (λ r. (lts : System) (class : Class) → labels lts ≡ n → AreColumns lts class columns → length (arc_slice_items r.coeffs) ≡ column_count lts basis class)) so one_each lts class same are,
+    subst (λ x. row_fold it name x (Ok (kept_row r))) is (subst (λ y. IfOk y (λ r. (lts : System) (class : Class) → labels lts ≡ n → AreColumns lts class columns → row_fold (setting_at lts it.tree it.basis class) name e (Ok (kept_row r)))) so value it.lts it.class same are),
+    subst (λ y. IfOk y (λ r. (lts : System) (class : Class) → labels lts ≡ n → AreColumns lts class columns → length (arc_slice_items r.coeffs) ≡ column_count lts it.basis class)) so one_each it.lts it.class same are,
   )
-  row_shared result (Err x) so value one_each wide = (subst (λ y. row_fold lts tree basis class name y (Err x)) is (wide x so lts class same are), tt)
+  row_shared result (Err x) so value one_each wide = (subst (λ y. row_fold it name y (Err x)) is (wide x so it.lts it.class same are), tt)
 
   pub terms_shared : (result : Result Scaled FoldStop) (w : Result Scaled Wide) → result ≡ or_wide w
-      → IfOk result (λ s. (lts : System) (class : Class) → labels lts ≡ n → AreColumns lts class columns → terms_fold lts tree basis class e.terms (Ok (scaled_of s)))
-      → IfOk result (λ s. (lts : System) (class : Class) → labels lts ≡ n → AreColumns lts class columns → length s.numbers.items ≡ column_count lts basis class)
-      → ((x : Wide) → IsErrOf result (stop.Wide x) → (lts : System) (class : Class) → labels lts ≡ n → AreColumns lts class columns → terms_fold lts tree basis class e.terms (Err x))
-      → AreSharedTerms lts tree basis class name w
+      → IfOk result (λ s. (lts : System) (class : Class) → labels lts ≡ n → AreColumns lts class columns → terms_fold (setting_at lts it.tree it.basis class) e.terms (Ok (scaled_of s)))
+      → IfOk result (λ s. (lts : System) (class : Class) → labels lts ≡ n → AreColumns lts class columns → length s.numbers.items ≡ column_count lts it.basis class)
+      → ((x : Wide) → IsErrOf result (stop.Wide x) → (lts : System) (class : Class) → labels lts ≡ n → AreColumns lts class columns → terms_fold (setting_at lts it.tree it.basis class) e.terms (Err x))
+      → AreSharedTerms it name w
   terms_shared result (Ok s) so value one_each wide = (
-    subst (λ (x : Expression). terms_fold lts tree basis class x.terms (Ok (scaled_of s))) is (subst (λ y. IfOk y (λ s. (lts : System) (class : Class) → labels lts ≡ n → AreColumns lts class columns → terms_fold lts tree basis class e.terms (Ok (scaled_of s)))) so value lts class same are),
-    subst (λ y. IfOk y (λ s. (lts : System) (class : Class) → labels lts ≡ n → AreColumns lts class columns → length s.numbers.items ≡ column_count lts basis class)) so one_each lts class same are,
+    subst (λ (x : Expression). terms_fold it x.terms (Ok (scaled_of s))) is (subst (λ y. IfOk y (λ s. (lts : System) (class : Class) → labels lts ≡ n → AreColumns lts class columns → terms_fold (setting_at lts it.tree it.basis class) e.terms (Ok (scaled_of s)))) so value it.lts it.class same are),
+    subst (λ y. IfOk y (λ s. (lts : System) (class : Class) → labels lts ≡ n → AreColumns lts class columns → length s.numbers.items ≡ column_count lts it.basis class)) so one_each it.lts it.class same are,
   )
-  terms_shared result (Err x) so value one_each wide = (subst (λ (y : Expression). terms_fold lts tree basis class y.terms (Err x)) is (wide x so lts class same are), tt)
+  terms_shared result (Err x) so value one_each wide = (subst (λ (y : Expression). terms_fold it y.terms (Err x)) is (wide x so it.lts it.class same are), tt)
 
 -- what holds of each item and its index holds with one item more
 pub each_pushed : {T : Type 0} (P : ℕ → T → Type 0) (xs : List T) (x : T) → ((i : ℕ) (y : T) → slice_get xs i ≡ Some y → P i y) → P (length xs) x → (i : ℕ) (y : T) → slice_get (xs ++ x ∷ []) i ≡ Some y → P i y
@@ -108,30 +107,28 @@ each_pushed P (z ∷ xs) x each here (suc i) y e = each_pushed (λ j. P (suc j))
 
 -- ---- in a case
 
-module _ (lts : System) (tree : List Arc) (basis : CycleBasis) (class : Class) (problem : Problem) (number : ℕ) (k : Kind) (i : ℕ) where
-  pub row_in_case_is : (rows : List (Result CaseRow Wide)) (written : Result CaseRow Wide) → AreRowsOfKind lts tree basis class k rows → slice_get rows i ≡ Some written → IsRowInCase lts tree basis class problem number (row_of_kind k i) written
-  row_in_case_is rows written are at = (subst (λ e. row_fold lts tree basis class (row_of_kind k i) e (shown_result kept_row written)) (sym (shared_in_case lts class problem number k i)) (are.each i written at).0, (are.each i written at).1)
+module _ (s : CaseSetting) (k : Kind) (i : ℕ) where
+  pub row_in_case_is : (rows : List (Result CaseRow Wide)) (written : Result CaseRow Wide) → AreRowsOfKind s.setting k rows → slice_get rows i ≡ Some written → IsRowInCase s (row_of_kind k i) written
+  row_in_case_is rows written are at = (subst (λ e. row_fold s.setting (row_of_kind k i) e (shown_result kept_row written)) (sym (shared_in_case s.lts s.class s.problem s.number k i)) (are.each i written at).0, (are.each i written at).1)
 
-  pub terms_in_case_are : (terms : List (Result Scaled Wide)) (written : Result Scaled Wide) → AreTermsOfKind lts tree basis class k terms → slice_get terms i ≡ Some written → AreTermsInCase lts tree basis class problem number (row_of_kind k i) written
-  terms_in_case_are terms written are at = (subst (λ (e : Expression). terms_fold lts tree basis class e.terms (shown_result scaled_of written)) (sym (shared_in_case lts class problem number k i)) (are.each i written at).0, (are.each i written at).1)
+  pub terms_in_case_are : (terms : List (Result Scaled Wide)) (written : Result Scaled Wide) → AreTermsOfKind s.setting k terms → slice_get terms i ≡ Some written → AreTermsInCase s (row_of_kind k i) written
+  terms_in_case_are terms written are at = (subst (λ (e : Expression). terms_fold s.setting e.terms (shown_result scaled_of written)) (sym (shared_in_case s.lts s.class s.problem s.number k i)) (are.each i written at).0, (are.each i written at).1)
 
 -- what is found in a table
 module _ (common : Common) (k : Kind) (i : ℕ) where
   pub row_found : (rows : List (Result CaseRow Wide))
-      → ((lts : System) (tree : List Arc) (basis : CycleBasis) (class : Class) → IsCommonOf lts tree basis class common → AreRowsOfKind lts tree basis class k rows)
+      → ((s : Setting) → IsCommonOf s common → AreRowsOfKind s k rows)
       → (found : Option (Bor (Result CaseRow Wide))) → IsGetResult rows i i found
-      → IfSome found (λ r. (lts : System) (tree : List Arc) (basis : CycleBasis) (class : Class) (problem : Problem) (number : ℕ)
-      → IsCommonOf lts tree basis class common → IsRowInCase lts tree basis class problem number (row_of_kind k i) r.now)
+      → IfSome found (λ r. (s : CaseSetting) → IsCommonOf s.setting common → IsRowInCase s (row_of_kind k i) r.now)
   row_found rows are None told = tt
-  row_found rows are (Some r) told = λ lts tree basis class problem number is. row_in_case_is lts tree basis class problem number k i rows r.now (are lts tree basis class is) (sym (get_is rows i (Some r) told))
+  row_found rows are (Some r) told = λ s is. row_in_case_is s k i rows r.now (are s.setting is) (sym (get_is rows i (Some r) told))
 
   pub terms_found : (terms : List (Result Scaled Wide))
-      → ((lts : System) (tree : List Arc) (basis : CycleBasis) (class : Class) → IsCommonOf lts tree basis class common → AreTermsOfKind lts tree basis class k terms)
+      → ((s : Setting) → IsCommonOf s common → AreTermsOfKind s k terms)
       → (found : Option (Bor (Result Scaled Wide))) → IsGetResult terms i i found
-      → IfSome found (λ r. (lts : System) (tree : List Arc) (basis : CycleBasis) (class : Class) (problem : Problem) (number : ℕ)
-      → IsCommonOf lts tree basis class common → AreTermsInCase lts tree basis class problem number (row_of_kind k i) r.now)
+      → IfSome found (λ r. (s : CaseSetting) → IsCommonOf s.setting common → AreTermsInCase s (row_of_kind k i) r.now)
   terms_found terms are None told = tt
-  terms_found terms are (Some r) told = λ lts tree basis class problem number is. terms_in_case_are lts tree basis class problem number k i terms r.now (are lts tree basis class is) (sym (get_is terms i (Some r) told))
+  terms_found terms are (Some r) told = λ s is. terms_in_case_are s k i terms r.now (are s.setting is) (sym (get_is terms i (Some r) told))
 
 -- ---- the rows that a case holds
 

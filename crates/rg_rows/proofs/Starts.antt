@@ -3,17 +3,14 @@ use Rattle.std.proofs.Common.{◌≡◌, ℕ, ◌<◌, ◌≤◌, List, [], map,
 use Rattle.std.specs.Prelude.{ℤ, pos, ◌*ℤ◌, ◌<ℤ◌, slice_index_or}
 use Rattle.std.specs.Arc.{arc_slice_items}
 use Rattle.std.proofs.lemmas.Int.{ints}
-use Rattle.std.proofs.lemmas.List.{get_or-map, length-map}
-use Rattle.rg_theory.specs.declared.Arc.{Arc}
+use Rattle.std.proofs.lemmas.List.{get_or-map}
 use Rattle.rg_theory.specs.declared.Class.{Class}
-use Rattle.rg_theory.specs.declared.Problem.{Problem}
-use Rattle.rg_theory.specs.System.{System}
 use Rattle.rg_theory.specs.ClassWords.{HasNumbersInRange}
 use Rattle.rg_theory.specs.Tree.{IsTree}
 use Rattle.rg_integers.specs.declared.term.Wide.{Wide}
-use Rattle.rg_linear.specs.Cycle.{CycleBasis}
 use Rattle.rg_integers.specs.Range.{InRange}
 use Rattle.rg_refuting.specs.Row.{row_expression, step_of}
+use Rattle.rg_order_of_work.specs.Setting.{CaseSetting}
 use Rattle.rg_order_of_work.specs.Fold.{each}
 use Rattle.rg_order_of_work.specs.Rewriting.{Scaled, terms_fold, form_fold, form_low, form_high}
 use Rattle.rg_order_of_work.specs.FormRows.{form_row}
@@ -36,50 +33,52 @@ step_positive class bound = let h = some class.marking bound.marking in omega (a
     some None h = omega arith
     some (Some n) h = h.0
 
-module _ (lts : System) (tree : List Arc) (basis : CycleBasis) (class : Class) (problem : Problem) (number : ℕ) where
+module _ (it : CaseSetting) where
   -- the row's terms are those of the start, once
-  pub start_made : (n : ℕ) (s : Scaled) (f : NamedForm) → n ≡ lts.initial → IsTree lts tree → terms_fold lts tree basis class (row_expression lts class problem number [] (row_name.Tokens n)).terms (Ok s) → f.scale ≡ pos (step_of class split_form.Start) → arc_slice_items f.coeffs ≡ s.numbers
-      → f.low ≡ form_low split_form.Start → f.high ≡ form_high lts class split_form.Start → form_fold lts tree basis class split_form.Start (Ok (linear_form f))
+  pub start_made : (n : ℕ) (s : Scaled) (f : NamedForm) → n ≡ it.lts.initial → IsTree it.lts it.tree
+      → terms_fold it.setting (row_expression it.lts it.class it.problem it.number [] (row_name.Tokens n)).terms (Ok s)
+      → f.scale ≡ pos (step_of it.class split_form.Start) → arc_slice_items f.coeffs ≡ s.numbers
+      → f.low ≡ form_low split_form.Start → f.high ≡ form_high it.lts it.class split_form.Start → form_fold it.setting split_form.Start (Ok (linear_form f))
   start_made n s f at is_tree terms scale coeffs low high =
-      let e = row_expression lts class problem number [] (row_name.Tokens lts.initial) in
-      let here : terms_fold lts tree basis class e.terms (Ok s) = subst (λ m. terms_fold lts tree basis class (row_expression lts class problem number [] (row_name.Tokens m)).terms (Ok s)) at terms in
-      let alone : s.multiple ≡ pos 1 = start_alone lts tree basis class s is_tree (terms_are lts tree basis class problem number split_form.Start e refl (Ok s) here) in
-      form_of_terms lts tree basis class problem number split_form.Start e refl s (linear_form f) here (λ j. record { scale = (scale ∙ once (pos (step_of class split_form.Start)) ∙ ap (λ z. pos (step_of class split_form.Start) *ℤ z) (sym alone)) j; coeffs = coeffs j; low = low j; high = high j })
+      let e = row_expression it.lts it.class it.problem it.number [] (row_name.Tokens it.lts.initial) in
+      let here : terms_fold it.setting e.terms (Ok s) = subst (λ m. terms_fold it.setting (row_expression it.lts it.class it.problem it.number [] (row_name.Tokens m)).terms (Ok s)) at terms in
+      let alone : s.multiple ≡ pos 1 = start_alone it.setting s is_tree (terms_are it split_form.Start e refl (Ok s) here) in
+      form_of_terms it split_form.Start e refl s (linear_form f) here (λ j. record { scale = (scale ∙ once (pos (step_of it.class split_form.Start)) ∙ ap (λ z. pos (step_of it.class split_form.Start) *ℤ z) (sym alone)) j; coeffs = coeffs j; low = low j; high = high j })
     where
       once : (m : ℤ) → m ≡ m *ℤ pos 1
       once m = omega (arith, ints)
 
-  pub start_fails : (n : ℕ) (w : Wide) → n ≡ lts.initial → terms_fold lts tree basis class (row_expression lts class problem number [] (row_name.Tokens n)).terms (Err w) → form_fold lts tree basis class split_form.Start (Err w)
+  pub start_fails : (n : ℕ) (w : Wide) → n ≡ it.lts.initial → terms_fold it.setting (row_expression it.lts it.class it.problem it.number [] (row_name.Tokens n)).terms (Err w) → form_fold it.setting split_form.Start (Err w)
   start_fails n w at terms =
-      form_of_none lts tree basis class problem number split_form.Start (row_expression lts class problem number [] (row_name.Tokens lts.initial)) refl w
-      (subst (λ m. terms_fold lts tree basis class (row_expression lts class problem number [] (row_name.Tokens m)).terms (Err w)) at terms)
+      form_of_none it split_form.Start (row_expression it.lts it.class it.problem it.number [] (row_name.Tokens it.lts.initial)) refl w
+      (subst (λ m. terms_fold it.setting (row_expression it.lts it.class it.problem it.number [] (row_name.Tokens m)).terms (Err w)) at terms)
 
-  module _ (names : List RowName) (rows : List CaseRow) (i n : ℕ) (at : n ≡ lts.initial) (lt : i < length names)
+  module _ (names : List RowName) (rows : List CaseRow) (i n : ℕ) (at : n ≡ it.lts.initial) (lt : i < length names)
       (here : (d : RowName) → slice_index_or names i d ≡ row_name.Tokens n) (lt' : i < length rows)
-      (made : each (fold_of lts tree basis class problem number) names (Ok (map kept_row rows))) (row : CaseRow)
+      (made : each (fold_of it) names (Ok (map kept_row rows))) (row : CaseRow)
       (is_row : row ≡ slice_index_or rows i row) where
-    start_row : fold_of lts tree basis class problem number (row_name.Tokens lts.initial) (Ok (kept_row row)) × ((kept_row row).name ≡ row_name.Tokens lts.initial)
+    start_row : fold_of it (row_name.Tokens it.lts.initial) (Ok (kept_row row)) × ((kept_row row).name ≡ row_name.Tokens it.lts.initial)
     start_row =
-        row_at_index lts tree basis class problem number names (map kept_row rows) i (row_name.Tokens lts.initial) (kept_row row) made lt
-        ((here (row_name.Tokens lts.initial)) ∙ ap row_name.Tokens at)
+        row_at_index it names (map kept_row rows) i (row_name.Tokens it.lts.initial) (kept_row row) made lt
+        ((here (row_name.Tokens it.lts.initial)) ∙ ap row_name.Tokens at)
         (get_or-map kept_row rows i row (kept_row row) lt' ∙ ap kept_row (sym is_row))
 
-    pub start_times : (s : Scaled) → terms_fold lts tree basis class (row_expression lts class problem number [] (row_name.Tokens n)).terms (Ok s) → (t : ℕ) × (0 < t) × (s.numbers ≡ map (λ z. pos t *ℤ z) (arc_slice_items row.coeffs))
+    pub start_times : (s : Scaled) → terms_fold it.setting (row_expression it.lts it.class it.problem it.number [] (row_name.Tokens n)).terms (Ok s) → (t : ℕ) × (0 < t) × (s.numbers ≡ map (λ z. pos t *ℤ z) (arc_slice_items row.coeffs))
     start_times s terms =
-        times_row lts tree basis class problem number split_form.Start (row_expression lts class problem number [] (row_name.Tokens lts.initial)) refl s (kept_row row)
-        (subst (λ m. terms_fold lts tree basis class (row_expression lts class problem number [] (row_name.Tokens m)).terms (Ok s)) at terms) start_row.0
+        times_row it split_form.Start (row_expression it.lts it.class it.problem it.number [] (row_name.Tokens it.lts.initial)) refl s (kept_row row)
+        (subst (λ m. terms_fold it.setting (row_expression it.lts it.class it.problem it.number [] (row_name.Tokens m)).terms (Ok s)) at terms) start_row.0
 
-    pub start_is_made : (columns : ℕ) (indices : List ℕ) (f : NamedForm) → split_of f ≡ split_form.Start → IsPartOf f (arc_slice_items row.coeffs) (slice_index_or indices i 0) → f.scale ≡ pos (step_of class split_form.Start)
-        → f.low ≡ form_low split_form.Start → f.high ≡ form_high lts class split_form.Start → length (arc_slice_items f.coeffs) ≡ columns → InRange f.scale → All InRange (arc_slice_items f.coeffs) → InRange f.times → IsMade lts class columns (map kept_row rows) indices f
+    pub start_is_made : (columns : ℕ) (indices : List ℕ) (f : NamedForm) → split_of f ≡ split_form.Start → IsPartOf f (arc_slice_items row.coeffs) (slice_index_or indices i 0) → f.scale ≡ pos (step_of it.class split_form.Start)
+        → f.low ≡ form_low split_form.Start → f.high ≡ form_high it.lts it.class split_form.Start → length (arc_slice_items f.coeffs) ≡ columns → InRange f.scale → All InRange (arc_slice_items f.coeffs) → InRange f.times → IsMade it.lts it.class columns (map kept_row rows) indices f
     start_is_made columns indices f same part is_scale low high one_each scale coeffs times = record {
       number = i;
       row = kept_row row;
       at = row_got rows i row lt' is_row;
-      named = start_row.1 ∙ ap (form_row lts.initial) (sym same);
+      named = start_row.1 ∙ ap (form_row it.lts.initial) (sym same);
       part = part;
-      bounds = (low ∙ ap form_low (sym same), high ∙ ap (form_high lts class) (sym same));
+      bounds = (low ∙ ap form_low (sym same), high ∙ ap (form_high it.lts it.class) (sym same));
       one_each = one_each;
-      positive = λ bound. subst (λ z. pos 0 <ℤ z) (sym is_scale) (step_positive class bound);
+      positive = λ bound. subst (λ z. pos 0 <ℤ z) (sym is_scale) (step_positive it.class bound);
       scale_in_range = scale;
       coeffs_in_range = coeffs;
       times_in_range = times;

@@ -1,17 +1,16 @@
 -- The forms of a case, and what a branching asks of them.
 use Rattle.std.specs.Prelude.{◌≡◌, ◌≢◌, ◌⊎◌, ℕ, ◌+◌, ◌^◌, ◌<◌, ◌&&◌, not, ◌++◌, is_some, if◌then◌else◌, List, [], ◌∷◌, map, length, All, Option, Some, None, Ok, slice_get, ℤ, pos, ◌+ℤ◌, ◌-ℤ◌, ◌*ℤ◌, ◌≤ℤ◌, ◌<ℤ◌}
 use Rattle.std.specs.Arc.{arc_slice_items}
-use Rattle.rg_theory.specs.declared.Arc.{Arc}
 use Rattle.rg_theory.specs.declared.Class.{Class}
 use Rattle.rg_theory.specs.declared.Problem.{Problem}
-use Rattle.rg_theory.specs.System.{System}
 use Rattle.rg_integers.specs.Range.{InRange}
 use Rattle.rg_integers.specs.Sum.{sum_over}
 use Rattle.rg_linear.specs.System.{LinearSystem}
 use Rattle.rg_linear.specs.Branching.{Form, AreBounded}
-use Rattle.rg_linear.specs.Cycle.{CycleBasis, IsZeroVector}
+use Rattle.rg_linear.specs.Cycle.{IsZeroVector}
 use Rattle.rg_refuting.specs.declared.RowName.{RowName}
 use Rattle.rg_refuting.specs.declared.Form.{Form as SplitForm}
+use Rattle.rg_order_of_work.specs.Setting.{CaseSetting}
 use Rattle.rg_order_of_work.specs.Rewriting.{splits_start, KeptRow}
 use Rattle.rg_order_of_work.specs.FormRows.{form_row, IsMultipleOfRow}
 use Rattle.rg_rows.specs.declared.named_form.NamedForm.{NamedForm}
@@ -57,9 +56,9 @@ IsPartOf f coeffs index =
 
 -- the row of the form is the one that stayed for `tokens` of its state, the initial one for the start, or `down` of its label; a form without coefficients
 -- has times 0 and row 0
-abbrev pub StandsInRow : System → List Arc → CycleBasis → Class → Problem → ℕ → LinearSystem → NamedForm → Type 0
-StandsInRow lts tree basis class problem number system f =
-    (k : KeptRow) → fold_of lts tree basis class problem number (form_row lts.initial (split_of f)) (Ok k)
+abbrev pub StandsInRow : CaseSetting → LinearSystem → NamedForm → Type 0
+StandsInRow s system f =
+    (k : KeptRow) → fold_of s (form_row s.lts.initial (split_of f)) (Ok k)
     → ((f.times ≢ pos 0) × (slice_get system.rows f.row ≡ Some k.row)) ⊎ ((f.times ≡ pos 0) × (f.row ≡ 0) × IsZeroVector (arc_slice_items f.coeffs))
 
 -- ---- what a branching asks

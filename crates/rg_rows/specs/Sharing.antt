@@ -1,16 +1,14 @@
 -- The rows and forms that all problems of a system and a class share.
 use Rattle.std.specs.Prelude.{◌≡◌, ℕ, ◌&&◌, not, is_some, if◌then◌else◌, List, [], length, Some, slice_get, Result, Ok, Err, IfOk}
 use Rattle.std.specs.Arc.{arc_slice_items}
-use Rattle.rg_theory.specs.declared.Arc.{Arc}
 use Rattle.rg_theory.specs.declared.Class.{Class}
-use Rattle.rg_theory.specs.declared.Problem.{Problem}
 use Rattle.rg_theory.specs.System.{System, states, labels}
 use Rattle.rg_integers.specs.declared.term.Wide.{Wide}
 use Rattle.rg_fraction.specs.declared.fold_stop.FoldStop.{FoldStop}
 use Rattle.rg_fraction.specs.declared.fold_stop.FoldStop.TheVariants as stop
-use Rattle.rg_linear.specs.Cycle.{CycleBasis}
 use Rattle.rg_refuting.specs.Row.{shared_expression, row_expression}
 use Rattle.rg_refuting.specs.declared.RowName.{RowName}
+use Rattle.rg_order_of_work.specs.Setting.{Setting, CaseSetting}
 use Rattle.rg_order_of_work.specs.Fold.{shown_result}
 use Rattle.rg_order_of_work.specs.Rewriting.{has_start, column_count, terms_fold, row_fold}
 use Rattle.rg_case_parts.specs.declared.scaled.Scaled.{Scaled}
@@ -57,47 +55,47 @@ forms_of_kind lts class kind.Makes = 0
 -- ---- written over the columns
 
 -- the row, or the first step of its fold out of range
-abbrev pub IsSharedRow : System → List Arc → CycleBasis → Class → RowName → Result CaseRow Wide → Type 0
-IsSharedRow lts tree basis class name written =
-    row_fold lts tree basis class name (shared_expression lts class [] name) (shown_result kept_row written)
-    × IfOk written (λ r. length (arc_slice_items r.coeffs) ≡ column_count lts basis class)
+abbrev pub IsSharedRow : Setting → RowName → Result CaseRow Wide → Type 0
+IsSharedRow s name written =
+    row_fold s name (shared_expression s.lts s.class [] name) (shown_result kept_row written)
+    × IfOk written (λ r. length (arc_slice_items r.coeffs) ≡ column_count s.lts s.basis s.class)
 
 -- the terms of the row without denominators, or the first step of theirs
-abbrev pub AreSharedTerms : System → List Arc → CycleBasis → Class → RowName → Result Scaled Wide → Type 0
-AreSharedTerms lts tree basis class name written =
-    terms_fold lts tree basis class (shared_expression lts class [] name).terms (shown_result scaled_of written)
-    × IfOk written (λ s. length s.numbers.items ≡ column_count lts basis class)
+abbrev pub AreSharedTerms : Setting → RowName → Result Scaled Wide → Type 0
+AreSharedTerms s name written =
+    terms_fold s (shared_expression s.lts s.class [] name).terms (shown_result scaled_of written)
+    × IfOk written (λ r. length r.numbers.items ≡ column_count s.lts s.basis s.class)
 
 -- one for each state or label, in order
-pub record AreRowsOfKind (lts : System) (tree : List Arc) (basis : CycleBasis) (class : Class) (kind : Kind) (rows : List (Result CaseRow Wide)) : Type 0 where
-  pub many : length rows ≡ rows_of_kind lts class kind
-  pub each : (i : ℕ) (written : Result CaseRow Wide) → slice_get rows i ≡ Some written → IsSharedRow lts tree basis class (row_of_kind kind i) written
+pub record AreRowsOfKind (s : Setting) (kind : Kind) (rows : List (Result CaseRow Wide)) : Type 0 where
+  pub many : length rows ≡ rows_of_kind s.lts s.class kind
+  pub each : (i : ℕ) (written : Result CaseRow Wide) → slice_get rows i ≡ Some written → IsSharedRow s (row_of_kind kind i) written
 
-pub record AreTermsOfKind (lts : System) (tree : List Arc) (basis : CycleBasis) (class : Class) (kind : Kind) (terms : List (Result Scaled Wide)) : Type 0 where
-  pub many : length terms ≡ forms_of_kind lts class kind
-  pub each : (i : ℕ) (written : Result Scaled Wide) → slice_get terms i ≡ Some written → AreSharedTerms lts tree basis class (row_of_kind kind i) written
+pub record AreTermsOfKind (s : Setting) (kind : Kind) (terms : List (Result Scaled Wide)) : Type 0 where
+  pub many : length terms ≡ forms_of_kind s.lts s.class kind
+  pub each : (i : ℕ) (written : Result Scaled Wide) → slice_get terms i ≡ Some written → AreSharedTerms s (row_of_kind kind i) written
 
 -- the rows and forms that all problems of the system and the class share, over the tree and the basis
-pub record IsCommonOf (lts : System) (tree : List Arc) (basis : CycleBasis) (class : Class) (common : Common) : Type 0 where
-  pub columns : AreColumns lts class common.columns
-  pub tokens : AreRowsOfKind lts tree basis class kind.Tokens common.tokens.items
-  pub caps : AreRowsOfKind lts tree basis class kind.Cap common.caps.items
-  pub ups : AreRowsOfKind lts tree basis class kind.Up common.ups.items
-  pub downs : AreRowsOfKind lts tree basis class kind.Down common.downs.items
-  pub makes : AreRowsOfKind lts tree basis class kind.Makes common.makes.items
-  pub token_terms : AreTermsOfKind lts tree basis class kind.Tokens common.token_terms.items
-  pub effect_terms : AreTermsOfKind lts tree basis class kind.Down common.effect_terms.items
+pub record IsCommonOf (s : Setting) (common : Common) : Type 0 where
+  pub columns : AreColumns s.lts s.class common.columns
+  pub tokens : AreRowsOfKind s kind.Tokens common.tokens.items
+  pub caps : AreRowsOfKind s kind.Cap common.caps.items
+  pub ups : AreRowsOfKind s kind.Up common.ups.items
+  pub downs : AreRowsOfKind s kind.Down common.downs.items
+  pub makes : AreRowsOfKind s kind.Makes common.makes.items
+  pub token_terms : AreTermsOfKind s kind.Tokens common.token_terms.items
+  pub effect_terms : AreTermsOfKind s kind.Down common.effect_terms.items
 
 -- ---- in a case
 
 -- the named row of the case, or the first step of its fold out of range
-abbrev pub IsRowInCase : System → List Arc → CycleBasis → Class → Problem → ℕ → RowName → Result CaseRow Wide → Type 0
-IsRowInCase lts tree basis class problem number name written =
-    fold_of lts tree basis class problem number name (shown_result kept_row written)
-    × IfOk written (λ r. length (arc_slice_items r.coeffs) ≡ column_count lts basis class)
+abbrev pub IsRowInCase : CaseSetting → RowName → Result CaseRow Wide → Type 0
+IsRowInCase s name written =
+    fold_of s name (shown_result kept_row written)
+    × IfOk written (λ r. length (arc_slice_items r.coeffs) ≡ column_count s.lts s.basis s.class)
 
 -- its terms without denominators, or the first step of theirs
-abbrev pub AreTermsInCase : System → List Arc → CycleBasis → Class → Problem → ℕ → RowName → Result Scaled Wide → Type 0
-AreTermsInCase lts tree basis class problem number name written =
-    terms_fold lts tree basis class (row_expression lts class problem number [] name).terms (shown_result scaled_of written)
-    × IfOk written (λ s. length s.numbers.items ≡ column_count lts basis class)
+abbrev pub AreTermsInCase : CaseSetting → RowName → Result Scaled Wide → Type 0
+AreTermsInCase s name written =
+    terms_fold s.setting (row_expression s.lts s.class s.problem s.number [] name).terms (shown_result scaled_of written)
+    × IfOk written (λ r. length r.numbers.items ≡ column_count s.lts s.basis s.class)

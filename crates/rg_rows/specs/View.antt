@@ -1,15 +1,14 @@
 -- How what the code keeps is seen.
 use Rattle.std.specs.Prelude.{◌≡◌, ℕ, ◌==◌, ◌&&◌, not, Bool, false, List, [], ◌∷◌, ◌++◌, ℤ, length, map, All, Some, Result, slice_get, slice_index_or}
 use Rattle.std.specs.Arc.{arc_slice_items}
-use Rattle.rg_theory.specs.declared.Arc.{Arc}
 use Rattle.rg_theory.specs.declared.Class.{Class}
 use Rattle.rg_theory.specs.System.{System, states}
 use Rattle.rg_linear.specs.System.{LinearRow}
-use Rattle.rg_linear.specs.Cycle.{CycleBasis}
 use Rattle.rg_integers.specs.declared.term.Wide.{Wide}
 use Rattle.rg_theory.specs.declared.Problem.{Problem}
 use Rattle.rg_refuting.specs.Row.{row_expression}
 use Rattle.rg_refuting.specs.declared.RowName.{RowName}
+use Rattle.rg_order_of_work.specs.Setting.{CaseSetting}
 use Rattle.rg_order_of_work.specs.Fold.{ratio_of}
 use Rattle.rg_order_of_work.specs.Rewriting.{numbers_where, KeptRow, IsIdle, row_fold}
 use Rattle.rg_case_parts.specs.StatesNamed.{TermNamesStateBelow}
@@ -56,5 +55,5 @@ abbrev pub AreNamesWithin : System → Class → Problem → ℕ → List RowNam
 AreNamesWithin lts class problem number names = All (λ name. All (TermNamesStateBelow (states lts)) (row_expression lts class problem number [] name).terms) names
 
 -- the named row over the columns
-abbrev pub fold_of : System → List Arc → CycleBasis → Class → Problem → ℕ → RowName → Result KeptRow Wide → Type 0
-fold_of lts tree basis class problem number name = row_fold lts tree basis class name (row_expression lts class problem number [] name)
+abbrev pub fold_of : CaseSetting → RowName → Result KeptRow Wide → Type 0
+fold_of s name = row_fold s.setting name (row_expression s.lts s.class s.problem s.number [] name)

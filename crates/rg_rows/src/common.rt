@@ -1,14 +1,13 @@
 //! The rows and forms that all problems of a system and a class share.
-ghost use Rattle.std.specs.Prelude.{◌≡◌, ℕ, List, length, map, All, Ok, Err, IfOk, IfSome};
-ghost use Rattle.rg_theory.specs.declared.Arc.{Arc};
+ghost use Rattle.std.specs.Prelude.{◌≡◌, ℕ, Ok, Err, IfOk, IfSome};
 ghost use Rattle.rg_theory.specs.declared.Class.{Class};
-ghost use Rattle.rg_theory.specs.declared.Problem.{Problem};
-ghost use Rattle.rg_theory.specs.System.{System, labels};
-ghost use Rattle.rg_linear.specs.Cycle.{CycleBasis};
+ghost use Rattle.rg_theory.specs.System.{labels};
 ghost use Rattle.rg_spanning.specs.Spanning.{IsTreeOf};
-ghost use Rattle.rg_cycles.specs.View.{labels_of, cycle_of};
+ghost use Rattle.rg_cycles.specs.View.{labels_of};
+ghost use Rattle.rg_case_parts.specs.SettingViews.{setting_of};
 ghost use Rattle.rg_case_parts.specs.ColumnViews.{AreColumns};
 ghost use Rattle.rg_rows.specs.Sharing.{or_wide, AreRowsOfKind, AreTermsOfKind, IsCommonOf, IsRowInCase, AreTermsInCase};
+ghost use Rattle.rg_order_of_work.specs.Setting.{CaseSetting};
 
 use crate::case_row::CaseRow;
 use crate::kind::Kind;
@@ -50,7 +49,7 @@ impl Common {
     ) -> Result<Common, AllocError>
         requires tree { IsTreeOf lts.now tree.now }
         requires labels { labels_of basis.now ≡ labels lts.now }
-        ensures { IfOk result (IsCommonOf lts.now tree.now.arcs (cycle_of basis.now) class) }
+        ensures { IfOk result (IsCommonOf (setting_of lts.now tree.now basis.now class)) }
     {
         let columns = Columns::new(alloc, lts, class)?;
         Ok(Common {
@@ -67,7 +66,7 @@ impl Common {
 
     // The row of the name, where it speaks of no problem.
     pub(crate) fn row(&self, name: RowName) -> Option<&Result<CaseRow, Wide>>
-        ensures { IfSome result (λ r. (lts : System) (tree : List Arc) (basis : CycleBasis) (class : Class) (problem : Problem) (number : ℕ) → IsCommonOf lts tree basis class self.now → IsRowInCase lts tree basis class problem number name r.now) }
+        ensures { IfSome result (λ r. (s : CaseSetting) → IsCommonOf s.setting self.now → IsRowInCase s name r.now) }
     {
         match name {
             RowName::Tokens(q) => self.tokens.get(q as usize),
@@ -81,7 +80,7 @@ impl Common {
 
     // The terms of the row, where a form has them.
     pub(crate) fn terms(&self, name: RowName) -> Option<&Result<Scaled, Wide>>
-        ensures { IfSome result (λ r. (lts : System) (tree : List Arc) (basis : CycleBasis) (class : Class) (problem : Problem) (number : ℕ) → IsCommonOf lts tree basis class self.now → AreTermsInCase lts tree basis class problem number name r.now) }
+        ensures { IfSome result (λ r. (s : CaseSetting) → IsCommonOf s.setting self.now → AreTermsInCase s name r.now) }
     {
         match name {
             RowName::Tokens(q) => self.token_terms.get(q as usize),
@@ -104,7 +103,7 @@ fn rows(
     requires tree { IsTreeOf lts.now tree.now }
     requires labels { labels_of basis.now ≡ labels lts.now }
     requires columns { AreColumns lts.now class columns.now }
-    ensures { IfOk result (λ v. AreRowsOfKind lts.now tree.now.arcs (cycle_of basis.now) class kind v.items) }
+    ensures { IfOk result (λ v. AreRowsOfKind (setting_of lts.now tree.now basis.now class) kind v.items) }
 {
     let mut rows = Vec::new(alloc);
     for number in 0..kind.rows(lts, class) {
@@ -128,7 +127,7 @@ fn terms(
     requires tree { IsTreeOf lts.now tree.now }
     requires labels { labels_of basis.now ≡ labels lts.now }
     requires columns { AreColumns lts.now class columns.now }
-    ensures { IfOk result (λ v. AreTermsOfKind lts.now tree.now.arcs (cycle_of basis.now) class kind v.items) }
+    ensures { IfOk result (λ v. AreTermsOfKind (setting_of lts.now tree.now basis.now class) kind v.items) }
 {
     let mut terms = Vec::new(alloc);
     for number in 0..kind.forms(lts, class) {

@@ -16,6 +16,7 @@ ghost use Rattle.rg_rows.specs.View.{kept_row, row_in, AreNamesWithin, fold_of};
 ghost use Rattle.rg_rows.specs.Sharing.{IsCommonOf};
 ghost use Rattle.rg_rows.specs.Forms.{split_of, StandsInRow, AreFormsOf};
 ghost use Rattle.rg_rows.specs.Shown.{ShowsCase};
+ghost use Rattle.rg_case_parts.specs.SettingViews.{setting_of, case_of};
 
 use crate::common::Common;
 use crate::forms::case_forms;
@@ -76,11 +77,11 @@ pub fn system(
     requires case { case < cases_of lts.now class problem }
     requires tree { IsTreeOf lts.now tree.now }
     requires labels { labels_of basis.now ≡ labels lts.now }
-    ensures system { IfOk result (λ named. (shown : CaseSystem) × system_fold lts.now tree.now.arcs (cycle_of basis.now) class problem case (Ok shown) × ShowsCase named shown) }
+    ensures system { IfOk result (λ named. (shown : CaseSystem) × system_fold (case_of lts.now tree.now basis.now class problem case) (Ok shown) × ShowsCase named shown) }
     ensures named { IfOk result (λ named. map split_of named.forms.items ≡ split_forms lts.now class problem) }
-    ensures rows { IfOk result (λ named. All (StandsInRow lts.now tree.now.arcs (cycle_of basis.now) class problem case named.system) named.forms.items) }
+    ensures rows { IfOk result (λ named. All (StandsInRow (case_of lts.now tree.now basis.now class problem case) named.system) named.forms.items) }
     ensures forms { IsAllReachable lts.now → IsBasis lts.now tree.now.arcs (cycle_of basis.now) → HasNumbersInRange class → IfOk result (λ named. AreFormsOf named.system named.forms.items) }
-    ensures wide { (w : Wide) → IsErrOf result (stop.Wide w) → system_fold lts.now tree.now.arcs (cycle_of basis.now) class problem case (Err w) }
+    ensures wide { (w : Wide) → IsErrOf result (stop.Wide w) → system_fold (case_of lts.now tree.now basis.now class problem case) (Err w) }
 {
     let common = Common::new(alloc, lts, tree, basis, class)?;
     system_with(alloc, lts, tree, basis, &common, class, problem, case)
@@ -102,12 +103,12 @@ pub fn system_with(
     requires case { case < cases_of lts.now class problem }
     requires tree { IsTreeOf lts.now tree.now }
     requires labels { labels_of basis.now ≡ labels lts.now }
-    requires common { IsCommonOf lts.now tree.now.arcs (cycle_of basis.now) class common.now }
-    ensures system { IfOk result (λ named. (shown : CaseSystem) × system_fold lts.now tree.now.arcs (cycle_of basis.now) class problem case (Ok shown) × ShowsCase named shown) }
+    requires common { IsCommonOf (setting_of lts.now tree.now basis.now class) common.now }
+    ensures system { IfOk result (λ named. (shown : CaseSystem) × system_fold (case_of lts.now tree.now basis.now class problem case) (Ok shown) × ShowsCase named shown) }
     ensures named { IfOk result (λ named. map split_of named.forms.items ≡ split_forms lts.now class problem) }
-    ensures rows { IfOk result (λ named. All (StandsInRow lts.now tree.now.arcs (cycle_of basis.now) class problem case named.system) named.forms.items) }
+    ensures rows { IfOk result (λ named. All (StandsInRow (case_of lts.now tree.now basis.now class problem case) named.system) named.forms.items) }
     ensures forms { IsAllReachable lts.now → IsBasis lts.now tree.now.arcs (cycle_of basis.now) → HasNumbersInRange class → IfOk result (λ named. AreFormsOf named.system named.forms.items) }
-    ensures wide { (w : Wide) → IsErrOf result (stop.Wide w) → system_fold lts.now tree.now.arcs (cycle_of basis.now) class problem case (Err w) }
+    ensures wide { (w : Wide) → IsErrOf result (stop.Wide w) → system_fold (case_of lts.now tree.now basis.now class problem case) (Err w) }
 {
     lts.is_well_formed();
     let case = ProblemCase {
@@ -141,12 +142,12 @@ fn rows<'a>(
 ) -> Result<Vec<HeldRow<'a>>, FoldStop>
     requires tree { IsTreeOf lts.now tree.now }
     requires labels { labels_of basis.now ≡ labels lts.now }
-    requires common { IsCommonOf lts.now tree.now.arcs (cycle_of basis.now) case.class common.now }
+    requires common { IsCommonOf (setting_of lts.now tree.now basis.now case.class) common.now }
     requires names { AreNamesWithin lts.now case.class case.problem case.number names.now }
-    ensures value { IfOk result (λ v. each (fold_of lts.now tree.now.arcs (cycle_of basis.now) case.class case.problem case.number) names.now (Ok (map kept_row (map row_in v.items)))) }
+    ensures value { IfOk result (λ v. each (fold_of (case_of lts.now tree.now basis.now case.class case.problem case.number)) names.now (Ok (map kept_row (map row_in v.items)))) }
     ensures one_each { IfOk result (λ v. All (λ r. length (arc_slice_items r.coeffs) ≡ column_count lts.now (cycle_of basis.now) case.class) (map row_in v.items)) }
     ensures few { IfOk result (λ v. length v.items ≡ length names.now) }
-    ensures wide { (w : Wide) → IsErrOf result (stop.Wide w) → each (fold_of lts.now tree.now.arcs (cycle_of basis.now) case.class case.problem case.number) names.now (Err w) }
+    ensures wide { (w : Wide) → IsErrOf result (stop.Wide w) → each (fold_of (case_of lts.now tree.now basis.now case.class case.problem case.number)) names.now (Err w) }
 {
     let mut rows = Vec::new(alloc);
     for &name in names {

@@ -1,16 +1,15 @@
 //! A named row, written over the columns.
-ghost use Rattle.std.specs.Prelude.{◌≡◌, ◌≤◌, ℕ, ◌<◌, ◌<ℤ◌, pos, ◌≤ℤ◌, map, length, All, ◌++◌, ◌∷◌, [], Ok, Err, IfOk, IsErrOf, unsigned_abs};
+ghost use Rattle.std.specs.Prelude.{◌≡◌, ◌≤◌, ℕ, ◌<◌, ◌<ℤ◌, ◌≤ℤ◌, length, All, ◌++◌, ◌∷◌, [], Ok, Err, IfOk, IsErrOf};
 ghost use Rattle.std.specs.Arc.{arc_slice_items};
 ghost use Rattle.rg_integers.specs.Range.{InRange};
 ghost use Rattle.rg_theory.specs.declared.Class.{Class};
 ghost use Rattle.rg_theory.specs.System.{System, labels};
 ghost use Rattle.rg_integers.specs.declared.term.Wide.{Wide};
-ghost use Rattle.rg_fraction.specs.Rows.{IsRowGcd};
-ghost use Rattle.rg_spanning.specs.Spanning.{IsTreeOf};
 ghost use Rattle.rg_order_of_work.specs.Rewriting.{terms_fold, row_fold, IsDivided, column_count};
 ghost use Rattle.rg_cycles.specs.View.{labels_of, cycle_of};
 ghost use Rattle.rg_fraction.specs.declared.fold_stop.FoldStop.TheVariants as stop;
 ghost use Rattle.rg_reasons.specs.Sums.{expression_of};
+ghost use Rattle.rg_case_parts.specs.SettingViews.{setting_of};
 ghost use Rattle.rg_case_parts.specs.StatesNamed.{TermNamesStateBelow};
 ghost use Rattle.rg_case_parts.specs.WholeNumbers.{scaled_of};
 ghost use Rattle.rg_case_parts.specs.ColumnViews.{AreColumns};
@@ -41,9 +40,9 @@ pub(crate) fn row(
     requires labels { tree.now.labels ≡ labels_of basis.now }
     requires columns { length columns.now.used.items ≡ labels_of basis.now }
     requires within { All (TermNamesStateBelow tree.now.states) (expression_of expression.now).terms }
-    ensures value { IfOk result (λ r. (lts : System) (class : Class) → labels lts ≡ labels_of basis.now → AreColumns lts class columns.now → row_fold lts tree.now.arcs (cycle_of basis.now) class name (expression_of expression.now) (Ok (kept_row r))) }
+    ensures value { IfOk result (λ r. (lts : System) (class : Class) → labels lts ≡ labels_of basis.now → AreColumns lts class columns.now → row_fold (setting_of lts tree.now basis.now class) name (expression_of expression.now) (Ok (kept_row r))) }
     ensures one_each { IfOk result (λ r. (lts : System) (class : Class) → labels lts ≡ labels_of basis.now → AreColumns lts class columns.now → length (arc_slice_items r.coeffs) ≡ column_count lts (cycle_of basis.now) class) }
-    ensures wide { (w : Wide) → IsErrOf result (stop.Wide w) → (lts : System) (class : Class) → labels lts ≡ labels_of basis.now → AreColumns lts class columns.now → row_fold lts tree.now.arcs (cycle_of basis.now) class name (expression_of expression.now) (Err w) }
+    ensures wide { (w : Wide) → IsErrOf result (stop.Wide w) → (lts : System) (class : Class) → labels lts ≡ labels_of basis.now → AreColumns lts class columns.now → row_fold (setting_of lts tree.now basis.now class) name (expression_of expression.now) (Err w) }
 {
     let scaled = over_columns(alloc, tree, basis, columns, expression)?;
     let multiple = Fraction::new(scaled.multiple, 1);
@@ -62,9 +61,9 @@ pub(crate) fn over_columns(
     requires labels { tree.now.labels ≡ labels_of basis.now }
     requires columns { length columns.now.used.items ≡ labels_of basis.now }
     requires within { All (TermNamesStateBelow tree.now.states) (expression_of expression.now).terms }
-    ensures value { IfOk result (λ s. (lts : System) (class : Class) → labels lts ≡ labels_of basis.now → AreColumns lts class columns.now → terms_fold lts tree.now.arcs (cycle_of basis.now) class (expression_of expression.now).terms (Ok (scaled_of s))) }
+    ensures value { IfOk result (λ s. (lts : System) (class : Class) → labels lts ≡ labels_of basis.now → AreColumns lts class columns.now → terms_fold (setting_of lts tree.now basis.now class) (expression_of expression.now).terms (Ok (scaled_of s))) }
     ensures one_each { IfOk result (λ s. (lts : System) (class : Class) → labels lts ≡ labels_of basis.now → AreColumns lts class columns.now → length s.numbers.items ≡ column_count lts (cycle_of basis.now) class) }
-    ensures wide { (w : Wide) → IsErrOf result (stop.Wide w) → (lts : System) (class : Class) → labels lts ≡ labels_of basis.now → AreColumns lts class columns.now → terms_fold lts tree.now.arcs (cycle_of basis.now) class (expression_of expression.now).terms (Err w) }
+    ensures wide { (w : Wide) → IsErrOf result (stop.Wide w) → (lts : System) (class : Class) → labels lts ≡ labels_of basis.now → AreColumns lts class columns.now → terms_fold (setting_of lts tree.now basis.now class) (expression_of expression.now).terms (Err w) }
 {
     let labels = columns.used.len() as u32;
     let counts = counts(alloc, tree, labels, expression)?;

@@ -3,15 +3,12 @@ use Rattle.std.proofs.Common.{◌≡◌, ◌⊎◌, inl, inr, ℕ, ◌+◌, ◌<
 use Rattle.std.proofs.lemmas.Bool.{cases_lt}
 use Rattle.std.proofs.lemmas.Option.{slice_get-map, slice_get_within}
 use Rattle.std.proofs.lemmas.List.{length-map}
-use Rattle.rg_theory.specs.declared.Arc.{Arc}
-use Rattle.rg_theory.specs.System.{System}
-use Rattle.rg_theory.specs.declared.Class.{Class}
 use Rattle.rg_theory.specs.declared.Problem.{Problem}
 use Rattle.rg_theory.specs.declared.Problem.TheVariants.{Event, States}
 use Rattle.rg_theory.specs.Net.{Place}
 use Rattle.rg_refuting.specs.Row.{cases_of}
-use Rattle.rg_linear.specs.Cycle.{CycleBasis}
 use Rattle.rg_refuting.specs.Refutes.{Tree}
+use Rattle.rg_order_of_work.specs.Setting.{Setting as ShownSetting, case_at}
 use Rattle.rg_order_of_work.specs.Shown.{Shown, IsLive}
 use Rattle.rg_reasons.specs.declared.certificate.Case.{Case}
 use Rattle.rg_reasons.specs.Certificates.{case_tree}
@@ -105,9 +102,9 @@ module _ (comes : ℕ → CaseResult → Type 0) (one : (i : ℕ) (r r' : CaseRe
   place_first n total tried p have lt come = first_place n p lt come have.none_makes
 
 -- the cases of a problem whose label has an arc are what it comes to
-pub live_comes : (lts : System) (arcs : List Arc) (basis : CycleBasis) (class : Class) (problem : Problem) (r : Solved) → IsLive lts problem → CasesCome (CaseComes lts arcs basis class problem) (cases_of lts class problem) r → ProblemComes lts arcs basis class problem r
-live_comes lts arcs basis class (Event s t) r live come = inr (live, come)
-live_comes lts arcs basis class (States s s') r live come = come
+pub live_comes : (it : ShownSetting) (problem : Problem) (r : Solved) → IsLive it.lts problem → CasesCome (λ i. CaseComes (case_at it problem i)) (cases_of it.lts it.class problem) r → ProblemComes it problem r
+live_comes it (Event s t) r live come = inr (live, come)
+live_comes it (States s s') r live come = come
 
 -- the trees of one case
 pub one_case : (cases : List Case) (case : Case) (rest : List Case) → cases ≡ case ∷ rest → length cases ≡ 1 → map case_tree cases ≡ case_tree case ∷ []

@@ -31,18 +31,18 @@ use Rattle.rg_reasons.specs.declared.wide_at.WideAt.{WideAt}
 use Rattle.rg_separate.specs.Passing.{cycle_passed}
 use Rattle.rg_separate.specs.View.{shown_of}
 use Rattle.rg_separate.specs.Answer.{AreSeparating, IsSearched}
-use Rattle.rg_separate.specs.Keeping.{IsSetting, AreKept}
+use Rattle.rg_separate.specs.Keeping.{IsSetting, AreKept, shown_setting}
 use Rattle.rg_separate.specs.Deciding.{ProblemComesTo, EndsWith}
 use Rattle.rg_separate.proofs.Few.{few_places}
 use Rattle.rg_separate.proofs.Separating.{separating}
 
 -- what a problem comes to in a setting
 abbrev pub comes_of : Setting → Problem → Solved → Type 0
-comes_of s = ProblemComes s.lts.now s.tree.now.arcs (cycle_of s.basis.now) s.class
+comes_of s = ProblemComes (shown_setting s)
 
 module _ (s : Setting) (is : IsSetting s) where
   pub places_separate : EachPlaceSeparates s.lts.now (comes_of s)
-  places_separate = record { separate = λ problem p has come. (let (m, region, separates) = placed_separates s.lts.now s.tree.now.arcs (cycle_of s.basis.now) s.class is.in_range is.bound is.reachable is.tree.tree is.basis problem p has come in (m, region.region, separates)) }
+  places_separate = record { separate = λ problem p has come. (let (m, region, separates) = placed_separates (shown_setting s) is.in_range is.bound is.reachable is.tree.tree is.basis problem p has come in (m, region.region, separates)) }
 
   searched_of : (o : outcome.Separation) → Comes s.lts.now (comes_of s) o → Searched s.lts.now s.class o
   searched_of o come = all_problems s.tree.now.arcs (cycle_of s.basis.now) o is.tree.tree is.basis come
@@ -88,7 +88,7 @@ cycle_searched lts class at w same shown = record { o = too_wide (cycle_passed w
 
 module _ (s : Setting) (q : Problem) (ends : EndsWith s q) where
   one : (r r' : Solved) → comes_of s q r → comes_of s q r' → r ≡ r'
-  one r r' a b = same_solved s.lts.now s.tree.now.arcs (cycle_of s.basis.now) s.class q r r' a b
+  one r r' a b = same_solved (shown_setting s) q r r' a b
 
   pub shown_refuted : (reason : Reason) → ProblemComesTo s q (problem_answer.Refuted reason) → IsSearched s.lts.now s.class (separation.Unsolvable (record { class = s.class; reason = reason }))
   shown_refuted reason (trees, is, come) = go ends.ends

@@ -5,7 +5,6 @@ use Rattle.std.specs.Int.{w64}
 use Rattle.std.proofs.lemmas.Int.{ints}
 use Rattle.std.proofs.lemmas.List.{length-map, length-append, get_or-map, get_or_default}
 use Rattle.std.proofs.lemmas.List.Elements.{All-nil, All-cons, All-map, All-weaker}
-use Rattle.rg_theory.specs.declared.Arc.{Arc}
 use Rattle.rg_theory.specs.System.{System, labels}
 use Rattle.rg_theory.specs.declared.Class.{Class}
 use Rattle.rg_theory.specs.declared.Problem.{Problem}
@@ -15,7 +14,7 @@ use Rattle.rg_refuting.specs.Refutes.{LeafRefutes}
 use Rattle.rg_integers.specs.declared.term.Wide.{Wide}
 use Rattle.rg_fraction.specs.declared.fraction.Fraction.{Fraction}
 use Rattle.rg_linear.specs.Branching.{SplitSide, side_row, Weight, SplitTree, BranchOutcome.tree, Branching, Form, form_at, weights_from, node_system}
-use Rattle.rg_linear.specs.Cycle.{CycleBasis}
+use Rattle.rg_order_of_work.specs.Setting.{Setting as ShownSetting}
 use Rattle.rg_order_of_work.specs.Fold.{each}
 use Rattle.rg_order_of_work.specs.Meaning.{IsCaseOver}
 use Rattle.rg_order_of_work.specs.Rewriting.{CaseSystem, split_forms, form_low, form_fold, rows_of}
@@ -36,6 +35,7 @@ use Rattle.rg_farkas.specs.Refuting.{SharesRefute}
 use Rattle.rg_farkas.specs.Leaves.{share_of, IsLeafWith, RefutesCase}
 use Rattle.rg_farkas.proofs.Multipliers.{node_names_stand, node_names_in_range, node_shares_refute}
 use Rattle.rg_reasons.specs.declared.wide_at.Stage.TheVariants.{Spread}
+use Rattle.rg_separate.specs.Keeping.{shown_setting, shown_case}
 use Rattle.rg_separate.specs.declared.setting.CaseSetting.{CaseSetting}
 use Rattle.rg_separate.specs.Casing.{IsCase, IsNamedSystem, forms_in, AreRefuting, VisitStands, IsMadeOf, sides_among, SharesFold, LeafPasses}
 use Rattle.rg_separate.specs.Passing.{passed_at}
@@ -65,8 +65,7 @@ sides_of_system lts class problem sides all =
 
 pub spread_shown : (c : CaseSetting) (named : NamedSystem) (whole : SplitTree) (sides : List SplitSide) (weights : List Weight) (w : Wide) → IsCase c
     → (system : IsNamedSystem c named) → Branching named.system (forms_in named) (tree whole) → HasLeaf [] whole sides weights
-    → spread_fold c.setting.lts.now c.setting.tree.now.arcs (cycle_of c.setting.basis.now) c.setting.class c.problem c.number system.case sides
-    (named_sides c.setting.lts.now c.setting.class c.problem sides) weights (Err w)
+    → spread_fold (shown_case c) system.case sides (named_sides c.setting.lts.now c.setting.class c.problem sides) weights (Err w)
     → SpreadShown c.setting.lts.now c.setting.class (passed_at Spread c (named_sides c.setting.lts.now c.setting.class c.problem sides) w)
 spread_shown c named whole sides weights w is system ends has fails = record {
   case = system.case;
@@ -125,21 +124,15 @@ leaf_asked c named sides above weights shares is system stands by_name count fol
       (sides_of_system lts class problem sides
       (All-weaker (IsSideOf (forms_in named)) (λ (s : SplitSide). s.form < length (split_forms lts class problem))
       (λ s at. (let e = forms_many in let l = at.form in omega arith)) sides stands.sides.each));
-  stand = subst (λ ss. All (λ (s : Share). RowStands lts class problem number ss s.name) (map share_of shares)) (sym by_name) (node_names_stand lts tree cycle class problem number system.case over sides within refuting.multiplier (map share_of shares) made);
-  names = node_names_in_range lts tree cycle class problem number system.case over sides within (let f = stands.few in omega arith) refuting.multiplier (map share_of shares) made;
-  refute = subst (λ ss. SharesRefute lts (row_expression lts class problem number ss) (map share_of shares)) (sym by_name) (node_shares_refute lts tree cycle class problem number system.case over sides within is.live refuting.multiplier refuting.refute (map share_of shares) made);
+  stand = subst (λ ss. All (λ (s : Share). RowStands lts class problem number ss s.name) (map share_of shares)) (sym by_name) (node_names_stand (shown_case c) system.case over sides within refuting.multiplier (map share_of shares) made);
+  names = node_names_in_range (shown_case c) system.case over sides within (let f = stands.few in omega arith) refuting.multiplier (map share_of shares) made;
+  refute = subst (λ ss. SharesRefute lts (row_expression lts class problem number ss) (map share_of shares)) (sym by_name) (node_shares_refute (shown_case c) system.case over sides within is.live refuting.multiplier refuting.refute (map share_of shares) made);
   few_rows = (let w = ap length refuting.weights_are in let f = weights_few refuting.multiplier 0 (length (node_system (rows_of system.case) system.case.forms sides).rows) in let g = refuting.few in let e = count in omega arith);
   few_sides = (let e = ap length by_name ∙ length-map sides (named_side lts class problem) in let f = stands.few in omega arith);
 }
   where
     lts : System
     lts = c.setting.lts.now
-
-    tree : List Arc
-    tree = c.setting.tree.now.arcs
-
-    cycle : CycleBasis
-    cycle = cycle_of c.setting.basis.now
 
     class : Class
     class = c.setting.class
@@ -150,7 +143,7 @@ leaf_asked c named sides above weights shares is system stands by_name count fol
     number : ℕ
     number = c.number
 
-    over : IsCaseOver lts tree cycle class problem number system.case
+    over : IsCaseOver (shown_case c) system.case
     over = case_over c named is system
 
     refuting : AreRefuting (node_system (rows_of system.case) system.case.forms sides) weights
@@ -184,11 +177,11 @@ leaf_made c named sides above weights shares (split_node form at) system e fold 
 
 -- ---- the split that is made
 
-lows_of : (lts : System) (arcs : List Arc) (basis : CycleBasis) (class : Class) (splits : List SplitForm) (forms : List Form) → each (form_fold lts arcs basis class) splits (Ok forms) → All (λ f. negsuc 0 ≤ℤ f.low) forms
-lows_of lts arcs basis class [] forms e = subst (All (λ (f : Form). negsuc 0 ≤ℤ f.low)) (let s : [] ≡ forms = cc in s) (All-nil (λ (f : Form). negsuc 0 ≤ℤ f.low))
-lows_of lts arcs basis class (s ∷ splits) forms (x, (scaled, made, is), (more, rest, e)) =
+lows_of : (it : ShownSetting) (splits : List SplitForm) (forms : List Form) → each (form_fold it) splits (Ok forms) → All (λ f. negsuc 0 ≤ℤ f.low) forms
+lows_of it [] forms e = subst (All (λ (f : Form). negsuc 0 ≤ℤ f.low)) (let s : [] ≡ forms = cc in s) (All-nil (λ (f : Form). negsuc 0 ≤ℤ f.low))
+lows_of it (s ∷ splits) forms (x, (scaled, made, is), (more, rest, e)) =
     subst (All (λ (f : Form). negsuc 0 ≤ℤ f.low)) (let t : (x ∷ more) ≡ forms = cc in t)
-    (All-cons (λ (f : Form). negsuc 0 ≤ℤ f.low) x more (subst (λ (z : ℤ). negsuc 0 ≤ℤ z) (let t : form_low s ≡ x.low = (let u = is in cc) in t) (low s)) (lows_of lts arcs basis class splits more rest))
+    (All-cons (λ (f : Form). negsuc 0 ≤ℤ f.low) x more (subst (λ (z : ℤ). negsuc 0 ≤ℤ z) (let t : form_low s ≡ x.low = (let u = is in cc) in t) (low s)) (lows_of it splits more rest))
   where
     low : (split : SplitForm) → negsuc 0 ≤ℤ form_low split
     low (split_form.Tokens q) = omega (arith, ints)
@@ -208,8 +201,7 @@ split_fits c named f u d system lt le fits = (
 
     all : All (λ g. negsuc 0 ≤ℤ g.low) system.case.forms
     all = let (rows, rows_made, (forms, forms_made, (columns, keeps, form_list))) = system.made in subst (All (λ (g : Form). negsuc 0 ≤ℤ g.low)) (sym form_list)
-        (lows_of c.setting.lts.now c.setting.tree.now.arcs (cycle_of c.setting.basis.now) c.setting.class
-        (split_forms c.setting.lts.now c.setting.class c.problem) forms forms_made)
+        (lows_of (shown_setting c.setting) (split_forms c.setting.lts.now c.setting.class c.problem) forms forms_made)
 
     least : negsuc 0 ≤ℤ (form_at (forms_in named) f).low
     least = subst (All (λ (g : Form). negsuc 0 ≤ℤ g.low)) (sym system.shows.forms) all f (record { scale = pos 1; coeffs = []; low = pos 0; high = pos 0 }) lt

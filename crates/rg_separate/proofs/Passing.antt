@@ -18,6 +18,7 @@ use Rattle.rg_feasible.specs.declared.settled.PivotWide.{PivotWide}
 use Rattle.rg_feasible.specs.Settling.{wide_at}
 use Rattle.rg_rows.specs.declared.named_system.NamedSystem.{NamedSystem}
 use Rattle.rg_reasons.specs.declared.wide_at.Stage.TheVariants.{Row}
+use Rattle.rg_separate.specs.Keeping.{shown_case}
 use Rattle.rg_separate.specs.declared.setting.CaseSetting.{CaseSetting}
 use Rattle.rg_separate.specs.Casing.{IsCase, IsNamedSystem, forms_in}
 use Rattle.rg_separate.specs.Passing.{passed_at, pivot_at, cycle_passed}
@@ -46,13 +47,12 @@ pivot_shown c named sides members at is system stops = record {
 
 -- the case comes to that term
 pub pivot_comes : (c : CaseSetting) (named : NamedSystem) (sides : List SplitSide) (at : WideAt) → (system : IsNamedSystem c named)
-    → Branching named.system (forms_in named) (stopped sides at) → CaseComes c.setting.lts.now c.setting.tree.now.arcs
-    (cycle_of c.setting.basis.now) c.setting.class c.problem c.number
-    (passes (term_at c.problem c.number (named_sides c.setting.lts.now c.setting.class c.problem sides) at))
+    → Branching named.system (forms_in named) (stopped sides at)
+    → CaseComes (shown_case c) (passes (term_at c.problem c.number (named_sides c.setting.lts.now c.setting.class c.problem sides) at))
 pivot_comes c named sides at system stops = pivot_passes system.case sides at system.made (subst (λ s. Branching s system.case.forms (stopped sides at)) system.shows.system (subst (λ fs. Branching named.system fs (stopped sides at)) system.shows.forms stops))
 
 -- the step that the rows of the case show
-pub row_shown : (c : CaseSetting) (w : Wide) → IsCase c → system_fold c.setting.lts.now c.setting.tree.now.arcs (cycle_of c.setting.basis.now) c.setting.class c.problem c.number (Err w) → RowShown c.setting.lts.now c.setting.class (passed_at Row c [] w)
+pub row_shown : (c : CaseSetting) (w : Wide) → IsCase c → system_fold (shown_case c) (Err w) → RowShown c.setting.lts.now c.setting.class (passed_at Row c [] w)
 row_shown c w is fails = record {
   arcs = c.setting.tree.now.arcs;
   basis = cycle_of c.setting.basis.now;

@@ -33,6 +33,7 @@ use Rattle.rg_rows.specs.declared.named_system.NamedSystem.{NamedSystem}
 use Rattle.rg_places.specs.PointValues.{ratios_of, point_start, point_value, SolvesCase}
 use Rattle.rg_places.proofs.PointPlaces.{point_of}
 use Rattle.rg_reasons.specs.declared.wide_at.Stage.TheVariants.{Place as PlaceStage}
+use Rattle.rg_separate.specs.Keeping.{shown_setting, shown_case}
 use Rattle.rg_separate.specs.declared.setting.CaseSetting.{CaseSetting}
 use Rattle.rg_separate.specs.Casing.{IsCase, IsNamedSystem, forms_in}
 use Rattle.rg_separate.specs.Passing.{passed_at}
@@ -43,7 +44,7 @@ pub asked : (lts : System) (problem : Problem) → IsProblem lts problem → IsS
 asked lts (Event s t) h = h
 asked lts (States s s') (less, lt) = ((let l = less in omega arith), lt, λ e. (omega arith))
 
-pub case_over : (c : CaseSetting) (named : NamedSystem) → IsCase c → (system : IsNamedSystem c named) → IsCaseOver c.setting.lts.now c.setting.tree.now.arcs (cycle_of c.setting.basis.now) c.setting.class c.problem c.number system.case
+pub case_over : (c : CaseSetting) (named : NamedSystem) → IsCase c → (system : IsNamedSystem c named) → IsCaseOver (shown_case c) system.case
 case_over c named is system = record {
   in_range = is.setting.in_range;
   reachable = is.setting.reachable;
@@ -56,7 +57,7 @@ case_over c named is system = record {
 
 -- the system has as many columns as the class and the basis say
 pub case_columns : (c : CaseSetting) (named : NamedSystem) → (system : IsNamedSystem c named) → named.system.columns ≡ column_count c.setting.lts.now (cycle_of c.setting.basis.now) c.setting.class
-case_columns c named system = ap (λ s. s.columns) system.shows.system ∙ columns_of_case c.setting.lts.now c.setting.tree.now.arcs (cycle_of c.setting.basis.now) c.setting.class c.problem c.number system.case system.made
+case_columns c named system = ap (λ s. s.columns) system.shows.system ∙ columns_of_case (shown_case c) system.case system.made
 
 -- the ratio of a column
 ratio_is : (point : List Fraction) (j : ℕ) (P : Ratio → Type 0) → j < length point → ((f : Fraction) → P (ratio_of (get_or point j f))) → P (ratio_at (ratios_of point) j)
@@ -64,7 +65,7 @@ ratio_is [] j P lt each = absurd (omega arith)
 ratio_is (f ∷ point) j P lt each = subst P (sym (get_or-map ratio_of (f ∷ point) j f (whole (pos 0)) lt)) (each f)
 
 -- the point solves the case
-pub solves : (c : CaseSetting) (named : NamedSystem) (point : List Fraction) → IsCase c → IsNamedSystem c named → IsWholeSolution named.system (forms_in named) point → SolvesCase c.setting.lts.now c.setting.tree.now.arcs (cycle_of c.setting.basis.now) c.setting.class c.problem point
+pub solves : (c : CaseSetting) (named : NamedSystem) (point : List Fraction) → IsCase c → IsNamedSystem c named → IsWholeSolution named.system (forms_in named) point → SolvesCase (shown_setting c.setting) c.problem point
 solves c named point is system at = record {
   number = c.number;
   case = system.case;
@@ -101,22 +102,21 @@ module _ (c : CaseSetting) (named : NamedSystem) (sides : List SplitSide) (point
       (point_is c.setting.lts.now (cycle_of c.setting.basis.now) c.setting.class (node_system named.system (forms_in named) sides) at.members point (found_has named.system (forms_in named) sides at.members at.outcome) at.values_are (case_columns c named system)))
 
   -- the case comes to the place of the point, or to its first step out of range
-  pub place_comes : (p : Place) → place_fold c.setting.lts.now c.setting.tree.now.arcs (cycle_of c.setting.basis.now) c.setting.class c.problem
+  pub place_comes : (p : Place) → place_fold (shown_setting c.setting) c.problem
       (point_start c.setting.class point) (point_value c.setting.lts.now (cycle_of c.setting.basis.now) c.setting.class point) (Ok p)
-      → CaseComes c.setting.lts.now c.setting.tree.now.arcs (cycle_of c.setting.basis.now) c.setting.class c.problem c.number (makes p)
+      → CaseComes (shown_case c) (makes p)
   place_comes p fold = place_is_made system.case at.members sides (point_start c.setting.class point) (point_value c.setting.lts.now (cycle_of c.setting.basis.now) c.setting.class point) p system.made case_found case_point fold
 
-  pub place_fails : (w : Wide) → place_fold c.setting.lts.now c.setting.tree.now.arcs (cycle_of c.setting.basis.now) c.setting.class c.problem
+  pub place_fails : (w : Wide) → place_fold (shown_setting c.setting) c.problem
       (point_start c.setting.class point) (point_value c.setting.lts.now (cycle_of c.setting.basis.now) c.setting.class point) (Err w)
-      → CaseComes c.setting.lts.now c.setting.tree.now.arcs (cycle_of c.setting.basis.now) c.setting.class c.problem c.number
+      → CaseComes (shown_case c)
       (passes (passed_at PlaceStage c (named_sides c.setting.lts.now c.setting.class c.problem sides) w))
   place_fails w fold = place_passes system.case at.members sides (point_start c.setting.class point) (point_value c.setting.lts.now (cycle_of c.setting.basis.now) c.setting.class point) w system.made case_found case_point fold
 
 -- the step that the place of the point shows
 pub place_shown : (c : CaseSetting) (named : NamedSystem) (sides : List SplitSide) (fractions : List Fraction) (w : Wide) → IsCase c → IsNamedSystem c named
-    → IsFoundPoint named.system (forms_in named) sides fractions → place_fold c.setting.lts.now c.setting.tree.now.arcs
-    (cycle_of c.setting.basis.now) c.setting.class c.problem (point_start c.setting.class fractions)
-    (point_value c.setting.lts.now (cycle_of c.setting.basis.now) c.setting.class fractions) (Err w)
+    → IsFoundPoint named.system (forms_in named) sides fractions
+    → place_fold (shown_setting c.setting) c.problem (point_start c.setting.class fractions) (point_value c.setting.lts.now (cycle_of c.setting.basis.now) c.setting.class fractions) (Err w)
     → PlaceShown c.setting.lts.now c.setting.class (passed_at PlaceStage c (named_sides c.setting.lts.now c.setting.class c.problem sides) w)
 place_shown c named sides fractions w is system at fails = record {
   case = system.case;

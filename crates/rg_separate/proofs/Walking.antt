@@ -24,10 +24,10 @@ use Rattle.rg_reasons.specs.Certificates.{IsNodeOf, case_tree}
 use Rattle.rg_reasons.proofs.Trees.{tree_is}
 use Rattle.rg_branch.specs.View.{TreeNode}
 use Rattle.rg_branch.specs.Answer.{IsSplitTree}
-use Rattle.rg_cycles.specs.View.{cycle_of}
 use Rattle.rg_outcome.specs.Casing.{spread_tree, CaseResult.passes, CaseComes, CaseComes.is_refuted, CaseComes.leaf_passes}
 use Rattle.rg_rows.specs.declared.named_system.NamedSystem.{NamedSystem}
 use Rattle.rg_rows.specs.Shown.{ShowsCase}
+use Rattle.rg_separate.specs.Keeping.{shown_case}
 use Rattle.rg_separate.specs.declared.case.CaseAnswer.TheVariants as answer
 use Rattle.rg_separate.specs.declared.setting.CaseSetting.{CaseSetting}
 use Rattle.rg_reasons.specs.declared.wide_at.Stage.TheVariants.{Spread}
@@ -83,7 +83,7 @@ module _ (c : CaseSetting) (named : NamedSystem) where
     pub made : Tree
     pub nodes_are : nodes ≡ preorder made
     pub refutes : TreeRefutes c.setting.lts.now c.setting.class c.problem c.number (named_sides c.setting.lts.now c.setting.class c.problem above) made
-    pub spreads : (case : CaseSystem) → ShowsCase named case → spread_tree c.setting.lts.now c.setting.tree.now.arcs (cycle_of c.setting.basis.now) c.setting.class c.problem c.number case above t (Ok made)
+    pub spreads : (case : CaseSystem) → ShowsCase named case → spread_tree (shown_case c) case above t (Ok made)
 
   pub tree_made : (above : List SplitSide) (t : SplitTree) (nodes : List reasons.TreeNode) → AreMadeOf (placed_nodes above t) nodes → IsTreeMade above t nodes
   tree_made above (leaf weights) [] made = absurd made
@@ -133,10 +133,10 @@ module _ (c : CaseSetting) (named : NamedSystem) where
 
   -- the leaves before it are made, so it is the first whose step is shown
   pub tree_fails : (above : List SplitSide) (t : SplitTree) (front : List Visit) (nodes : List reasons.TreeNode) (v : Visit) (rest : List Visit) (w : Wide) → placed_nodes above t ≡ front ++ v ∷ rest → AreMadeOf front nodes → LeafPasses c named v.above v.node w
-      → (case : CaseSystem) → ShowsCase named case → spread_tree c.setting.lts.now c.setting.tree.now.arcs (cycle_of c.setting.basis.now) c.setting.class c.problem c.number case above t (Err (record { above = v.above; wide = w }))
+      → (case : CaseSystem) → ShowsCase named case → spread_tree (shown_case c) case above t (Err (record { above = v.above; wide = w }))
   tree_fails above (leaf weights) [] nodes v rest w e made fails case shows =
       let is : record { above = above; node = leaf_node weights } ≡ v = cc in
-      subst (λ (x : Visit). spread_tree c.setting.lts.now c.setting.tree.now.arcs (cycle_of c.setting.basis.now) c.setting.class c.problem c.number case above (leaf weights) (Err (record { above = x.above; wide = w }))) is
+      subst (λ (x : Visit). spread_tree (shown_case c) case above (leaf weights) (Err (record { above = x.above; wide = w }))) is
       (refl, subst (λ (x : Visit). LeafPasses c named x.above x.node w) (sym is) fails case shows)
   tree_fails above (leaf weights) (d ∷ front) nodes v rest w e made fails case shows = absurd (let l = ap length e ∙ ap suc (length-append front (v ∷ rest)) in omega arith)
   tree_fails above (split f u low high) [] nodes v rest w e made fails case shows =
@@ -252,11 +252,11 @@ module _ (c : CaseSetting) (named : NamedSystem) (nodes : List TreeNode) where
         go (v ∷ rest) e = absurd (let l = ap length (w.nodes_are ∙ ap (λ xs. map (λ v. v.node) w.done ++ map (λ v. v.node) xs) e) ∙ length-append (map (λ (v : Visit). v.node) w.done) (v.node ∷ map (λ v. v.node) rest) in let k = length-map w.done (λ v. v.node) ∙ w.count in omega arith)
 
     pub walk_fails : (n : TreeNode) (wide : Wide) → i < length nodes → get_or nodes i n ≡ n → LeafPasses c named above n wide → (case : CaseSystem)
-        → ShowsCase named case → spread_tree c.setting.lts.now c.setting.tree.now.arcs (cycle_of c.setting.basis.now) c.setting.class c.problem c.number case [] w.whole
+        → ShowsCase named case → spread_tree (shown_case c) case [] w.whole
         (Err (record { above = above; wide = wide }))
     walk_fails n wide lt here fails case shows =
         let h = visit_here n lt here in
-        subst (λ sides. spread_tree c.setting.lts.now c.setting.tree.now.arcs (cycle_of c.setting.basis.now) c.setting.class c.problem c.number case [] w.whole (Err (record { above = sides; wide = wide }))) h.sides
+        subst (λ sides. spread_tree (shown_case c) case [] w.whole (Err (record { above = sides; wide = wide }))) h.sides
         (tree_fails c named [] w.whole w.done made h.v h.rest wide (w.visits_are ∙ ap (λ vs. w.done ++ vs) h.left_is) w.made_are (subst (λ sides. LeafPasses c named sides h.v.node wide) (sym h.sides) (subst (λ m. LeafPasses c named above m wide) (sym h.node) fails)) case shows)
 
 -- the case of the nodes that are made
@@ -281,9 +281,9 @@ module _ (c : CaseSetting) (named : NamedSystem) (system : IsNamedSystem c named
       let end = walk_end c named nodes i above (nodes_of case) w past in
       let same = tree_is (nodes_of case) end.made end.nodes_are in
       is_refuted system.case w.whole (case_tree case) system.made (case_branching w.whole w.outcome)
-      (subst (λ t. spread_tree c.setting.lts.now c.setting.tree.now.arcs (cycle_of c.setting.basis.now) c.setting.class c.problem c.number system.case [] w.whole (Ok t)) (sym same) (end.spreads system.case system.shows))
+      (subst (λ t. spread_tree (shown_case c) system.case [] w.whole (Ok t)) (sym same) (end.spreads system.case system.shows))
 
   pub walk_passes : (made : List reasons.TreeNode) (n : TreeNode) (wide : Wide) → IsWalk c named nodes i above made → i < length nodes → get_or nodes i n ≡ n
-      → LeafPasses c named above n wide → CaseComes c.setting.lts.now c.setting.tree.now.arcs (cycle_of c.setting.basis.now) c.setting.class c.problem c.number
+      → LeafPasses c named above n wide → CaseComes (shown_case c)
       (passes (passed_at Spread c (named_sides c.setting.lts.now c.setting.class c.problem above) wide))
   walk_passes made n wide w lt here fails = leaf_passes system.case w.whole (record { above = above; wide = wide }) system.made (case_branching w.whole w.outcome) (walk_fails c named nodes i above made w n wide lt here fails system.case system.shows)

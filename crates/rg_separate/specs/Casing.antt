@@ -14,7 +14,6 @@ use Rattle.rg_order_of_work.specs.Fold.{each}
 use Rattle.rg_order_of_work.specs.Rewriting.{CaseSystem, split_forms, system_fold}
 use Rattle.rg_order_of_work.specs.Spreading.{Share, share_fold, spread_fold}
 use Rattle.rg_order_of_work.specs.Shown.{IsLive, named_sides}
-use Rattle.rg_cycles.specs.View.{cycle_of}
 use Rattle.rg_branch.specs.View.{TreeNode}
 use Rattle.rg_branch.specs.Asked.{AreSidesOf}
 use Rattle.rg_rows.specs.Forms.{linear_form, split_of, AreFormsOf}
@@ -22,7 +21,7 @@ use Rattle.rg_rows.specs.Shown.{ShowsCase}
 use Rattle.rg_rows.specs.declared.named_system.NamedSystem.{NamedSystem}
 use Rattle.rg_reasons.specs.Trees as reasons
 use Rattle.rg_separate.specs.declared.setting.CaseSetting.{CaseSetting}
-use Rattle.rg_separate.specs.Keeping.{IsSetting}
+use Rattle.rg_separate.specs.Keeping.{IsSetting, shown_case}
 use Rattle.rg_refuting.specs.declared.Form.TheVariants as split_form
 
 -- the problem is of the system, its label has an arc, and the case is one of its cases
@@ -39,7 +38,7 @@ forms_in named = map linear_form named.forms.items
 -- the named system is that of the case, and a branching on its forms may be asked for
 pub record IsNamedSystem (c : CaseSetting) (named : NamedSystem) : Type 0 where
   pub case : CaseSystem
-  pub made : system_fold c.setting.lts.now c.setting.tree.now.arcs (cycle_of c.setting.basis.now) c.setting.class c.problem c.number (Ok case)
+  pub made : system_fold (shown_case c) (Ok case)
   pub shows : ShowsCase named case
   pub by_name : map split_of named.forms.items ≡ split_forms c.setting.lts.now c.setting.class c.problem
   pub forms : AreFormsOf named.system named.forms.items
@@ -82,7 +81,7 @@ sides_among forms sides = map (λ side. record { form = slice_index_or forms sid
 -- the rows refute the case below the sides, and are the leaf of the weights
 pub record IsLeafMade (c : CaseSetting) (named : NamedSystem) (above : List SplitSide) (weights : List Weight) (rows : List NamedRow) : Type 0 where
   pub refutes : LeafRefutes (RowStands c.setting.lts.now c.setting.class c.problem c.number (named_sides c.setting.lts.now c.setting.class c.problem above)) (row_expression c.setting.lts.now c.setting.class c.problem c.number (named_sides c.setting.lts.now c.setting.class c.problem above)) rows
-  pub spreads : (case : CaseSystem) → ShowsCase named case → spread_fold c.setting.lts.now c.setting.tree.now.arcs (cycle_of c.setting.basis.now) c.setting.class c.problem c.number case above (named_sides c.setting.lts.now c.setting.class c.problem above) weights (Ok rows)
+  pub spreads : (case : CaseSystem) → ShowsCase named case → spread_fold (shown_case c) case above (named_sides c.setting.lts.now c.setting.class c.problem above) weights (Ok rows)
 
 -- the leaf is made; the split has its form's name
 abbrev pub IsMadeOf : CaseSetting → NamedSystem → List SplitSide → TreeNode → reasons.TreeNode → Type 0
@@ -97,6 +96,5 @@ SharesFold named above weights result = (case : CaseSystem) → ShowsCase named 
 
 -- the first step of a leaf out of range
 abbrev pub LeafPasses : CaseSetting → NamedSystem → List SplitSide → TreeNode → Wide → Type 0
-LeafPasses c named above (leaf_node weights) w = (case : CaseSystem) → ShowsCase named case → spread_fold c.setting.lts.now c.setting.tree.now.arcs
-    (cycle_of c.setting.basis.now) c.setting.class c.problem c.number case above (named_sides c.setting.lts.now c.setting.class c.problem above) weights (Err w)
+LeafPasses c named above (leaf_node weights) w = (case : CaseSystem) → ShowsCase named case → spread_fold (shown_case c) case above (named_sides c.setting.lts.now c.setting.class c.problem above) weights (Err w)
 LeafPasses c named above (split_node f u) w = ⊥

@@ -5,8 +5,8 @@ use Rattle.rg_theory.specs.declared.Class.{Class}
 use Rattle.rg_theory.specs.declared.Problem.{Problem}
 use Rattle.rg_refuting.specs.Refutes.{Tree, Reason.refuted, TreeRefutes, Accepts}
 use Rattle.rg_net.specs.Shown.{shown_place}
+use Rattle.rg_order_of_work.specs.Setting.{case_at}
 use Rattle.rg_order_of_work.specs.Shown.{Shown, ShownWide}
-use Rattle.rg_cycles.specs.View.{cycle_of}
 use Rattle.rg_outcome.specs.Casing.{CaseResult, CaseResult.makes, CaseResult.refutes, CaseResult.passes, CaseComes}
 use Rattle.rg_theory.specs.Problem.{IsProblem}
 use Rattle.rg_outcome.specs.Coming.{Separation, Separation.unsolvable, Separation.too_wide}
@@ -17,6 +17,7 @@ use Rattle.rg_reasons.specs.declared.certificate.Case.{Case}
 use Rattle.rg_reasons.specs.declared.certificate.Reason.{Reason}
 use Rattle.rg_reasons.specs.Certificates.{case_tree, reason_of, IsWhole, IsTreeOf, IsCertificateOf}
 use Rattle.rg_places.specs.RegionPlaces.{IsRegionPlace, PlaceSeparates}
+use Rattle.rg_separate.specs.Keeping.{shown_setting, shown_case}
 use Rattle.rg_separate.specs.declared.case.CaseAnswer.{CaseAnswer}
 use Rattle.rg_separate.specs.declared.case.CaseAnswer.TheVariants as answer
 use Rattle.rg_separate.specs.declared.problem.ProblemAnswer.{ProblemAnswer}
@@ -45,7 +46,7 @@ case_result (answer.Refuted case) = refutes (case_tree case)
 case_result (answer.Wide w) = passes (shown_of w)
 
 abbrev pub CaseComesTo : CaseSetting → CaseAnswer → Type 0
-CaseComesTo c a = CaseComes c.setting.lts.now c.setting.tree.now.arcs (cycle_of c.setting.basis.now) c.setting.class c.problem c.number (case_result a)
+CaseComesTo c a = CaseComes (shown_case c) (case_result a)
 
 -- the first cases, so many, were tried: each is refuted, or the first term that passes is kept
 pub record AreTried (lts : System) (class : Class) (problem : Problem) (number : ℕ) (tried : Tried) : Type 0 where
@@ -62,7 +63,7 @@ pub record HaveCome (comes : ℕ → CaseResult → Type 0) (number : ℕ) (trie
   pub passed : IfSome tried.passed (λ w. (i : ℕ) × (i < number) × comes i (passes (shown_of w)) × NonePasses comes i)
 
 abbrev pub CasesCameTo : Setting → Problem → ℕ → Tried → Type 0
-CasesCameTo s problem number tried = HaveCome (CaseComes s.lts.now s.tree.now.arcs (cycle_of s.basis.now) s.class problem) number tried
+CasesCameTo s problem number tried = HaveCome (λ i. CaseComes (case_at (shown_setting s) problem i)) number tried
 
 -- the reason holds, and its numbers are in range
 pub record IsGoodReason (lts : System) (class : Class) (reason : Reason) : Type 0 where
@@ -77,9 +78,9 @@ ProblemTells lts class problem (problem_answer.Wide w) = ShownWide lts class (sh
 
 -- the same, in the words of the one answer: of a reason also that it is that of the problem and its trees
 abbrev pub ProblemComesTo : Setting → Problem → ProblemAnswer → Type 0
-ProblemComesTo s problem (problem_answer.Place r) = ProblemComes s.lts.now s.tree.now.arcs (cycle_of s.basis.now) s.class problem (placed (shown_place r.place))
-ProblemComesTo s problem (problem_answer.Refuted reason) = (trees : List Tree) × (reason_of reason ≡ refuted problem trees) × ProblemComes s.lts.now s.tree.now.arcs (cycle_of s.basis.now) s.class problem (solved.Solved.refuted trees)
-ProblemComesTo s problem (problem_answer.Wide w) = ProblemComes s.lts.now s.tree.now.arcs (cycle_of s.basis.now) s.class problem (passed (shown_of w))
+ProblemComesTo s problem (problem_answer.Place r) = ProblemComes (shown_setting s) problem (placed (shown_place r.place))
+ProblemComesTo s problem (problem_answer.Refuted reason) = (trees : List Tree) × (reason_of reason ≡ refuted problem trees) × ProblemComes (shown_setting s) problem (solved.Solved.refuted trees)
+ProblemComesTo s problem (problem_answer.Wide w) = ProblemComes (shown_setting s) problem (passed (shown_of w))
 
 -- the problem is refuted, and this is the reason
 abbrev pub ProvesRefuted : Setting → Problem → Reason → Type 0
@@ -90,5 +91,5 @@ pub record EndsWith (s : Setting) (problem : Problem) : Type 0 where
   pub has : IsProblem s.lts.now problem
   pub o : Separation
   pub searched : Searched s.lts.now s.class o
-  pub ends : ((trees : List Tree) × (o ≡ unsolvable problem trees) × ProblemComes s.lts.now s.tree.now.arcs (cycle_of s.basis.now) s.class problem (solved.Solved.refuted trees))
-      ⊎ ((w : Shown) × (o ≡ too_wide w) × ProblemComes s.lts.now s.tree.now.arcs (cycle_of s.basis.now) s.class problem (passed w))
+  pub ends : ((trees : List Tree) × (o ≡ unsolvable problem trees) × ProblemComes (shown_setting s) problem (solved.Solved.refuted trees))
+      ⊎ ((w : Shown) × (o ≡ too_wide w) × ProblemComes (shown_setting s) problem (passed w))

@@ -10,12 +10,21 @@ use Rattle.rg_marks.specs.Tokens.{IsNarrow}
 use Rattle.rg_marks.specs.Separated.{SeparateSoMuch}
 use Rattle.rg_marks.specs.declared.separated.Separated.{Separated}
 use Rattle.rg_spanning.specs.Spanning.{IsTreeOf}
+use Rattle.rg_order_of_work.specs.Setting.{Setting as ShownSetting, CaseSetting as ShownCase, setting_at, case_at}
 use Rattle.rg_order_of_work.specs.Chords.{IsBasis}
 use Rattle.rg_cycles.specs.View.{labels_of, cycle_of}
 use Rattle.rg_rows.specs.Sharing.{IsCommonOf}
 use Rattle.rg_marks.specs.declared.region_place.RegionPlace.{RegionPlace}
 use Rattle.rg_places.specs.RegionPlaces.{IsRegionPlace}
 use Rattle.rg_separate.specs.declared.setting.Setting.{Setting}
+use Rattle.rg_separate.specs.declared.setting.CaseSetting.{CaseSetting}
+
+-- a setting and a case of it, as the definitions have them
+abbrev pub shown_setting : Setting → ShownSetting
+shown_setting s = setting_at s.lts.now s.tree.now.arcs (cycle_of s.basis.now) s.class
+
+abbrev pub shown_case : CaseSetting → ShownCase
+shown_case c = case_at (shown_setting c.setting) c.problem c.number
 
 -- the tree is that of the system, all of whose states are reachable, the basis is that of its chords, the class's bound
 -- is in range, and the rows and forms are those that all problems share
@@ -26,7 +35,7 @@ pub record IsSetting (s : Setting) : Type 0 where
   pub labels : labels_of s.basis.now ≡ labels s.lts.now
   pub basis : IsBasis s.lts.now s.tree.now.arcs (cycle_of s.basis.now)
   pub bound : HasNumbersInRange s.class
-  pub common : IsCommonOf s.lts.now s.tree.now.arcs (cycle_of s.basis.now) s.class s.common.now
+  pub common : IsCommonOf (shown_setting s) s.common.now
 
 -- the place is a region, of some class, and its numbers fit
 abbrev pub MayKeep : System → RegionPlace → Type 0

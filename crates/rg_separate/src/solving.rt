@@ -1,9 +1,8 @@
 //! The problems of a system, as a block of them is solved.
 ghost use Rattle.rg_theory.specs.Problem.{IsProblem};
-ghost use Rattle.rg_cycles.specs.View.{cycle_of};
 ghost use Rattle.rg_places.specs.RegionPlaces.{IsRegionPlace};
 ghost use Rattle.rg_outcome.specs.Solving.{ProblemComes};
-ghost use Rattle.rg_separate.specs.Keeping.{IsSetting};
+ghost use Rattle.rg_separate.specs.Keeping.{IsSetting, shown_setting};
 ghost use Rattle.rg_separate.specs.Deciding.{ProvesRefuted};
 
 use crate::problem::{ProblemAnswer, solve_problem};
@@ -26,7 +25,7 @@ impl Solving for Problems<'_> {
 
     ghost asks = { λ s problem. IsSetting s.setting × IsProblem s.setting.lts.now problem };
 
-    ghost comes = { λ s. ProblemComes s.setting.lts.now s.setting.tree.now.arcs (cycle_of s.setting.basis.now) s.setting.class };
+    ghost comes = { λ s. ProblemComes (shown_setting s.setting) };
 
     ghost makes = { λ s. IsRegionPlace s.setting.lts.now s.setting.class };
 

@@ -23,7 +23,10 @@ pub(crate) fn basis(alloc: Global, lts: &Lts, tree: &Tree) -> Result<Basis, Stop
 
 // The vector of the one chord where one a or two b lead to a state.
 fn vector_of_one(alloc: Global) -> Option<Vec<i64>> {
-    let lts = system(alloc, ".type LTS .states s0[initial] s1 s2 .labels a b .arcs s0 a s1 s0 b s2 s2 b s1")?;
+    let lts = system(
+        alloc,
+        ".type LTS .states s0[initial] s1 s2 .labels a b .arcs s0 a s1 s0 b s2 s2 b s1",
+    )?;
     let Ok(tree) = Tree::grow(alloc, &lts) else {
         return None;
     };

@@ -2,8 +2,9 @@
 ghost use Rattle.std.specs.Prelude.{◌≡◌};
 ghost use Rattle.rg_theory.specs.System.{labels};
 ghost use Rattle.rg_spanning.specs.Spanning.{IsTreeOf};
-ghost use Rattle.rg_cycles.specs.View.{labels_of, cycle_of};
+ghost use Rattle.rg_cycles.specs.View.{labels_of};
 ghost use Rattle.rg_rows.specs.Sharing.{IsCommonOf};
+ghost use Rattle.rg_case_parts.specs.SettingViews.{setting_of};
 
 use crate::asked::{
     PLAIN_NONBRANCHING, PLAIN_TWO_MARKING, PURE_NONBRANCHING, PURE_PLAIN, PURE_PLAIN_SAFE,
@@ -82,7 +83,7 @@ fn shared_text(
 ) -> Option<String>
     requires tree { IsTreeOf lts.now tree.now }
     requires labels { labels_of basis.now ≡ labels lts.now }
-    requires common { IsCommonOf lts.now tree.now.arcs (cycle_of basis.now) class common.now }
+    requires common { IsCommonOf (setting_of lts.now tree.now basis.now class) common.now }
 {
     let count = cases(lts, class, problem);
     if number >= count || !is_asked(lts, problem) {

@@ -24,6 +24,7 @@ use Rattle.rg_linear.specs.System.{AreFarkasMultipliers}
 use Rattle.rg_linear.specs.Cycle.{CycleBasis}
 use Rattle.rg_linear.specs.Branching.{SplitSide, weights_from, node_system}
 use Rattle.rg_reasons.specs.Certificates.{IsFormOf, IsRowNameOf, IsVariableWithin}
+use Rattle.rg_order_of_work.specs.Setting.{Setting, setting_at, case_at}
 use Rattle.rg_order_of_work.specs.Chords.{IsBasis}
 use Rattle.rg_order_of_work.specs.Fold.{and_then, gives, each, joined, further, whole, whole_sum, whole_product}
 use Rattle.rg_order_of_work.specs.Rewriting.{CaseSystem, rows_of, system_fold}
@@ -153,30 +154,34 @@ leaf_in_range lts tree basis expression shares rows units (xs, folds, (scaled, s
 
 -- ---- the leaf
 
+-- the setting in which all nets are asked for
+abbrev pub of_all : System → List Arc → CycleBasis → Setting
+of_all lts arcs basis = setting_at lts arcs basis no_condition
+
 module _ (lts : System) (well : IsWellFormed lts) (reachable : IsAllReachable lts) (arcs : List Arc) (basis : CycleBasis) (is_tree : IsTree lts arcs) (is_basis : IsBasis lts arcs basis) (problem : Problem) (asked : IsSeparationProblem lts problem) (live : IsLive lts problem) where
   no_sides : (case : CaseSystem) → All (λ (side : SplitSide). side.form < length case.forms) []
   no_sides case = All-nil (λ (side : SplitSide). side.form < length case.forms)
 
-  bottoms : (case : CaseSystem) → system_fold lts arcs basis no_condition problem 0 (Ok case) → (multiplier : ℕ → ℤ) (n : ℕ) (shares : List Share)
+  bottoms : (case : CaseSystem) → system_fold (case_at (of_all lts arcs basis) problem 0) (Ok case) → (multiplier : ℕ → ℤ) (n : ℕ) (shares : List Share)
       → each (share_fold case [] []) (weights_from multiplier 0 n) (Ok shares) → Each (λ (s : Share). IsOver s.multiplier) shares
   bottoms case made multiplier n shares = makes_each (λ (s : Share). IsOver s.multiplier) (share_fold case [] []) (weights_from multiplier 0 n)
       (λ w has s (m, product, e). subst (λ (x : Share). IsOver x.multiplier) (sym e) (product_over (whole w.multiplier) (factor_of case [] [] w.row) m product)) shares
 
-  pub leaf_holds : (case : CaseSystem) → system_fold lts arcs basis no_condition problem 0 (Ok case) → (multiplier : ℕ → ℤ)
+  pub leaf_holds : (case : CaseSystem) → system_fold (case_at (of_all lts arcs basis) problem 0) (Ok case) → (multiplier : ℕ → ℤ)
       → AreFarkasMultipliers (node_system (rows_of case) case.forms []) multiplier → (rows : List NamedRow)
-      → spread_fold lts arcs basis no_condition problem 0 case [] [] (weights_from multiplier 0 (length (node_system (rows_of case) case.forms []).rows)) (Ok rows) → RefutesFirst lts problem rows
+      → spread_fold (case_at (of_all lts arcs basis) problem 0) case [] [] (weights_from multiplier 0 (length (node_system (rows_of case) case.forms []).rows)) (Ok rows) → RefutesFirst lts problem rows
   leaf_holds case made multiplier farkas rows (shares, shares_are, leaf) =
       leaf_refutes lts arcs basis (RowStands lts no_condition problem 0 []) (row_expression lts no_condition problem 0 []) shares rows well reachable is_tree is_basis
       (says_arcs lts no_condition problem 0 []) (arcs_stand lts no_condition problem 0 []) stand within over_zero refute leaf in_range
     where
-      over : IsCaseOver lts arcs basis no_condition problem 0 case
+      over : IsCaseOver (case_at (of_all lts arcs basis) problem 0) case
       over = record { numbers = no_numbers; in_range = well.in_range; reachable = reachable; is_tree = is_tree; is_basis = is_basis; asked = asked; is_case = made }
 
       stand : All (λ s. RowStands lts no_condition problem 0 [] s.name) shares
-      stand = node_names_stand lts arcs basis no_condition problem 0 case over [] (no_sides case) multiplier shares shares_are
+      stand = node_names_stand (case_at (of_all lts arcs basis) problem 0) case over [] (no_sides case) multiplier shares shares_are
 
       names : All (λ s. IsRowNameOf lts s.name) shares
-      names = node_names_in_range lts arcs basis no_condition problem 0 case over [] (no_sides case) (omega arith) multiplier shares shares_are
+      names = node_names_in_range (case_at (of_all lts arcs basis) problem 0) case over [] (no_sides case) (omega arith) multiplier shares shares_are
 
       within : AreRowsWithin lts (row_expression lts no_condition problem 0 []) shares
       within = rows_within lts well.in_range.initial no_condition [] (All-nil (λ (s : Side). IsFormOf lts s.form)) problem 0 asked shares names
@@ -185,7 +190,7 @@ module _ (lts : System) (well : IsWellFormed lts) (reachable : IsAllReachable lt
       over_zero k d lt = bottoms case made multiplier _ shares shares_are (get_or shares k d) (Contains-get_or shares k d lt)
 
       refute : SharesRefute lts (row_expression lts no_condition problem 0 []) shares
-      refute = node_shares_refute lts arcs basis no_condition problem 0 case over [] (no_sides case) live multiplier farkas shares shares_are
+      refute = node_shares_refute (case_at (of_all lts arcs basis) problem 0) case over [] (no_sides case) live multiplier farkas shares shares_are
 
       units : All (λ (r : NamedRow). HasUnit lts (row_expression lts no_condition problem 0 [] r.name)) rows
       units = All-weaker (λ (r : NamedRow). RowStands lts no_condition problem 0 [] r.name × IsRowNameOf lts r.name) (λ (r : NamedRow). HasUnit lts (row_expression lts no_condition problem 0 [] r.name))

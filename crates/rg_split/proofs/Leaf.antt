@@ -17,6 +17,7 @@ use Rattle.rg_linear.specs.Descent.{multiplier_of}
 use Rattle.rg_linear.specs.Branching.{Form, SplitTree, BranchFrom, BranchFrom.passes as branch_passes, BranchFrom.refutes as branch_refutes, BranchFrom.whole, BranchFrom.low_ends}
 use Rattle.rg_linear.specs.Branching.{BranchFrom.high_ends, BranchFrom.both_refuted, BranchOutcome, BranchOutcome.tree, SplitSide, IsEnd, weights_from, node_system}
 use Rattle.rg_linear.proofs.Refuting.{refuted_is_sound}
+use Rattle.rg_order_of_work.specs.Setting.{case_at}
 use Rattle.rg_order_of_work.specs.Rewriting.{CaseSystem, rows_of, system_fold}
 use Rattle.rg_order_of_work.specs.Spreading.{spread_fold}
 use Rattle.rg_order_of_work.specs.Shown.{Shown, IsLive}
@@ -30,7 +31,7 @@ use Rattle.rg_outcome.proofs.Saying.{says}
 use Rattle.rg_outcome.proofs.Solvings.{same_solved}
 use Rattle.rg_split.proofs.AllNets.{no_numbers}
 use Rattle.rg_split.proofs.Counting.{RefutesFirst}
-use Rattle.rg_split.proofs.Held.{leaf_holds}
+use Rattle.rg_split.proofs.Held.{of_all, leaf_holds}
 
 -- ---- a branching without forms
 
@@ -65,21 +66,22 @@ branch_leaf system forms above o t none (both_refuted members f u low high d fir
 -- the tree of the first case is one leaf, spread from multipliers that refute
 record IsSpread (lts : System) (arcs : List Arc) (basis : CycleBasis) (problem : Problem) (t : Tree) : Type 0 where
   pub case : CaseSystem
-  pub made : system_fold lts arcs basis no_condition problem 0 (Ok case)
+  pub made : system_fold (case_at (of_all lts arcs basis) problem 0) (Ok case)
   pub multiplier : ℕ → ℤ
   pub farkas : AreFarkasMultipliers (node_system (rows_of case) case.forms []) multiplier
   pub rows : List NamedRow
-  pub spread : spread_fold lts arcs basis no_condition problem 0 case [] [] (weights_from multiplier 0 (length (node_system (rows_of case) case.forms []).rows)) (Ok rows)
+  pub spread : spread_fold (case_at (of_all lts arcs basis) problem 0) case [] [] (weights_from multiplier 0 (length (node_system (rows_of case) case.forms []).rows)) (Ok rows)
   pub is : t ≡ leaf rows
 
-no_forms : (lts : System) (arcs : List Arc) (basis : CycleBasis) (problem : Problem) (case : CaseSystem) → system_fold lts arcs basis no_condition problem 0 (Ok case) → case.forms ≡ []
+no_forms : (lts : System) (arcs : List Arc) (basis : CycleBasis) (problem : Problem) (case : CaseSystem) → system_fold (case_at (of_all lts arcs basis) problem 0) (Ok case) → case.forms ≡ []
 no_forms lts arcs basis (Event s t) case (all, made, (forms, none, (columns, keeps, same))) = same ∙ none
 no_forms lts arcs basis (States s s') case (all, made, (forms, none, (columns, keeps, same))) = same ∙ none
 
-one_leaf : (lts : System) (arcs : List Arc) (basis : CycleBasis) (problem : Problem) (case : CaseSystem) (multipliers : SplitTree) (t : Tree) → system_fold lts arcs basis no_condition problem 0 (Ok case)
-    → IsLeafOf (node_system (rows_of case) case.forms []) multipliers → spread_tree lts arcs basis no_condition problem 0 case [] multipliers (Ok t) → IsSpread lts arcs basis problem t
+one_leaf : (lts : System) (arcs : List Arc) (basis : CycleBasis) (problem : Problem) (case : CaseSystem) (multipliers : SplitTree) (t : Tree)
+    → system_fold (case_at (of_all lts arcs basis) problem 0) (Ok case) → IsLeafOf (node_system (rows_of case) case.forms []) multipliers
+    → spread_tree (case_at (of_all lts arcs basis) problem 0) case [] multipliers (Ok t) → IsSpread lts arcs basis problem t
 one_leaf lts arcs basis problem case multipliers t made leaf_is spread =
-    let (rows, fold, e) = subst (λ m. spread_tree lts arcs basis no_condition problem 0 case [] m (Ok t)) leaf_is.is spread in
+    let (rows, fold, e) = subst (λ m. spread_tree (case_at (of_all lts arcs basis) problem 0) case [] m (Ok t)) leaf_is.is spread in
     record { case = case; made = made; multiplier = leaf_is.multiplier; farkas = leaf_is.farkas; rows = rows; spread = fold; is = e }
 
 makes_or_refutes : (p : Place) (t : Tree) → CaseResult.makes p ≡ CaseResult.refutes t → ⊥
@@ -91,7 +93,7 @@ passes_or_refutes w t e = cc
 same_tree : (t u : Tree) → CaseResult.refutes t ≡ CaseResult.refutes u → t ≡ u
 same_tree t u e = cc
 
-case_leaf : (lts : System) (arcs : List Arc) (basis : CycleBasis) (problem : Problem) (r : CaseResult) (t : Tree) → CaseComes lts arcs basis no_condition problem 0 r → r ≡ CaseResult.refutes t → IsSpread lts arcs basis problem t
+case_leaf : (lts : System) (arcs : List Arc) (basis : CycleBasis) (problem : Problem) (r : CaseResult) (t : Tree) → CaseComes (case_at (of_all lts arcs basis) problem 0) r → r ≡ CaseResult.refutes t → IsSpread lts arcs basis problem t
 case_leaf lts arcs basis problem r t (row_passes w is) e = absurd (passes_or_refutes _ t e)
 case_leaf lts arcs basis problem r t (pivot_passes case sides at made b) e = absurd (passes_or_refutes _ t e)
 case_leaf lts arcs basis problem r t (place_passes case members sides start value w made b point is) e = absurd (passes_or_refutes _ t e)
@@ -120,17 +122,17 @@ passed_or_refuted w trees e = cc
 same_trees : (trees trees' : List Tree) → refuted trees ≡ refuted trees' → trees ≡ trees'
 same_trees trees trees' e = cc
 
-cases_leaf : (lts : System) (arcs : List Arc) (basis : CycleBasis) (problem : Problem) (n : ℕ) (r : Solved) (trees : List Tree) → IsLive lts problem → 0 < n → CasesCome (CaseComes lts arcs basis no_condition problem) n r → r ≡ refuted trees
-    → Begin lts arcs basis problem trees
+cases_leaf : (lts : System) (arcs : List Arc) (basis : CycleBasis) (problem : Problem) (n : ℕ) (r : Solved) (trees : List Tree) → IsLive lts problem → 0 < n
+    → CasesCome (λ i. CaseComes (case_at (of_all lts arcs basis) problem i)) n r → r ≡ refuted trees → Begin lts arcs basis problem trees
 cases_leaf lts arcs basis problem n r trees live some (first_place i p lt has none) e = absurd (placed_or_refuted p trees e)
 cases_leaf lts arcs basis problem n r trees live some (first_term i w lt has none makes_none) e = absurd (passed_or_refuted w trees e)
 cases_leaf lts arcs basis problem n r trees live some (all_refuted trees' long each) e = subst (Begin lts arcs basis problem) (same_trees trees' trees e) (begins trees' long each)
   where
-    begins : (ts : List Tree) → length ts ≡ n → ((i : ℕ) (t : Tree) → slice_get ts i ≡ Some t → CaseComes lts arcs basis no_condition problem i (CaseResult.refutes t)) → Begin lts arcs basis problem ts
+    begins : (ts : List Tree) → length ts ≡ n → ((i : ℕ) (t : Tree) → slice_get ts i ≡ Some t → CaseComes (case_at (of_all lts arcs basis) problem i) (CaseResult.refutes t)) → Begin lts arcs basis problem ts
     begins [] long each = absurd (omega arith)
     begins (t ∷ more) long each = record { first = t; more = more; are = refl; spread = case_leaf lts arcs basis problem (CaseResult.refutes t) t (each 0 t refl) refl; live = live }
 
-problem_leaf : (lts : System) (arcs : List Arc) (basis : CycleBasis) (problem : Problem) (trees : List Tree) → ProblemComes lts arcs basis no_condition problem (refuted trees) → Begin lts arcs basis problem trees
+problem_leaf : (lts : System) (arcs : List Arc) (basis : CycleBasis) (problem : Problem) (trees : List Tree) → ProblemComes (of_all lts arcs basis) problem (refuted trees) → Begin lts arcs basis problem trees
 problem_leaf lts arcs basis (Event s t) trees (inl (dead, e)) = absurd (placed_or_refuted _ trees (sym e))
 problem_leaf lts arcs basis (Event s t) trees (inr (live, c)) = cases_leaf lts arcs basis (Event s t) 1 (refuted trees) trees live (omega arith) c refl
 problem_leaf lts arcs basis (States s s') trees c = cases_leaf lts arcs basis (States s s') 2 (refuted trees) trees tt (omega arith) c refl
@@ -154,7 +156,7 @@ same_list p q ts us e = cc
 searched_leaf : (lts : System) (o : Separation) (problem : Problem) (trees : List Tree) → IsWellFormed lts → IsAllReachable lts → Searched lts no_condition o → Gives lts o (unsolvable (of_trees problem trees)) → HasLeaf lts problem trees
 searched_leaf lts o problem trees well reachable (a_cycle w stage h) g = absurd g
 searched_leaf lts o problem trees well reachable (all_problems arcs basis _ is_tree is_basis d) g =
-    by o (says lts (ProblemComes lts arcs basis no_condition) (same_solved lts arcs basis no_condition) (refuted_stay lts arcs basis no_condition well.in_range no_numbers reachable is_tree is_basis) o d) g
+    by o (says lts (ProblemComes (of_all lts arcs basis)) (same_solved (of_all lts arcs basis)) (refuted_stay (of_all lts arcs basis) well.in_range no_numbers reachable is_tree is_basis) o d) g
   where
     held : (other : Problem) (trees' : List Tree) → IsProblem lts other → Begin lts arcs basis other trees' → HasLeaf lts other trees'
     held other trees' is b = record {
@@ -165,7 +167,7 @@ searched_leaf lts o problem trees well reachable (all_problems arcs basis _ is_t
       refutes = leaf_holds lts well reachable arcs basis is_tree is_basis other (asked lts other is) b.live b.spread.case b.spread.made b.spread.multiplier b.spread.farkas b.spread.rows b.spread.spread;
     }
 
-    by : (o : Separation) → Says lts (ProblemComes lts arcs basis no_condition) o → Gives lts o (unsolvable (of_trees problem trees)) → HasLeaf lts problem trees
+    by : (o : Separation) → Says lts (ProblemComes (of_all lts arcs basis)) o → Gives lts o (unsolvable (of_trees problem trees)) → HasLeaf lts problem trees
     by (of_places kept) h g = absurd g
     by (of_term w) h g = absurd g
     by (of_problem other trees') h g =

@@ -9,6 +9,7 @@ use Rattle.rg_outcome.specs.Coming.{Separation, Separation.places, Separation.un
 use Rattle.rg_outcome.specs.Outcome.{Answer.net as of_net, Gives, Searched, Searched.all_problems, Out, Out.a_search}
 use Rattle.rg_blocks.proofs.RankLemmas.{top_rank}
 use Rattle.rg_separate.proofs.Few.{few_from}
+use Rattle.rg_order_of_work.specs.Setting.{setting_at}
 
 left_short : (lts : System) (front kept left : List Place) → LeavesBehind lts front kept left → length left ≤ length kept
 left_short lts front [] left none = let n = ap length none in omega arith
@@ -19,7 +20,7 @@ left_short lts front (p ∷ kept) left (behind, rest, decides) = by decides (lef
     by (inr (some, is)) short = let n = ap length is in omega arith
 
 searched_few : (lts : System) (class : Class) (kept : List Place) → Searched lts class (places kept) → length kept ≤ top_rank lts
-searched_few lts class kept (all_problems arcs basis _ tree is comes) = few_from lts (ProblemComes lts arcs basis class) None [] (places kept) (top_rank lts) tt (omega arith) comes
+searched_few lts class kept (all_problems arcs basis _ tree is comes) = few_from lts (ProblemComes (setting_at lts arcs basis class)) None [] (places kept) (top_rank lts) tt (omega arith) comes
 
 given_few : (lts : System) (class : Class) (o : Separation) (left : List Place) → Searched lts class o → Gives lts o (of_net left) → length left ≤ top_rank lts
 given_few lts class (places kept) left searched pruned = let a = left_short lts [] kept left pruned in let b = searched_few lts class kept searched in omega arith

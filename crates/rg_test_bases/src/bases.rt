@@ -21,9 +21,7 @@ pub fn is_in_range(numbers: &[i128]) -> bool
 fn are_in_range(numbers: &[i64]) -> bool
     ensures { IsTrue result → All InRange numbers.now }
 {
-    numbers
-        .iter()
-        .all(|z| i128::from(*z).unsigned_abs() <= i128::MAX.unsigned_abs())
+    numbers.iter().all(|z| i128::from(*z).unsigned_abs() <= i128::MAX.unsigned_abs())
 }
 
 // Whether each chord has one entry in range for each label.

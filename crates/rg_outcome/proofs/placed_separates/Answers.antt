@@ -2,4 +2,4 @@ use Rattle.rg_outcome.proofs.Placed.{placed_separates}
 use Rattle.rg_outcome.proofs.placed_separates.Goals as goal
 
 pub returns : goal.returns
-returns c = λ lts arcs basis class problem p fine numbers reachable is_tree is_basis is comes. placed_separates lts arcs basis class fine numbers reachable is_tree is_basis problem p is comes
+returns c = λ s problem p fine numbers reachable is_tree is_basis is comes. placed_separates s fine numbers reachable is_tree is_basis problem p is comes

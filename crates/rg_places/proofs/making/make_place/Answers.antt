@@ -13,13 +13,14 @@ use Rattle.rg_marks.specs.declared.region_place.RegionPlace.{RegionPlace}
 use Rattle.rg_places.proofs.RegionSteps.{region_made, if_both}
 use Rattle.rg_places.proofs.PlaceSteps.{if_ok, tree_fails, shift_fails, before_length, shift_length, numbers_made, place_made_by}
 use Rattle.rg_places.proofs.making.make_place.Goals as goal
+use Rattle.rg_case_parts.specs.SettingViews.{setting_of}
 
 pub returns-in_err-numbers-clause-wide : goal.returns-in_err-numbers-clause-wide
 returns-in_err-numbers-clause-wide c = λ w e.
     let same : c.from_residual-in_err-numbers.result ≡ Err c.in_err-numbers.field-0.0 = search rules in
     let is : c.in_err-numbers.field-0.0 ≡ stop.Wide w = cc in
     let made = rw (c.arcs.ensures, c.deref.ensures.value) at (c.along_tree.ensures.wide w (rw (c.in_err-numbers.was, is) refl)) in
-    tree_fails c.args.lts.now c.args.tree.now.arcs (cycle_of c.args.basis.now) c.args.class c.args.problem (point_start c.args.class c.args.point.now)
+    tree_fails (setting_of c.args.lts.now c.args.tree.now c.args.basis.now c.args.class) c.args.problem (point_start c.args.class c.args.point.now)
     (point_value c.args.lts.now (cycle_of c.args.basis.now) c.args.class c.args.point.now) (ratios_of c.in_ok-found.found.items) c.in_ok-found.ensures.value w made
 
 pub returns-in_err-numbers-2-clause-wide : goal.returns-in_err-numbers-2-clause-wide
@@ -28,14 +29,14 @@ returns-in_err-numbers-2-clause-wide c = λ w e.
     let is : c.in_err-numbers-2.field-0.0 ≡ stop.Wide w = cc in
     let along = rw (c.arcs.ensures, c.deref.ensures.value) at c.in_ok-numbers.ensures.value in
     let made = c.shifted.ensures.wide w (rw (c.in_err-numbers-2.was, is) refl) in
-    shift_fails c.args.lts.now c.args.tree.now.arcs (cycle_of c.args.basis.now) c.args.class c.args.problem (point_start c.args.class c.args.point.now)
+    shift_fails (setting_of c.args.lts.now c.args.tree.now c.args.basis.now c.args.class) c.args.problem (point_start c.args.class c.args.point.now)
     (point_value c.args.lts.now (cycle_of c.args.basis.now) c.args.class c.args.point.now) (ratios_of c.in_ok-found.found.items) c.in_ok-found.ensures.value
     (ratios_of c.in_ok-numbers.numbers.items) along w made
 
 pub place_of-requires-clause-numbers : goal.place_of-requires-clause-numbers
 place_of-requires-clause-numbers c =
     let along = rw (c.arcs.ensures, c.deref.ensures.value) at c.in_ok-numbers.ensures.value in
-    let before = before_length c.args.lts.now c.args.tree.now.arcs (cycle_of c.args.basis.now) c.args.class c.args.problem (point_start c.args.class c.args.point.now)
+    let before = before_length (setting_of c.args.lts.now c.args.tree.now c.args.basis.now c.args.class) c.args.problem (point_start c.args.class c.args.point.now)
     (point_value c.args.lts.now (cycle_of c.args.basis.now) c.args.class c.args.point.now) (ratios_of c.in_ok-found.found.items) c.in_ok-found.ensures.value
     (ratios_of c.in_ok-numbers.numbers.items) along in
     let count = sym (length-map c.in_ok-numbers-2.numbers.items ratio_of) ∙ shift_length c.args.lts.now c.args.class c.args.problem (ratios_of c.in_ok-numbers.numbers.items) (ratios_of c.in_ok-numbers-2.numbers.items) c.in_ok-numbers-2.ensures.value ∙ before in
@@ -46,10 +47,10 @@ returns-clause-place c =
     let along = rw (c.arcs.ensures, c.deref.ensures.value) at c.in_ok-numbers.ensures.value in
     let made = rw (c.deref-2.ensures.value, c.deref-3.ensures.value) at c.place_of.ensures.place in
     if_ok (λ (r : RegionPlace). weights_fold c.args.lts.now c.args.class c.args.problem (ratios_of c.in_ok-found.found.items) (ratios_of c.in_ok-numbers-2.numbers.items)
-    (Ok (shown_place r.place))) (λ (r : RegionPlace). place_fold c.args.lts.now c.args.tree.now.arcs (cycle_of c.args.basis.now) c.args.class c.args.problem
+    (Ok (shown_place r.place))) (λ (r : RegionPlace). place_fold (setting_of c.args.lts.now c.args.tree.now c.args.basis.now c.args.class) c.args.problem
     (point_start c.args.class c.args.point.now) (point_value c.args.lts.now (cycle_of c.args.basis.now) c.args.class c.args.point.now) (Ok (shown_place r.place)))
     c.place_of.result
-    (λ r h. place_made_by c.args.lts.now c.args.tree.now.arcs (cycle_of c.args.basis.now) c.args.class c.args.problem (point_start c.args.class c.args.point.now)
+    (λ r h. place_made_by (setting_of c.args.lts.now c.args.tree.now c.args.basis.now c.args.class) c.args.problem (point_start c.args.class c.args.point.now)
     (point_value c.args.lts.now (cycle_of c.args.basis.now) c.args.class c.args.point.now) (ratios_of c.in_ok-found.found.items) c.in_ok-found.ensures.value
     (ratios_of c.in_ok-numbers.numbers.items) along (ratios_of c.in_ok-numbers-2.numbers.items) c.in_ok-numbers-2.ensures.value (Ok (shown_place r.place)) h) made
 
@@ -57,7 +58,7 @@ pub returns-clause-wide : goal.returns-clause-wide
 returns-clause-wide c = λ w e.
     let along = rw (c.arcs.ensures, c.deref.ensures.value) at c.in_ok-numbers.ensures.value in
     let made = rw (c.deref-2.ensures.value, c.deref-3.ensures.value) at (c.place_of.ensures.wide w e) in
-    place_made_by c.args.lts.now c.args.tree.now.arcs (cycle_of c.args.basis.now) c.args.class c.args.problem (point_start c.args.class c.args.point.now)
+    place_made_by (setting_of c.args.lts.now c.args.tree.now c.args.basis.now c.args.class) c.args.problem (point_start c.args.class c.args.point.now)
     (point_value c.args.lts.now (cycle_of c.args.basis.now) c.args.class c.args.point.now) (ratios_of c.in_ok-found.found.items) c.in_ok-found.ensures.value
     (ratios_of c.in_ok-numbers.numbers.items) along (ratios_of c.in_ok-numbers-2.numbers.items) c.in_ok-numbers-2.ensures.value (Err w) made
 
@@ -66,12 +67,12 @@ returns-clause-tokens c =
     let along = rw (c.arcs.ensures, c.deref.ensures.value) at c.in_ok-numbers.ensures.value in
     let tokens = rw c.deref-3.ensures.value at c.place_of.ensures.tokens in
     if_ok (λ (r : RegionPlace). r.tokens.items ≡ map (λ (n : Ratio). unsigned_abs n.top) (ratios_of c.in_ok-numbers-2.numbers.items))
-    (λ (r : RegionPlace). AreTokensMade c.args.lts.now c.args.tree.now.arcs (cycle_of c.args.basis.now) c.args.class c.args.problem
+    (λ (r : RegionPlace). AreTokensMade (setting_of c.args.lts.now c.args.tree.now c.args.basis.now c.args.class) c.args.problem
     (point_start c.args.class c.args.point.now) (point_value c.args.lts.now (cycle_of c.args.basis.now) c.args.class c.args.point.now) r.tokens.items)
     c.place_of.result
     (λ r h. record {
       numbers = ratios_of c.in_ok-numbers-2.numbers.items;
-      made = numbers_made c.args.lts.now c.args.tree.now.arcs (cycle_of c.args.basis.now) c.args.class c.args.problem (point_start c.args.class c.args.point.now)
+      made = numbers_made (setting_of c.args.lts.now c.args.tree.now c.args.basis.now c.args.class) c.args.problem (point_start c.args.class c.args.point.now)
           (point_value c.args.lts.now (cycle_of c.args.basis.now) c.args.class c.args.point.now) (ratios_of c.in_ok-found.found.items) c.in_ok-found.ensures.value
           (ratios_of c.in_ok-numbers.numbers.items) along (ratios_of c.in_ok-numbers-2.numbers.items) c.in_ok-numbers-2.ensures.value;
       tokens_are = h;
@@ -81,23 +82,23 @@ pub returns-clause-region : goal.returns-clause-region
 returns-clause-region c =
     let along = rw (c.arcs.ensures, c.deref.ensures.value) at c.in_ok-numbers.ensures.value in
     let tokens = rw c.deref-3.ensures.value at c.place_of.ensures.tokens in
-    let before = before_length c.args.lts.now c.args.tree.now.arcs (cycle_of c.args.basis.now) c.args.class c.args.problem (point_start c.args.class c.args.point.now)
+    let before = before_length (setting_of c.args.lts.now c.args.tree.now c.args.basis.now c.args.class) c.args.problem (point_start c.args.class c.args.point.now)
     (point_value c.args.lts.now (cycle_of c.args.basis.now) c.args.class c.args.point.now) (ratios_of c.in_ok-found.found.items) c.in_ok-found.ensures.value
     (ratios_of c.in_ok-numbers.numbers.items) along in
     let count = shift_length c.args.lts.now c.args.class c.args.problem (ratios_of c.in_ok-numbers.numbers.items) (ratios_of c.in_ok-numbers-2.numbers.items) c.in_ok-numbers-2.ensures.value ∙ before in
-    let made = numbers_made c.args.lts.now c.args.tree.now.arcs (cycle_of c.args.basis.now) c.args.class c.args.problem (point_start c.args.class c.args.point.now)
+    let made = numbers_made (setting_of c.args.lts.now c.args.tree.now c.args.basis.now c.args.class) c.args.problem (point_start c.args.class c.args.point.now)
     (point_value c.args.lts.now (cycle_of c.args.basis.now) c.args.class c.args.point.now) (ratios_of c.in_ok-found.found.items) c.in_ok-found.ensures.value
     (ratios_of c.in_ok-numbers.numbers.items) along (ratios_of c.in_ok-numbers-2.numbers.items) c.in_ok-numbers-2.ensures.value in
-    if_both (λ (r : RegionPlace). place_fold c.args.lts.now c.args.tree.now.arcs (cycle_of c.args.basis.now) c.args.class c.args.problem
+    if_both (λ (r : RegionPlace). place_fold (setting_of c.args.lts.now c.args.tree.now c.args.basis.now c.args.class) c.args.problem
     (point_start c.args.class c.args.point.now) (point_value c.args.lts.now (cycle_of c.args.basis.now) c.args.class c.args.point.now) (Ok (shown_place r.place)))
     (λ (r : RegionPlace). r.tokens.items ≡ map (λ (n : Ratio). unsigned_abs n.top) (ratios_of c.in_ok-numbers-2.numbers.items))
-    (λ (r : RegionPlace). IsLive c.args.lts.now c.args.problem → SolvesCase c.args.lts.now c.args.tree.now.arcs (cycle_of c.args.basis.now) c.args.class c.args.problem c.args.point.now → IsRegionPlace c.args.lts.now c.args.class r × PlaceSeparates c.args.problem r) c.place_of.result
-    (λ r h t live s. region_made c.args.lts.now c.args.tree.now.arcs (cycle_of c.args.basis.now) c.args.class c.args.problem c.args.point.now r (ratios_of c.in_ok-numbers-2.numbers.items) c.requires.columns live s made h t count) (returns-clause-place c) tokens
+    (λ (r : RegionPlace). IsLive c.args.lts.now c.args.problem → SolvesCase (setting_of c.args.lts.now c.args.tree.now c.args.basis.now c.args.class) c.args.problem c.args.point.now → IsRegionPlace c.args.lts.now c.args.class r × PlaceSeparates c.args.problem r) c.place_of.result
+    (λ r h t live s. region_made (setting_of c.args.lts.now c.args.tree.now c.args.basis.now c.args.class) c.args.problem c.args.point.now r (ratios_of c.in_ok-numbers-2.numbers.items) c.requires.columns live s made h t count) (returns-clause-place c) tokens
 
 pub shifted-requires : goal.shifted-requires
 shifted-requires c =
     let along = rw (c.arcs.ensures, c.deref.ensures.value) at c.in_ok-numbers.ensures.value in
     sym (length-map c.in_ok-numbers.numbers.items ratio_of)
-    ∙ before_length c.args.lts.now c.args.tree.now.arcs (cycle_of c.args.basis.now) c.args.class c.args.problem (point_start c.args.class c.args.point.now)
+    ∙ before_length (setting_of c.args.lts.now c.args.tree.now c.args.basis.now c.args.class) c.args.problem (point_start c.args.class c.args.point.now)
     (point_value c.args.lts.now (cycle_of c.args.basis.now) c.args.class c.args.point.now) (ratios_of c.in_ok-found.found.items) c.in_ok-found.ensures.value
     (ratios_of c.in_ok-numbers.numbers.items) along

@@ -4,31 +4,29 @@ use Rattle.std.proofs.lemmas.List.{length-append}
 use Rattle.rg_integers.specs.declared.term.Wide.{Wide}
 use Rattle.rg_refuting.specs.Row.{shared_expression}
 use Rattle.rg_reasons.specs.Sums.{expression_of}
-use Rattle.rg_cycles.specs.View.{labels_of, cycle_of}
+use Rattle.rg_cycles.specs.View.{labels_of}
 use Rattle.rg_rows.specs.declared.case_row.CaseRow.{CaseRow}
 use Rattle.rg_rows.specs.Sharing.{row_of_kind, IsSharedRow}
 use Rattle.rg_rows.proofs.Sharing.{row_shared, each_pushed}
 use Rattle.rg_rows.proofs.common.rows.Goals as goal
+use Rattle.rg_case_parts.specs.SettingViews.{setting_of}
 
 pub loop-number-preserved : goal.loop-number-preserved
 loop-number-preserved c =
-    let lts = c.args.lts.now in
-    let tree = c.args.tree.now.arcs in
-    let basis = cycle_of c.args.basis.now in
-    let class = c.args.class in
+    let s = setting_of c.args.lts.now c.args.tree.now c.args.basis.now c.args.class in
     let kind = c.args.kind in
     let rows = c.loop-number.rows.items in
     let name = c.name-name.result in
     let e = expression_of c.expression-expression.result in
     let written = c.in_ok-written.field-0 in
     let pushed = c.in_ok-push.ensures.items in
-    let shared = row_shared lts tree basis class name e (c.expression-expression.ensures ∙ ap (shared_expression lts class []) (sym c.name-name.ensures))
+    let shared = row_shared s name e (c.expression-expression.ensures ∙ ap (shared_expression s.lts s.class []) (sym c.name-name.ensures))
     (labels_of c.args.basis.now) (sym c.requires.labels) c.args.columns.now c.requires.columns c.row.result written c.in_ok-written.ensures c.row.ensures.value
     c.row.ensures.one_each c.row.ensures.wide in
-    let here = subst (λ n. IsSharedRow lts tree basis class (row_of_kind kind n) written) (sym c.loop-number.invariant.many) (subst (λ n. IsSharedRow lts tree basis class n written) c.name-name.ensures shared) in
+    let here = subst (λ n. IsSharedRow s (row_of_kind kind n) written) (sym c.loop-number.invariant.many) (subst (λ n. IsSharedRow s n written) c.name-name.ensures shared) in
     record {
       many = ap length pushed ∙ length-append rows (written ∷ []) ∙ ap (λ n. n + 1) c.loop-number.invariant.many;
       each = subst (λ (l : List (Result CaseRow Wide)). (i : ℕ) (y : Result CaseRow Wide) → slice_get l i ≡ Some y
-          → IsSharedRow lts tree basis class (row_of_kind kind i) y) (sym pushed)
-          (each_pushed (λ i y. IsSharedRow lts tree basis class (row_of_kind kind i) y) rows written c.loop-number.invariant.each here);
+          → IsSharedRow s (row_of_kind kind i) y) (sym pushed)
+          (each_pushed (λ i y. IsSharedRow s (row_of_kind kind i) y) rows written c.loop-number.invariant.each here);
     }

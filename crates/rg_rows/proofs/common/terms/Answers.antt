@@ -3,7 +3,8 @@ use Rattle.std.specs.Prelude.{slice_get}
 use Rattle.std.proofs.lemmas.List.{length-append}
 use Rattle.rg_integers.specs.declared.term.Wide.{Wide}
 use Rattle.rg_reasons.specs.Sums.{expression_of}
-use Rattle.rg_cycles.specs.View.{labels_of, cycle_of}
+use Rattle.rg_cycles.specs.View.{labels_of}
+use Rattle.rg_case_parts.specs.SettingViews.{setting_of}
 use Rattle.rg_case_parts.specs.declared.scaled.Scaled.{Scaled}
 use Rattle.rg_rows.specs.Sharing.{row_of_kind, AreSharedTerms}
 use Rattle.rg_rows.proofs.Sharing.{terms_shared, each_pushed}
@@ -11,21 +12,18 @@ use Rattle.rg_rows.proofs.common.terms.Goals as goal
 
 pub loop-number-preserved : goal.loop-number-preserved
 loop-number-preserved c =
-    let lts = c.args.lts.now in
-    let tree = c.args.tree.now.arcs in
-    let basis = cycle_of c.args.basis.now in
-    let class = c.args.class in
+    let s = setting_of c.args.lts.now c.args.tree.now c.args.basis.now c.args.class in
     let kind = c.args.kind in
     let terms = c.loop-number.terms.items in
     let written = c.in_ok-written.field-0 in
     let pushed = c.in_ok-push.ensures.items in
-    let here = subst (λ n. AreSharedTerms lts tree basis class (row_of_kind kind n) written) (sym c.loop-number.invariant.many)
-    (terms_shared lts tree basis class (row_of_kind kind c.loop-number.number) (expression_of c.expression-expression.result) c.expression-expression.ensures
+    let here = subst (λ n. AreSharedTerms s (row_of_kind kind n) written) (sym c.loop-number.invariant.many)
+    (terms_shared s (row_of_kind kind c.loop-number.number) (expression_of c.expression-expression.result) c.expression-expression.ensures
     (labels_of c.args.basis.now) (sym c.requires.labels) c.args.columns.now c.requires.columns c.over_columns.result written c.in_ok-written.ensures
     c.over_columns.ensures.value c.over_columns.ensures.one_each c.over_columns.ensures.wide) in
     record {
       many = ap length pushed ∙ length-append terms (written ∷ []) ∙ ap (λ n. n + 1) c.loop-number.invariant.many;
       each = subst (λ (l : List (Result Scaled Wide)). (i : ℕ) (y : Result Scaled Wide) → slice_get l i ≡ Some y
-          → AreSharedTerms lts tree basis class (row_of_kind kind i) y) (sym pushed)
-          (each_pushed (λ i y. AreSharedTerms lts tree basis class (row_of_kind kind i) y) terms written c.loop-number.invariant.each here);
+          → AreSharedTerms s (row_of_kind kind i) y) (sym pushed)
+          (each_pushed (λ i y. AreSharedTerms s (row_of_kind kind i) y) terms written c.loop-number.invariant.each here);
     }

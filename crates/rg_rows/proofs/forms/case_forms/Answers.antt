@@ -16,12 +16,13 @@ use Rattle.rg_rows.proofs.FormSteps.{each_last, each_last_fails, each_early_fail
 use Rattle.rg_rows.proofs.forms.case_forms.Goals as goal
 use Rattle.rg_rows.proofs.forms.case_forms.Goals.{then-splits_start+in_ok-start+in_ok-push, else-splits_start}
 use Rattle.rg_refuting.specs.declared.Form.TheVariants as split_form
+use Rattle.rg_case_parts.specs.SettingViews.{setting_of}
 
 pub returns-in_err-forms-clause-wide : goal.returns-in_err-forms-clause-wide
 returns-in_err-forms-clause-wide c = λ w e.
     let result : c.from_residual.result ≡ Err c.in_err-forms.field-0.0 = search rules in
     let is : c.in_err-forms.field-0.0 ≡ stop.Wide w = cc in
-    each_early_fails (form_fold c.args.lts.now c.args.tree.now.arcs (cycle_of c.args.basis.now) c.args.case.class) (forms_in c.args.case.class c.args.names.now) (if splits_start c.args.case.class c.args.case.problem then (split_form.Start ∷ []) else []) w
+    each_early_fails (form_fold (setting_of c.args.lts.now c.args.tree.now c.args.basis.now c.args.case.class)) (forms_in c.args.case.class c.args.names.now) (if splits_start c.args.case.class c.args.case.problem then (split_form.Start ∷ []) else []) w
     (c.in_err-forms.ensures.wide w (ap (λ x. Err x) is))
 
 pub returns-in_err-start-clause-wide : goal.returns-in_err-start-clause-wide
@@ -30,12 +31,12 @@ returns-in_err-start-clause-wide c = λ w e.
     let is : c.in_err-start.field-0.0 ≡ stop.Wide w = cc in
     let named = forms_in c.args.case.class c.args.names.now in
     let splits = sym c.splits_start.ensures ∙ c.if-splits_start.true in
-    subst (λ b. each (form_fold c.args.lts.now c.args.tree.now.arcs (cycle_of c.args.basis.now) c.args.case.class) (named ++ (if b then (split_form.Start ∷ []) else [])) (Err w)) (sym splits)
-    (each_last_fails (form_fold c.args.lts.now c.args.tree.now.arcs (cycle_of c.args.basis.now) c.args.case.class) named split_form.Start (map linear_form c.in_ok-forms.forms.items) w c.in_ok-forms.ensures.value (c.in_err-start.ensures.wide w (ap (λ x. Err x) is)))
+    subst (λ b. each (form_fold (setting_of c.args.lts.now c.args.tree.now c.args.basis.now c.args.case.class)) (named ++ (if b then (split_form.Start ∷ []) else [])) (Err w)) (sym splits)
+    (each_last_fails (form_fold (setting_of c.args.lts.now c.args.tree.now c.args.basis.now c.args.case.class)) named split_form.Start (map linear_form c.in_ok-forms.forms.items) w c.in_ok-forms.ensures.value (c.in_err-start.ensures.wide w (ap (λ x. Err x) is)))
 
 pub returns-clause-value : goal.returns-clause-value
 returns-clause-value c =
-    let make = form_fold c.args.lts.now c.args.tree.now.arcs (cycle_of c.args.basis.now) c.args.case.class in
+    let make = form_fold (setting_of c.args.lts.now c.args.tree.now c.args.basis.now c.args.case.class) in
     let named = forms_in c.args.case.class c.args.names.now in
     elim c.if-splits_start.branch [
       | then-splits_start+in_ok-start+in_ok-push w ↦

@@ -7,9 +7,9 @@ use Rattle.rg_integers.specs.Range.{InRange}
 use Rattle.rg_integers.proofs.Casts.{back}
 use Rattle.std.specs.Prelude.{pos, ◌<ℤ◌}
 use Rattle.rg_fraction.specs.declared.fold_stop.FoldStop.TheVariants as stop
+use Rattle.rg_case_parts.specs.SettingViews.{setting_of, case_of}
 use Rattle.rg_case_parts.specs.WholeNumbers.{scaled_of}
 use Rattle.rg_theory.specs.System.{states}
-use Rattle.rg_cycles.specs.View.{cycle_of}
 use Rattle.rg_order_of_work.proofs.Folding.{behind}
 use Rattle.rg_integers.specs.declared.term.Wide.{Wide}
 use Rattle.rg_linear.specs.Branching.{Form}
@@ -32,29 +32,24 @@ pub returns-in_err-scaled-clause-wide : goal.returns-in_err-scaled-clause-wide
 returns-in_err-scaled-clause-wide c = λ w e.
     let result : c.from_residual.result ≡ Err c.in_err-scaled.field-0.0 = search rules in
     let is : c.in_err-scaled.field-0.0 ≡ stop.Wide w = cc in
-    step_fails c.args.lts.now c.args.tree.now.arcs (cycle_of c.args.basis.now) c.args.case.class c.args.case.problem c.args.case.number c.args.names.now c.loop-i.i _ c.loop-i-test.true c.in-Some.form c.in-Some.ensures _ refl (map linear_form c.loop-i.forms.items) c.loop-i.invariant.so_far w
+    step_fails (case_of c.args.lts.now c.args.tree.now c.args.basis.now c.args.case.class c.args.case.problem c.args.case.number) c.args.names.now c.loop-i.i _ c.loop-i-test.true c.in-Some.form c.in-Some.ensures _ refl (map linear_form c.loop-i.forms.items) c.loop-i.invariant.so_far w
     (c.in_err-scaled.ensures.wide w (ap (λ x. Err x) is))
 
 pub form_over-requires : goal.form_over-requires
 form_over-requires c =
     let row = c.row.result.now in
     let below = subst (λ n. c.loop-i.i < n) (sym c.requires.one_each) c.loop-i-test.true in
-    step_times c.args.lts.now c.args.tree.now.arcs (cycle_of c.args.basis.now) c.args.case.class c.args.case.problem c.args.case.number c.args.names.now c.loop-i.i _
+    step_times (case_of c.args.lts.now c.args.tree.now c.args.basis.now c.args.case.class c.args.case.problem c.args.case.number) c.args.names.now c.loop-i.i _
     c.loop-i-test.true c.in-Some.form c.in-Some.ensures _ refl (map row_in c.args.rows.now) (simp length-map below) c.requires.rows row
     (held_is c.args.rows.now c.loop-i.i c.index-rows-i.result row below c.index-rows-i.is c.row.ensures)
     (scaled_of c.in_ok-scaled.scaled) c.in_ok-scaled.ensures.value
 
 pub loop-i-preserved : goal.loop-i-preserved
 loop-i-preserved c =
-    let lts = c.args.lts.now in
-    let tree = c.args.tree.now.arcs in
-    let basis = cycle_of c.args.basis.now in
-    let class = c.args.case.class in
-    let problem = c.args.case.problem in
-    let number = c.args.case.number in
-    let columns = column_count lts basis class in
+    let s = case_of c.args.lts.now c.args.tree.now c.args.basis.now c.args.case.class c.args.case.problem c.args.case.number in
+    let columns = column_count s.lts s.basis s.class in
     let rows = map row_in c.args.rows.now in
-    let Made = IsMade lts class columns (map kept_row rows) c.args.indices.now in
+    let Made = IsMade s.lts s.class columns (map kept_row rows) c.args.indices.now in
     let below = subst (λ n. c.loop-i.i < n) (sym c.requires.one_each) c.loop-i-test.true in
     elim c.match-form_named.branch [
       | in-Some+in_ok-scaled+in_ok-named+in_ok-push w ↦
@@ -63,7 +58,7 @@ loop-i-preserved c =
           let pushed = w.in_ok-push.ensures.items in
           let row = w.row.result.now in
           let scale = w.in_ok-named.ensures.numbers.0 ∙ back scaled.multiple scaled.multiple_in_range in
-          let one = step_made lts tree basis class problem number c.args.names.now c.loop-i.i _ c.loop-i-test.true w.in-Some.form w.in-Some.ensures _ refl rows
+          let one = step_made s c.args.names.now c.loop-i.i _ c.loop-i-test.true w.in-Some.form w.in-Some.ensures _ refl rows
           (simp length-map below) c.requires.rows row (held_is c.args.rows.now c.loop-i.i w.index-rows-i.result row below w.index-rows-i.is w.row.ensures) columns
           c.args.indices.now f w.in_ok-named.ensures.form w.in_ok-named.ensures.row w.in_ok-named.ensures.bounds
           (ap length w.in_ok-named.ensures.numbers.1 ∙ w.in_ok-scaled.ensures.one_each)
@@ -71,33 +66,33 @@ loop-i-preserved c =
           (subst InRange (sym scale) scaled.multiple_in_range)
           (subst (All InRange) (sym w.in_ok-named.ensures.numbers.1) scaled.numbers_in_range)
           w.in_ok-named.ensures.in_range in
-          subst (λ (v : Vec NamedForm Global). Keeps lts tree basis class c.args.names.now rows c.args.indices.now (c.loop-i.i + 1) v.items) (sym w.forms-is)
-          (subst (Keeps lts tree basis class c.args.names.now rows c.args.indices.now (c.loop-i.i + 1)) (sym pushed)
+          subst (λ (v : Vec NamedForm Global). Keeps s.setting c.args.names.now rows c.args.indices.now (c.loop-i.i + 1) v.items) (sym w.forms-is)
+          (subst (Keeps s.setting c.args.names.now rows c.args.indices.now (c.loop-i.i + 1)) (sym pushed)
           (record {
             so_far = subst (λ (xs : List Form). (r : Result (List Form) Wide)
-                → each (form_fold lts tree basis class) (forms_in class (drop (c.loop-i.i + 1) c.args.names.now)) r
-                → each (form_fold lts tree basis class) (forms_in class c.args.names.now) (behind xs r))
+                → each (form_fold s.setting) (forms_in s.class (drop (c.loop-i.i + 1) c.args.names.now)) r
+                → each (form_fold s.setting) (forms_in s.class c.args.names.now) (behind xs r))
                 (sym (map-append linear_form c.loop-i.forms.items (f ∷ [])))
-                (step_next lts tree basis class problem number c.args.names.now c.loop-i.i _ c.loop-i-test.true w.in-Some.form w.in-Some.ensures _ refl
+                (step_next s c.args.names.now c.loop-i.i _ c.loop-i-test.true w.in-Some.form w.in-Some.ensures _ refl
                 (map linear_form c.loop-i.forms.items) c.loop-i.invariant.so_far f
                 (scaled_of scaled) w.in_ok-scaled.ensures.value scale w.in_ok-named.ensures.numbers.1 w.in_ok-named.ensures.bounds.0 w.in_ok-named.ensures.bounds.1);
-            splits = subst (λ (xs : List SplitForm). xs ++ forms_in class (drop (c.loop-i.i + 1) c.args.names.now) ≡ forms_in class c.args.names.now) (sym (map-append split_of c.loop-i.forms.items (f ∷ [])))
-                (step_named lts tree basis class problem number c.args.names.now c.loop-i.i _ c.loop-i-test.true w.in-Some.form w.in-Some.ensures _ refl (map split_of c.loop-i.forms.items) c.loop-i.invariant.splits f w.in_ok-named.ensures.form);
+            splits = subst (λ (xs : List SplitForm). xs ++ forms_in s.class (drop (c.loop-i.i + 1) c.args.names.now) ≡ forms_in s.class c.args.names.now) (sym (map-append split_of c.loop-i.forms.items (f ∷ [])))
+                (step_named s c.args.names.now c.loop-i.i _ c.loop-i-test.true w.in-Some.form w.in-Some.ensures _ refl (map split_of c.loop-i.forms.items) c.loop-i.invariant.splits f w.in_ok-named.ensures.form);
             made = All-append Made c.loop-i.forms.items (f ∷ []) c.loop-i.invariant.made (All-cons Made f [] one (All-nil Made));
           })))
       | in_default w ↦
           (let none = sym w.in_default.ensures in
-          let next = next_name lts tree basis class problem number c.args.names.now c.loop-i.i _ c.loop-i-test.true in
-          subst (λ (v : Vec NamedForm Global). Keeps lts tree basis class c.args.names.now rows c.args.indices.now (c.loop-i.i + 1) v.items) (sym w.forms-is)
+          let next = next_name s c.args.names.now c.loop-i.i _ c.loop-i-test.true in
+          subst (λ (v : Vec NamedForm Global). Keeps s.setting c.args.names.now rows c.args.indices.now (c.loop-i.i + 1) v.items) (sym w.forms-is)
           (record {
-            so_far = form_skips class (form_fold lts tree basis class) c.args.names.now c.loop-i.i _ next (map linear_form c.loop-i.forms.items) c.loop-i.invariant.so_far none;
-            splits = named_skips class c.args.names.now c.loop-i.i _ next (map split_of c.loop-i.forms.items) c.loop-i.invariant.splits none;
+            so_far = form_skips s.class (form_fold s.setting) c.args.names.now c.loop-i.i _ next (map linear_form c.loop-i.forms.items) c.loop-i.invariant.so_far none;
+            splits = named_skips s.class c.args.names.now c.loop-i.i _ next (map split_of c.loop-i.forms.items) c.loop-i.invariant.splits none;
             made = c.loop-i.invariant.made;
           }))
     ]
 
 pub returns-clause-value : goal.returns-clause-value
-returns-clause-value c = forms_end c.args.case.class (form_fold c.args.lts.now c.args.tree.now.arcs (cycle_of c.args.basis.now) c.args.case.class) c.args.names.now c.loop-i.i (map linear_form c.loop-i.forms.items) c.loop-i.invariant.so_far c.loop-i-test.false
+returns-clause-value c = forms_end c.args.case.class (form_fold (setting_of c.args.lts.now c.args.tree.now c.args.basis.now c.args.case.class)) c.args.names.now c.loop-i.i (map linear_form c.loop-i.forms.items) c.loop-i.invariant.so_far c.loop-i-test.false
 
 pub returns-clause-forms : goal.returns-clause-forms
 returns-clause-forms c = named_end c.args.case.class c.args.names.now c.loop-i.i (map split_of c.loop-i.forms.items) c.loop-i.invariant.splits c.loop-i-test.false

@@ -1,5 +1,5 @@
-use Rattle.std.proofs.Common.{rules, ◌≡◌, ◌+◌, [], ◌∷◌, All, Ok, Err, map, length, ap, refl, subst, sym, ◌∙◌}
-use Rattle.std.proofs.lemmas.List.{length-map, length-append}
+use Rattle.std.proofs.Common.{rules, ◌≡◌, ◌+◌, [], ◌∷◌, All, Err, map, length, ap, refl, subst, sym, ◌∙◌}
+use Rattle.std.proofs.lemmas.List.{length-append}
 use Rattle.std.proofs.lemmas.List.Elements.{All-nil, All-cons, All-append}
 use Rattle.std.specs.Arc.{arc_slice_items}
 use Rattle.rg_theory.specs.System.{states}
@@ -13,6 +13,7 @@ use Rattle.rg_rows.proofs.Terms.{name_within}
 use Rattle.rg_order_of_work.proofs.Items.{item_next, item_fails, items_end}
 use Rattle.rg_rows.proofs.named_system.rows.Goals as goal
 use Rattle.rg_refuting.specs.declared.RowName.TheVariants as row_name
+use Rattle.rg_case_parts.specs.SettingViews.{case_of}
 
 pub row_in_case-requires-clause-within : goal.row_in_case-requires-clause-within
 row_in_case-requires-clause-within c = name_within c.args.lts.now c.args.case.class c.args.case.problem c.args.case.number c.args.names.now c.loop-name.name-index _ _ (states c.args.lts.now) c.requires.names c.loop-name-test.true refl refl
@@ -22,7 +23,7 @@ returns-in_err-row_in_case-clause-wide c = λ w e.
     let result : c.from_residual.result ≡ Err c.in_err-row_in_case.field-0.0 = search rules in
     let is : c.in_err-row_in_case.field-0.0 ≡ stop.Wide w = cc in
     let made = (c.in_err-row_in_case.ensures.wide w (ap (λ x. Err x) is)) in
-    item_fails (fold_of c.args.lts.now c.args.tree.now.arcs (cycle_of c.args.basis.now) c.args.case.class c.args.case.problem c.args.case.number)
+    item_fails (fold_of (case_of c.args.lts.now c.args.tree.now c.args.basis.now c.args.case.class c.args.case.problem c.args.case.number))
     c.args.names.now c.loop-name.name-index _ (map kept_row (map row_in c.loop-name.rows.items)) c.loop-name.invariant.so_far
     c.loop-name-test.true w made
 
@@ -36,7 +37,7 @@ loop-name-preserved c =
     let made = c.in_ok-row_in_case.ensures.value in
     record {
       so_far = rw (map_push kept_row (map row_in rows) (map row_in c.push.new.self.items) row same)
-          (item_next (fold_of c.args.lts.now c.args.tree.now.arcs (cycle_of c.args.basis.now) c.args.case.class c.args.case.problem c.args.case.number)
+          (item_next (fold_of (case_of c.args.lts.now c.args.tree.now c.args.basis.now c.args.case.class c.args.case.problem c.args.case.number))
           c.args.names.now c.loop-name.name-index _ (map kept_row (map row_in rows)) c.loop-name.invariant.so_far
           c.loop-name-test.true (kept_row row) made);
       one_each = subst (All lengths) (sym same) (All-append lengths (map row_in rows) (row ∷ []) c.loop-name.invariant.one_each (All-cons lengths row [] c.in_ok-row_in_case.ensures.one_each (All-nil lengths)));
@@ -44,6 +45,6 @@ loop-name-preserved c =
     }
 
 pub returns-clause-value : goal.returns-clause-value
-returns-clause-value c = items_end (fold_of c.args.lts.now c.args.tree.now.arcs (cycle_of c.args.basis.now) c.args.case.class c.args.case.problem c.args.case.number)
+returns-clause-value c = items_end (fold_of (case_of c.args.lts.now c.args.tree.now c.args.basis.now c.args.case.class c.args.case.problem c.args.case.number))
     c.args.names.now c.loop-name.name-index row_name.Block (map kept_row (map row_in c.loop-name.rows.items)) c.loop-name.invariant.so_far
     c.loop-name-test.false

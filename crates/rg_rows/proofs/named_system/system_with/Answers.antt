@@ -15,6 +15,7 @@ use Rattle.rg_rows.specs.declared.held_row.HeldRow.{HeldRow}
 use Rattle.rg_rows.specs.View.{kept_row, row_in, AreNamesWithin, AreIndices, fold_of}
 use Rattle.rg_rows.specs.Forms.{linear_form, case_forms, StandsInRow, AreFormsOf}
 use Rattle.rg_rows.specs.Making.{IsMade}
+use Rattle.rg_case_parts.specs.SettingViews.{case_of}
 use Rattle.rg_case_parts.proofs.Picking.{columns_few}
 use Rattle.rg_linear.proofs.Firsts.{kept_count}
 use Rattle.rg_rows.proofs.Terms.{names_within}
@@ -48,8 +49,8 @@ case_forms-requires-clause-names c =
 
 pub case_forms-requires-clause-rows : goal.case_forms-requires-clause-rows
 case_forms-requires-clause-rows c =
-    subst (λ (l : List RowName). each (fold_of c.args.lts.now c.args.tree.now.arcs (cycle_of c.args.basis.now) c.args.class c.args.problem c.args.case) l (Ok (map kept_row (map row_in c.deref-4.result.now)))) (c.deref.ensures.value ∙ sym c.deref-3.ensures.value)
-    (subst (λ (l : List HeldRow). each (fold_of c.args.lts.now c.args.tree.now.arcs (cycle_of c.args.basis.now) c.args.class c.args.problem c.args.case) c.deref.result.now (Ok (map kept_row (map row_in l)))) (sym c.deref-4.ensures.value) c.in_ok-all.ensures.value)
+    subst (λ (l : List RowName). each (fold_of (case_of c.args.lts.now c.args.tree.now c.args.basis.now c.args.class c.args.problem c.args.case)) l (Ok (map kept_row (map row_in c.deref-4.result.now)))) (c.deref.ensures.value ∙ sym c.deref-3.ensures.value)
+    (subst (λ (l : List HeldRow). each (fold_of (case_of c.args.lts.now c.args.tree.now c.args.basis.now c.args.class c.args.problem c.args.case)) c.deref.result.now (Ok (map kept_row (map row_in l)))) (sym c.deref-4.ensures.value) c.in_ok-all.ensures.value)
 
 pub case_forms-requires-clause-one_each : goal.case_forms-requires-clause-one_each
 case_forms-requires-clause-one_each c = ap length c.deref-4.ensures.value ∙ c.in_ok-all.ensures.few ∙ ap length (c.deref.ensures.value ∙ sym c.deref-3.ensures.value)
@@ -67,18 +68,13 @@ case_forms-requires-clause-start c = λ splits.
 
 pub returns-in_err-forms-clause-wide : goal.returns-in_err-forms-clause-wide
 returns-in_err-forms-clause-wide c = λ w e.
-    let lts = c.args.lts.now in
-    let tree = c.args.tree.now.arcs in
-    let basis = cycle_of c.args.basis.now in
-    let class = c.args.class in
-    let problem = c.args.problem in
-    let number = c.args.case in
+    let s = case_of c.args.lts.now c.args.tree.now c.args.basis.now c.args.class c.args.problem c.args.case in
     let result : c.from_residual-in_err-forms.result ≡ Err c.in_err-forms.field-0.0 = search rules in
     let is : c.in_err-forms.field-0.0 ≡ stop.Wide w = cc in
     let named = c.deref.ensures.value ∙ c.in_ok-names.ensures in
     let named_again = c.deref-3.ensures.value ∙ c.in_ok-names.ensures in
-    forms_fail lts tree basis class problem number c.deref.result.now named (map kept_row (map row_in c.in_ok-all.all.items)) c.in_ok-all.ensures.value w
-    (subst (λ (l : List Form). each (form_fold lts tree basis class) l (Err w)) (ap (case_forms class problem) named_again ∙ forms_are lts class problem number) (c.in_err-forms.ensures.wide w (ap (λ x. Err x) is)))
+    forms_fail s c.deref.result.now named (map kept_row (map row_in c.in_ok-all.all.items)) c.in_ok-all.ensures.value w
+    (subst (λ (l : List Form). each (form_fold s.setting) l (Err w)) (ap (case_forms s.class s.problem) named_again ∙ forms_are s.lts s.class s.problem s.number) (c.in_err-forms.ensures.wide w (ap (λ x. Err x) is)))
 
 pub new-requires : goal.new-requires
 new-requires c =
@@ -100,22 +96,17 @@ new-requires c =
 
 pub returns-clause-system : goal.returns-clause-system
 returns-clause-system c =
-    let lts = c.args.lts.now in
-    let tree = c.args.tree.now.arcs in
-    let basis = cycle_of c.args.basis.now in
-    let class = c.args.class in
-    let problem = c.args.problem in
-    let number = c.args.case in
+    let s = case_of c.args.lts.now c.args.tree.now c.args.basis.now c.args.class c.args.problem c.args.case in
     let (kept, shows, firsts, indices) = c.in_ok-kept.ensures in
     let all = map row_in c.in_ok-all.all.items in
     let named = c.deref.ensures.value ∙ c.in_ok-names.ensures in
     let named_again = c.deref-3.ensures.value ∙ c.in_ok-names.ensures in
-    let columns : c.count.result ≡ column_count lts basis class = c.count.ensures lts class (sym c.requires.labels) c.requires.common.columns in
+    let columns : c.count.result ≡ column_count s.lts s.basis s.class = c.count.ensures s.lts s.class (sym c.requires.labels) c.requires.common.columns in
     let shown : CaseSystem = record { columns = c.count.result; kept = kept; forms = map linear_form c.in_ok-forms.forms.items } in
     let kept_firsts = subst (λ l. KeepsFirsts (λ k. k.row) IsIdle [] (map kept_row (map row_in l)) kept) c.deref-2.ensures.value firsts in
-    let forms_made = subst (λ (l : List Form). each (form_fold lts tree basis class) l (Ok shown.forms)) (ap (case_forms class problem) named_again ∙ forms_are lts class problem number) c.in_ok-forms.ensures.value in (
+    let forms_made = subst (λ (l : List Form). each (form_fold s.setting) l (Ok shown.forms)) (ap (case_forms s.class s.problem) named_again ∙ forms_are s.lts s.class s.problem s.number) c.in_ok-forms.ensures.value in (
       shown,
-      case_made lts tree basis class problem number c.deref.result.now named (map kept_row all) c.in_ok-all.ensures.value shown.forms shown forms_made columns kept_firsts refl,
+      case_made s c.deref.result.now named (map kept_row all) c.in_ok-all.ensures.value shown.forms shown forms_made columns kept_firsts refl,
       record { system = c.new.ensures ∙ (λ i. record { columns = c.count.result; rows = shows.rows i }); names = shows.names; factors = shows.factors; forms = refl },
     )
 
@@ -126,59 +117,49 @@ returns-clause-named c =
 
 pub returns-clause-rows : goal.returns-clause-rows
 returns-clause-rows c =
-    let lts = c.args.lts.now in
-    let tree = c.args.tree.now.arcs in
-    let basis = cycle_of c.args.basis.now in
-    let class = c.args.class in
-    let problem = c.args.problem in
-    let number = c.args.case in
+    let it = case_of c.args.lts.now c.args.tree.now c.args.basis.now c.args.class c.args.problem c.args.case in
     let (kept, shows, firsts, indices) = c.in_ok-kept.ensures in
     let all = map row_in c.in_ok-all.all.items in
     let named = c.deref.ensures.value ∙ c.in_ok-names.ensures in
     let named_again = c.deref-3.ensures.value ∙ c.in_ok-names.ensures in
-    let columns : c.count.result ≡ column_count lts basis class = c.count.ensures lts class (sym c.requires.labels) c.requires.common.columns in
+    let columns : c.count.result ≡ column_count it.lts it.basis it.class = c.count.ensures it.lts it.class (sym c.requires.labels) c.requires.common.columns in
     let shown : CaseSystem = record { columns = c.count.result; kept = kept; forms = map linear_form c.in_ok-forms.forms.items } in
     let kept_firsts = subst (λ l. KeepsFirsts (λ k. k.row) IsIdle [] (map kept_row (map row_in l)) kept) c.deref-2.ensures.value firsts in
     let kept_indices = subst (λ l. AreIndices l kept c.in_ok-kept.indices.items) (ap (λ l. map kept_row (map row_in l)) c.deref-2.ensures.value) indices in
-    let made = subst (λ n. All (IsMade lts class n (map kept_row all) c.in_ok-kept.indices.items) c.in_ok-forms.forms.items) (sym columns)
-    (subst (λ l. All (IsMade lts class (column_count lts basis class) (map kept_row all) l) c.in_ok-forms.forms.items) c.deref-5.ensures.value
-    (subst (λ (l : List HeldRow). All (IsMade lts class (column_count lts basis class) (map kept_row (map row_in l)) c.deref-5.result.now) c.in_ok-forms.forms.items)
+    let made = subst (λ n. All (IsMade it.lts it.class n (map kept_row all) c.in_ok-kept.indices.items) c.in_ok-forms.forms.items) (sym columns)
+    (subst (λ l. All (IsMade it.lts it.class (column_count it.lts it.basis it.class) (map kept_row all) l) c.in_ok-forms.forms.items) c.deref-5.ensures.value
+    (subst (λ (l : List HeldRow). All (IsMade it.lts it.class (column_count it.lts it.basis it.class) (map kept_row (map row_in l)) c.deref-5.result.now) c.in_ok-forms.forms.items)
     c.deref-4.ensures.value c.in_ok-forms.ensures.made)) in
     let system_is = c.new.ensures ∙ (λ i. record { columns = c.count.result; rows = shows.rows i }) in
-    subst (λ (s : LinearSystem). All (StandsInRow lts tree basis class problem number s) c.in_ok-forms.forms.items) (sym system_is)
-    (all_stand lts tree basis class problem number c.deref.result.now shown (map kept_row all) c.in_ok-kept.indices.items c.in_ok-all.ensures.value kept_indices c.in_ok-forms.forms.items made)
+    subst (λ (s : LinearSystem). All (StandsInRow it s) c.in_ok-forms.forms.items) (sym system_is)
+    (all_stand it c.deref.result.now shown (map kept_row all) c.in_ok-kept.indices.items c.in_ok-all.ensures.value kept_indices c.in_ok-forms.forms.items made)
 
 pub returns-clause-forms : goal.returns-clause-forms
 returns-clause-forms c = λ reachable is_basis bound.
-    let lts = c.args.lts.now in
-    let tree = c.args.tree.now.arcs in
-    let basis = cycle_of c.args.basis.now in
-    let class = c.args.class in
-    let problem = c.args.problem in
-    let number = c.args.case in
+    let it = case_of c.args.lts.now c.args.tree.now c.args.basis.now c.args.class c.args.problem c.args.case in
     let (kept, shows, firsts, indices) = c.in_ok-kept.ensures in
     let all = map row_in c.in_ok-all.all.items in
     let named = c.deref.ensures.value ∙ c.in_ok-names.ensures in
     let named_again = c.deref-3.ensures.value ∙ c.in_ok-names.ensures in
-    let columns : c.count.result ≡ column_count lts basis class = c.count.ensures lts class (sym c.requires.labels) c.requires.common.columns in
+    let columns : c.count.result ≡ column_count it.lts it.basis it.class = c.count.ensures it.lts it.class (sym c.requires.labels) c.requires.common.columns in
     let shown : CaseSystem = record { columns = c.count.result; kept = kept; forms = map linear_form c.in_ok-forms.forms.items } in
     let kept_firsts = subst (λ l. KeepsFirsts (λ k. k.row) IsIdle [] (map kept_row (map row_in l)) kept) c.deref-2.ensures.value firsts in
     let kept_indices = subst (λ l. AreIndices l kept c.in_ok-kept.indices.items) (ap (λ l. map kept_row (map row_in l)) c.deref-2.ensures.value) indices in
-    let made = subst (λ n. All (IsMade lts class n (map kept_row all) c.in_ok-kept.indices.items) c.in_ok-forms.forms.items) (sym columns)
-    (subst (λ l. All (IsMade lts class (column_count lts basis class) (map kept_row all) l) c.in_ok-forms.forms.items) c.deref-5.ensures.value
-    (subst (λ (l : List HeldRow). All (IsMade lts class (column_count lts basis class) (map kept_row (map row_in l)) c.deref-5.result.now) c.in_ok-forms.forms.items)
+    let made = subst (λ n. All (IsMade it.lts it.class n (map kept_row all) c.in_ok-kept.indices.items) c.in_ok-forms.forms.items) (sym columns)
+    (subst (λ l. All (IsMade it.lts it.class (column_count it.lts it.basis it.class) (map kept_row all) l) c.in_ok-forms.forms.items) c.deref-5.ensures.value
+    (subst (λ (l : List HeldRow). All (IsMade it.lts it.class (column_count it.lts it.basis it.class) (map kept_row (map row_in l)) c.deref-5.result.now) c.in_ok-forms.forms.items)
     c.deref-4.ensures.value c.in_ok-forms.ensures.made)) in
     let system_is = c.new.ensures ∙ (λ i. record { columns = c.count.result; rows = shows.rows i }) in
-    let forms_made = subst (λ (l : List Form). each (form_fold lts tree basis class) l (Ok shown.forms)) (ap (case_forms class problem) named_again ∙ forms_are lts class problem number) c.in_ok-forms.ensures.value in
-    let is_case = case_made lts tree basis class problem number c.deref.result.now named (map kept_row all) c.in_ok-all.ensures.value shown.forms shown forms_made columns kept_firsts refl in
-    let over : IsCaseOver lts tree basis class problem number shown = record { in_range = c.is_well_formed.ensures.in_range; numbers = bound; reachable = reachable; is_tree = c.requires.tree.tree; is_basis = is_basis; asked = c.requires.asked; is_case = is_case } in
-    let splits = c.in_ok-forms.ensures.forms ∙ ap (case_forms class problem) named_again ∙ forms_are lts class problem number in
-    let size : length all ≡ length (names_of lts class problem number) = length-map c.in_ok-all.all.items row_in ∙ c.in_ok-all.ensures.few ∙ ap length named in
-    let some = names_few lts class problem number in
-    let most : column_count lts basis class ≤ labels lts + 1 = columns_few lts basis class in
-    let wide : states lts ≤ 4096 = c.is_well_formed.ensures.few_states in
-    let high : labels lts ≤ 256 = c.is_well_formed.ensures.few_labels in
+    let forms_made = subst (λ (l : List Form). each (form_fold it.setting) l (Ok shown.forms)) (ap (case_forms it.class it.problem) named_again ∙ forms_are it.lts it.class it.problem it.number) c.in_ok-forms.ensures.value in
+    let is_case = case_made it c.deref.result.now named (map kept_row all) c.in_ok-all.ensures.value shown.forms shown forms_made columns kept_firsts refl in
+    let over : IsCaseOver it shown = record { in_range = c.is_well_formed.ensures.in_range; numbers = bound; reachable = reachable; is_tree = c.requires.tree.tree; is_basis = is_basis; asked = c.requires.asked; is_case = is_case } in
+    let splits = c.in_ok-forms.ensures.forms ∙ ap (case_forms it.class it.problem) named_again ∙ forms_are it.lts it.class it.problem it.number in
+    let size : length all ≡ length (names_of it.lts it.class it.problem it.number) = length-map c.in_ok-all.all.items row_in ∙ c.in_ok-all.ensures.few ∙ ap length named in
+    let some = names_few it.lts it.class it.problem it.number in
+    let most : column_count it.lts it.basis it.class ≤ labels it.lts + 1 = columns_few it.lts it.basis it.class in
+    let wide : states it.lts ≤ 4096 = c.is_well_formed.ensures.few_states in
+    let high : labels it.lts ≤ 256 = c.is_well_formed.ensures.few_labels in
     let rows : length (rows_of shown).rows ≤ length all = (let h = kept_count (λ (k : KeptRow). k.row) IsIdle [] (map kept_row all) kept kept_firsts in let f = length-map kept (λ (k : KeptRow). k.row) in let g = length-map all kept_row in omega arith) in
-    let few : c.count.result + length (rows_of shown).rows + 4096 * (states lts + labels lts + 1) < 2 ^ 32 = omega arith in
+    let few : c.count.result + length (rows_of shown).rows + 4096 * (states it.lts + labels it.lts + 1) < 2 ^ 32 = omega arith in
     subst (λ (s : LinearSystem). AreFormsOf s c.in_ok-forms.forms.items) (sym system_is)
-    (all_forms lts tree basis class problem number c.deref.result.now shown (map kept_row all) c.in_ok-kept.indices.items c.in_ok-all.ensures.value kept_indices c.in_ok-forms.forms.items made refl splits over wide bound few)
+    (all_forms it c.deref.result.now shown (map kept_row all) c.in_ok-kept.indices.items c.in_ok-all.ensures.value kept_indices c.in_ok-forms.forms.items made refl splits over wide bound few)

@@ -8,6 +8,7 @@ use Rattle.rg_order_of_work.specs.Rewriting.{free_labels, columns_of, scaled_fol
 use Rattle.rg_fraction.specs.declared.fold_stop.FoldStop.TheVariants as stop
 use Rattle.rg_cycles.specs.View.{labels_of, cycle_of}
 use Rattle.rg_reasons.specs.Sums.{terms_in}
+use Rattle.rg_case_parts.specs.SettingViews.{setting_of}
 use Rattle.rg_case_parts.specs.WholeNumbers.{scaled_of}
 use Rattle.rg_order_of_work.proofs.Items.{each_length}
 use Rattle.rg_rows.proofs.Making.{if_ok_more, columns_unsubstituted, columns_scaled, columns_many}
@@ -22,7 +23,8 @@ returns-in_err-free-clause-wide c = λ w e lts class same are.
     let terms = terms_in c.args.expression.now.terms in
     let read : vec_len c.args.columns.now.used ≡ length c.args.columns.now.used.items = omega arith in
     let size : c.len-labels.result ≡ n = c.len-labels.ensures ∙ read ∙ c.requires.columns in
-    columns_unsubstituted lts c.args.tree.now.arcs cycle class terms n same (number_at c.deref.result.now) (λ t lt. ap (λ l. number_at l t) c.deref.ensures.value ∙ c.in_ok-counts.ensures.counts t (subst (λ m. t < m) (sym size) lt)) w (c.in_err-free.ensures.wide w (ap (λ x. Err x) is))
+    columns_unsubstituted (setting_of lts c.args.tree.now c.args.basis.now class) terms n same (number_at c.deref.result.now)
+    (λ t lt. ap (λ l. number_at l t) c.deref.ensures.value ∙ c.in_ok-counts.ensures.counts t (subst (λ m. t < m) (sym size) lt)) w (c.in_err-free.ensures.wide w (ap (λ x. Err x) is))
 
 pub pick-requires-clause-one_each : goal.pick-requires-clause-one_each
 pick-requires-clause-one_each c = ap length c.deref-2.ensures.value ∙ sym (length-map c.in_ok-free.free.coeffs.items ratio_of)
@@ -40,7 +42,7 @@ returns-clause-value c =
     let start = cast_signed w128 (cast_unsigned w128 c.start.result) in
     let starts = back c.start.result c.start.ensures.in_range ∙ c.start.ensures.value in
     if_ok_more c.without_denominators.result (λ s. scaled_fold (map ratio_of c.deref-3.result.now) (Ok (scaled_of s))) _
-    (λ s h lts class same are. columns_scaled lts c.args.tree.now.arcs cycle class terms n same (number_at c.deref.result.now)
+    (λ s h lts class same are. columns_scaled (setting_of lts c.args.tree.now c.args.basis.now class) terms n same (number_at c.deref.result.now)
     (λ t lt. ap (λ l. number_at l t) c.deref.ensures.value ∙ c.in_ok-counts.ensures.counts t (subst (λ m. t < m) (sym size) lt)) free c.in_ok-free.ensures.value
     (map ratio_of c.deref-3.result.now) start starts (ap (map ratio_of) c.deref-3.ensures.value ∙ c.in_ok-numbers.ensures lts class same are
     ∙ ap (λ l. columns_of lts cycle class start (map ratio_of l)) c.deref-2.ensures.value) (Ok (scaled_of s)) h) c.without_denominators.ensures.value
@@ -56,7 +58,7 @@ returns-clause-one_each c =
     let start = cast_signed w128 (cast_unsigned w128 c.start.result) in
     let starts = back c.start.result c.start.ensures.in_range ∙ c.start.ensures.value in
     if_ok_more c.without_denominators.result (λ s. length s.numbers.items ≡ length c.deref-3.result.now) _
-    (λ s h lts class same are. h ∙ sym (length-map c.deref-3.result.now ratio_of) ∙ columns_many lts c.args.tree.now.arcs cycle class terms n same
+    (λ s h lts class same are. h ∙ sym (length-map c.deref-3.result.now ratio_of) ∙ columns_many (setting_of lts c.args.tree.now c.args.basis.now class) terms n same
     (number_at c.deref.result.now) (λ t lt. ap (λ l. number_at l t) c.deref.ensures.value ∙ c.in_ok-counts.ensures.counts t (subst (λ m. t < m) (sym size) lt)) free
     c.in_ok-free.ensures.value (map ratio_of c.deref-3.result.now) start starts
     (ap (map ratio_of) c.deref-3.ensures.value ∙ c.in_ok-numbers.ensures lts class same are
@@ -72,7 +74,7 @@ returns-clause-wide c = λ w e lts class same are.
     let size : c.len-labels.result ≡ n = c.len-labels.ensures ∙ read ∙ c.requires.columns in
     let start = cast_signed w128 (cast_unsigned w128 c.start.result) in
     let starts = back c.start.result c.start.ensures.in_range ∙ c.start.ensures.value in
-    columns_scaled lts c.args.tree.now.arcs cycle class terms n same (number_at c.deref.result.now)
+    columns_scaled (setting_of lts c.args.tree.now c.args.basis.now class) terms n same (number_at c.deref.result.now)
     (λ t lt. ap (λ l. number_at l t) c.deref.ensures.value ∙ c.in_ok-counts.ensures.counts t (subst (λ m. t < m) (sym size) lt)) free c.in_ok-free.ensures.value
     (map ratio_of c.deref-3.result.now) start starts (ap (map ratio_of) c.deref-3.ensures.value ∙ c.in_ok-numbers.ensures lts class same are
     ∙ ap (λ l. columns_of lts cycle class start (map ratio_of l)) c.deref-2.ensures.value) (Err w) (c.without_denominators.ensures.wide w e)

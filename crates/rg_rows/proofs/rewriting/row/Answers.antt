@@ -4,6 +4,7 @@ use Rattle.std.specs.Int.{w128, cast_signed, cast_unsigned}
 use Rattle.std.specs.Arc.{arc_slice_items}
 use Rattle.rg_integers.proofs.Casts.{back}
 use Rattle.rg_fraction.specs.Fractions.{IsValue}
+use Rattle.rg_order_of_work.specs.Setting.{setting_at}
 use Rattle.rg_order_of_work.specs.Fold.{ratio_of, whole, mul}
 use Rattle.rg_order_of_work.specs.Rewriting.{IsDivided}
 use Rattle.rg_fraction.specs.declared.fold_stop.FoldStop.TheVariants as stop
@@ -22,7 +23,7 @@ returns-in_err-scaled-clause-wide c = λ w e lts class same are.
     let cycle = cycle_of c.args.basis.now in
     let name = c.args.name in
     let sum = expression_of c.args.expression.now in
-    row_unscaled lts tree cycle class name sum w (c.in_err-scaled.ensures.wide w (ap (λ x. Err x) is) lts class same are)
+    row_unscaled (setting_at lts tree cycle class) name sum w (c.in_err-scaled.ensures.wide w (ap (λ x. Err x) is) lts class same are)
 
 pub returns-in_err-constant-clause-wide : goal.returns-in_err-constant-clause-wide
 returns-in_err-constant-clause-wide c = λ w e lts class same are.
@@ -37,7 +38,7 @@ returns-in_err-constant-clause-wide c = λ w e lts class same are.
     let own = subst (λ z. IsValue c.new.result z (pos 1)) (back number c.args.expression.now.in_range) c.new.ensures in
     let by = subst (λ z. IsValue c.new-multiple.result z (pos 1)) (back scaled.multiple scaled.multiple_in_range) c.new-multiple.ensures in
     let product = whole_step c.new.result c.new-multiple.result number scaled.multiple c.mul.result own by c.mul.ensures.product in
-    row_unmade lts tree cycle class name sum (scaled_of scaled) (c.in_ok-scaled.ensures.value lts class same are) w (subst (λ x. mul (whole number) (whole scaled.multiple) (Err x)) is (rw c.in_err-constant.was at product))
+    row_unmade (setting_at lts tree cycle class) name sum (scaled_of scaled) (c.in_ok-scaled.ensures.value lts class same are) w (subst (λ x. mul (whole number) (whole scaled.multiple) (Err x)) is (rw c.in_err-constant.was at product))
 
 pub returns-clause-value : goal.returns-clause-value
 returns-clause-value c =
@@ -53,7 +54,7 @@ returns-clause-value c =
     let constant = c.in_ok-constant.constant in
     let top = back c.numerator.result c.numerator.ensures.in_range ∙ c.numerator.ensures.value in
     if_ok_more c.divided.result (λ r. (r.name ≡ c.args.name) × IsDivided (scaled_of scaled) (cast_signed w128 (cast_unsigned w128 c.numerator.result)) (kept_row r)) _
-    (λ r (named, is) lts class same are. row_made lts tree cycle class name sum (scaled_of scaled) (c.in_ok-scaled.ensures.value lts class same are) (ratio_of constant)
+    (λ r (named, is) lts class same are. row_made (setting_at lts tree cycle class) name sum (scaled_of scaled) (c.in_ok-scaled.ensures.value lts class same are) (ratio_of constant)
     (kept_row r) (rw c.in_ok-constant.was at product) named (subst (λ z. IsDivided (scaled_of scaled) z (kept_row r)) top is))
     c.divided.ensures.value
 

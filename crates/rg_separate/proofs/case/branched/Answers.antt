@@ -4,13 +4,13 @@ use Rattle.rg_linear.specs.Branching.{SplitSide, Branching, BranchOutcome.stoppe
 use Rattle.rg_linear.proofs.Endings.{splits_within}
 use Rattle.rg_order_of_work.specs.Shown.{Shown, ShownWide}
 use Rattle.rg_feasible.specs.Settling.{wide_at}
-use Rattle.rg_cycles.specs.View.{cycle_of}
 use Rattle.rg_outcome.specs.Casing.{CaseResult.passes, CaseComes}
 use Rattle.rg_branch.specs.View.{forms_of}
 use Rattle.rg_branch.specs.Answer.{IsStop}
 use Rattle.rg_branch.specs.declared.bounded.Bounded.{Bounded}
 use Rattle.rg_rows.specs.declared.named_form.NamedForm.{NamedForm}
 use Rattle.rg_rows.specs.Forms.{split_of}
+use Rattle.rg_separate.specs.Keeping.{shown_case}
 use Rattle.rg_separate.specs.Casing.{forms_in, sides_among}
 use Rattle.rg_separate.specs.Passing.{pivot_at}
 use Rattle.rg_separate.proofs.Passing.{pivot_shown, pivot_comes}
@@ -60,5 +60,5 @@ returns-in-Err-Wide-clause-comes c =
     ∙ ap (λ (fs : List NamedForm). sides_among (map split_of fs) c.deref-in-Err-Wide-2.result.now) c.deref-in-Err-Wide.ensures.value
     ∙ ap (λ above. sides_among (map split_of named.forms.items) above) c.deref-in-Err-Wide-2.ensures.value
     ∙ ap (λ fs. sides_among fs sides) c.requires.system.by_name in
-    subst (λ (w : Shown). CaseComes lts c.args.c.setting.tree.now.arcs (cycle_of c.args.c.setting.basis.now) class c.args.c.problem c.args.c.number (passes w)) (sym (c.stopped.ensures ∙ ap (λ (ss : List Side). pivot_at c.args.c ss c.in-Err-Wide.members.items c.in-Err-Wide.wide) by_name))
+    subst (λ (w : Shown). CaseComes (shown_case c.args.c) (passes w)) (sym (c.stopped.ensures ∙ ap (λ (ss : List Side). pivot_at c.args.c ss c.in-Err-Wide.members.items c.in-Err-Wide.wide) by_name))
     (pivot_comes c.args.c named sides at c.requires.system ends)

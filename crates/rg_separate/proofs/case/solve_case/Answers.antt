@@ -1,15 +1,14 @@
-use Rattle.std.proofs.Common.{List, Err, map, ap, sym, subst, ◌∙◌}
+use Rattle.std.proofs.Common.{List, Err, ap, sym, subst, ◌∙◌}
 use Rattle.rg_order_of_work.specs.Shown.{Shown}
-use Rattle.rg_cycles.specs.View.{cycle_of}
 use Rattle.rg_outcome.specs.Casing.{CaseResult.passes, CaseComes, CaseComes.row_passes}
 use Rattle.rg_reasons.specs.declared.wide_at.Stage.TheVariants.{Row}
+use Rattle.rg_separate.specs.Keeping.{shown_case}
 use Rattle.rg_separate.specs.Passing.{passed_at}
 use Rattle.rg_separate.proofs.case.solve_case.Goals as goal
 use Rattle.rg_refuting.specs.Row.{Side}
 
 pub returns-in-Err-Wide-clause-comes : goal.returns-in-Err-Wide-clause-comes
 returns-in-Err-Wide-clause-comes c =
-    subst (λ (w : Shown). CaseComes c.args.c.setting.lts.now c.args.c.setting.tree.now.arcs (cycle_of c.args.c.setting.basis.now) c.args.c.setting.class c.args.c.problem
-    c.args.c.number (passes w)) (sym (c.passed.ensures
+    subst (λ (w : Shown). CaseComes (shown_case c.args.c) (passes w)) (sym (c.passed.ensures
     ∙ ap (λ (above : List Side). passed_at Row c.args.c above c.in-Err-Wide.wide) c.new-above.ensures.items))
     (row_passes c.in-Err-Wide.wide (c.in-Err-Wide.ensures.wide c.in-Err-Wide.wide (ap Err c.in-Err-Wide.field-0-is)))

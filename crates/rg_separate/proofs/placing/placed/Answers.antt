@@ -4,11 +4,11 @@ use Rattle.rg_linear.specs.Branching.{SplitSide, BranchOutcome.found}
 use Rattle.rg_linear.proofs.Endings.{splits_within}
 use Rattle.rg_order_of_work.specs.Shown.{Shown, ShownWide}
 use Rattle.rg_net.specs.Shown.{shown_place}
-use Rattle.rg_cycles.specs.View.{cycle_of}
 use Rattle.rg_outcome.specs.Casing.{CaseResult.passes, CaseComes}
 use Rattle.rg_rows.specs.declared.named_form.NamedForm.{NamedForm}
 use Rattle.rg_rows.specs.Forms.{split_of}
 use Rattle.rg_reasons.specs.declared.wide_at.Stage.TheVariants.{Place}
+use Rattle.rg_separate.specs.Keeping.{shown_case}
 use Rattle.rg_separate.specs.Casing.{forms_in, sides_among}
 use Rattle.rg_separate.specs.Passing.{passed_at}
 use Rattle.rg_separate.proofs.PlaceOfPoint.{solves, place_shown, place_comes, place_fails}
@@ -43,5 +43,5 @@ returns-in_ok-above-in-Err-Wide-clause-comes c =
     let class = c.args.c.setting.class in
     let sides = c.args.above.now in
     let by_name = c.in_ok-above-in-Err-Wide.ensures ∙ ap (λ (fs : List NamedForm). sides_among (map split_of fs) sides) c.deref.ensures.value ∙ ap (λ fs. sides_among fs sides) c.requires.system.by_name in
-    subst (λ (w : Shown). CaseComes lts c.args.c.setting.tree.now.arcs (cycle_of c.args.c.setting.basis.now) class c.args.c.problem c.args.c.number (passes w)) (sym (c.passed.ensures ∙ ap (λ (ss : List Side). passed_at Place c.args.c ss c.in-Err-Wide.wide) by_name))
+    subst (λ (w : Shown). CaseComes (shown_case c.args.c) (passes w)) (sym (c.passed.ensures ∙ ap (λ (ss : List Side). passed_at Place c.args.c ss c.in-Err-Wide.wide) by_name))
     (place_fails c.args.c c.args.named.now sides c.args.point.now c.requires.system c.requires.found c.in-Err-Wide.wide (c.in-Err-Wide.ensures.wide c.in-Err-Wide.wide (ap Err c.in-Err-Wide.field-0-is)))

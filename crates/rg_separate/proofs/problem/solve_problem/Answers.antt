@@ -1,9 +1,9 @@
 use Rattle.std.proofs.Common.{inl, ap, sym, subst}
 use Rattle.rg_theory.specs.declared.Problem.{Problem}
 use Rattle.rg_net.specs.Shown.{shown_place}
-use Rattle.rg_cycles.specs.View.{cycle_of}
 use Rattle.rg_places.specs.RegionPlaces.{PlaceSeparates}
 use Rattle.rg_outcome.specs.Solving.{Solved.placed, ProblemComes}
+use Rattle.rg_separate.specs.Keeping.{shown_setting}
 use Rattle.rg_separate.proofs.problem.solve_problem.Goals as goal
 
 pub blocked-requires-clause-dead : goal.blocked-requires-clause-dead
@@ -18,5 +18,5 @@ returns-in_ok-blocked-in-Event-clause-tells c = (
 pub returns-in_ok-blocked-in-Event-clause-comes : goal.returns-in_ok-blocked-in-Event-clause-comes
 returns-in_ok-blocked-in-Event-clause-comes c =
     let setting = c.args.setting in
-    subst (λ (p : Problem). ProblemComes setting.lts.now setting.tree.now.arcs (cycle_of setting.basis.now) setting.class p (placed (shown_place c.in_ok-blocked-in-Event.field-0.place))) (sym c.in-Event.is)
+    subst (λ (p : Problem). ProblemComes (shown_setting setting) p (placed (shown_place c.in_ok-blocked-in-Event.field-0.place))) (sym c.in-Event.is)
     (inl (c.is_dead.ensures.0 c.if-is_dead.true, ap placed c.in_ok-blocked-in-Event.ensures.place))

@@ -5,13 +5,13 @@ use Rattle.rg_refuting.specs.Row.{Side}
 use Rattle.rg_linear.specs.Branching.{SplitSide}
 use Rattle.rg_order_of_work.specs.Shown.{Shown, ShownWide}
 use Rattle.rg_reasons.specs.Trees as reasons
-use Rattle.rg_cycles.specs.View.{cycle_of}
 use Rattle.rg_outcome.specs.Casing.{CaseResult.passes, CaseComes}
 use Rattle.rg_branch.specs.View.{node_of}
 use Rattle.rg_branch.specs.declared.whole.RawNode.{RawNode}
 use Rattle.rg_rows.specs.declared.named_form.NamedForm.{NamedForm}
 use Rattle.rg_rows.specs.Forms.{split_of}
 use Rattle.rg_reasons.specs.declared.wide_at.Stage.TheVariants.{Spread}
+use Rattle.rg_separate.specs.Keeping.{shown_case}
 use Rattle.rg_separate.specs.Casing.{forms_in, sides_among, VisitStands, next_sides, IsMadeOf, LeafPasses}
 use Rattle.rg_separate.specs.Passing.{passed_at}
 use Rattle.rg_separate.proofs.Branched.{room_small}
@@ -85,7 +85,7 @@ returns-in-Err-Wide-clause-comes c =
     ∙ ap (λ above. sides_among (map split_of named.forms.items) above) c.deref-in-Err-Wide-2.ensures.value
     ∙ ap (λ fs. sides_among fs sides) c.requires.system.by_name in
     let fails = subst (λ above. LeafPasses c.args.c named above (node_of c.node-item.result) c.in-Err-Wide.wide) c.deref.ensures.value (c.in-Err-Wide.ensures.wide c.in-Err-Wide.wide (ap Err c.in-Err-Wide.field-0-is)) in
-    subst (λ (w : Shown). CaseComes lts c.args.c.setting.tree.now.arcs (cycle_of c.args.c.setting.basis.now) class c.args.c.problem c.args.c.number (passes w))
+    subst (λ (w : Shown). CaseComes (shown_case c.args.c) (passes w))
     (sym (c.passed.ensures ∙ ap (λ (v : Wide). passed_at Spread c.args.c c.in_ok-above-in-Err-Wide.above.items v) c.in-Err-Wide.wide-is
     ∙ ap (λ (ss : List Side). passed_at Spread c.args.c ss c.in-Err-Wide.wide) by_name))
     (walk_passes c.args.c named c.requires.system (map node_of nodes) i sides (map reasons.node_of c.loop-node.made.items)
