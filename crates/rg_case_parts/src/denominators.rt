@@ -1,11 +1,9 @@
 //! The least common multiple of denominators.
-ghost use Rattle.std.specs.Prelude.{◌≡◌, ℕ, ◌<◌, ◌<ℤ◌, pos, map, length, All, Ok, Err, IfOk, IsErrOf};
+ghost use Rattle.std.specs.Prelude.{◌≡◌, ℕ, ◌<◌, ◌<ℤ◌, pos, map, length, All, IfOk};
 ghost use Rattle.rg_integers.specs.Range.{InRange};
-ghost use Rattle.rg_integers.specs.declared.term.Wide.{Wide};
 ghost use Rattle.rg_fraction.specs.Fractions.{numerator_of, denominator_of};
-ghost use Rattle.rg_order_of_work.specs.Fold.{ratio_of, whole, each, mul, common_multiple, multiple_of_all};
+ghost use Rattle.rg_order_of_work.specs.Fold.{Comes, ratio_of, whole, each, mul, common_multiple, multiple_of_all};
 ghost use Rattle.rg_order_of_work.specs.Rewriting.{scaled_fold};
-ghost use Rattle.rg_fraction.specs.declared.fold_stop.FoldStop.TheVariants as stop;
 ghost use Rattle.rg_case_parts.specs.WholeNumbers.{scaled_of};
 
 use crate::scaled::Scaled;
@@ -21,9 +19,8 @@ use std::alloc::Global;
 /// multiple, two denominators at a time, then the products in order. `FoldStop::NoMemory` comes where there is no
 /// memory.
 pub fn without_denominators(alloc: Global, fractions: &[Fraction]) -> Result<Scaled, FoldStop>
-    ensures value { IfOk result (λ s. scaled_fold (map ratio_of fractions.now) (Ok (scaled_of s))) }
+    ensures comes { Comes (scaled_fold (map ratio_of fractions.now)) scaled_of result }
     ensures one_each { IfOk result (λ s. length s.numbers.items ≡ length fractions.now) }
-    ensures wide { (w : Wide) → IsErrOf result (stop.Wide w) → scaled_fold (map ratio_of fractions.now) (Err w) }
 {
     let multiple = common_denominator(fractions)?;
     let products = products(alloc, fractions, multiple)?;
@@ -73,8 +70,7 @@ pub fn products(
     number: i128,
 ) -> Result<Vec<Fraction>, FoldStop>
     requires { InRange number }
-    ensures value { IfOk result (λ v. each (λ f. mul f (whole number)) (map ratio_of fractions.now) (Ok (map ratio_of v.items))) }
-    ensures wide { (w : Wide) → IsErrOf result (stop.Wide w) → each (λ f. mul f (whole number)) (map ratio_of fractions.now) (Err w) }
+    ensures { Comes (each (λ f. mul f (whole number)) (map ratio_of fractions.now)) (λ v. map ratio_of v.items) result }
 {
     let factor = Fraction::new(number, 1);
     let mut products = Vec::new(alloc);

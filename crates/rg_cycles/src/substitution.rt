@@ -1,11 +1,9 @@
 //! Sums of effects, written over the free labels.
-ghost use Rattle.std.specs.Prelude.{◌≡◌, ℕ, ◌<◌, map, length, slice_index, Ok, Err, IfOk, IsErrOf};
+ghost use Rattle.std.specs.Prelude.{◌≡◌, ℕ, ◌<◌, map, length, slice_index, IfOk};
 ghost use Rattle.rg_integers.specs.Range.{InRange};
 ghost use Rattle.rg_integers.specs.Sum.{number_at};
-ghost use Rattle.rg_integers.specs.declared.term.Wide.{Wide};
-ghost use Rattle.rg_order_of_work.specs.Fold.{whole, ratio_of, shown_result, quotient, add, mul, and_then};
+ghost use Rattle.rg_order_of_work.specs.Fold.{Comes, whole, ratio_of, shown_result, quotient, add, mul, and_then};
 ghost use Rattle.rg_order_of_work.specs.Rewriting.{is_in, free_labels, dependent_labels, coefficient_fold, substitute_fold};
-ghost use Rattle.rg_fraction.specs.declared.fold_stop.FoldStop.TheVariants as stop;
 ghost use Rattle.rg_cycles.specs.Basis.{IsRelationInRange};
 ghost use Rattle.rg_cycles.specs.View.{labels_of, cycle_of};
 
@@ -32,8 +30,7 @@ pub struct FreeRow {
 pub fn substitute(alloc: Global, basis: &Basis, counts: &[i128]) -> Result<FreeRow, FoldStop>
     requires counts { length counts.now ≡ labels_of basis.now }
     requires in_range { (t : ℕ) → t < length counts.now → InRange (number_at counts.now t) }
-    ensures value { IfOk result (λ row. substitute_fold (labels_of basis.now) (cycle_of basis.now) (number_at counts.now) (Ok (map ratio_of row.coeffs.items))) }
-    ensures wide { (w : Wide) → IsErrOf result (stop.Wide w) → substitute_fold (labels_of basis.now) (cycle_of basis.now) (number_at counts.now) (Err w) }
+    ensures { Comes (substitute_fold (labels_of basis.now) (cycle_of basis.now) (number_at counts.now)) (λ row. map ratio_of row.coeffs.items) result }
 {
     let others = dependent(alloc, basis, counts.len() as u32)?;
     let mut coeffs = Vec::new(alloc);

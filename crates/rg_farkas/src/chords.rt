@@ -1,17 +1,15 @@
 //! The chords that the basis uses, and their multipliers.
-ghost use Rattle.std.specs.Prelude.{◌≡◌, ℕ, ◌<◌, ◌+◌, ◌^◌, List, ℤ, true, map, length, pos, neg_ℤ, ◌<ℤ◌, ◌≢◌, All, Contains, Ok, Err, IfOk, IsErrOf, slice_index_or, slice_index};
+ghost use Rattle.std.specs.Prelude.{◌≡◌, ℕ, ◌<◌, ◌+◌, ◌^◌, List, ℤ, true, map, length, pos, neg_ℤ, ◌<ℤ◌, ◌≢◌, All, Contains, IfOk, slice_index_or, slice_index};
 ghost use Rattle.rg_theory.specs.System.{labels};
 ghost use Rattle.rg_theory.specs.declared.Arc.{Arc};
 ghost use Rattle.rg_integers.specs.Range.{InRange};
 ghost use Rattle.rg_integers.specs.Sum.{number_at};
-ghost use Rattle.rg_integers.specs.declared.term.Wide.{Wide};
 ghost use Rattle.rg_spanning.specs.Spanning.{IsTreeOf};
 ghost use Rattle.rg_linear.specs.Cycle.{IsCycleBasis};
 ghost use Rattle.rg_cycles.specs.Basis.{number_with, IsRelationInRange};
 ghost use Rattle.rg_cycles.specs.View.{labels_of, cycle_of};
-ghost use Rattle.rg_fraction.specs.declared.fold_stop.FoldStop.TheVariants as stop;
 ghost use Rattle.rg_order_of_work.specs.Chords.{IsBasis};
-ghost use Rattle.rg_order_of_work.specs.Fold.{each, joined, add, whole, ratio_of, shown_result};
+ghost use Rattle.rg_order_of_work.specs.Fold.{Comes, each, joined, add, whole, ratio_of, shown_result};
 ghost use Rattle.rg_order_of_work.specs.Placing.{negated};
 ghost use Rattle.rg_order_of_work.specs.Rewriting.{is_in, dependent_labels};
 ghost use Rattle.rg_order_of_work.specs.Spreading.{used_chords, chord_arcs};
@@ -88,8 +86,7 @@ pub(crate) fn chord_shares(
     requires basis { (vectors : List (List ℤ)) × IsCycleBasis (labels lts.now) vectors (cycle_of basis.now) }
     requires counts { All (λ k. (k.label < labels lts.now) × (¬ Contains (cycle_of basis.now).members k.label)) (map counted_of counts.now) }
     requires used { All (λ c. (c < length (cycle_of basis.now).kept) × Contains (cycle_of basis.now).members (labels lts.now + c)) used.now }
-    ensures value { IfOk result (λ v. each (λ c. counts_fold (cycle_of basis.now) (map counted_of counts.now) (labels lts.now + c)) used.now (Ok (map ratio_of v.items))) }
-    ensures wide { (w : Wide) → IsErrOf result (stop.Wide w) → each (λ c. counts_fold (cycle_of basis.now) (map counted_of counts.now) (labels lts.now + c)) used.now (Err w) }
+    ensures { Comes (each (λ c. counts_fold (cycle_of basis.now) (map counted_of counts.now) (labels lts.now + c)) used.now) (λ v. map ratio_of v.items) result }
 {
     let mut shares = Vec::new(alloc);
     for &chord in used {

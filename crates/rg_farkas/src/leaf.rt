@@ -15,6 +15,7 @@ ghost use Rattle.rg_farkas.specs.Leaves.{share_of, IsLeafWith, RefutesCase};
 ghost use Rattle.rg_integers.specs.Range.{InRange};
 ghost use Rattle.rg_farkas.specs.Refuting.{SharesRefute};
 ghost use Rattle.rg_farkas.specs.View.{AreRowsWithin};
+ghost use Rattle.rg_order_of_work.specs.Fold.{Comes};
 
 use crate::chords::{chord_arcs, chord_shares, used_chords};
 use crate::counts::row_counts;
@@ -87,9 +88,8 @@ pub(crate) fn leaf_rows(
     requires labels { labels_of basis.now ≡ labels lts.now }
     requires basis { IsBasis lts.now tree.now.arcs (cycle_of basis.now) }
     requires within { AreRowsWithin lts.now (row_expression lts.now case.class case.problem case.number above.now) (map share_of named.now) }
-    ensures leaf { IfOk result (λ v. leaf_fold lts.now tree.now.arcs (cycle_of basis.now) (row_expression lts.now case.class case.problem case.number above.now) (map share_of named.now) (Ok (map named_row v.items))) }
+    ensures comes { Comes (leaf_fold lts.now tree.now.arcs (cycle_of basis.now) (row_expression lts.now case.class case.problem case.number above.now) (map share_of named.now)) (λ v. map named_row v.items) result }
     ensures in_range { IfOk result (λ v. All (λ r. InRange r.1) v.items) }
-    ensures wide { (w : Wide) → IsErrOf result (stop.Wide w) → leaf_fold lts.now tree.now.arcs (cycle_of basis.now) (row_expression lts.now case.class case.problem case.number above.now) (map share_of named.now) (Err w) }
 {
     let system = lts.arcs();
     let counts = row_counts(alloc, lts, tree, basis, case, named, above)?;

@@ -1,11 +1,9 @@
 //! The sums of absolute values.
-ghost use Rattle.std.specs.Prelude.{◌≡◌, pos, map, All, Ok, Err, IfOk, IsErrOf};
-ghost use Rattle.rg_integers.specs.declared.term.Wide.{Wide};
+ghost use Rattle.std.specs.Prelude.{◌≡◌, pos, map, All, IfOk};
 ghost use Rattle.rg_refuting.specs.Expression.{Expression};
 ghost use Rattle.rg_refuting.specs.declared.RowName.{RowName};
-ghost use Rattle.rg_order_of_work.specs.Fold.{further, whole_sum};
+ghost use Rattle.rg_order_of_work.specs.Fold.{Comes, further, whole_sum};
 ghost use Rattle.rg_order_of_work.specs.Spreading.{variables_of, checked_leaf};
-ghost use Rattle.rg_fraction.specs.declared.fold_stop.FoldStop.TheVariants as stop;
 ghost use Rattle.rg_farkas.specs.View.{named_of, Tells, size_fold, coefficient_at};
 
 use crate::multiplied::Row;
@@ -19,8 +17,7 @@ use std::alloc::{AllocError, Global};
 // Refused where for some state or label, or for the constants, the sum of the absolute values of the rows'
 // multiplied numbers is out of range.
 pub(crate) fn check_sizes(alloc: Global, lts: &Lts, rows: &[Row]) -> Result<(), FoldStop>
-    ensures value { IfOk result (λ _. (expression : RowName → Expression) → All (Tells expression) rows.now → checked_leaf lts.now expression (map named_of rows.now) (Ok (map named_of rows.now))) }
-    ensures wide { (w : Wide) → IsErrOf result (stop.Wide w) → (expression : RowName → Expression) → All (Tells expression) rows.now → checked_leaf lts.now expression (map named_of rows.now) (Err w) }
+    ensures { (expression : RowName → Expression) → All (Tells expression) rows.now → Comes (checked_leaf lts.now expression (map named_of rows.now)) (λ _. map named_of rows.now) result }
 {
     let variables = variables(alloc, lts)?;
     for variable in &variables {

@@ -1,12 +1,10 @@
 //! The multipliers of the arcs of the tree.
-ghost use Rattle.std.specs.Prelude.{◌≡◌, ◌≤◌, [], ◌++◌, ◌≤ℤ◌, neg_ℤ, if◌then◌else◌, pos, length, map, reverse, All, Ok, Err, IfOk, IsErrOf};
+ghost use Rattle.std.specs.Prelude.{◌≡◌, ◌≤◌, [], ◌++◌, ◌≤ℤ◌, neg_ℤ, if◌then◌else◌, pos, length, map, reverse, All, IfOk};
 ghost use Rattle.rg_integers.specs.Range.{InRange};
 ghost use Rattle.rg_integers.specs.Sign.{size};
-ghost use Rattle.rg_integers.specs.declared.term.Wide.{Wide};
 ghost use Rattle.rg_refuting.specs.Expression.{Expression as Sum, same_variable, coefficient_in};
 ghost use Rattle.rg_refuting.specs.declared.RowName.{RowName};
-ghost use Rattle.rg_fraction.specs.declared.fold_stop.FoldStop.TheVariants as stop;
-ghost use Rattle.rg_order_of_work.specs.Fold.{gives, and_then, further, whole_sum, whole_product};
+ghost use Rattle.rg_order_of_work.specs.Fold.{Comes, gives, and_then, further, whole_sum, whole_product};
 ghost use Rattle.rg_order_of_work.specs.Spreading.{tree_fold, addend_fold, leaving};
 ghost use Rattle.rg_reasons.specs.Sums.{term_of, expression_of};
 ghost use Rattle.rg_farkas.specs.View.{named_of, Tells, arc_times, row_addend};
@@ -27,10 +25,9 @@ pub(crate) fn tree_multipliers(
     tree: &[Arc],
     rows: &[Row],
 ) -> Result<Vec<i128>, FoldStop>
-    ensures value { IfOk result (λ v. (expression : RowName → Sum) → All (Tells expression) rows.now → tree_fold expression (map named_of rows.now) [] (reverse tree.now) (Ok (arc_times tree.now v.items))) }
+    ensures comes { (expression : RowName → Sum) → All (Tells expression) rows.now → Comes (tree_fold expression (map named_of rows.now) [] (reverse tree.now)) (λ v. arc_times tree.now v.items) result }
     ensures one_each { IfOk result (λ v. length v.items ≡ length tree.now) }
     ensures in_range { IfOk result (λ v. All InRange v.items) }
-    ensures wide { (w : Wide) → IsErrOf result (stop.Wide w) → (expression : RowName → Sum) → All (Tells expression) rows.now → tree_fold expression (map named_of rows.now) [] (reverse tree.now) (Err w) }
 {
     let mut multipliers = vec![in alloc; 0i128; tree.len()]?;
     for i in (0..tree.len()).rev() {

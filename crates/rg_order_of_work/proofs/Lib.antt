@@ -19,6 +19,7 @@ pub mod CaseMeaning
 pub mod Given
 pub mod Kept
 pub mod ColumnValues
+pub mod Comes
 pub mod PointEffects
 pub mod Points
 pub mod Whole

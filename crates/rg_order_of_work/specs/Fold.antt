@@ -3,6 +3,8 @@ use Rattle.std.specs.Prelude.{◌≡◌, ◌≢◌, ◌⊎◌, Bool, true, false
 use Rattle.std.specs.Int.{IsGcd}
 use Rattle.rg_integers.specs.declared.term.Wide.{Wide}
 use Rattle.rg_fraction.specs.declared.fraction.Fraction.{Fraction}
+use Rattle.rg_fraction.specs.declared.fold_stop.FoldStop.{FoldStop}
+use Rattle.rg_fraction.specs.declared.fold_stop.FoldStop.TheVariants as stop
 use Rattle.rg_integers.specs.Range.{InRange}
 use Rattle.rg_integers.specs.Value.{SameValue}
 use Rattle.rg_fraction.specs.Terms.{sum_term, product_term, FirstPasses, sum_top, sum_bottom, product_top, product_bottom}
@@ -33,6 +35,12 @@ pub record IsOne {X : Type 0} (fold : Result X Wide → Type 0) : Type 0 where
 abbrev pub shown_result : {X Y : Type 0} → (X → Y) → Result X Wide → Result Y Wide
 shown_result show (Ok x) = Ok (show x)
 shown_result show (Err w) = Err w
+
+-- what a call gives is a result of the computation: its value, seen so, or its first step out of range
+abbrev pub Comes : {T X : Type 0} → (Result X Wide → Type 0) → (T → X) → Result T FoldStop → Type 0
+Comes fold view (Ok v) = fold (Ok (view v))
+Comes fold view (Err (stop.Wide w)) = fold (Err w)
+Comes fold view (Err stop.NoMemory) = Unit {0}
 
 -- ---- lists
 

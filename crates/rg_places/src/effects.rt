@@ -1,11 +1,9 @@
 //! The effects of all labels, from those of the columns.
-ghost use Rattle.std.specs.Prelude.{◌≡◌, ◌<◌, pos, length, All, Ok, Err, IfOk, IsErrOf};
+ghost use Rattle.std.specs.Prelude.{◌≡◌, ◌<◌, pos, length, All};
 ghost use Rattle.rg_theory.specs.System.{System, labels};
-ghost use Rattle.rg_integers.specs.declared.term.Wide.{Wide};
-ghost use Rattle.rg_order_of_work.specs.Fold.{each, joined, add, whole, ratio_of, shown_result};
+ghost use Rattle.rg_order_of_work.specs.Fold.{Comes, each, joined, add, whole, ratio_of, shown_result};
 ghost use Rattle.rg_order_of_work.specs.Rewriting.{all_numbers};
 ghost use Rattle.rg_order_of_work.specs.Placing.{effect_fold};
-ghost use Rattle.rg_fraction.specs.declared.fold_stop.FoldStop.TheVariants as stop;
 ghost use Rattle.rg_cycles.specs.Basis.{IsRelationInRange};
 ghost use Rattle.rg_cycles.specs.View.{labels_of, cycle_of};
 ghost use Rattle.rg_places.specs.PointValues.{ratios_of};
@@ -30,8 +28,7 @@ pub(crate) fn effects(
     requires labels { labels_of basis.now ≡ labels lts.now }
     requires used { TellsUsedLabels lts.now used.now }
     requires columns { AreFreeColumns lts.now (cycle_of basis.now) columns.now }
-    ensures value { IfOk result (λ effects. each (effect_fold lts.now (cycle_of basis.now) (value_by columns.now)) (all_numbers (labels lts.now)) (Ok (ratios_of effects.items))) }
-    ensures wide { (w : Wide) → IsErrOf result (stop.Wide w) → each (effect_fold lts.now (cycle_of basis.now) (value_by columns.now)) (all_numbers (labels lts.now)) (Err w) }
+    ensures { Comes (each (effect_fold lts.now (cycle_of basis.now) (value_by columns.now)) (all_numbers (labels lts.now))) (λ effects. ratios_of effects.items) result }
 {
     let mut effects = Vec::new(alloc);
     for t in 0..lts.labels() {

@@ -1,15 +1,13 @@
 //! From a point to its place.
-ghost use Rattle.std.specs.Prelude.{◌≡◌, ℕ, ◌+◌, ◌<◌, length, map, drop, unsigned_abs, Ok, Err, IfOk, IsErrOf, IsTrue};
+ghost use Rattle.std.specs.Prelude.{◌≡◌, ℕ, ◌+◌, ◌<◌, length, map, drop, unsigned_abs, IfOk, IsTrue};
 ghost use Rattle.rg_refuting.specs.Refutes.{IsSeparationProblem};
 ghost use Rattle.rg_theory.specs.System.{states, labels};
-ghost use Rattle.rg_integers.specs.declared.term.Wide.{Wide};
 ghost use Rattle.rg_spanning.specs.Spanning.{IsTreeOf};
-ghost use Rattle.rg_fraction.specs.declared.fold_stop.FoldStop.TheVariants as stop;
 ghost use Rattle.rg_cycles.specs.View.{labels_of, cycle_of};
 ghost use Rattle.rg_order_of_work.specs.Rewriting.{has_start, column_count};
 ghost use Rattle.rg_order_of_work.specs.Placing.{place_fold};
 ghost use Rattle.rg_order_of_work.specs.Shown.{IsLive};
-ghost use Rattle.rg_order_of_work.specs.Fold.{ratio_of};
+ghost use Rattle.rg_order_of_work.specs.Fold.{Comes, ratio_of};
 ghost use Rattle.rg_order_of_work.specs.Meaning.{first_column};
 ghost use Rattle.rg_net.specs.Shown.{shown_place};
 ghost use Rattle.rg_places.specs.PointValues.{ratios_of, point_start, point_value, SolvesCase};
@@ -61,10 +59,9 @@ pub fn make_place(
     requires labels { labels_of basis.now ≡ labels lts.now }
     requires asked { IsSeparationProblem lts.now problem }
     requires columns { length point.now ≡ column_count lts.now (cycle_of basis.now) class }
-    ensures place { IfOk result (λ r. place_fold (setting_of lts.now tree.now basis.now class) problem (point_start class point.now) (point_value lts.now (cycle_of basis.now) class point.now) (Ok (shown_place r.place))) }
+    ensures comes { Comes (place_fold (setting_of lts.now tree.now basis.now class) problem (point_start class point.now) (point_value lts.now (cycle_of basis.now) class point.now)) (λ r. shown_place r.place) result }
     ensures tokens { IfOk result (λ r. AreTokensMade (setting_of lts.now tree.now basis.now class) problem (point_start class point.now) (point_value lts.now (cycle_of basis.now) class point.now) r.tokens.items) }
     ensures region { IfOk result (λ r. IsLive lts.now problem → SolvesCase (setting_of lts.now tree.now basis.now class) problem point.now → IsRegionPlace lts.now class r × PlaceSeparates problem r) }
-    ensures wide { (w : Wide) → IsErrOf result (stop.Wide w) → place_fold (setting_of lts.now tree.now basis.now class) problem (point_start class point.now) (point_value lts.now (cycle_of basis.now) class point.now) (Err w) }
 {
     let found = found_numbers(alloc, lts, basis, class, point)?;
     let numbers = along_tree(alloc, lts, tree.arcs(), &found)?;
@@ -83,8 +80,7 @@ fn found_numbers(
     requires labels { labels_of basis.now ≡ labels lts.now }
     requires columns { length point.now ≡ column_count lts.now (cycle_of basis.now) class }
     ensures length { IfOk result (λ found. length found.items ≡ labels lts.now + 1) }
-    ensures value { IfOk result (λ found. found_fold lts.now (cycle_of basis.now) class (point_start class point.now) (point_value lts.now (cycle_of basis.now) class point.now) (Ok (ratios_of found.items))) }
-    ensures wide { (w : Wide) → IsErrOf result (stop.Wide w) → found_fold lts.now (cycle_of basis.now) class (point_start class point.now) (point_value lts.now (cycle_of basis.now) class point.now) (Err w) }
+    ensures comes { Comes (found_fold lts.now (cycle_of basis.now) class (point_start class point.now) (point_value lts.now (cycle_of basis.now) class point.now)) (λ found. ratios_of found.items) result }
 {
     let (start, values) = parted(class, point);
     let used = used_labels(alloc, lts)?;
@@ -119,9 +115,8 @@ fn place_of(
     requires asked { IsSeparationProblem lts.now problem }
     requires found { length found.now ≡ labels lts.now + 1 }
     requires numbers { length numbers.now ≡ states lts.now }
-    ensures place { IfOk result (λ r. weights_fold lts.now class problem (ratios_of found.now) (ratios_of numbers.now) (Ok (shown_place r.place))) }
+    ensures comes { Comes (weights_fold lts.now class problem (ratios_of found.now) (ratios_of numbers.now)) (λ r. shown_place r.place) result }
     ensures tokens { IfOk result (λ r. r.tokens.items ≡ map (λ n. unsigned_abs n.top) (ratios_of numbers.now)) }
-    ensures wide { (w : Wide) → IsErrOf result (stop.Wide w) → weights_fold lts.now class problem (ratios_of found.now) (ratios_of numbers.now) (Err w) }
 {
     let taken = taken(alloc, lts, class, problem, numbers, found)?;
     let put = put(alloc, &taken, found)?;

@@ -1,9 +1,9 @@
 //! The numbers of the states.
-ghost use Rattle.std.specs.Prelude.{◌≡◌, ℕ, ◌<◌, ◌+◌, ◌∷◌, unwrap_or, unsigned_abs, pos, length, map, Ok, Err, IfOk, IsErrOf};
+ghost use Rattle.std.specs.Prelude.{◌≡◌, ℕ, ◌<◌, ◌+◌, ◌∷◌, unwrap_or, unsigned_abs, pos, length, map, Err, IfOk, IsErrOf};
 ghost use Rattle.rg_theory.specs.System.{states, labels};
 ghost use Rattle.rg_theory.specs.Tree.{IsTree};
 ghost use Rattle.rg_integers.specs.declared.term.Wide.{Wide};
-ghost use Rattle.rg_order_of_work.specs.Fold.{gives, either, each, add, whole, Ratio, ratio_of};
+ghost use Rattle.rg_order_of_work.specs.Fold.{Comes, gives, either, each, add, whole, Ratio, ratio_of};
 ghost use Rattle.rg_order_of_work.specs.Rewriting.{all_numbers};
 ghost use Rattle.rg_order_of_work.specs.Placing.{along_tree, ratio_at, negated, lesser, least_of, is_shifted, is_lifted, missing, top_at, shift_fold};
 ghost use Rattle.rg_fraction.specs.declared.fold_stop.FoldStop.TheVariants as stop;
@@ -49,8 +49,7 @@ pub(crate) fn shifted(
     numbers: Vec<Fraction>,
 ) -> Result<Vec<Fraction>, FoldStop>
     requires { length numbers.items ≡ states lts.now }
-    ensures value { IfOk result (λ shifted. shift_fold lts.now class problem (ratios_of numbers.items) (Ok (ratios_of shifted.items))) }
-    ensures wide { (w : Wide) → IsErrOf result (stop.Wide w) → shift_fold lts.now class problem (ratios_of numbers.items) (Err w) }
+    ensures { Comes (shift_fold lts.now class problem (ratios_of numbers.items)) (λ shifted. ratios_of shifted.items) result }
 {
     let moved = moved(alloc, class, numbers)?;
     lifted(alloc, lts, class, problem, moved)
@@ -59,8 +58,7 @@ pub(crate) fn shifted(
 // In a class that isn't bounded, and is plain or not pure, the numbers less the least of them, and in others the
 // numbers.
 fn moved(alloc: Global, class: Class, numbers: Vec<Fraction>) -> Result<Vec<Fraction>, FoldStop>
-    ensures value { IfOk result (λ moved. either (is_shifted class) (each (λ m. add m (negated (least_of (ratios_of numbers.items)))) (ratios_of numbers.items)) (gives (ratios_of numbers.items)) (Ok (ratios_of moved.items))) }
-    ensures wide { (w : Wide) → IsErrOf result (stop.Wide w) → either (is_shifted class) (each (λ m. add m (negated (least_of (ratios_of numbers.items)))) (ratios_of numbers.items)) (gives (ratios_of numbers.items)) (Err w) }
+    ensures { Comes (either (is_shifted class) (each (λ m. add m (negated (least_of (ratios_of numbers.items)))) (ratios_of numbers.items)) (gives (ratios_of numbers.items))) (λ moved. ratios_of moved.items) result }
 {
     if !is_shifted(class) {
         return Ok(numbers);
@@ -79,13 +77,7 @@ fn lifted(
     numbers: Vec<Fraction>,
 ) -> Result<Vec<Fraction>, FoldStop>
     requires { length numbers.items ≡ states lts.now }
-    ensures value { IfOk result (λ lifted. either (is_lifted class problem)
-        (each (λ m. add m (whole (pos (missing (unwrap_or class.marking 1) (unsigned_abs (top_at (ratios_of numbers.items) lts.now.initial))))))
-        (ratios_of numbers.items)) (gives (ratios_of numbers.items)) (Ok (ratios_of lifted.items))) }
-    ensures wide { (w : Wide) → IsErrOf result (stop.Wide w)
-        → either (is_lifted class problem) (each
-        (λ m. add m (whole (pos (missing (unwrap_or class.marking 1) (unsigned_abs (top_at (ratios_of numbers.items) lts.now.initial)))))) (ratios_of numbers.items))
-        (gives (ratios_of numbers.items)) (Err w) }
+    ensures { Comes (either (is_lifted class problem) (each (λ m. add m (whole (pos (missing (unwrap_or class.marking 1) (unsigned_abs (top_at (ratios_of numbers.items) lts.now.initial)))))) (ratios_of numbers.items)) (gives (ratios_of numbers.items))) (λ lifted. ratios_of lifted.items) result }
 {
     if !is_lifted(class, problem) {
         return Ok(numbers);
@@ -132,8 +124,7 @@ fn is_shifted(class: Class) -> bool
 
 // Each number less so much.
 fn lowered(alloc: Global, numbers: &[Fraction], by: Fraction) -> Result<Vec<Fraction>, FoldStop>
-    ensures value { IfOk result (λ lowered. each (λ m. add m (negated (ratio_of by))) (ratios_of numbers.now) (Ok (ratios_of lowered.items))) }
-    ensures wide { (w : Wide) → IsErrOf result (stop.Wide w) → each (λ m. add m (negated (ratio_of by))) (ratios_of numbers.now) (Err w) }
+    ensures { Comes (each (λ m. add m (negated (ratio_of by))) (ratios_of numbers.now)) (λ lowered. ratios_of lowered.items) result }
 {
     let mut lowered = Vec::new(alloc);
     for number in numbers {
@@ -145,8 +136,7 @@ fn lowered(alloc: Global, numbers: &[Fraction], by: Fraction) -> Result<Vec<Frac
 
 // Each number and so much.
 fn raised(alloc: Global, numbers: &[Fraction], by: Fraction) -> Result<Vec<Fraction>, FoldStop>
-    ensures value { IfOk result (λ raised. each (λ m. add m (ratio_of by)) (ratios_of numbers.now) (Ok (ratios_of raised.items))) }
-    ensures wide { (w : Wide) → IsErrOf result (stop.Wide w) → each (λ m. add m (ratio_of by)) (ratios_of numbers.now) (Err w) }
+    ensures { Comes (each (λ m. add m (ratio_of by)) (ratios_of numbers.now)) (λ raised. ratios_of raised.items) result }
 {
     let mut raised = Vec::new(alloc);
     for number in numbers {

@@ -1,15 +1,13 @@
 //! What the labels take from a place and put on it.
-ghost use Rattle.std.specs.Prelude.{◌≡◌, ℕ, ◌<◌, ◌≤◌, ◌+◌, ℤ, pos, length, map, All, Ok, Err, IfOk, IsErrOf, unsigned_abs};
+ghost use Rattle.std.specs.Prelude.{◌≡◌, ℕ, ◌<◌, ◌≤◌, ◌+◌, ℤ, pos, length, map, All, IfOk, unsigned_abs};
 ghost use Rattle.rg_theory.specs.System.{states, labels};
 ghost use Rattle.rg_refuting.specs.Refutes.{IsSeparationProblem};
 ghost use Rattle.rg_integers.specs.Range.{InRange};
 ghost use Rattle.rg_integers.specs.Sum.{number_at};
-ghost use Rattle.rg_integers.specs.declared.term.Wide.{Wide};
 ghost use Rattle.rg_fraction.specs.Fractions.{numerator_of};
-ghost use Rattle.rg_order_of_work.specs.Fold.{each, whole_sum, ratio_of};
+ghost use Rattle.rg_order_of_work.specs.Fold.{Comes, each, whole_sum, ratio_of};
 ghost use Rattle.rg_order_of_work.specs.Rewriting.{all_numbers, states_with};
 ghost use Rattle.rg_order_of_work.specs.Placing.{ratio_at, top_at, taken_by_effect, taken};
-ghost use Rattle.rg_fraction.specs.declared.fold_stop.FoldStop.TheVariants as stop;
 ghost use Rattle.rg_places.specs.PointValues.{ratios_of};
 ghost use Rattle.rg_places.specs.Steps.{taken_to_stop};
 
@@ -106,8 +104,7 @@ fn numbers_left(
 pub(crate) fn put(alloc: Global, taken: &[i128], found: &[Fraction]) -> Result<Vec<i128>, FoldStop>
     requires lengths { length taken.now ≤ length found.now }
     requires in_range { All InRange taken.now }
-    ensures value { IfOk result (λ post. each (λ u. whole_sum (number_at taken.now u) (top_at (ratios_of found.now) u)) (all_numbers (length taken.now)) (Ok post.items)) }
-    ensures wide { (w : Wide) → IsErrOf result (stop.Wide w) → each (λ u. whole_sum (number_at taken.now u) (top_at (ratios_of found.now) u)) (all_numbers (length taken.now)) (Err w) }
+    ensures { Comes (each (λ u. whole_sum (number_at taken.now u) (top_at (ratios_of found.now) u)) (all_numbers (length taken.now))) (λ post. post.items) result }
 {
     let mut put = Vec::new(alloc);
     for (u, &pre) in taken.iter().enumerate() {

@@ -1,10 +1,8 @@
 //! Fractions without denominators.
-ghost use Rattle.std.specs.Prelude.{◌≡◌, ◌||◌, is_some, unwrap_or, pos, Ok, Err, IfOk, IsErrOf};
+ghost use Rattle.std.specs.Prelude.{◌≡◌, ◌||◌, is_some, unwrap_or, pos};
 ghost use Rattle.rg_integers.specs.Range.{InRange};
-ghost use Rattle.rg_integers.specs.declared.term.Wide.{Wide};
-ghost use Rattle.rg_order_of_work.specs.Fold.{gives, either, each, mul, whole};
+ghost use Rattle.rg_order_of_work.specs.Fold.{Comes, gives, either, each, mul, whole};
 ghost use Rattle.rg_order_of_work.specs.Placing.{made_whole};
-ghost use Rattle.rg_fraction.specs.declared.fold_stop.FoldStop.TheVariants as stop;
 ghost use Rattle.rg_places.specs.PointValues.{ratios_of};
 
 use rg_case_parts::{common_denominator, products};
@@ -19,8 +17,7 @@ pub(crate) fn made_whole(
     class: Class,
     numbers: Vec<Fraction>,
 ) -> Result<Vec<Fraction>, FoldStop>
-    ensures value { IfOk result (λ found. made_whole class (ratios_of numbers.items) (Ok (ratios_of found.items))) }
-    ensures wide { (w : Wide) → IsErrOf result (stop.Wide w) → made_whole class (ratios_of numbers.items) (Err w) }
+    ensures { Comes (made_whole class (ratios_of numbers.items)) (λ found. ratios_of found.items) result }
 {
     if has_whole_points(class) {
         return Ok(numbers);
@@ -36,8 +33,7 @@ fn times_marking(
     class: Class,
     numbers: Vec<Fraction>,
 ) -> Result<Vec<Fraction>, FoldStop>
-    ensures value { IfOk result (λ found. either (is_some class.marking) (each (λ r. mul r (whole (pos (unwrap_or class.marking 1)))) (ratios_of numbers.items)) (gives (ratios_of numbers.items)) (Ok (ratios_of found.items))) }
-    ensures wide { (w : Wide) → IsErrOf result (stop.Wide w) → either (is_some class.marking) (each (λ r. mul r (whole (pos (unwrap_or class.marking 1)))) (ratios_of numbers.items)) (gives (ratios_of numbers.items)) (Err w) }
+    ensures { Comes (either (is_some class.marking) (each (λ r. mul r (whole (pos (unwrap_or class.marking 1)))) (ratios_of numbers.items)) (gives (ratios_of numbers.items))) (λ found. ratios_of found.items) result }
 {
     match class.marking {
         Some(n) => products(alloc, &numbers, widened(n)),

@@ -11,7 +11,7 @@ use Rattle.rg_fraction.specs.Fractions.{numerator_of, denominator_of, IsValue, I
 use Rattle.rg_order_of_work.specs.Setting.{Setting, CaseSetting}
 use Rattle.rg_order_of_work.proofs.FoldLemmas.{mul_step}
 use Rattle.rg_order_of_work.specs.Fold.{shown_result, ratio_of, each, Ratio, whole, mul}
-use Rattle.rg_order_of_work.specs.Rewriting.{start_of, count_of, substitute_fold, columns_of, Scaled, scaled_fold, terms_fold, KeptRow, IsDivided, row_fold, names_of, split_forms, form_fold, column_count, CaseSystem, IsIdle, system_fold}
+use Rattle.rg_order_of_work.specs.Rewriting.{start_of, count_of, substitute_fold, columns_of, Scaled, scaled_fold, terms_fold, KeptRow, divided, row_fold, names_of, split_forms, form_fold, column_count, CaseSystem, IsIdle, system_fold}
 use Rattle.rg_linear.specs.Firsts.{KeepsFirsts}
 use Rattle.rg_rows.specs.View.{fold_of}
 use Rattle.rg_rows.proofs.Counted.{substitute_same}
@@ -62,8 +62,9 @@ module _ (s : Setting) (name : RowName) (e : Expression) where
     pub row_unmade : (w : Wide) → mul (whole e.constant) (whole scaled.multiple) (Err w) → row_fold s name e (Err w)
     row_unmade w h = inr (scaled, terms, inl h)
 
-    pub row_made : (constant : Ratio) (out : KeptRow) → mul (whole e.constant) (whole scaled.multiple) (Ok constant) → out.name ≡ name → IsDivided scaled constant.top out → row_fold s name e (Ok out)
-    row_made constant out h same is = (scaled, terms, (constant, h, (same, is)))
+    pub row_made : (constant : Ratio) → mul (whole e.constant) (whole scaled.multiple) (Ok constant) → (r : Result KeptRow Wide) → divided name scaled constant.top r → row_fold s name e r
+    row_made constant h (Ok out) is = (scaled, terms, (constant, h, is))
+    row_made constant h (Err w) is = absurd is
 
 -- ---- the rows of the code
 

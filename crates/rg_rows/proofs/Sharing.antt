@@ -1,6 +1,6 @@
 -- The rows and forms that all problems share, in a case of each of them.
 use Rattle.std.proofs.Common.{◌≡◌, ℕ, zero, suc, ◌<◌, is_some, Bool, true, false, if◌then◌else◌, Bor, Option, Some, None, List, [], ◌∷◌, ◌++◌, map, length, All, Result, Ok, Err, ap, refl, subst, sym, ◌∙◌, arith}
-use Rattle.std.specs.Prelude.{slice_get, slice_index_or, IfOk, IfSome, IsErrOf}
+use Rattle.std.specs.Prelude.{slice_get, slice_index_or, IfOk, IfSome}
 use Rattle.std.specs.Slice.{IsGetResult}
 use Rattle.std.proofs.lemmas.List.{get_or-map}
 use Rattle.std.specs.Arc.{arc_slice_items}
@@ -10,12 +10,11 @@ use Rattle.rg_theory.specs.declared.Problem.TheVariants.{Event, States}
 use Rattle.rg_theory.specs.System.{System, states, labels}
 use Rattle.rg_integers.specs.declared.term.Wide.{Wide}
 use Rattle.rg_fraction.specs.declared.fold_stop.FoldStop.{FoldStop}
-use Rattle.rg_fraction.specs.declared.fold_stop.FoldStop.TheVariants as stop
 use Rattle.rg_refuting.specs.Expression.{Expression, plus, minus}
 use Rattle.rg_refuting.specs.Row.{row_expression, shared_expression}
 use Rattle.rg_refuting.specs.declared.RowName.{RowName}
 use Rattle.rg_order_of_work.specs.Setting.{Setting, CaseSetting, setting_at}
-use Rattle.rg_order_of_work.specs.Fold.{shown_result}
+use Rattle.rg_order_of_work.specs.Fold.{Comes, shown_result}
 use Rattle.rg_order_of_work.specs.Rewriting.{has_start, column_count, terms_fold, row_fold}
 use Rattle.rg_case_parts.specs.declared.scaled.Scaled.{Scaled}
 use Rattle.rg_case_parts.specs.WholeNumbers.{scaled_of}
@@ -74,26 +73,24 @@ terms_within lts class kind.Makes i lt = absurd (omega arith)
 
 module _ (it : Setting) (name : RowName) (e : Expression) (is : e ≡ shared_expression it.lts it.class [] name) (n : ℕ) (same : labels it.lts ≡ n) (columns : Columns) (are : AreColumns it.lts it.class columns) where
   pub row_shared : (result : Result CaseRow FoldStop) (w : Result CaseRow Wide) → result ≡ or_wide w
-      → IfOk result (λ r. (lts : System) (class : Class) → labels lts ≡ n → AreColumns lts class columns → row_fold (setting_at lts it.tree it.basis class) name e (Ok (kept_row r)))
+      → ((lts : System) (class : Class) → labels lts ≡ n → AreColumns lts class columns → Comes (row_fold (setting_at lts it.tree it.basis class) name e) kept_row result)
       → IfOk result (λ r. (lts : System) (class : Class) → labels lts ≡ n → AreColumns lts class columns → length (arc_slice_items r.coeffs) ≡ column_count lts it.basis class)
-      → ((x : Wide) → IsErrOf result (stop.Wide x) → (lts : System) (class : Class) → labels lts ≡ n → AreColumns lts class columns → row_fold (setting_at lts it.tree it.basis class) name e (Err x))
       → IsSharedRow it name w
-  row_shared result (Ok r) so value one_each wide = (
-    subst (λ x. row_fold it name x (Ok (kept_row r))) is (subst (λ y. IfOk y (λ r. (lts : System) (class : Class) → labels lts ≡ n → AreColumns lts class columns → row_fold (setting_at lts it.tree it.basis class) name e (Ok (kept_row r)))) so value it.lts it.class same are),
+  row_shared result (Ok r) so comes one_each = (
+    subst (λ x. row_fold it name x (Ok (kept_row r))) is (subst (Comes (row_fold it name e) kept_row) so (comes it.lts it.class same are)),
     subst (λ y. IfOk y (λ r. (lts : System) (class : Class) → labels lts ≡ n → AreColumns lts class columns → length (arc_slice_items r.coeffs) ≡ column_count lts it.basis class)) so one_each it.lts it.class same are,
   )
-  row_shared result (Err x) so value one_each wide = (subst (λ y. row_fold it name y (Err x)) is (wide x so it.lts it.class same are), tt)
+  row_shared result (Err x) so comes one_each = (subst (λ y. row_fold it name y (Err x)) is (subst (Comes (row_fold it name e) kept_row) so (comes it.lts it.class same are)), tt)
 
   pub terms_shared : (result : Result Scaled FoldStop) (w : Result Scaled Wide) → result ≡ or_wide w
-      → IfOk result (λ s. (lts : System) (class : Class) → labels lts ≡ n → AreColumns lts class columns → terms_fold (setting_at lts it.tree it.basis class) e.terms (Ok (scaled_of s)))
+      → ((lts : System) (class : Class) → labels lts ≡ n → AreColumns lts class columns → Comes (terms_fold (setting_at lts it.tree it.basis class) e.terms) scaled_of result)
       → IfOk result (λ s. (lts : System) (class : Class) → labels lts ≡ n → AreColumns lts class columns → length s.numbers.items ≡ column_count lts it.basis class)
-      → ((x : Wide) → IsErrOf result (stop.Wide x) → (lts : System) (class : Class) → labels lts ≡ n → AreColumns lts class columns → terms_fold (setting_at lts it.tree it.basis class) e.terms (Err x))
       → AreSharedTerms it name w
-  terms_shared result (Ok s) so value one_each wide = (
-    subst (λ (x : Expression). terms_fold it x.terms (Ok (scaled_of s))) is (subst (λ y. IfOk y (λ s. (lts : System) (class : Class) → labels lts ≡ n → AreColumns lts class columns → terms_fold (setting_at lts it.tree it.basis class) e.terms (Ok (scaled_of s)))) so value it.lts it.class same are),
+  terms_shared result (Ok s) so comes one_each = (
+    subst (λ (x : Expression). terms_fold it x.terms (Ok (scaled_of s))) is (subst (Comes (terms_fold it e.terms) scaled_of) so (comes it.lts it.class same are)),
     subst (λ y. IfOk y (λ s. (lts : System) (class : Class) → labels lts ≡ n → AreColumns lts class columns → length s.numbers.items ≡ column_count lts it.basis class)) so one_each it.lts it.class same are,
   )
-  terms_shared result (Err x) so value one_each wide = (subst (λ (y : Expression). terms_fold it y.terms (Err x)) is (wide x so it.lts it.class same are), tt)
+  terms_shared result (Err x) so comes one_each = (subst (λ (y : Expression). terms_fold it y.terms (Err x)) is (subst (Comes (terms_fold it e.terms) scaled_of) so (comes it.lts it.class same are)), tt)
 
 -- what holds of each item and its index holds with one item more
 pub each_pushed : {T : Type 0} (P : ℕ → T → Type 0) (xs : List T) (x : T) → ((i : ℕ) (y : T) → slice_get xs i ≡ Some y → P i y) → P (length xs) x → (i : ℕ) (y : T) → slice_get (xs ++ x ∷ []) i ≡ Some y → P i y

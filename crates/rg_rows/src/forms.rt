@@ -1,14 +1,12 @@
 //! The forms of a case.
-ghost use Rattle.std.specs.Prelude.{◌≡◌, ◌⊎◌, ℕ, ◌<◌, [], length, map, All, Contains, slice_index_or, ℤ, pos, ◌*ℤ◌, Ok, Err, IfOk, IsErrOf, IsTrue};
+ghost use Rattle.std.specs.Prelude.{◌≡◌, ◌⊎◌, ℕ, ◌<◌, [], length, map, All, Contains, slice_index_or, ℤ, pos, ◌*ℤ◌, Ok, option_map, IfOk, IsTrue};
 ghost use Rattle.std.specs.Arc.{arc_slice_items};
 ghost use Rattle.rg_integers.specs.Range.{InRange};
 ghost use Rattle.rg_theory.specs.System.{states, labels};
-ghost use Rattle.rg_integers.specs.declared.term.Wide.{Wide};
-ghost use Rattle.rg_fraction.specs.declared.fold_stop.FoldStop.TheVariants as stop;
 ghost use Rattle.rg_linear.specs.Cycle.{IsZeroVector};
 ghost use Rattle.rg_spanning.specs.Spanning.{IsTreeOf};
 ghost use Rattle.rg_cycles.specs.View.{labels_of, cycle_of};
-ghost use Rattle.rg_order_of_work.specs.Fold.{each};
+ghost use Rattle.rg_order_of_work.specs.Fold.{Comes, each};
 ghost use Rattle.rg_order_of_work.specs.Rewriting.{column_count, terms_fold, form_fold, form_low, form_high, splits_start};
 ghost use Rattle.rg_case_parts.specs.SettingViews.{setting_of, case_of};
 ghost use Rattle.rg_case_parts.specs.WholeNumbers.{scaled_of};
@@ -57,10 +55,9 @@ pub(crate) fn case_forms(
     requires one_each { length rows.now ≡ length names.now }
     requires indices { length indices.now ≡ length rows.now }
     requires start { IsTrue (splits_start case.class case.problem) → Contains names.now (row_name.Tokens lts.now.initial) }
-    ensures value { IfOk result (λ v. each (form_fold (setting_of lts.now tree.now basis.now case.class)) (case_forms case.class case.problem names.now) (Ok (map linear_form v.items))) }
+    ensures comes { Comes (each (form_fold (setting_of lts.now tree.now basis.now case.class)) (case_forms case.class case.problem names.now)) (λ v. map linear_form v.items) result }
     ensures forms { IfOk result (λ v. map split_of v.items ≡ case_forms case.class case.problem names.now) }
     ensures made { IfOk result (λ v. All (IsMade lts.now case.class (column_count lts.now (cycle_of basis.now) case.class) (map kept_row (map row_in rows.now)) indices.now) v.items) }
-    ensures wide { (w : Wide) → IsErrOf result (stop.Wide w) → each (form_fold (setting_of lts.now tree.now basis.now case.class)) (case_forms case.class case.problem names.now) (Err w) }
 {
     let mut forms = forms(alloc, lts, tree, basis, common, case, names, rows, indices)?;
     if splits_start(case.class, case.problem) {
@@ -100,10 +97,9 @@ fn start_form(
     requires one_each { length rows.now ≡ length names.now }
     requires indices { length indices.now ≡ length rows.now }
     requires start { Contains names.now (row_name.Tokens lts.now.initial) }
-    ensures value { IfOk result (λ f. form_fold (setting_of lts.now tree.now basis.now case.class) split_form.Start (Ok (linear_form f))) }
+    ensures comes { Comes (form_fold (setting_of lts.now tree.now basis.now case.class) split_form.Start) linear_form result }
     ensures form { IfOk result (λ f. split_of f ≡ split_form.Start) }
     ensures made { IfOk result (λ f. IsMade lts.now case.class (column_count lts.now (cycle_of basis.now) case.class) (map kept_row (map row_in rows.now)) indices.now f) }
-    ensures wide { (w : Wide) → IsErrOf result (stop.Wide w) → form_fold (setting_of lts.now tree.now basis.now case.class) split_form.Start (Err w) }
 {
     let name = RowName::Tokens(lts.initial());
     let i = index_of(names, name);
@@ -163,10 +159,9 @@ fn forms(
     requires rows { each (fold_of (case_of lts.now tree.now basis.now case.class case.problem case.number)) names.now (Ok (map kept_row (map row_in rows.now))) }
     requires one_each { length rows.now ≡ length names.now }
     requires indices { length indices.now ≡ length rows.now }
-    ensures value { IfOk result (λ v. each (form_fold (setting_of lts.now tree.now basis.now case.class)) (forms_in case.class names.now) (Ok (map linear_form v.items))) }
+    ensures comes { Comes (each (form_fold (setting_of lts.now tree.now basis.now case.class)) (forms_in case.class names.now)) (λ v. map linear_form v.items) result }
     ensures forms { IfOk result (λ v. map split_of v.items ≡ forms_in case.class names.now) }
     ensures made { IfOk result (λ v. All (IsMade lts.now case.class (column_count lts.now (cycle_of basis.now) case.class) (map kept_row (map row_in rows.now)) indices.now) v.items) }
-    ensures wide { (w : Wide) → IsErrOf result (stop.Wide w) → each (form_fold (setting_of lts.now tree.now basis.now case.class)) (forms_in case.class names.now) (Err w) }
 {
     let mut forms = Vec::new(alloc);
     for (i, &name) in names.iter().enumerate() {
@@ -201,9 +196,8 @@ fn terms_in_case(
     requires labels { labels_of basis.now ≡ labels lts.now }
     requires common { IsCommonOf (setting_of lts.now tree.now basis.now case.class) common.now }
     requires within { All (TermNamesStateBelow (states lts.now)) (row_expression lts.now case.class case.problem case.number [] name).terms }
-    ensures value { IfOk result (λ s. terms_fold (setting_of lts.now tree.now basis.now case.class) (row_expression lts.now case.class case.problem case.number [] name).terms (Ok (scaled_of s))) }
+    ensures comes { Comes (terms_fold (setting_of lts.now tree.now basis.now case.class) (row_expression lts.now case.class case.problem case.number [] name).terms) scaled_of result }
     ensures one_each { IfOk result (λ s. length s.numbers.items ≡ column_count lts.now (cycle_of basis.now) case.class) }
-    ensures wide { (w : Wide) → IsErrOf result (stop.Wide w) → terms_fold (setting_of lts.now tree.now basis.now case.class) (row_expression lts.now case.class case.problem case.number [] name).terms (Err w) }
 {
     match common.terms(name) {
         Some(Ok(scaled)) => Ok(copied(alloc, scaled)?),

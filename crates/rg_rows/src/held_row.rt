@@ -1,9 +1,7 @@
 //! A row of a case, its own or one that all problems share.
-ghost use Rattle.std.specs.Prelude.{◌≡◌, [], length, All, Ok, Err, IfOk, IsErrOf};
+ghost use Rattle.std.specs.Prelude.{◌≡◌, [], length, map, All, IfOk};
 ghost use Rattle.std.specs.Arc.{arc_slice_items};
 ghost use Rattle.rg_theory.specs.System.{states, labels};
-ghost use Rattle.rg_integers.specs.declared.term.Wide.{Wide};
-ghost use Rattle.rg_fraction.specs.declared.fold_stop.FoldStop.TheVariants as stop;
 ghost use Rattle.rg_refuting.specs.Row.{row_expression};
 ghost use Rattle.rg_spanning.specs.Spanning.{IsTreeOf};
 ghost use Rattle.rg_order_of_work.specs.Rewriting.{column_count};
@@ -12,6 +10,7 @@ ghost use Rattle.rg_case_parts.specs.SettingViews.{setting_of, case_of};
 ghost use Rattle.rg_case_parts.specs.StatesNamed.{TermNamesStateBelow};
 ghost use Rattle.rg_rows.specs.View.{kept_row, row_in, fold_of};
 ghost use Rattle.rg_rows.specs.Sharing.{IsCommonOf};
+ghost use Rattle.rg_order_of_work.specs.Fold.{Comes};
 
 use crate::case_row::CaseRow;
 use crate::common::Common;
@@ -57,9 +56,8 @@ pub(crate) fn row_in_case<'a>(
     requires labels { labels_of basis.now ≡ labels lts.now }
     requires common { IsCommonOf (setting_of lts.now tree.now basis.now case.class) common.now }
     requires within { All (TermNamesStateBelow (states lts.now)) (row_expression lts.now case.class case.problem case.number [] name).terms }
-    ensures value { IfOk result (λ r. fold_of (case_of lts.now tree.now basis.now case.class case.problem case.number) name (Ok (kept_row (row_in r)))) }
+    ensures comes { Comes (fold_of (case_of lts.now tree.now basis.now case.class case.problem case.number) name) (λ r. kept_row (row_in r)) result }
     ensures one_each { IfOk result (λ r. length (arc_slice_items (row_in r).coeffs) ≡ column_count lts.now (cycle_of basis.now) case.class) }
-    ensures wide { (w : Wide) → IsErrOf result (stop.Wide w) → fold_of (case_of lts.now tree.now basis.now case.class case.problem case.number) name (Err w) }
 {
     match common.row(name) {
         Some(Ok(row)) => Ok(HeldRow::Common(row)),

@@ -9,7 +9,7 @@ ghost use Rattle.rg_refuting.specs.Row.{cases_of};
 ghost use Rattle.rg_spanning.specs.Spanning.{IsTreeOf};
 ghost use Rattle.rg_order_of_work.specs.Rewriting.{CaseSystem, column_count, split_forms, system_fold};
 ghost use Rattle.rg_order_of_work.specs.Chords.{IsBasis};
-ghost use Rattle.rg_order_of_work.specs.Fold.{each};
+ghost use Rattle.rg_order_of_work.specs.Fold.{Comes, each};
 ghost use Rattle.rg_cycles.specs.View.{labels_of, cycle_of};
 ghost use Rattle.rg_fraction.specs.declared.fold_stop.FoldStop.TheVariants as stop;
 ghost use Rattle.rg_rows.specs.View.{kept_row, row_in, AreNamesWithin, fold_of};
@@ -144,10 +144,9 @@ fn rows<'a>(
     requires labels { labels_of basis.now ≡ labels lts.now }
     requires common { IsCommonOf (setting_of lts.now tree.now basis.now case.class) common.now }
     requires names { AreNamesWithin lts.now case.class case.problem case.number names.now }
-    ensures value { IfOk result (λ v. each (fold_of (case_of lts.now tree.now basis.now case.class case.problem case.number)) names.now (Ok (map kept_row (map row_in v.items)))) }
+    ensures comes { Comes (each (fold_of (case_of lts.now tree.now basis.now case.class case.problem case.number)) names.now) (λ v. map kept_row (map row_in v.items)) result }
     ensures one_each { IfOk result (λ v. All (λ r. length (arc_slice_items r.coeffs) ≡ column_count lts.now (cycle_of basis.now) case.class) (map row_in v.items)) }
     ensures few { IfOk result (λ v. length v.items ≡ length names.now) }
-    ensures wide { (w : Wide) → IsErrOf result (stop.Wide w) → each (fold_of (case_of lts.now tree.now basis.now case.class case.problem case.number)) names.now (Err w) }
 {
     let mut rows = Vec::new(alloc);
     for &name in names {

@@ -1,19 +1,20 @@
 //! A named row, written over the columns.
-ghost use Rattle.std.specs.Prelude.{◌≡◌, ◌≤◌, ℕ, ◌<◌, ◌<ℤ◌, ◌≤ℤ◌, length, All, ◌++◌, ◌∷◌, [], Ok, Err, IfOk, IsErrOf};
+ghost use Rattle.std.specs.Prelude.{◌≡◌, ◌≤◌, ℕ, ◌<◌, ◌<ℤ◌, pos, ◌≤ℤ◌, map, length, All, ◌++◌, ◌∷◌, [], IfOk, unsigned_abs};
 ghost use Rattle.std.specs.Arc.{arc_slice_items};
 ghost use Rattle.rg_integers.specs.Range.{InRange};
 ghost use Rattle.rg_theory.specs.declared.Class.{Class};
 ghost use Rattle.rg_theory.specs.System.{System, labels};
-ghost use Rattle.rg_integers.specs.declared.term.Wide.{Wide};
-ghost use Rattle.rg_order_of_work.specs.Rewriting.{terms_fold, row_fold, IsDivided, column_count};
+ghost use Rattle.rg_fraction.specs.Rows.{IsRowGcd};
+ghost use Rattle.rg_spanning.specs.Spanning.{IsTreeOf};
+ghost use Rattle.rg_order_of_work.specs.Rewriting.{terms_fold, row_fold, divided, column_count};
 ghost use Rattle.rg_cycles.specs.View.{labels_of, cycle_of};
-ghost use Rattle.rg_fraction.specs.declared.fold_stop.FoldStop.TheVariants as stop;
 ghost use Rattle.rg_reasons.specs.Sums.{expression_of};
 ghost use Rattle.rg_case_parts.specs.SettingViews.{setting_of};
 ghost use Rattle.rg_case_parts.specs.StatesNamed.{TermNamesStateBelow};
 ghost use Rattle.rg_case_parts.specs.WholeNumbers.{scaled_of};
 ghost use Rattle.rg_case_parts.specs.ColumnViews.{AreColumns};
 ghost use Rattle.rg_rows.specs.View.{kept_row};
+ghost use Rattle.rg_order_of_work.specs.Fold.{Comes};
 
 use crate::case_row::CaseRow;
 use crate::counts::counts;
@@ -40,9 +41,8 @@ pub(crate) fn row(
     requires labels { tree.now.labels ≡ labels_of basis.now }
     requires columns { length columns.now.used.items ≡ labels_of basis.now }
     requires within { All (TermNamesStateBelow tree.now.states) (expression_of expression.now).terms }
-    ensures value { IfOk result (λ r. (lts : System) (class : Class) → labels lts ≡ labels_of basis.now → AreColumns lts class columns.now → row_fold (setting_of lts tree.now basis.now class) name (expression_of expression.now) (Ok (kept_row r))) }
+    ensures comes { (lts : System) (class : Class) → labels lts ≡ labels_of basis.now → AreColumns lts class columns.now → Comes (row_fold (setting_of lts tree.now basis.now class) name (expression_of expression.now)) kept_row result }
     ensures one_each { IfOk result (λ r. (lts : System) (class : Class) → labels lts ≡ labels_of basis.now → AreColumns lts class columns.now → length (arc_slice_items r.coeffs) ≡ column_count lts (cycle_of basis.now) class) }
-    ensures wide { (w : Wide) → IsErrOf result (stop.Wide w) → (lts : System) (class : Class) → labels lts ≡ labels_of basis.now → AreColumns lts class columns.now → row_fold (setting_of lts tree.now basis.now class) name (expression_of expression.now) (Err w) }
 {
     let scaled = over_columns(alloc, tree, basis, columns, expression)?;
     let multiple = Fraction::new(scaled.multiple, 1);
@@ -61,9 +61,8 @@ pub(crate) fn over_columns(
     requires labels { tree.now.labels ≡ labels_of basis.now }
     requires columns { length columns.now.used.items ≡ labels_of basis.now }
     requires within { All (TermNamesStateBelow tree.now.states) (expression_of expression.now).terms }
-    ensures value { IfOk result (λ s. (lts : System) (class : Class) → labels lts ≡ labels_of basis.now → AreColumns lts class columns.now → terms_fold (setting_of lts tree.now basis.now class) (expression_of expression.now).terms (Ok (scaled_of s))) }
+    ensures comes { (lts : System) (class : Class) → labels lts ≡ labels_of basis.now → AreColumns lts class columns.now → Comes (terms_fold (setting_of lts tree.now basis.now class) (expression_of expression.now).terms) scaled_of result }
     ensures one_each { IfOk result (λ s. (lts : System) (class : Class) → labels lts ≡ labels_of basis.now → AreColumns lts class columns.now → length s.numbers.items ≡ column_count lts (cycle_of basis.now) class) }
-    ensures wide { (w : Wide) → IsErrOf result (stop.Wide w) → (lts : System) (class : Class) → labels lts ≡ labels_of basis.now → AreColumns lts class columns.now → terms_fold (setting_of lts tree.now basis.now class) (expression_of expression.now).terms (Err w) }
 {
     let labels = columns.used.len() as u32;
     let counts = counts(alloc, tree, labels, expression)?;
@@ -80,9 +79,8 @@ fn divided(
     constant: i128,
 ) -> Result<CaseRow, FoldStop>
     requires { InRange constant }
-    ensures value { IfOk result (λ r. (r.name ≡ name) × IsDivided (scaled_of scaled) constant (kept_row r)) }
+    ensures comes { Comes (divided name (scaled_of scaled) constant) kept_row result }
     ensures one_each { IfOk result (λ r. length (arc_slice_items r.coeffs) ≡ length scaled.numbers.items) }
-    ensures wide { (w : Wide) → IsErrOf result (stop.Wide w) → ⊥ }
 {
     let multiple = scaled.multiple;
     let mut numbers = scaled.numbers;

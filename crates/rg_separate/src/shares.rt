@@ -1,9 +1,7 @@
 //! The named rows of a leaf with their multipliers.
-ghost use Rattle.std.specs.Prelude.{◌≡◌, ◌+◌, ◌<◌, ◌≤ℤ◌, pos, length, map, All, Ok, Err, IfOk, IsErrOf};
-ghost use Rattle.rg_integers.specs.declared.term.Wide.{Wide};
-ghost use Rattle.rg_fraction.specs.declared.fold_stop.FoldStop.TheVariants as stop;
+ghost use Rattle.std.specs.Prelude.{◌≡◌, ◌+◌, ◌<◌, ◌≤ℤ◌, pos, length, map, All, IfOk};
 ghost use Rattle.rg_integers.specs.Range.{InRange};
-ghost use Rattle.rg_order_of_work.specs.Fold.{whole, ratio_of, shown_result};
+ghost use Rattle.rg_order_of_work.specs.Fold.{Comes, whole, ratio_of, shown_result};
 ghost use Rattle.rg_order_of_work.specs.Rewriting.{CaseSystem};
 ghost use Rattle.rg_order_of_work.specs.Spreading.{share_fold, name_of, split_factor, factor_of};
 ghost use Rattle.rg_branch.specs.View.{weight_of};
@@ -32,8 +30,7 @@ pub(crate) fn shares(
     requires rows { All (λ w. w.row < length named.now.system.rows + length above.now) (map weight_of weights.now) }
     requires not_negative { All (λ w. pos 0 ≤ℤ w.multiplier) (map weight_of weights.now) }
     ensures one_each { IfOk result (λ v. length v.items ≡ length weights.now) }
-    ensures shares { IfOk result (λ v. SharesFold named.now above.now (map weight_of weights.now) (Ok (map share_of v.items))) }
-    ensures wide { (w : Wide) → IsErrOf result (stop.Wide w) → SharesFold named.now above.now (map weight_of weights.now) (Err w) }
+    ensures comes { Comes (SharesFold named.now above.now (map weight_of weights.now)) (λ v. map share_of v.items) result }
 {
     let mut shares = Vec::new(alloc);
     for &(row, multiplier) in weights {

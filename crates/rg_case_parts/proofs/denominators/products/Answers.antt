@@ -10,18 +10,16 @@ use Rattle.rg_order_of_work.proofs.Items.{map_push}
 use Rattle.rg_order_of_work.proofs.Items.{item_next, item_fails, items_end}
 use Rattle.rg_case_parts.proofs.denominators.products.Goals as goal
 
-pub returns-in_err-mul-clause-wide : goal.returns-in_err-mul-clause-wide
-returns-in_err-mul-clause-wide c = λ w e.
+pub returns-in_err-mul : goal.returns-in_err-mul
+returns-in_err-mul c =
     let same : c.from_residual.result ≡ Err (stop.Wide c.in_err-mul.field-0.0) = search rules in
-    let is : c.in_err-mul.field-0.0 ≡ w = cc in
     let n = cast_signed w128 (cast_unsigned w128 c.args.number) in
     let item = c.fraction-item.result in
     let ratios = map ratio_of c.args.fractions.now in
     let step = subst (λ g. mul (ratio_of item) g (shown_result ratio_of c.mul.result)) (whole_is c.new-factor.result n c.new-factor.ensures) (mul_step item c.new-factor.result c.mul.result c.mul.ensures.product) in
     let number = get_or-map ratio_of c.args.fractions.now c.loop-fraction.fraction-index item (ratio_of item) c.loop-fraction-test.true ∙ ap ratio_of (sym c.fraction-item.is) in
     let made = subst (λ f. mul f (whole n) (Err c.in_err-mul.field-0.0)) (sym number) (rw c.in_err-mul.was at step) in
-    subst (λ v. each (λ f. mul f (whole c.args.number)) ratios (Err v)) is
-    (subst (λ z. each (λ f. mul f (whole z)) ratios (Err c.in_err-mul.field-0.0)) (back c.args.number c.requires)
+    rw same (subst (λ z. each (λ f. mul f (whole z)) ratios (Err c.in_err-mul.field-0.0)) (back c.args.number c.requires)
     (item_fails (λ f. mul f (whole n)) ratios c.loop-fraction.fraction-index (ratio_of item) (map ratio_of c.loop-fraction.products.items) c.loop-fraction.invariant (simp length-map c.loop-fraction-test.true) c.in_err-mul.field-0.0 made))
 
 pub loop-fraction-preserved : goal.loop-fraction-preserved
@@ -36,8 +34,8 @@ loop-fraction-preserved c =
     (simp length-map c.loop-fraction-test.true) (ratio_of c.in_ok-mul.field-0)
     (subst (λ f. mul f (whole n) (Ok (ratio_of c.in_ok-mul.field-0))) (sym number) (rw c.in_ok-mul.was at step)))
 
-pub returns-clause-value : goal.returns-clause-value
-returns-clause-value c =
+pub returns : goal.returns
+returns c =
     let n = cast_signed w128 (cast_unsigned w128 c.args.number) in
     let ratios = map ratio_of c.args.fractions.now in
     let made = map ratio_of c.loop-fraction.products.items in

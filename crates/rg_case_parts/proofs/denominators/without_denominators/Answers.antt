@@ -9,27 +9,27 @@ use Rattle.rg_order_of_work.specs.Fold.{Ratio, ratio_of, whole, mul, each, multi
 use Rattle.rg_order_of_work.specs.Rewriting.{scaled_fold}
 use Rattle.rg_fraction.specs.Fractions.{numerator_of}
 use Rattle.rg_fraction.specs.declared.fold_stop.FoldStop.TheVariants as stop
+use Rattle.rg_order_of_work.proofs.Comes.{comes_unless}
+use Rattle.rg_case_parts.specs.WholeNumbers.{scaled_of}
 use Rattle.rg_order_of_work.proofs.Items.{map_push}
 use Rattle.rg_case_parts.proofs.Multiples.{bottoms, tops}
 use Rattle.rg_order_of_work.proofs.Items.{each_length}
 use Rattle.rg_case_parts.proofs.Multiples.{scaled_unmultiplied, scaled_unmade, scaled_made}
 use Rattle.rg_case_parts.proofs.denominators.without_denominators.Goals as goal
 
-pub returns-in_err-multiple-clause-wide : goal.returns-in_err-multiple-clause-wide
-returns-in_err-multiple-clause-wide c = λ w e.
+pub returns-in_err-multiple-clause-comes : goal.returns-in_err-multiple-clause-comes
+returns-in_err-multiple-clause-comes c =
     let same : c.from_residual.result ≡ Err (stop.Wide c.in_err-multiple.field-0.0) = search rules in
-    let is : c.in_err-multiple.field-0.0 ≡ w = cc in
     let ratios = map ratio_of c.args.fractions.now in
-    scaled_unmultiplied ratios w (subst (λ v. multiple_of_all (map (λ (r : Ratio). r.bottom) ratios) (Err v)) is (subst (λ l. multiple_of_all l (Err c.in_err-multiple.field-0.0)) (sym (bottoms c.args.fractions.now)) c.in_err-multiple.ensures.value))
+    rw same (scaled_unmultiplied ratios c.in_err-multiple.field-0.0 (subst (λ l. multiple_of_all l (Err c.in_err-multiple.field-0.0)) (sym (bottoms c.args.fractions.now)) c.in_err-multiple.ensures.value))
 
-pub returns-in_err-products-clause-wide : goal.returns-in_err-products-clause-wide
-returns-in_err-products-clause-wide c = λ w e.
+pub returns-in_err-products-clause-comes : goal.returns-in_err-products-clause-comes
+returns-in_err-products-clause-comes c =
     let same : c.from_residual-in_err-products.result ≡ Err c.in_err-products.field-0.0 = search rules in
-    let is : c.in_err-products.field-0.0 ≡ stop.Wide w = cc in
     let ratios = map ratio_of c.args.fractions.now in
     let m = c.in_ok-multiple.multiple in
     let multiple = subst (λ l. multiple_of_all l (Ok m)) (sym (bottoms c.args.fractions.now)) c.in_ok-multiple.ensures.value in
-    scaled_unmade ratios m multiple w (subst (λ z. each (λ f. mul f (whole z)) ratios (Err w)) (back m c.in_ok-multiple.ensures.in_range) (c.in_err-products.ensures.wide w (ap (λ x. Err x) is)))
+    rw same (comes_unless (scaled_fold ratios) scaled_of c.in_err-products.field-0.0 (λ w is. scaled_unmade ratios m multiple w (subst (λ z. each (λ f. mul f (whole z)) ratios (Err w)) (back m c.in_ok-multiple.ensures.in_range) (rw is at c.in_err-products.ensures))))
 
 pub invariant_of-result : goal.invariant_of-result
 invariant_of-result c =
@@ -57,14 +57,14 @@ loop-product-preserved c =
       in_range = subst (All InRange) (sym items) (All-append InRange c.loop-product.numbers.items (c.numerator.result ∷ []) c.loop-product.invariant.in_range (All-cons InRange c.numerator.result [] c.numerator.ensures.in_range (All-nil InRange)));
     }
 
-pub returns-clause-value : goal.returns-clause-value
-returns-clause-value c =
+pub returns-clause-comes : goal.returns-clause-comes
+returns-clause-comes c =
     let ratios = map ratio_of c.args.fractions.now in
     let products = c.in_ok-products.products.items in
     let m = c.in_ok-multiple.multiple in
     let n = back m c.in_ok-multiple.ensures.in_range in
     let multiple = subst (λ l. multiple_of_all l (Ok m)) (sym (bottoms c.args.fractions.now)) c.in_ok-multiple.ensures.value in
-    let made = subst (λ z. each (λ f. mul f (whole z)) ratios (Ok (map ratio_of products))) n c.in_ok-products.ensures.value in
+    let made = subst (λ z. each (λ f. mul f (whole z)) ratios (Ok (map ratio_of products))) n c.in_ok-products.ensures in
     let numbers : c.loop-product.numbers.items ≡ map (λ (r : Ratio). r.top) (map ratio_of products) = c.loop-product.invariant.numbers
     ∙ ap (map numerator_of) (take_all c.loop-product.product-index c.deref-product-items.result.now c.loop-product-test.false ∙ c.deref-product-items.ensures.value)
     ∙ sym (tops products) in
@@ -77,4 +77,4 @@ returns-clause-one_each c =
     ap length (c.loop-product.invariant.numbers
     ∙ ap (map numerator_of) (take_all c.loop-product.product-index c.deref-product-items.result.now c.loop-product-test.false ∙ c.deref-product-items.ensures.value))
     ∙ length-map products numerator_of ∙ sym (length-map products ratio_of) ∙ each_length (λ f. mul f (whole z)) (map ratio_of c.args.fractions.now)
-    (map ratio_of products) c.in_ok-products.ensures.value ∙ length-map c.args.fractions.now ratio_of
+    (map ratio_of products) c.in_ok-products.ensures ∙ length-map c.args.fractions.now ratio_of

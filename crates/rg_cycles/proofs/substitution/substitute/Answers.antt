@@ -8,13 +8,11 @@ use Rattle.rg_cycles.specs.View.{labels_of, cycle_of}
 use Rattle.rg_cycles.proofs.Folding.{index_next, index_fails, indices_end}
 use Rattle.rg_cycles.proofs.substitution.substitute.Goals as goal
 
-pub returns-in_err-sum-clause-wide : goal.returns-in_err-sum-clause-wide
-returns-in_err-sum-clause-wide c = λ w e.
+pub returns-in_err-sum : goal.returns-in_err-sum
+returns-in_err-sum c =
     let same : c.from_residual-in_err-sum.result ≡ Err (stop.Wide c.in_err-sum.field-0.0) = search rules in
     let lt = subst (λ l. c.loop-index.index < length l) c.free-index-end.ensures c.loop-index-test.true in
-    let is : c.in_err-sum.field-0.0 ≡ w = cc in
-    subst (λ v. Rattle.rg_order_of_work.specs.Rewriting.substitute_fold (labels_of c.args.basis.now) (cycle_of c.args.basis.now) (number_at c.args.counts.now) (Err v))
-    is (index_fails (coefficient_fold (labels_of c.args.basis.now) (cycle_of c.args.basis.now) (number_at c.args.counts.now))
+    rw same (index_fails (coefficient_fold (labels_of c.args.basis.now) (cycle_of c.args.basis.now) (number_at c.args.counts.now))
     (free_labels (labels_of c.args.basis.now) (cycle_of c.args.basis.now)) c.loop-index.index
     (map ratio_of c.loop-index.coeffs.items) c.loop-index.invariant lt c.in_err-sum.field-0.0 c.in_err-sum.ensures)
 
@@ -26,7 +24,7 @@ loop-index-preserved c =
     (free_labels (labels_of c.args.basis.now) (cycle_of c.args.basis.now)) c.loop-index.index (map ratio_of c.loop-index.coeffs.items) c.loop-index.invariant lt
     (ratio_of c.in_ok-sum.sum) c.in_ok-sum.ensures)
 
-pub returns-clause-value : goal.returns-clause-value
-returns-clause-value c =
+pub returns : goal.returns
+returns c =
     let past = subst (λ l. length l ≤ c.loop-index.index) c.free-index-end.ensures c.loop-index-test.false in
     indices_end (coefficient_fold (labels_of c.args.basis.now) (cycle_of c.args.basis.now) (number_at c.args.counts.now)) (free_labels (labels_of c.args.basis.now) (cycle_of c.args.basis.now)) c.loop-index.index (map ratio_of c.loop-index.coeffs.items) c.loop-index.invariant past

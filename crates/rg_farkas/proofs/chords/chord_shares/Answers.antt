@@ -1,18 +1,16 @@
-use Rattle.std.proofs.Common.{rules, ◌≡◌, ◌+◌, Err, map, subst}
+use Rattle.std.proofs.Common.{rules, ◌≡◌, ◌+◌, Err, map}
 use Rattle.rg_theory.specs.System.{labels}
-use Rattle.rg_order_of_work.specs.Fold.{each, ratio_of}
+use Rattle.rg_order_of_work.specs.Fold.{ratio_of}
 use Rattle.rg_cycles.specs.View.{cycle_of}
 use Rattle.rg_fraction.specs.declared.fold_stop.FoldStop.TheVariants as stop
 use Rattle.rg_farkas.specs.View.{counted_of, counts_fold}
 use Rattle.rg_order_of_work.proofs.Items.{item_next, item_fails, items_end, map_push}
 use Rattle.rg_farkas.proofs.chords.chord_shares.Goals as goal
 
-pub returns-in_err-share-clause-wide : goal.returns-in_err-share-clause-wide
-returns-in_err-share-clause-wide c = λ w e.
+pub returns-in_err-share : goal.returns-in_err-share
+returns-in_err-share c =
     let same : c.from_residual.result ≡ Err (stop.Wide c.in_err-share.field-0.0) = search rules in
-    let is : c.in_err-share.field-0.0 ≡ w = cc in
-    subst (λ v. each (λ u. counts_fold (cycle_of c.args.basis.now) (map counted_of c.args.counts.now) (labels c.args.lts.now + u)) c.args.used.now (Err v)) is
-    (item_fails (λ u. counts_fold (cycle_of c.args.basis.now) (map counted_of c.args.counts.now) (labels c.args.lts.now + u)) c.args.used.now
+    rw same (item_fails (λ u. counts_fold (cycle_of c.args.basis.now) (map counted_of c.args.counts.now) (labels c.args.lts.now + u)) c.args.used.now
     c.loop-chord.chord-index 0 (map ratio_of c.loop-chord.shares.items) c.loop-chord.invariant c.loop-chord-test.true c.in_err-share.field-0.0 c.in_err-share.ensures)
 
 pub loop-chord-preserved : goal.loop-chord-preserved
@@ -20,5 +18,5 @@ loop-chord-preserved c = rw (map_push ratio_of c.loop-chord.shares.items c.push.
     (item_next (λ u. counts_fold (cycle_of c.args.basis.now) (map counted_of c.args.counts.now) (labels c.args.lts.now + u)) c.args.used.now c.loop-chord.chord-index 0
     (map ratio_of c.loop-chord.shares.items) c.loop-chord.invariant c.loop-chord-test.true (ratio_of c.in_ok-share.share) c.in_ok-share.ensures)
 
-pub returns-clause-value : goal.returns-clause-value
-returns-clause-value c = items_end (λ u. counts_fold (cycle_of c.args.basis.now) (map counted_of c.args.counts.now) (labels c.args.lts.now + u)) c.args.used.now c.loop-chord.chord-index 0 (map ratio_of c.loop-chord.shares.items) c.loop-chord.invariant c.loop-chord-test.false
+pub returns : goal.returns
+returns c = items_end (λ u. counts_fold (cycle_of c.args.basis.now) (map counted_of c.args.counts.now) (labels c.args.lts.now + u)) c.args.used.now c.loop-chord.chord-index 0 (map ratio_of c.loop-chord.shares.items) c.loop-chord.invariant c.loop-chord-test.false

@@ -7,14 +7,12 @@ use Rattle.rg_fraction.specs.declared.fold_stop.FoldStop.TheVariants as stop
 use Rattle.rg_farkas.proofs.Told.{state_fails, state_next}
 use Rattle.rg_farkas.proofs.sums.tree_multipliers.Goals as goal
 
-pub returns-in_err-sum-clause-wide : goal.returns-in_err-sum-clause-wide
-returns-in_err-sum-clause-wide c = λ w e expression told.
+pub returns-in_err-sum-clause-comes : goal.returns-in_err-sum-clause-comes
+returns-in_err-sum-clause-comes c = λ expression told.
     let same : c.from_residual-in_err-sum.result ≡ Err (stop.Wide c.in_err-sum.field-0.0) = search rules in
-    let is : c.in_err-sum.field-0.0 ≡ w = cc in
-    let h = state_fails c.args.rows.now c.args.tree.now c.loop-i.multipliers.items c.loop-i.i record { from = 0; label = 0; to = 0 } c.loop-i-test.true c.loop-i.auto.i
+    rw same (state_fails c.args.rows.now c.args.tree.now c.loop-i.multipliers.items c.loop-i.i record { from = 0; label = 0; to = 0 } c.loop-i-test.true c.loop-i.auto.i
     c.loop-i.invariant.one_each c.loop-i.invariant.in_range c.loop-i.invariant.so_far c.deref.result.now c.deref.ensures.value c.in_err-sum.field-0.0
-    c.in_err-sum.ensures.value expression told in
-    rw is at h
+    c.in_err-sum.ensures.value expression told)
 
 pub loop-i-preserved : goal.loop-i-preserved
 loop-i-preserved c =

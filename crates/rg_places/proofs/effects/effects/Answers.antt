@@ -2,8 +2,7 @@ use Rattle.std.proofs.Common.{rules, ◌≡◌, ◌<◌, ◌≤◌, Err, ap, sub
 use Rattle.std.specs.Prelude.{pos}
 use Rattle.std.proofs.lemmas.List.{map-append}
 use Rattle.rg_theory.specs.System.{labels}
-use Rattle.rg_order_of_work.specs.Fold.{each, ratio_of, shown_result}
-use Rattle.rg_order_of_work.specs.Rewriting.{all_numbers}
+use Rattle.rg_order_of_work.specs.Fold.{ratio_of, shown_result}
 use Rattle.rg_order_of_work.specs.Placing.{effect_fold}
 use Rattle.rg_fraction.specs.declared.fold_stop.FoldStop.TheVariants as stop
 use Rattle.rg_cycles.specs.View.{cycle_of}
@@ -15,15 +14,13 @@ use Rattle.rg_places.proofs.ShareSteps.{unused_made, used_made}
 use Rattle.rg_places.proofs.effects.effects.Goals as goal
 use Rattle.rg_places.proofs.effects.effects.Goals.{then-used-t+in_ok-effect, else-used-t}
 
-pub returns-in_err-effect-clause-wide : goal.returns-in_err-effect-clause-wide
-returns-in_err-effect-clause-wide c = λ w e.
+pub returns-in_err-effect : goal.returns-in_err-effect
+returns-in_err-effect c =
     let same : c.from_residual.result ≡ Err (stop.Wide c.in_err-effect.field-0.0) = search rules in
-    let is : c.in_err-effect.field-0.0 ≡ w = cc in
     let lt = subst (λ n. c.loop-t.t < n) c.labels-t-end.ensures.value c.loop-t-test.true in
     let used = sym (c.requires.used.each c.loop-t.t lt) ∙ c.if-used-t.true in
     let made = used_made c.args.lts.now (cycle_of c.args.basis.now) (value_by c.args.columns.now) c.loop-t.t (shown_result ratio_of c.effect.result) used (c.effect.ensures c.args.lts.now (sym c.requires.labels) c.requires.columns) in
-    subst (λ v. each (effect_fold c.args.lts.now (cycle_of c.args.basis.now) (value_by c.args.columns.now)) (all_numbers (labels c.args.lts.now)) (Err v)) is
-    (counted_fails (effect_fold c.args.lts.now (cycle_of c.args.basis.now) (value_by c.args.columns.now)) (labels c.args.lts.now) c.loop-t.t (ratios_of c.loop-t.effects.items) c.loop-t.invariant lt c.in_err-effect.field-0.0 (rw c.in_err-effect.was at made))
+    rw same (counted_fails (effect_fold c.args.lts.now (cycle_of c.args.basis.now) (value_by c.args.columns.now)) (labels c.args.lts.now) c.loop-t.t (ratios_of c.loop-t.effects.items) c.loop-t.invariant lt c.in_err-effect.field-0.0 (rw c.in_err-effect.was at made))
 
 pub loop-t-preserved : goal.loop-t-preserved
 loop-t-preserved c =
@@ -40,5 +37,5 @@ loop-t-preserved c =
           rw w.effect-is (unused_made c.args.lts.now (cycle_of c.args.basis.now) (value_by c.args.columns.now) c.loop-t.t (ratio_of w.new-effect.result) unused (whole_is w.new-effect.result (pos 0) w.new-effect.ensures))
     ]))
 
-pub returns-clause-value : goal.returns-clause-value
-returns-clause-value c = counted_end (effect_fold c.args.lts.now (cycle_of c.args.basis.now) (value_by c.args.columns.now)) (labels c.args.lts.now) c.loop-t.t (ratios_of c.loop-t.effects.items) c.loop-t.invariant (subst (λ n. n ≤ c.loop-t.t) c.labels-t-end.ensures.value c.loop-t-test.false)
+pub returns : goal.returns
+returns c = counted_end (effect_fold c.args.lts.now (cycle_of c.args.basis.now) (value_by c.args.columns.now)) (labels c.args.lts.now) c.loop-t.t (ratios_of c.loop-t.effects.items) c.loop-t.invariant (subst (λ n. n ≤ c.loop-t.t) c.labels-t-end.ensures.value c.loop-t-test.false)

@@ -1,66 +1,54 @@
-use Rattle.std.proofs.Common.{rules, ◌≡◌, Err, Ok, map, unsigned_abs, refl, sym, ◌∙◌}
+use Rattle.std.proofs.Common.{rules, ◌≡◌, Err, Ok, map, unsigned_abs, ap, sym, ◌∙◌}
 use Rattle.std.proofs.lemmas.List.{length-map}
 use Rattle.rg_order_of_work.specs.Fold.{Ratio, ratio_of}
 use Rattle.rg_order_of_work.specs.Shown.{IsLive}
 use Rattle.rg_order_of_work.specs.Placing.{place_fold}
 use Rattle.rg_cycles.specs.View.{cycle_of}
-use Rattle.rg_fraction.specs.declared.fold_stop.FoldStop.TheVariants as stop
 use Rattle.rg_net.specs.Shown.{shown_place}
 use Rattle.rg_places.specs.PointValues.{ratios_of, point_start, point_value, SolvesCase}
-use Rattle.rg_places.specs.Steps.{weights_fold}
 use Rattle.rg_places.specs.RegionPlaces.{IsRegionPlace, PlaceSeparates, AreTokensMade}
 use Rattle.rg_marks.specs.declared.region_place.RegionPlace.{RegionPlace}
 use Rattle.rg_places.proofs.RegionSteps.{region_made, if_both}
+use Rattle.rg_order_of_work.proofs.Comes.{comes_by, comes_unless, comes_value}
 use Rattle.rg_places.proofs.PlaceSteps.{if_ok, tree_fails, shift_fails, before_length, shift_length, numbers_made, place_made_by}
 use Rattle.rg_places.proofs.making.make_place.Goals as goal
 use Rattle.rg_case_parts.specs.SettingViews.{setting_of}
 
-pub returns-in_err-numbers-clause-wide : goal.returns-in_err-numbers-clause-wide
-returns-in_err-numbers-clause-wide c = λ w e.
+pub returns-in_err-numbers-clause-comes : goal.returns-in_err-numbers-clause-comes
+returns-in_err-numbers-clause-comes c =
     let same : c.from_residual-in_err-numbers.result ≡ Err c.in_err-numbers.field-0.0 = search rules in
-    let is : c.in_err-numbers.field-0.0 ≡ stop.Wide w = cc in
-    let made = rw (c.arcs.ensures, c.deref.ensures.value) at (c.along_tree.ensures.wide w (rw (c.in_err-numbers.was, is) refl)) in
-    tree_fails (setting_of c.args.lts.now c.args.tree.now c.args.basis.now c.args.class) c.args.problem (point_start c.args.class c.args.point.now)
-    (point_value c.args.lts.now (cycle_of c.args.basis.now) c.args.class c.args.point.now) (ratios_of c.in_ok-found.found.items) c.in_ok-found.ensures.value w made
+    rw same (comes_unless (place_fold (setting_of c.args.lts.now c.args.tree.now c.args.basis.now c.args.class) c.args.problem (point_start c.args.class c.args.point.now)
+    (point_value c.args.lts.now (cycle_of c.args.basis.now) c.args.class c.args.point.now)) (λ (r : RegionPlace). shown_place r.place) c.in_err-numbers.field-0.0
+    (λ w is. tree_fails (setting_of c.args.lts.now c.args.tree.now c.args.basis.now c.args.class) c.args.problem (point_start c.args.class c.args.point.now)
+    (point_value c.args.lts.now (cycle_of c.args.basis.now) c.args.class c.args.point.now) (ratios_of c.in_ok-found.found.items) c.in_ok-found.ensures.comes w
+    (rw (c.arcs.ensures, c.deref.ensures.value) at (c.in_err-numbers.ensures.wide w (ap (λ x. Err x) is)))))
 
-pub returns-in_err-numbers-2-clause-wide : goal.returns-in_err-numbers-2-clause-wide
-returns-in_err-numbers-2-clause-wide c = λ w e.
+pub returns-in_err-numbers-2-clause-comes : goal.returns-in_err-numbers-2-clause-comes
+returns-in_err-numbers-2-clause-comes c =
     let same : c.from_residual-in_err-numbers-2.result ≡ Err c.in_err-numbers-2.field-0.0 = search rules in
-    let is : c.in_err-numbers-2.field-0.0 ≡ stop.Wide w = cc in
     let along = rw (c.arcs.ensures, c.deref.ensures.value) at c.in_ok-numbers.ensures.value in
-    let made = c.shifted.ensures.wide w (rw (c.in_err-numbers-2.was, is) refl) in
-    shift_fails (setting_of c.args.lts.now c.args.tree.now c.args.basis.now c.args.class) c.args.problem (point_start c.args.class c.args.point.now)
-    (point_value c.args.lts.now (cycle_of c.args.basis.now) c.args.class c.args.point.now) (ratios_of c.in_ok-found.found.items) c.in_ok-found.ensures.value
-    (ratios_of c.in_ok-numbers.numbers.items) along w made
+    rw same (comes_unless (place_fold (setting_of c.args.lts.now c.args.tree.now c.args.basis.now c.args.class) c.args.problem (point_start c.args.class c.args.point.now)
+    (point_value c.args.lts.now (cycle_of c.args.basis.now) c.args.class c.args.point.now)) (λ (r : RegionPlace). shown_place r.place) c.in_err-numbers-2.field-0.0
+    (λ w is. shift_fails (setting_of c.args.lts.now c.args.tree.now c.args.basis.now c.args.class) c.args.problem (point_start c.args.class c.args.point.now)
+    (point_value c.args.lts.now (cycle_of c.args.basis.now) c.args.class c.args.point.now) (ratios_of c.in_ok-found.found.items) c.in_ok-found.ensures.comes
+    (ratios_of c.in_ok-numbers.numbers.items) along w (rw is at c.in_err-numbers-2.ensures)))
 
 pub place_of-requires-clause-numbers : goal.place_of-requires-clause-numbers
 place_of-requires-clause-numbers c =
     let along = rw (c.arcs.ensures, c.deref.ensures.value) at c.in_ok-numbers.ensures.value in
     let before = before_length (setting_of c.args.lts.now c.args.tree.now c.args.basis.now c.args.class) c.args.problem (point_start c.args.class c.args.point.now)
-    (point_value c.args.lts.now (cycle_of c.args.basis.now) c.args.class c.args.point.now) (ratios_of c.in_ok-found.found.items) c.in_ok-found.ensures.value
+    (point_value c.args.lts.now (cycle_of c.args.basis.now) c.args.class c.args.point.now) (ratios_of c.in_ok-found.found.items) c.in_ok-found.ensures.comes
     (ratios_of c.in_ok-numbers.numbers.items) along in
-    let count = sym (length-map c.in_ok-numbers-2.numbers.items ratio_of) ∙ shift_length c.args.lts.now c.args.class c.args.problem (ratios_of c.in_ok-numbers.numbers.items) (ratios_of c.in_ok-numbers-2.numbers.items) c.in_ok-numbers-2.ensures.value ∙ before in
+    let count = sym (length-map c.in_ok-numbers-2.numbers.items ratio_of) ∙ shift_length c.args.lts.now c.args.class c.args.problem (ratios_of c.in_ok-numbers.numbers.items) (ratios_of c.in_ok-numbers-2.numbers.items) c.in_ok-numbers-2.ensures ∙ before in
     rw c.deref-3.ensures.value count
 
-pub returns-clause-place : goal.returns-clause-place
-returns-clause-place c =
+pub returns-clause-comes : goal.returns-clause-comes
+returns-clause-comes c =
     let along = rw (c.arcs.ensures, c.deref.ensures.value) at c.in_ok-numbers.ensures.value in
-    let made = rw (c.deref-2.ensures.value, c.deref-3.ensures.value) at c.place_of.ensures.place in
-    if_ok (λ (r : RegionPlace). weights_fold c.args.lts.now c.args.class c.args.problem (ratios_of c.in_ok-found.found.items) (ratios_of c.in_ok-numbers-2.numbers.items)
-    (Ok (shown_place r.place))) (λ (r : RegionPlace). place_fold (setting_of c.args.lts.now c.args.tree.now c.args.basis.now c.args.class) c.args.problem
-    (point_start c.args.class c.args.point.now) (point_value c.args.lts.now (cycle_of c.args.basis.now) c.args.class c.args.point.now) (Ok (shown_place r.place)))
-    c.place_of.result
-    (λ r h. place_made_by (setting_of c.args.lts.now c.args.tree.now c.args.basis.now c.args.class) c.args.problem (point_start c.args.class c.args.point.now)
-    (point_value c.args.lts.now (cycle_of c.args.basis.now) c.args.class c.args.point.now) (ratios_of c.in_ok-found.found.items) c.in_ok-found.ensures.value
-    (ratios_of c.in_ok-numbers.numbers.items) along (ratios_of c.in_ok-numbers-2.numbers.items) c.in_ok-numbers-2.ensures.value (Ok (shown_place r.place)) h) made
-
-pub returns-clause-wide : goal.returns-clause-wide
-returns-clause-wide c = λ w e.
-    let along = rw (c.arcs.ensures, c.deref.ensures.value) at c.in_ok-numbers.ensures.value in
-    let made = rw (c.deref-2.ensures.value, c.deref-3.ensures.value) at (c.place_of.ensures.wide w e) in
-    place_made_by (setting_of c.args.lts.now c.args.tree.now c.args.basis.now c.args.class) c.args.problem (point_start c.args.class c.args.point.now)
-    (point_value c.args.lts.now (cycle_of c.args.basis.now) c.args.class c.args.point.now) (ratios_of c.in_ok-found.found.items) c.in_ok-found.ensures.value
-    (ratios_of c.in_ok-numbers.numbers.items) along (ratios_of c.in_ok-numbers-2.numbers.items) c.in_ok-numbers-2.ensures.value (Err w) made
+    let made = rw (c.deref-2.ensures.value, c.deref-3.ensures.value) at c.place_of.ensures.comes in
+    comes_by _ _ (λ (r : RegionPlace). shown_place r.place) c.place_of.result made (place_made_by (setting_of c.args.lts.now c.args.tree.now c.args.basis.now c.args.class) c.args.problem (point_start c.args.class c.args.point.now)
+    (point_value c.args.lts.now (cycle_of c.args.basis.now) c.args.class c.args.point.now) (ratios_of c.in_ok-found.found.items) c.in_ok-found.ensures.comes
+    (ratios_of c.in_ok-numbers.numbers.items) along (ratios_of c.in_ok-numbers-2.numbers.items) c.in_ok-numbers-2.ensures)
 
 pub returns-clause-tokens : goal.returns-clause-tokens
 returns-clause-tokens c =
@@ -73,8 +61,8 @@ returns-clause-tokens c =
     (λ r h. record {
       numbers = ratios_of c.in_ok-numbers-2.numbers.items;
       made = numbers_made (setting_of c.args.lts.now c.args.tree.now c.args.basis.now c.args.class) c.args.problem (point_start c.args.class c.args.point.now)
-          (point_value c.args.lts.now (cycle_of c.args.basis.now) c.args.class c.args.point.now) (ratios_of c.in_ok-found.found.items) c.in_ok-found.ensures.value
-          (ratios_of c.in_ok-numbers.numbers.items) along (ratios_of c.in_ok-numbers-2.numbers.items) c.in_ok-numbers-2.ensures.value;
+          (point_value c.args.lts.now (cycle_of c.args.basis.now) c.args.class c.args.point.now) (ratios_of c.in_ok-found.found.items) c.in_ok-found.ensures.comes
+          (ratios_of c.in_ok-numbers.numbers.items) along (ratios_of c.in_ok-numbers-2.numbers.items) c.in_ok-numbers-2.ensures;
       tokens_are = h;
     }) tokens
 
@@ -83,22 +71,23 @@ returns-clause-region c =
     let along = rw (c.arcs.ensures, c.deref.ensures.value) at c.in_ok-numbers.ensures.value in
     let tokens = rw c.deref-3.ensures.value at c.place_of.ensures.tokens in
     let before = before_length (setting_of c.args.lts.now c.args.tree.now c.args.basis.now c.args.class) c.args.problem (point_start c.args.class c.args.point.now)
-    (point_value c.args.lts.now (cycle_of c.args.basis.now) c.args.class c.args.point.now) (ratios_of c.in_ok-found.found.items) c.in_ok-found.ensures.value
+    (point_value c.args.lts.now (cycle_of c.args.basis.now) c.args.class c.args.point.now) (ratios_of c.in_ok-found.found.items) c.in_ok-found.ensures.comes
     (ratios_of c.in_ok-numbers.numbers.items) along in
-    let count = shift_length c.args.lts.now c.args.class c.args.problem (ratios_of c.in_ok-numbers.numbers.items) (ratios_of c.in_ok-numbers-2.numbers.items) c.in_ok-numbers-2.ensures.value ∙ before in
+    let count = shift_length c.args.lts.now c.args.class c.args.problem (ratios_of c.in_ok-numbers.numbers.items) (ratios_of c.in_ok-numbers-2.numbers.items) c.in_ok-numbers-2.ensures ∙ before in
     let made = numbers_made (setting_of c.args.lts.now c.args.tree.now c.args.basis.now c.args.class) c.args.problem (point_start c.args.class c.args.point.now)
-    (point_value c.args.lts.now (cycle_of c.args.basis.now) c.args.class c.args.point.now) (ratios_of c.in_ok-found.found.items) c.in_ok-found.ensures.value
-    (ratios_of c.in_ok-numbers.numbers.items) along (ratios_of c.in_ok-numbers-2.numbers.items) c.in_ok-numbers-2.ensures.value in
+    (point_value c.args.lts.now (cycle_of c.args.basis.now) c.args.class c.args.point.now) (ratios_of c.in_ok-found.found.items) c.in_ok-found.ensures.comes
+    (ratios_of c.in_ok-numbers.numbers.items) along (ratios_of c.in_ok-numbers-2.numbers.items) c.in_ok-numbers-2.ensures in
     if_both (λ (r : RegionPlace). place_fold (setting_of c.args.lts.now c.args.tree.now c.args.basis.now c.args.class) c.args.problem
     (point_start c.args.class c.args.point.now) (point_value c.args.lts.now (cycle_of c.args.basis.now) c.args.class c.args.point.now) (Ok (shown_place r.place)))
     (λ (r : RegionPlace). r.tokens.items ≡ map (λ (n : Ratio). unsigned_abs n.top) (ratios_of c.in_ok-numbers-2.numbers.items))
     (λ (r : RegionPlace). IsLive c.args.lts.now c.args.problem → SolvesCase (setting_of c.args.lts.now c.args.tree.now c.args.basis.now c.args.class) c.args.problem c.args.point.now → IsRegionPlace c.args.lts.now c.args.class r × PlaceSeparates c.args.problem r) c.place_of.result
-    (λ r h t live s. region_made (setting_of c.args.lts.now c.args.tree.now c.args.basis.now c.args.class) c.args.problem c.args.point.now r (ratios_of c.in_ok-numbers-2.numbers.items) c.requires.columns live s made h t count) (returns-clause-place c) tokens
+    (λ r h t live s. region_made (setting_of c.args.lts.now c.args.tree.now c.args.basis.now c.args.class) c.args.problem c.args.point.now r (ratios_of c.in_ok-numbers-2.numbers.items) c.requires.columns live s made h t count) (comes_value (place_fold (setting_of c.args.lts.now c.args.tree.now c.args.basis.now c.args.class) c.args.problem (point_start c.args.class c.args.point.now)
+    (point_value c.args.lts.now (cycle_of c.args.basis.now) c.args.class c.args.point.now)) (λ (r : RegionPlace). shown_place r.place) _ c.place_of.result (returns-clause-comes c) (λ r h. h)) tokens
 
 pub shifted-requires : goal.shifted-requires
 shifted-requires c =
     let along = rw (c.arcs.ensures, c.deref.ensures.value) at c.in_ok-numbers.ensures.value in
     sym (length-map c.in_ok-numbers.numbers.items ratio_of)
     ∙ before_length (setting_of c.args.lts.now c.args.tree.now c.args.basis.now c.args.class) c.args.problem (point_start c.args.class c.args.point.now)
-    (point_value c.args.lts.now (cycle_of c.args.basis.now) c.args.class c.args.point.now) (ratios_of c.in_ok-found.found.items) c.in_ok-found.ensures.value
+    (point_value c.args.lts.now (cycle_of c.args.basis.now) c.args.class c.args.point.now) (ratios_of c.in_ok-found.found.items) c.in_ok-found.ensures.comes
     (ratios_of c.in_ok-numbers.numbers.items) along

@@ -1,9 +1,11 @@
-use Rattle.std.proofs.Common.{rules, ◌≡◌, ◌<◌, ◌≤◌, Err, ap, length, unsigned_abs, refl, sym, subst, ◌∙◌, arith}
+use Rattle.std.proofs.Common.{rules, ◌≡◌, ◌<◌, ◌≤◌, Err, ap, length, unsigned_abs, sym, subst, ◌∙◌, arith}
 use Rattle.std.proofs.lemmas.List.{length-map, get_or_read}
 use Rattle.rg_fraction.specs.Fractions.{numerator_of}
-use Rattle.rg_fraction.specs.declared.fold_stop.FoldStop.TheVariants as stop
 use Rattle.rg_net.specs.Shown.{shown_place}
 use Rattle.rg_places.specs.PointValues.{ratios_of}
+use Rattle.rg_marks.specs.declared.region_place.RegionPlace.{RegionPlace}
+use Rattle.rg_places.specs.Steps.{weights_fold}
+use Rattle.rg_order_of_work.proofs.Comes.{comes_unless}
 use Rattle.rg_places.proofs.WeightSteps.{tokens_at, tokens_are, pre_length, put_fails, place_done}
 use Rattle.rg_places.proofs.making.place_of.Goals as goal
 
@@ -14,16 +16,15 @@ put-requires-clause-lengths c =
     let le : length c.in_ok-taken.taken.items ≤ length c.args.found.now = omega arith in
     rw c.deref.ensures.value le
 
-pub returns-in_err-put-clause-wide : goal.returns-in_err-put-clause-wide
-returns-in_err-put-clause-wide c = λ w e.
+pub returns-in_err-put-clause-comes : goal.returns-in_err-put-clause-comes
+returns-in_err-put-clause-comes c =
     let same : c.from_residual-in_err-put.result ≡ Err c.in_err-put.field-0.0 = search rules in
-    let is : c.in_err-put.field-0.0 ≡ stop.Wide w = cc in
-    let made = rw c.deref.ensures.value at (c.put.ensures.wide w (rw (c.in_err-put.was, is) refl)) in
-    put_fails c.args.lts.now c.args.class c.args.problem (ratios_of c.args.found.now) (ratios_of c.args.numbers.now) c.in_ok-taken.taken.items c.in_ok-taken.ensures.value w made
+    rw same (comes_unless (weights_fold c.args.lts.now c.args.class c.args.problem (ratios_of c.args.found.now) (ratios_of c.args.numbers.now)) (λ (r : RegionPlace). shown_place r.place) c.in_err-put.field-0.0
+    (λ w is. put_fails c.args.lts.now c.args.class c.args.problem (ratios_of c.args.found.now) (ratios_of c.args.numbers.now) c.in_ok-taken.taken.items c.in_ok-taken.ensures.value w (rw (is, c.deref.ensures.value) at c.in_err-put.ensures)))
 
-pub returns-clause-place : goal.returns-clause-place
-returns-clause-place c =
-    let made = rw c.deref.ensures.value at c.in_ok-put.ensures.value in
+pub returns-clause-comes : goal.returns-clause-comes
+returns-clause-comes c =
+    let made = rw c.deref.ensures.value at c.in_ok-put.ensures in
     let pre = rw c.deref-2.ensures.value at c.in_ok-pre.ensures in
     let post = rw c.deref-3.ensures.value at c.in_ok-post.ensures in
     let count = ap length c.in_ok-tokens.ensures ∙ length-map c.args.numbers.now (λ n. unsigned_abs (numerator_of n)) ∙ c.requires.numbers in

@@ -1,20 +1,21 @@
-use Rattle.std.proofs.Common.{◌≡◌, ◌<◌, Vec, Global, Err, Ok, unsigned_abs, unwrap_or, length, ap, ap₂, sym, subst, ◌∙◌}
+use Rattle.std.proofs.Common.{◌<◌, unsigned_abs, length, ap, ap₂, sym, subst, ◌∙◌, Vec, Global}
 use Rattle.std.specs.Prelude.{pos}
 use Rattle.rg_theory.specs.System.{states}
 use Rattle.rg_integers.proofs.Casts.{back}
-use Rattle.rg_fraction.specs.declared.fraction.Fraction.{Fraction}
-use Rattle.rg_order_of_work.specs.Fold.{each, add, whole, ratio_of}
+use Rattle.rg_order_of_work.specs.Fold.{whole, ratio_of}
 use Rattle.rg_order_of_work.specs.Placing.{missing, top_at}
 use Rattle.rg_places.specs.PointValues.{ratios_of}
 use Rattle.rg_places.proofs.FractionSteps.{top_there}
-use Rattle.rg_places.proofs.PlaceSteps.{Lifted, if_ok, lifted_kept, lifted_made}
+use Rattle.rg_fraction.specs.declared.fraction.Fraction.{Fraction}
+use Rattle.rg_order_of_work.proofs.Comes.{comes_by}
+use Rattle.rg_places.proofs.PlaceSteps.{lifted_kept, lifted_made}
 use Rattle.rg_places.proofs.numbers.lifted.Goals as goal
 
-pub returns-then-not-is_lifted-clause-value : goal.returns-then-not-is_lifted-clause-value
-returns-then-not-is_lifted-clause-value c = lifted_kept c.args.lts.now c.args.class c.args.problem (ratios_of c.args.numbers.items) (sym c.is_lifted.ensures ∙ c.if-not-is_lifted.true)
+pub returns-then-not-is_lifted : goal.returns-then-not-is_lifted
+returns-then-not-is_lifted c = lifted_kept c.args.lts.now c.args.class c.args.problem (ratios_of c.args.numbers.items) (sym c.is_lifted.ensures ∙ c.if-not-is_lifted.true)
 
-pub returns-clause-value : goal.returns-clause-value
-returns-clause-value c =
+pub returns : goal.returns
+returns c =
     let numbers = c.args.numbers.items in
     let start = c.unsigned_abs-start.ensures.value
     ∙ ap unsigned_abs (back c.numerator.result c.numerator.ensures.in_range ∙ c.numerator.ensures.value ∙ top_there numbers c.initial.result c.index.result.now
@@ -22,18 +23,5 @@ returns-clause-value c =
     (subst (λ k. c.args.lts.now.initial < k) (sym c.requires) (subst (λ k. k < states c.args.lts.now) c.initial.ensures.value c.initial.ensures.in_range)))
     c.index.ensures ∙ ap (top_at (ratios_of numbers)) c.initial.ensures.value) in
     let by = c.whole_number.ensures ∙ ap (λ n. whole (pos n)) (c.missing-by.ensures ∙ ap₂ missing c.unwrap_or.ensures start) in
-    let made = rw c.deref.ensures.value at c.raised.ensures.value in
-    if_ok (λ (v : Vec Fraction Global). each (λ m. add m (ratio_of c.whole_number.result)) (ratios_of numbers) (Ok (ratios_of v.items))) (λ (v : Vec Fraction Global). Lifted c.args.lts.now c.args.class c.args.problem (ratios_of numbers) (Ok (ratios_of v.items))) c.raised.result
-    (λ v h. lifted_made c.args.lts.now c.args.class c.args.problem (ratios_of numbers) (ratio_of c.whole_number.result) by (sym c.is_lifted.ensures ∙ c.if-not-is_lifted.false) (Ok (ratios_of v.items)) h) made
-
-pub returns-clause-wide : goal.returns-clause-wide
-returns-clause-wide c = λ w e.
-    let numbers = c.args.numbers.items in
-    let start = c.unsigned_abs-start.ensures.value
-    ∙ ap unsigned_abs (back c.numerator.result c.numerator.ensures.in_range ∙ c.numerator.ensures.value ∙ top_there numbers c.initial.result c.index.result.now
-    (subst (λ k. k < length numbers) (sym c.initial.ensures.value)
-    (subst (λ k. c.args.lts.now.initial < k) (sym c.requires) (subst (λ k. k < states c.args.lts.now) c.initial.ensures.value c.initial.ensures.in_range)))
-    c.index.ensures ∙ ap (top_at (ratios_of numbers)) c.initial.ensures.value) in
-    let by = c.whole_number.ensures ∙ ap (λ n. whole (pos n)) (c.missing-by.ensures ∙ ap₂ missing c.unwrap_or.ensures start) in
-    let made = rw c.deref.ensures.value at (c.raised.ensures.wide w e) in
-    lifted_made c.args.lts.now c.args.class c.args.problem (ratios_of numbers) (ratio_of c.whole_number.result) by (sym c.is_lifted.ensures ∙ c.if-not-is_lifted.false) (Err w) made
+    let made = rw c.deref.ensures.value at c.raised.ensures in
+    comes_by _ _ (λ (v : Vec Fraction Global). ratios_of v.items) c.raised.result made (lifted_made c.args.lts.now c.args.class c.args.problem (ratios_of numbers) (ratio_of c.whole_number.result) by (sym c.is_lifted.ensures ∙ c.if-not-is_lifted.false))

@@ -1,6 +1,6 @@
-use Rattle.std.proofs.Common.{rules, ◌≡◌, Err, ap, subst, ◌∙◌}
+use Rattle.std.proofs.Common.{rules, ◌≡◌, Err, ap, ◌∙◌}
 use Rattle.std.proofs.lemmas.List.{map-append}
-use Rattle.rg_order_of_work.specs.Fold.{ratio_of, each, add}
+use Rattle.rg_order_of_work.specs.Fold.{ratio_of, add}
 use Rattle.rg_order_of_work.specs.Placing.{negated}
 use Rattle.rg_places.proofs.FractionSteps.{sub_step}
 use Rattle.rg_fraction.specs.declared.fold_stop.FoldStop.TheVariants as stop
@@ -8,13 +8,11 @@ use Rattle.rg_places.specs.PointValues.{ratios_of}
 use Rattle.rg_places.proofs.FoldSteps.{mapped_next, mapped_fails, mapped_end}
 use Rattle.rg_places.proofs.numbers.lowered.Goals as goal
 
-pub returns-in_err-difference-clause-wide : goal.returns-in_err-difference-clause-wide
-returns-in_err-difference-clause-wide c = λ w e.
+pub returns-in_err-difference : goal.returns-in_err-difference
+returns-in_err-difference c =
     let same : c.from_residual.result ≡ Err (stop.Wide c.in_err-difference.field-0.0) = search rules in
-    let is : c.in_err-difference.field-0.0 ≡ w = cc in
     let step = sub_step c.number-item.result c.args.by c.sub.result c.sub.ensures in
-    subst (λ v. each (λ m. add m (negated (ratio_of c.args.by))) (ratios_of c.args.numbers.now) (Err v)) is
-    (mapped_fails (λ m. add m (negated (ratio_of c.args.by))) ratio_of c.args.numbers.now c.loop-number.number-index
+    rw same (mapped_fails (λ m. add m (negated (ratio_of c.args.by))) ratio_of c.args.numbers.now c.loop-number.number-index
     (ratios_of c.loop-number.lowered.items) c.loop-number.invariant c.number-item.result c.loop-number-test.true c.number-item.is c.in_err-difference.field-0.0
     (rw c.in_err-difference.was at step))
 
@@ -26,5 +24,5 @@ loop-number-preserved c =
     (ratios_of c.loop-number.lowered.items) c.loop-number.invariant c.number-item.result c.loop-number-test.true c.number-item.is
     (ratio_of c.in_ok-difference.difference) (rw c.in_ok-difference.was at step))
 
-pub returns-clause-value : goal.returns-clause-value
-returns-clause-value c = mapped_end (λ m. add m (negated (ratio_of c.args.by))) ratio_of c.args.numbers.now c.loop-number.number-index (ratios_of c.loop-number.lowered.items) c.loop-number.invariant c.loop-number-test.false
+pub returns : goal.returns
+returns c = mapped_end (λ m. add m (negated (ratio_of c.args.by))) ratio_of c.args.numbers.now c.loop-number.number-index (ratios_of c.loop-number.lowered.items) c.loop-number.invariant c.loop-number-test.false

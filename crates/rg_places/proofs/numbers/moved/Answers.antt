@@ -1,23 +1,16 @@
-use Rattle.std.proofs.Common.{Vec, Global, Err, Ok, sym, ◌∙◌}
-use Rattle.rg_fraction.specs.declared.fraction.Fraction.{Fraction}
-use Rattle.rg_order_of_work.specs.Fold.{each, add, ratio_of}
-use Rattle.rg_order_of_work.specs.Placing.{negated}
+use Rattle.std.proofs.Common.{sym, ◌∙◌, Vec, Global}
+use Rattle.rg_order_of_work.specs.Fold.{ratio_of}
 use Rattle.rg_places.specs.PointValues.{ratios_of}
-use Rattle.rg_places.proofs.PlaceSteps.{Moved, if_ok, moved_kept, moved_made}
+use Rattle.rg_fraction.specs.declared.fraction.Fraction.{Fraction}
+use Rattle.rg_order_of_work.proofs.Comes.{comes_by}
+use Rattle.rg_places.proofs.PlaceSteps.{moved_kept, moved_made}
 use Rattle.rg_places.proofs.numbers.moved.Goals as goal
 
-pub returns-then-not-is_shifted-clause-value : goal.returns-then-not-is_shifted-clause-value
-returns-then-not-is_shifted-clause-value c = moved_kept c.args.class (ratios_of c.args.numbers.items) (sym c.is_shifted.ensures ∙ c.if-not-is_shifted.true)
+pub returns-then-not-is_shifted : goal.returns-then-not-is_shifted
+returns-then-not-is_shifted c = moved_kept c.args.class (ratios_of c.args.numbers.items) (sym c.is_shifted.ensures ∙ c.if-not-is_shifted.true)
 
-pub returns-clause-value : goal.returns-clause-value
-returns-clause-value c =
+pub returns : goal.returns
+returns c =
     let least = rw c.deref.ensures.value at c.least-by.ensures in
-    let made = rw c.deref-2.ensures.value at c.lowered.ensures.value in
-    if_ok (λ (v : Vec Fraction Global). each (λ m. add m (negated (ratio_of c.least-by.result))) (ratios_of c.args.numbers.items) (Ok (ratios_of v.items))) (λ (v : Vec Fraction Global). Moved c.args.class (ratios_of c.args.numbers.items) (Ok (ratios_of v.items))) c.lowered.result
-    (λ v h. moved_made c.args.class (ratios_of c.args.numbers.items) (ratio_of c.least-by.result) least (sym c.is_shifted.ensures ∙ c.if-not-is_shifted.false) (Ok (ratios_of v.items)) h) made
-
-pub returns-clause-wide : goal.returns-clause-wide
-returns-clause-wide c = λ w e.
-    let least = rw c.deref.ensures.value at c.least-by.ensures in
-    let made = rw c.deref-2.ensures.value at (c.lowered.ensures.wide w e) in
-    moved_made c.args.class (ratios_of c.args.numbers.items) (ratio_of c.least-by.result) least (sym c.is_shifted.ensures ∙ c.if-not-is_shifted.false) (Err w) made
+    let made = rw c.deref-2.ensures.value at c.lowered.ensures in
+    comes_by _ _ (λ (v : Vec Fraction Global). ratios_of v.items) c.lowered.result made (moved_made c.args.class (ratios_of c.args.numbers.items) (ratio_of c.least-by.result) least (sym c.is_shifted.ensures ∙ c.if-not-is_shifted.false))

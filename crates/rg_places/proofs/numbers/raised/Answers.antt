@@ -1,19 +1,17 @@
-use Rattle.std.proofs.Common.{rules, ◌≡◌, Err, ap, subst, ◌∙◌}
+use Rattle.std.proofs.Common.{rules, ◌≡◌, Err, ap, ◌∙◌}
 use Rattle.std.proofs.lemmas.List.{map-append}
-use Rattle.rg_order_of_work.specs.Fold.{ratio_of, each, add}
+use Rattle.rg_order_of_work.specs.Fold.{ratio_of, add}
 use Rattle.rg_places.proofs.FractionSteps.{add_step}
 use Rattle.rg_fraction.specs.declared.fold_stop.FoldStop.TheVariants as stop
 use Rattle.rg_places.specs.PointValues.{ratios_of}
 use Rattle.rg_places.proofs.FoldSteps.{mapped_next, mapped_fails, mapped_end}
 use Rattle.rg_places.proofs.numbers.raised.Goals as goal
 
-pub returns-in_err-sum-clause-wide : goal.returns-in_err-sum-clause-wide
-returns-in_err-sum-clause-wide c = λ w e.
+pub returns-in_err-sum : goal.returns-in_err-sum
+returns-in_err-sum c =
     let same : c.from_residual.result ≡ Err (stop.Wide c.in_err-sum.field-0.0) = search rules in
-    let is : c.in_err-sum.field-0.0 ≡ w = cc in
     let step = add_step c.number-item.result c.args.by c.add.result c.add.ensures in
-    subst (λ v. each (λ m. add m (ratio_of c.args.by)) (ratios_of c.args.numbers.now) (Err v)) is
-    (mapped_fails (λ m. add m (ratio_of c.args.by)) ratio_of c.args.numbers.now c.loop-number.number-index (ratios_of c.loop-number.raised.items) c.loop-number.invariant c.number-item.result c.loop-number-test.true c.number-item.is c.in_err-sum.field-0.0 (rw c.in_err-sum.was at step))
+    rw same (mapped_fails (λ m. add m (ratio_of c.args.by)) ratio_of c.args.numbers.now c.loop-number.number-index (ratios_of c.loop-number.raised.items) c.loop-number.invariant c.number-item.result c.loop-number-test.true c.number-item.is c.in_err-sum.field-0.0 (rw c.in_err-sum.was at step))
 
 pub loop-number-preserved : goal.loop-number-preserved
 loop-number-preserved c =
@@ -21,5 +19,5 @@ loop-number-preserved c =
     let items : ratios_of c.push.new.self.items ≡ _ = ap ratios_of c.in_ok-push.ensures.items ∙ map-append ratio_of c.loop-number.raised.items _ in
     rw items (mapped_next (λ m. add m (ratio_of c.args.by)) ratio_of c.args.numbers.now c.loop-number.number-index (ratios_of c.loop-number.raised.items) c.loop-number.invariant c.number-item.result c.loop-number-test.true c.number-item.is (ratio_of c.in_ok-sum.sum) (rw c.in_ok-sum.was at step))
 
-pub returns-clause-value : goal.returns-clause-value
-returns-clause-value c = mapped_end (λ m. add m (ratio_of c.args.by)) ratio_of c.args.numbers.now c.loop-number.number-index (ratios_of c.loop-number.raised.items) c.loop-number.invariant c.loop-number-test.false
+pub returns : goal.returns
+returns c = mapped_end (λ m. add m (ratio_of c.args.by)) ratio_of c.args.numbers.now c.loop-number.number-index (ratios_of c.loop-number.raised.items) c.loop-number.invariant c.loop-number-test.false

@@ -1,29 +1,23 @@
-use Rattle.std.proofs.Common.{rules, ◌≡◌, Vec, Global, Err, Ok, ap, sym, ◌∙◌}
+use Rattle.std.proofs.Common.{rules, ◌≡◌, Err, sym, ◌∙◌, Vec, Global}
 use Rattle.std.proofs.lemmas.List.{length-map}
-use Rattle.rg_fraction.specs.declared.fraction.Fraction.{Fraction}
-use Rattle.rg_fraction.specs.declared.fold_stop.FoldStop.TheVariants as stop
 use Rattle.rg_order_of_work.specs.Fold.{ratio_of}
+use Rattle.rg_fraction.specs.declared.fraction.Fraction.{Fraction}
 use Rattle.rg_order_of_work.specs.Placing.{shift_fold}
+use Rattle.rg_order_of_work.proofs.Comes.{comes_by, comes_unless}
 use Rattle.rg_places.specs.PointValues.{ratios_of}
-use Rattle.rg_places.proofs.PlaceSteps.{Lifted, if_ok, moved_fails, moved_length, shift_made}
+use Rattle.rg_places.proofs.PlaceSteps.{moved_fails, moved_length, shift_made}
 use Rattle.rg_places.proofs.numbers.shifted.Goals as goal
 
-pub returns-in_err-moved-clause-wide : goal.returns-in_err-moved-clause-wide
-returns-in_err-moved-clause-wide c = λ w e.
+pub returns-in_err-moved : goal.returns-in_err-moved
+returns-in_err-moved c =
     let same : c.from_residual.result ≡ Err c.in_err-moved.field-0.0 = search rules in
-    let is : c.in_err-moved.field-0.0 ≡ stop.Wide w = cc in
-    moved_fails c.args.lts.now c.args.class c.args.problem (ratios_of c.args.numbers.items) w (c.in_err-moved.ensures.wide w (ap (λ x. Err x) is))
+    rw same (comes_unless (shift_fold c.args.lts.now c.args.class c.args.problem (ratios_of c.args.numbers.items)) (λ (v : Vec Fraction Global). ratios_of v.items) c.in_err-moved.field-0.0
+    (λ w is. moved_fails c.args.lts.now c.args.class c.args.problem (ratios_of c.args.numbers.items) w (rw is at c.in_err-moved.ensures)))
 
 pub lifted-requires : goal.lifted-requires
 lifted-requires c =
-    sym (length-map c.in_ok-moved.moved.items ratio_of) ∙ moved_length c.args.class (ratios_of c.args.numbers.items) (ratios_of c.in_ok-moved.moved.items) c.in_ok-moved.ensures.value ∙ length-map c.args.numbers.items ratio_of ∙ c.requires
+    sym (length-map c.in_ok-moved.moved.items ratio_of) ∙ moved_length c.args.class (ratios_of c.args.numbers.items) (ratios_of c.in_ok-moved.moved.items) c.in_ok-moved.ensures ∙ length-map c.args.numbers.items ratio_of ∙ c.requires
 
-pub returns-clause-value : goal.returns-clause-value
-returns-clause-value c =
-    if_ok (λ (v : Vec Fraction Global). Lifted c.args.lts.now c.args.class c.args.problem (ratios_of c.in_ok-moved.moved.items) (Ok (ratios_of v.items)))
-    (λ (v : Vec Fraction Global). shift_fold c.args.lts.now c.args.class c.args.problem (ratios_of c.args.numbers.items) (Ok (ratios_of v.items))) c.lifted.result
-    (λ v h. shift_made c.args.lts.now c.args.class c.args.problem (ratios_of c.args.numbers.items) (ratios_of c.in_ok-moved.moved.items) c.in_ok-moved.ensures.value (Ok (ratios_of v.items)) h) c.lifted.ensures.value
-
-pub returns-clause-wide : goal.returns-clause-wide
-returns-clause-wide c = λ w e.
-    shift_made c.args.lts.now c.args.class c.args.problem (ratios_of c.args.numbers.items) (ratios_of c.in_ok-moved.moved.items) c.in_ok-moved.ensures.value (Err w) (c.lifted.ensures.wide w e)
+pub returns : goal.returns
+returns c =
+    comes_by _ _ (λ (v : Vec Fraction Global). ratios_of v.items) c.lifted.result c.lifted.ensures (shift_made c.args.lts.now c.args.class c.args.problem (ratios_of c.args.numbers.items) (ratios_of c.in_ok-moved.moved.items) c.in_ok-moved.ensures)

@@ -1,9 +1,8 @@
-use Rattle.std.proofs.Common.{rules, ◌≡◌, ◌<◌, Err, arith, length, subst}
+use Rattle.std.proofs.Common.{rules, ◌≡◌, ◌<◌, Err, arith, length}
 use Rattle.std.specs.Prelude.{pos}
 use Rattle.rg_integers.specs.Sum.{number_at}
 use Rattle.rg_integers.proofs.Casts.{back}
-use Rattle.rg_order_of_work.specs.Fold.{each, whole_sum}
-use Rattle.rg_order_of_work.specs.Rewriting.{all_numbers}
+use Rattle.rg_order_of_work.specs.Fold.{whole_sum}
 use Rattle.rg_order_of_work.specs.Placing.{top_at}
 use Rattle.rg_fraction.specs.declared.fold_stop.FoldStop.TheVariants as stop
 use Rattle.rg_places.specs.PointValues.{ratios_of}
@@ -11,17 +10,15 @@ use Rattle.rg_places.proofs.Counting.{counted_next, counted_fails, counted_end}
 use Rattle.rg_places.proofs.FractionSteps.{top_there}
 use Rattle.rg_places.proofs.weights.put.Goals as goal
 
-pub returns-in_err-post-clause-wide : goal.returns-in_err-post-clause-wide
-returns-in_err-post-clause-wide c = λ w e.
+pub returns-in_err-post : goal.returns-in_err-post
+returns-in_err-post c =
     let same : c.from_residual.result ≡ Err (stop.Wide c.in_err-post.field-0.0) = search rules in
-    let is : c.in_err-post.field-0.0 ≡ w = cc in
     let pre = back (number_at c.args.taken.now c.loop-u.u) (c.requires.in_range c.loop-u.u (pos 0) c.loop-u-test.true) in
     let lt : c.loop-u.u < length c.args.found.now = omega arith in
     let top = top_there c.args.found.now c.loop-u.u c.index-found-u.result lt c.index-found-u.is in
     let n = back c.numerator.result c.numerator.ensures.in_range in
     let made = rw (pre, n, c.numerator.ensures.value, top) at c.whole_sum.ensures.value in
-    subst (λ v. each (λ u. whole_sum (number_at c.args.taken.now u) (top_at (ratios_of c.args.found.now) u)) (all_numbers (length c.args.taken.now)) (Err v)) is
-    (counted_fails (λ u. whole_sum (number_at c.args.taken.now u) (top_at (ratios_of c.args.found.now) u)) (length c.args.taken.now) c.loop-u.u c.loop-u.put.items c.loop-u.invariant c.loop-u-test.true c.in_err-post.field-0.0 (rw c.in_err-post.was at made))
+    rw same (counted_fails (λ u. whole_sum (number_at c.args.taken.now u) (top_at (ratios_of c.args.found.now) u)) (length c.args.taken.now) c.loop-u.u c.loop-u.put.items c.loop-u.invariant c.loop-u-test.true c.in_err-post.field-0.0 (rw c.in_err-post.was at made))
 
 pub loop-u-preserved : goal.loop-u-preserved
 loop-u-preserved c =
@@ -33,5 +30,5 @@ loop-u-preserved c =
     let post = back c.in_ok-post.post c.in_ok-post.ensures.in_range in
     rw (c.in_ok-push.ensures.items, post) (counted_next (λ u. whole_sum (number_at c.args.taken.now u) (top_at (ratios_of c.args.found.now) u)) (length c.args.taken.now) c.loop-u.u c.loop-u.put.items c.loop-u.invariant c.loop-u-test.true c.in_ok-post.post (rw c.in_ok-post.was at made))
 
-pub returns-clause-value : goal.returns-clause-value
-returns-clause-value c = counted_end (λ u. whole_sum (number_at c.args.taken.now u) (top_at (ratios_of c.args.found.now) u)) (length c.args.taken.now) c.loop-u.u c.loop-u.put.items c.loop-u.invariant c.loop-u-test.false
+pub returns : goal.returns
+returns c = counted_end (λ u. whole_sum (number_at c.args.taken.now u) (top_at (ratios_of c.args.found.now) u)) (length c.args.taken.now) c.loop-u.u c.loop-u.put.items c.loop-u.invariant c.loop-u-test.false

@@ -21,8 +21,8 @@ loop-number-preserved c =
     let written = c.in_ok-written.field-0 in
     let pushed = c.in_ok-push.ensures.items in
     let shared = row_shared s name e (c.expression-expression.ensures ∙ ap (shared_expression s.lts s.class []) (sym c.name-name.ensures))
-    (labels_of c.args.basis.now) (sym c.requires.labels) c.args.columns.now c.requires.columns c.row.result written c.in_ok-written.ensures c.row.ensures.value
-    c.row.ensures.one_each c.row.ensures.wide in
+    (labels_of c.args.basis.now) (sym c.requires.labels) c.args.columns.now c.requires.columns c.row.result written c.in_ok-written.ensures c.row.ensures.comes
+    c.row.ensures.one_each in
     let here = subst (λ n. IsSharedRow s (row_of_kind kind n) written) (sym c.loop-number.invariant.many) (subst (λ n. IsSharedRow s n written) c.name-name.ensures shared) in
     record {
       many = ap length pushed ∙ length-append rows (written ∷ []) ∙ ap (λ n. n + 1) c.loop-number.invariant.many;

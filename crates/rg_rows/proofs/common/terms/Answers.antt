@@ -20,7 +20,7 @@ loop-number-preserved c =
     let here = subst (λ n. AreSharedTerms s (row_of_kind kind n) written) (sym c.loop-number.invariant.many)
     (terms_shared s (row_of_kind kind c.loop-number.number) (expression_of c.expression-expression.result) c.expression-expression.ensures
     (labels_of c.args.basis.now) (sym c.requires.labels) c.args.columns.now c.requires.columns c.over_columns.result written c.in_ok-written.ensures
-    c.over_columns.ensures.value c.over_columns.ensures.one_each c.over_columns.ensures.wide) in
+    c.over_columns.ensures.comes c.over_columns.ensures.one_each) in
     record {
       many = ap length pushed ∙ length-append terms (written ∷ []) ∙ ap (λ n. n + 1) c.loop-number.invariant.many;
       each = subst (λ (l : List (Result Scaled Wide)). (i : ℕ) (y : Result Scaled Wide) → slice_get l i ≡ Some y

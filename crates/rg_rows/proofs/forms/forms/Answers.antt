@@ -6,7 +6,6 @@ use Rattle.rg_order_of_work.specs.Rewriting.{column_count, form_fold}
 use Rattle.rg_integers.specs.Range.{InRange}
 use Rattle.rg_integers.proofs.Casts.{back}
 use Rattle.std.specs.Prelude.{pos, ◌<ℤ◌}
-use Rattle.rg_fraction.specs.declared.fold_stop.FoldStop.TheVariants as stop
 use Rattle.rg_case_parts.specs.SettingViews.{setting_of, case_of}
 use Rattle.rg_case_parts.specs.WholeNumbers.{scaled_of}
 use Rattle.rg_theory.specs.System.{states}
@@ -19,6 +18,7 @@ use Rattle.rg_rows.specs.declared.named_form.NamedForm.{NamedForm}
 use Rattle.rg_rows.specs.View.{kept_row, row_in}
 use Rattle.rg_rows.specs.Forms.{linear_form, split_of, forms_in}
 use Rattle.rg_rows.specs.Making.{IsMade}
+use Rattle.rg_order_of_work.proofs.Comes.{comes_unless}
 use Rattle.rg_rows.proofs.Terms.{name_within}
 use Rattle.rg_rows.proofs.Sharing.{held_is}
 use Rattle.rg_rows.proofs.FormSteps.{Keeps, next_name, step_fails, step_next, step_named, step_times, step_made, form_skips, named_skips, forms_end, named_end}
@@ -28,12 +28,12 @@ use Rattle.rg_rows.proofs.forms.forms.Goals.{in-Some+in_ok-scaled+in_ok-named+in
 pub terms_in_case-requires-clause-within : goal.terms_in_case-requires-clause-within
 terms_in_case-requires-clause-within c = name_within c.args.lts.now c.args.case.class c.args.case.problem c.args.case.number c.args.names.now c.loop-i.i _ _ (states c.args.lts.now) c.requires.names c.loop-i-test.true refl refl
 
-pub returns-in_err-scaled-clause-wide : goal.returns-in_err-scaled-clause-wide
-returns-in_err-scaled-clause-wide c = λ w e.
+pub returns-in_err-scaled-clause-comes : goal.returns-in_err-scaled-clause-comes
+returns-in_err-scaled-clause-comes c =
     let result : c.from_residual.result ≡ Err c.in_err-scaled.field-0.0 = search rules in
-    let is : c.in_err-scaled.field-0.0 ≡ stop.Wide w = cc in
-    step_fails (case_of c.args.lts.now c.args.tree.now c.args.basis.now c.args.case.class c.args.case.problem c.args.case.number) c.args.names.now c.loop-i.i _ c.loop-i-test.true c.in-Some.form c.in-Some.ensures _ refl (map linear_form c.loop-i.forms.items) c.loop-i.invariant.so_far w
-    (c.in_err-scaled.ensures.wide w (ap (λ x. Err x) is))
+    rw result (comes_unless (each (form_fold (setting_of c.args.lts.now c.args.tree.now c.args.basis.now c.args.case.class)) (forms_in c.args.case.class c.args.names.now)) (λ (v : Vec NamedForm Global). map linear_form v.items) c.in_err-scaled.field-0.0
+    (λ w is. step_fails (case_of c.args.lts.now c.args.tree.now c.args.basis.now c.args.case.class c.args.case.problem c.args.case.number) c.args.names.now c.loop-i.i _ c.loop-i-test.true c.in-Some.form c.in-Some.ensures _ refl (map linear_form c.loop-i.forms.items) c.loop-i.invariant.so_far w
+    (rw is at c.in_err-scaled.ensures.comes)))
 
 pub form_over-requires : goal.form_over-requires
 form_over-requires c =
@@ -42,7 +42,7 @@ form_over-requires c =
     step_times (case_of c.args.lts.now c.args.tree.now c.args.basis.now c.args.case.class c.args.case.problem c.args.case.number) c.args.names.now c.loop-i.i _
     c.loop-i-test.true c.in-Some.form c.in-Some.ensures _ refl (map row_in c.args.rows.now) (simp length-map below) c.requires.rows row
     (held_is c.args.rows.now c.loop-i.i c.index-rows-i.result row below c.index-rows-i.is c.row.ensures)
-    (scaled_of c.in_ok-scaled.scaled) c.in_ok-scaled.ensures.value
+    (scaled_of c.in_ok-scaled.scaled) c.in_ok-scaled.ensures.comes
 
 pub loop-i-preserved : goal.loop-i-preserved
 loop-i-preserved c =
@@ -75,7 +75,7 @@ loop-i-preserved c =
                 (sym (map-append linear_form c.loop-i.forms.items (f ∷ [])))
                 (step_next s c.args.names.now c.loop-i.i _ c.loop-i-test.true w.in-Some.form w.in-Some.ensures _ refl
                 (map linear_form c.loop-i.forms.items) c.loop-i.invariant.so_far f
-                (scaled_of scaled) w.in_ok-scaled.ensures.value scale w.in_ok-named.ensures.numbers.1 w.in_ok-named.ensures.bounds.0 w.in_ok-named.ensures.bounds.1);
+                (scaled_of scaled) w.in_ok-scaled.ensures.comes scale w.in_ok-named.ensures.numbers.1 w.in_ok-named.ensures.bounds.0 w.in_ok-named.ensures.bounds.1);
             splits = subst (λ (xs : List SplitForm). xs ++ forms_in s.class (drop (c.loop-i.i + 1) c.args.names.now) ≡ forms_in s.class c.args.names.now) (sym (map-append split_of c.loop-i.forms.items (f ∷ [])))
                 (step_named s c.args.names.now c.loop-i.i _ c.loop-i-test.true w.in-Some.form w.in-Some.ensures _ refl (map split_of c.loop-i.forms.items) c.loop-i.invariant.splits f w.in_ok-named.ensures.form);
             made = All-append Made c.loop-i.forms.items (f ∷ []) c.loop-i.invariant.made (All-cons Made f [] one (All-nil Made));
@@ -91,8 +91,8 @@ loop-i-preserved c =
           }))
     ]
 
-pub returns-clause-value : goal.returns-clause-value
-returns-clause-value c = forms_end c.args.case.class (form_fold (setting_of c.args.lts.now c.args.tree.now c.args.basis.now c.args.case.class)) c.args.names.now c.loop-i.i (map linear_form c.loop-i.forms.items) c.loop-i.invariant.so_far c.loop-i-test.false
+pub returns-clause-comes : goal.returns-clause-comes
+returns-clause-comes c = forms_end c.args.case.class (form_fold (setting_of c.args.lts.now c.args.tree.now c.args.basis.now c.args.case.class)) c.args.names.now c.loop-i.i (map linear_form c.loop-i.forms.items) c.loop-i.invariant.so_far c.loop-i-test.false
 
 pub returns-clause-forms : goal.returns-clause-forms
 returns-clause-forms c = named_end c.args.case.class c.args.names.now c.loop-i.i (map split_of c.loop-i.forms.items) c.loop-i.invariant.splits c.loop-i-test.false

@@ -2,21 +2,23 @@ use Rattle.std.proofs.Common.{rules, ◌≡◌, ◌<◌, All, Err, map, length, 
 use Rattle.std.proofs.lemmas.List.{length-map}
 use Rattle.rg_integers.specs.Range.{InRange}
 use Rattle.rg_integers.proofs.Casts.{back}
-use Rattle.rg_fraction.specs.declared.fold_stop.FoldStop.TheVariants as stop
 use Rattle.rg_case_parts.specs.SettingViews.{case_of}
 use Rattle.rg_case_parts.specs.WholeNumbers.{scaled_of}
-use Rattle.rg_order_of_work.specs.Rewriting.{column_count}
+use Rattle.rg_order_of_work.specs.Rewriting.{column_count, form_fold}
 use Rattle.rg_rows.specs.View.{row_in}
+use Rattle.rg_rows.specs.Forms.{linear_form}
+use Rattle.rg_refuting.specs.declared.Form.TheVariants as split_form
+use Rattle.rg_order_of_work.proofs.Comes.{comes_unless}
 use Rattle.rg_rows.proofs.Sharing.{held_is}
 use Rattle.rg_rows.proofs.Starts.{start_made, start_fails, start_times, start_is_made}
 use Rattle.rg_rows.proofs.forms.start_form.Goals as goal
 
-pub returns-in_err-scaled-clause-wide : goal.returns-in_err-scaled-clause-wide
-returns-in_err-scaled-clause-wide c = λ w e.
+pub returns-in_err-scaled-clause-comes : goal.returns-in_err-scaled-clause-comes
+returns-in_err-scaled-clause-comes c =
     let s = case_of c.args.lts.now c.args.tree.now c.args.basis.now c.args.case.class c.args.case.problem c.args.case.number in
     let result : c.from_residual.result ≡ Err c.in_err-scaled.field-0.0 = search rules in
-    let is : c.in_err-scaled.field-0.0 ≡ stop.Wide w = cc in
-    start_fails s c.initial.result w c.initial.ensures.value (c.in_err-scaled.ensures.wide w (ap (λ x. Err x) is))
+    rw result (comes_unless (form_fold s.setting split_form.Start) linear_form c.in_err-scaled.field-0.0
+    (λ w is. start_fails s c.initial.result w c.initial.ensures.value (rw is at c.in_err-scaled.ensures.comes)))
 
 pub form_over-requires : goal.form_over-requires
 form_over-requires c =
@@ -25,14 +27,14 @@ form_over-requires c =
     let i = c.index_of-i.result in
     let below = subst (λ n. i < n) (sym c.requires.one_each) c.index_of-i.ensures.within in
     start_times s c.args.names.now (map row_in c.args.rows.now) i c.initial.result c.initial.ensures.value c.index_of-i.ensures.within c.index_of-i.ensures.here (simp length-map below) c.requires.rows row
-    (held_is c.args.rows.now i c.index-rows-i.result row below c.index-rows-i.is c.row.ensures) (scaled_of c.in_ok-scaled.scaled) c.in_ok-scaled.ensures.value
+    (held_is c.args.rows.now i c.index-rows-i.result row below c.index-rows-i.is c.row.ensures) (scaled_of c.in_ok-scaled.scaled) c.in_ok-scaled.ensures.comes
 
-pub returns-clause-value : goal.returns-clause-value
-returns-clause-value c =
+pub returns-clause-comes : goal.returns-clause-comes
+returns-clause-comes c =
     let s = case_of c.args.lts.now c.args.tree.now c.args.basis.now c.args.case.class c.args.case.problem c.args.case.number in
     let f = c.in_ok-form.form in
     let scale = c.in_ok-form.ensures.numbers.0 ∙ back c.start_scale-scale.result c.start_scale-scale.ensures.in_range ∙ c.start_scale-scale.ensures.value in
-    start_made s c.initial.result (scaled_of c.in_ok-scaled.scaled) f c.initial.ensures.value c.requires.tree.tree c.in_ok-scaled.ensures.value scale c.in_ok-form.ensures.numbers.1 c.in_ok-form.ensures.bounds.0 c.in_ok-form.ensures.bounds.1
+    start_made s c.initial.result (scaled_of c.in_ok-scaled.scaled) f c.initial.ensures.value c.requires.tree.tree c.in_ok-scaled.ensures.comes scale c.in_ok-form.ensures.numbers.1 c.in_ok-form.ensures.bounds.0 c.in_ok-form.ensures.bounds.1
 
 pub returns-clause-made : goal.returns-clause-made
 returns-clause-made c =

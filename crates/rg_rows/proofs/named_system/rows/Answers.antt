@@ -1,14 +1,16 @@
-use Rattle.std.proofs.Common.{rules, ◌≡◌, ◌+◌, [], ◌∷◌, All, Err, map, length, ap, refl, subst, sym, ◌∙◌}
+use Rattle.std.proofs.Common.{rules, ◌≡◌, ◌+◌, [], ◌∷◌, All, Err, map, length, ap, refl, subst, sym, ◌∙◌, Vec, Global}
 use Rattle.std.proofs.lemmas.List.{length-append}
 use Rattle.std.proofs.lemmas.List.Elements.{All-nil, All-cons, All-append}
 use Rattle.std.specs.Arc.{arc_slice_items}
 use Rattle.rg_theory.specs.System.{states}
 use Rattle.rg_order_of_work.specs.Rewriting.{column_count}
-use Rattle.rg_fraction.specs.declared.fold_stop.FoldStop.TheVariants as stop
 use Rattle.rg_cycles.specs.View.{cycle_of}
 use Rattle.rg_rows.specs.declared.case_row.CaseRow.{CaseRow}
 use Rattle.rg_rows.specs.View.{kept_row, row_in, fold_of}
 use Rattle.rg_order_of_work.proofs.Items.{map_push}
+use Rattle.rg_order_of_work.specs.Fold.{each}
+use Rattle.rg_rows.specs.declared.held_row.HeldRow.{HeldRow}
+use Rattle.rg_order_of_work.proofs.Comes.{comes_unless}
 use Rattle.rg_rows.proofs.Terms.{name_within}
 use Rattle.rg_order_of_work.proofs.Items.{item_next, item_fails, items_end}
 use Rattle.rg_rows.proofs.named_system.rows.Goals as goal
@@ -18,14 +20,13 @@ use Rattle.rg_case_parts.specs.SettingViews.{case_of}
 pub row_in_case-requires-clause-within : goal.row_in_case-requires-clause-within
 row_in_case-requires-clause-within c = name_within c.args.lts.now c.args.case.class c.args.case.problem c.args.case.number c.args.names.now c.loop-name.name-index _ _ (states c.args.lts.now) c.requires.names c.loop-name-test.true refl refl
 
-pub returns-in_err-row_in_case-clause-wide : goal.returns-in_err-row_in_case-clause-wide
-returns-in_err-row_in_case-clause-wide c = λ w e.
+pub returns-in_err-row_in_case-clause-comes : goal.returns-in_err-row_in_case-clause-comes
+returns-in_err-row_in_case-clause-comes c =
     let result : c.from_residual.result ≡ Err c.in_err-row_in_case.field-0.0 = search rules in
-    let is : c.in_err-row_in_case.field-0.0 ≡ stop.Wide w = cc in
-    let made = (c.in_err-row_in_case.ensures.wide w (ap (λ x. Err x) is)) in
-    item_fails (fold_of (case_of c.args.lts.now c.args.tree.now c.args.basis.now c.args.case.class c.args.case.problem c.args.case.number))
+    rw result (comes_unless (each (fold_of (case_of c.args.lts.now c.args.tree.now c.args.basis.now c.args.case.class c.args.case.problem c.args.case.number)) c.args.names.now) (λ (v : Vec HeldRow Global). map kept_row (map row_in v.items)) c.in_err-row_in_case.field-0.0
+    (λ w is. item_fails (fold_of (case_of c.args.lts.now c.args.tree.now c.args.basis.now c.args.case.class c.args.case.problem c.args.case.number))
     c.args.names.now c.loop-name.name-index _ (map kept_row (map row_in c.loop-name.rows.items)) c.loop-name.invariant.so_far
-    c.loop-name-test.true w made
+    c.loop-name-test.true w (rw is at c.in_err-row_in_case.ensures.comes)))
 
 pub loop-name-preserved : goal.loop-name-preserved
 loop-name-preserved c =
@@ -34,7 +35,7 @@ loop-name-preserved c =
     let row = row_in held in
     let lengths = λ (r : CaseRow). length (arc_slice_items r.coeffs) ≡ column_count c.args.lts.now (cycle_of c.args.basis.now) c.args.case.class in
     let same = map_push row_in rows c.push.new.self.items held c.in_ok-push.ensures.items in
-    let made = c.in_ok-row_in_case.ensures.value in
+    let made = c.in_ok-row_in_case.ensures.comes in
     record {
       so_far = rw (map_push kept_row (map row_in rows) (map row_in c.push.new.self.items) row same)
           (item_next (fold_of (case_of c.args.lts.now c.args.tree.now c.args.basis.now c.args.case.class c.args.case.problem c.args.case.number))
@@ -44,7 +45,7 @@ loop-name-preserved c =
       few = ap length c.in_ok-push.ensures.items ∙ length-append rows (held ∷ []) ∙ ap (λ n. n + 1) c.loop-name.invariant.few;
     }
 
-pub returns-clause-value : goal.returns-clause-value
-returns-clause-value c = items_end (fold_of (case_of c.args.lts.now c.args.tree.now c.args.basis.now c.args.case.class c.args.case.problem c.args.case.number))
+pub returns-clause-comes : goal.returns-clause-comes
+returns-clause-comes c = items_end (fold_of (case_of c.args.lts.now c.args.tree.now c.args.basis.now c.args.case.class c.args.case.problem c.args.case.number))
     c.args.names.now c.loop-name.name-index row_name.Block (map kept_row (map row_in c.loop-name.rows.items)) c.loop-name.invariant.so_far
     c.loop-name-test.false

@@ -19,7 +19,7 @@ use Rattle.rg_case_parts.specs.SettingViews.{case_of}
 use Rattle.rg_case_parts.proofs.Picking.{columns_few}
 use Rattle.rg_linear.proofs.Firsts.{kept_count}
 use Rattle.rg_rows.proofs.Terms.{names_within}
-use Rattle.rg_rows.proofs.Making.{case_made, forms_fail}
+use Rattle.rg_rows.proofs.Making.{case_fails, case_made, forms_fail}
 use Rattle.rg_rows.proofs.Forming.{names_few, well_formed}
 use Rattle.rg_rows.proofs.FormNames.{forms_are, has_start_name}
 use Rattle.rg_rows.proofs.Assembling.{all_stand, all_forms}
@@ -50,7 +50,7 @@ case_forms-requires-clause-names c =
 pub case_forms-requires-clause-rows : goal.case_forms-requires-clause-rows
 case_forms-requires-clause-rows c =
     subst (λ (l : List RowName). each (fold_of (case_of c.args.lts.now c.args.tree.now c.args.basis.now c.args.class c.args.problem c.args.case)) l (Ok (map kept_row (map row_in c.deref-4.result.now)))) (c.deref.ensures.value ∙ sym c.deref-3.ensures.value)
-    (subst (λ (l : List HeldRow). each (fold_of (case_of c.args.lts.now c.args.tree.now c.args.basis.now c.args.class c.args.problem c.args.case)) c.deref.result.now (Ok (map kept_row (map row_in l)))) (sym c.deref-4.ensures.value) c.in_ok-all.ensures.value)
+    (subst (λ (l : List HeldRow). each (fold_of (case_of c.args.lts.now c.args.tree.now c.args.basis.now c.args.class c.args.problem c.args.case)) c.deref.result.now (Ok (map kept_row (map row_in l)))) (sym c.deref-4.ensures.value) c.in_ok-all.ensures.comes)
 
 pub case_forms-requires-clause-one_each : goal.case_forms-requires-clause-one_each
 case_forms-requires-clause-one_each c = ap length c.deref-4.ensures.value ∙ c.in_ok-all.ensures.few ∙ ap length (c.deref.ensures.value ∙ sym c.deref-3.ensures.value)
@@ -66,6 +66,12 @@ case_forms-requires-clause-start c = λ splits.
     subst (λ (l : List RowName). Contains l (row_name.Tokens c.args.lts.now.initial)) (sym named)
     (has_start_name c.args.lts.now c.args.class c.args.problem c.args.case c.is_well_formed.ensures.in_range.initial splits)
 
+pub returns-in_err-all-clause-wide : goal.returns-in_err-all-clause-wide
+returns-in_err-all-clause-wide c = λ w e.
+    let result : c.from_residual-in_err-all.result ≡ Err c.in_err-all.field-0.0 = search rules in
+    let is : c.in_err-all.field-0.0 ≡ stop.Wide w = cc in
+    case_fails (case_of c.args.lts.now c.args.tree.now c.args.basis.now c.args.class c.args.problem c.args.case) c.deref.result.now (c.deref.ensures.value ∙ c.in_ok-names.ensures) w (rw is at c.in_err-all.ensures.comes)
+
 pub returns-in_err-forms-clause-wide : goal.returns-in_err-forms-clause-wide
 returns-in_err-forms-clause-wide c = λ w e.
     let s = case_of c.args.lts.now c.args.tree.now c.args.basis.now c.args.class c.args.problem c.args.case in
@@ -73,8 +79,8 @@ returns-in_err-forms-clause-wide c = λ w e.
     let is : c.in_err-forms.field-0.0 ≡ stop.Wide w = cc in
     let named = c.deref.ensures.value ∙ c.in_ok-names.ensures in
     let named_again = c.deref-3.ensures.value ∙ c.in_ok-names.ensures in
-    forms_fail s c.deref.result.now named (map kept_row (map row_in c.in_ok-all.all.items)) c.in_ok-all.ensures.value w
-    (subst (λ (l : List Form). each (form_fold s.setting) l (Err w)) (ap (case_forms s.class s.problem) named_again ∙ forms_are s.lts s.class s.problem s.number) (c.in_err-forms.ensures.wide w (ap (λ x. Err x) is)))
+    forms_fail s c.deref.result.now named (map kept_row (map row_in c.in_ok-all.all.items)) c.in_ok-all.ensures.comes w
+    (subst (λ (l : List Form). each (form_fold s.setting) l (Err w)) (ap (case_forms s.class s.problem) named_again ∙ forms_are s.lts s.class s.problem s.number) (rw is at c.in_err-forms.ensures.comes))
 
 pub new-requires : goal.new-requires
 new-requires c =
@@ -104,9 +110,9 @@ returns-clause-system c =
     let columns : c.count.result ≡ column_count s.lts s.basis s.class = c.count.ensures s.lts s.class (sym c.requires.labels) c.requires.common.columns in
     let shown : CaseSystem = record { columns = c.count.result; kept = kept; forms = map linear_form c.in_ok-forms.forms.items } in
     let kept_firsts = subst (λ l. KeepsFirsts (λ k. k.row) IsIdle [] (map kept_row (map row_in l)) kept) c.deref-2.ensures.value firsts in
-    let forms_made = subst (λ (l : List Form). each (form_fold s.setting) l (Ok shown.forms)) (ap (case_forms s.class s.problem) named_again ∙ forms_are s.lts s.class s.problem s.number) c.in_ok-forms.ensures.value in (
+    let forms_made = subst (λ (l : List Form). each (form_fold s.setting) l (Ok shown.forms)) (ap (case_forms s.class s.problem) named_again ∙ forms_are s.lts s.class s.problem s.number) c.in_ok-forms.ensures.comes in (
       shown,
-      case_made s c.deref.result.now named (map kept_row all) c.in_ok-all.ensures.value shown.forms shown forms_made columns kept_firsts refl,
+      case_made s c.deref.result.now named (map kept_row all) c.in_ok-all.ensures.comes shown.forms shown forms_made columns kept_firsts refl,
       record { system = c.new.ensures ∙ (λ i. record { columns = c.count.result; rows = shows.rows i }); names = shows.names; factors = shows.factors; forms = refl },
     )
 
@@ -132,7 +138,7 @@ returns-clause-rows c =
     c.deref-4.ensures.value c.in_ok-forms.ensures.made)) in
     let system_is = c.new.ensures ∙ (λ i. record { columns = c.count.result; rows = shows.rows i }) in
     subst (λ (s : LinearSystem). All (StandsInRow it s) c.in_ok-forms.forms.items) (sym system_is)
-    (all_stand it c.deref.result.now shown (map kept_row all) c.in_ok-kept.indices.items c.in_ok-all.ensures.value kept_indices c.in_ok-forms.forms.items made)
+    (all_stand it c.deref.result.now shown (map kept_row all) c.in_ok-kept.indices.items c.in_ok-all.ensures.comes kept_indices c.in_ok-forms.forms.items made)
 
 pub returns-clause-forms : goal.returns-clause-forms
 returns-clause-forms c = λ reachable is_basis bound.
@@ -150,8 +156,8 @@ returns-clause-forms c = λ reachable is_basis bound.
     (subst (λ (l : List HeldRow). All (IsMade it.lts it.class (column_count it.lts it.basis it.class) (map kept_row (map row_in l)) c.deref-5.result.now) c.in_ok-forms.forms.items)
     c.deref-4.ensures.value c.in_ok-forms.ensures.made)) in
     let system_is = c.new.ensures ∙ (λ i. record { columns = c.count.result; rows = shows.rows i }) in
-    let forms_made = subst (λ (l : List Form). each (form_fold it.setting) l (Ok shown.forms)) (ap (case_forms it.class it.problem) named_again ∙ forms_are it.lts it.class it.problem it.number) c.in_ok-forms.ensures.value in
-    let is_case = case_made it c.deref.result.now named (map kept_row all) c.in_ok-all.ensures.value shown.forms shown forms_made columns kept_firsts refl in
+    let forms_made = subst (λ (l : List Form). each (form_fold it.setting) l (Ok shown.forms)) (ap (case_forms it.class it.problem) named_again ∙ forms_are it.lts it.class it.problem it.number) c.in_ok-forms.ensures.comes in
+    let is_case = case_made it c.deref.result.now named (map kept_row all) c.in_ok-all.ensures.comes shown.forms shown forms_made columns kept_firsts refl in
     let over : IsCaseOver it shown = record { in_range = c.is_well_formed.ensures.in_range; numbers = bound; reachable = reachable; is_tree = c.requires.tree.tree; is_basis = is_basis; asked = c.requires.asked; is_case = is_case } in
     let splits = c.in_ok-forms.ensures.forms ∙ ap (case_forms it.class it.problem) named_again ∙ forms_are it.lts it.class it.problem it.number in
     let size : length all ≡ length (names_of it.lts it.class it.problem it.number) = length-map c.in_ok-all.all.items row_in ∙ c.in_ok-all.ensures.few ∙ ap length named in
@@ -162,4 +168,4 @@ returns-clause-forms c = λ reachable is_basis bound.
     let rows : length (rows_of shown).rows ≤ length all = (let h = kept_count (λ (k : KeptRow). k.row) IsIdle [] (map kept_row all) kept kept_firsts in let f = length-map kept (λ (k : KeptRow). k.row) in let g = length-map all kept_row in omega arith) in
     let few : c.count.result + length (rows_of shown).rows + 4096 * (states it.lts + labels it.lts + 1) < 2 ^ 32 = omega arith in
     subst (λ (s : LinearSystem). AreFormsOf s c.in_ok-forms.forms.items) (sym system_is)
-    (all_forms it c.deref.result.now shown (map kept_row all) c.in_ok-kept.indices.items c.in_ok-all.ensures.value kept_indices c.in_ok-forms.forms.items made refl splits over wide bound few)
+    (all_forms it c.deref.result.now shown (map kept_row all) c.in_ok-kept.indices.items c.in_ok-all.ensures.comes kept_indices c.in_ok-forms.forms.items made refl splits over wide bound few)

@@ -33,8 +33,8 @@ invariant_of-result c =
       numbers_are = c.new-2.ensures ∙ sym (ap (λ z. coeffs_are ++ z ∷ []) (back constant_is constant) ∙ c.in_ok-coeffs.ensures ∙ c.deref-2.ensures.value);
     }
 
-pub returns-clause-value : goal.returns-clause-value
-returns-clause-value c =
+pub returns-clause-comes : goal.returns-clause-comes
+returns-clause-comes c =
     let old = c.push.new.self.items in
     let new = c.reduce.new.q in
     let numbers = c.args.scaled.numbers.items in

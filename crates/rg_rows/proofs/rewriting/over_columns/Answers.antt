@@ -1,38 +1,39 @@
-use Rattle.std.proofs.Common.{rules, ◌≡◌, ◌<◌, Ok, Err, map, length, vec_len, ap, subst, sym, ◌∙◌, arith}
+use Rattle.std.proofs.Common.{rules, ◌≡◌, ◌<◌, Err, map, length, vec_len, ap, subst, sym, ◌∙◌, arith}
 use Rattle.std.specs.Int.{w128, cast_signed, cast_unsigned}
 use Rattle.std.proofs.lemmas.List.{length-map}
 use Rattle.rg_integers.specs.Sum.{number_at}
 use Rattle.rg_integers.proofs.Casts.{back}
 use Rattle.rg_order_of_work.specs.Fold.{ratio_of}
-use Rattle.rg_order_of_work.specs.Rewriting.{free_labels, columns_of, scaled_fold, coefficient_fold}
-use Rattle.rg_fraction.specs.declared.fold_stop.FoldStop.TheVariants as stop
+use Rattle.rg_order_of_work.specs.Rewriting.{free_labels, columns_of, coefficient_fold}
 use Rattle.rg_cycles.specs.View.{labels_of, cycle_of}
 use Rattle.rg_reasons.specs.Sums.{terms_in}
 use Rattle.rg_case_parts.specs.SettingViews.{setting_of}
+use Rattle.rg_order_of_work.specs.Rewriting.{terms_fold}
 use Rattle.rg_case_parts.specs.WholeNumbers.{scaled_of}
+use Rattle.rg_order_of_work.proofs.Comes.{comes_by, comes_unless}
 use Rattle.rg_order_of_work.proofs.Items.{each_length}
 use Rattle.rg_rows.proofs.Making.{if_ok_more, columns_unsubstituted, columns_scaled, columns_many}
 use Rattle.rg_rows.proofs.rewriting.over_columns.Goals as goal
 
-pub returns-in_err-free-clause-wide : goal.returns-in_err-free-clause-wide
-returns-in_err-free-clause-wide c = λ w e lts class same are.
+pub returns-in_err-free-clause-comes : goal.returns-in_err-free-clause-comes
+returns-in_err-free-clause-comes c = λ lts class same are.
     let result : c.from_residual-in_err-free.result ≡ Err c.in_err-free.field-0.0 = search rules in
-    let is : c.in_err-free.field-0.0 ≡ stop.Wide w = cc in
     let n = labels_of c.args.basis.now in
     let cycle = cycle_of c.args.basis.now in
     let terms = terms_in c.args.expression.now.terms in
     let read : vec_len c.args.columns.now.used ≡ length c.args.columns.now.used.items = omega arith in
     let size : c.len-labels.result ≡ n = c.len-labels.ensures ∙ read ∙ c.requires.columns in
-    columns_unsubstituted (setting_of lts c.args.tree.now c.args.basis.now class) terms n same (number_at c.deref.result.now)
-    (λ t lt. ap (λ l. number_at l t) c.deref.ensures.value ∙ c.in_ok-counts.ensures.counts t (subst (λ m. t < m) (sym size) lt)) w (c.in_err-free.ensures.wide w (ap (λ x. Err x) is))
+    rw result (comes_unless (terms_fold (setting_of lts c.args.tree.now c.args.basis.now class) terms) scaled_of c.in_err-free.field-0.0
+    (λ w is. columns_unsubstituted (setting_of lts c.args.tree.now c.args.basis.now class) terms n same (number_at c.deref.result.now)
+    (λ t lt. ap (λ l. number_at l t) c.deref.ensures.value ∙ c.in_ok-counts.ensures.counts t (subst (λ m. t < m) (sym size) lt)) w (rw is at c.in_err-free.ensures)))
 
 pub pick-requires-clause-one_each : goal.pick-requires-clause-one_each
 pick-requires-clause-one_each c = ap length c.deref-2.ensures.value ∙ sym (length-map c.in_ok-free.free.coeffs.items ratio_of)
     ∙ each_length (coefficient_fold (labels_of c.args.basis.now) (cycle_of c.args.basis.now) (number_at c.deref.result.now))
-    (free_labels (labels_of c.args.basis.now) (cycle_of c.args.basis.now)) (map ratio_of c.in_ok-free.free.coeffs.items) c.in_ok-free.ensures.value
+    (free_labels (labels_of c.args.basis.now) (cycle_of c.args.basis.now)) (map ratio_of c.in_ok-free.free.coeffs.items) c.in_ok-free.ensures
 
-pub returns-clause-value : goal.returns-clause-value
-returns-clause-value c =
+pub returns-clause-comes : goal.returns-clause-comes
+returns-clause-comes c = λ lts class same are.
     let n = labels_of c.args.basis.now in
     let cycle = cycle_of c.args.basis.now in
     let terms = terms_in c.args.expression.now.terms in
@@ -41,11 +42,10 @@ returns-clause-value c =
     let size : c.len-labels.result ≡ n = c.len-labels.ensures ∙ read ∙ c.requires.columns in
     let start = cast_signed w128 (cast_unsigned w128 c.start.result) in
     let starts = back c.start.result c.start.ensures.in_range ∙ c.start.ensures.value in
-    if_ok_more c.without_denominators.result (λ s. scaled_fold (map ratio_of c.deref-3.result.now) (Ok (scaled_of s))) _
-    (λ s h lts class same are. columns_scaled (setting_of lts c.args.tree.now c.args.basis.now class) terms n same (number_at c.deref.result.now)
-    (λ t lt. ap (λ l. number_at l t) c.deref.ensures.value ∙ c.in_ok-counts.ensures.counts t (subst (λ m. t < m) (sym size) lt)) free c.in_ok-free.ensures.value
+    comes_by _ _ scaled_of c.without_denominators.result c.without_denominators.ensures.comes (columns_scaled (setting_of lts c.args.tree.now c.args.basis.now class) terms n same (number_at c.deref.result.now)
+    (λ t lt. ap (λ l. number_at l t) c.deref.ensures.value ∙ c.in_ok-counts.ensures.counts t (subst (λ m. t < m) (sym size) lt)) free c.in_ok-free.ensures
     (map ratio_of c.deref-3.result.now) start starts (ap (map ratio_of) c.deref-3.ensures.value ∙ c.in_ok-numbers.ensures lts class same are
-    ∙ ap (λ l. columns_of lts cycle class start (map ratio_of l)) c.deref-2.ensures.value) (Ok (scaled_of s)) h) c.without_denominators.ensures.value
+    ∙ ap (λ l. columns_of lts cycle class start (map ratio_of l)) c.deref-2.ensures.value))
 
 pub returns-clause-one_each : goal.returns-clause-one_each
 returns-clause-one_each c =
@@ -60,21 +60,6 @@ returns-clause-one_each c =
     if_ok_more c.without_denominators.result (λ s. length s.numbers.items ≡ length c.deref-3.result.now) _
     (λ s h lts class same are. h ∙ sym (length-map c.deref-3.result.now ratio_of) ∙ columns_many (setting_of lts c.args.tree.now c.args.basis.now class) terms n same
     (number_at c.deref.result.now) (λ t lt. ap (λ l. number_at l t) c.deref.ensures.value ∙ c.in_ok-counts.ensures.counts t (subst (λ m. t < m) (sym size) lt)) free
-    c.in_ok-free.ensures.value (map ratio_of c.deref-3.result.now) start starts
+    c.in_ok-free.ensures (map ratio_of c.deref-3.result.now) start starts
     (ap (map ratio_of) c.deref-3.ensures.value ∙ c.in_ok-numbers.ensures lts class same are
     ∙ ap (λ l. columns_of lts cycle class start (map ratio_of l)) c.deref-2.ensures.value)) c.without_denominators.ensures.one_each
-
-pub returns-clause-wide : goal.returns-clause-wide
-returns-clause-wide c = λ w e lts class same are.
-    let n = labels_of c.args.basis.now in
-    let cycle = cycle_of c.args.basis.now in
-    let terms = terms_in c.args.expression.now.terms in
-    let free = map ratio_of c.in_ok-free.free.coeffs.items in
-    let read : vec_len c.args.columns.now.used ≡ length c.args.columns.now.used.items = omega arith in
-    let size : c.len-labels.result ≡ n = c.len-labels.ensures ∙ read ∙ c.requires.columns in
-    let start = cast_signed w128 (cast_unsigned w128 c.start.result) in
-    let starts = back c.start.result c.start.ensures.in_range ∙ c.start.ensures.value in
-    columns_scaled (setting_of lts c.args.tree.now c.args.basis.now class) terms n same (number_at c.deref.result.now)
-    (λ t lt. ap (λ l. number_at l t) c.deref.ensures.value ∙ c.in_ok-counts.ensures.counts t (subst (λ m. t < m) (sym size) lt)) free c.in_ok-free.ensures.value
-    (map ratio_of c.deref-3.result.now) start starts (ap (map ratio_of) c.deref-3.ensures.value ∙ c.in_ok-numbers.ensures lts class same are
-    ∙ ap (λ l. columns_of lts cycle class start (map ratio_of l)) c.deref-2.ensures.value) (Err w) (c.without_denominators.ensures.wide w e)

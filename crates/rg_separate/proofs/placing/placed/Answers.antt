@@ -1,4 +1,4 @@
-use Rattle.std.proofs.Common.{◌<◌, List, [], All, length, map, Err, ap, sym, subst, ◌∙◌}
+use Rattle.std.proofs.Common.{◌<◌, List, [], All, length, map, ap, sym, subst, ◌∙◌}
 use Rattle.rg_refuting.specs.Row.{Side}
 use Rattle.rg_linear.specs.Branching.{SplitSide, BranchOutcome.found}
 use Rattle.rg_linear.proofs.Endings.{splits_within}
@@ -32,10 +32,10 @@ returns-in_ok-above-in-Err-Wide-clause-tells c =
     let sides = c.args.above.now in
     let by_name = c.in_ok-above-in-Err-Wide.ensures ∙ ap (λ (fs : List NamedForm). sides_among (map split_of fs) sides) c.deref.ensures.value ∙ ap (λ fs. sides_among fs sides) c.requires.system.by_name in
     subst (λ (w : Shown). ShownWide lts class w) (sym (c.passed.ensures ∙ ap (λ (ss : List Side). passed_at Place c.args.c ss c.in-Err-Wide.wide) by_name))
-    (place_shown c.args.c c.args.named.now sides c.args.point.now c.in-Err-Wide.wide c.requires.case c.requires.system c.requires.found (c.in-Err-Wide.ensures.wide c.in-Err-Wide.wide (ap Err c.in-Err-Wide.field-0-is)))
+    (place_shown c.args.c c.args.named.now sides c.args.point.now c.in-Err-Wide.wide c.requires.case c.requires.system c.requires.found (rw c.in-Err-Wide.field-0-is at c.in-Err-Wide.ensures.comes))
 
 pub returns-in-Ok-clause-comes : goal.returns-in-Ok-clause-comes
-returns-in-Ok-clause-comes c = place_comes c.args.c c.args.named.now c.args.above.now c.args.point.now c.requires.system c.requires.found (shown_place c.in-Ok.region.place) c.in-Ok.ensures.place
+returns-in-Ok-clause-comes c = place_comes c.args.c c.args.named.now c.args.above.now c.args.point.now c.requires.system c.requires.found (shown_place c.in-Ok.region.place) c.in-Ok.ensures.comes
 
 pub returns-in_ok-above-in-Err-Wide-clause-comes : goal.returns-in_ok-above-in-Err-Wide-clause-comes
 returns-in_ok-above-in-Err-Wide-clause-comes c =
@@ -44,4 +44,4 @@ returns-in_ok-above-in-Err-Wide-clause-comes c =
     let sides = c.args.above.now in
     let by_name = c.in_ok-above-in-Err-Wide.ensures ∙ ap (λ (fs : List NamedForm). sides_among (map split_of fs) sides) c.deref.ensures.value ∙ ap (λ fs. sides_among fs sides) c.requires.system.by_name in
     subst (λ (w : Shown). CaseComes (shown_case c.args.c) (passes w)) (sym (c.passed.ensures ∙ ap (λ (ss : List Side). passed_at Place c.args.c ss c.in-Err-Wide.wide) by_name))
-    (place_fails c.args.c c.args.named.now sides c.args.point.now c.requires.system c.requires.found c.in-Err-Wide.wide (c.in-Err-Wide.ensures.wide c.in-Err-Wide.wide (ap Err c.in-Err-Wide.field-0-is)))
+    (place_fails c.args.c c.args.named.now sides c.args.point.now c.requires.system c.requires.found c.in-Err-Wide.wide (rw c.in-Err-Wide.field-0-is at c.in-Err-Wide.ensures.comes))

@@ -36,13 +36,13 @@ spread-requires c =
     let by_name = c.in_ok-above.ensures ∙ ap (λ (fs : List NamedForm). sides_among (map split_of fs) sides) c.deref.ensures.value ∙ ap (λ fs. sides_among fs sides) c.requires.system.by_name in
     subst (λ (above : List Side). RefutesCase c.args.c.setting.lts.now c.args.c.setting.tree.now c.args.c.setting.basis.now c.args.c.setting.class c.args.c.problem c.args.c.number c.deref-2.result.now above) (sym c.deref-3.ensures.value)
     (subst (λ (shares : List (RowName × Fraction)). RefutesCase c.args.c.setting.lts.now c.args.c.setting.tree.now c.args.c.setting.basis.now c.args.c.setting.class c.args.c.problem c.args.c.number shares c.in_ok-above.above.items) (sym c.deref-2.ensures.value)
-    (leaf_asked c.args.c named sides c.in_ok-above.above.items (map weight_of c.args.weights.now) c.in_ok-shares.shares.items c.requires.case c.requires.system c.requires.leaf by_name (c.in_ok-shares.ensures.one_each ∙ sym (length-map c.args.weights.now weight_of)) c.in_ok-shares.ensures.shares))
+    (leaf_asked c.args.c named sides c.in_ok-above.above.items (map weight_of c.args.weights.now) c.in_ok-shares.shares.items c.requires.case c.requires.system c.requires.leaf by_name (c.in_ok-shares.ensures.one_each ∙ sym (length-map c.args.weights.now weight_of)) c.in_ok-shares.ensures.comes))
 
 pub returns-clause-made : goal.returns-clause-made
 returns-clause-made c =
     let sides = c.args.above.now in
     let by_name = c.in_ok-above.ensures ∙ ap (λ (fs : List NamedForm). sides_among (map split_of fs) sides) c.deref.ensures.value ∙ ap (λ fs. sides_among fs sides) c.requires.system.by_name in
-    let fold = subst (λ (shares : List (RowName × Fraction)). SharesFold c.args.named.now sides (map weight_of c.args.weights.now) (Ok (map share_of shares))) (sym c.deref-2.ensures.value) c.in_ok-shares.ensures.shares in
+    let fold = subst (λ (shares : List (RowName × Fraction)). SharesFold c.args.named.now sides (map weight_of c.args.weights.now) (Ok (map share_of shares))) (sym c.deref-2.ensures.value) c.in_ok-shares.ensures.comes in
     IfOk_both c.spread.result c.spread.ensures.leaf c.spread.ensures.refutes
     (λ node leaf is. leaf_made c.args.c c.args.named.now sides c.deref-3.result.now (map weight_of c.args.weights.now)
     (map share_of c.deref-2.result.now) (made_node_of node) c.requires.system (c.deref-3.ensures.value ∙ by_name) fold leaf is)
@@ -57,7 +57,7 @@ returns-clause-wide c = λ w is case shows.
     inr (
       map share_of c.in_ok-shares.shares.items,
       shares_named c.args.c c.args.named.now c.requires.system sides (map weight_of c.args.weights.now)
-          (Ok (map share_of c.in_ok-shares.shares.items)) c.in_ok-shares.ensures.shares case shows,
+          (Ok (map share_of c.in_ok-shares.shares.items)) c.in_ok-shares.ensures.comes case shows,
       subst (λ shares. Fails (named_sides lts class c.args.c.problem sides) shares) c.deref-2.ensures.value
           (subst (λ above. Fails above c.deref-2.result.now) (c.deref-3.ensures.value ∙ by_name) (c.spread.ensures.wide w is)),
     )
@@ -66,4 +66,4 @@ pub returns-in_err-shares-clause-wide : goal.returns-in_err-shares-clause-wide
 returns-in_err-shares-clause-wide c = λ w is case shows.
     let result : c.from_residual.result ≡ Err c.in_err-shares.field-0.0 = search rules in
     let passes : c.in_err-shares.field-0.0 ≡ stop.Wide w = cc in
-    inl (shares_named c.args.c c.args.named.now c.requires.system c.args.above.now (map weight_of c.args.weights.now) (Err w) (c.in_err-shares.ensures.wide w (ap Err passes)) case shows)
+    inl (shares_named c.args.c c.args.named.now c.requires.system c.args.above.now (map weight_of c.args.weights.now) (Err w) (rw passes at c.in_err-shares.ensures.comes) case shows)
