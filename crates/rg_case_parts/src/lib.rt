@@ -1,4 +1,4 @@
-//! The parts of a case's system: the vectors of the chords, its columns, how often they count in what the named rows of
+//! The parts of a case's system: what it is of, the vectors of the chords, its columns, how often they count in what the named rows of
 //! a certificate say, and rows of fractions brought to whole numbers.
 //!
 //! The terms of a row are tokens of states and effects of labels; here they are counted over the tokens of the
@@ -11,10 +11,12 @@ mod columns;
 mod counts;
 mod denominators;
 mod scaled;
+mod setting;
 mod vectors;
 
 pub use columns::{Columns, has_start, used_labels};
 pub use counts::{count, start};
 pub use denominators::{common_denominator, products, without_denominators};
 pub use scaled::Scaled;
+pub use setting::{CaseSetting, Setting};
 pub use vectors::chord_vectors;
