@@ -6,7 +6,7 @@ use Rattle.rg_theory.specs.declared.Problem.{Problem}
 use Rattle.rg_theory.specs.Problem.{IsProblem, SeparateAll}
 use Rattle.rg_refuting.specs.Refutes.{Tree}
 use Rattle.rg_outcome.specs.Solving.{Solved, Solved.refuted, Solved.passed}
-use Rattle.rg_outcome.specs.Coming.{Separation, Separation.places, Separation.unsolvable, Separation.too_wide, IsFirstProblem, IsLeft, IsDone, ComesFrom, Comes, PlacesSeparate, IsSound}
+use Rattle.rg_outcome.specs.Coming.{Separation, Separation.places, Separation.unsolvable, Separation.too_wide, IsFirstProblem, IsLeft, IsDone, ComesFrom, AllComeTo, PlacesSeparate, IsSound}
 use Rattle.rg_blocks.specs.declared.separation.SeparationOutcome.{SeparationOutcome}
 use Rattle.rg_blocks.specs.declared.separation.SeparationOutcome.TheVariants as outcome
 
@@ -38,5 +38,5 @@ ShowsSeparation lts comes after _ _ = ⊥
 -- all problems come to this
 pub record IsSeparationOutcome (lts : System) (comes : Problem → Solved → Type 0) (after : List Place) (e : SeparationOutcome) : Type 0 where
   pub o : Separation
-  pub comes_to : Comes lts comes o
+  pub comes_to : AllComeTo lts comes o
   pub shows : ShowsSeparation lts comes after e o

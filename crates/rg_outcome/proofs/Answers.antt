@@ -17,7 +17,7 @@ use Rattle.rg_order_of_work.specs.Setting.{setting_at}
 use Rattle.rg_order_of_work.specs.Chords.{KeepsChords, chord_vectors, chord_system, IsBasis}
 use Rattle.rg_order_of_work.specs.Shown.{Stage, Shown, StandsAt, CycleShown}
 use Rattle.rg_outcome.specs.Solving.{ProblemComes}
-use Rattle.rg_outcome.specs.Coming.{Separation, Separation.places, Separation.unsolvable as of_problem, Separation.too_wide as of_term, Comes}
+use Rattle.rg_outcome.specs.Coming.{Separation, Separation.places, Separation.unsolvable as of_problem, Separation.too_wide as of_term, AllComeTo}
 use Rattle.rg_outcome.specs.Outcome.{Answer, Answer.net, Answer.unsolvable, Answer.too_wide, Gives, Searched, Searched.a_cycle, Searched.all_problems, Out, Out.a_state, Out.a_fork, Out.a_search}
 use Rattle.rg_theory.specs.Pruned.{IsPruned}
 use Rattle.rg_outcome.proofs.Separations.{same_separation}
@@ -117,7 +117,7 @@ same_fork s t a b s' t' a' b' (e, f, p, q) = cc
 
 module _ (lts : System) (class : Class) where
   same_problems : (arcs arcs' : List Arc) (basis basis' : CycleBasis) (o o' : Separation) → IsTree lts arcs → IsTree lts arcs' → IsBasis lts arcs basis
-      → IsBasis lts arcs' basis' → Comes lts (ProblemComes (setting_at lts arcs basis class)) o → Comes lts (ProblemComes (setting_at lts arcs' basis' class)) o'
+      → IsBasis lts arcs' basis' → AllComeTo lts (ProblemComes (setting_at lts arcs basis class)) o → AllComeTo lts (ProblemComes (setting_at lts arcs' basis' class)) o'
       → o ≡ o'
   same_problems arcs arcs' basis basis' o o' is is' is_basis is_basis' d d' =
       let trees : arcs' ≡ arcs = same_tree lts (lts.initial ∷ []) arcs' arcs is' is in
@@ -125,7 +125,7 @@ module _ (lts : System) (class : Class) where
       let bases : basis' ≡ basis = cycle_basis_is_one (labels lts) (chord_vectors lts arcs) basis' basis is_basis'' is_basis in
       let s = setting_at lts arcs basis class in
       let same : setting_at lts arcs' basis' class ≡ s = λ i. setting_at lts (trees i) (bases i) class in
-      same_separation lts (ProblemComes s) (same_solved s) None [] o o' d (subst (λ x. Comes lts (ProblemComes x) o') same d')
+      same_separation lts (ProblemComes s) (same_solved s) None [] o o' d (subst (λ x. AllComeTo lts (ProblemComes x) o') same d')
 
   pub same_search : (o o' : Separation) → Searched lts class o → Searched lts class o' → o ≡ o'
   same_search o o' (a_cycle w stage h) (a_cycle w' stage' h') = ap of_term (same_cycle_shown lts w w' stage stage' h h')

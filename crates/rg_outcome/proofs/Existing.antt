@@ -12,7 +12,7 @@ use Rattle.rg_theory.specs.Problem.{IsProblem, IsSeparatedBy, SeparateAll, Comes
 use Rattle.rg_order_of_work.specs.Shown.{Shown}
 use Rattle.rg_outcome.specs.Solving.{Solved, Solved.placed, Solved.refuted, Solved.passed}
 use Rattle.rg_outcome.specs.Coming.{IsFirstProblem, Separation, Separation.places, Separation.unsolvable, Separation.too_wide, IsSeparated, IsLeft, IsBehind, IsNext}
-use Rattle.rg_outcome.specs.Coming.{IsDone, ComesFrom, ComesFrom.keeps, ComesFrom.goes_on, ComesFrom.ends, ComesFrom.all_separated, ComesFrom.one_is_left, Comes}
+use Rattle.rg_outcome.specs.Coming.{IsDone, ComesFrom, ComesFrom.keeps, ComesFrom.goes_on, ComesFrom.ends, ComesFrom.all_separated, ComesFrom.one_is_left, AllComeTo}
 use Rattle.rg_outcome.specs.Coming.{PlacesSeparate, HasResults, IsSound}
 use Rattle.rg_outcome.proofs.Ordering.{cases_order}
 use Rattle.rg_outcome.proofs.Decided.{Decided, find_problem, from_last, behind_is_decided, is_separated_decided, left_is_decided, next_is_decided}
@@ -123,5 +123,5 @@ module _ (lts : System) (comes : Problem → Solved → Type 0) (reachable : IsA
   after_each : (problem : Problem) → Has lts comes (Some problem)
   after_each = from_last lts (λ q. Has lts comes (Some q)) (λ problem later. take (Some problem) later)
 
-  pub some_separation : (o : Separation) × Comes lts comes o
+  pub some_separation : (o : Separation) × AllComeTo lts comes o
   some_separation = take None (λ later is behind. after_each later) [] (record { over = λ problem is not_behind. absurd (not_behind tt); regions = All-nil (IsRegion lts) })

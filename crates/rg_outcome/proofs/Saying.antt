@@ -8,7 +8,7 @@ use Rattle.rg_theory.specs.Problem.{ComesBefore}
 use Rattle.rg_refuting.specs.Refutes.{Tree}
 use Rattle.rg_order_of_work.specs.Shown.{Shown}
 use Rattle.rg_outcome.specs.Solving.{Solved, Solved.placed, Solved.refuted, Solved.passed}
-use Rattle.rg_outcome.specs.Coming.{Separation, IsSeparated, IsLeft, IsBehind, IsNext, ComesFrom, ComesFrom.keeps, ComesFrom.goes_on, ComesFrom.ends, ComesFrom.all_separated, ComesFrom.one_is_left, Comes, IsOneResult, RefutedStay, IsRefutedIn, IsMade, Says}
+use Rattle.rg_outcome.specs.Coming.{Separation, IsSeparated, IsLeft, IsBehind, IsNext, ComesFrom, ComesFrom.keeps, ComesFrom.goes_on, ComesFrom.ends, ComesFrom.all_separated, ComesFrom.one_is_left, AllComeTo, IsOneResult, RefutedStay, IsRefutedIn, IsMade, Says}
 use Rattle.rg_outcome.proofs.Ordering.{cases_order}
 use Rattle.rg_outcome.proofs.Decided.{Decided, behind_is_decided}
 
@@ -86,5 +86,5 @@ module _ (lts : System) (comes : Problem → Solved → Type 0) (one : IsOneResu
     has = has;
   }
 
-  pub says : (o : Separation) → Comes lts comes o → Says lts comes o
+  pub says : (o : Separation) → AllComeTo lts comes o → Says lts comes o
   says o d = says_from None [] o (record { made = All-nil (IsMade lts comes); none = λ problem not_behind. absurd (not_behind tt) }) d

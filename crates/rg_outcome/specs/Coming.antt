@@ -60,9 +60,9 @@ pub data ComesFrom (lts : System) (comes : Problem → Solved → Type 0) : Opti
   one_is_left : {last : Option Problem} {kept : List Place} (problem : Problem) (w : Shown) → IsDone lts kept last → IsFirstProblem (IsLeft lts kept) problem → comes problem (passed w)
       → ComesFrom lts comes last kept (too_wide w)
 
--- all problems, with no place kept
-abbrev pub Comes : System → (Problem → Solved → Type 0) → Separation → Type 0
-Comes lts comes o = ComesFrom lts comes None [] o
+-- what all problems come to, from no place on
+abbrev pub AllComeTo : System → (Problem → Solved → Type 0) → Separation → Type 0
+AllComeTo lts comes o = ComesFrom lts comes None [] o
 
 -- ---- what is asked of the solving of one problem
 

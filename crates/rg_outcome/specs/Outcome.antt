@@ -16,7 +16,7 @@ use Rattle.rg_order_of_work.specs.Setting.{setting_at}
 use Rattle.rg_order_of_work.specs.Chords.{IsBasis}
 use Rattle.rg_order_of_work.specs.Shown.{Stage, Shown, CycleShown, ShownWide}
 use Rattle.rg_outcome.specs.Solving.{ProblemComes}
-use Rattle.rg_outcome.specs.Coming.{Separation, Separation.places, Separation.unsolvable as of_problem, Separation.too_wide as of_term, Comes}
+use Rattle.rg_outcome.specs.Coming.{Separation, Separation.places, Separation.unsolvable as of_problem, Separation.too_wide as of_term, AllComeTo}
 
 -- the places of a net, the reason of a certificate, or the term that is shown
 pub data Answer : Type 0 where
@@ -36,7 +36,7 @@ Gives lts _ _ = ⊥
 pub data Searched (lts : System) (class : Class) : Separation → Type 0 where
   a_cycle : (w : Shown) → w.stage ≡ Stage.cycle → CycleShown lts w → Searched lts class (of_term w)
   all_problems : (arcs : List Arc) (basis : CycleBasis) (o : Separation) → IsTree lts arcs → IsBasis lts arcs basis
-      → Comes lts (ProblemComes (setting_at lts arcs basis class)) o → Searched lts class o
+      → AllComeTo lts (ProblemComes (setting_at lts arcs basis class)) o → Searched lts class o
 
 -- the answer for a system and a class: the least unreachable state, else the first fork, else what the search comes to
 pub data Out (lts : System) (class : Class) : Answer → Type 0 where

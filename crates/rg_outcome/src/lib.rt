@@ -17,7 +17,7 @@ ghost use Rattle.rg_order_of_work.specs.Setting.{Setting, CaseSetting};
 ghost use Rattle.rg_order_of_work.specs.Chords.{IsBasis};
 ghost use Rattle.rg_outcome.specs.Casing.{CaseResult, CaseComes};
 ghost use Rattle.rg_outcome.specs.Solving.{Solved, ProblemComes};
-ghost use Rattle.rg_outcome.specs.Coming.{Separation, ComesFrom, Comes, IsSeparatedIn, Says};
+ghost use Rattle.rg_outcome.specs.Coming.{Separation, ComesFrom, AllComeTo, IsSeparatedIn, Says};
 ghost use Rattle.rg_outcome.specs.Blocks.{ComesByBlocks};
 ghost use Rattle.rg_outcome.specs.Outcome.{Answer, Searched, Out, IsSearchRight, IsRight};
 
@@ -35,7 +35,7 @@ pub fn solving_is_one()
 /// What is left of all problems, with the places kept so far, comes to one result, and all of them come to some.
 pub fn separation_is_one()
     ensures one { (s : Setting) (last : Option Problem) (kept : List Place) (o o' : Separation) → ComesFrom s.lts (ProblemComes s) last kept o → ComesFrom s.lts (ProblemComes s) last kept o' → o ≡ o' }
-    ensures some { (s : Setting) → IsInRange s.lts → HasNumbersInRange s.class → IsAllReachable s.lts → IsTree s.lts s.tree → IsBasis s.lts s.tree s.basis → (o : Separation) × Comes s.lts (ProblemComes s) o }
+    ensures some { (s : Setting) → IsInRange s.lts → HasNumbersInRange s.class → IsAllReachable s.lts → IsTree s.lts s.tree → IsBasis s.lts s.tree s.basis → (o : Separation) × AllComeTo s.lts (ProblemComes s) o }
 {}
 
 /// Solved in blocks of any lengths, whose results are taken over in the order of the problems, the problems come to what
@@ -49,7 +49,7 @@ pub fn blocks_come_to_the_same()
 /// first problem that none of them separates.
 pub fn separation_says()
     ensures { (s : Setting) (o : Separation) → IsInRange s.lts → HasNumbersInRange s.class → IsAllReachable s.lts → IsTree s.lts s.tree → IsBasis s.lts s.tree s.basis
-        → Comes s.lts (ProblemComes s) o → Says s.lts (ProblemComes s) o }
+        → AllComeTo s.lts (ProblemComes s) o → Says s.lts (ProblemComes s) o }
 {}
 
 /// A problem all of whose cases are refuted is separated by no region of the class: a region would give some case a point

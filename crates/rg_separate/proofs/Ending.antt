@@ -18,7 +18,7 @@ use Rattle.rg_marks.specs.declared.region_place.RegionPlace.{RegionPlace}
 use Rattle.rg_outcome.specs.Solving as solved
 use Rattle.rg_outcome.specs.Solving.{Solved, Solved.placed, Solved.passed, ProblemComes}
 use Rattle.rg_outcome.specs.Coming as outcome
-use Rattle.rg_outcome.specs.Coming.{Comes, Separation.places, Separation.unsolvable, Separation.too_wide}
+use Rattle.rg_outcome.specs.Coming.{AllComeTo, Separation.places, Separation.unsolvable, Separation.too_wide}
 use Rattle.rg_outcome.specs.Outcome.{Searched, Searched.a_cycle, Searched.all_problems}
 use Rattle.rg_outcome.proofs.Solvings.{same_solved}
 use Rattle.rg_outcome.proofs.Placed.{placed_separates}
@@ -44,17 +44,17 @@ module _ (s : Setting) (is : IsSetting s) where
   pub places_separate : EachPlaceSeparates s.lts.now (comes_of s)
   places_separate = record { separate = λ problem p has come. (let (m, region, separates) = placed_separates (shown_setting s) is.in_range is.bound is.reachable is.tree.tree is.basis problem p has come in (m, region.region, separates)) }
 
-  searched_of : (o : outcome.Separation) → Comes s.lts.now (comes_of s) o → Searched s.lts.now s.class o
+  searched_of : (o : outcome.Separation) → AllComeTo s.lts.now (comes_of s) o → Searched s.lts.now s.class o
   searched_of o come = all_problems s.tree.now.arcs (cycle_of s.basis.now) o is.tree.tree is.basis come
 
   -- the places that are kept are those with which the problems end
-  all_kept : (kept : List Place) (o : outcome.Separation) → Comes s.lts.now (comes_of s) o → ShowsSeparation s.lts.now (comes_of s) kept ended.Separated o → Comes s.lts.now (comes_of s) (places kept)
-  all_kept kept (places after) come (e, separate) = subst (λ ps. Comes s.lts.now (comes_of s) (places ps)) e come
+  all_kept : (kept : List Place) (o : outcome.Separation) → AllComeTo s.lts.now (comes_of s) o → ShowsSeparation s.lts.now (comes_of s) kept ended.Separated o → AllComeTo s.lts.now (comes_of s) (places kept)
+  all_kept kept (places after) come (e, separate) = subst (λ ps. AllComeTo s.lts.now (comes_of s) (places ps)) e come
   all_kept kept (unsolvable problem trees) come shows = absurd shows
   all_kept kept (too_wide w) come shows = absurd shows
 
   module _ (fine : IsWellFormed s.lts.now) (kept : List PlaceOfCode) (separated : Separated) (are : AreKept s.lts.now kept separated) (end : IsSeparationOutcome s.lts.now (comes_of s) (map shown_place kept) ended.Separated) where
-    all_come : Comes s.lts.now (comes_of s) (places (map shown_place kept))
+    all_come : AllComeTo s.lts.now (comes_of s) (places (map shown_place kept))
     all_come = all_kept (map shown_place kept) end.o end.comes_to end.shows
 
     pub separated_searched : Searched s.lts.now s.class (places (map shown_place kept))
@@ -64,12 +64,12 @@ module _ (s : Setting) (is : IsSetting s) where
     separated_tells = separating s.lts.now s.class kept separated is.in_range is.bound are (let few = few_places s.lts.now (comes_of s) (map shown_place kept) fine all_come in let l = length-map kept shown_place in omega arith) separated_searched
 
   -- the problem that ends the search
-  refuted_last : (kept : List Place) (q : Problem) (o : outcome.Separation) → Comes s.lts.now (comes_of s) o → ShowsSeparation s.lts.now (comes_of s) kept (ended.Unsolvable q) o → EndsWith s q
+  refuted_last : (kept : List Place) (q : Problem) (o : outcome.Separation) → AllComeTo s.lts.now (comes_of s) o → ShowsSeparation s.lts.now (comes_of s) kept (ended.Unsolvable q) o → EndsWith s q
   refuted_last kept q (places after) come shows = absurd shows
   refuted_last kept q (unsolvable problem trees) come (same, has, refuted) = record { has = has; o = unsolvable problem trees; searched = searched_of (unsolvable problem trees) come; ends = inl (trees, ap (λ x. unsolvable x trees) same, refuted) }
   refuted_last kept q (too_wide w) come shows = absurd shows
 
-  left_last : (kept : List Place) (q : Problem) (o : outcome.Separation) → Comes s.lts.now (comes_of s) o → ShowsSeparation s.lts.now (comes_of s) kept (ended.TooWide q) o → EndsWith s q
+  left_last : (kept : List Place) (q : Problem) (o : outcome.Separation) → AllComeTo s.lts.now (comes_of s) o → ShowsSeparation s.lts.now (comes_of s) kept (ended.TooWide q) o → EndsWith s q
   left_last kept q (places after) come shows = absurd shows
   left_last kept q (unsolvable problem trees) come shows = absurd shows
   left_last kept q (too_wide w) come (first, passes) = record { has = first.0.0; o = too_wide w; searched = searched_of (too_wide w) come; ends = inr (w, refl, passes) }
