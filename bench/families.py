@@ -6,6 +6,7 @@
     bench/families.py beside EARLIER crates/regions/out/regions [none pure ..]
     bench/families.py speed EARLIER crates/regions/out/regions [none pure ..]
     bench/families.py jobs crates/regions/out/regions [none pure ..]
+    bench/families.py threads crates/regions/out/regions [none pure ..]
     bench/families.py blocks crates/solving_bench/out/solving_bench [none pure ..]
 
 `run` prints for each system and class (`none`, `pure`, `safe` and `pure,plain,safe`, unless classes are named) the status, the
@@ -14,7 +15,9 @@ many nodes (splits and leaves) the certificate's trees, and what err says. `besi
 seconds, memory and places in columns of their own: a program that prunes no places shows how many are found. `speed` runs both
 five times by turns on the systems of docs/using.md, and prints the least and the middle processor seconds and the peak of memory of
 each, and says so where the bytes differ, which they never may. `jobs` prints the
-seconds and the memory with 1, 2, 4 and 16 jobs, and says so where the bytes differ, which they never may. `blocks` prints how many
+seconds and the memory with 1, 2, 4 and 16 jobs, and says so where the bytes differ, which they never may. `threads` prints the middle
+of five runs' seconds of the clock with 1, 2 and 4 jobs on the systems of docs/using.md, by turns, and the seconds that four runs with one job
+each take beside each other, which tell what the machine's processors allow. `blocks` prints how many
 problems all blocks have, as a gate counts them, beside the places of the net: no kept place separated them when their block was
 formed, so no more are solved, and none of these twice but the one that is told. It is run by hand and is no test.
 
@@ -245,6 +248,29 @@ def with_jobs(program, classes):
                 print(' | '.join(line), flush=True)
 
 
+def clock(program, class_word, path, jobs, count):
+    """The seconds of the clock until so many runs that are begun at once have ended."""
+    begun = time.monotonic()
+    words = [program, 'synthesize', class_word, path, '--jobs', jobs]
+    for child in [subprocess.Popen(words, stdout=subprocess.DEVNULL, stderr=subprocess.DEVNULL) for _ in range(count)]:
+        child.wait()
+    return time.monotonic() - begun
+
+
+def threads(program, classes):
+    print(' | '.join(['family', 'class', '1 job', '2 jobs', '4 jobs', 'four runs at once']))
+    with tempfile.TemporaryDirectory() as folder:
+        for family, n in SPEED:
+            path = os.path.join(folder, f'{family}{n}.apt')
+            with open(path, 'w') as file:
+                file.write(written(program, family, n))
+            for class_word in classes:
+                ways = (('1', 1), ('2', 1), ('4', 1), ('1', 4))
+                ran = [[clock(program, class_word, path, *way) for way in ways] for _ in range(RUNS)]
+                middle = [sorted(column)[RUNS // 2] for column in zip(*ran)]
+                print(' | '.join([f'{family} {n}', class_word, *(f'{seconds:.2f}' for seconds in middle)]), flush=True)
+
+
 def blocks(program, classes):
     print(' | '.join(['family', 'class', 'status', 'problems', 'in blocks', 'places']))
     with tempfile.TemporaryDirectory() as folder:
@@ -264,6 +290,8 @@ def main():
         run(words[1:2], words[2:] or CLASSES)
     elif len(words) >= 2 and words[0] == 'jobs':
         with_jobs(words[1], words[2:] or CLASSES)
+    elif len(words) >= 2 and words[0] == 'threads':
+        threads(words[1], words[2:] or CLASSES)
     elif len(words) >= 2 and words[0] == 'blocks':
         blocks(words[1], words[2:] or CLASSES)
     elif len(words) >= 3 and words[0] == 'beside':

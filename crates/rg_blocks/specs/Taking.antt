@@ -1,5 +1,5 @@
 -- What the problems of a block come to, and what comes of it.
-use Rattle.std.specs.Prelude.{ℕ, ◌≤◌, List, length, take, map, Option, None, Some, IfSome}
+use Rattle.std.specs.Prelude.{◌≤◌, List, length, take, map, Option, None, Some, IfSome}
 use Rattle.rg_theory.specs.System.{System}
 use Rattle.rg_theory.specs.Net.{Place}
 use Rattle.rg_theory.specs.declared.Problem.{Problem}

@@ -4,6 +4,7 @@ ghost use Rattle.rg_theory.specs.Problem.{IsProblem};
 ghost use Rattle.rg_outcome.specs.Blocks.{IsBlock, last_of};
 ghost use Rattle.rg_outcome.specs.Coming.{IsDone};
 ghost use Rattle.rg_marks.specs.Separated.{AreSome};
+ghost use Rattle.rg_blocks.specs.Blocks.{most_in_block};
 ghost use Rattle.rg_blocks.specs.Taking.{IsSolvedBy, AreNotable, problems_of};
 
 use crate::keeping::Keeping;
@@ -18,26 +19,40 @@ use rg_theory::Problem;
 use std::alloc::Global;
 use std::thread::Threads;
 
-// How many problems a block has at most.
-const BLOCK: u32 = 64;
+// How many problems the first block has at most.
+pub(crate) const FIRST_BLOCK: u32 = 64;
 
-/// The first 64 problems behind the last one that was taken, or of all where none was, that no kept place separates, in order; fewer
-/// where no more are left. `NoMemory` where there is none.
+// How many problems any block has at most.
+const LARGEST_BLOCK: u32 = 2048;
+
+// How many problems a block has at most behind one of at most so many: twice as many, as long as that is no more than a block may have.
+pub(crate) fn most_behind(most: u32) -> u32
+    requires some { 1 ≤ most }
+    requires few { most ≤ most_in_block }
+    ensures some { 1 ≤ result }
+    ensures few { result ≤ most_in_block }
+{
+    (2 * most).min(LARGEST_BLOCK)
+}
+
+/// The first problems behind the last one that was taken, or of all where none was, that no kept place separates, in order: so many as
+/// `most` says, fewer where no more are left. `NoMemory` where there is none.
 pub fn next_block<K: Keeping>(
     alloc: Global,
     lts: &Lts,
     kept: &K,
     last: Option<Problem>,
+    most: u32,
 ) -> Result<Vec<Problem>, NoMemory>
     requires kept { K.keeps_for kept.now lts.now }
     requires last { IfSome last (IsProblem lts.now) }
     ensures block { IfOk result (λ v. IsBlock lts.now (K.places kept.now) last v.items) }
-    ensures few { IfOk result (λ v. length v.items ≤ 64) }
-    ensures end { IfOk result (λ v. length v.items < 64 → IsDone lts.now (K.places kept.now) (last_of last v.items)) }
+    ensures few { IfOk result (λ v. length v.items ≤ most) }
+    ensures end { IfOk result (λ v. length v.items < most → IsDone lts.now (K.places kept.now) (last_of last v.items)) }
 {
     let mut block = Vec::new(alloc);
     let mut at = last;
-    for _i in 0..BLOCK {
+    for _i in 0..most {
         match next_problem(lts, kept, at) {
             Some(problem) => {
                 block.push(problem)?;
@@ -49,8 +64,7 @@ pub fn next_block<K: Keeping>(
     Ok(block)
 }
 
-// The solving of the problems of a block that aren't taken over yet, by their numbers in it. A part keeps what the places separate that
-// it made.
+// The solving of the problems of a block that aren't taken over yet, by their numbers in it.
 #[derive(Drop)]
 struct Problems<'a, K, S> {
     alloc: Global,
@@ -61,35 +75,51 @@ struct Problems<'a, K, S> {
     taken: usize,
 }
 
-impl<K: Keeping, S: Solving> Task for Problems<'_, K, S> {
-    type Part = Separated;
+// What a part keeps from one problem to the next: what the places separate that it made, and what it solves with.
+#[derive(Drop)]
+struct Part<W> {
+    separated: Separated,
+    workspace: W,
+}
+
+impl<K: Keeping, S: Solving> Task for Problems<'_, K, S>
+where
+    S::Workspace: Drop,
+{
+    type Part = Part<S::Workspace>;
 
     type Out = SolvedProblem;
 
-    ghost holds = { λ s part. AreSome s.lts.now part };
+    ghost holds = { λ s part. AreSome s.lts.now part.separated × S.serves s.solving.now part.workspace };
 
     ghost asks = { λ s i. (i < length s.problems.now) × K.keeps_for s.kept.now s.lts.now × All (IsProblem s.lts.now) s.problems.now × All (S.asks s.solving.now) s.problems.now × AreNotable s.lts.now (S.makes s.solving.now) };
 
     ghost answers = { λ s i v. (slice_get s.problems.now i ≡ Some v.problem) × IsSolvedBy (S.comes s.solving.now) (S.makes s.solving.now) v };
 
-    fn begin(&self) -> Result<Separated, NoMemory> {
-        Ok(Separated::nothing(self.alloc, self.lts)?)
+    fn begin(&self) -> Result<Part<S::Workspace>, NoMemory> {
+        let separated = Separated::nothing(self.alloc, self.lts)?;
+        let workspace = self.solving.workspace()?;
+        Ok(Part {
+            separated,
+            workspace,
+        })
     }
 
-    fn run(&self, part: &mut Separated, i: u32) -> Result<SolvedProblem, NoMemory> {
+    fn run(&self, part: &mut Part<S::Workspace>, i: u32) -> Result<SolvedProblem, NoMemory> {
         let problem = self.problems[i as usize];
         if (i as usize) < self.taken
             || self.kept.separates(self.lts, problem)
-            || part.separates(self.lts, problem)
+            || part.separated.separates(self.lts, problem)
         {
             return Ok(SolvedProblem {
                 problem,
                 outcome: None,
             });
         }
-        let outcome = self.solving.solve(problem)?;
+        let outcome = self.solving.solve(&mut part.workspace, problem)?;
         if let ProblemOutcome::Place(region) = &outcome {
-            part.add(self.alloc, self.lts, &region.place, &region.tokens)?;
+            part.separated
+                .add(self.alloc, self.lts, &region.place, &region.tokens)?;
         }
         Ok(SolvedProblem {
             problem,
@@ -100,8 +130,8 @@ impl<K: Keeping, S: Solving> Task for Problems<'_, K, S> {
 
 /// What the problems of a block come to, in their order, solved by at most `jobs` parts that run beside each other. The first `taken`
 /// problems are left unsolved, and so is a problem that a kept place separates, or a place which its own part made before: its outcome is
-/// None. The gate is entered before each number of the block and left after it, also for a problem that is left. `NoMemory` where there is
-/// none.
+/// None. Each part solves with a workspace of its own. The gate is entered before each number of the block and left after it, also for a
+/// problem that is left. `NoMemory` where there is none.
 pub fn solve_block<R: Threads + Sync, K: Keeping + Sync, S: Solving + Sync, G: Gate + Sync>(
     rt: &R,
     alloc: Global,
@@ -113,7 +143,9 @@ pub fn solve_block<R: Threads + Sync, K: Keeping + Sync, S: Solving + Sync, G: G
     jobs: u8,
     gate: &G,
 ) -> Result<Vec<SolvedProblem>, NoMemory>
-    requires few { length problems.now ≤ 64 }
+where
+    S::Workspace: Send + Drop,
+    requires few { length problems.now ≤ most_in_block }
     requires some { 1 ≤ jobs }
     requires kept { K.keeps_for kept.now lts.now }
     requires problems { All (IsProblem lts.now) problems.now }

@@ -3,10 +3,11 @@ ghost use Rattle.std.specs.Prelude.{◌≡◌, ◌≤◌, [], All, IfOk, IfSome,
 ghost use Rattle.rg_theory.specs.System.{IsAllReachable};
 ghost use Rattle.rg_theory.specs.Problem.{IsProblem};
 ghost use Rattle.rg_outcome.specs.Coming.{IsSound};
+ghost use Rattle.rg_blocks.specs.Blocks.{most_in_block};
 ghost use Rattle.rg_blocks.specs.Taking.{IsTakenOver, AreKeepable, AreNotable};
 ghost use Rattle.rg_blocks.specs.Separating.{AsksAll, EndsAll, EachPlaceSeparates, IsSeparationOutcome};
 
-use crate::block::{next_block, solve_block};
+use crate::block::{FIRST_BLOCK, most_behind, next_block, solve_block};
 use crate::keeping::Keeping;
 use crate::left::next_problem;
 use crate::solving::Solving;
@@ -37,27 +38,32 @@ fn take_block<R: Threads + Sync, K: Keeping + Sync, S: Solving + Sync, G: Gate +
     lts: &Lts,
     kept: &mut K,
     solving: &S,
+    workspace: &mut S::Workspace,
     problems: &[Problem],
     jobs: u8,
     gate: &G,
     proof: &mut Option<(Problem, S::Proof)>,
 ) -> Result<Option<Problem>, NoMemory>
-    requires few { length problems.now ≤ 64 }
+where
+    S::Workspace: Send + Drop,
+    requires few { length problems.now ≤ most_in_block }
     requires some { 1 ≤ jobs }
     requires kept { K.keeps_for kept.old lts.now }
     requires keepable { AreKeepable (S.makes solving.now) (K.may_keep lts.now) }
     requires notable { AreNotable lts.now (S.makes solving.now) }
     requires problems { All (IsProblem lts.now) problems.now }
     requires asked { All (S.asks solving.now) problems.now }
+    requires serves { S.serves solving.now workspace.old }
     requires proves { IfSome proof.old (λ p. S.proves solving.now p.0 p.1) }
     ensures kept { OnOk result (K.keeps_for kept.new lts.now) }
+    ensures serves { OnOk result (S.serves solving.now workspace.new) }
     ensures proves { IfSome proof.new (λ p. S.proves solving.now p.0 p.1) }
     ensures taken { IfOk result (λ end. IsTakenOver lts.now (S.comes solving.now) (K.places kept.old) problems.now (K.places kept.new) end) }
 {
     if jobs == 1 {
-        return solve_in_turn(lts, kept, solving, problems, gate, proof);
+        return solve_in_turn(lts, kept, solving, workspace, problems, gate, proof);
     }
-    match begin_in_turn(lts, kept, solving, problems, proof)? {
+    match begin_in_turn(lts, kept, solving, workspace, problems, proof)? {
         Begun::Ended(end) => {
             pass_by(gate, 0, problems.len() as u32);
             Ok(end)
@@ -67,7 +73,7 @@ fn take_block<R: Threads + Sync, K: Keeping + Sync, S: Solving + Sync, G: Gate +
                 rt, alloc, lts, kept, solving, problems, taken, jobs, gate,
             )?;
             let others = solved.split_off(taken)?;
-            take_over(lts, kept, solving, others, proof)
+            take_over(lts, kept, solving, workspace, others, proof)
         }
     }
 }
@@ -80,10 +86,13 @@ fn solve_all<R: Threads + Sync, K: Keeping + Sync, S: Solving + Sync, G: Gate + 
     lts: &Lts,
     kept: &mut K,
     solving: &S,
+    workspace: &mut S::Workspace,
     jobs: u8,
     gate: &G,
     proof: &mut Option<(Problem, S::Proof)>,
 ) -> Result<Option<Problem>, NoMemory>
+where
+    S::Workspace: Send + Drop,
     requires some { 1 ≤ jobs }
     requires asked { AsksAll lts.now (S.asks solving.now) }
     requires reachable { IsAllReachable lts.now }
@@ -92,29 +101,34 @@ fn solve_all<R: Threads + Sync, K: Keeping + Sync, S: Solving + Sync, G: Gate + 
     requires keepable { AreKeepable (S.makes solving.now) (K.may_keep lts.now) }
     requires notable { AreNotable lts.now (S.makes solving.now) }
     requires sound { IsSound lts.now (S.comes solving.now) None (K.places kept.old) }
+    requires serves { S.serves solving.now workspace.old }
     requires proves { IfSome proof.old (λ p. S.proves solving.now p.0 p.1) }
     ensures kept { OnOk result (K.keeps_for kept.new lts.now) }
+    ensures serves { OnOk result (S.serves solving.now workspace.new) }
     ensures proves { IfSome proof.new (λ p. S.proves solving.now p.0 p.1) }
     ensures ends { IfOk result (λ end. EndsAll lts.now (S.comes solving.now) (K.places kept.old) (K.places kept.new) end) }
 {
     let mut last = None;
+    let mut most = FIRST_BLOCK;
     loop {
-        let block = next_block(alloc, lts, kept, last)?;
+        let block = next_block(alloc, lts, kept, last, most)?;
         if block.is_empty() {
             return Ok(None);
         }
         let end = block[block.len() - 1];
         if let Some(refuted) = take_block(
-            rt, alloc, lts, kept, solving, &block, jobs, gate, proof,
+            rt, alloc, lts, kept, solving, workspace, &block, jobs, gate, proof,
         )? {
             return Ok(Some(refuted));
         }
         last = Some(end);
+        most = most_behind(most);
     }
 }
 
 /// Separates all problems of the system, each of whose states is reachable, from no place on. What the problems come to, and the places
-/// that are kept, are the same for any number of jobs and any gate. `NoMemory` where there is none.
+/// that are kept, are the same for any number of jobs and any gate. The calling thread solves with one workspace, and each part of a block
+/// with one of its own. `NoMemory` where there is none.
 pub fn separate_all<R: Threads + Sync, K: Keeping + Sync, S: Solving + Sync, G: Gate + Sync>(
     rt: &R,
     alloc: Global,
@@ -125,6 +139,8 @@ pub fn separate_all<R: Threads + Sync, K: Keeping + Sync, S: Solving + Sync, G: 
     gate: &G,
     proof: &mut Option<(Problem, S::Proof)>,
 ) -> Result<SeparationOutcome, NoMemory>
+where
+    S::Workspace: Send + Drop,
     requires some { 1 ≤ jobs }
     requires asked { AsksAll lts.now (S.asks solving.now) }
     requires reachable { IsAllReachable lts.now }
@@ -138,7 +154,20 @@ pub fn separate_all<R: Threads + Sync, K: Keeping + Sync, S: Solving + Sync, G: 
     ensures proves { IfSome proof.new (λ p. S.proves solving.now p.0 p.1) }
     ensures comes { IfOk result (IsSeparationOutcome lts.now (S.comes solving.now) (K.places kept.new)) }
 {
-    let refuted = solve_all(rt, alloc, lts, kept, solving, jobs, gate, proof)?;
+    let refuted = {
+        let mut workspace = solving.workspace()?;
+        solve_all(
+            rt,
+            alloc,
+            lts,
+            kept,
+            solving,
+            &mut workspace,
+            jobs,
+            gate,
+            proof,
+        )?
+    };
     match refuted {
         Some(problem) => Ok(SeparationOutcome::Unsolvable(problem)),
         None => match next_problem(lts, kept, None) {

@@ -1,5 +1,5 @@
 //! How a problem is solved.
-ghost use Rattle.std.specs.Prelude.{IfOk, IfSome};
+ghost use Rattle.std.specs.Prelude.{IfOk, IfSome, OnOk};
 ghost use Rattle.rg_theory.specs.declared.Problem.{Problem};
 ghost use Rattle.rg_marks.specs.declared.region_place.RegionPlace.{RegionPlace};
 ghost use Rattle.rg_outcome.specs.Solving.{Solved};
@@ -30,10 +30,14 @@ pub struct SolvedProblem {
     pub outcome: Option<ProblemOutcome>,
 }
 
-/// How the problems of a system are solved, each by itself: what one comes to doesn't depend on the places that are kept.
+/// How the problems of a system are solved, each by itself: what one comes to depends neither on the places that are kept nor on what was
+/// solved before in the same workspace.
 pub trait Solving {
     /// What shows that a problem is refuted.
     type Proof;
+
+    /// What a thread solves with, one problem after the other, and no other one meanwhile.
+    type Workspace;
 
     /// What the solving of a problem asks for.
     ghost asks: { Self → Problem → Type 0 };
@@ -44,22 +48,39 @@ pub trait Solving {
     /// What is said of each place that is made.
     ghost makes: { Self → RegionPlace → Type 0 };
 
+    /// What holds of what a thread solves with.
+    ghost serves: { Self → Self.Workspace → Type 0 };
+
     /// What is said of what shows that a problem is refuted.
     ghost proves: { Self → Problem → Self.Proof → Type 0 };
 
-    /// Solves a problem. `NoMemory` where there is none.
-    fn solve(&self, problem: Problem) -> Result<ProblemOutcome, NoMemory>
-        requires { asks self.now problem }
-        ensures { IfOk result (IsOutcome (comes self.now) (makes self.now) problem) };
+    /// What one thread solves with, before its first problem. `NoMemory` where there is none.
+    fn workspace(&self) -> Result<Self::Workspace, NoMemory>
+        ensures { IfOk result (serves self.now) };
 
-    /// Solves a problem that is taken over at once, and keeps what shows that it is refuted, if it is. `NoMemory` where there is none.
+    /// Solves a problem in a thread that solves with this. `NoMemory` where there is none: then nothing is said of what it solves with.
+    fn solve(
+        &self,
+        workspace: &mut Self::Workspace,
+        problem: Problem,
+    ) -> Result<ProblemOutcome, NoMemory>
+        requires asked { asks self.now problem }
+        requires serves { serves self.now workspace.old }
+        ensures outcome { IfOk result (IsOutcome (comes self.now) (makes self.now) problem) }
+        ensures serves { OnOk result (serves self.now workspace.new) };
+
+    /// Solves a problem that is taken over at once, and keeps what shows that it is refuted, if it is. `NoMemory` where there is none: then
+    /// nothing is said of what the thread solves with.
     fn solve_in_turn(
         &self,
+        workspace: &mut Self::Workspace,
         problem: Problem,
         proof: &mut Option<(Problem, Self::Proof)>,
     ) -> Result<ProblemOutcome, NoMemory>
         requires asked { asks self.now problem }
+        requires serves { serves self.now workspace.old }
         requires proves { IfSome proof.old (λ p. proves self.now p.0 p.1) }
         ensures outcome { IfOk result (IsOutcome (comes self.now) (makes self.now) problem) }
+        ensures serves { OnOk result (serves self.now workspace.new) }
         ensures proves { IfSome proof.new (λ p. proves self.now p.0 p.1) };
 }

@@ -2,8 +2,10 @@
 ghost use Rattle.std.specs.Prelude.{◌≡◌, ◌≤◌, [], ◌∷◌, All, IfOk, IfSome, IfNone, OnOk, length};
 ghost use Rattle.rg_theory.specs.Problem.{IsProblem};
 ghost use Rattle.rg_outcome.specs.Coming.{IsSeparated};
+ghost use Rattle.rg_blocks.specs.Blocks.{most_in_block};
 ghost use Rattle.rg_blocks.specs.Taking.{IsOutcome, IsSolvedBy, problems_of, IsTakenOver, IsBegun, AreKeepable};
 
+use crate::block::FIRST_BLOCK;
 use crate::keeping::Keeping;
 use crate::solving::{ProblemOutcome, SolvedProblem, Solving};
 use rg_lts::Lts;
@@ -38,13 +40,13 @@ fn take<K: Keeping, S: Solving>(
 
 /// Takes over what the problems of a block come to, in their order: a place is kept, and a problem in which a number passes is passed over.
 /// What a problem comes to that a place kept meanwhile separates is dropped, whatever it is. Any other problem that isn't solved yet is
-/// solved now, on the calling thread. The first other one that is refuted ends it, and is given; None where there is no such problem.
-/// What shows that a problem is refuted is kept where it is solved here.
-/// `NoMemory` where there is none.
+/// solved now, on the calling thread and with its workspace. The first other one that is refuted ends it, and is given; None where there is
+/// no such problem. What shows that a problem is refuted is kept where it is solved here. `NoMemory` where there is none.
 pub fn take_over<K: Keeping, S: Solving>(
     lts: &Lts,
     kept: &mut K,
     solving: &S,
+    workspace: &mut S::Workspace,
     solved: Vec<SolvedProblem>,
     proof: &mut Option<(Problem, S::Proof)>,
 ) -> Result<Option<Problem>, NoMemory>
@@ -53,8 +55,10 @@ pub fn take_over<K: Keeping, S: Solving>(
     requires problems { All (λ s. IsProblem lts.now s.problem) solved.items }
     requires asked { All (S.asks solving.now) (problems_of solved.items) }
     requires solved { All (IsSolvedBy (S.comes solving.now) (S.makes solving.now)) solved.items }
+    requires serves { S.serves solving.now workspace.old }
     requires proves { IfSome proof.old (λ p. S.proves solving.now p.0 p.1) }
     ensures kept { OnOk result (K.keeps_for kept.new lts.now) }
+    ensures serves { OnOk result (S.serves solving.now workspace.new) }
     ensures proves { IfSome proof.new (λ p. S.proves solving.now p.0 p.1) }
     ensures taken { IfOk result (λ end. IsTakenOver lts.now (S.comes solving.now) (K.places kept.old) (problems_of solved.items) (K.places kept.new) end) }
 {
@@ -63,7 +67,7 @@ pub fn take_over<K: Keeping, S: Solving>(
         if kept.separates(lts, problem) {
             continue;
         }
-        let outcome = outcome_of(solving, problem, outcome, proof)?;
+        let outcome = outcome_of(solving, workspace, problem, outcome, proof)?;
         if let Some(refuted) = take(lts, kept, solving, problem, outcome)? {
             return Ok(Some(refuted));
         }
@@ -74,19 +78,22 @@ pub fn take_over<K: Keeping, S: Solving>(
 // What the problem comes to; it is solved now where it isn't solved yet.
 fn outcome_of<S: Solving>(
     solving: &S,
+    workspace: &mut S::Workspace,
     problem: Problem,
     outcome: Option<ProblemOutcome>,
     proof: &mut Option<(Problem, S::Proof)>,
 ) -> Result<ProblemOutcome, NoMemory>
     requires asked { S.asks solving.now problem }
     requires solved { IfSome outcome (IsOutcome (S.comes solving.now) (S.makes solving.now) problem) }
+    requires serves { S.serves solving.now workspace.old }
     requires proves { IfSome proof.old (λ p. S.proves solving.now p.0 p.1) }
     ensures outcome { IfOk result (IsOutcome (S.comes solving.now) (S.makes solving.now) problem) }
+    ensures serves { OnOk result (S.serves solving.now workspace.new) }
     ensures proves { IfSome proof.new (λ p. S.proves solving.now p.0 p.1) }
 {
     match outcome {
         Some(outcome) => Ok(outcome),
-        None => solving.solve_in_turn(problem, proof),
+        None => solving.solve_in_turn(workspace, problem, proof),
     }
 }
 
@@ -95,22 +102,25 @@ fn solve_left<K: Keeping, S: Solving>(
     lts: &Lts,
     kept: &K,
     solving: &S,
+    workspace: &mut S::Workspace,
     problem: Problem,
     proof: &mut Option<(Problem, S::Proof)>,
 ) -> Result<Option<ProblemOutcome>, NoMemory>
     requires kept { K.keeps_for kept.now lts.now }
     requires problem { IsProblem lts.now problem }
     requires asked { S.asks solving.now problem }
+    requires serves { S.serves solving.now workspace.old }
     requires proves { IfSome proof.old (λ p. S.proves solving.now p.0 p.1) }
     ensures separated { IfOk result (λ o. IfNone o (IsSeparated lts.now (K.places kept.now) problem)) }
     ensures left { IfOk result (λ o. IfSome o (λ _. ¬ IsSeparated lts.now (K.places kept.now) problem)) }
     ensures solved { IfOk result (λ o. IfSome o (IsOutcome (S.comes solving.now) (S.makes solving.now) problem)) }
+    ensures serves { OnOk result (S.serves solving.now workspace.new) }
     ensures proves { IfSome proof.new (λ p. S.proves solving.now p.0 p.1) }
 {
     if kept.separates(lts, problem) {
         return Ok(None);
     }
-    Ok(Some(solving.solve_in_turn(problem, proof)?))
+    Ok(Some(solving.solve_in_turn(workspace, problem, proof)?))
 }
 
 /// Enters and leaves the gate for the numbers from `from` on below `to`.
@@ -130,13 +140,14 @@ pub enum Begun {
     First(usize),
 }
 
-/// Solves the first problems of a block one after the other, and takes over what each comes to at once, as long as the places that are kept
-/// separate the problem that follows. One that a kept place separates isn't solved. The first one that is refuted ends it. `NoMemory`
-/// where there is none.
+/// Solves the first problems of a block one after the other, and takes over what each comes to at once: one of every 64, and the others as
+/// long as the places that are kept separate the problem that follows. One that a kept place separates isn't solved. The first one that is
+/// refuted ends it. `NoMemory` where there is none.
 pub fn begin_in_turn<K: Keeping, S: Solving>(
     lts: &Lts,
     kept: &mut K,
     solving: &S,
+    workspace: &mut S::Workspace,
     problems: &[Problem],
     proof: &mut Option<(Problem, S::Proof)>,
 ) -> Result<Begun, NoMemory>
@@ -144,19 +155,22 @@ pub fn begin_in_turn<K: Keeping, S: Solving>(
     requires keepable { AreKeepable (S.makes solving.now) (K.may_keep lts.now) }
     requires problems { All (IsProblem lts.now) problems.now }
     requires asked { All (S.asks solving.now) problems.now }
+    requires serves { S.serves solving.now workspace.old }
     requires proves { IfSome proof.old (λ p. S.proves solving.now p.0 p.1) }
     ensures kept { OnOk result (K.keeps_for kept.new lts.now) }
+    ensures serves { OnOk result (S.serves solving.now workspace.new) }
     ensures proves { IfSome proof.new (λ p. S.proves solving.now p.0 p.1) }
     ensures begun { IfOk result (IsBegun lts.now (S.comes solving.now) (K.places kept.old) problems.now (K.places kept.new)) }
 {
+    let in_turn = problems.len() / FIRST_BLOCK as usize;
     for (i, &problem) in problems.iter().enumerate() {
-        let Some(outcome) = solve_left(lts, kept, solving, problem, proof)? else {
+        let Some(outcome) = solve_left(lts, kept, solving, workspace, problem, proof)? else {
             continue;
         };
         if let Some(refuted) = take(lts, kept, solving, problem, outcome)? {
             return Ok(Begun::Ended(Some(refuted)));
         }
-        if !follows_separated(lts, kept, problems, i + 1) {
+        if i + 1 >= in_turn && !follows_separated(lts, kept, problems, i + 1) {
             return Ok(Begun::First(i + 1));
         }
     }
@@ -181,23 +195,26 @@ pub fn solve_in_turn<K: Keeping, S: Solving, G: Gate>(
     lts: &Lts,
     kept: &mut K,
     solving: &S,
+    workspace: &mut S::Workspace,
     problems: &[Problem],
     gate: &G,
     proof: &mut Option<(Problem, S::Proof)>,
 ) -> Result<Option<Problem>, NoMemory>
-    requires few { length problems.now ≤ 64 }
+    requires few { length problems.now ≤ most_in_block }
     requires kept { K.keeps_for kept.old lts.now }
     requires keepable { AreKeepable (S.makes solving.now) (K.may_keep lts.now) }
     requires problems { All (IsProblem lts.now) problems.now }
     requires asked { All (S.asks solving.now) problems.now }
+    requires serves { S.serves solving.now workspace.old }
     requires proves { IfSome proof.old (λ p. S.proves solving.now p.0 p.1) }
     ensures kept { OnOk result (K.keeps_for kept.new lts.now) }
+    ensures serves { OnOk result (S.serves solving.now workspace.new) }
     ensures proves { IfSome proof.new (λ p. S.proves solving.now p.0 p.1) }
     ensures taken { IfOk result (λ end. IsTakenOver lts.now (S.comes solving.now) (K.places kept.old) problems.now (K.places kept.new) end) }
 {
     for (i, &problem) in problems.iter().enumerate() {
         gate.enter(i as u32);
-        let solved = solve_left(lts, kept, solving, problem, proof);
+        let solved = solve_left(lts, kept, solving, workspace, problem, proof);
         gate.leave(i as u32);
         let Some(outcome) = solved? else {
             continue;

@@ -1,1 +1,1 @@
-pub mod SingleLemmas
+pub mod ConstantLemmas

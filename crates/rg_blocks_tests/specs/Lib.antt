@@ -1,1 +1,1 @@
-pub mod Single
+pub mod Constant

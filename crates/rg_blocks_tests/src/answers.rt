@@ -1,10 +1,10 @@
 //! A solving that answers from a list.
-ghost use Rattle.std.specs.Prelude.{◌<◌, ⊤};
-ghost use Rattle.rg_theory.specs.declared.Problem.TheVariants as problem;
-ghost use Rattle.rg_blocks_tests.specs.Single.{MayCome, AsksFor, HasNoToken};
+ghost use Rattle.std.specs.Prelude.{length, ⊤};
+ghost use Rattle.rg_blocks_tests.specs.Constant.{MayCome, HasDead, HasNoToken};
 
 use crate::places::stopping;
 use rg_blocks::{NoMemory, ProblemOutcome, Solving};
+use rg_lts::Lts;
 use rg_ports::Gate;
 use rg_theory::Problem;
 use std::alloc::Global;
@@ -58,53 +58,100 @@ impl Gate for Counts {
     }
 }
 
-// One answer for each label, how many problems were solved, and how many of them while their number was inside the gate.
+// One answer for each of the first labels, which have no arc; in any other problem a number passes. Kept are how many problems were solved,
+// how many of them while their number was inside the gate, and how many in turn; how many workspaces were made, and in how many of them a
+// problem was solved.
 #[derive(Drop)]
 pub(crate) struct Answers<'a> {
     pub(crate) alloc: Global,
-    pub(crate) labels: u32,
+    pub(crate) lts: &'a Lts,
     pub(crate) given: &'a [Given],
     pub(crate) gate: &'a Counts,
     pub(crate) solved: AtomicU64,
     pub(crate) solved_inside: AtomicU64,
+    pub(crate) in_turn: AtomicU64,
+    pub(crate) made: AtomicU64,
+    pub(crate) used: AtomicU64,
+}
+
+impl<'a> Answers<'a> {
+    pub(crate) fn new(
+        alloc: Global,
+        lts: &'a Lts,
+        given: &'a [Given],
+        gate: &'a Counts,
+    ) -> Answers<'a> {
+        Answers {
+            alloc,
+            lts,
+            given,
+            gate,
+            solved: AtomicU64::new(0),
+            solved_inside: AtomicU64::new(0),
+            in_turn: AtomicU64::new(0),
+            made: AtomicU64::new(0),
+            used: AtomicU64::new(0),
+        }
+    }
+}
+
+// What a thread solves with: whether a problem was solved in it.
+#[derive(Drop)]
+pub(crate) struct Work {
+    used: bool,
 }
 
 impl Solving for Answers<'_> {
     type Proof = ();
 
-    ghost asks = { λ s p. AsksFor s.labels p };
+    type Workspace = Work;
 
-    ghost comes = { λ _ p r. MayCome p r };
+    ghost asks = { λ s _. HasDead (length s.given.now) s.lts.now };
 
-    ghost makes = { λ s. HasNoToken s.labels };
+    ghost comes = { λ s. MayCome s.lts.now };
+
+    ghost makes = { λ s. HasNoToken s.lts.now };
+
+    ghost serves = { λ _ _. ⊤ };
 
     ghost proves = { λ _ _ _. ⊤ };
 
-    fn solve(&self, problem: Problem) -> Result<ProblemOutcome, NoMemory> {
+    fn workspace(&self) -> Result<Work, NoMemory> {
+        self.made.fetch_add(1, Ordering::SeqCst);
+        Ok(Work { used: false })
+    }
+
+    fn solve(&self, workspace: &mut Work, problem: Problem) -> Result<ProblemOutcome, NoMemory> {
         self.solved.fetch_add(1, Ordering::SeqCst);
+        if !workspace.used {
+            self.used.fetch_add(1, Ordering::SeqCst);
+            workspace.used = true;
+        }
         let Problem::Event(_, t) = problem else {
-            return Err(NoMemory);
+            return Ok(ProblemOutcome::TooWide);
         };
         if self.gate.has_inside(t) {
             self.solved_inside.fetch_add(1, Ordering::SeqCst);
         }
         match self.given.get(t as usize).copied() {
             Some(Given::Stops(other)) => {
-                let place = stopping(self.alloc, self.labels, t, other)?;
+                let place = stopping(self.alloc, self.lts, self.given.len(), t, other)?;
                 Ok(ProblemOutcome::Place(place))
             }
             Some(Given::Refuted) => Ok(ProblemOutcome::Refuted),
-            Some(Given::TooWide) => Ok(ProblemOutcome::TooWide),
-            _ => Err(NoMemory),
+            Some(Given::NoMemory) => Err(NoMemory),
+            Some(Given::TooWide) | None => Ok(ProblemOutcome::TooWide),
         }
     }
 
     fn solve_in_turn(
         &self,
+        workspace: &mut Work,
         problem: Problem,
         proof: &mut Option<(Problem, ())>,
     ) -> Result<ProblemOutcome, NoMemory> {
-        let outcome = self.solve(problem)?;
+        self.in_turn.fetch_add(1, Ordering::SeqCst);
+        let outcome = self.solve(workspace, problem)?;
         if let ProblemOutcome::Refuted = &outcome {
             *proof = Some((problem, ()));
         }

@@ -1,8 +1,8 @@
-//! Places of a system with one state and no arc.
-ghost use Rattle.std.specs.Prelude.{◌≡◌, ◌↔◌, ◌<◌, All, Any, map, length, IfOk, IsTrue};
-ghost use Rattle.rg_theory.specs.System.{states, labels};
+//! Places that no arc changes, so that each stops a label at every state or at none.
+ghost use Rattle.std.specs.Prelude.{◌≡◌, ◌↔◌, ℕ, ◌<◌, ◌≤◌, All, Any, map, length, slice_index, IfOk, IsTrue};
+ghost use Rattle.rg_theory.specs.System.{IsAllReachable};
 ghost use Rattle.rg_net.specs.Shown.{shown_place};
-ghost use Rattle.rg_blocks_tests.specs.Single.{IsSingle, RegionStops, HasNoToken};
+ghost use Rattle.rg_blocks_tests.specs.Constant.{HasDead, RegionStops, RegionIsConstant, HasNoToken};
 
 use rg_blocks::{Keeping, NoMemory};
 use rg_lts::Lts;
@@ -11,32 +11,57 @@ use rg_net::Place;
 use rg_theory::Problem;
 use std::alloc::Global;
 
-// Whether the system has one state and no arc.
-pub(crate) fn is_single(lts: &Lts) -> bool
-    ensures { IsTrue result → IsSingle lts.now }
+// Whether the system has so many labels at least, and the first ones have no arc.
+pub(crate) fn has_dead(lts: &Lts, labels: usize) -> bool
+    ensures { IsTrue result → HasDead labels lts.now }
 {
-    let _initial = lts.initial();
-    lts.states() == 1 && lts.arcs().is_empty()
+    for arc in lts.arcs() {
+        if (arc.label as usize) < labels {
+            return false;
+        }
+    }
+    labels <= lts.labels() as usize
 }
 
-// The place without tokens that takes one with label `t`, and one with the other label.
+// A weight for each label: one for `t`, one for the other label if it is among the first ones, and none for the others.
+fn weights(
+    alloc: Global,
+    labels: usize,
+    first: usize,
+    t: usize,
+    other: usize,
+) -> Result<Vec<u128>, NoMemory>
+    requires label { t < first }
+    requires few { first ≤ labels }
+    ensures long { IfOk result (λ v. length v.items ≡ labels) }
+    ensures one { IfOk result (λ v. slice_index v.items t ≡ 1) }
+    ensures none { IfOk result (λ v. (u : ℕ) → first ≤ u → slice_index v.items u ≡ 0) }
+{
+    let mut weights = vec![in alloc; 0u128; labels]?;
+    if other < first {
+        weights[other] = 1;
+    }
+    weights[t] = 1;
+    Ok(weights)
+}
+
+// The place without tokens that takes one with label `t`, and one with the other label if it is among the first ones, which have no arc.
 pub(crate) fn stopping(
     alloc: Global,
-    labels: u32,
+    lts: &Lts,
+    first: usize,
     t: u32,
     other: u32,
 ) -> Result<RegionPlace, NoMemory>
-    requires { t < labels }
+    requires dead { HasDead first lts.now }
+    requires label { t < first }
     ensures stops { IfOk result (RegionStops t) }
-    ensures empty { IfOk result (HasNoToken labels) }
+    ensures empty { IfOk result (HasNoToken lts.now) }
 {
-    let mut pre = vec![in alloc; 0u128; labels as usize]?;
-    if other < labels {
-        pre[other as usize] = 1;
-    }
-    pre[t as usize] = 1;
-    let post = vec![in alloc; 0u128; labels as usize]?;
-    let tokens = vec![in alloc; 0u128; 1]?;
+    let labels = lts.labels() as usize;
+    let pre = weights(alloc, labels, first, t as usize, other as usize)?;
+    let post = vec![in alloc; 0u128; labels]?;
+    let tokens = vec![in alloc; 0u128; lts.states() as usize]?;
     let place = Place {
         start: 0,
         pre,
@@ -76,9 +101,9 @@ fn is_stopped(kept: &[RegionPlace], t: u32) -> bool
 impl Keeping for Places {
     ghost places = { λ k. map (λ r. shown_place r.place) k.kept.items };
 
-    ghost keeps_for = { λ _ lts. IsSingle lts };
+    ghost keeps_for = { λ k lts. IsAllReachable lts × All (RegionIsConstant lts) k.kept.items };
 
-    ghost may_keep = { λ _ _. Unit {0} };
+    ghost may_keep = { λ lts r. RegionIsConstant lts r };
 
     fn separates(&self, _lts: &Lts, problem: Problem) -> bool {
         match problem {

@@ -2,22 +2,24 @@
 ghost use Rattle.std.specs.Prelude.{◌≤◌};
 
 use crate::answers::{Answers, Counts, Given};
-use crate::places::{Places, is_single};
+use crate::places::{Places, has_dead};
 use rg_blocks::{SeparationOutcome, separate_all};
 use rg_lts::Lts;
 use rg_marks::RegionPlace;
 use rg_ports::Gate;
 use rg_samples::system;
+use rg_spanning::Tree;
 use rg_theory::Problem;
 use std::alloc::{AllocError, Global};
-use std::sync::atomic::{AtomicU64, Ordering};
+use std::sync::atomic::Ordering;
 use std::test::Fail;
 use std::thread::Threads;
 
 // The answers to the problems of labels, what all of them come to, the labels whose places are kept, how many problems one job
-// solves, and two, and how many of two jobs' inside the gate: the first labels are solved in turn, before it is entered, as long as the next
-// one is stopped; then each of two jobs solves what is left in its half of all labels, with the places kept so far and those of its half; at
-// last those are solved that were left for a place that isn't kept. One job solves each inside.
+// solves, and two, and how many of two jobs' inside the gate. Each is one block of less than 64 problems: the first label is solved in turn,
+// before the gate is entered, and the others as long as the one behind a label that was solved is stopped; then each of two jobs solves what
+// is left in its half of all labels, with the places kept so far and those of its half; at last those are solved that were left for a place
+// that isn't kept. One job solves each inside.
 const ROWS: [(&[Given], Option<SeparationOutcome>, &[usize], u64, u64, u64); 16] = [
     (
         &[Given::Stops(1), Given::Stops(0), Given::Stops(2)],
@@ -178,12 +180,38 @@ const ROWS: [(&[Given], Option<SeparationOutcome>, &[usize], u64, u64, u64); 16]
     ),
 ];
 
+// Puts this letter with each of the numbers from `from` on below `to` behind the text.
+fn push_names(
+    alloc: Global,
+    text: &mut String,
+    letter: char,
+    from: usize,
+    to: usize,
+) -> Result<(), AllocError> {
+    for n in from..to {
+        let name = format!(in alloc; " {letter}{n}")?;
+        text.push_str(&name)?;
+    }
+    Ok(())
+}
+
 // The system with one state, so many labels and no arc.
 fn labelled(alloc: Global, labels: usize) -> Option<Lts> {
     let mut text = String::from_str(alloc, ".type LTS .states s[initial] .labels").ok()?;
-    for t in 0..labels {
-        let label = format!(in alloc; " t{t}").ok()?;
-        text.push_str(&label).ok()?;
+    push_names(alloc, &mut text, 't', 0, labels).ok()?;
+    system(alloc, text.as_str())
+}
+
+// The system with so many states in a row, so many labels without an arc, and one behind them that leads from each state to the next.
+fn in_a_row(alloc: Global, states: usize, labels: usize) -> Option<Lts> {
+    let mut text = String::from_str(alloc, ".type LTS .states s0[initial]").ok()?;
+    push_names(alloc, &mut text, 's', 1, states).ok()?;
+    text.push_str(" .labels").ok()?;
+    push_names(alloc, &mut text, 't', 0, labels).ok()?;
+    text.push_str(" step .arcs").ok()?;
+    for s in 1..states {
+        let arc = format!(in alloc; " s{} step s{s}", s - 1).ok()?;
+        text.push_str(&arc).ok()?;
     }
     system(alloc, text.as_str())
 }
@@ -192,16 +220,19 @@ fn labelled(alloc: Global, labels: usize) -> Option<Lts> {
 fn come<R: Threads + Sync, G: Gate + Sync>(
     rt: &R,
     alloc: Global,
-    lts: &Lts,
     answers: &Answers<'_>,
     jobs: u8,
     gate: &G,
 ) -> Option<(SeparationOutcome, Vec<RegionPlace>)>
     requires { 1 ≤ jobs }
 {
-    if !is_single(lts) || lts.labels() != answers.labels {
+    let lts = answers.lts;
+    if !has_dead(lts, answers.given.len()) {
         return None;
     }
+    let Ok(_tree) = Tree::grow(alloc, lts) else {
+        return None;
+    };
     let mut places = Places {
         kept: Vec::new(alloc),
     };
@@ -225,69 +256,76 @@ fn are_places_of(places: &[RegionPlace], labels: &[usize]) -> bool {
     true
 }
 
-// What is seen of a search: what all problems come to and the places kept, unless there is no memory; how many problems were solved, and how
-// many of them inside the gate; and how often it was entered and left.
-#[derive(Drop)]
-struct Seen {
-    found: Option<(SeparationOutcome, Vec<RegionPlace>)>,
+// How many problems were solved, how many of them inside the gate, and how many in turn; how many workspaces were made, and in how many of
+// them a problem was solved; and how often the gate was entered and left.
+#[derive(Clone, Copy)]
+struct Counted {
     solved: u64,
     solved_inside: u64,
+    in_turn: u64,
+    made: u64,
+    used: u64,
     entered: u64,
     left: u64,
 }
 
-fn see<R: Threads + Sync>(rt: &R, alloc: Global, given: &[Given], jobs: u8) -> Option<Seen>
+// What is seen of a search: what all problems come to and the places kept, unless there is no memory, and what is counted.
+#[derive(Drop)]
+struct Seen {
+    found: Option<(SeparationOutcome, Vec<RegionPlace>)>,
+    counted: Counted,
+}
+
+fn see<R: Threads + Sync>(rt: &R, alloc: Global, lts: &Lts, given: &[Given], jobs: u8) -> Seen
     requires { 1 ≤ jobs }
 {
-    let lts = labelled(alloc, given.len())?;
     let gate = Counts::new();
-    let answers = Answers {
-        alloc,
-        labels: lts.labels(),
-        given,
-        gate: &gate,
-        solved: AtomicU64::new(0),
-        solved_inside: AtomicU64::new(0),
-    };
-    let found = come(rt, alloc, &lts, &answers, jobs, &gate);
-    Some(Seen {
-        found,
+    let answers = Answers::new(alloc, lts, given, &gate);
+    let found = come(rt, alloc, &answers, jobs, &gate);
+    let counted = Counted {
         solved: answers.solved.load(Ordering::SeqCst),
         solved_inside: answers.solved_inside.load(Ordering::SeqCst),
+        in_turn: answers.in_turn.load(Ordering::SeqCst),
+        made: answers.made.load(Ordering::SeqCst),
+        used: answers.used.load(Ordering::SeqCst),
         entered: gate.entered.load(Ordering::SeqCst),
         left: gate.left.load(Ordering::SeqCst),
-    })
+    };
+    Seen { found, counted }
+}
+
+// How many workspaces are made: one for the calling thread, and one for each part, where what is left of the block is solved inside the gate
+// by so many parts.
+fn made_by(jobs: u8, inside: u64) -> u64 {
+    if jobs == 1 || inside == 0 {
+        return 1;
+    }
+    1 + u64::from(jobs)
 }
 
 #[test]
 fn rows(rt: HostRuntime) -> Result<(), Fail> {
     for (given, wanted, labels, by_one, by_two, inside) in ROWS {
+        let Some(lts) = labelled(rt.alloc(), given.len()) else {
+            assert!(rt; false);
+            return Ok(());
+        };
         for jobs in [1u8, 2, 3, 7, 16] {
-            let Some(
-                Seen {
-                    found,
-                    solved,
-                    solved_inside,
-                    entered,
-                    left,
-                },
-            ) = see(&rt, rt.alloc(), given, jobs)
-            else {
-                assert!(rt; false);
-                return Ok(());
-            };
-            assert_eq!(rt; left, entered);
+            let Seen { found, counted } = see(&rt, rt.alloc(), &lts, given, jobs);
+            let solved = (counted.solved, counted.solved_inside);
+            assert_eq!(rt; counted.left, counted.entered);
+            assert_eq!(rt; counted.made, made_by(jobs, inside));
             if jobs == 1 {
-                assert_eq!(rt; (solved, solved_inside), (by_one, by_one));
+                assert_eq!(rt; solved, (by_one, by_one));
             }
             if jobs == 2 {
-                assert_eq!(rt; (solved, solved_inside), (by_two, inside));
+                assert_eq!(rt; solved, (by_two, inside));
             }
             match found {
                 Some((outcome, places)) => {
                     assert_eq!(rt; Some(outcome), wanted);
                     assert!(rt; are_places_of(&places, labels));
-                    assert_eq!(rt; entered, given.len() as u64);
+                    assert_eq!(rt; counted.entered, given.len() as u64);
                 }
                 None => assert!(rt; wanted.is_none()),
             }
@@ -296,34 +334,79 @@ fn rows(rt: HostRuntime) -> Result<(), Fail> {
     Ok(())
 }
 
-// The last label is stopped by the first one's place, which is kept before the second block is formed: 64 numbers, and then 5.
+// With 255 labels that have no arc, 24 states ask for 24 * 255 + 1 labels, since the last label has no arc at the last state, and for 276 pairs.
+// The first block has labels 0 to 63 of the first state. The places of labels 0, 1 and 2 stop labels 63, 62 and 64 too, at each state, so that
+// the second block has labels 65 to 192. Its second label is the last one that is solved in turn; the places of it and of the two behind it stop
+// labels 192, 191 and 193 too. Twelve labels are stopped then. What is left are labels 194 to 254 of the first state, 243 labels of each
+// other state, label 255 of the last one and the pairs, 61 + 23 * 243 + 1 + 276 = 5,927. No other place is made, and they are solved in blocks
+// of 256, 512, 1,024, 2,048, 2,048 and 39.
+//
+// One job solves all but the last two labels of the first two blocks. Of more jobs the last part solves the last but one as well, since the
+// first part makes the place that stops it; the last is left, since its place is kept before the parts begin. They solve 1, 2, 4, 8, 16, 32, 32
+// and 1 of the problems of the blocks in turn, 96 in all. Each of the parts, 16 at most, has one to solve in each of the eight blocks.
 #[test]
-fn two_blocks(rt: HostRuntime) -> Result<(), Fail> {
-    let mut given = [Given::Stops(69); 70];
-    let mut labels = [0usize; 69];
-    for t in 1..69 {
-        given[t] = Given::Stops(t as u32);
-        labels[t] = t;
-    }
-    for jobs in [1u8, 2, 3, 7, 16] {
-        let Some(
-            Seen {
-                found,
-                solved,
-                solved_inside: _,
-                entered,
-                left,
-            },
-        ) = see(&rt, rt.alloc(), &given, jobs)
-        else {
-            assert!(rt; false);
-            return Ok(());
-        };
-        assert_eq!(rt; (solved, entered, left), (69, 69, 69));
+fn growing_blocks(rt: HostRuntime) -> Result<(), Fail> {
+    let mut given = [Given::TooWide; 255];
+    given[0] = Given::Stops(63);
+    given[1] = Given::Stops(62);
+    given[2] = Given::Stops(64);
+    given[66] = Given::Stops(192);
+    given[67] = Given::Stops(191);
+    given[68] = Given::Stops(193);
+    let Some(lts) = in_a_row(rt.alloc(), 24, 255) else {
+        assert!(rt; false);
+        return Ok(());
+    };
+    for (jobs, solved, in_turn, workspaces) in [
+        (1u8, 62 + 126 + 5927, 62 + 126 + 5927, 1),
+        (2, 63 + 127 + 5927, 96, 1 + 8 * 2),
+        (3, 63 + 127 + 5927, 96, 1 + 8 * 3),
+        (7, 63 + 127 + 5927, 96, 1 + 8 * 7),
+        (16, 63 + 127 + 5927, 96, 1 + 8 * 16),
+    ] {
+        let Seen { found, counted } = see(&rt, rt.alloc(), &lts, &given, jobs);
+        let entered = 64 + 128 + 5927;
+        assert_eq!(rt; (counted.entered, counted.left), (entered, entered));
+        assert_eq!(rt; (counted.solved, counted.in_turn), (solved, in_turn));
+        assert_eq!(rt; (counted.made, counted.used), (workspaces, workspaces));
         match found {
             Some((outcome, places)) => {
-                assert_eq!(rt; outcome, SeparationOutcome::Separated);
-                assert!(rt; are_places_of(&places, &labels));
+                assert_eq!(rt; outcome, SeparationOutcome::TooWide(Problem::Event(0, 3)));
+                assert!(rt; are_places_of(&places, &[0, 1, 2, 66, 67, 68]));
+            }
+            None => assert!(rt; false),
+        }
+    }
+    Ok(())
+}
+
+// The first block has labels 0 to 63, of which label 0 is solved in turn, and the second one labels 64 to 191. Its first two would be solved in
+// turn, but the place of label 64 stops label 65, and so label 66 is solved behind them; its place stops label 67, and so label 68 is solved. That
+// makes no place, and label 69 isn't stopped. Labels 65 and 67 are solved by no part, since the places are kept before the parts begin.
+#[test]
+fn on_in_turn(rt: HostRuntime) -> Result<(), Fail> {
+    let mut given = [Given::TooWide; 192];
+    given[64] = Given::Stops(65);
+    given[66] = Given::Stops(67);
+    let Some(lts) = labelled(rt.alloc(), 192) else {
+        assert!(rt; false);
+        return Ok(());
+    };
+    for (jobs, in_turn, workspaces) in [
+        (1u8, 192 - 2, 1),
+        (2, 1 + 3, 1 + 2 * 2),
+        (3, 1 + 3, 1 + 2 * 3),
+        (7, 1 + 3, 1 + 2 * 7),
+        (16, 1 + 3, 1 + 2 * 16),
+    ] {
+        let Seen { found, counted } = see(&rt, rt.alloc(), &lts, &given, jobs);
+        assert_eq!(rt; (counted.entered, counted.left), (192, 192));
+        assert_eq!(rt; (counted.solved, counted.in_turn), (192 - 2, in_turn));
+        assert_eq!(rt; (counted.made, counted.used), (workspaces, workspaces));
+        match found {
+            Some((outcome, places)) => {
+                assert_eq!(rt; outcome, SeparationOutcome::TooWide(Problem::Event(0, 0)));
+                assert!(rt; are_places_of(&places, &[64, 66]));
             }
             None => assert!(rt; false),
         }

@@ -16,7 +16,6 @@ use Rattle.rg_branch.specs.declared.bounded.Bounded.{Bounded}
 use Rattle.rg_splits.specs.Turning.{turned_back, turned}
 use Rattle.rg_branch.specs.View.{form_of, forms_of}
 use Rattle.rg_branch.specs.Asked.{IsFormOf, CanBranch, IsSideOf, AreSidesOf}
-use Rattle.rg_branch.specs.SideRows.{row_of_side}
 use Rattle.rg_branch.proofs.Orders.{product_between, high_constant}
 use Rattle.rg_branch.proofs.Points.{form_is}
 
@@ -31,7 +30,8 @@ record RowFits (columns : ℕ) (row : LinearRow) : Type 0 where
   pub coeffs : (j : ℕ) → j < columns → InRange (slice_index_or row.coeffs j (pos 0))
   pub constant : InRange row.constant
 
-side_fits : (system : LinearSystem) (b : Bounded) (at : ℤ) (high : Bool) → IsFormOf system b → InRange (b.scale *ℤ at) → InRange (b.scale *ℤ (at +ℤ pos 1)) → RowFits system.columns (row_of_side (form_of b) at high)
+side_fits : (system : LinearSystem) (b : Bounded) (at : ℤ) (high : Bool) → IsFormOf system b → InRange (b.scale *ℤ at) → InRange (b.scale *ℤ (at +ℤ pos 1))
+    → RowFits system.columns (side_row (form_of b ∷ []) (record { form = 0; at = at; high = high }))
 side_fits system b at true is low high = record { one_each = is.one_each; coeffs = is.coeffs_in_range; constant = subst InRange (high_constant b.scale at) (in_range-neg _ high) }
 side_fits system b at false is low high = record {
   one_each = length-map (arc_slice_items b.coeffs) neg_ℤ ∙ is.one_each;
@@ -54,8 +54,8 @@ module _ (system : LinearSystem) (forms : List Bounded) (can : CanBranch system 
   form_same : (b : Bounded) → b ≡ slice_index_or forms side.form b → form_of b ≡ form_at (forms_of forms) side.form
   form_same b e = form_is forms side.form b form_within e
 
-  pub row_same : (b : Bounded) → b ≡ slice_index_or forms side.form b → row_of_side (form_of b) side.at side.high ≡ side_row (forms_of forms) side
-  row_same b e = ap (λ (form : Form). row_of_side form side.at side.high) (form_same b e)
+  pub row_same : (b : Bounded) → b ≡ slice_index_or forms side.form b → side_row (form_of b ∷ []) (record side { form = 0 }) ≡ side_row (forms_of forms) side
+  row_same b e = ap (λ (form : Form). side_row (form ∷ []) (record side { form = 0 })) (form_same b e)
 
   pub low_fits : (b : Bounded) → b ≡ slice_index_or forms side.form b → InRange (b.scale *ℤ side.at)
   low_fits b e =

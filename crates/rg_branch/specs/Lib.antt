@@ -1,7 +1,6 @@
 pub mod View
 pub mod Asked
 pub mod Numbers
-pub mod SideRows
 pub mod Work
 pub mod Relating
 pub mod Points

@@ -5,9 +5,8 @@ ghost use Rattle.rg_branch.specs.Asked.{CanBranch};
 ghost use Rattle.rg_branch.specs.Answer.{IsAnswer, IsSound, IsStop};
 
 use crate::bounded::Bounded;
-use crate::node::{NodeEnd, Solver, node_end};
-use crate::splits::Splits;
-use crate::whole::{BranchStop, RawNode, Whole};
+use crate::solver::Solver;
+use crate::whole::{BranchStop, Whole};
 use rg_linear::System;
 use std::alloc::Global;
 
@@ -24,33 +23,5 @@ pub fn solve_whole(alloc: Global, system: &System, forms: &[Bounded]) -> Result<
     ensures sound { IfOk result (IsSound system.now (forms_of forms.now)) }
     ensures stop { IfErr result (IsStop system.now (forms_of forms.now)) }
 {
-    let mut solver = Solver::new(alloc, system.columns())?;
-    let mut splits = Splits {
-        above: Vec::new(alloc),
-        rows: Vec::new(alloc),
-    };
-    let mut nodes = Vec::new(alloc);
-    loop {
-        match node_end(alloc, &mut solver, system, forms, &splits)? {
-            NodeEnd::Stopped(members, wide) => {
-                return Err(BranchStop::Wide {
-                    above: splits.above,
-                    members,
-                    wide,
-                });
-            }
-            NodeEnd::Whole(values) => return Ok(Whole::Point(values, splits.above)),
-            NodeEnd::Fraction(form, at) => {
-                nodes.push(RawNode::Split(form, at))?;
-                splits.go_low(alloc, forms, form, at)?;
-            }
-            NodeEnd::Refuted(weights) => {
-                nodes.push(RawNode::Leaf(weights))?;
-                splits.turn(alloc, forms)?;
-                if splits.above.is_empty() {
-                    return Ok(Whole::Tree(nodes));
-                }
-            }
-        }
-    }
+    Solver::new(alloc, system.columns())?.solve_whole(alloc, system, forms)
 }

@@ -33,49 +33,8 @@ pub(crate) enum NodeEnd {
     Fraction(u32, i64),
 }
 
-// What nodes are settled with: the revised dictionary, and a full one, which is made where numbers are too large for it.
-#[derive(Drop)]
-pub(crate) struct Solver {
-    pub(crate) revised: Revised,
-    pub(crate) full: Option<Dictionary>,
-}
-
-impl Solver {
-    // One for systems of so many columns.
-    pub(crate) fn new(alloc: Global, columns: u32) -> Result<Solver, NoMemory>
-        ensures { IfOk result (λ solver. solver.revised.columns ≡ columns) }
-    {
-        let revised = Revised::new(alloc, columns)?;
-        Ok(Solver {
-            revised,
-            full: None,
-        })
-    }
-}
-
-// Settles the system below the splits. What the solver holds of another node doesn't matter.
-pub(crate) fn node_end(
-    alloc: Global,
-    solver: &mut Solver,
-    system: &System,
-    forms: &[Bounded],
-    splits: &Splits,
-) -> Result<NodeEnd, NoMemory>
-    requires can { CanBranch system.now forms.now }
-    requires sides { AreSidesOf (forms_of forms.now) splits.now.above.items }
-    requires rows { HasRowsOf (forms_of forms.now) splits.now }
-    requires columns { solver.old.revised.columns ≡ system.now.columns }
-    ensures node { IfOk result (NodeTells system.now (forms_of forms.now) splits.now.above.items) }
-    ensures columns { solver.new.revised.columns ≡ system.now.columns }
-{
-    match settled_small(alloc, &mut solver.revised, system, forms, splits)? {
-        Some(end) => Ok(end),
-        None => settled_full(alloc, &mut solver.full, system, forms, splits),
-    }
-}
-
-// Settles it with the revised dictionary. None where a number is too large for it.
-fn settled_small(
+// Settles the system below the splits with the revised dictionary. None where a number is too large for it.
+pub(crate) fn settled_small(
     alloc: Global,
     revised: &mut Revised,
     system: &System,
@@ -106,7 +65,7 @@ fn settled_small(
 }
 
 // Settles it with the full dictionary, which may be any: it is filled again.
-fn settled_full(
+pub(crate) fn settled_full(
     alloc: Global,
     full: &mut Option<Dictionary>,
     system: &System,

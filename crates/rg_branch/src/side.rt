@@ -1,10 +1,10 @@
 //! Splits as rows.
-ghost use Rattle.std.specs.Prelude.{◌≡◌, map, ℤ, pos, neg_ℤ, ◌+ℤ◌, ◌-ℤ◌, ◌*ℤ◌, All, if◌then◌else◌, IfOk};
+ghost use Rattle.std.specs.Prelude.{◌≡◌, ◌∷◌, [], map, ℤ, pos, neg_ℤ, ◌+ℤ◌, ◌-ℤ◌, ◌*ℤ◌, All, if◌then◌else◌, IfOk};
 ghost use Rattle.std.specs.Arc.{arc_slice_items};
 ghost use Rattle.rg_integers.specs.Range.{InRange};
+ghost use Rattle.rg_linear.specs.Branching.{side_row};
 ghost use Rattle.rg_linear.specs.View.{linear_row};
 ghost use Rattle.rg_branch.specs.View.{form_of};
-ghost use Rattle.rg_branch.specs.SideRows.{row_of_side};
 
 use crate::bounded::Bounded;
 use rg_linear::Row;
@@ -21,7 +21,7 @@ pub(crate) fn side_row(
     requires coeffs { All InRange (arc_slice_items form.now.coeffs) }
     requires low { InRange (form.now.scale *ℤ at) }
     requires high { InRange (form.now.scale *ℤ (at +ℤ pos 1)) }
-    ensures { IfOk result (λ r. linear_row r ≡ row_of_side (form_of form.now) at high) }
+    ensures { IfOk result (λ r. linear_row r ≡ side_row (form_of form.now ∷ []) (record { form = 0; at = at; high = high })) }
 {
     let coeffs = side_coeffs(alloc, &form.coeffs, high)?;
     let constant = side_constant(form.scale, at, high);

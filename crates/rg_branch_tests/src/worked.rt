@@ -1,10 +1,14 @@
 //! Small systems worked by hand.
+ghost use Rattle.std.specs.Prelude.{◌≡◌, IfOk};
+ghost use Rattle.rg_branch.specs.Asked.{CanBranch};
+
 use crate::systems::{Told, ToldForm, forms, sides, system};
 use rg_bounded_forms::{Top, can_branch};
-use rg_branch::{BranchStop, RawNode, Whole, solve_whole};
+use rg_branch::{Bounded, BranchStop, RawNode, Solver, Whole, solve_whole};
 use rg_feasible::PivotWide;
 use rg_fraction::Fraction;
 use rg_integers::Wide;
+use rg_linear::System;
 use std::alloc::{AllocError, Global};
 use std::process::Abort;
 use std::test::Fail;
@@ -85,14 +89,16 @@ fn branches(
     branches_on(rt, rows, &list, &tops, wanted)
 }
 
-// Branching over these rows and forms has this answer.
-fn branches_on(
+// The system of these rows, with these forms.
+fn asked(
     rt: &(impl Abort + AllocGlobal),
     rows: &[Row],
     told: &[ToldForm],
     tops: &[Top],
-    wanted: Answer,
-) -> Result<(), Fail> {
+) -> Result<(System, Vec<Bounded>), Fail>
+    ensures can { IfOk result (λ a. CanBranch a.0 a.1.items) }
+    ensures columns { IfOk result (λ a. a.0.columns ≡ 2) }
+{
     let mut list = Vec::new(rt.alloc());
     for (coeffs, constant) in rows {
         list.push(Told {
@@ -104,9 +110,52 @@ fn branches_on(
     let system = system(rt.alloc(), 2, &list)?;
     let forms = forms(rt.alloc(), told)?;
     assert!(rt; can_branch(&system, &forms, tops), "{rows:?}");
+    Ok((system, forms))
+}
+
+// Branching over these rows and forms has this answer.
+fn branches_on(
+    rt: &(impl Abort + AllocGlobal),
+    rows: &[Row],
+    told: &[ToldForm],
+    tops: &[Top],
+    wanted: Answer,
+) -> Result<(), Fail> {
+    let (system, forms) = asked(rt, rows, told, tops)?;
     let found = solve_whole(rt.alloc(), &system, &forms);
     assert_eq!(rt; found, result_of(rt.alloc(), wanted)?, "{rows:?}");
     Ok(())
+}
+
+// The solver gives over these rows and forms what `solve_whole` does.
+fn serves(
+    rt: &(impl Abort + AllocGlobal),
+    solver: &mut Solver,
+    rows: &[Row],
+    told: &[ToldForm],
+    tops: &[Top],
+) -> Result<(), Fail>
+    requires { solver.old ≡ 2 }
+    ensures { solver.new ≡ 2 }
+{
+    let (system, forms) = asked(rt, rows, told, tops)?;
+    let found = solver.solve_whole(rt.alloc(), &system, &forms);
+    assert_eq!(rt; found, solve_whole(rt.alloc(), &system, &forms), "{rows:?}");
+    Ok(())
+}
+
+// The same, where each form is the row that it names.
+fn serves_rows(
+    rt: &(impl Abort + AllocGlobal),
+    solver: &mut Solver,
+    rows: &[Row],
+    told: &[Form],
+) -> Result<(), Fail>
+    requires { solver.old ≡ 2 }
+    ensures { solver.new ≡ 2 }
+{
+    let (list, tops) = bounded(rt.alloc(), told)?;
+    serves(rt, solver, rows, &list, &tops)
 }
 
 // The forms, and their top rows.
@@ -350,4 +399,16 @@ fn numbers_grow_below_the_root(rt: HostRuntime) -> Result<(), Fail> {
         &[top],
         Answer::Tree(&LONG_TREE),
     )
+}
+
+#[test]
+fn one_solver_serves_one_system_after_the_other(rt: HostRuntime) -> Result<(), Fail> {
+    let mut solver = Solver::new(rt.alloc(), 2)?;
+    // one stops at the root, one has a point, the numbers of one grow, one stops below a split, and one has splits below splits
+    serves_rows(&rt, &mut solver, &LARGE, &LARGE_FORMS)?;
+    serves_rows(&rt, &mut solver, &TWO, &TWO_FORMS)?;
+    let top = Top { row: 3, times: 1 };
+    serves(&rt, &mut solver, &LONG_ROWS, &[LONG_FORM], &[top])?;
+    serves_rows(&rt, &mut solver, &PASSES_BELOW, &HALF_FORMS)?;
+    serves_rows(&rt, &mut solver, &THREE_SPLITS, &COLUMNS)
 }

@@ -1,8 +1,7 @@
 -- The rows of the sides of splits.
-use Rattle.std.proofs.Common.{◌≡◌, ⊎_elim, ℕ, zero, suc, ◌<◌, true, if◌then◌else◌, List, [], ◌∷◌, length, map, Contains, Some, ap₂, refl, subst, sym, ◌∙◌, arith}
+use Rattle.std.proofs.Common.{◌≡◌, ℕ, zero, suc, ◌<◌, true, List, [], ◌∷◌, length, map, Contains, Some, ap₂, refl, subst, sym, ◌∙◌, arith}
 use Rattle.std.specs.Prelude.{ℤ, neg_ℤ, ◌+ℤ◌, ◌*ℤ◌, slice_get, slice_index_or}
 use Rattle.std.proofs.lemmas.Int.{ints}
-use Rattle.std.proofs.lemmas.Bool.{true≢false}
 use Rattle.rg_theory.specs.declared.Class.{Class}
 use Rattle.rg_theory.specs.declared.Problem.{Problem}
 use Rattle.rg_theory.specs.declared.Problem.TheVariants.{Event, States}

@@ -2,7 +2,7 @@
 use Rattle.std.proofs.Common.{◌≡◌, ⊎_elim, ℕ, suc, ◌+◌, ◌-◌, ◌<◌, ◌≤◌, ◌==◌, Bool, true, false, if◌then◌else◌, List, [], ◌∷◌, ◌++◌, map, take, drop, reverse, set, length, Result, Ok, Err, Contains, All, ap, ap₂, refl, subst, sym, ◌∙◌, inl, inr, arith, add-one}
 use Rattle.std.specs.Prelude.{ℤ, pos, neg_ℤ, ◌-ℤ◌, ◌*ℤ◌, slice_index_or}
 use Rattle.std.proofs.lemmas.Int.{ints}
-use Rattle.std.proofs.lemmas.List.{length-map, length-drop, get_or-map, reverse-append, take_all, drop_all, drop-set}
+use Rattle.std.proofs.lemmas.List.{length-drop, reverse-append, take_all, drop_all, drop-set}
 use Rattle.std.proofs.Math.Seq.{take-suc}
 use Rattle.std.proofs.lemmas.List.Elements.{All-head, All-tail, All-drop, All-contains, Contains-append_cases}
 use Rattle.rg_theory.specs.declared.Arc.{Arc}

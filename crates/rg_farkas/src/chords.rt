@@ -7,7 +7,8 @@ ghost use Rattle.rg_integers.specs.Sum.{number_at};
 ghost use Rattle.rg_spanning.specs.Spanning.{IsTreeOf};
 ghost use Rattle.rg_linear.specs.Cycle.{IsCycleBasis};
 ghost use Rattle.rg_cycles.specs.Basis.{number_with, IsRelationInRange};
-ghost use Rattle.rg_cycles.specs.View.{labels_of, cycle_of};
+ghost use Rattle.rg_cycles.specs.View.{labels_of};
+ghost use Rattle.rg_case_parts.specs.SettingViews.{shown_setting};
 ghost use Rattle.rg_order_of_work.specs.Chords.{IsBasis};
 ghost use Rattle.rg_order_of_work.specs.Fold.{Comes, each, joined, add, whole, ratio_of, shown_result};
 ghost use Rattle.rg_order_of_work.specs.Placing.{negated};
@@ -16,24 +17,23 @@ ghost use Rattle.rg_order_of_work.specs.Spreading.{used_chords, chord_arcs};
 ghost use Rattle.rg_farkas.specs.View.{counted_of, counts_fold, count_fold};
 
 use crate::multiplied::Counted;
-use rg_cycles::{Basis, Relation};
+use rg_case_parts::Setting;
+use rg_cycles::Relation;
 use rg_fraction::{FoldStop, Fraction};
 use rg_integers::Wide;
-use rg_lts::Lts;
-use rg_spanning::Tree;
 use rg_theory::Arc;
 use std::alloc::{AllocError, Global};
 
 // The kept chords that are members of the basis, by number.
-pub(crate) fn used_chords(alloc: Global, lts: &Lts, basis: &Basis) -> Result<Vec<u32>, AllocError>
-    requires labels { labels_of basis.now ≡ labels lts.now }
-    requires few { length (cycle_of basis.now).kept < 2 ^ 31 }
-    ensures { IfOk result (λ v. v.items ≡ used_chords lts.now (cycle_of basis.now)) }
+pub(crate) fn used_chords(alloc: Global, setting: Setting<'_>) -> Result<Vec<u32>, AllocError>
+    requires labels { labels_of setting.basis.now ≡ labels setting.lts.now }
+    requires few { let s = shown_setting setting in length s.basis.kept < 2 ^ 31 }
+    ensures { let s = shown_setting setting.entry in IfOk result (λ v. v.items ≡ used_chords s.lts s.basis) }
 {
-    let labels = lts.labels();
+    let labels = setting.lts.labels();
     let mut used = Vec::new(alloc);
-    for chord in 0..basis.kept().len() as u32 {
-        if is_member(basis.members(), labels + chord) {
+    for chord in 0..setting.basis.kept().len() as u32 {
+        if is_member(setting.basis.members(), labels + chord) {
             used.push(chord)?;
         }
     }
@@ -55,21 +55,19 @@ fn is_member(members: &[u32], variable: u32) -> bool
 // The arcs of these chords.
 pub(crate) fn chord_arcs(
     alloc: Global,
-    lts: &Lts,
-    tree: &Tree,
-    basis: &Basis,
+    setting: Setting<'_>,
     used: &[u32],
 ) -> Result<Vec<Arc>, AllocError>
-    requires tree { IsTreeOf lts.now tree.now }
-    requires basis { IsBasis lts.now tree.now.arcs (cycle_of basis.now) }
-    requires used { used.now ≡ used_chords lts.now (cycle_of basis.now) }
-    ensures { IfOk result (λ v. v.items ≡ chord_arcs lts.now tree.now.arcs (cycle_of basis.now)) }
+    requires tree { IsTreeOf setting.lts.now setting.tree.now }
+    requires basis { let s = shown_setting setting in IsBasis s.lts s.tree s.basis }
+    requires used { let s = shown_setting setting in used.now ≡ used_chords s.lts s.basis }
+    ensures { let s = shown_setting setting.entry in IfOk result (λ v. v.items ≡ chord_arcs s.lts s.tree s.basis) }
 {
-    lts.is_well_formed();
+    setting.lts.is_well_formed();
     let mut arcs = Vec::new(alloc);
     for &chord in used {
-        let index = basis.kept()[chord as usize];
-        arcs.push(tree.chords()[index as usize])?;
+        let index = setting.basis.kept()[chord as usize];
+        arcs.push(setting.tree.chords()[index as usize])?;
     }
     Ok(arcs)
 }
@@ -77,53 +75,52 @@ pub(crate) fn chord_arcs(
 // The multipliers of these chords.
 pub(crate) fn chord_shares(
     alloc: Global,
-    lts: &Lts,
-    basis: &Basis,
+    setting: Setting<'_>,
     counts: &[Counted],
     used: &[u32],
 ) -> Result<Vec<Fraction>, FoldStop>
-    requires labels { labels_of basis.now ≡ labels lts.now }
-    requires basis { (vectors : List (List ℤ)) × IsCycleBasis (labels lts.now) vectors (cycle_of basis.now) }
-    requires counts { All (λ k. (k.label < labels lts.now) × (¬ Contains (cycle_of basis.now).members k.label)) (map counted_of counts.now) }
-    requires used { All (λ c. (c < length (cycle_of basis.now).kept) × Contains (cycle_of basis.now).members (labels lts.now + c)) used.now }
-    ensures { Comes (each (λ c. counts_fold (cycle_of basis.now) (map counted_of counts.now) (labels lts.now + c)) used.now) (λ v. map ratio_of v.items) result }
+    requires labels { labels_of setting.basis.now ≡ labels setting.lts.now }
+    requires basis { let s = shown_setting setting in (vectors : List (List ℤ)) × IsCycleBasis (labels s.lts) vectors s.basis }
+    requires counts { let s = shown_setting setting in All (λ k. (k.label < labels s.lts) × (¬ Contains s.basis.members k.label)) (map counted_of counts.now) }
+    requires used { let s = shown_setting setting in All (λ c. (c < length s.basis.kept) × Contains s.basis.members (labels s.lts + c)) used.now }
+    ensures { let s = shown_setting setting.entry in Comes (each (λ c. counts_fold s.basis (map counted_of counts.now) (labels s.lts + c)) used.now) (λ v. map ratio_of v.items) result }
 {
     let mut shares = Vec::new(alloc);
     for &chord in used {
-        let share = chord_share(lts, basis, counts, chord)?;
+        let share = chord_share(setting, counts, chord)?;
         shares.push(share)?;
     }
     Ok(shares)
 }
 
 // The multiplier of the chord: what the counts give its number in the labels' relations, negated.
-fn chord_share(lts: &Lts, basis: &Basis, counts: &[Counted], chord: u32) -> Result<Fraction, Wide>
-    requires labels { labels_of basis.now ≡ labels lts.now }
-    requires basis { (vectors : List (List ℤ)) × IsCycleBasis (labels lts.now) vectors (cycle_of basis.now) }
-    requires counts { All (λ k. (k.label < labels lts.now) × (¬ Contains (cycle_of basis.now).members k.label)) (map counted_of counts.now) }
-    requires chord { chord < length (cycle_of basis.now).kept }
-    requires member { Contains (cycle_of basis.now).members (labels lts.now + chord) }
-    ensures { counts_fold (cycle_of basis.now) (map counted_of counts.now) (labels lts.now + chord) (shown_result ratio_of result) }
+fn chord_share(setting: Setting<'_>, counts: &[Counted], chord: u32) -> Result<Fraction, Wide>
+    requires labels { labels_of setting.basis.now ≡ labels setting.lts.now }
+    requires basis { let s = shown_setting setting in (vectors : List (List ℤ)) × IsCycleBasis (labels s.lts) vectors s.basis }
+    requires counts { let s = shown_setting setting in All (λ k. (k.label < labels s.lts) × (¬ Contains s.basis.members k.label)) (map counted_of counts.now) }
+    requires chord { let s = shown_setting setting in chord < length s.basis.kept }
+    requires member { let s = shown_setting setting in Contains s.basis.members (labels s.lts + chord) }
+    ensures { let s = shown_setting setting.entry in counts_fold s.basis (map counted_of counts.now) (labels s.lts + chord) (shown_result ratio_of result) }
 {
-    let sum = chord_sum(lts, basis, counts, chord)?;
+    let sum = chord_sum(setting, counts, chord)?;
     Ok(opposite(sum))
 }
 
 // What the counts give the chord's number in the labels' relations.
-fn chord_sum(lts: &Lts, basis: &Basis, counts: &[Counted], chord: u32) -> Result<Fraction, Wide>
-    requires labels { labels_of basis.now ≡ labels lts.now }
-    requires basis { (vectors : List (List ℤ)) × IsCycleBasis (labels lts.now) vectors (cycle_of basis.now) }
-    requires counts { All (λ k. (k.label < labels lts.now) × (¬ Contains (cycle_of basis.now).members k.label)) (map counted_of counts.now) }
-    requires chord { chord < length (cycle_of basis.now).kept }
-    requires member { Contains (cycle_of basis.now).members (labels lts.now + chord) }
-    ensures { joined add (count_fold (cycle_of basis.now) (labels lts.now + chord)) (whole (pos 0)) (map counted_of counts.now) (shown_result ratio_of result) }
+fn chord_sum(setting: Setting<'_>, counts: &[Counted], chord: u32) -> Result<Fraction, Wide>
+    requires labels { labels_of setting.basis.now ≡ labels setting.lts.now }
+    requires basis { let s = shown_setting setting in (vectors : List (List ℤ)) × IsCycleBasis (labels s.lts) vectors s.basis }
+    requires counts { let s = shown_setting setting in All (λ k. (k.label < labels s.lts) × (¬ Contains s.basis.members k.label)) (map counted_of counts.now) }
+    requires chord { let s = shown_setting setting in chord < length s.basis.kept }
+    requires member { let s = shown_setting setting in Contains s.basis.members (labels s.lts + chord) }
+    ensures { let s = shown_setting setting.entry in joined add (count_fold s.basis (labels s.lts + chord)) (whole (pos 0)) (map counted_of counts.now) (shown_result ratio_of result) }
 {
     let Some((first, rest)) = counts.split_first() else {
         return Ok(Fraction::new(0, 1));
     };
-    let mut sum = chord_term(lts, basis, first, chord)?;
+    let mut sum = chord_term(setting, first, chord)?;
     for pair in rest {
-        let term = chord_term(lts, basis, pair, chord)?;
+        let term = chord_term(setting, pair, chord)?;
         if term.numerator() != 0 {
             sum = sum.add(term)?;
         }
@@ -132,17 +129,17 @@ fn chord_sum(lts: &Lts, basis: &Basis, counts: &[Counted], chord: u32) -> Result
 }
 
 // What a count gives the chord with this number: 0 where it is 0 or the label's relation doesn't name the chord.
-fn chord_term(lts: &Lts, basis: &Basis, pair: &Counted, chord: u32) -> Result<Fraction, Wide>
-    requires labels { labels_of basis.now ≡ labels lts.now }
-    requires basis { (vectors : List (List ℤ)) × IsCycleBasis (labels lts.now) vectors (cycle_of basis.now) }
-    requires label { pair.now.label < labels lts.now }
-    requires dependent { ¬ Contains (cycle_of basis.now).members pair.now.label }
-    requires chord { chord < length (cycle_of basis.now).kept }
-    requires member { Contains (cycle_of basis.now).members (labels lts.now + chord) }
-    ensures { count_fold (cycle_of basis.now) (labels lts.now + chord) (counted_of pair.now) (shown_result ratio_of result) }
+fn chord_term(setting: Setting<'_>, pair: &Counted, chord: u32) -> Result<Fraction, Wide>
+    requires labels { labels_of setting.basis.now ≡ labels setting.lts.now }
+    requires basis { let s = shown_setting setting in (vectors : List (List ℤ)) × IsCycleBasis (labels s.lts) vectors s.basis }
+    requires label { pair.now.label < labels setting.lts.now }
+    requires dependent { let s = shown_setting setting in ¬ Contains s.basis.members pair.now.label }
+    requires chord { let s = shown_setting setting in chord < length s.basis.kept }
+    requires member { let s = shown_setting setting in Contains s.basis.members (labels s.lts + chord) }
+    ensures { let s = shown_setting setting.entry in count_fold s.basis (labels s.lts + chord) (counted_of pair.now) (shown_result ratio_of result) }
 {
-    lts.is_well_formed();
-    let Some(relation) = basis.relation(pair.label) else {
+    setting.lts.is_well_formed();
+    let Some(relation) = setting.basis.relation(pair.label) else {
         unreachable!()
     };
     if pair.count == 0 {
@@ -150,7 +147,7 @@ fn chord_term(lts: &Lts, basis: &Basis, pair: &Counted, chord: u32) -> Result<Fr
     }
     let count = Fraction::new(pair.count, 1);
     let product = pair.multiplier.mul(count)?;
-    let index = basis.kept()[chord as usize];
+    let index = setting.basis.kept()[chord as usize];
     let number = chord_number(relation, index);
     if number == 0 {
         return Ok(Fraction::new(0, 1));

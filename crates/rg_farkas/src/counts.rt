@@ -1,23 +1,23 @@
 //! How often the labels that aren't free count in the named rows.
 ghost use Rattle.std.specs.Prelude.{◌≡◌, ◌<◌, ◌≤◌, ◌++◌, length, map, All, IfOk, OnOk};
 ghost use Rattle.rg_theory.specs.System.{labels};
-ghost use Rattle.rg_refuting.specs.Row.{row_expression};
 ghost use Rattle.rg_spanning.specs.Spanning.{IsTreeOf};
-ghost use Rattle.rg_cycles.specs.View.{labels_of, cycle_of};
+ghost use Rattle.rg_cycles.specs.View.{labels_of};
 ghost use Rattle.rg_order_of_work.specs.Fold.{ratio_of};
 ghost use Rattle.rg_order_of_work.specs.Rewriting.{dependent_labels};
 ghost use Rattle.rg_order_of_work.specs.Spreading.{pairs_of};
 ghost use Rattle.rg_reasons.specs.Sums.{expression_of};
-ghost use Rattle.rg_farkas.specs.Leaves.{share_of};
+ghost use Rattle.rg_case_parts.specs.SettingViews.{shown_case};
+ghost use Rattle.rg_farkas.specs.Leaves.{share_of, said_in};
 ghost use Rattle.rg_farkas.specs.View.{counted_of, pair_count, label_count, AreRowsWithin};
 ghost use Rattle.rg_reasons.specs.Certificates.{IsTermWithin};
 
 use crate::multiplied::Counted;
-use rg_case_parts::count;
-use rg_cycles::{Basis, dependent};
+use crate::rows::case_expression;
+use rg_case_parts::{CaseSetting, Setting, count};
+use rg_cycles::dependent;
 use rg_fraction::Fraction;
-use rg_lts::Lts;
-use rg_reasons::{Expression, ProblemCase, expression};
+use rg_reasons::Expression;
 use rg_refuting::{RowName, Side};
 use rg_spanning::Tree;
 use std::alloc::{AllocError, Global};
@@ -25,22 +25,26 @@ use std::alloc::{AllocError, Global};
 // The counts of all named rows, row by row.
 pub(crate) fn row_counts(
     alloc: Global,
-    lts: &Lts,
-    tree: &Tree,
-    basis: &Basis,
-    case: ProblemCase,
+    c: CaseSetting<'_>,
     named: &[(RowName, Fraction)],
     above: &[Side],
 ) -> Result<Vec<Counted>, AllocError>
-    requires tree { IsTreeOf lts.now tree.now }
-    requires labels { labels_of basis.now ≡ labels lts.now }
-    requires within { AreRowsWithin lts.now (row_expression lts.now case.class case.problem case.number above.now) (map share_of named.now) }
-    ensures { IfOk result (λ v. map counted_of v.items ≡ map (pair_count tree.now.arcs (row_expression lts.now case.class case.problem case.number above.now)) (pairs_of (map share_of named.now) (dependent_labels (labels lts.now) (cycle_of basis.now)))) }
+    requires tree { IsTreeOf c.setting.lts.now c.setting.tree.now }
+    requires labels { labels_of c.setting.basis.now ≡ labels c.setting.lts.now }
+    requires within { let s = shown_case c in AreRowsWithin s.lts (said_in s above.now) (map share_of named.now) }
+    ensures { let s = shown_case c.entry in
+        IfOk result (λ v. map counted_of v.items ≡ map (pair_count s.tree (said_in s above.now)) (pairs_of (map share_of named.now) (dependent_labels (labels s.lts) s.basis))) }
 {
+    let Setting {
+        lts,
+        tree,
+        basis,
+        ..
+    } = c.setting;
     let labels = dependent(alloc, basis, lts.labels())?;
     let mut counts = Vec::new(alloc);
     for &(name, multiplier) in named {
-        let row = expression(lts, case, above, name);
+        let row = case_expression(c, above, name);
         push_counts(&mut counts, tree, &labels, multiplier, &row)?;
     }
     Ok(counts)

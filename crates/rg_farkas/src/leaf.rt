@@ -1,17 +1,18 @@
 //! The leaf of named rows.
 ghost use Rattle.std.specs.Prelude.{◌≡◌, ◌<◌, ◌^◌, ◌++◌, map, length, All, Ok, Err, IfOk, IsErrOf};
 ghost use Rattle.rg_theory.specs.System.{labels, IsAllReachable};
-ghost use Rattle.rg_refuting.specs.Row.{RowStands, row_expression, cases_of};
-ghost use Rattle.rg_refuting.specs.Refutes.{IsSeparationProblem, LeafRefutes};
+ghost use Rattle.rg_refuting.specs.Row.{RowStands};
+ghost use Rattle.rg_refuting.specs.Refutes.{LeafRefutes};
 ghost use Rattle.rg_integers.specs.declared.term.Wide.{Wide};
 ghost use Rattle.rg_spanning.specs.Spanning.{IsTreeOf};
-ghost use Rattle.rg_cycles.specs.View.{labels_of, cycle_of};
+ghost use Rattle.rg_cycles.specs.View.{labels_of};
 ghost use Rattle.rg_fraction.specs.declared.fold_stop.FoldStop.TheVariants as stop;
 ghost use Rattle.rg_order_of_work.specs.Chords.{IsBasis};
 ghost use Rattle.rg_order_of_work.specs.Spreading.{leaf_fold};
 ghost use Rattle.rg_reasons.specs.Trees.{named_row, node_of};
 ghost use Rattle.rg_reasons.specs.Certificates.{IsFormOf, IsRowNameOf, IsNodeOf};
-ghost use Rattle.rg_farkas.specs.Leaves.{share_of, IsLeafWith, RefutesCase};
+ghost use Rattle.rg_case_parts.specs.SettingViews.{shown_case};
+ghost use Rattle.rg_farkas.specs.Leaves.{share_of, said_in, IsLeafWith, RefutesCase};
 ghost use Rattle.rg_integers.specs.Range.{InRange};
 ghost use Rattle.rg_farkas.specs.Refuting.{SharesRefute};
 ghost use Rattle.rg_farkas.specs.View.{AreRowsWithin};
@@ -24,14 +25,11 @@ use crate::parts::divided;
 use crate::rows::{numbered, with_expressions};
 use crate::sizes::check_sizes;
 use crate::sums::tree_multipliers;
-use rg_case_parts::without_denominators;
-use rg_cycles::Basis;
+use rg_case_parts::{CaseSetting, Setting, without_denominators};
 use rg_fraction::{FoldStop, Fraction};
-use rg_lts::Lts;
-use rg_reasons::{Node, ProblemCase};
+use rg_reasons::Node;
 use rg_refuting::{RowName, Side};
-use rg_spanning::Tree;
-use rg_theory::{Arc, Class, Problem};
+use rg_theory::Arc;
 use std::alloc::{AllocError, Global};
 
 /// The leaf of named rows, each with its multiplier, which refute in the case below the splits above it, given
@@ -49,63 +47,52 @@ use std::alloc::{AllocError, Global};
 /// there is no memory.
 pub fn spread(
     alloc: Global,
-    lts: &Lts,
-    tree: &Tree,
-    basis: &Basis,
-    class: Class,
-    problem: Problem,
-    case: u32,
+    c: CaseSetting<'_>,
     named: &[(RowName, Fraction)],
     above: &[Side],
 ) -> Result<Node, FoldStop>
-    requires { RefutesCase lts.now tree.now basis.now class problem case named.now above.now }
-    ensures leaf { IfOk result (λ node. IsLeafWith (λ rows. leaf_fold lts.now tree.now.arcs (cycle_of basis.now) (row_expression lts.now class problem case above.now) (map share_of named.now) (Ok rows)) (node_of node)) }
-    ensures refutes { IfOk result (λ node. IsLeafWith (LeafRefutes (RowStands lts.now class problem case above.now) (row_expression lts.now class problem case above.now)) (node_of node)) }
-    ensures in_range { IfOk result (λ node. IsNodeOf lts.now (node_of node)) }
-    ensures wide { (w : Wide) → IsErrOf result (stop.Wide w) → leaf_fold lts.now tree.now.arcs (cycle_of basis.now) (row_expression lts.now class problem case above.now) (map share_of named.now) (Err w) }
+    requires { RefutesCase c named.now above.now }
+    ensures leaf { let s = shown_case c.entry in IfOk result (λ node. IsLeafWith (λ rows. leaf_fold s.lts s.tree s.basis (said_in s above.now) (map share_of named.now) (Ok rows)) (node_of node)) }
+    ensures refutes { let s = shown_case c.entry in IfOk result (λ node. IsLeafWith (LeafRefutes (RowStands s.lts s.class s.problem s.number above.now) (said_in s above.now)) (node_of node)) }
+    ensures in_range { IfOk result (λ node. IsNodeOf c.entry.setting.lts.now (node_of node)) }
+    ensures wide { let s = shown_case c.entry in (w : Wide) → IsErrOf result (stop.Wide w) → leaf_fold s.lts s.tree s.basis (said_in s above.now) (map share_of named.now) (Err w) }
 {
-    lts.is_well_formed();
-    let case = ProblemCase {
-        class,
-        problem,
-        number: case,
-    };
-    let rows = leaf_rows(alloc, lts, tree, basis, case, named, above)?;
+    c.setting.lts.is_well_formed();
+    let rows = leaf_rows(alloc, c, named, above)?;
     Ok(Node::Leaf(rows))
 }
 
 // The rows of the leaf with their multipliers.
 pub(crate) fn leaf_rows(
     alloc: Global,
-    lts: &Lts,
-    tree: &Tree,
-    basis: &Basis,
-    case: ProblemCase,
+    c: CaseSetting<'_>,
     named: &[(RowName, Fraction)],
     above: &[Side],
 ) -> Result<Vec<(RowName, i128)>, FoldStop>
-    requires tree { IsTreeOf lts.now tree.now }
-    requires labels { labels_of basis.now ≡ labels lts.now }
-    requires basis { IsBasis lts.now tree.now.arcs (cycle_of basis.now) }
-    requires within { AreRowsWithin lts.now (row_expression lts.now case.class case.problem case.number above.now) (map share_of named.now) }
-    ensures comes { Comes (leaf_fold lts.now tree.now.arcs (cycle_of basis.now) (row_expression lts.now case.class case.problem case.number above.now) (map share_of named.now)) (λ v. map named_row v.items) result }
+    requires tree { IsTreeOf c.setting.lts.now c.setting.tree.now }
+    requires labels { labels_of c.setting.basis.now ≡ labels c.setting.lts.now }
+    requires basis { let s = shown_case c in IsBasis s.lts s.tree s.basis }
+    requires within { let s = shown_case c in AreRowsWithin s.lts (said_in s above.now) (map share_of named.now) }
+    ensures comes { let s = shown_case c.entry in Comes (leaf_fold s.lts s.tree s.basis (said_in s above.now) (map share_of named.now)) (λ v. map named_row v.items) result }
     ensures in_range { IfOk result (λ v. All (λ r. InRange r.1) v.items) }
 {
+    let setting = c.setting;
+    let Setting { lts, tree, .. } = setting;
     let system = lts.arcs();
-    let counts = row_counts(alloc, lts, tree, basis, case, named, above)?;
-    let used = used_chords(alloc, lts, basis)?;
-    let shares = chord_shares(alloc, lts, basis, &counts, &used)?;
+    let counts = row_counts(alloc, c, named, above)?;
+    let used = used_chords(alloc, setting)?;
+    let shares = chord_shares(alloc, setting, &counts, &used)?;
     let fractions = fractions(alloc, named, &shares)?;
     let scaled = without_denominators(alloc, &fractions)?;
-    let chords = chord_arcs(alloc, lts, tree, basis, &used)?;
+    let chords = chord_arcs(alloc, setting, &used)?;
     let listed = numbered(alloc, named, &chords, &scaled.numbers)?;
-    let rows = with_expressions(alloc, lts, case, above, &listed)?;
+    let rows = with_expressions(alloc, c, above, &listed)?;
     let multipliers = tree_multipliers(alloc, tree.arcs(), &rows)?;
     let parts = divided(alloc, &scaled.numbers, &multipliers)?;
     let mut leaf = named_rows(alloc, named, &parts)?;
     let arcs = both(alloc, &chords, tree.arcs())?;
     push_arcs(&mut leaf, system, &arcs, &parts[named.len()..])?;
-    let rows = with_expressions(alloc, lts, case, above, &leaf)?;
+    let rows = with_expressions(alloc, c, above, &leaf)?;
     check_sizes(alloc, lts, &rows)?;
     Ok(leaf)
 }

@@ -2,16 +2,17 @@
 ghost use Rattle.std.specs.Prelude.{◌≡◌, ◌<◌, ◌+◌, ◌++◌, length, map, All, IfOk};
 ghost use Rattle.rg_theory.specs.System.{labels};
 ghost use Rattle.rg_integers.specs.Range.{InRange};
-ghost use Rattle.rg_refuting.specs.Row.{row_expression};
 ghost use Rattle.rg_reasons.specs.Trees.{named_row};
 ghost use Rattle.rg_order_of_work.specs.Spreading.{named_from, arc_name};
-ghost use Rattle.rg_farkas.specs.Leaves.{share_of};
+ghost use Rattle.rg_reasons.specs.Sums.{expression_of};
+ghost use Rattle.rg_case_parts.specs.SettingViews.{shown_case};
+ghost use Rattle.rg_farkas.specs.Leaves.{share_of, said_in};
 ghost use Rattle.rg_farkas.specs.View.{named_of, Tells};
 
 use crate::multiplied::Row;
+use rg_case_parts::CaseSetting;
 use rg_fraction::Fraction;
-use rg_lts::Lts;
-use rg_reasons::{ProblemCase, expression};
+use rg_reasons::{Expression, expression};
 use rg_refuting::{RowName, Side};
 use rg_theory::Arc;
 use std::alloc::{AllocError, Global};
@@ -36,21 +37,27 @@ pub(crate) fn numbered(
     Ok(rows)
 }
 
+// What the row of this name says in the case, below these sides.
+pub(crate) fn case_expression(c: CaseSetting<'_>, above: &[Side], name: RowName) -> Expression
+    ensures { expression_of result ≡ said_in (shown_case c.entry) above.now name }
+{
+    expression(c.setting.lts, c.problem_case(), above, name)
+}
+
 // The rows with what they say.
 pub(crate) fn with_expressions(
     alloc: Global,
-    lts: &Lts,
-    case: ProblemCase,
+    c: CaseSetting<'_>,
     above: &[Side],
     listed: &[(RowName, i128)],
 ) -> Result<Vec<Row>, AllocError>
     requires { All (λ r. InRange r.1) listed.now }
     ensures rows { IfOk result (λ v. map named_of v.items ≡ map named_row listed.now) }
-    ensures told { IfOk result (λ v. All (Tells (row_expression lts.now case.class case.problem case.number above.now)) v.items) }
+    ensures told { IfOk result (λ v. All (Tells (said_in (shown_case c.entry) above.now)) v.items) }
 {
     let mut rows = Vec::new(alloc);
     for &(name, multiplier) in listed {
-        let expression = expression(lts, case, above, name);
+        let expression = case_expression(c, above, name);
         rows.push(Row {
             name,
             multiplier,

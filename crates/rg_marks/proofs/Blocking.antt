@@ -154,3 +154,12 @@ numbered_end blocks tokens keys refined s past most so_far =
     from : (k k' : ℕ) → k < length blocks → k' < length blocks → get_or blocks k 0 ≡ get_or blocks k' 0 → get_or tokens k 0 ≡ get_or tokens k' 0 → get_or refined k 0 ≡ get_or refined k' 0
     from k k' lt lt' e f = so_far.distinct (get_or refined k 0) (get_or refined k' 0) (get_or blocks k 0, get_or tokens k 0) (so_far.stored k (omega arith))
         (so_far.stored k' (omega arith) ∙ ap Some (λ i. (sym e i, sym f i)))
+
+-- each state has a number of its own
+abbrev pub AreApart : List ℕ → Type 0
+AreApart blocks = (s other : ℕ) → s < length blocks → other < length blocks → get_or blocks s 0 ≡ get_or blocks other 0 → s ≡ other
+
+-- then no place changes the blocks
+pub refined_alone : (blocks tokens : List ℕ) → AreApart blocks → AreRefined blocks tokens blocks
+refined_alone blocks tokens apart =
+    record { one_each = refl; same = λ k k' lt lt'. (λ e. (e, ap (λ n. get_or tokens n 0) (apart k k' lt lt' e)), λ (e, f). e) }

@@ -1,5 +1,5 @@
 -- Facts that hold of some element of a list, and of lists with one more.
-use Rattle.std.proofs.Common.{suc, List, [], ◌∷◌, ◌++◌, Any, Contains, ◌⊎◌, inl, inr, ⊎_elim, refl, sym, subst, arith}
+use Rattle.std.proofs.Common.{suc, List, [], ◌∷◌, ◌++◌, Any, ◌⊎◌, inl, inr, ⊎_elim, refl, sym, subst, arith}
 use Rattle.std.proofs.lemmas.List.Elements.{Contains-append_left, Contains-append_right, Contains-append_cases}
 use Rattle.rg_theory.proofs.Lists.{Contains-cons_cases}
 use Rattle.rg_theory.proofs.Among.{one_of, any_of, any_within}

@@ -6,7 +6,7 @@ ghost use Rattle.rg_net.specs.Shown.{shown_place};
 ghost use Rattle.rg_marks.specs.Tokens.{IsNarrow, AreTokens};
 ghost use Rattle.rg_marks.specs.Separated.{AddsOne, SeparateSoMuch, AreSome};
 
-use crate::blocks::refined;
+use crate::blocks::{are_all_apart, refined};
 use crate::stops::{mark, no_marks};
 use rg_lts::Lts;
 use rg_net::Place;
@@ -51,6 +51,10 @@ impl Separated {
         ensures none_added { OnErr result (self.new ≡ self.old) }
     {
         lts.is_well_formed();
+        if are_all_apart(&self.blocks) {
+            mark(lts, &mut self.stops, place, tokens);
+            return Ok(None);
+        }
         let blocks = refined(alloc, &self.blocks, tokens)?;
         mark(lts, &mut self.stops, place, tokens);
         if blocks == self.blocks {

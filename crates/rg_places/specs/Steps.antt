@@ -29,8 +29,8 @@ value_by columns = ratio_beside (labels_in columns) (values_in columns)
 
 -- the label stands at the column's place among the free labels
 pub record IsPlaced (free : List ℕ) (c : Column) : Type 0 where
-  pub within : c.place < length free
-  pub label_is : slice_index free c.place ≡ c.label
+  pub within : c.index < length free
+  pub label_is : slice_index free c.index ≡ c.label
 
 -- the columns are the free labels with an arc, in order
 pub record AreFreeColumns (lts : System) (basis : CycleBasis) (columns : List Column) : Type 0 where
@@ -41,7 +41,7 @@ pub record AreFreeColumns (lts : System) (basis : CycleBasis) (columns : List Co
 
 -- what a free label with this value adds to the effect of a label with this relation
 abbrev pub column_share : Relation → Column → Result Ratio Wide → Type 0
-column_share relation c = and_then (quotient (number_at relation.free.items c.place) relation.d) (λ k. mul (ratio_of c.value) k)
+column_share relation c = and_then (quotient (number_at relation.free.items c.index) relation.d) (λ k. mul (ratio_of c.value) k)
 
 -- what the free label f adds to the effect of label t
 abbrev pub share_fold : CycleBasis → (ℕ → Ratio) → ℕ → ℕ → Result Ratio Wide → Type 0

@@ -11,11 +11,11 @@ use rg_fraction::Fraction;
 use rg_lts::Lts;
 use std::alloc::{AllocError, Global};
 
-// A free label with an arc: its place among the free labels, and its effect.
+// A free label with an arc: its index among the free labels, and its effect.
 #[derive(Clone, Copy)]
 pub(crate) struct Column {
     pub(crate) label: u32,
-    pub(crate) place: usize,
+    pub(crate) index: usize,
     pub(crate) value: Fraction,
 }
 
@@ -34,12 +34,12 @@ pub(crate) fn columns_with(
     ensures values { IfOk result (λ columns. map (λ c. c.value) columns.items ≡ values.now) }
 {
     let mut columns = Vec::new(alloc);
-    for (place, &label) in basis.free().iter().enumerate() {
+    for (index, &label) in basis.free().iter().enumerate() {
         if used[label as usize] {
             let value = values[columns.len()];
             columns.push(Column {
                 label,
-                place,
+                index,
                 value,
             })?;
         }

@@ -69,7 +69,7 @@ fn value_of(columns: &[Column], t: u32) -> Fraction
 // The effect of a label with this relation: what the free labels add to it.
 fn sum_of_shares(relation: &Relation, columns: &[Column]) -> Result<Fraction, Wide>
     requires in_range { IsRelationInRange relation.now }
-    requires places { All (λ c. c.place < length relation.now.free.items) columns.now }
+    requires indices { All (λ c. c.index < length relation.now.free.items) columns.now }
     ensures { joined add (column_share relation.now) (whole (pos 0)) columns.now (shown_result ratio_of result) }
 {
     let Some((first, rest)) = columns.split_first() else {
@@ -88,13 +88,13 @@ fn sum_of_shares(relation: &Relation, columns: &[Column]) -> Result<Fraction, Wi
 // What a free label adds to the effect of a label with this relation: 0 where its value or its number is 0.
 fn share_of(relation: &Relation, column: &Column) -> Result<Fraction, Wide>
     requires in_range { IsRelationInRange relation.now }
-    requires place { column.now.place < length relation.now.free.items }
+    requires index { column.now.index < length relation.now.free.items }
     ensures { column_share relation.now column.now (shown_result ratio_of result) }
 {
     if column.value.numerator() == 0 {
         return Ok(Fraction::new(0, 1));
     }
-    let number = relation.free[column.place];
+    let number = relation.free[column.index];
     if number == 0 {
         return Ok(Fraction::new(0, 1));
     }

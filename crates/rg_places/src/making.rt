@@ -13,20 +13,18 @@ ghost use Rattle.rg_net.specs.Shown.{shown_place};
 ghost use Rattle.rg_places.specs.PointValues.{ratios_of, point_start, point_value, SolvesCase};
 ghost use Rattle.rg_places.specs.Steps.{found_fold, weights_fold};
 ghost use Rattle.rg_places.specs.RegionPlaces.{IsRegionPlace, PlaceSeparates, AreTokensMade};
-ghost use Rattle.rg_case_parts.specs.SettingViews.{setting_of};
+ghost use Rattle.rg_case_parts.specs.SettingViews.{shown_setting};
 
 use crate::columns::columns_with;
 use crate::effects::effects;
 use crate::numbers::{along_tree, shifted};
 use crate::weights::{put, sizes, taken, whole_sizes};
 use crate::whole::made_whole;
-use rg_case_parts::{has_start, used_labels};
-use rg_cycles::Basis;
+use rg_case_parts::{Setting, has_start, used_labels};
 use rg_fraction::{FoldStop, Fraction};
 use rg_lts::Lts;
 use rg_marks::RegionPlace;
 use rg_net::Place;
-use rg_spanning::Tree;
 use rg_theory::{Class, Problem};
 use std::alloc::Global;
 
@@ -48,23 +46,22 @@ use std::alloc::Global;
 /// where there is no memory.
 pub fn make_place(
     alloc: Global,
-    lts: &Lts,
-    tree: &Tree,
-    basis: &Basis,
-    class: Class,
+    setting: Setting<'_>,
     problem: Problem,
     point: &[Fraction],
 ) -> Result<RegionPlace, FoldStop>
-    requires tree { IsTreeOf lts.now tree.now }
-    requires labels { labels_of basis.now ≡ labels lts.now }
-    requires asked { IsSeparationProblem lts.now problem }
-    requires columns { length point.now ≡ column_count lts.now (cycle_of basis.now) class }
-    ensures comes { Comes (place_fold (setting_of lts.now tree.now basis.now class) problem (point_start class point.now) (point_value lts.now (cycle_of basis.now) class point.now)) (λ r. shown_place r.place) result }
-    ensures tokens { IfOk result (λ r. AreTokensMade (setting_of lts.now tree.now basis.now class) problem (point_start class point.now) (point_value lts.now (cycle_of basis.now) class point.now) r.tokens.items) }
-    ensures region { IfOk result (λ r. IsLive lts.now problem → SolvesCase (setting_of lts.now tree.now basis.now class) problem point.now → IsRegionPlace lts.now class r × PlaceSeparates problem r) }
+    requires tree { IsTreeOf setting.lts.now setting.tree.now }
+    requires labels { labels_of setting.basis.now ≡ labels setting.lts.now }
+    requires asked { IsSeparationProblem setting.lts.now problem }
+    requires columns { length point.now ≡ column_count setting.lts.now (cycle_of setting.basis.now) setting.class }
+    ensures comes { let s = shown_setting setting.entry in
+        Comes (place_fold s problem (point_start s.class point.now) (point_value s.lts s.basis s.class point.now)) (λ r. shown_place r.place) result }
+    ensures tokens { let s = shown_setting setting.entry in IfOk result (λ r. AreTokensMade s problem (point_start s.class point.now) (point_value s.lts s.basis s.class point.now) r.tokens.items) }
+    ensures region { let s = shown_setting setting.entry in IfOk result (λ r. IsLive s.lts problem → SolvesCase s problem point.now → IsRegionPlace s.lts s.class r × PlaceSeparates problem r) }
 {
-    let found = found_numbers(alloc, lts, basis, class, point)?;
-    let numbers = along_tree(alloc, lts, tree.arcs(), &found)?;
+    let Setting { lts, class, .. } = setting;
+    let found = found_numbers(alloc, setting, point)?;
+    let numbers = along_tree(alloc, lts, setting.tree.arcs(), &found)?;
     let numbers = shifted(alloc, lts, class, problem, numbers)?;
     place_of(alloc, lts, class, problem, &found, &numbers)
 }
@@ -72,16 +69,21 @@ pub fn make_place(
 // The effects of the labels at the point, and Start behind them, made whole where the class asks.
 fn found_numbers(
     alloc: Global,
-    lts: &Lts,
-    basis: &Basis,
-    class: Class,
+    setting: Setting<'_>,
     point: &[Fraction],
 ) -> Result<Vec<Fraction>, FoldStop>
-    requires labels { labels_of basis.now ≡ labels lts.now }
-    requires columns { length point.now ≡ column_count lts.now (cycle_of basis.now) class }
-    ensures length { IfOk result (λ found. length found.items ≡ labels lts.now + 1) }
-    ensures comes { Comes (found_fold lts.now (cycle_of basis.now) class (point_start class point.now) (point_value lts.now (cycle_of basis.now) class point.now)) (λ found. ratios_of found.items) result }
+    requires labels { labels_of setting.basis.now ≡ labels setting.lts.now }
+    requires columns { length point.now ≡ column_count setting.lts.now (cycle_of setting.basis.now) setting.class }
+    ensures length { IfOk result (λ found. length found.items ≡ labels setting.entry.lts.now + 1) }
+    ensures comes { let s = shown_setting setting.entry in
+        Comes (found_fold s.lts s.basis s.class (point_start s.class point.now) (point_value s.lts s.basis s.class point.now)) (λ found. ratios_of found.items) result }
 {
+    let Setting {
+        lts,
+        basis,
+        class,
+        ..
+    } = setting;
     let (start, values) = parted(class, point);
     let used = used_labels(alloc, lts)?;
     let columns = columns_with(alloc, lts, basis, &used, values)?;

@@ -10,6 +10,7 @@ mod Starts
 mod Assembling
 mod Terms
 mod Sharing
+mod Copies
 mod Dividing
 mod Forming
 mod Counted

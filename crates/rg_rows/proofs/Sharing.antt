@@ -7,25 +7,22 @@ use Rattle.std.specs.Arc.{arc_slice_items}
 use Rattle.rg_theory.specs.declared.Class.{Class}
 use Rattle.rg_theory.specs.declared.Problem.{Problem}
 use Rattle.rg_theory.specs.declared.Problem.TheVariants.{Event, States}
-use Rattle.rg_theory.specs.System.{System, states, labels}
+use Rattle.rg_theory.specs.System.{System, states}
 use Rattle.rg_integers.specs.declared.term.Wide.{Wide}
 use Rattle.rg_fraction.specs.declared.fold_stop.FoldStop.{FoldStop}
 use Rattle.rg_refuting.specs.Expression.{Expression, plus, minus}
 use Rattle.rg_refuting.specs.Row.{row_expression, shared_expression}
 use Rattle.rg_refuting.specs.declared.RowName.{RowName}
-use Rattle.rg_order_of_work.specs.Setting.{Setting, CaseSetting, setting_at}
+use Rattle.rg_order_of_work.specs.Setting.{Setting, CaseSetting}
 use Rattle.rg_order_of_work.specs.Fold.{Comes, shown_result}
 use Rattle.rg_order_of_work.specs.Rewriting.{has_start, column_count, terms_fold, row_fold}
-use Rattle.rg_case_parts.specs.declared.scaled.Scaled.{Scaled}
-use Rattle.rg_case_parts.specs.WholeNumbers.{scaled_of}
 use Rattle.rg_case_parts.specs.StatesNamed.{TermNamesStateBelow}
-use Rattle.rg_case_parts.specs.declared.columns.Columns.{Columns}
-use Rattle.rg_case_parts.specs.ColumnViews.{AreColumns}
 use Rattle.rg_rows.specs.declared.case_row.CaseRow.{CaseRow}
+use Rattle.rg_rows.specs.declared.form_terms.FormTerms.{FormTerms}
 use Rattle.rg_rows.specs.declared.held_row.HeldRow.{HeldRow}
 use Rattle.rg_rows.specs.declared.kind.Kind.{Kind}
 use Rattle.rg_rows.specs.declared.kind.Kind.TheVariants as kind
-use Rattle.rg_rows.specs.View.{kept_row, row_in}
+use Rattle.rg_rows.specs.View.{kept_row, row_in, terms_of}
 use Rattle.rg_rows.specs.Sharing.{or_wide, row_of_kind, rows_of_kind, forms_of_kind, IsSharedRow, AreSharedTerms, AreRowsOfKind, AreTermsOfKind, IsCommonOf, IsRowInCase, AreTermsInCase}
 use Rattle.rg_reasons.proofs.Places.{get_is}
 use Rattle.rg_rows.specs.declared.common.Common.{Common}
@@ -71,26 +68,22 @@ terms_within lts class kind.Makes i lt = absurd (omega arith)
 
 -- ---- written once
 
-module _ (it : Setting) (name : RowName) (e : Expression) (is : e ≡ shared_expression it.lts it.class [] name) (n : ℕ) (same : labels it.lts ≡ n) (columns : Columns) (are : AreColumns it.lts it.class columns) where
-  pub row_shared : (result : Result CaseRow FoldStop) (w : Result CaseRow Wide) → result ≡ or_wide w
-      → ((lts : System) (class : Class) → labels lts ≡ n → AreColumns lts class columns → Comes (row_fold (setting_at lts it.tree it.basis class) name e) kept_row result)
-      → IfOk result (λ r. (lts : System) (class : Class) → labels lts ≡ n → AreColumns lts class columns → length (arc_slice_items r.coeffs) ≡ column_count lts it.basis class)
-      → IsSharedRow it name w
+module _ (it : Setting) (name : RowName) (e : Expression) (is : e ≡ shared_expression it.lts it.class [] name) where
+  pub row_shared : (result : Result CaseRow FoldStop) (w : Result CaseRow Wide) → result ≡ or_wide w → Comes (row_fold it name e) kept_row result
+      → IfOk result (λ r. length (arc_slice_items r.coeffs) ≡ column_count it.lts it.basis it.class) → IsSharedRow it name w
   row_shared result (Ok r) so comes one_each = (
-    subst (λ x. row_fold it name x (Ok (kept_row r))) is (subst (Comes (row_fold it name e) kept_row) so (comes it.lts it.class same are)),
-    subst (λ y. IfOk y (λ r. (lts : System) (class : Class) → labels lts ≡ n → AreColumns lts class columns → length (arc_slice_items r.coeffs) ≡ column_count lts it.basis class)) so one_each it.lts it.class same are,
+    subst (λ x. row_fold it name x (Ok (kept_row r))) is (subst (Comes (row_fold it name e) kept_row) so comes),
+    subst (λ y. IfOk y (λ r. length (arc_slice_items r.coeffs) ≡ column_count it.lts it.basis it.class)) so one_each,
   )
-  row_shared result (Err x) so comes one_each = (subst (λ y. row_fold it name y (Err x)) is (subst (Comes (row_fold it name e) kept_row) so (comes it.lts it.class same are)), tt)
+  row_shared result (Err x) so comes one_each = (subst (λ y. row_fold it name y (Err x)) is (subst (Comes (row_fold it name e) kept_row) so comes), tt)
 
-  pub terms_shared : (result : Result Scaled FoldStop) (w : Result Scaled Wide) → result ≡ or_wide w
-      → ((lts : System) (class : Class) → labels lts ≡ n → AreColumns lts class columns → Comes (terms_fold (setting_at lts it.tree it.basis class) e.terms) scaled_of result)
-      → IfOk result (λ s. (lts : System) (class : Class) → labels lts ≡ n → AreColumns lts class columns → length s.numbers.items ≡ column_count lts it.basis class)
-      → AreSharedTerms it name w
+  pub terms_shared : (result : Result FormTerms FoldStop) (w : Result FormTerms Wide) → result ≡ or_wide w → Comes (terms_fold it e.terms) terms_of result
+      → IfOk result (λ s. length (arc_slice_items s.coeffs) ≡ column_count it.lts it.basis it.class) → AreSharedTerms it name w
   terms_shared result (Ok s) so comes one_each = (
-    subst (λ (x : Expression). terms_fold it x.terms (Ok (scaled_of s))) is (subst (Comes (terms_fold it e.terms) scaled_of) so (comes it.lts it.class same are)),
-    subst (λ y. IfOk y (λ s. (lts : System) (class : Class) → labels lts ≡ n → AreColumns lts class columns → length s.numbers.items ≡ column_count lts it.basis class)) so one_each it.lts it.class same are,
+    subst (λ (x : Expression). terms_fold it x.terms (Ok (terms_of s))) is (subst (Comes (terms_fold it e.terms) terms_of) so comes),
+    subst (λ y. IfOk y (λ s. length (arc_slice_items s.coeffs) ≡ column_count it.lts it.basis it.class)) so one_each,
   )
-  terms_shared result (Err x) so comes one_each = (subst (λ (y : Expression). terms_fold it y.terms (Err x)) is (subst (Comes (terms_fold it e.terms) scaled_of) so (comes it.lts it.class same are)), tt)
+  terms_shared result (Err x) so comes one_each = (subst (λ (y : Expression). terms_fold it y.terms (Err x)) is (subst (Comes (terms_fold it e.terms) terms_of) so comes), tt)
 
 -- what holds of each item and its index holds with one item more
 pub each_pushed : {T : Type 0} (P : ℕ → T → Type 0) (xs : List T) (x : T) → ((i : ℕ) (y : T) → slice_get xs i ≡ Some y → P i y) → P (length xs) x → (i : ℕ) (y : T) → slice_get (xs ++ x ∷ []) i ≡ Some y → P i y
@@ -108,8 +101,13 @@ module _ (s : CaseSetting) (k : Kind) (i : ℕ) where
   pub row_in_case_is : (rows : List (Result CaseRow Wide)) (written : Result CaseRow Wide) → AreRowsOfKind s.setting k rows → slice_get rows i ≡ Some written → IsRowInCase s (row_of_kind k i) written
   row_in_case_is rows written are at = (subst (λ e. row_fold s.setting (row_of_kind k i) e (shown_result kept_row written)) (sym (shared_in_case s.lts s.class s.problem s.number k i)) (are.each i written at).0, (are.each i written at).1)
 
-  pub terms_in_case_are : (terms : List (Result Scaled Wide)) (written : Result Scaled Wide) → AreTermsOfKind s.setting k terms → slice_get terms i ≡ Some written → AreTermsInCase s (row_of_kind k i) written
-  terms_in_case_are terms written are at = (subst (λ (e : Expression). terms_fold s.setting e.terms (shown_result scaled_of written)) (sym (shared_in_case s.lts s.class s.problem s.number k i)) (are.each i written at).0, (are.each i written at).1)
+  pub terms_in_case_are : (terms : List (Result FormTerms Wide)) (written : Result FormTerms Wide)
+      → AreTermsOfKind s.setting k terms → slice_get terms i ≡ Some written → AreTermsInCase s (row_of_kind k i) written
+  terms_in_case_are terms written are at = (
+    subst (λ (e : Expression). terms_fold s.setting e.terms (shown_result terms_of written))
+        (sym (shared_in_case s.lts s.class s.problem s.number k i)) (are.each i written at).0,
+    (are.each i written at).1,
+  )
 
 -- what is found in a table
 module _ (common : Common) (k : Kind) (i : ℕ) where
@@ -120,9 +118,9 @@ module _ (common : Common) (k : Kind) (i : ℕ) where
   row_found rows are None told = tt
   row_found rows are (Some r) told = λ s is. row_in_case_is s k i rows r.now (are s.setting is) (sym (get_is rows i (Some r) told))
 
-  pub terms_found : (terms : List (Result Scaled Wide))
+  pub terms_found : (terms : List (Result FormTerms Wide))
       → ((s : Setting) → IsCommonOf s common → AreTermsOfKind s k terms)
-      → (found : Option (Bor (Result Scaled Wide))) → IsGetResult terms i i found
+      → (found : Option (Bor (Result FormTerms Wide))) → IsGetResult terms i i found
       → IfSome found (λ r. (s : CaseSetting) → IsCommonOf s.setting common → AreTermsInCase s (row_of_kind k i) r.now)
   terms_found terms are None told = tt
   terms_found terms are (Some r) told = λ s is. terms_in_case_are s k i terms r.now (are s.setting is) (sym (get_is terms i (Some r) told))

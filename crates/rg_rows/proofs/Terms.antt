@@ -1,7 +1,6 @@
 -- The rows of a case name states of the system.
-use Rattle.std.proofs.Common.{◌≡◌, ⊎_elim, Contains, ℕ, zero, suc, ◌<◌, List, [], ◌∷◌, map, length, All, sym, subst, arith}
+use Rattle.std.proofs.Common.{◌≡◌, ⊎_elim, Contains, ℕ, zero, suc, ◌<◌, List, [], ◌∷◌, length, All, sym, subst, arith}
 use Rattle.std.specs.Prelude.{slice_index_or}
-use Rattle.std.proofs.lemmas.List.{length-map, get_or-map}
 use Rattle.std.proofs.lemmas.List.Elements.{Contains-get_or, All-nil, All-cons}
 use Rattle.rg_theory.specs.declared.Class.{Class}
 use Rattle.rg_theory.specs.declared.Problem.{Problem}
@@ -16,6 +15,7 @@ use Rattle.rg_theory.proofs.Lists.{Contains-cons_cases}
 use Rattle.rg_order_of_work.proofs.Lists.{nothing, where_is}
 use Rattle.rg_order_of_work.proofs.Names.{each_problem_name, each_name}
 use Rattle.rg_case_parts.specs.StatesNamed.{TermNamesStateBelow}
+use Rattle.rg_order_of_work.specs.Setting.{CaseSetting}
 use Rattle.rg_rows.specs.View.{AreNamesWithin}
 use Rattle.rg_refuting.specs.declared.RowName.TheVariants as row_name
 use Rattle.rg_refuting.specs.declared.Variable.TheVariants.{Tokens, Effect}
@@ -74,14 +74,14 @@ one_name_within lts class problem number name asked has =
     makes (Event s t) u = one (states lts) (plus (Effect u)) tt
     makes (States s s') u = one (states lts) (plus (Effect u)) tt
 
-pub names_within : (lts : System) (class : Class) (problem : Problem) (number : ℕ) → IsSeparationProblem lts problem → AreNamesWithin lts class problem number (names_of lts class problem number)
-names_within lts class problem number asked = λ k d lt. one_name_within lts class problem number (slice_index_or (names_of lts class problem number) k d) asked (Contains-get_or (names_of lts class problem number) k d lt)
+pub names_within : (s : CaseSetting) → IsSeparationProblem s.lts s.problem → AreNamesWithin s (names_of s.lts s.class s.problem s.number)
+names_within s asked = λ k d lt.
+    one_name_within s.lts s.class s.problem s.number (slice_index_or (names_of s.lts s.class s.problem s.number) k d) asked (Contains-get_or (names_of s.lts s.class s.problem s.number) k d lt)
 
 -- what the code writes of a row names states of the system
-pub name_within : (lts : System) (class : Class) (problem : Problem) (number : ℕ) (names : List RowName) (i : ℕ) (d : RowName) (terms : List SumTerm) (n : ℕ)
-    → AreNamesWithin lts class problem number names → i < length names
-    → terms ≡ (row_expression lts class problem number [] (slice_index_or names i d)).terms → n ≡ states lts → All (TermNamesStateBelow n) terms
-name_within lts class problem number names i d terms n within lt is same =
+pub name_within : (s : CaseSetting) (names : List RowName) (i : ℕ) (d : RowName) (terms : List SumTerm) (n : ℕ) → AreNamesWithin s names → i < length names
+    → terms ≡ (row_expression s.lts s.class s.problem s.number [] (slice_index_or names i d)).terms → n ≡ states s.lts → All (TermNamesStateBelow n) terms
+name_within s names i d terms n within lt is same =
     subst (λ l. All (TermNamesStateBelow n) l) (sym is)
-    (subst (λ k. All (TermNamesStateBelow k) (row_expression lts class problem number [] (slice_index_or names i d)).terms) (sym same)
+    (subst (λ k. All (TermNamesStateBelow k) (row_expression s.lts s.class s.problem s.number [] (slice_index_or names i d)).terms) (sym same)
     (within i d lt))

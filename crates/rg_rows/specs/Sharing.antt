@@ -11,14 +11,13 @@ use Rattle.rg_refuting.specs.declared.RowName.{RowName}
 use Rattle.rg_order_of_work.specs.Setting.{Setting, CaseSetting}
 use Rattle.rg_order_of_work.specs.Fold.{shown_result}
 use Rattle.rg_order_of_work.specs.Rewriting.{has_start, column_count, terms_fold, row_fold}
-use Rattle.rg_case_parts.specs.declared.scaled.Scaled.{Scaled}
-use Rattle.rg_case_parts.specs.WholeNumbers.{scaled_of}
 use Rattle.rg_case_parts.specs.ColumnViews.{AreColumns}
 use Rattle.rg_rows.specs.declared.case_row.CaseRow.{CaseRow}
+use Rattle.rg_rows.specs.declared.form_terms.FormTerms.{FormTerms}
 use Rattle.rg_rows.specs.declared.kind.Kind.{Kind}
 use Rattle.rg_rows.specs.declared.kind.Kind.TheVariants as kind
 use Rattle.rg_rows.specs.declared.common.Common.{Common}
-use Rattle.rg_rows.specs.View.{kept_row, fold_of}
+use Rattle.rg_rows.specs.View.{kept_row, terms_of, fold_of}
 use Rattle.rg_refuting.specs.declared.RowName.TheVariants as row_name
 
 -- a value, or a step out of range as the reason for none
@@ -61,19 +60,19 @@ IsSharedRow s name written =
     × IfOk written (λ r. length (arc_slice_items r.coeffs) ≡ column_count s.lts s.basis s.class)
 
 -- the terms of the row without denominators, or the first step of theirs
-abbrev pub AreSharedTerms : Setting → RowName → Result Scaled Wide → Type 0
+abbrev pub AreSharedTerms : Setting → RowName → Result FormTerms Wide → Type 0
 AreSharedTerms s name written =
-    terms_fold s (shared_expression s.lts s.class [] name).terms (shown_result scaled_of written)
-    × IfOk written (λ r. length r.numbers.items ≡ column_count s.lts s.basis s.class)
+    terms_fold s (shared_expression s.lts s.class [] name).terms (shown_result terms_of written)
+    × IfOk written (λ t. length (arc_slice_items t.coeffs) ≡ column_count s.lts s.basis s.class)
 
 -- one for each state or label, in order
 pub record AreRowsOfKind (s : Setting) (kind : Kind) (rows : List (Result CaseRow Wide)) : Type 0 where
   pub many : length rows ≡ rows_of_kind s.lts s.class kind
   pub each : (i : ℕ) (written : Result CaseRow Wide) → slice_get rows i ≡ Some written → IsSharedRow s (row_of_kind kind i) written
 
-pub record AreTermsOfKind (s : Setting) (kind : Kind) (terms : List (Result Scaled Wide)) : Type 0 where
+pub record AreTermsOfKind (s : Setting) (kind : Kind) (terms : List (Result FormTerms Wide)) : Type 0 where
   pub many : length terms ≡ forms_of_kind s.lts s.class kind
-  pub each : (i : ℕ) (written : Result Scaled Wide) → slice_get terms i ≡ Some written → AreSharedTerms s (row_of_kind kind i) written
+  pub each : (i : ℕ) (written : Result FormTerms Wide) → slice_get terms i ≡ Some written → AreSharedTerms s (row_of_kind kind i) written
 
 -- the rows and forms that all problems of the system and the class share, over the tree and the basis
 pub record IsCommonOf (s : Setting) (common : Common) : Type 0 where
@@ -95,7 +94,7 @@ IsRowInCase s name written =
     × IfOk written (λ r. length (arc_slice_items r.coeffs) ≡ column_count s.lts s.basis s.class)
 
 -- its terms without denominators, or the first step of theirs
-abbrev pub AreTermsInCase : CaseSetting → RowName → Result Scaled Wide → Type 0
+abbrev pub AreTermsInCase : CaseSetting → RowName → Result FormTerms Wide → Type 0
 AreTermsInCase s name written =
-    terms_fold s.setting (row_expression s.lts s.class s.problem s.number [] name).terms (shown_result scaled_of written)
-    × IfOk written (λ r. length r.numbers.items ≡ column_count s.lts s.basis s.class)
+    terms_fold s.setting (row_expression s.lts s.class s.problem s.number [] name).terms (shown_result terms_of written)
+    × IfOk written (λ t. length (arc_slice_items t.coeffs) ≡ column_count s.lts s.basis s.class)

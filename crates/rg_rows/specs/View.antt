@@ -1,19 +1,18 @@
 -- How what the code keeps is seen.
 use Rattle.std.specs.Prelude.{◌≡◌, ℕ, ◌==◌, ◌&&◌, not, Bool, false, List, [], ◌∷◌, ◌++◌, ℤ, length, map, All, Some, Result, slice_get, slice_index_or}
 use Rattle.std.specs.Arc.{arc_slice_items}
-use Rattle.rg_theory.specs.declared.Class.{Class}
-use Rattle.rg_theory.specs.System.{System, states}
+use Rattle.rg_theory.specs.System.{states}
 use Rattle.rg_linear.specs.System.{LinearRow}
 use Rattle.rg_integers.specs.declared.term.Wide.{Wide}
-use Rattle.rg_theory.specs.declared.Problem.{Problem}
 use Rattle.rg_refuting.specs.Row.{row_expression}
 use Rattle.rg_refuting.specs.declared.RowName.{RowName}
-use Rattle.rg_order_of_work.specs.Setting.{CaseSetting}
+use Rattle.rg_order_of_work.specs.Setting.{Setting, CaseSetting}
 use Rattle.rg_order_of_work.specs.Fold.{ratio_of}
-use Rattle.rg_order_of_work.specs.Rewriting.{numbers_where, KeptRow, IsIdle, row_fold}
+use Rattle.rg_order_of_work.specs.Rewriting.{numbers_where, Scaled, KeptRow, IsIdle, column_count, row_fold}
 use Rattle.rg_case_parts.specs.StatesNamed.{TermNamesStateBelow}
 use Rattle.rg_linear.specs.View.{linear_row}
 use Rattle.rg_rows.specs.declared.case_row.CaseRow.{CaseRow}
+use Rattle.rg_rows.specs.declared.form_terms.FormTerms.{FormTerms}
 use Rattle.rg_rows.specs.declared.held_row.HeldRow.{HeldRow}
 use Rattle.rg_rows.specs.declared.held_row.HeldRow.TheVariants as held
 use Rattle.rg_rows.specs.declared.kept.CaseRows.{CaseRows}
@@ -29,6 +28,10 @@ makers used consumer = numbers_where (λ u. slice_index_or used u false && not (
 -- the numbers of a row: its coefficients, then its constant
 abbrev pub numbers_of : LinearRow → List ℤ
 numbers_of row = row.coeffs ++ row.constant ∷ []
+
+-- the terms of a form: their multiple and their numbers
+abbrev pub terms_of : FormTerms → Scaled
+terms_of t = record { multiple = t.multiple; numbers = arc_slice_items t.coeffs }
 
 -- a row with its name and its factor
 abbrev pub kept_row : CaseRow → KeptRow
@@ -50,9 +53,16 @@ pub record AreIndices (all kept : List KeptRow) (indices : List ℕ) : Type 0 wh
   pub one_each : length indices ≡ length all
   pub each : (i : ℕ) (r : KeptRow) → slice_get all i ≡ Some r → ¬ IsIdle r → slice_get (map (λ k. k.row) kept) (slice_index_or indices i 0) ≡ Some r.row
 
+-- how many columns the system of a case has
+abbrev pub columns_in : Setting → ℕ
+columns_in s = column_count s.lts s.basis s.class
+
 -- the row's terms name states of the system
-abbrev pub AreNamesWithin : System → Class → Problem → ℕ → List RowName → Type 0
-AreNamesWithin lts class problem number names = All (λ name. All (TermNamesStateBelow (states lts)) (row_expression lts class problem number [] name).terms) names
+abbrev pub IsNameWithin : CaseSetting → RowName → Type 0
+IsNameWithin s name = All (TermNamesStateBelow (states s.lts)) (row_expression s.lts s.class s.problem s.number [] name).terms
+
+abbrev pub AreNamesWithin : CaseSetting → List RowName → Type 0
+AreNamesWithin s names = All (IsNameWithin s) names
 
 -- the named row over the columns
 abbrev pub fold_of : CaseSetting → RowName → Result KeptRow Wide → Type 0

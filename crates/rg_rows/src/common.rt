@@ -1,25 +1,25 @@
 //! The rows and forms that all problems of a system and a class share.
-ghost use Rattle.std.specs.Prelude.{◌≡◌, ℕ, Ok, Err, IfOk, IfSome};
+ghost use Rattle.std.specs.Prelude.{◌≡◌, ◌≤◌, ℕ, Ok, Err, IfOk, IfSome};
 ghost use Rattle.rg_theory.specs.declared.Class.{Class};
+ghost use Rattle.rg_theory.specs.Limits.{most_labels};
 ghost use Rattle.rg_theory.specs.System.{labels};
 ghost use Rattle.rg_spanning.specs.Spanning.{IsTreeOf};
-ghost use Rattle.rg_cycles.specs.View.{labels_of};
-ghost use Rattle.rg_case_parts.specs.SettingViews.{setting_of};
+ghost use Rattle.rg_cycles.specs.View.{labels_of, cycle_of};
+ghost use Rattle.rg_order_of_work.specs.Rewriting.{column_count};
+ghost use Rattle.rg_case_parts.specs.SettingViews.{shown_setting};
 ghost use Rattle.rg_case_parts.specs.ColumnViews.{AreColumns};
 ghost use Rattle.rg_rows.specs.Sharing.{or_wide, AreRowsOfKind, AreTermsOfKind, IsCommonOf, IsRowInCase, AreTermsInCase};
-ghost use Rattle.rg_order_of_work.specs.Setting.{CaseSetting};
+ghost use Rattle.rg_order_of_work.specs.Setting.{Setting as ShownSetting, CaseSetting};
 
 use crate::case_row::CaseRow;
+use crate::form_terms::FormTerms;
 use crate::kind::Kind;
-use crate::rewriting::{over_columns, row};
-use rg_case_parts::{Columns, Scaled};
+use crate::rewriting::{form_terms, row};
+use rg_case_parts::{Columns, Setting};
 use rg_cycles::Basis;
 use rg_fraction::FoldStop;
 use rg_integers::Wide;
-use rg_lts::Lts;
 use rg_refuting::RowName;
-use rg_spanning::Tree;
-use rg_theory::Class;
 use std::alloc::{AllocError, Global};
 
 /// The rows and forms of a system and a class that don't depend on the problem: `tokens` and `cap` by state, `up`, `down`
@@ -33,35 +33,37 @@ pub struct Common {
     pub(crate) ups: Vec<Result<CaseRow, Wide>>,
     pub(crate) downs: Vec<Result<CaseRow, Wide>>,
     pub(crate) makes: Vec<Result<CaseRow, Wide>>,
-    pub(crate) token_terms: Vec<Result<Scaled, Wide>>,
-    pub(crate) effect_terms: Vec<Result<Scaled, Wide>>,
+    pub(crate) token_terms: Vec<Result<FormTerms, Wide>>,
+    pub(crate) effect_terms: Vec<Result<FormTerms, Wide>>,
 }
 
 impl Common {
     /// The rows and forms of the class, by the way in the tree to each state and the relations of the basis. An error
     /// where there is no memory.
-    pub fn new(
-        alloc: Global,
-        lts: &Lts,
-        tree: &Tree,
-        basis: &Basis,
-        class: Class,
-    ) -> Result<Common, AllocError>
-        requires tree { IsTreeOf lts.now tree.now }
-        requires labels { labels_of basis.now ≡ labels lts.now }
-        ensures { IfOk result (IsCommonOf (setting_of lts.now tree.now basis.now class)) }
+    pub fn new(alloc: Global, setting: Setting<'_>) -> Result<Common, AllocError>
+        requires tree { IsTreeOf setting.lts.now setting.tree.now }
+        requires labels { labels_of setting.basis.now ≡ labels setting.lts.now }
+        ensures { IfOk result (IsCommonOf (shown_setting setting.entry)) }
     {
-        let columns = Columns::new(alloc, lts, class)?;
+        let columns = Columns::new(alloc, setting.lts, setting.class)?;
         Ok(Common {
-            tokens: rows(alloc, lts, tree, basis, &columns, class, Kind::Tokens)?,
-            caps: rows(alloc, lts, tree, basis, &columns, class, Kind::Cap)?,
-            ups: rows(alloc, lts, tree, basis, &columns, class, Kind::Up)?,
-            downs: rows(alloc, lts, tree, basis, &columns, class, Kind::Down)?,
-            makes: rows(alloc, lts, tree, basis, &columns, class, Kind::Makes)?,
-            token_terms: terms(alloc, lts, tree, basis, &columns, class, Kind::Tokens)?,
-            effect_terms: terms(alloc, lts, tree, basis, &columns, class, Kind::Down)?,
+            tokens: rows(alloc, setting, &columns, Kind::Tokens)?,
+            caps: rows(alloc, setting, &columns, Kind::Cap)?,
+            ups: rows(alloc, setting, &columns, Kind::Up)?,
+            downs: rows(alloc, setting, &columns, Kind::Down)?,
+            makes: rows(alloc, setting, &columns, Kind::Makes)?,
+            token_terms: terms(alloc, setting, &columns, Kind::Tokens)?,
+            effect_terms: terms(alloc, setting, &columns, Kind::Down)?,
             columns,
         })
+    }
+
+    /// How many columns the system of each case has, over this basis.
+    pub fn column_count(&self, basis: &Basis) -> u32
+        requires { (s : ShownSetting) × IsCommonOf s self.now × (labels_of basis.now ≡ labels s.lts) × (labels s.lts ≤ most_labels) }
+        ensures { (s : ShownSetting) → IsCommonOf s self.now → cycle_of basis.now ≡ s.basis → result ≡ column_count s.lts s.basis s.class }
+    {
+        self.columns.count(basis)
     }
 
     // The row of the name, where it speaks of no problem.
@@ -79,7 +81,7 @@ impl Common {
     }
 
     // The terms of the row, where a form has them.
-    pub(crate) fn terms(&self, name: RowName) -> Option<&Result<Scaled, Wide>>
+    pub(crate) fn terms(&self, name: RowName) -> Option<&Result<FormTerms, Wide>>
         ensures { IfSome result (λ r. (s : CaseSetting) → IsCommonOf s.setting self.now → AreTermsInCase s name r.now) }
     {
         match name {
@@ -93,23 +95,20 @@ impl Common {
 // The rows of the kind.
 fn rows(
     alloc: Global,
-    lts: &Lts,
-    tree: &Tree,
-    basis: &Basis,
+    setting: Setting<'_>,
     columns: &Columns,
-    class: Class,
     kind: Kind,
 ) -> Result<Vec<Result<CaseRow, Wide>>, AllocError>
-    requires tree { IsTreeOf lts.now tree.now }
-    requires labels { labels_of basis.now ≡ labels lts.now }
-    requires columns { AreColumns lts.now class columns.now }
-    ensures { IfOk result (λ v. AreRowsOfKind (setting_of lts.now tree.now basis.now class) kind v.items) }
+    requires tree { IsTreeOf setting.lts.now setting.tree.now }
+    requires labels { labels_of setting.basis.now ≡ labels setting.lts.now }
+    requires columns { AreColumns setting.lts.now setting.class columns.now }
+    ensures { IfOk result (λ v. AreRowsOfKind (shown_setting setting.entry) kind v.items) }
 {
     let mut rows = Vec::new(alloc);
-    for number in 0..kind.rows(lts, class) {
-        let expression = kind.expression(lts, class, number);
+    for number in 0..kind.rows(setting.lts, setting.class) {
+        let expression = kind.expression(setting.lts, setting.class, number);
         let name = kind.name(number);
-        rows.push(written(row(alloc, tree, basis, columns, name, &expression))?)?;
+        rows.push(written(row(alloc, setting, columns, name, &expression))?)?;
     }
     Ok(rows)
 }
@@ -117,22 +116,19 @@ fn rows(
 // The terms of the rows of the kind, where the class has forms with them.
 fn terms(
     alloc: Global,
-    lts: &Lts,
-    tree: &Tree,
-    basis: &Basis,
+    setting: Setting<'_>,
     columns: &Columns,
-    class: Class,
     kind: Kind,
-) -> Result<Vec<Result<Scaled, Wide>>, AllocError>
-    requires tree { IsTreeOf lts.now tree.now }
-    requires labels { labels_of basis.now ≡ labels lts.now }
-    requires columns { AreColumns lts.now class columns.now }
-    ensures { IfOk result (λ v. AreTermsOfKind (setting_of lts.now tree.now basis.now class) kind v.items) }
+) -> Result<Vec<Result<FormTerms, Wide>>, AllocError>
+    requires tree { IsTreeOf setting.lts.now setting.tree.now }
+    requires labels { labels_of setting.basis.now ≡ labels setting.lts.now }
+    requires columns { AreColumns setting.lts.now setting.class columns.now }
+    ensures { IfOk result (λ v. AreTermsOfKind (shown_setting setting.entry) kind v.items) }
 {
     let mut terms = Vec::new(alloc);
-    for number in 0..kind.forms(lts, class) {
-        let expression = kind.expression(lts, class, number);
-        terms.push(written(over_columns(alloc, tree, basis, columns, &expression))?)?;
+    for number in 0..kind.forms(setting.lts, setting.class) {
+        let expression = kind.expression(setting.lts, setting.class, number);
+        terms.push(written(form_terms(alloc, setting, columns, &expression))?)?;
     }
     Ok(terms)
 }

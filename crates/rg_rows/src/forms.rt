@@ -1,18 +1,16 @@
 //! The forms of a case.
-ghost use Rattle.std.specs.Prelude.{◌≡◌, ◌⊎◌, ℕ, ◌<◌, [], length, map, All, Contains, slice_index_or, ℤ, pos, ◌*ℤ◌, Ok, option_map, IfOk, IsTrue};
+ghost use Rattle.std.specs.Prelude.{◌≡◌, ◌⊎◌, ℕ, ◌<◌, [], length, map, All, Contains, slice_index_or, ℤ, pos, ◌*ℤ◌, Ok, IfOk, IsTrue};
 ghost use Rattle.std.specs.Arc.{arc_slice_items};
 ghost use Rattle.rg_integers.specs.Range.{InRange};
-ghost use Rattle.rg_theory.specs.System.{states, labels};
+ghost use Rattle.rg_theory.specs.System.{labels};
 ghost use Rattle.rg_linear.specs.Cycle.{IsZeroVector};
 ghost use Rattle.rg_spanning.specs.Spanning.{IsTreeOf};
-ghost use Rattle.rg_cycles.specs.View.{labels_of, cycle_of};
+ghost use Rattle.rg_cycles.specs.View.{labels_of};
 ghost use Rattle.rg_order_of_work.specs.Fold.{Comes, each};
-ghost use Rattle.rg_order_of_work.specs.Rewriting.{column_count, terms_fold, form_fold, form_low, form_high, splits_start};
-ghost use Rattle.rg_case_parts.specs.SettingViews.{setting_of, case_of};
-ghost use Rattle.rg_case_parts.specs.WholeNumbers.{scaled_of};
+ghost use Rattle.rg_order_of_work.specs.Rewriting.{terms_fold, form_fold, form_low, form_high, splits_start};
+ghost use Rattle.rg_case_parts.specs.SettingViews.{shown_setting, shown_case};
 ghost use Rattle.rg_refuting.specs.Row.{row_expression, step_of};
-ghost use Rattle.rg_case_parts.specs.StatesNamed.{TermNamesStateBelow};
-ghost use Rattle.rg_rows.specs.View.{kept_row, row_in, AreNamesWithin, fold_of};
+ghost use Rattle.rg_rows.specs.View.{kept_row, row_in, terms_of, columns_in, IsNameWithin, AreNamesWithin, fold_of};
 ghost use Rattle.rg_rows.specs.Sharing.{IsCommonOf};
 ghost use Rattle.rg_rows.specs.Forms.{linear_form, split_of, form_in, forms_in, case_forms, IsPartOf};
 ghost use Rattle.rg_rows.specs.Making.{IsMade};
@@ -21,47 +19,41 @@ ghost use Rattle.rg_refuting.specs.declared.Form.TheVariants as split_form;
 
 use crate::case_row::CaseRow;
 use crate::common::Common;
-use crate::held_row::HeldRow;
+use crate::form_terms::FormTerms;
+use crate::held_row::{HeldRow, said};
 use crate::named_form::NamedForm;
-use crate::rewriting::over_columns;
-use rg_case_parts::Scaled;
-use rg_cycles::Basis;
+use crate::rewriting::form_terms;
+use rg_case_parts::CaseSetting;
 use rg_fraction::FoldStop;
 use rg_lts::Lts;
-use rg_reasons::{ProblemCase, expression};
 use rg_refuting::{Form, RowName};
-use rg_spanning::Tree;
 use rg_theory::{Class, Problem};
 use std::alloc::{AllocError, Global};
-use std::sync::ArcSlice;
 
 // The forms in order: those of the named rows, and behind them the tokens at the start, where the case splits on it.
 pub(crate) fn case_forms(
     alloc: Global,
-    lts: &Lts,
-    tree: &Tree,
-    basis: &Basis,
     common: &Common,
-    case: ProblemCase,
+    c: CaseSetting<'_>,
     names: &[RowName],
     rows: &[HeldRow<'_>],
     indices: &[u32],
 ) -> Result<Vec<NamedForm>, FoldStop>
-    requires tree { IsTreeOf lts.now tree.now }
-    requires labels { labels_of basis.now ≡ labels lts.now }
-    requires common { IsCommonOf (setting_of lts.now tree.now basis.now case.class) common.now }
-    requires names { AreNamesWithin lts.now case.class case.problem case.number names.now }
-    requires rows { each (fold_of (case_of lts.now tree.now basis.now case.class case.problem case.number)) names.now (Ok (map kept_row (map row_in rows.now))) }
+    requires tree { IsTreeOf c.setting.lts.now c.setting.tree.now }
+    requires labels { labels_of c.setting.basis.now ≡ labels c.setting.lts.now }
+    requires common { IsCommonOf (shown_setting c.setting) common.now }
+    requires names { AreNamesWithin (shown_case c) names.now }
+    requires rows { each (fold_of (shown_case c)) names.now (Ok (map kept_row (map row_in rows.now))) }
     requires one_each { length rows.now ≡ length names.now }
     requires indices { length indices.now ≡ length rows.now }
-    requires start { IsTrue (splits_start case.class case.problem) → Contains names.now (row_name.Tokens lts.now.initial) }
-    ensures comes { Comes (each (form_fold (setting_of lts.now tree.now basis.now case.class)) (case_forms case.class case.problem names.now)) (λ v. map linear_form v.items) result }
-    ensures forms { IfOk result (λ v. map split_of v.items ≡ case_forms case.class case.problem names.now) }
-    ensures made { IfOk result (λ v. All (IsMade lts.now case.class (column_count lts.now (cycle_of basis.now) case.class) (map kept_row (map row_in rows.now)) indices.now) v.items) }
+    requires start { IsTrue (splits_start c.setting.class c.problem) → Contains names.now (row_name.Tokens c.setting.lts.now.initial) }
+    ensures comes { Comes (each (form_fold (shown_setting c.entry.setting)) (case_forms c.entry.setting.class c.entry.problem names.now)) (λ v. map linear_form v.items) result }
+    ensures forms { IfOk result (λ v. map split_of v.items ≡ case_forms c.entry.setting.class c.entry.problem names.now) }
+    ensures made { IfOk result (λ v. All (IsMade c.entry.setting.lts.now c.entry.setting.class (columns_in (shown_setting c.entry.setting)) (map kept_row (map row_in rows.now)) indices.now) v.items) }
 {
-    let mut forms = forms(alloc, lts, tree, basis, common, case, names, rows, indices)?;
-    if splits_start(case.class, case.problem) {
-        let start = start_form(alloc, lts, tree, basis, common, case, names, rows, indices)?;
+    let mut forms = forms(alloc, common, c, names, rows, indices)?;
+    if splits_start(c.setting.class, c.problem) {
+        let start = start_form(alloc, common, c, names, rows, indices)?;
         forms.push(start)?;
     }
     Ok(forms)
@@ -80,40 +72,37 @@ fn splits_start(class: Class, problem: Problem) -> bool
 // The form of the tokens at the start, which has the terms of the row `tokens` of the initial state.
 fn start_form(
     alloc: Global,
-    lts: &Lts,
-    tree: &Tree,
-    basis: &Basis,
     common: &Common,
-    case: ProblemCase,
+    c: CaseSetting<'_>,
     names: &[RowName],
     rows: &[HeldRow<'_>],
     indices: &[u32],
 ) -> Result<NamedForm, FoldStop>
-    requires tree { IsTreeOf lts.now tree.now }
-    requires labels { labels_of basis.now ≡ labels lts.now }
-    requires common { IsCommonOf (setting_of lts.now tree.now basis.now case.class) common.now }
-    requires names { AreNamesWithin lts.now case.class case.problem case.number names.now }
-    requires rows { each (fold_of (case_of lts.now tree.now basis.now case.class case.problem case.number)) names.now (Ok (map kept_row (map row_in rows.now))) }
+    requires tree { IsTreeOf c.setting.lts.now c.setting.tree.now }
+    requires labels { labels_of c.setting.basis.now ≡ labels c.setting.lts.now }
+    requires common { IsCommonOf (shown_setting c.setting) common.now }
+    requires names { AreNamesWithin (shown_case c) names.now }
+    requires rows { each (fold_of (shown_case c)) names.now (Ok (map kept_row (map row_in rows.now))) }
     requires one_each { length rows.now ≡ length names.now }
     requires indices { length indices.now ≡ length rows.now }
-    requires start { Contains names.now (row_name.Tokens lts.now.initial) }
-    ensures comes { Comes (form_fold (setting_of lts.now tree.now basis.now case.class) split_form.Start) linear_form result }
+    requires start { Contains names.now (row_name.Tokens c.setting.lts.now.initial) }
+    ensures comes { Comes (form_fold (shown_setting c.entry.setting) split_form.Start) linear_form result }
     ensures form { IfOk result (λ f. split_of f ≡ split_form.Start) }
-    ensures made { IfOk result (λ f. IsMade lts.now case.class (column_count lts.now (cycle_of basis.now) case.class) (map kept_row (map row_in rows.now)) indices.now f) }
+    ensures made { IfOk result (λ f. IsMade c.entry.setting.lts.now c.entry.setting.class (columns_in (shown_setting c.entry.setting)) (map kept_row (map row_in rows.now)) indices.now f) }
 {
-    let name = RowName::Tokens(lts.initial());
+    let name = RowName::Tokens(c.setting.lts.initial());
     let i = index_of(names, name);
-    let scaled = terms_in_case(alloc, lts, tree, basis, common, case, name)?;
-    let scale = start_scale(case.class);
+    let terms = terms_in_case(alloc, common, c, name)?;
+    let scale = start_scale(c.setting.class);
     let form = form_over(
-        lts,
-        case.class,
+        c.setting.lts,
+        c.setting.class,
         Form::Start,
         scale,
-        scaled,
+        terms,
         rows[i].row(),
         indices[i],
-    )?;
+    );
     Ok(form)
 }
 
@@ -143,39 +132,36 @@ fn index_of(names: &[RowName], name: RowName) -> usize
 // arc. Each is written over the columns as the row named `tokens` or `down` is, and not divided.
 fn forms(
     alloc: Global,
-    lts: &Lts,
-    tree: &Tree,
-    basis: &Basis,
     common: &Common,
-    case: ProblemCase,
+    c: CaseSetting<'_>,
     names: &[RowName],
     rows: &[HeldRow<'_>],
     indices: &[u32],
 ) -> Result<Vec<NamedForm>, FoldStop>
-    requires tree { IsTreeOf lts.now tree.now }
-    requires labels { labels_of basis.now ≡ labels lts.now }
-    requires common { IsCommonOf (setting_of lts.now tree.now basis.now case.class) common.now }
-    requires names { AreNamesWithin lts.now case.class case.problem case.number names.now }
-    requires rows { each (fold_of (case_of lts.now tree.now basis.now case.class case.problem case.number)) names.now (Ok (map kept_row (map row_in rows.now))) }
+    requires tree { IsTreeOf c.setting.lts.now c.setting.tree.now }
+    requires labels { labels_of c.setting.basis.now ≡ labels c.setting.lts.now }
+    requires common { IsCommonOf (shown_setting c.setting) common.now }
+    requires names { AreNamesWithin (shown_case c) names.now }
+    requires rows { each (fold_of (shown_case c)) names.now (Ok (map kept_row (map row_in rows.now))) }
     requires one_each { length rows.now ≡ length names.now }
     requires indices { length indices.now ≡ length rows.now }
-    ensures comes { Comes (each (form_fold (setting_of lts.now tree.now basis.now case.class)) (forms_in case.class names.now)) (λ v. map linear_form v.items) result }
-    ensures forms { IfOk result (λ v. map split_of v.items ≡ forms_in case.class names.now) }
-    ensures made { IfOk result (λ v. All (IsMade lts.now case.class (column_count lts.now (cycle_of basis.now) case.class) (map kept_row (map row_in rows.now)) indices.now) v.items) }
+    ensures comes { Comes (each (form_fold (shown_setting c.entry.setting)) (forms_in c.entry.setting.class names.now)) (λ v. map linear_form v.items) result }
+    ensures forms { IfOk result (λ v. map split_of v.items ≡ forms_in c.entry.setting.class names.now) }
+    ensures made { IfOk result (λ v. All (IsMade c.entry.setting.lts.now c.entry.setting.class (columns_in (shown_setting c.entry.setting)) (map kept_row (map row_in rows.now)) indices.now) v.items) }
 {
     let mut forms = Vec::new(alloc);
     for (i, &name) in names.iter().enumerate() {
-        if let Some(form) = form_named(case.class, name) {
-            let scaled = terms_in_case(alloc, lts, tree, basis, common, case, name)?;
+        if let Some(form) = form_named(c.setting.class, name) {
+            let terms = terms_in_case(alloc, common, c, name)?;
             let named = form_over(
-                lts,
-                case.class,
+                c.setting.lts,
+                c.setting.class,
                 form,
-                scaled.multiple,
-                scaled,
+                terms.multiple,
+                terms,
                 rows[i].row(),
                 indices[i],
-            )?;
+            );
             forms.push(named)?;
         }
     }
@@ -185,37 +171,35 @@ fn forms(
 // The terms of the named row of the case: those that all problems share, or its own, which are written now.
 fn terms_in_case(
     alloc: Global,
-    lts: &Lts,
-    tree: &Tree,
-    basis: &Basis,
     common: &Common,
-    case: ProblemCase,
+    c: CaseSetting<'_>,
     name: RowName,
-) -> Result<Scaled, FoldStop>
-    requires tree { IsTreeOf lts.now tree.now }
-    requires labels { labels_of basis.now ≡ labels lts.now }
-    requires common { IsCommonOf (setting_of lts.now tree.now basis.now case.class) common.now }
-    requires within { All (TermNamesStateBelow (states lts.now)) (row_expression lts.now case.class case.problem case.number [] name).terms }
-    ensures comes { Comes (terms_fold (setting_of lts.now tree.now basis.now case.class) (row_expression lts.now case.class case.problem case.number [] name).terms) scaled_of result }
-    ensures one_each { IfOk result (λ s. length s.numbers.items ≡ column_count lts.now (cycle_of basis.now) case.class) }
+) -> Result<FormTerms, FoldStop>
+    requires tree { IsTreeOf c.setting.lts.now c.setting.tree.now }
+    requires labels { labels_of c.setting.basis.now ≡ labels c.setting.lts.now }
+    requires common { IsCommonOf (shown_setting c.setting) common.now }
+    requires within { IsNameWithin (shown_case c) name }
+    ensures comes { Comes (terms_fold (shown_setting c.entry.setting) (row_expression c.entry.setting.lts.now c.entry.setting.class c.entry.problem c.entry.number [] name).terms) terms_of result }
+    ensures one_each { IfOk result (λ t. length (arc_slice_items t.coeffs) ≡ columns_in (shown_setting c.entry.setting)) }
 {
     match common.terms(name) {
-        Some(Ok(scaled)) => Ok(copied(alloc, scaled)?),
+        Some(Ok(terms)) => Ok(shared(terms)?),
         Some(Err(wide)) => Err(FoldStop::Wide(*wide)),
         None => {
-            let expression = expression(lts, case, &[], name);
-            over_columns(alloc, tree, basis, &common.columns, &expression)
+            let said = said(c, name);
+            form_terms(alloc, c.setting, &common.columns, &said)
         }
     }
 }
 
-// The same numbers.
-fn copied(alloc: Global, scaled: &Scaled) -> Result<Scaled, AllocError>
-    ensures { IfOk result (λ s. scaled_of s ≡ scaled_of scaled.now) }
+// The same terms, with the same coefficients in memory.
+fn shared(terms: &FormTerms) -> Result<FormTerms, AllocError>
+    ensures { IfOk result (λ t. terms_of t ≡ terms_of terms.now) }
 {
-    Ok(Scaled {
-        multiple: scaled.multiple,
-        numbers: scaled.numbers.to_vec(alloc)?,
+    let coeffs = terms.coeffs.clone()?;
+    Ok(FormTerms {
+        multiple: terms.multiple,
+        coeffs,
     })
 }
 
@@ -230,34 +214,33 @@ fn form_named(class: Class, name: RowName) -> Option<Form>
     }
 }
 
-// The form with these numbers, of which those of the row are a part.
+// The form with these terms, of whose numbers those of the row are a part.
 fn form_over(
     lts: &Lts,
     class: Class,
     form: Form,
     scale: i128,
-    scaled: Scaled,
+    terms: FormTerms,
     row: &CaseRow,
     index: u32,
-) -> Result<NamedForm, AllocError>
-    requires { (d : ℕ) × (0 < d) × (scaled.numbers.items ≡ map (λ z. pos d *ℤ z) (arc_slice_items row.now.coeffs)) }
-    ensures form { IfOk result (λ f. f.form ≡ form) }
-    ensures numbers { IfOk result (λ f. (f.scale ≡ scale) × (arc_slice_items f.coeffs ≡ scaled.numbers.items)) }
-    ensures bounds { IfOk result (λ f. (f.low ≡ form_low form) × (f.high ≡ form_high lts.now class form)) }
-    ensures row { IfOk result (λ f. IsPartOf f (arc_slice_items row.now.coeffs) index) }
-    ensures in_range { IfOk result (λ f. InRange f.times) }
+) -> NamedForm
+    requires { (d : ℕ) × (0 < d) × (arc_slice_items terms.coeffs ≡ map (λ z. pos d *ℤ z) (arc_slice_items row.now.coeffs)) }
+    ensures form { result.form ≡ form }
+    ensures numbers { (result.scale ≡ scale) × (arc_slice_items result.coeffs ≡ arc_slice_items terms.coeffs) }
+    ensures bounds { (result.low ≡ form_low form) × (result.high ≡ form_high lts.now class form) }
+    ensures row { IsPartOf result (arc_slice_items row.now.coeffs) index }
+    ensures in_range { InRange result.times }
 {
-    let times = times(&scaled.numbers, &row.coeffs);
-    let coeffs = ArcSlice::from_vec(scaled.numbers)?;
-    Ok(NamedForm {
+    let times = times(&terms.coeffs, &row.coeffs);
+    NamedForm {
         form,
         scale,
-        coeffs,
+        coeffs: terms.coeffs,
         low: low(form),
         high: high(lts, class, form),
         row: if times == 0 { 0 } else { index },
         times,
-    })
+    }
 }
 
 // The least that a form may be.

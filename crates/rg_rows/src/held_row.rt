@@ -1,26 +1,23 @@
 //! A row of a case, its own or one that all problems share.
-ghost use Rattle.std.specs.Prelude.{◌≡◌, [], length, map, All, IfOk};
+ghost use Rattle.std.specs.Prelude.{◌≡◌, [], length, IfOk};
 ghost use Rattle.std.specs.Arc.{arc_slice_items};
-ghost use Rattle.rg_theory.specs.System.{states, labels};
+ghost use Rattle.rg_theory.specs.System.{labels};
 ghost use Rattle.rg_refuting.specs.Row.{row_expression};
+ghost use Rattle.rg_reasons.specs.Sums.{expression_of};
 ghost use Rattle.rg_spanning.specs.Spanning.{IsTreeOf};
-ghost use Rattle.rg_order_of_work.specs.Rewriting.{column_count};
-ghost use Rattle.rg_cycles.specs.View.{labels_of, cycle_of};
-ghost use Rattle.rg_case_parts.specs.SettingViews.{setting_of, case_of};
-ghost use Rattle.rg_case_parts.specs.StatesNamed.{TermNamesStateBelow};
-ghost use Rattle.rg_rows.specs.View.{kept_row, row_in, fold_of};
+ghost use Rattle.rg_cycles.specs.View.{labels_of};
+ghost use Rattle.rg_case_parts.specs.SettingViews.{shown_setting, shown_case};
+ghost use Rattle.rg_rows.specs.View.{kept_row, row_in, columns_in, IsNameWithin, fold_of};
 ghost use Rattle.rg_rows.specs.Sharing.{IsCommonOf};
 ghost use Rattle.rg_order_of_work.specs.Fold.{Comes};
 
 use crate::case_row::CaseRow;
 use crate::common::Common;
 use crate::rewriting::row;
-use rg_cycles::Basis;
+use rg_case_parts::CaseSetting;
 use rg_fraction::FoldStop;
-use rg_lts::Lts;
-use rg_reasons::{ProblemCase, expression};
+use rg_reasons::{Expression, expression};
 use rg_refuting::RowName;
-use rg_spanning::Tree;
 use std::alloc::Global;
 
 // A row of a case.
@@ -45,27 +42,31 @@ impl HeldRow<'_> {
 // The named row of the case: the one that all problems share, or its own, which is written now.
 pub(crate) fn row_in_case<'a>(
     alloc: Global,
-    lts: &Lts,
-    tree: &Tree,
-    basis: &Basis,
     common: &'a Common,
-    case: ProblemCase,
+    c: CaseSetting<'_>,
     name: RowName,
 ) -> Result<HeldRow<'a>, FoldStop>
-    requires tree { IsTreeOf lts.now tree.now }
-    requires labels { labels_of basis.now ≡ labels lts.now }
-    requires common { IsCommonOf (setting_of lts.now tree.now basis.now case.class) common.now }
-    requires within { All (TermNamesStateBelow (states lts.now)) (row_expression lts.now case.class case.problem case.number [] name).terms }
-    ensures comes { Comes (fold_of (case_of lts.now tree.now basis.now case.class case.problem case.number) name) (λ r. kept_row (row_in r)) result }
-    ensures one_each { IfOk result (λ r. length (arc_slice_items (row_in r).coeffs) ≡ column_count lts.now (cycle_of basis.now) case.class) }
+    requires tree { IsTreeOf c.setting.lts.now c.setting.tree.now }
+    requires labels { labels_of c.setting.basis.now ≡ labels c.setting.lts.now }
+    requires common { IsCommonOf (shown_setting c.setting) common.now }
+    requires within { IsNameWithin (shown_case c) name }
+    ensures comes { Comes (fold_of (shown_case c.entry) name) (λ r. kept_row (row_in r)) result }
+    ensures one_each { IfOk result (λ r. length (arc_slice_items (row_in r).coeffs) ≡ columns_in (shown_setting c.entry.setting)) }
 {
     match common.row(name) {
         Some(Ok(row)) => Ok(HeldRow::Common(row)),
         Some(Err(wide)) => Err(FoldStop::Wide(*wide)),
         None => {
-            let expression = expression(lts, case, &[], name);
-            let own = row(alloc, tree, basis, &common.columns, name, &expression)?;
+            let said = said(c, name);
+            let own = row(alloc, c.setting, &common.columns, name, &said)?;
             Ok(HeldRow::Own(own))
         }
     }
+}
+
+// What the named row says in the case.
+pub(crate) fn said(c: CaseSetting<'_>, name: RowName) -> Expression
+    ensures { expression_of result ≡ row_expression c.entry.setting.lts.now c.entry.setting.class c.entry.problem c.entry.number [] name }
+{
+    expression(c.setting.lts, c.problem_case(), &[], name)
 }

@@ -26,12 +26,12 @@ pub(crate) fn firsts(alloc: Global, all: &[HeldRow<'_>]) -> Result<(CaseRows, Ve
     requires few { length all.now < 2 ^ 32 }
     ensures { IfOk result (λ r. (kept : List KeptRow) × ShowsRows r.0 kept × KeepsFirsts (λ k. k.row) IsIdle [] (map kept_row (map row_in all.now)) kept × AreIndices (map kept_row (map row_in all.now)) kept r.1.items) }
 {
-    let mut seen = IndexSet::new(alloc);
-    let mut indices = Vec::new(alloc);
+    let mut seen = IndexSet::with_capacity(alloc, all.len())?;
+    let mut indices = Vec::with_capacity(alloc, all.len())?;
     let mut kept = CaseRows {
-        rows: Vec::new(alloc),
-        names: Vec::new(alloc),
-        factors: Vec::new(alloc),
+        rows: Vec::with_capacity(alloc, all.len())?,
+        names: Vec::with_capacity(alloc, all.len())?,
+        factors: Vec::with_capacity(alloc, all.len())?,
     };
     for held in all {
         let row = held.row();
@@ -69,5 +69,5 @@ impl CaseRows {
 fn is_idle(row: &CaseRow) -> bool
     ensures { IsTrue result ↔ IsIdle (kept_row row.now) }
 {
-    row.constant >= 0 && row.coeffs.iter().all(|z| *z == 0)
+    row.idle
 }

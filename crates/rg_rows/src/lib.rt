@@ -8,7 +8,9 @@
 mod case;
 mod case_row;
 mod common;
+mod copying;
 mod counts;
+mod form_terms;
 mod forms;
 mod held_row;
 mod kept;

@@ -7,16 +7,16 @@ ghost use Rattle.rg_integers.specs.declared.term.Wide.{Wide};
 ghost use Rattle.rg_refuting.specs.Refutes.{IsSeparationProblem};
 ghost use Rattle.rg_refuting.specs.Row.{cases_of};
 ghost use Rattle.rg_spanning.specs.Spanning.{IsTreeOf};
-ghost use Rattle.rg_order_of_work.specs.Rewriting.{CaseSystem, column_count, split_forms, system_fold};
+ghost use Rattle.rg_order_of_work.specs.Rewriting.{CaseSystem, split_forms, system_fold};
 ghost use Rattle.rg_order_of_work.specs.Chords.{IsBasis};
 ghost use Rattle.rg_order_of_work.specs.Fold.{Comes, each};
-ghost use Rattle.rg_cycles.specs.View.{labels_of, cycle_of};
+ghost use Rattle.rg_cycles.specs.View.{labels_of};
 ghost use Rattle.rg_fraction.specs.declared.fold_stop.FoldStop.TheVariants as stop;
-ghost use Rattle.rg_rows.specs.View.{kept_row, row_in, AreNamesWithin, fold_of};
+ghost use Rattle.rg_rows.specs.View.{kept_row, row_in, columns_in, AreNamesWithin, fold_of};
 ghost use Rattle.rg_rows.specs.Sharing.{IsCommonOf};
 ghost use Rattle.rg_rows.specs.Forms.{split_of, StandsInRow, AreFormsOf};
 ghost use Rattle.rg_rows.specs.Shown.{ShowsCase};
-ghost use Rattle.rg_case_parts.specs.SettingViews.{setting_of, case_of};
+ghost use Rattle.rg_case_parts.specs.SettingViews.{shown_setting, shown_case};
 
 use crate::common::Common;
 use crate::forms::case_forms;
@@ -24,14 +24,10 @@ use crate::held_row::{HeldRow, row_in_case};
 use crate::kept::firsts;
 use crate::named_form::NamedForm;
 use crate::names::names;
-use rg_cycles::Basis;
+use rg_case_parts::CaseSetting;
 use rg_fraction::{FoldStop, Fraction};
 use rg_linear::System;
-use rg_lts::Lts;
-use rg_reasons::ProblemCase;
 use rg_refuting::RowName;
-use rg_spanning::Tree;
-use rg_theory::{Class, Problem};
 use std::alloc::Global;
 
 /// A system of linear rows, and the forms that are to be whole. Each row is a named row times a factor, which is
@@ -64,66 +60,48 @@ pub struct NamedSystem {
 /// `FoldStop::Wide` comes exactly where a step of this, row by row and then form by form, is out of range, with the
 /// first such step; `FoldStop::NoMemory` where there is no memory. The steps have one result, so that a system that is
 /// given is the only one.
-pub fn system(
-    alloc: Global,
-    lts: &Lts,
-    tree: &Tree,
-    basis: &Basis,
-    class: Class,
-    problem: Problem,
-    case: u32,
-) -> Result<NamedSystem, FoldStop>
-    requires asked { IsSeparationProblem lts.now problem }
-    requires case { case < cases_of lts.now class problem }
-    requires tree { IsTreeOf lts.now tree.now }
-    requires labels { labels_of basis.now ≡ labels lts.now }
-    ensures system { IfOk result (λ named. (shown : CaseSystem) × system_fold (case_of lts.now tree.now basis.now class problem case) (Ok shown) × ShowsCase named shown) }
-    ensures named { IfOk result (λ named. map split_of named.forms.items ≡ split_forms lts.now class problem) }
-    ensures rows { IfOk result (λ named. All (StandsInRow (case_of lts.now tree.now basis.now class problem case) named.system) named.forms.items) }
-    ensures forms { IsAllReachable lts.now → IsBasis lts.now tree.now.arcs (cycle_of basis.now) → HasNumbersInRange class → IfOk result (λ named. AreFormsOf named.system named.forms.items) }
-    ensures wide { (w : Wide) → IsErrOf result (stop.Wide w) → system_fold (case_of lts.now tree.now basis.now class problem case) (Err w) }
+pub fn system(alloc: Global, c: CaseSetting<'_>) -> Result<NamedSystem, FoldStop>
+    requires asked { IsSeparationProblem c.setting.lts.now c.problem }
+    requires case { c.number < cases_of c.setting.lts.now c.setting.class c.problem }
+    requires tree { IsTreeOf c.setting.lts.now c.setting.tree.now }
+    requires labels { labels_of c.setting.basis.now ≡ labels c.setting.lts.now }
+    ensures system { IfOk result (λ named. (shown : CaseSystem) × system_fold (shown_case c.entry) (Ok shown) × ShowsCase named shown) }
+    ensures named { IfOk result (λ named. map split_of named.forms.items ≡ split_forms c.entry.setting.lts.now c.entry.setting.class c.entry.problem) }
+    ensures rows { IfOk result (λ named. All (StandsInRow (shown_case c.entry) named.system) named.forms.items) }
+    ensures forms { let s = shown_setting c.entry.setting in
+        IsAllReachable s.lts → IsBasis s.lts s.tree s.basis → HasNumbersInRange s.class → IfOk result (λ named. AreFormsOf named.system named.forms.items) }
+    ensures wide { (w : Wide) → IsErrOf result (stop.Wide w) → system_fold (shown_case c.entry) (Err w) }
 {
-    let common = Common::new(alloc, lts, tree, basis, class)?;
-    system_with(alloc, lts, tree, basis, &common, class, problem, case)
+    let common = Common::new(alloc, c.setting)?;
+    system_with(alloc, &common, c)
 }
 
 /// The system of a case of a problem, as `system` gives it, with the rows and forms that all problems of the system and
 /// the class share.
 pub fn system_with(
     alloc: Global,
-    lts: &Lts,
-    tree: &Tree,
-    basis: &Basis,
     common: &Common,
-    class: Class,
-    problem: Problem,
-    case: u32,
+    c: CaseSetting<'_>,
 ) -> Result<NamedSystem, FoldStop>
-    requires asked { IsSeparationProblem lts.now problem }
-    requires case { case < cases_of lts.now class problem }
-    requires tree { IsTreeOf lts.now tree.now }
-    requires labels { labels_of basis.now ≡ labels lts.now }
-    requires common { IsCommonOf (setting_of lts.now tree.now basis.now class) common.now }
-    ensures system { IfOk result (λ named. (shown : CaseSystem) × system_fold (case_of lts.now tree.now basis.now class problem case) (Ok shown) × ShowsCase named shown) }
-    ensures named { IfOk result (λ named. map split_of named.forms.items ≡ split_forms lts.now class problem) }
-    ensures rows { IfOk result (λ named. All (StandsInRow (case_of lts.now tree.now basis.now class problem case) named.system) named.forms.items) }
-    ensures forms { IsAllReachable lts.now → IsBasis lts.now tree.now.arcs (cycle_of basis.now) → HasNumbersInRange class → IfOk result (λ named. AreFormsOf named.system named.forms.items) }
-    ensures wide { (w : Wide) → IsErrOf result (stop.Wide w) → system_fold (case_of lts.now tree.now basis.now class problem case) (Err w) }
+    requires asked { IsSeparationProblem c.setting.lts.now c.problem }
+    requires case { c.number < cases_of c.setting.lts.now c.setting.class c.problem }
+    requires tree { IsTreeOf c.setting.lts.now c.setting.tree.now }
+    requires labels { labels_of c.setting.basis.now ≡ labels c.setting.lts.now }
+    requires common { IsCommonOf (shown_setting c.setting) common.now }
+    ensures system { IfOk result (λ named. (shown : CaseSystem) × system_fold (shown_case c.entry) (Ok shown) × ShowsCase named shown) }
+    ensures named { IfOk result (λ named. map split_of named.forms.items ≡ split_forms c.entry.setting.lts.now c.entry.setting.class c.entry.problem) }
+    ensures rows { IfOk result (λ named. All (StandsInRow (shown_case c.entry) named.system) named.forms.items) }
+    ensures forms { let s = shown_setting c.entry.setting in
+        IsAllReachable s.lts → IsBasis s.lts s.tree s.basis → HasNumbersInRange s.class → IfOk result (λ named. AreFormsOf named.system named.forms.items) }
+    ensures wide { (w : Wide) → IsErrOf result (stop.Wide w) → system_fold (shown_case c.entry) (Err w) }
 {
-    lts.is_well_formed();
-    let case = ProblemCase {
-        class,
-        problem,
-        number: case,
-    };
-    let names = names(alloc, lts, case, &common.columns)?;
-    let all = rows(alloc, lts, tree, basis, common, case, &names)?;
+    c.setting.lts.is_well_formed();
+    let names = names(alloc, c, &common.columns)?;
+    let all = rows(alloc, common, c, &names)?;
     let (kept, indices) = firsts(alloc, &all)?;
-    let forms = case_forms(
-        alloc, lts, tree, basis, common, case, &names, &all, &indices,
-    )?;
+    let forms = case_forms(alloc, common, c, &names, &all, &indices)?;
     Ok(NamedSystem {
-        system: System::new(common.columns.count(basis), kept.rows),
+        system: System::new(common.columns.count(c.setting.basis), kept.rows),
         names: kept.names,
         factors: kept.factors,
         forms,
@@ -133,24 +111,21 @@ pub fn system_with(
 // The named rows over the columns.
 fn rows<'a>(
     alloc: Global,
-    lts: &Lts,
-    tree: &Tree,
-    basis: &Basis,
     common: &'a Common,
-    case: ProblemCase,
+    c: CaseSetting<'_>,
     names: &[RowName],
 ) -> Result<Vec<HeldRow<'a>>, FoldStop>
-    requires tree { IsTreeOf lts.now tree.now }
-    requires labels { labels_of basis.now ≡ labels lts.now }
-    requires common { IsCommonOf (setting_of lts.now tree.now basis.now case.class) common.now }
-    requires names { AreNamesWithin lts.now case.class case.problem case.number names.now }
-    ensures comes { Comes (each (fold_of (case_of lts.now tree.now basis.now case.class case.problem case.number)) names.now) (λ v. map kept_row (map row_in v.items)) result }
-    ensures one_each { IfOk result (λ v. All (λ r. length (arc_slice_items r.coeffs) ≡ column_count lts.now (cycle_of basis.now) case.class) (map row_in v.items)) }
+    requires tree { IsTreeOf c.setting.lts.now c.setting.tree.now }
+    requires labels { labels_of c.setting.basis.now ≡ labels c.setting.lts.now }
+    requires common { IsCommonOf (shown_setting c.setting) common.now }
+    requires names { AreNamesWithin (shown_case c) names.now }
+    ensures comes { Comes (each (fold_of (shown_case c.entry)) names.now) (λ v. map kept_row (map row_in v.items)) result }
+    ensures one_each { IfOk result (λ v. All (λ r. length (arc_slice_items r.coeffs) ≡ columns_in (shown_setting c.entry.setting)) (map row_in v.items)) }
     ensures few { IfOk result (λ v. length v.items ≡ length names.now) }
 {
-    let mut rows = Vec::new(alloc);
+    let mut rows = Vec::with_capacity(alloc, names.len())?;
     for &name in names {
-        rows.push(row_in_case(alloc, lts, tree, basis, common, case, name)?)?;
+        rows.push(row_in_case(alloc, common, c, name)?)?;
     }
     Ok(rows)
 }

@@ -8,9 +8,7 @@ ghost use Rattle.rg_rows.specs.View.{users, makers};
 ghost use Rattle.rg_refuting.specs.declared.RowName.TheVariants as row_name;
 
 use crate::problem_names::problem_rows;
-use rg_case_parts::Columns;
-use rg_lts::Lts;
-use rg_reasons::ProblemCase;
+use rg_case_parts::{CaseSetting, Columns, Setting};
 use rg_refuting::RowName;
 use std::alloc::{AllocError, Global};
 
@@ -19,27 +17,37 @@ use std::alloc::{AllocError, Global};
 // with an arc, but the consumer.
 pub(crate) fn names(
     alloc: Global,
-    lts: &Lts,
-    case: ProblemCase,
+    c: CaseSetting<'_>,
     columns: &Columns,
 ) -> Result<Vec<RowName>, AllocError>
-    requires asked { IsSeparationProblem lts.now case.problem }
-    requires columns { AreColumns lts.now case.class columns.now }
-    ensures { IfOk result (λ v. v.items ≡ names_of lts.now case.class case.problem case.number) }
+    requires asked { IsSeparationProblem c.setting.lts.now c.problem }
+    requires columns { AreColumns c.setting.lts.now c.setting.class columns.now }
+    ensures { IfOk result (λ v. v.items ≡ names_of c.entry.setting.lts.now c.entry.setting.class c.entry.problem c.entry.number) }
 {
-    let mut names = problem_rows(alloc, lts, case)?;
+    let CaseSetting {
+        setting,
+        problem,
+        ..
+    } = c;
+    let Setting { lts, class, .. } = setting;
+    let mut names = problem_rows(alloc, lts, class, problem)?;
     if columns.start {
         push_tokens(&mut names, lts.states())?;
     }
-    if case.class.bound.is_some() {
+    if class.bound.is_some() {
         push_caps(&mut names, lts.states())?;
     }
-    if case.class.plain {
+    if class.plain {
         push_ups(&mut names, lts.labels(), &columns.used)?;
         push_downs(&mut names, lts.labels(), &columns.used)?;
     }
-    if case.class.nonbranching {
-        push_makes(&mut names, lts.labels(), &columns.used, case.consumer(lts))?;
+    if class.nonbranching {
+        push_makes(
+            &mut names,
+            lts.labels(),
+            &columns.used,
+            c.problem_case().consumer(lts),
+        )?;
     }
     Ok(names)
 }

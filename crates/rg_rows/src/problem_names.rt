@@ -6,9 +6,8 @@ ghost use Rattle.rg_order_of_work.specs.Rewriting.{states_with, problem_rows};
 ghost use Rattle.rg_refuting.specs.declared.RowName.TheVariants as row_name;
 
 use rg_lts::Lts;
-use rg_reasons::ProblemCase;
 use rg_refuting::RowName;
-use rg_theory::Problem;
+use rg_theory::{Class, Problem};
 use std::alloc::{AllocError, Global};
 
 // The rows of the problem: `block` in a pure class, `empty`, `full` and `keep` in another plain one, else `stop`; of a
@@ -16,14 +15,15 @@ use std::alloc::{AllocError, Global};
 pub(crate) fn problem_rows(
     alloc: Global,
     lts: &Lts,
-    case: ProblemCase,
+    class: Class,
+    problem: Problem,
 ) -> Result<Vec<RowName>, AllocError>
-    requires asked { IsSeparationProblem lts.now case.problem }
-    ensures { IfOk result (λ v. v.items ≡ problem_rows lts.now case.class case.problem) }
+    requires asked { IsSeparationProblem lts.now problem }
+    ensures { IfOk result (λ v. v.items ≡ problem_rows lts.now class problem) }
 {
-    match case.problem {
-        Problem::Event(..) if case.class.pure => [RowName::Block].to_vec(alloc),
-        Problem::Event(_, t) if case.class.plain => plain_rows(alloc, lts, t),
+    match problem {
+        Problem::Event(..) if class.pure => [RowName::Block].to_vec(alloc),
+        Problem::Event(_, t) if class.plain => plain_rows(alloc, lts, t),
         Problem::Event(_, t) => stops(alloc, lts, t),
         Problem::States(..) => [RowName::Apart].to_vec(alloc),
     }

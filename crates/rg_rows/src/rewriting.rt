@@ -1,74 +1,102 @@
 //! A named row, written over the columns.
-ghost use Rattle.std.specs.Prelude.{◌≡◌, ◌≤◌, ℕ, ◌<◌, ◌<ℤ◌, pos, ◌≤ℤ◌, map, length, All, ◌++◌, ◌∷◌, [], IfOk, unsigned_abs};
+ghost use Rattle.std.specs.Prelude.{◌≡◌, ◌↔◌, IsTrue, ◌≤◌, ℕ, ◌<◌, ◌<ℤ◌, pos, ◌≤ℤ◌, map, length, All, ◌++◌, ◌∷◌, [], IfOk, unsigned_abs};
 ghost use Rattle.std.specs.Arc.{arc_slice_items};
 ghost use Rattle.rg_integers.specs.Range.{InRange};
-ghost use Rattle.rg_theory.specs.declared.Class.{Class};
-ghost use Rattle.rg_theory.specs.System.{System, labels};
+ghost use Rattle.rg_theory.specs.System.{labels};
 ghost use Rattle.rg_fraction.specs.Rows.{IsRowGcd};
+ghost use Rattle.rg_linear.specs.Cycle.{IsZeroVector};
 ghost use Rattle.rg_spanning.specs.Spanning.{IsTreeOf};
-ghost use Rattle.rg_order_of_work.specs.Rewriting.{terms_fold, row_fold, divided, column_count};
-ghost use Rattle.rg_cycles.specs.View.{labels_of, cycle_of};
+ghost use Rattle.rg_order_of_work.specs.Rewriting.{terms_fold, row_fold, divided};
+ghost use Rattle.rg_cycles.specs.View.{labels_of};
 ghost use Rattle.rg_reasons.specs.Sums.{expression_of};
-ghost use Rattle.rg_case_parts.specs.SettingViews.{setting_of};
+ghost use Rattle.rg_case_parts.specs.SettingViews.{shown_setting};
 ghost use Rattle.rg_case_parts.specs.StatesNamed.{TermNamesStateBelow};
 ghost use Rattle.rg_case_parts.specs.WholeNumbers.{scaled_of};
 ghost use Rattle.rg_case_parts.specs.ColumnViews.{AreColumns};
-ghost use Rattle.rg_rows.specs.View.{kept_row};
+ghost use Rattle.rg_rows.specs.View.{kept_row, terms_of, columns_in};
 ghost use Rattle.rg_order_of_work.specs.Fold.{Comes};
 
 use crate::case_row::CaseRow;
 use crate::counts::counts;
+use crate::form_terms::FormTerms;
 use crate::row_numbers::RowNumbers;
-use rg_case_parts::{Columns, Scaled, start, without_denominators};
-use rg_cycles::{Basis, substitute};
+use rg_case_parts::{Columns, Scaled, Setting, start, without_denominators};
+use rg_cycles::substitute;
 use rg_fraction::{FoldStop, Fraction, reduce, row_gcd};
 use rg_linear::norm;
 use rg_reasons::Expression;
 use rg_refuting::RowName;
-use rg_spanning::Tree;
 use std::alloc::{AllocError, Global};
 use std::sync::ArcSlice;
 
 // The named row, whose expression this is.
 pub(crate) fn row(
     alloc: Global,
-    tree: &Tree,
-    basis: &Basis,
+    setting: Setting<'_>,
     columns: &Columns,
     name: RowName,
     expression: &Expression,
 ) -> Result<CaseRow, FoldStop>
-    requires labels { tree.now.labels ≡ labels_of basis.now }
-    requires columns { length columns.now.used.items ≡ labels_of basis.now }
-    requires within { All (TermNamesStateBelow tree.now.states) (expression_of expression.now).terms }
-    ensures comes { (lts : System) (class : Class) → labels lts ≡ labels_of basis.now → AreColumns lts class columns.now → Comes (row_fold (setting_of lts tree.now basis.now class) name (expression_of expression.now)) kept_row result }
-    ensures one_each { IfOk result (λ r. (lts : System) (class : Class) → labels lts ≡ labels_of basis.now → AreColumns lts class columns.now → length (arc_slice_items r.coeffs) ≡ column_count lts (cycle_of basis.now) class) }
+    requires tree { IsTreeOf setting.lts.now setting.tree.now }
+    requires labels { labels_of setting.basis.now ≡ labels setting.lts.now }
+    requires columns { AreColumns setting.lts.now setting.class columns.now }
+    requires within { All (TermNamesStateBelow setting.tree.now.states) (expression_of expression.now).terms }
+    ensures comes { Comes (row_fold (shown_setting setting.entry) name (expression_of expression.now)) kept_row result }
+    ensures one_each { IfOk result (λ r. length (arc_slice_items r.coeffs) ≡ columns_in (shown_setting setting.entry)) }
 {
-    let scaled = over_columns(alloc, tree, basis, columns, expression)?;
+    let scaled = over_columns(alloc, setting, columns, expression)?;
     let multiple = Fraction::new(scaled.multiple, 1);
     let constant = Fraction::new(expression.constant, 1).mul(multiple)?;
     divided(alloc, name, scaled, constant.numerator())
 }
 
 // The terms over the columns, without denominators.
-pub(crate) fn over_columns(
+fn over_columns(
     alloc: Global,
-    tree: &Tree,
-    basis: &Basis,
+    setting: Setting<'_>,
     columns: &Columns,
     expression: &Expression,
 ) -> Result<Scaled, FoldStop>
-    requires labels { tree.now.labels ≡ labels_of basis.now }
-    requires columns { length columns.now.used.items ≡ labels_of basis.now }
-    requires within { All (TermNamesStateBelow tree.now.states) (expression_of expression.now).terms }
-    ensures comes { (lts : System) (class : Class) → labels lts ≡ labels_of basis.now → AreColumns lts class columns.now → Comes (terms_fold (setting_of lts tree.now basis.now class) (expression_of expression.now).terms) scaled_of result }
-    ensures one_each { IfOk result (λ s. (lts : System) (class : Class) → labels lts ≡ labels_of basis.now → AreColumns lts class columns.now → length s.numbers.items ≡ column_count lts (cycle_of basis.now) class) }
+    requires tree { IsTreeOf setting.lts.now setting.tree.now }
+    requires labels { labels_of setting.basis.now ≡ labels setting.lts.now }
+    requires columns { AreColumns setting.lts.now setting.class columns.now }
+    requires within { All (TermNamesStateBelow setting.tree.now.states) (expression_of expression.now).terms }
+    ensures comes { Comes (terms_fold (shown_setting setting.entry) (expression_of expression.now).terms) scaled_of result }
+    ensures one_each { IfOk result (λ s. length s.numbers.items ≡ columns_in (shown_setting setting.entry)) }
 {
     let labels = columns.used.len() as u32;
-    let counts = counts(alloc, tree, labels, expression)?;
-    let free = substitute(alloc, basis, &counts)?;
-    let numbers = columns.pick(alloc, basis, start(expression), &free.coeffs)?;
+    let counts = counts(alloc, setting.tree, labels, expression)?;
+    let free = substitute(alloc, setting.basis, &counts)?;
+    let numbers = columns.pick(alloc, setting.basis, start(expression), &free.coeffs)?;
     without_denominators(alloc, &numbers)
+}
+
+// The terms of a form over the columns.
+pub(crate) fn form_terms(
+    alloc: Global,
+    setting: Setting<'_>,
+    columns: &Columns,
+    expression: &Expression,
+) -> Result<FormTerms, FoldStop>
+    requires tree { IsTreeOf setting.lts.now setting.tree.now }
+    requires labels { labels_of setting.basis.now ≡ labels setting.lts.now }
+    requires columns { AreColumns setting.lts.now setting.class columns.now }
+    requires within { All (TermNamesStateBelow setting.tree.now.states) (expression_of expression.now).terms }
+    ensures comes { Comes (terms_fold (shown_setting setting.entry) (expression_of expression.now).terms) terms_of result }
+    ensures one_each { IfOk result (λ t. length (arc_slice_items t.coeffs) ≡ columns_in (shown_setting setting.entry)) }
+{
+    let scaled = over_columns(alloc, setting, columns, expression)?;
+    let terms = with_numbers(scaled)?;
+    Ok(terms)
+}
+
+// The terms with these numbers.
+fn with_numbers(scaled: Scaled) -> Result<FormTerms, AllocError>
+    ensures { IfOk result (λ t. terms_of t ≡ scaled_of scaled) }
+{
+    let multiple = scaled.multiple;
+    let coeffs = ArcSlice::from_vec(scaled.numbers)?;
+    Ok(FormTerms { multiple, coeffs })
 }
 
 // The numbers and the constant, divided by their greatest common divisor; zeros are not divided.
@@ -89,14 +117,24 @@ fn divided(
     reduce(&mut numbers);
     let (coeffs, constant) = parted(alloc, &numbers)?;
     let norm = norm(&coeffs, constant);
+    let idle = always_holds(&coeffs, constant);
+    let numbers = RowNumbers::new(numbers)?;
     Ok(CaseRow {
         name,
         coeffs,
         constant,
         norm,
+        idle,
         factor: Fraction::new(multiple, divisor.max(1)),
-        numbers: RowNumbers::new(numbers),
+        numbers,
     })
+}
+
+// Whether all coefficients are 0 and the constant isn't negative.
+fn always_holds(coeffs: &[i128], constant: i128) -> bool
+    ensures { IsTrue result ↔ (IsZeroVector coeffs.now × (pos 0 ≤ℤ constant)) }
+{
+    constant >= 0 && coeffs.iter().all(|z| *z == 0)
 }
 
 // All numbers but the last, and the last.

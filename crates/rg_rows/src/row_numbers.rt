@@ -1,44 +1,59 @@
 //! The numbers of a row with their hash.
-ghost use Rattle.std.specs.Prelude.{◌≡◌, ◌%◌, ◌^◌, length};
+ghost use Rattle.std.specs.Prelude.{◌≡◌, ◌/◌, ◌%◌, ◌^◌, length, IfOk};
 ghost use Rattle.std.specs.Int.{w128, cast_unsigned};
 ghost use Rattle.std.specs.Hash as fed;
 ghost use Rattle.std.specs.Ordering.{int_eq};
 ghost use Rattle.std.specs.Cmp.Lexicographic.{pointwise};
 ghost use Rattle.std.specs.Cmp.Rules.{comparing, hashing};
 ghost use Rattle.std.proofs.Common.{rules};
-ghost use Rattle.rg_rows.specs.Hashing.{hash_with, numbers_hash};
+ghost use Rattle.rg_rows.specs.Hashing.{with_word, hash_with, numbers_hash};
 
+use std::alloc::AllocError;
 use std::hash::{Hash, Hasher};
 use std::marker::Model;
+use std::sync::ArcSlice;
 
 // An odd factor whose powers differ in many bits.
 const HASH_FACTOR: u64 = 0x9e37_79b9_7f4a_7c15;
 
-/// The numbers of a row. They are hashed once, where they are written.
+/// The numbers of a row. They are hashed once, where they are written, and copies of a row share them, since they are only read.
 #[derive(Drop)]
 pub(crate) struct RowNumbers {
-    numbers: Vec<i128>,
+    numbers: ArcSlice<i128>,
     hash: u64,
 }
 
 impl Model for RowNumbers {
     ghost use Rattle.std.specs.Prelude.{◌≡◌, List, ℤ};
+    ghost use Rattle.std.specs.Arc.{arc_slice_items};
     ghost use Rattle.rg_rows.specs.Hashing.{numbers_hash};
 
     ghost Value = { List ℤ };
 
-    ghost view = { λ r. r.numbers.items };
+    ghost view = { λ r. arc_slice_items r.numbers };
 
-    ghost invariant = { λ r. r.hash ≡ numbers_hash r.numbers.items };
+    ghost invariant = { λ r. r.hash ≡ numbers_hash (arc_slice_items r.numbers) };
 }
 
 impl RowNumbers {
     // The numbers with their hash.
-    pub(crate) fn new(numbers: Vec<i128>) -> RowNumbers
-        ensures { result ≡ numbers.items }
+    pub(crate) fn new(numbers: Vec<i128>) -> Result<RowNumbers, AllocError>
+        ensures { IfOk result (λ r. r ≡ numbers.items) }
     {
         let hash = numbers_hash(&numbers);
-        RowNumbers { numbers, hash }
+        let numbers = ArcSlice::from_vec(numbers)?;
+        Ok(RowNumbers { numbers, hash })
+    }
+
+    // The same numbers, in the same memory.
+    pub(crate) fn shared(&self) -> Result<RowNumbers, AllocError>
+        ensures { IfOk result (λ same. same ≡ self.now) }
+    {
+        let numbers = self.numbers.clone()?;
+        Ok(RowNumbers {
+            numbers,
+            hash: self.hash,
+        })
     }
 }
 
@@ -77,12 +92,18 @@ fn numbers_hash(numbers: &[i128]) -> u64
     hash
 }
 
-// The hash with a further number.
+// The hash with a further number: its low word, then its high one, so that multiples of 2^64 don't fall together.
 fn hash_with(hash: u64, number: i128) -> u64
     ensures { result ≡ hash_with hash number }
 {
-    hash.wrapping_mul(HASH_FACTOR)
-        .wrapping_add(low_word(number))
+    with_word(with_word(hash, low_word(number)), high_word(number))
+}
+
+// The hash with a further word.
+fn with_word(hash: u64, word: u64) -> u64
+    ensures { result ≡ with_word hash word }
+{
+    hash.wrapping_mul(HASH_FACTOR).wrapping_add(word)
 }
 
 // The lowest 64 bits of the number.
@@ -90,4 +111,11 @@ fn low_word(number: i128) -> u64
     ensures { result ≡ cast_unsigned w128 number % 2 ^ 64 }
 {
     (number.cast_unsigned() % (1 << 64)) as u64
+}
+
+// The highest 64 bits of the number.
+fn high_word(number: i128) -> u64
+    ensures { result ≡ cast_unsigned w128 number / 2 ^ 64 }
+{
+    (number.cast_unsigned() / (1 << 64)) as u64
 }

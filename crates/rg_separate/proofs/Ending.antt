@@ -26,12 +26,13 @@ use Rattle.rg_blocks.specs.Separating.{EachPlaceSeparates, ShowsSeparation, IsSe
 use Rattle.rg_blocks.specs.declared.separation.SeparationOutcome.TheVariants as ended
 use Rattle.rg_separate.specs.declared.problem.ProblemAnswer.TheVariants as problem_answer
 use Rattle.rg_separate.specs.declared.separation.Separation.TheVariants as separation
-use Rattle.rg_separate.specs.declared.setting.Setting.{Setting}
+use Rattle.rg_case_parts.specs.declared.setting.Setting.{Setting}
 use Rattle.rg_reasons.specs.declared.wide_at.WideAt.{WideAt}
 use Rattle.rg_separate.specs.Passing.{cycle_passed}
 use Rattle.rg_separate.specs.View.{shown_of}
 use Rattle.rg_separate.specs.Answer.{AreSeparating, IsSearched}
-use Rattle.rg_separate.specs.Keeping.{IsSetting, AreKept, shown_setting}
+use Rattle.rg_separate.specs.Keeping.{IsSetting, AreKept}
+use Rattle.rg_case_parts.specs.SettingViews.{shown_setting}
 use Rattle.rg_separate.specs.Deciding.{ProblemComesTo, EndsWith}
 use Rattle.rg_separate.proofs.Few.{few_places}
 use Rattle.rg_separate.proofs.Separating.{separating}

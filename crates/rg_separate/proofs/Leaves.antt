@@ -1,11 +1,11 @@
 -- The leaves of a case that is refuted, and what is shown where one passes.
-use Rattle.std.proofs.Common.{rules, ◌≡◌, ℕ, ◌+◌, ◌^◌, ◌<◌, ◌≤◌, if◌then◌else◌, List, [], ◌∷◌, map, length, get_or, All, Result, Ok, Err, refl, sym, ap, subst, ◌∙◌, arith}
+use Rattle.std.proofs.Common.{rules, ◌≡◌, ℕ, ◌+◌, ◌^◌, ◌<◌, List, [], ◌∷◌, map, length, get_or, All, Result, Ok, Err, refl, sym, ap, subst, ◌∙◌, arith}
 use Rattle.std.specs.Prelude.{ℤ, pos, negsuc, nat_abs, ◌≤ℤ◌, slice_index_or, FitsSigned}
 use Rattle.std.specs.Int.{w64}
 use Rattle.std.proofs.lemmas.Int.{ints}
 use Rattle.std.proofs.lemmas.List.{length-map, length-append, get_or-map, get_or_default}
 use Rattle.std.proofs.lemmas.List.Elements.{All-nil, All-cons, All-map, All-weaker}
-use Rattle.rg_theory.specs.System.{System, labels}
+use Rattle.rg_theory.specs.System.{System}
 use Rattle.rg_theory.specs.declared.Class.{Class}
 use Rattle.rg_theory.specs.declared.Problem.{Problem}
 use Rattle.rg_refuting.specs.Row.{RowStands, row_expression, Side}
@@ -35,8 +35,8 @@ use Rattle.rg_farkas.specs.Refuting.{SharesRefute}
 use Rattle.rg_farkas.specs.Leaves.{share_of, IsLeafWith, RefutesCase}
 use Rattle.rg_farkas.proofs.Multipliers.{node_names_stand, node_names_in_range, node_shares_refute}
 use Rattle.rg_reasons.specs.declared.wide_at.Stage.TheVariants.{Spread}
-use Rattle.rg_separate.specs.Keeping.{shown_setting, shown_case}
-use Rattle.rg_separate.specs.declared.setting.CaseSetting.{CaseSetting}
+use Rattle.rg_case_parts.specs.SettingViews.{shown_setting, shown_case}
+use Rattle.rg_case_parts.specs.declared.setting.CaseSetting.{CaseSetting}
 use Rattle.rg_separate.specs.Casing.{IsCase, IsNamedSystem, forms_in, AreRefuting, VisitStands, IsMadeOf, sides_among, SharesFold, LeafPasses}
 use Rattle.rg_separate.specs.Passing.{passed_at}
 use Rattle.rg_separate.proofs.Factors.{weights_are, weights_few}
@@ -112,7 +112,7 @@ pub leaf_asked : (c : CaseSetting) (named : NamedSystem) (sides : List SplitSide
     → VisitStands named.system (forms_in named) (record { above = sides; node = leaf_node weights })
     → above ≡ named_sides c.setting.lts.now c.setting.class c.problem sides → length shares ≡ length weights
     → SharesFold named sides weights (Ok (map share_of shares))
-    → RefutesCase c.setting.lts.now c.setting.tree.now c.setting.basis.now c.setting.class c.problem c.number shares above
+    → RefutesCase c shares above
 leaf_asked c named sides above weights shares is system stands by_name count fold = record {
   reachable = is.setting.reachable;
   tree = is.setting.tree;

@@ -18,8 +18,8 @@ use Rattle.rg_feasible.specs.declared.settled.PivotWide.{PivotWide}
 use Rattle.rg_feasible.specs.Settling.{wide_at}
 use Rattle.rg_rows.specs.declared.named_system.NamedSystem.{NamedSystem}
 use Rattle.rg_reasons.specs.declared.wide_at.Stage.TheVariants.{Row}
-use Rattle.rg_separate.specs.Keeping.{shown_case}
-use Rattle.rg_separate.specs.declared.setting.CaseSetting.{CaseSetting}
+use Rattle.rg_case_parts.specs.SettingViews.{shown_case}
+use Rattle.rg_case_parts.specs.declared.setting.CaseSetting.{CaseSetting}
 use Rattle.rg_separate.specs.Casing.{IsCase, IsNamedSystem, forms_in}
 use Rattle.rg_separate.specs.Passing.{passed_at, pivot_at, cycle_passed}
 

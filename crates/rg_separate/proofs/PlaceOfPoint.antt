@@ -33,8 +33,8 @@ use Rattle.rg_rows.specs.declared.named_system.NamedSystem.{NamedSystem}
 use Rattle.rg_places.specs.PointValues.{ratios_of, point_start, point_value, SolvesCase}
 use Rattle.rg_places.proofs.PointPlaces.{point_of}
 use Rattle.rg_reasons.specs.declared.wide_at.Stage.TheVariants.{Place as PlaceStage}
-use Rattle.rg_separate.specs.Keeping.{shown_setting, shown_case}
-use Rattle.rg_separate.specs.declared.setting.CaseSetting.{CaseSetting}
+use Rattle.rg_case_parts.specs.SettingViews.{shown_setting, shown_case}
+use Rattle.rg_case_parts.specs.declared.setting.CaseSetting.{CaseSetting}
 use Rattle.rg_separate.specs.Casing.{IsCase, IsNamedSystem, forms_in}
 use Rattle.rg_separate.specs.Passing.{passed_at}
 use Rattle.rg_separate.proofs.PointValues.{value_at}

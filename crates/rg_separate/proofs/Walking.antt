@@ -27,9 +27,9 @@ use Rattle.rg_branch.specs.Answer.{IsSplitTree}
 use Rattle.rg_outcome.specs.Casing.{spread_tree, CaseResult.passes, CaseComes, CaseComes.is_refuted, CaseComes.leaf_passes}
 use Rattle.rg_rows.specs.declared.named_system.NamedSystem.{NamedSystem}
 use Rattle.rg_rows.specs.Shown.{ShowsCase}
-use Rattle.rg_separate.specs.Keeping.{shown_case}
+use Rattle.rg_case_parts.specs.SettingViews.{shown_case}
 use Rattle.rg_separate.specs.declared.case.CaseAnswer.TheVariants as answer
-use Rattle.rg_separate.specs.declared.setting.CaseSetting.{CaseSetting}
+use Rattle.rg_case_parts.specs.declared.setting.CaseSetting.{CaseSetting}
 use Rattle.rg_reasons.specs.declared.wide_at.Stage.TheVariants.{Spread}
 use Rattle.rg_separate.specs.Casing.{IsNamedSystem, forms_in, Visit, next_sides, VisitStands, IsMadeOf, LeafPasses}
 use Rattle.rg_separate.specs.Passing.{passed_at}

@@ -9,7 +9,7 @@ use Rattle.rg_linear.specs.System.{LinearSystem, AreFarkasMultipliers}
 use Rattle.rg_splits.specs.Trees as splits
 use Rattle.rg_splits.specs.Trees.{low_side, TreeNode.leaf_node, TreeNode.split_node}
 use Rattle.rg_splits.specs.Turning.{turned}
-use Rattle.rg_linear.specs.Branching.{Form, form_at, SplitSide, Weight, SplitTree, weights_from, node_system}
+use Rattle.rg_linear.specs.Branching.{Form, form_at, SplitSide, Weight, weights_from, node_system}
 use Rattle.rg_order_of_work.specs.Fold.{each}
 use Rattle.rg_order_of_work.specs.Rewriting.{CaseSystem, split_forms, system_fold}
 use Rattle.rg_order_of_work.specs.Spreading.{Share, share_fold, spread_fold}
@@ -20,8 +20,9 @@ use Rattle.rg_rows.specs.Forms.{linear_form, split_of, AreFormsOf}
 use Rattle.rg_rows.specs.Shown.{ShowsCase}
 use Rattle.rg_rows.specs.declared.named_system.NamedSystem.{NamedSystem}
 use Rattle.rg_reasons.specs.Trees as reasons
-use Rattle.rg_separate.specs.declared.setting.CaseSetting.{CaseSetting}
-use Rattle.rg_separate.specs.Keeping.{IsSetting, shown_case}
+use Rattle.rg_case_parts.specs.declared.setting.CaseSetting.{CaseSetting}
+use Rattle.rg_separate.specs.Keeping.{IsSetting}
+use Rattle.rg_case_parts.specs.SettingViews.{shown_case}
 use Rattle.rg_refuting.specs.declared.Form.TheVariants as split_form
 
 -- the problem is of the system, its label has an arc, and the case is one of its cases

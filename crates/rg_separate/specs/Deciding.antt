@@ -17,14 +17,14 @@ use Rattle.rg_reasons.specs.declared.certificate.Case.{Case}
 use Rattle.rg_reasons.specs.declared.certificate.Reason.{Reason}
 use Rattle.rg_reasons.specs.Certificates.{case_tree, reason_of, IsWhole, IsTreeOf, IsCertificateOf}
 use Rattle.rg_places.specs.RegionPlaces.{IsRegionPlace, PlaceSeparates}
-use Rattle.rg_separate.specs.Keeping.{shown_setting, shown_case}
+use Rattle.rg_case_parts.specs.SettingViews.{shown_setting, shown_case}
 use Rattle.rg_separate.specs.declared.case.CaseAnswer.{CaseAnswer}
 use Rattle.rg_separate.specs.declared.case.CaseAnswer.TheVariants as answer
 use Rattle.rg_separate.specs.declared.problem.ProblemAnswer.{ProblemAnswer}
 use Rattle.rg_separate.specs.declared.problem.ProblemAnswer.TheVariants as problem_answer
 use Rattle.rg_separate.specs.declared.problem.Tried.{Tried}
-use Rattle.rg_separate.specs.declared.setting.CaseSetting.{CaseSetting}
-use Rattle.rg_separate.specs.declared.setting.Setting.{Setting}
+use Rattle.rg_case_parts.specs.declared.setting.CaseSetting.{CaseSetting}
+use Rattle.rg_case_parts.specs.declared.setting.Setting.{Setting}
 use Rattle.rg_separate.specs.View.{shown_of}
 
 -- the nodes are those of one whole tree, which refutes the case, and its numbers are in range

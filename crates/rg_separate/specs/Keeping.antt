@@ -10,24 +10,20 @@ use Rattle.rg_marks.specs.Tokens.{IsNarrow}
 use Rattle.rg_marks.specs.Separated.{SeparateSoMuch}
 use Rattle.rg_marks.specs.declared.separated.Separated.{Separated}
 use Rattle.rg_spanning.specs.Spanning.{IsTreeOf}
-use Rattle.rg_order_of_work.specs.Setting.{Setting as ShownSetting, CaseSetting as ShownCase, setting_at, case_at}
+use Rattle.rg_order_of_work.specs.Setting.{Setting as ShownSetting}
+use Rattle.rg_order_of_work.specs.Rewriting.{column_count}
 use Rattle.rg_order_of_work.specs.Chords.{IsBasis}
 use Rattle.rg_cycles.specs.View.{labels_of, cycle_of}
 use Rattle.rg_rows.specs.Sharing.{IsCommonOf}
 use Rattle.rg_marks.specs.declared.region_place.RegionPlace.{RegionPlace}
 use Rattle.rg_places.specs.RegionPlaces.{IsRegionPlace}
-use Rattle.rg_separate.specs.declared.setting.Setting.{Setting}
-use Rattle.rg_separate.specs.declared.setting.CaseSetting.{CaseSetting}
+use Rattle.rg_case_parts.specs.declared.setting.Setting.{Setting}
+use Rattle.rg_case_parts.specs.SettingViews.{shown_setting}
+use Rattle.rg_separate.specs.declared.workspace.Workspace.{Workspace}
+use Rattle.rg_separate.specs.declared.solving.Problems.{Problems}
 
--- a setting and a case of it, as the definitions have them
-abbrev pub shown_setting : Setting → ShownSetting
-shown_setting s = setting_at s.lts.now s.tree.now.arcs (cycle_of s.basis.now) s.class
-
-abbrev pub shown_case : CaseSetting → ShownCase
-shown_case c = case_at (shown_setting c.setting) c.problem c.number
-
--- the tree is that of the system, all of whose states are reachable, the basis is that of its chords, the class's bound
--- is in range, and the rows and forms are those that all problems share
+-- the tree is that of the system, all of whose states are reachable, the basis is that of its chords, and the class's numbers
+-- are in range
 pub record IsSetting (s : Setting) : Type 0 where
   pub in_range : IsInRange s.lts.now
   pub reachable : IsAllReachable s.lts.now
@@ -35,7 +31,22 @@ pub record IsSetting (s : Setting) : Type 0 where
   pub labels : labels_of s.basis.now ≡ labels s.lts.now
   pub basis : IsBasis s.lts.now s.tree.now.arcs (cycle_of s.basis.now)
   pub bound : HasNumbersInRange s.class
-  pub common : IsCommonOf (shown_setting s) s.common.now
+
+-- the rows and forms are those that all problems of the setting share, and the solver is for systems of so many columns
+pub record Serves (s : Setting) (w : Workspace) : Type 0 where
+  pub common : IsCommonOf (shown_setting s) w.common
+  pub columns : w.solver ≡ column_count s.lts.now (cycle_of s.basis.now) s.class
+
+-- the problems are of a setting, with the rows and forms that all of them share and the number of their columns
+pub record CanSolve (p : Problems) : Type 0 where
+  pub setting : IsSetting p.setting
+  pub common : IsCommonOf (shown_setting p.setting) p.common.now
+  pub columns : p.columns ≡ column_count p.setting.lts.now (cycle_of p.setting.basis.now) p.setting.class
+
+-- the rows and forms are shared wherever those of the problems are, and the solver is for systems of so many columns
+pub record Works (p : Problems) (w : Workspace) : Type 0 where
+  pub common : (s : ShownSetting) → IsCommonOf s p.common.now → IsCommonOf s w.common
+  pub columns : w.solver ≡ p.columns
 
 -- the place is a region, of some class, and its numbers fit
 abbrev pub MayKeep : System → RegionPlace → Type 0

@@ -8,7 +8,7 @@ use Rattle.rg_cycles.specs.declared.stop.CycleWide.{CycleWide}
 use Rattle.rg_outcome.specs.Casing.{step_at, term_at}
 use Rattle.rg_feasible.specs.Settling.{wide_at}
 use Rattle.rg_feasible.specs.declared.settled.PivotWide.{PivotWide}
-use Rattle.rg_separate.specs.declared.setting.CaseSetting.{CaseSetting}
+use Rattle.rg_case_parts.specs.declared.setting.CaseSetting.{CaseSetting}
 use Rattle.rg_reasons.specs.declared.wide_at.Stage.{Stage}
 use Rattle.rg_separate.specs.View.{stage_of}
 

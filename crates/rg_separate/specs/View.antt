@@ -1,5 +1,4 @@
 -- What a term out of range shows.
-use Rattle.std.specs.Prelude.{map}
 use Rattle.rg_order_of_work.specs.Shown as shown
 use Rattle.rg_order_of_work.specs.Shown.{Shown}
 use Rattle.rg_reasons.specs.declared.wide_at.Stage.{Stage}

@@ -5,15 +5,17 @@ ghost use Rattle.rg_branch.specs.View.{forms_of};
 ghost use Rattle.rg_branch.specs.Asked.{CanBranch, AreSidesOf};
 ghost use Rattle.rg_rows.specs.Forms.{linear_form, split_of, AreFormsOf};
 ghost use Rattle.rg_separate.specs.Casing.{IsCase, IsNamedSystem, forms_in, sides_among};
+ghost use Rattle.rg_separate.specs.Keeping.{Serves};
 ghost use Rattle.rg_separate.specs.Deciding.{CaseTells, CaseComesTo};
 ghost use Rattle.rg_separate.specs.View.{shown_of};
 ghost use Rattle.rg_separate.specs.Passing.{passed_at, pivot_at};
 
 use crate::placing::placed;
 use crate::refuting::refuted;
-use crate::setting::{CaseSetting, Setting};
 use crate::sides::named_sides;
-use rg_branch::{Bounded, BranchStop, Whole, solve_whole};
+use crate::workspace::Workspace;
+use rg_branch::{Bounded, BranchStop, Solver, Whole};
+use rg_case_parts::CaseSetting;
 use rg_feasible::PivotWide;
 use rg_fraction::FoldStop;
 use rg_integers::Wide;
@@ -32,20 +34,19 @@ pub(crate) enum CaseAnswer {
 }
 
 // A place that separates the problem in this case, what refutes the case, or the first term out of range.
-pub(crate) fn solve_case(alloc: Global, c: CaseSetting<'_>) -> Result<CaseAnswer, AllocError>
-    requires { IsCase c }
+pub(crate) fn solve_case(
+    alloc: Global,
+    workspace: &mut Workspace,
+    c: CaseSetting<'_>,
+) -> Result<CaseAnswer, AllocError>
+    requires case { IsCase c }
+    requires serves { Serves c.setting workspace.old }
     ensures tells { IfOk result (CaseTells c.entry.setting.lts.now c.entry.setting.class c.entry.problem c.entry.number) }
     ensures comes { IfOk result (CaseComesTo c.entry) }
+    ensures same { workspace.new ≡ workspace.old }
 {
-    let Setting {
-        lts,
-        tree,
-        basis,
-        class,
-        common,
-    } = c.setting;
-    match system_with(alloc, lts, tree, basis, common, class, c.problem, c.number) {
-        Ok(named) => branched(alloc, c, &named),
+    match system_with(alloc, &workspace.common, c) {
+        Ok(named) => branched(alloc, &mut workspace.solver, c, &named),
         Err(FoldStop::Wide(wide)) => {
             let above = Vec::new(alloc);
             Ok(CaseAnswer::Wide(passed(alloc, Stage::Row, c, above, wide)))
@@ -57,16 +58,19 @@ pub(crate) fn solve_case(alloc: Global, c: CaseSetting<'_>) -> Result<CaseAnswer
 // What the branching on the case's forms comes to.
 fn branched(
     alloc: Global,
+    solver: &mut Solver,
     c: CaseSetting<'_>,
     named: &NamedSystem,
 ) -> Result<CaseAnswer, AllocError>
     requires case { IsCase c }
     requires system { IsNamedSystem c named.now }
+    requires columns { solver.old ≡ named.now.system.columns }
     ensures tells { IfOk result (CaseTells c.entry.setting.lts.now c.entry.setting.class c.entry.problem c.entry.number) }
     ensures comes { IfOk result (CaseComesTo c.entry) }
+    ensures columns { solver.new ≡ solver.old }
 {
     let forms = bounded(alloc, named)?;
-    match solve_whole(alloc, &named.system, &forms) {
+    match solver.solve_whole(alloc, &named.system, &forms) {
         Ok(Whole::Point(point, above)) => placed(alloc, c, named, &point, &above),
         Ok(Whole::Tree(nodes)) => refuted(alloc, c, named, &nodes),
         Err(

@@ -8,9 +8,9 @@ mod placing;
 mod problem;
 mod refuting;
 mod separation;
-mod setting;
 mod shares;
 mod sides;
 mod solving;
+mod workspace;
 
 pub use separation::{Separation, separate};

@@ -5,8 +5,8 @@ ghost use Rattle.rg_separate.specs.Casing.{IsCase, IsNamedSystem, forms_in};
 ghost use Rattle.rg_separate.specs.Deciding.{CaseTells, CaseComesTo};
 
 use crate::case::{CaseAnswer, passed};
-use crate::setting::{CaseSetting, Setting};
 use crate::sides::named_sides;
+use rg_case_parts::CaseSetting;
 use rg_fraction::{FoldStop, Fraction};
 use rg_places::make_place;
 use rg_reasons::Stage;
@@ -29,14 +29,7 @@ pub(crate) fn placed(
     ensures tells { IfOk result (CaseTells c.entry.setting.lts.now c.entry.setting.class c.entry.problem c.entry.number) }
     ensures comes { IfOk result (CaseComesTo c.entry) }
 {
-    let Setting {
-        lts,
-        tree,
-        basis,
-        class,
-        ..
-    } = c.setting;
-    match make_place(alloc, lts, tree, basis, class, c.problem, point) {
+    match make_place(alloc, c.setting, c.problem, point) {
         Ok(region) => Ok(CaseAnswer::Place(region)),
         Err(FoldStop::Wide(wide)) => {
             let above = named_sides(alloc, &named.forms, above)?;

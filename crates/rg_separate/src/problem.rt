@@ -8,12 +8,13 @@ ghost use Rattle.rg_theory.specs.ClassWords.{HasNumbersInRange};
 ghost use Rattle.rg_theory.specs.System.{IsAllReachable};
 ghost use Rattle.rg_theory.specs.Problem.{IsProblem};
 ghost use Rattle.rg_order_of_work.specs.Shown.{IsLive};
-ghost use Rattle.rg_separate.specs.Keeping.{IsSetting};
+ghost use Rattle.rg_separate.specs.Keeping.{IsSetting, Serves};
 ghost use Rattle.rg_separate.specs.Deciding.{RefutesCase, AreTried, CasesCameTo, IsGoodReason, ProblemTells, ProblemComesTo};
 
 use crate::case::{CaseAnswer, solve_case};
 use crate::dead::{blocked, is_dead};
-use crate::setting::{CaseSetting, Setting};
+use crate::workspace::Workspace;
+use rg_case_parts::{CaseSetting, Setting};
 use rg_lts::Lts;
 use rg_marks::RegionPlace;
 use rg_reasons::{Case, Reason, WideAt};
@@ -40,19 +41,22 @@ struct Tried {
 // its cases do.
 pub(crate) fn solve_problem(
     alloc: Global,
+    workspace: &mut Workspace,
     setting: Setting<'_>,
     problem: Problem,
 ) -> Result<ProblemAnswer, AllocError>
     requires setting { IsSetting setting }
+    requires serves { Serves setting workspace.old }
     requires has { IsProblem setting.lts.now problem }
     ensures tells { IfOk result (ProblemTells setting.entry.lts.now setting.entry.class problem) }
     ensures comes { IfOk result (ProblemComesTo setting.entry problem) }
+    ensures same { workspace.new ≡ workspace.old }
 {
     match problem {
         Problem::Event(_, t) if is_dead(setting.lts, t) => {
             Ok(ProblemAnswer::Place(blocked(alloc, setting.lts, t)?))
         }
-        _ => solve_live(alloc, setting, problem),
+        _ => solve_live(alloc, workspace, setting, problem),
     }
 }
 
@@ -60,14 +64,17 @@ pub(crate) fn solve_problem(
 // term that passes.
 fn solve_live(
     alloc: Global,
+    workspace: &mut Workspace,
     setting: Setting<'_>,
     problem: Problem,
 ) -> Result<ProblemAnswer, AllocError>
     requires setting { IsSetting setting }
+    requires serves { Serves setting workspace.old }
     requires has { IsProblem setting.lts.now problem }
     requires live { IsLive setting.lts.now problem }
     ensures tells { IfOk result (ProblemTells setting.entry.lts.now setting.entry.class problem) }
     ensures comes { IfOk result (ProblemComesTo setting.entry problem) }
+    ensures same { workspace.new ≡ workspace.old }
 {
     let mut tried = Tried {
         refuted: Vec::new(alloc),
@@ -79,7 +86,7 @@ fn solve_live(
             problem,
             number: case,
         };
-        match solve_case(alloc, c)? {
+        match solve_case(alloc, workspace, c)? {
             CaseAnswer::Place(region) => return Ok(ProblemAnswer::Place(region)),
             CaseAnswer::Refuted(case) => tried.refuted.push(case)?,
             CaseAnswer::Wide(at) => tried.note(at),

@@ -11,10 +11,10 @@ ghost use Rattle.rg_separate.specs.Casing.{IsCase, IsNamedSystem, forms_in, Visi
 ghost use Rattle.rg_separate.specs.Deciding.{CaseTells, CaseComesTo};
 
 use crate::case::{CaseAnswer, passed};
-use crate::setting::{CaseSetting, Setting};
 use crate::shares::shares;
 use crate::sides::named_sides;
 use rg_branch::RawNode;
+use rg_case_parts::CaseSetting;
 use rg_farkas::spread;
 use rg_fraction::FoldStop;
 use rg_reasons::{Case, Node, Stage};
@@ -102,16 +102,7 @@ fn leaf(
     ensures in_range { IfOk result (λ made. IsNodeOf c.entry.setting.lts.now (made_node_of made)) }
     ensures wide { (w : Wide) → IsErrOf result (stop.Wide w) → LeafPasses c.entry named.now above.now (leaf_node (map weight_of weights.now)) w }
 {
-    let Setting {
-        lts,
-        tree,
-        basis,
-        class,
-        ..
-    } = c.setting;
     let shares = shares(alloc, named, above, weights)?;
     let above = named_sides(alloc, &named.forms, above)?;
-    spread(
-        alloc, lts, tree, basis, class, c.problem, c.number, &shares, &above,
-    )
+    spread(alloc, c, &shares, &above)
 }

@@ -6,16 +6,17 @@ ghost use Rattle.rg_net.specs.Shown.{shown_place};
 ghost use Rattle.rg_order_of_work.specs.Shown.{ShownWide};
 ghost use Rattle.rg_separate.specs.View.{shown_of};
 ghost use Rattle.rg_separate.specs.Passing.{cycle_passed};
-ghost use Rattle.rg_separate.specs.Keeping.{IsSetting};
+ghost use Rattle.rg_separate.specs.Keeping.{IsSetting, CanSolve};
+ghost use Rattle.rg_rows.specs.Sharing.{IsCommonOf};
+ghost use Rattle.rg_case_parts.specs.SettingViews.{shown_setting};
 ghost use Rattle.rg_separate.specs.Deciding.{EndsWith, ProvesRefuted};
 ghost use Rattle.rg_separate.specs.Answer.{AreSeparating, IsGoodCertificate, IfPlaces, IfUnsolvable, IfTooWide, SeparationTells, IsSearched};
 
 use crate::kept::Kept;
 use crate::problem::{ProblemAnswer, solve_problem};
-use crate::setting::Setting;
 use crate::solving::Problems;
-use rg_blocks::{SeparationOutcome, separate_all};
-use rg_case_parts::chord_vectors;
+use rg_blocks::{SeparationOutcome, Solving, separate_all};
+use rg_case_parts::{Setting, chord_vectors};
 use rg_cycles::{CycleWide, Stop, reduce};
 use rg_lts::Lts;
 use rg_marks::Separated;
@@ -77,15 +78,14 @@ pub fn separate<R: Threads + Sync, G: Gate + Sync>(
     let vectors = chord_vectors(alloc, lts, &tree)?;
     match reduce(alloc, lts.labels(), &vectors) {
         Ok(basis) => {
-            let common = Common::new(alloc, lts, &tree, &basis, class)?;
             let setting = Setting {
                 lts,
                 tree: &tree,
                 basis: &basis,
                 class,
-                common: &common,
             };
-            separated(rt, alloc, setting, jobs, gate)
+            let common = Common::new(alloc, setting)?;
+            separated(rt, alloc, setting, &common, jobs, gate)
         }
         Err(Stop::Wide(wide)) => Ok(Separation::TooWide(stopped(alloc, wide))),
         Err(Stop::NoMemory) => Err(NoMemory),
@@ -97,17 +97,25 @@ fn separated<R: Threads + Sync, G: Gate + Sync>(
     rt: &R,
     alloc: Global,
     setting: Setting<'_>,
+    common: &Common,
     jobs: u8,
     gate: &G,
 ) -> Result<Separation, NoMemory>
     requires setting { IsSetting setting }
+    requires common { IsCommonOf (shown_setting setting) common.now }
     requires some { 1 ≤ jobs }
     ensures tells { IfOk result (SeparationTells setting.entry.lts.now setting.entry.class) }
     ensures searched { IfOk result (IsSearched setting.entry.lts.now setting.entry.class) }
 {
     let lts = setting.lts;
     lts.is_well_formed();
-    let problems = Problems { alloc, setting };
+    let columns = common.column_count(setting.basis);
+    let problems = Problems {
+        alloc,
+        setting,
+        common,
+        columns,
+    };
     let mut kept = Kept {
         alloc,
         places: Vec::new(alloc),
@@ -116,45 +124,45 @@ fn separated<R: Threads + Sync, G: Gate + Sync>(
     let mut proof = None;
     match separate_all(rt, alloc, lts, &mut kept, &problems, jobs, gate, &mut proof)? {
         SeparationOutcome::Separated => Ok(Separation::Places(kept.places)),
-        SeparationOutcome::Unsolvable(refuted) => certified(alloc, setting, refuted, proof),
-        SeparationOutcome::TooWide(left) => shown(alloc, setting, left),
+        SeparationOutcome::Unsolvable(refuted) => certified(problems, refuted, proof),
+        SeparationOutcome::TooWide(left) => shown(problems, left),
     }
 }
 
 // The certificate of a refuted problem: with the reason that was kept, where it is that of the problem.
 fn certified(
-    alloc: Global,
-    setting: Setting<'_>,
+    problems: Problems<'_>,
     problem: Problem,
     proof: Option<(Problem, Reason)>,
 ) -> Result<Separation, NoMemory>
-    requires setting { IsSetting setting }
-    requires shows { EndsWith setting problem }
-    requires proves { IfSome proof (λ p. ProvesRefuted setting p.0 p.1) }
-    ensures tells { IfOk result (SeparationTells setting.entry.lts.now setting.entry.class) }
-    ensures searched { IfOk result (IsSearched setting.entry.lts.now setting.entry.class) }
+    requires can { CanSolve problems }
+    requires shows { EndsWith problems.setting problem }
+    requires proves { IfSome proof (λ p. ProvesRefuted problems.setting p.0 p.1) }
+    ensures tells { IfOk result (SeparationTells problems.entry.setting.lts.now problems.entry.setting.class) }
+    ensures searched { IfOk result (IsSearched problems.entry.setting.lts.now problems.entry.setting.class) }
 {
     if let Some((proved, reason)) = proof {
         if proved == problem {
             return Ok(Separation::Unsolvable(Certificate {
-                class: setting.class,
+                class: problems.setting.class,
                 reason,
             }));
         }
     }
-    shown(alloc, setting, problem)
+    shown(problems, problem)
 }
 
 // The certificate of a refuted problem, or the term that a problem shows: it is solved once more, and comes to the same.
-fn shown(alloc: Global, setting: Setting<'_>, problem: Problem) -> Result<Separation, NoMemory>
-    requires setting { IsSetting setting }
-    requires shows { EndsWith setting problem }
-    ensures tells { IfOk result (SeparationTells setting.entry.lts.now setting.entry.class) }
-    ensures searched { IfOk result (IsSearched setting.entry.lts.now setting.entry.class) }
+fn shown(problems: Problems<'_>, problem: Problem) -> Result<Separation, NoMemory>
+    requires can { CanSolve problems }
+    requires shows { EndsWith problems.setting problem }
+    ensures tells { IfOk result (SeparationTells problems.entry.setting.lts.now problems.entry.setting.class) }
+    ensures searched { IfOk result (IsSearched problems.entry.setting.lts.now problems.entry.setting.class) }
 {
-    match solve_problem(alloc, setting, problem)? {
+    let mut workspace = problems.workspace()?;
+    match solve_problem(problems.alloc, &mut workspace, problems.setting, problem)? {
         ProblemAnswer::Refuted(reason) => Ok(Separation::Unsolvable(Certificate {
-            class: setting.class,
+            class: problems.setting.class,
             reason,
         })),
         ProblemAnswer::Wide(at) => Ok(Separation::TooWide(at)),

@@ -7,8 +7,7 @@ ghost use Rattle.rg_cycles.specs.View.{labels_of, cycle_of};
 
 use crate::asked::{PLAIN_ONE_MARKING, PLAIN_TWO_MARKING, PURE_PLAIN, is_asked};
 use crate::bases::basis;
-use rg_case_parts::{Columns, has_start, used_labels};
-use rg_cycles::Basis;
+use rg_case_parts::{Columns, Setting, has_start, used_labels};
 use rg_fraction::{FoldStop, Fraction};
 use rg_integers::Wide;
 use rg_lts::Lts;
@@ -34,37 +33,29 @@ const TWO_A_OR_ONE_B: &str =
     ".type LTS .states s0[initial] s1 s2 .labels a b .arcs s0 a s1 s1 a s2 s0 b s2";
 
 // Whether the point has one number for each column.
-fn is_point(
-    alloc: Global,
-    lts: &Lts,
-    basis: &Basis,
-    class: Class,
-    point: &[Fraction],
-) -> Result<bool, AllocError>
-    requires { labels_of basis.now ≡ labels lts.now }
-    ensures { IfOk result (λ b. IsTrue b → length point.now ≡ column_count lts.now (cycle_of basis.now) class) }
+fn is_point(alloc: Global, setting: Setting<'_>, point: &[Fraction]) -> Result<bool, AllocError>
+    requires { labels_of setting.basis.now ≡ labels setting.lts.now }
+    ensures { let s = setting.entry in
+        IfOk result (λ b. IsTrue b → length point.now ≡ column_count s.lts.now (cycle_of s.basis.now) s.class) }
 {
-    let columns = Columns::new(alloc, lts, class)?;
-    Ok(columns.count(basis) as usize == point.len())
+    let columns = Columns::new(alloc, setting.lts, setting.class)?;
+    Ok(columns.count(setting.basis) as usize == point.len())
 }
 
-// The place of a point that has one number for each column, over a basis.
+// The place of a point that has one number for each column.
 fn place_over(
     alloc: Global,
-    lts: &Lts,
-    tree: &Tree,
-    basis: &Basis,
-    class: Class,
+    setting: Setting<'_>,
     problem: Problem,
     point: &[Fraction],
 ) -> Option<Result<RegionPlace, FoldStop>>
-    requires tree { IsTreeOf lts.now tree.now }
-    requires labels { labels_of basis.now ≡ labels lts.now }
+    requires tree { IsTreeOf setting.lts.now setting.tree.now }
+    requires labels { labels_of setting.basis.now ≡ labels setting.lts.now }
 {
-    if !is_asked(lts, problem) || !is_point(alloc, lts, basis, class, point).ok()? {
+    if !is_asked(setting.lts, problem) || !is_point(alloc, setting, point).ok()? {
         return None;
     }
-    Some(make_place(alloc, lts, tree, basis, class, problem, point))
+    Some(make_place(alloc, setting, problem, point))
 }
 
 // The place of a point of the system that a text spells.
@@ -83,7 +74,13 @@ fn placed(
     let Ok(basis) = basis(alloc, &lts, &tree) else {
         return None;
     };
-    place_over(alloc, &lts, &tree, &basis, class, problem, &point)
+    let setting = Setting {
+        lts: &lts,
+        tree: &tree,
+        basis: &basis,
+        class,
+    };
+    place_over(alloc, setting, problem, &point)
 }
 
 // Fractions of numbers in range.

@@ -4,17 +4,16 @@ ghost use Rattle.rg_theory.specs.System.{labels};
 ghost use Rattle.rg_spanning.specs.Spanning.{IsTreeOf};
 ghost use Rattle.rg_cycles.specs.View.{labels_of};
 ghost use Rattle.rg_rows.specs.Sharing.{IsCommonOf};
-ghost use Rattle.rg_case_parts.specs.SettingViews.{setting_of};
+ghost use Rattle.rg_case_parts.specs.SettingViews.{shown_setting};
 
 use crate::asked::{
     PLAIN_NONBRANCHING, PLAIN_TWO_MARKING, PURE_NONBRANCHING, PURE_PLAIN, PURE_PLAIN_SAFE,
     TWO_BOUNDED_TWO_MARKING, is_asked,
 };
 use crate::bases::basis;
-use rg_cycles::Basis;
+use rg_case_parts::{CaseSetting, Setting};
 use rg_fraction::Fraction;
 use rg_linear::Row;
-use rg_lts::Lts;
 use rg_refuting::RowName;
 use rg_rows::{Common, NamedForm, NamedSystem, cases, system_with};
 use rg_samples::{
@@ -46,50 +45,44 @@ fn told(alloc: Global, text: &str, class: Class, problem: Problem, number: u32) 
     let Ok(basis) = basis(alloc, &lts, &tree) else {
         return None;
     };
-    case_text(alloc, &lts, &tree, &basis, class, problem, number)
+    let setting = Setting {
+        lts: &lts,
+        tree: &tree,
+        basis: &basis,
+        class,
+    };
+    let case = CaseSetting {
+        setting,
+        problem,
+        number,
+    };
+    case_text(alloc, case)
 }
 
-// The system of a case over a basis, as a text.
-fn case_text(
-    alloc: Global,
-    lts: &Lts,
-    tree: &Tree,
-    basis: &Basis,
-    class: Class,
-    problem: Problem,
-    number: u32,
-) -> Option<String>
-    requires tree { IsTreeOf lts.now tree.now }
-    requires labels { labels_of basis.now ≡ labels lts.now }
+// The system of a case, as a text.
+fn case_text(alloc: Global, c: CaseSetting<'_>) -> Option<String>
+    requires tree { IsTreeOf c.setting.lts.now c.setting.tree.now }
+    requires labels { labels_of c.setting.basis.now ≡ labels c.setting.lts.now }
 {
-    let count = cases(lts, class, problem);
-    if number >= count || !is_asked(lts, problem) {
+    let count = cases(c.setting.lts, c.setting.class, c.problem);
+    if c.number >= count || !is_asked(c.setting.lts, c.problem) {
         return None;
     }
-    let named = rg_rows::system(alloc, lts, tree, basis, class, problem, number).ok()?;
+    let named = rg_rows::system(alloc, c).ok()?;
     text_of(alloc, count, &named).ok()
 }
 
 // The same over rows that are made already.
-fn shared_text(
-    alloc: Global,
-    lts: &Lts,
-    tree: &Tree,
-    basis: &Basis,
-    common: &Common,
-    class: Class,
-    problem: Problem,
-    number: u32,
-) -> Option<String>
-    requires tree { IsTreeOf lts.now tree.now }
-    requires labels { labels_of basis.now ≡ labels lts.now }
-    requires common { IsCommonOf (setting_of lts.now tree.now basis.now class) common.now }
+fn shared_text(alloc: Global, common: &Common, c: CaseSetting<'_>) -> Option<String>
+    requires tree { IsTreeOf c.setting.lts.now c.setting.tree.now }
+    requires labels { labels_of c.setting.basis.now ≡ labels c.setting.lts.now }
+    requires common { IsCommonOf (shown_setting c.setting) common.now }
 {
-    let count = cases(lts, class, problem);
-    if number >= count || !is_asked(lts, problem) {
+    let count = cases(c.setting.lts, c.setting.class, c.problem);
+    if c.number >= count || !is_asked(c.setting.lts, c.problem) {
         return None;
     }
-    let named = system_with(alloc, lts, tree, basis, common, class, problem, number).ok()?;
+    let named = system_with(alloc, common, c).ok()?;
     text_of(alloc, count, &named).ok()
 }
 
@@ -272,22 +265,45 @@ fn systems_of_cases(rt: HostRuntime) -> Result<(), Fail> {
 // What the systems of several problems say, each made with the same rows that they share.
 fn shared_texts(
     alloc: Global,
-    lts: &Lts,
-    tree: &Tree,
-    basis: &Basis,
-    class: Class,
+    common: &Common,
+    setting: Setting<'_>,
     problems: &[(Problem, u32)],
 ) -> Option<String>
-    requires tree { IsTreeOf lts.now tree.now }
-    requires labels { labels_of basis.now ≡ labels lts.now }
+    requires tree { IsTreeOf setting.lts.now setting.tree.now }
+    requires labels { labels_of setting.basis.now ≡ labels setting.lts.now }
+    requires common { IsCommonOf (shown_setting setting) common.now }
 {
-    let common = Common::new(alloc, lts, tree, basis, class).ok()?;
     let mut told = String::new(alloc);
     for &(problem, number) in problems {
-        let rows = shared_text(alloc, lts, tree, basis, &common, class, problem, number)?;
+        let case = CaseSetting {
+            setting,
+            problem,
+            number,
+        };
+        let rows = shared_text(alloc, common, case)?;
         writeln!(told, "{rows}").ok()?;
     }
     Some(told)
+}
+
+// The same over the rows as they are made, and over a copy of them.
+fn both_texts(
+    alloc: Global,
+    setting: Setting<'_>,
+    problems: &[(Problem, u32)],
+) -> Option<(String, String)>
+    requires tree { IsTreeOf setting.lts.now setting.tree.now }
+    requires labels { labels_of setting.basis.now ≡ labels setting.lts.now }
+{
+    let Ok(common) = Common::new(alloc, setting) else {
+        return None;
+    };
+    let Ok(copy) = common.copied(alloc) else {
+        return None;
+    };
+    let made = shared_texts(alloc, &common, setting, problems)?;
+    let copied = shared_texts(alloc, &copy, setting, problems)?;
+    Some((made, copied))
 }
 
 // The same of the system that a text spells.
@@ -296,7 +312,7 @@ fn all_told(
     text: &str,
     class: Class,
     problems: &[(Problem, u32)],
-) -> Option<String> {
+) -> Option<(String, String)> {
     let lts = system(alloc, text)?;
     let Ok(tree) = Tree::grow(alloc, &lts) else {
         return None;
@@ -304,11 +320,26 @@ fn all_told(
     let Ok(basis) = basis(alloc, &lts, &tree) else {
         return None;
     };
-    shared_texts(alloc, &lts, &tree, &basis, class, problems)
+    let setting = Setting {
+        lts: &lts,
+        tree: &tree,
+        basis: &basis,
+        class,
+    };
+    both_texts(alloc, setting, problems)
 }
 
 // Texts, classes, problems, and what their systems say.
-const SHARED: [(&str, Class, [(Problem, u32); 3], &str); 5] = [
+const SHARED: [(&str, Class, [(Problem, u32); 3], &str); 6] = [
+    (
+        LOOP_AND_STEP,
+        PURE,
+        [(Event(1, 0), 0), (Event(1, 1), 0), (States(0, 1), 1)],
+        "1 2; Block [-1, -1] -1 1/1; Tokens(0) [1, 0] 0 1/1; Tokens(1) [1, 1] 0 1/1
+1 2; Block [-1, -2] -1 1/1; Tokens(0) [1, 0] 0 1/1; Tokens(1) [1, 1] 0 1/1
+2 2; Apart [0, -1] -1 1/1; Tokens(0) [1, 0] 0 1/1; Tokens(1) [1, 1] 0 1/1
+",
+    ),
     (
         CYCLE,
         PLAIN,
@@ -362,8 +393,9 @@ const SHARED: [(&str, Class, [(Problem, u32); 3], &str); 5] = [
 #[test]
 fn problems_share_their_rows(rt: HostRuntime) -> Result<(), Fail> {
     for (text, class, problems, rows) in SHARED {
-        let told = all_told(rt.alloc(), text, class, &problems).ok_or("rows")?;
-        assert!(rt; told.as_str() == rows, "{class:?} {text}");
+        let (made, copied) = all_told(rt.alloc(), text, class, &problems).ok_or("rows")?;
+        assert!(rt; made.as_str() == rows, "{class:?} {text}");
+        assert!(rt; copied.as_str() == rows, "copied: {class:?} {text}");
     }
     Ok(())
 }

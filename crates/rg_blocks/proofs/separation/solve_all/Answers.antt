@@ -49,5 +49,8 @@ loop-block-preserved g c =
       end.1,
       block_sound lts comes now after c.loop-block.last _ c.in_ok-block.block.items c.requires.reachable c.requires.separating c.loop-block.invariant.2 c.in_ok-block.ensures.block end.0 taken_all,
       c.in_ok-refuted.ensures.kept,
+      c.in_ok-refuted.ensures.serves,
+      c.most_behind-most.ensures.some,
+      c.most_behind-most.ensures.few,
       c.in_ok-refuted.ensures.proves,
     )

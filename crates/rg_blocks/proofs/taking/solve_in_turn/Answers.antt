@@ -10,6 +10,7 @@ loop-i-preserved-in_default g c =
     let now = g.K.Keeping.places c.loop-i.kept in (
       c.loop-i.invariant.0,
       turn_more lts comes before now now _ c.args.problems.now c.loop-i.i _ _ c.loop-i-test.true refl refl c.loop-i.invariant.1 (one_dropped lts comes now _ (none_is c.in_ok-outcome.field-0 _ c.in_default.is c.in_ok-outcome.ensures.separated)),
+      c.in_ok-outcome.ensures.serves,
       c.in_ok-outcome.ensures.proves,
     )
 
@@ -31,5 +32,6 @@ loop-i-preserved g c =
     let after = g.K.Keeping.places c.take.new.kept in (
       c.in_ok-refuted.ensures.kept,
       turn_more lts comes before now after c.in_ok-refuted.field-0 c.args.problems.now c.loop-i.i _ _ c.loop-i-test.true refl c.in_default-2.is c.loop-i.invariant.1 c.in_ok-refuted.ensures.taken,
+      c.in_ok-outcome.ensures.serves,
       c.in_ok-outcome.ensures.proves,
     )

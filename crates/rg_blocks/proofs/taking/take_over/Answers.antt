@@ -12,6 +12,7 @@ loop-s-preserved-then-separates g c =
       solved_more lts comes before now now _ c.loop-s.yielded c.in-Some.s refl c.loop-s.invariant.1 (one_dropped lts comes now c.in-Some.s.problem (c.separates.ensures.0 c.if-separates.true)),
       left_over _ c.loop-s.yielded _ _ c.in-Some.s c.loop-s.invariant.2 c.in-Some.ensures.steps.0,
       c.loop-s.invariant.3,
+      c.loop-s.invariant.4,
     )
 
 pub returns-in-Some-2-clause-taken : goal.returns-in-Some-2-clause-taken
@@ -33,6 +34,7 @@ loop-s-preserved g c =
       c.in_ok-refuted.ensures.kept,
       solved_more lts comes before now after c.in_ok-refuted.field-0 c.loop-s.yielded c.in-Some.s c.in_default.is c.loop-s.invariant.1 c.in_ok-refuted.ensures.taken,
       left_over _ c.loop-s.yielded _ _ c.in-Some.s c.loop-s.invariant.2 c.in-Some.ensures.steps.0,
+      c.in_ok-outcome.ensures.serves,
       c.in_ok-outcome.ensures.proves,
     )
 

@@ -9,4 +9,5 @@ invariant-loop-s g l =
     g.K.Keeping.keeps_for l.kept l.lts
     × TakenOver l.lts (g.S.Solving.comes l.solving) (g.K.Keeping.places l.initial.kept) (problems_of l.yielded) (kept_places (g.K.Keeping.places l.kept))
     × (l.fn.solved.items ≡ l.yielded ++ l.s-iterator.rest.items)
+    × g.S.Solving.serves l.solving l.workspace
     × IfSome l.proof (λ p. g.S.Solving.proves l.solving p.0 p.1)

@@ -1,5 +1,5 @@
 use Rattle.std.specs.List.{AllWithin}
-use Rattle.rg_blocks_tests.specs.Single.{RegionStops}
+use Rattle.rg_blocks_tests.specs.Constant.{RegionStops}
 use Rattle.rg_blocks_tests.proofs.places.is_stopped.Given as goal
 
 abbrev pub invariant-loop-place : goal.invariant-loop-place

@@ -1,6 +1,6 @@
 use Rattle.std.proofs.Common.{◌+◌, ◌<◌, length, ap, ap₂, subst, sym, ◌∙◌}
 use Rattle.rg_theory.specs.System.{labels}
-use Rattle.rg_cycles.specs.View.{cycle_of}
+use Rattle.rg_case_parts.specs.SettingViews.{shown_setting}
 use Rattle.rg_order_of_work.specs.Rewriting.{is_in}
 use Rattle.rg_order_of_work.specs.Spreading.{used_chords}
 use Rattle.rg_order_of_work.proofs.Folding.{number_taken, number_left}
@@ -9,15 +9,15 @@ use Rattle.rg_farkas.proofs.chords.used_chords.Goals.{then-is_member+in_ok-push,
 
 pub loop-chord-preserved : goal.loop-chord-preserved
 loop-chord-preserved c =
-    let cycle = cycle_of c.args.basis.now in
+    let s = shown_setting c.args.setting in
     let lt = subst (λ l. c.loop-chord.chord < length l) c.kept.ensures c.loop-chord-test.true in
     let e = sym (c.is_member.ensures ∙ ap₂ is_in c.members.ensures (ap (λ n. n + c.loop-chord.chord) c.labels-labels.ensures.value)) in
     elim c.if-is_member.branch [
       | then-is_member+in_ok-push w ↦ rw (w.used-is, w.in_ok-push.ensures.items)
-          (number_taken (λ u. is_in (cycle_of c.args.basis.now).members (labels c.args.lts.now + u))
-          (length (cycle_of c.args.basis.now).kept) c.loop-chord.chord c.loop-chord.used.items
-          (used_chords c.args.lts.now (cycle_of c.args.basis.now)) c.loop-chord.invariant lt (e ∙ w.if-is_member.true))
-      | else-is_member w ↦ rw w.used-is (number_left (λ u. is_in (cycle_of c.args.basis.now).members (labels c.args.lts.now + u))
-          (length (cycle_of c.args.basis.now).kept) c.loop-chord.chord c.loop-chord.used.items
-          (used_chords c.args.lts.now (cycle_of c.args.basis.now)) c.loop-chord.invariant lt (e ∙ w.if-is_member.false))
+          (number_taken (λ u. is_in s.basis.members (labels s.lts + u))
+          (length s.basis.kept) c.loop-chord.chord c.loop-chord.used.items
+          (used_chords s.lts s.basis) c.loop-chord.invariant lt (e ∙ w.if-is_member.true))
+      | else-is_member w ↦ rw w.used-is (number_left (λ u. is_in s.basis.members (labels s.lts + u))
+          (length s.basis.kept) c.loop-chord.chord c.loop-chord.used.items
+          (used_chords s.lts s.basis) c.loop-chord.invariant lt (e ∙ w.if-is_member.false))
     ]

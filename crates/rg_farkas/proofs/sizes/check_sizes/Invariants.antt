@@ -1,4 +1,4 @@
-use Rattle.std.proofs.Common.{map, drop, List, Result}
+use Rattle.std.proofs.Common.{drop, List, Result}
 use Rattle.std.specs.Prelude.{ℤ, pos}
 use Rattle.rg_integers.specs.declared.term.Wide.{Wide}
 use Rattle.rg_order_of_work.specs.Fold.{each, further, whole_sum}

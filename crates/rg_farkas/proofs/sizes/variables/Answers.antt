@@ -1,5 +1,4 @@
-use Rattle.std.proofs.Common.{◌<◌, ◌++◌, ◌∷◌, [], map, ap, subst, ◌∙◌}
-use Rattle.std.proofs.lemmas.List.{map-append}
+use Rattle.std.proofs.Common.{◌<◌, ◌++◌, map, subst}
 use Rattle.rg_theory.specs.System.{states, labels}
 use Rattle.rg_order_of_work.specs.Rewriting.{all_numbers}
 use Rattle.rg_farkas.proofs.Steps.{all_next}

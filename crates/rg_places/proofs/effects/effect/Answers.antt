@@ -2,14 +2,14 @@ use Rattle.std.proofs.Common.{subst, sym}
 use Rattle.rg_order_of_work.specs.Fold.{ratio_of, shown_result}
 use Rattle.rg_cycles.specs.View.{cycle_of}
 use Rattle.rg_cycles.specs.Basis.{ShowsRelation}
-use Rattle.rg_places.proofs.ShareSteps.{dependent_made, places_within, free_made}
+use Rattle.rg_places.proofs.ShareSteps.{dependent_made, indices_within, free_made}
 use Rattle.rg_places.specs.Steps.{value_by}
 use Rattle.rg_places.proofs.effects.effect.Goals as goal
 
-pub sum_of_shares-requires-clause-places : goal.sum_of_shares-requires-clause-places
-sum_of_shares-requires-clause-places c =
+pub sum_of_shares-requires-clause-indices : goal.sum_of_shares-requires-clause-indices
+sum_of_shares-requires-clause-indices c =
     let (lts, same, are) = c.requires.columns in
-    places_within lts (cycle_of c.args.basis.now) c.args.columns.now c.args.t c.in-Some.relation.now are (subst (λ n. ShowsRelation n (cycle_of c.args.basis.now) c.args.t c.in-Some.relation.now) (sym same) c.in-Some.ensures.exact.1)
+    indices_within lts (cycle_of c.args.basis.now) c.args.columns.now c.args.t c.in-Some.relation.now are (subst (λ n. ShowsRelation n (cycle_of c.args.basis.now) c.args.t c.in-Some.relation.now) (sym same) c.in-Some.ensures.exact.1)
 
 pub returns-in-Some : goal.returns-in-Some
 returns-in-Some c = λ lts same are. dependent_made lts (cycle_of c.args.basis.now) c.args.columns.now c.args.t c.in-Some.relation.now are

@@ -26,9 +26,9 @@ loop-column-init c = λ r h. subst (λ l. joined add (column_share c.args.relati
     (sum_leads add (column_share c.args.relation.now) (whole (pos 0)) c.in-Some.first.now c.in-Some.rest.now (ratio_of c.in_ok-sum.sum)
     (rw c.in_ok-sum.was at c.share_of.ensures) r h)
 
-pub share_of-requires-in-loop-column-clause-place : goal.share_of-requires-in-loop-column-clause-place
-share_of-requires-in-loop-column-clause-place c = rest_has (λ x. x.place < length c.args.relation.now.free.items) c.args.columns.now c.in-Some.first.now
-    c.in-Some.rest.now c.loop-column.column-index c.column-item.result c.in-Some.ensures.cases.0 c.requires.places c.loop-column-test.true c.column-item.is
+pub share_of-requires-in-loop-column-clause-index : goal.share_of-requires-in-loop-column-clause-index
+share_of-requires-in-loop-column-clause-index c = rest_has (λ x. x.index < length c.args.relation.now.free.items) c.args.columns.now c.in-Some.first.now
+    c.in-Some.rest.now c.loop-column.column-index c.column-item.result c.in-Some.ensures.cases.0 c.requires.indices c.loop-column-test.true c.column-item.is
 
 pub returns-in_err-share : goal.returns-in_err-share
 returns-in_err-share c =

@@ -4,16 +4,15 @@ use Rattle.std.proofs.lemmas.List.{length-append}
 use Rattle.rg_integers.specs.declared.term.Wide.{Wide}
 use Rattle.rg_refuting.specs.Row.{shared_expression}
 use Rattle.rg_reasons.specs.Sums.{expression_of}
-use Rattle.rg_cycles.specs.View.{labels_of}
 use Rattle.rg_rows.specs.declared.case_row.CaseRow.{CaseRow}
 use Rattle.rg_rows.specs.Sharing.{row_of_kind, IsSharedRow}
 use Rattle.rg_rows.proofs.Sharing.{row_shared, each_pushed}
 use Rattle.rg_rows.proofs.common.rows.Goals as goal
-use Rattle.rg_case_parts.specs.SettingViews.{setting_of}
+use Rattle.rg_case_parts.specs.SettingViews.{shown_setting}
 
 pub loop-number-preserved : goal.loop-number-preserved
 loop-number-preserved c =
-    let s = setting_of c.args.lts.now c.args.tree.now c.args.basis.now c.args.class in
+    let s = shown_setting c.args.setting in
     let kind = c.args.kind in
     let rows = c.loop-number.rows.items in
     let name = c.name-name.result in
@@ -21,8 +20,7 @@ loop-number-preserved c =
     let written = c.in_ok-written.field-0 in
     let pushed = c.in_ok-push.ensures.items in
     let shared = row_shared s name e (c.expression-expression.ensures ∙ ap (shared_expression s.lts s.class []) (sym c.name-name.ensures))
-    (labels_of c.args.basis.now) (sym c.requires.labels) c.args.columns.now c.requires.columns c.row.result written c.in_ok-written.ensures c.row.ensures.comes
-    c.row.ensures.one_each in
+    c.row.result written c.in_ok-written.ensures c.row.ensures.comes c.row.ensures.one_each in
     let here = subst (λ n. IsSharedRow s (row_of_kind kind n) written) (sym c.loop-number.invariant.many) (subst (λ n. IsSharedRow s n written) c.name-name.ensures shared) in
     record {
       many = ap length pushed ∙ length-append rows (written ∷ []) ∙ ap (λ n. n + 1) c.loop-number.invariant.many;

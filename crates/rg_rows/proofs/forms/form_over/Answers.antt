@@ -1,4 +1,4 @@
-use Rattle.std.proofs.Common.{◌≡◌, map, ap, sym, subst, ◌∙◌, of_z, to_z}
+use Rattle.std.proofs.Common.{map, ap, sym, subst, ◌∙◌, of_z, to_z}
 use Rattle.std.specs.Prelude.{pos, ◌*ℤ◌}
 use Rattle.std.specs.Int.{w128}
 use Rattle.std.specs.Arc.{arc_slice_items}
@@ -14,10 +14,9 @@ returns-clause-row c =
     let t = c.times-times.result in
     let same = back t c.times-times.ensures.in_range in
     let told = c.times-times.ensures.times d some (c.deref.ensures.value ∙ are ∙ ap (map (λ z. pos d *ℤ z)) (sym c.deref-2.ensures.value)) in
-    let items = arc_slice_items c.in_ok-coeffs.coeffs in
-    let own : items ≡ c.args.scaled.numbers.items = c.in_ok-coeffs.ensures in
-    let tells = subst (Tells t d) (c.deref.ensures.value ∙ sym own) told in
+    let items = arc_slice_items c.args.terms.coeffs in
+    let tells = subst (Tells t d) c.deref.ensures.value told in
     elim c.if-times-eq0.branch [
       | then-times-eq0 w ↦ part_of_none (to_z w128 (of_z w128 t)) t items (arc_slice_items c.args.row.now.coeffs) c.if-times-eq0.result c.args.index d some w.result-is same (equals_zero t c.times-times.ensures.in_range w.if-times-eq0.true) tells
-      | else-times-eq0 w ↦ part_of_some (to_z w128 (of_z w128 t)) t items (arc_slice_items c.args.row.now.coeffs) c.if-times-eq0.result c.args.index d some w.result-is same (λ e. w.if-times-eq0.false (ap (of_z w128) e)) (own ∙ are) tells
+      | else-times-eq0 w ↦ part_of_some (to_z w128 (of_z w128 t)) t items (arc_slice_items c.args.row.now.coeffs) c.if-times-eq0.result c.args.index d some w.result-is same (λ e. w.if-times-eq0.false (ap (of_z w128) e)) are tells
     ]

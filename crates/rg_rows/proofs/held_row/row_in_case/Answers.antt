@@ -8,25 +8,25 @@ use Rattle.rg_rows.specs.View.{kept_row, row_in, fold_of}
 use Rattle.rg_rows.specs.declared.held_row.HeldRow.{HeldRow}
 use Rattle.rg_order_of_work.proofs.Comes.{comes_unless}
 use Rattle.rg_rows.proofs.held_row.row_in_case.Goals as goal
-use Rattle.rg_case_parts.specs.SettingViews.{setting_of, case_of}
+use Rattle.rg_case_parts.specs.SettingViews.{shown_setting, shown_case}
 
 pub returns-in-Some-Ok-clause-comes : goal.returns-in-Some-Ok-clause-comes
 returns-in-Some-Ok-clause-comes c =
-    let s = case_of c.args.lts.now c.args.tree.now c.args.basis.now c.args.case.class c.args.case.problem c.args.case.number in
+    let s = shown_case c.args.c in
     let (told, one_each) = c.in-Some-Ok.ensures s c.requires.common in
     subst (λ (r : CaseRow). fold_of s c.args.name (Ok (kept_row r))) (sym c.in-Some-Ok.row-is)
     (subst (λ w. fold_of s c.args.name (shown_result kept_row w)) c.in-Some-Ok.field-0-is told)
 
 pub returns-in-Some-Ok-clause-one_each : goal.returns-in-Some-Ok-clause-one_each
 returns-in-Some-Ok-clause-one_each c =
-    let s = case_of c.args.lts.now c.args.tree.now c.args.basis.now c.args.case.class c.args.case.problem c.args.case.number in
+    let s = shown_case c.args.c in
     let (told, one_each) = c.in-Some-Ok.ensures s c.requires.common in
     subst (λ (r : CaseRow). length (arc_slice_items r.coeffs) ≡ column_count s.lts s.basis s.class) (sym c.in-Some-Ok.row-is)
     (subst (λ w. IfOk w (λ (r : CaseRow). length (arc_slice_items r.coeffs) ≡ column_count s.lts s.basis s.class)) c.in-Some-Ok.field-0-is one_each)
 
 pub returns-in-Some-Err-clause-comes : goal.returns-in-Some-Err-clause-comes
 returns-in-Some-Err-clause-comes c =
-    let s = case_of c.args.lts.now c.args.tree.now c.args.basis.now c.args.case.class c.args.case.problem c.args.case.number in
+    let s = shown_case c.args.c in
     let (told, one_each) = c.in-Some-Err.ensures s c.requires.common in
     subst (λ x. fold_of s c.args.name (Err x)) (sym c.in-Some-Err.wide-is)
     (subst (λ x. fold_of s c.args.name (shown_result kept_row x)) c.in-Some-Err.field-0-is told)
@@ -34,11 +34,11 @@ returns-in-Some-Err-clause-comes c =
 pub returns-in_err-own-in-None-clause-comes : goal.returns-in_err-own-in-None-clause-comes
 returns-in_err-own-in-None-clause-comes c =
     let result : c.from_residual.result ≡ Err c.in_err-own-in-None.field-0.0 = search rules in
-    rw result (comes_unless (fold_of (case_of c.args.lts.now c.args.tree.now c.args.basis.now c.args.case.class c.args.case.problem c.args.case.number) c.args.name) (λ (r : HeldRow). kept_row (row_in r)) c.in_err-own-in-None.field-0.0
-    (λ w is. subst (λ x. row_fold (setting_of c.args.lts.now c.args.tree.now c.args.basis.now c.args.case.class) c.args.name x (Err w)) c.expression-expression.ensures
-    (rw is at (c.in_err-own-in-None.ensures.comes c.args.lts.now c.args.case.class (sym c.requires.labels) c.requires.common.columns))))
+    rw result (comes_unless (fold_of (shown_case c.args.c) c.args.name) (λ (r : HeldRow). kept_row (row_in r)) c.in_err-own-in-None.field-0.0
+    (λ w is. subst (λ x. row_fold (shown_setting c.args.c.setting) c.args.name x (Err w)) c.said-said.ensures
+    (rw is at c.in_err-own-in-None.ensures.comes)))
 
 pub returns-in_ok-own-in-None-clause-comes : goal.returns-in_ok-own-in-None-clause-comes
 returns-in_ok-own-in-None-clause-comes c =
-    subst (λ x. row_fold (setting_of c.args.lts.now c.args.tree.now c.args.basis.now c.args.case.class) c.args.name x (Ok (kept_row c.in_ok-own-in-None.own))) c.expression-expression.ensures
-    (c.in_ok-own-in-None.ensures.comes c.args.lts.now c.args.case.class (sym c.requires.labels) c.requires.common.columns)
+    subst (λ x. row_fold (shown_setting c.args.c.setting) c.args.name x (Ok (kept_row c.in_ok-own-in-None.own))) c.said-said.ensures
+    c.in_ok-own-in-None.ensures.comes

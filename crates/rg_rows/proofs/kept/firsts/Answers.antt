@@ -14,9 +14,9 @@ use Rattle.rg_rows.proofs.kept.firsts.Goals.{then-is_new+in_ok-push-2, else-is_n
 pub loop-held-init : goal.loop-held-init
 loop-held-init c = (
   [],
-  record { rows = ap (map linear_row) c.new.ensures.items; names = c.new-2.ensures.items; factors = ap (map ratio_of) c.new-3.ensures.items },
-  kept-start (map kept_row (map row_in c.args.all.now)) _ (λ q. ap (λ k. has_numbers k q) c.new-seen.ensures.empty),
-  indices-start (map kept_row (map row_in c.args.all.now)) c.new-seen.result.keys c.new-indices.result.items c.new-seen.ensures.empty c.new-indices.ensures.items,
+  record { rows = ap (map linear_row) c.in_ok-with_capacity.ensures.items; names = c.in_ok-with_capacity-2.ensures.items; factors = ap (map ratio_of) c.in_ok-with_capacity-3.ensures.items },
+  kept-start (map kept_row (map row_in c.args.all.now)) _ (λ q. ap (λ k. has_numbers k q) c.in_ok-seen.ensures.empty),
+  indices-start (map kept_row (map row_in c.args.all.now)) c.in_ok-seen.seen.keys c.in_ok-indices.indices.items c.in_ok-seen.ensures.empty c.in_ok-indices.ensures.items,
 )
 
 pub loop-held-preserved-then-is_idle : goal.loop-held-preserved-then-is_idle

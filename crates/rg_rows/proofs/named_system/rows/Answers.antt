@@ -15,16 +15,16 @@ use Rattle.rg_rows.proofs.Terms.{name_within}
 use Rattle.rg_order_of_work.proofs.Items.{item_next, item_fails, items_end}
 use Rattle.rg_rows.proofs.named_system.rows.Goals as goal
 use Rattle.rg_refuting.specs.declared.RowName.TheVariants as row_name
-use Rattle.rg_case_parts.specs.SettingViews.{case_of}
+use Rattle.rg_case_parts.specs.SettingViews.{shown_case}
 
 pub row_in_case-requires-clause-within : goal.row_in_case-requires-clause-within
-row_in_case-requires-clause-within c = name_within c.args.lts.now c.args.case.class c.args.case.problem c.args.case.number c.args.names.now c.loop-name.name-index _ _ (states c.args.lts.now) c.requires.names c.loop-name-test.true refl refl
+row_in_case-requires-clause-within c = name_within (shown_case c.args.c) c.args.names.now c.loop-name.name-index _ _ (states c.args.c.setting.lts.now) c.requires.names c.loop-name-test.true refl refl
 
 pub returns-in_err-row_in_case-clause-comes : goal.returns-in_err-row_in_case-clause-comes
 returns-in_err-row_in_case-clause-comes c =
-    let result : c.from_residual.result ≡ Err c.in_err-row_in_case.field-0.0 = search rules in
-    rw result (comes_unless (each (fold_of (case_of c.args.lts.now c.args.tree.now c.args.basis.now c.args.case.class c.args.case.problem c.args.case.number)) c.args.names.now) (λ (v : Vec HeldRow Global). map kept_row (map row_in v.items)) c.in_err-row_in_case.field-0.0
-    (λ w is. item_fails (fold_of (case_of c.args.lts.now c.args.tree.now c.args.basis.now c.args.case.class c.args.case.problem c.args.case.number))
+    let result : c.from_residual-in_err-row_in_case.result ≡ Err c.in_err-row_in_case.field-0.0 = search rules in
+    rw result (comes_unless (each (fold_of (shown_case c.args.c)) c.args.names.now) (λ (v : Vec HeldRow Global). map kept_row (map row_in v.items)) c.in_err-row_in_case.field-0.0
+    (λ w is. item_fails (fold_of (shown_case c.args.c))
     c.args.names.now c.loop-name.name-index _ (map kept_row (map row_in c.loop-name.rows.items)) c.loop-name.invariant.so_far
     c.loop-name-test.true w (rw is at c.in_err-row_in_case.ensures.comes)))
 
@@ -33,12 +33,12 @@ loop-name-preserved c =
     let rows = c.loop-name.rows.items in
     let held = c.in_ok-row_in_case.field-0 in
     let row = row_in held in
-    let lengths = λ (r : CaseRow). length (arc_slice_items r.coeffs) ≡ column_count c.args.lts.now (cycle_of c.args.basis.now) c.args.case.class in
+    let lengths = λ (r : CaseRow). length (arc_slice_items r.coeffs) ≡ column_count c.args.c.setting.lts.now (cycle_of c.args.c.setting.basis.now) c.args.c.setting.class in
     let same = map_push row_in rows c.push.new.self.items held c.in_ok-push.ensures.items in
     let made = c.in_ok-row_in_case.ensures.comes in
     record {
       so_far = rw (map_push kept_row (map row_in rows) (map row_in c.push.new.self.items) row same)
-          (item_next (fold_of (case_of c.args.lts.now c.args.tree.now c.args.basis.now c.args.case.class c.args.case.problem c.args.case.number))
+          (item_next (fold_of (shown_case c.args.c))
           c.args.names.now c.loop-name.name-index _ (map kept_row (map row_in rows)) c.loop-name.invariant.so_far
           c.loop-name-test.true (kept_row row) made);
       one_each = subst (All lengths) (sym same) (All-append lengths (map row_in rows) (row ∷ []) c.loop-name.invariant.one_each (All-cons lengths row [] c.in_ok-row_in_case.ensures.one_each (All-nil lengths)));
@@ -46,6 +46,6 @@ loop-name-preserved c =
     }
 
 pub returns-clause-comes : goal.returns-clause-comes
-returns-clause-comes c = items_end (fold_of (case_of c.args.lts.now c.args.tree.now c.args.basis.now c.args.case.class c.args.case.problem c.args.case.number))
+returns-clause-comes c = items_end (fold_of (shown_case c.args.c))
     c.args.names.now c.loop-name.name-index row_name.Block (map kept_row (map row_in c.loop-name.rows.items)) c.loop-name.invariant.so_far
     c.loop-name-test.false

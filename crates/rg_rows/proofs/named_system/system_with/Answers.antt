@@ -12,10 +12,10 @@ use Rattle.rg_order_of_work.specs.Meaning.{IsCaseOver}
 use Rattle.rg_linear.specs.System.{LinearSystem}
 use Rattle.rg_cycles.specs.View.{cycle_of}
 use Rattle.rg_rows.specs.declared.held_row.HeldRow.{HeldRow}
-use Rattle.rg_rows.specs.View.{kept_row, row_in, AreNamesWithin, AreIndices, fold_of}
+use Rattle.rg_rows.specs.View.{kept_row, row_in, columns_in, AreNamesWithin, AreIndices, fold_of}
 use Rattle.rg_rows.specs.Forms.{linear_form, case_forms, StandsInRow, AreFormsOf}
 use Rattle.rg_rows.specs.Making.{IsMade}
-use Rattle.rg_case_parts.specs.SettingViews.{case_of}
+use Rattle.rg_case_parts.specs.SettingViews.{shown_setting, shown_case}
 use Rattle.rg_case_parts.proofs.Picking.{columns_few}
 use Rattle.rg_linear.proofs.Firsts.{kept_count}
 use Rattle.rg_rows.proofs.Terms.{names_within}
@@ -29,15 +29,15 @@ use Rattle.rg_refuting.specs.declared.RowName.TheVariants as row_name
 pub rows-requires-clause-names : goal.rows-requires-clause-names
 rows-requires-clause-names c =
     let named = c.deref.ensures.value ∙ c.in_ok-names.ensures in
-    subst (AreNamesWithin c.args.lts.now c.args.class c.args.problem c.args.case) (sym named) (names_within c.args.lts.now c.args.class c.args.problem c.args.case c.requires.asked)
+    subst (AreNamesWithin (shown_case c.args.c)) (sym named) (names_within (shown_case c.args.c) c.requires.asked)
 
 pub firsts-requires : goal.firsts-requires
 firsts-requires c =
-    let lts = c.args.lts.now in
+    let lts = c.args.c.setting.lts.now in
     let named = c.deref.ensures.value ∙ c.in_ok-names.ensures in
-    let size : length c.in_ok-all.all.items ≡ length (names_of lts c.args.class c.args.problem c.args.case) = c.in_ok-all.ensures.few ∙ ap length named in
+    let size : length c.in_ok-all.all.items ≡ length (names_of lts c.args.c.setting.class c.args.c.problem c.args.c.number) = c.in_ok-all.ensures.few ∙ ap length named in
     let same = ap length c.deref-2.ensures.value in
-    let some = names_few lts c.args.class c.args.problem c.args.case in
+    let some = names_few lts c.args.c.setting.class c.args.c.problem c.args.c.number in
     let wide : states lts ≤ 4096 = c.is_well_formed.ensures.few_states in
     let high : labels lts ≤ 256 = c.is_well_formed.ensures.few_labels in
     omega arith
@@ -45,12 +45,12 @@ firsts-requires c =
 pub case_forms-requires-clause-names : goal.case_forms-requires-clause-names
 case_forms-requires-clause-names c =
     let named = c.deref-3.ensures.value ∙ c.in_ok-names.ensures in
-    subst (AreNamesWithin c.args.lts.now c.args.class c.args.problem c.args.case) (sym named) (names_within c.args.lts.now c.args.class c.args.problem c.args.case c.requires.asked)
+    subst (AreNamesWithin (shown_case c.args.c)) (sym named) (names_within (shown_case c.args.c) c.requires.asked)
 
 pub case_forms-requires-clause-rows : goal.case_forms-requires-clause-rows
 case_forms-requires-clause-rows c =
-    subst (λ (l : List RowName). each (fold_of (case_of c.args.lts.now c.args.tree.now c.args.basis.now c.args.class c.args.problem c.args.case)) l (Ok (map kept_row (map row_in c.deref-4.result.now)))) (c.deref.ensures.value ∙ sym c.deref-3.ensures.value)
-    (subst (λ (l : List HeldRow). each (fold_of (case_of c.args.lts.now c.args.tree.now c.args.basis.now c.args.class c.args.problem c.args.case)) c.deref.result.now (Ok (map kept_row (map row_in l)))) (sym c.deref-4.ensures.value) c.in_ok-all.ensures.comes)
+    subst (λ (l : List RowName). each (fold_of (shown_case c.args.c)) l (Ok (map kept_row (map row_in c.deref-4.result.now)))) (c.deref.ensures.value ∙ sym c.deref-3.ensures.value)
+    (subst (λ (l : List HeldRow). each (fold_of (shown_case c.args.c)) c.deref.result.now (Ok (map kept_row (map row_in l)))) (sym c.deref-4.ensures.value) c.in_ok-all.ensures.comes)
 
 pub case_forms-requires-clause-one_each : goal.case_forms-requires-clause-one_each
 case_forms-requires-clause-one_each c = ap length c.deref-4.ensures.value ∙ c.in_ok-all.ensures.few ∙ ap length (c.deref.ensures.value ∙ sym c.deref-3.ensures.value)
@@ -63,18 +63,18 @@ case_forms-requires-clause-indices c =
 pub case_forms-requires-clause-start : goal.case_forms-requires-clause-start
 case_forms-requires-clause-start c = λ splits.
     let named = c.deref-3.ensures.value ∙ c.in_ok-names.ensures in
-    subst (λ (l : List RowName). Contains l (row_name.Tokens c.args.lts.now.initial)) (sym named)
-    (has_start_name c.args.lts.now c.args.class c.args.problem c.args.case c.is_well_formed.ensures.in_range.initial splits)
+    subst (λ (l : List RowName). Contains l (row_name.Tokens c.args.c.setting.lts.now.initial)) (sym named)
+    (has_start_name c.args.c.setting.lts.now c.args.c.setting.class c.args.c.problem c.args.c.number c.is_well_formed.ensures.in_range.initial splits)
 
 pub returns-in_err-all-clause-wide : goal.returns-in_err-all-clause-wide
 returns-in_err-all-clause-wide c = λ w e.
     let result : c.from_residual-in_err-all.result ≡ Err c.in_err-all.field-0.0 = search rules in
     let is : c.in_err-all.field-0.0 ≡ stop.Wide w = cc in
-    case_fails (case_of c.args.lts.now c.args.tree.now c.args.basis.now c.args.class c.args.problem c.args.case) c.deref.result.now (c.deref.ensures.value ∙ c.in_ok-names.ensures) w (rw is at c.in_err-all.ensures.comes)
+    case_fails (shown_case c.args.c) c.deref.result.now (c.deref.ensures.value ∙ c.in_ok-names.ensures) w (rw is at c.in_err-all.ensures.comes)
 
 pub returns-in_err-forms-clause-wide : goal.returns-in_err-forms-clause-wide
 returns-in_err-forms-clause-wide c = λ w e.
-    let s = case_of c.args.lts.now c.args.tree.now c.args.basis.now c.args.class c.args.problem c.args.case in
+    let s = shown_case c.args.c in
     let result : c.from_residual-in_err-forms.result ≡ Err c.in_err-forms.field-0.0 = search rules in
     let is : c.in_err-forms.field-0.0 ≡ stop.Wide w = cc in
     let named = c.deref.ensures.value ∙ c.in_ok-names.ensures in
@@ -84,14 +84,14 @@ returns-in_err-forms-clause-wide c = λ w e.
 
 pub new-requires : goal.new-requires
 new-requires c =
-    let lts = c.args.lts.now in
+    let lts = c.args.c.setting.lts.now in
     let all = map row_in c.in_ok-all.all.items in
     let (kept, shows, firsts, indices) = c.in_ok-kept.ensures in
-    let columns : c.count.result ≡ column_count lts (cycle_of c.args.basis.now) c.args.class = c.count.ensures lts c.args.class (sym c.requires.labels) c.requires.common.columns in
+    let columns : c.count.result ≡ columns_in (shown_setting c.args.c.setting) = c.count.ensures lts c.args.c.setting.class (sym c.requires.labels) c.requires.common.columns in
     let named = c.deref.ensures.value ∙ c.in_ok-names.ensures in
-    let size : length all ≡ length (names_of lts c.args.class c.args.problem c.args.case) = length-map c.in_ok-all.all.items row_in ∙ c.in_ok-all.ensures.few ∙ ap length named in
-    let some = names_few lts c.args.class c.args.problem c.args.case in
-    let most : column_count lts (cycle_of c.args.basis.now) c.args.class ≤ labels lts + 1 = columns_few lts (cycle_of c.args.basis.now) c.args.class in
+    let size : length all ≡ length (names_of lts c.args.c.setting.class c.args.c.problem c.args.c.number) = length-map c.in_ok-all.all.items row_in ∙ c.in_ok-all.ensures.few ∙ ap length named in
+    let some = names_few lts c.args.c.setting.class c.args.c.problem c.args.c.number in
+    let most : columns_in (shown_setting c.args.c.setting) ≤ labels lts + 1 = columns_few lts (cycle_of c.args.c.setting.basis.now) c.args.c.setting.class in
     let wide : states lts ≤ 4096 = c.is_well_formed.ensures.few_states in
     let high : labels lts ≤ 256 = c.is_well_formed.ensures.few_labels in
     let few : c.count.result + length all < 2 ^ 32 = omega arith in
@@ -102,7 +102,7 @@ new-requires c =
 
 pub returns-clause-system : goal.returns-clause-system
 returns-clause-system c =
-    let s = case_of c.args.lts.now c.args.tree.now c.args.basis.now c.args.class c.args.problem c.args.case in
+    let s = shown_case c.args.c in
     let (kept, shows, firsts, indices) = c.in_ok-kept.ensures in
     let all = map row_in c.in_ok-all.all.items in
     let named = c.deref.ensures.value ∙ c.in_ok-names.ensures in
@@ -119,11 +119,11 @@ returns-clause-system c =
 pub returns-clause-named : goal.returns-clause-named
 returns-clause-named c =
     let named_again = c.deref-3.ensures.value ∙ c.in_ok-names.ensures in
-    c.in_ok-forms.ensures.forms ∙ ap (case_forms c.args.class c.args.problem) named_again ∙ forms_are c.args.lts.now c.args.class c.args.problem c.args.case
+    c.in_ok-forms.ensures.forms ∙ ap (case_forms c.args.c.setting.class c.args.c.problem) named_again ∙ forms_are c.args.c.setting.lts.now c.args.c.setting.class c.args.c.problem c.args.c.number
 
 pub returns-clause-rows : goal.returns-clause-rows
 returns-clause-rows c =
-    let it = case_of c.args.lts.now c.args.tree.now c.args.basis.now c.args.class c.args.problem c.args.case in
+    let it = shown_case c.args.c in
     let (kept, shows, firsts, indices) = c.in_ok-kept.ensures in
     let all = map row_in c.in_ok-all.all.items in
     let named = c.deref.ensures.value ∙ c.in_ok-names.ensures in
@@ -142,7 +142,7 @@ returns-clause-rows c =
 
 pub returns-clause-forms : goal.returns-clause-forms
 returns-clause-forms c = λ reachable is_basis bound.
-    let it = case_of c.args.lts.now c.args.tree.now c.args.basis.now c.args.class c.args.problem c.args.case in
+    let it = shown_case c.args.c in
     let (kept, shows, firsts, indices) = c.in_ok-kept.ensures in
     let all = map row_in c.in_ok-all.all.items in
     let named = c.deref.ensures.value ∙ c.in_ok-names.ensures in

@@ -1,5 +1,4 @@
-use Rattle.std.proofs.Common.{true, map, refl}
-use Rattle.rg_order_of_work.proofs.Items.{map_push}
+use Rattle.std.proofs.Common.{true, refl}
 use Rattle.rg_rows.proofs.Naming.{name_taken}
 use Rattle.rg_rows.proofs.names.push_caps.Goals as goal
 use Rattle.rg_refuting.specs.declared.RowName.TheVariants as row_name

@@ -1,6 +1,5 @@
-use Rattle.std.proofs.Common.{ap, map, length, subst, sym, ◌<◌, false, not, ◌==◌, ◌&&◌}
+use Rattle.std.proofs.Common.{ap, length, subst, sym, ◌<◌, false, not, ◌==◌, ◌&&◌}
 use Rattle.std.specs.Prelude.{slice_index_or}
-use Rattle.rg_order_of_work.proofs.Items.{map_push}
 use Rattle.rg_rows.proofs.Naming.{name_taken, name_left, makes_test, consumer_test}
 use Rattle.rg_rows.proofs.names.push_makes.Goals as goal
 use Rattle.rg_rows.proofs.names.push_makes.Goals.{then-used-u+then-u-consumer+in_ok-push, else-used-u, else-used-u-via-then-used-u+else-u-consumer, else-used-u-via-else-used-u}

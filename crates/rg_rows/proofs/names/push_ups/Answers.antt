@@ -1,6 +1,5 @@
-use Rattle.std.proofs.Common.{map, length, subst, sym, ◌<◌, false}
+use Rattle.std.proofs.Common.{length, subst, sym, ◌<◌, false}
 use Rattle.std.specs.Prelude.{slice_index_or}
-use Rattle.rg_order_of_work.proofs.Items.{map_push}
 use Rattle.rg_rows.proofs.Naming.{name_taken, name_left}
 use Rattle.rg_rows.proofs.names.push_ups.Goals as goal
 use Rattle.rg_rows.proofs.names.push_ups.Goals.{then-used-t+in_ok-push, else-used-t}

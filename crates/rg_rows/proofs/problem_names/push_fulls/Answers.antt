@@ -1,7 +1,6 @@
-use Rattle.std.proofs.Common.{map, subst, sym, ◌≡◌, ◌<◌, ◌∙◌}
+use Rattle.std.proofs.Common.{subst, sym, ◌≡◌, ◌<◌, ◌∙◌}
 use Rattle.rg_theory.specs.System.{states}
 use Rattle.rg_order_of_work.specs.Rewriting.{has_label_at}
-use Rattle.rg_order_of_work.proofs.Items.{map_push}
 use Rattle.rg_rows.proofs.Naming.{name_taken, name_left, label_at_is}
 use Rattle.rg_rows.proofs.problem_names.push_fulls.Goals as goal
 use Rattle.rg_rows.proofs.problem_names.push_fulls.Goals.{then-is_some+in_ok-push, else-is_some}

@@ -1,5 +1,5 @@
 use Rattle.std.proofs.Common.{◌≡◌, ◌<◌, ◌^◌, ◌++◌, ◌∷◌, [], length, max, ap, refl, subst, sym, ◌∙◌, arith}
-use Rattle.std.specs.Prelude.{pos, ◌<ℤ◌, unsigned_abs}
+use Rattle.std.specs.Prelude.{◌↔◌, IsTrue, pos, ◌<ℤ◌, ◌≤ℤ◌, unsigned_abs}
 use Rattle.std.specs.Arc.{arc_slice_items}
 use Rattle.std.specs.Int.{w128, cast_signed, cast_unsigned, int_max}
 use Rattle.std.proofs.lemmas.Int.{ints}
@@ -8,6 +8,7 @@ use Rattle.rg_integers.proofs.Casts.{back}
 use Rattle.rg_integers.proofs.Order.{positive_differs}
 use Rattle.rg_fraction.specs.Fractions.{IsValue}
 use Rattle.rg_linear.specs.Norm.{row_norm, kept_norm}
+use Rattle.rg_linear.specs.Cycle.{IsZeroVector}
 use Rattle.rg_fraction.specs.Rows.{IsRowGcd, IsPrimitivePart}
 use Rattle.rg_order_of_work.proofs.FoldLemmas.{new_step}
 use Rattle.rg_case_parts.specs.WholeNumbers.{scaled_of}
@@ -30,7 +31,9 @@ invariant_of-result c =
       constant_in_range = subst InRange (sym (back constant_is constant)) constant;
       norm_is = c.norm-norm.ensures
           ∙ ap (λ xs. kept_norm (row_norm xs (cast_signed w128 (cast_unsigned w128 constant_is)))) c.deref-3.ensures.value;
-      numbers_are = c.new-2.ensures ∙ sym (ap (λ z. coeffs_are ++ z ∷ []) (back constant_is constant) ∙ c.in_ok-coeffs.ensures ∙ c.deref-2.ensures.value);
+      idle_is = subst (λ xs. IsTrue c.always_holds-idle.result ↔ (IsZeroVector xs × (pos 0 ≤ℤ cast_signed w128 (cast_unsigned w128 constant_is)))) c.deref-4.ensures.value
+          c.always_holds-idle.ensures;
+      numbers_are = c.in_ok-numbers.ensures ∙ sym (ap (λ z. coeffs_are ++ z ∷ []) (back constant_is constant) ∙ c.in_ok-coeffs.ensures ∙ c.deref-2.ensures.value);
     }
 
 pub returns-clause-comes : goal.returns-clause-comes
@@ -52,12 +55,12 @@ returns-clause-comes c =
     let size : c.max.result ≡ pos (max g 1) = c.max.ensures.value ∙ ap (λ z. int_max z (pos 1)) (back divisor small) ∙ bigger_is divisor c.row_gcd-divisor.ensures.not_negative in
     let fits : InRange (pos (max g 1)) = let s : g < 2 ^ 127 = small in omega (arith, ints) in
     let most = back c.max.result (subst InRange (sym size) fits) ∙ size in
-    let value = subst (λ z. IsValue c.new.result z (pos (max g 1))) (back c.args.scaled.multiple c.args.scaled.multiple_in_range) (subst (λ z. IsValue c.new.result (cast_signed w128 (cast_unsigned w128 c.args.scaled.multiple)) z) most c.new.ensures) in
+    let value = subst (λ z. IsValue c.new-2.result z (pos (max g 1))) (back c.args.scaled.multiple c.args.scaled.multiple_in_range) (subst (λ z. IsValue c.new-2.result (cast_signed w128 (cast_unsigned w128 c.args.scaled.multiple)) z) most c.new-2.ensures) in
     let positive : pos 0 <ℤ pos (max g 1) = omega (arith, ints) in (
       refl,
       row_divided (scaled_of c.args.scaled) c.args.constant new g h _
           (subst (λ l. IsRowGcd l g) (c.deref.ensures.value ∙ items) c.row_gcd-divisor.ensures.value)
           (subst (λ l. IsPrimitivePart l new h) (given ∙ items) part)
           (ap (λ z. coeffs_are ++ z ∷ []) (back constant_is constant) ∙ parted)
-          (new_step c.new.result c.args.scaled.multiple (pos (max g 1)) (positive_differs (pos (max g 1)) positive) value),
+          (new_step c.new-2.result c.args.scaled.multiple (pos (max g 1)) (positive_differs (pos (max g 1)) positive) value),
     )

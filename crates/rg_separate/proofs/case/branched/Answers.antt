@@ -10,7 +10,7 @@ use Rattle.rg_branch.specs.Answer.{IsStop}
 use Rattle.rg_branch.specs.declared.bounded.Bounded.{Bounded}
 use Rattle.rg_rows.specs.declared.named_form.NamedForm.{NamedForm}
 use Rattle.rg_rows.specs.Forms.{split_of}
-use Rattle.rg_separate.specs.Keeping.{shown_case}
+use Rattle.rg_case_parts.specs.SettingViews.{shown_case}
 use Rattle.rg_separate.specs.Casing.{forms_in, sides_among}
 use Rattle.rg_separate.specs.Passing.{pivot_at}
 use Rattle.rg_separate.proofs.Passing.{pivot_shown, pivot_comes}

@@ -8,7 +8,7 @@ use Rattle.rg_outcome.specs.Casing.{CaseResult.passes, CaseComes}
 use Rattle.rg_rows.specs.declared.named_form.NamedForm.{NamedForm}
 use Rattle.rg_rows.specs.Forms.{split_of}
 use Rattle.rg_reasons.specs.declared.wide_at.Stage.TheVariants.{Place}
-use Rattle.rg_separate.specs.Keeping.{shown_case}
+use Rattle.rg_case_parts.specs.SettingViews.{shown_case}
 use Rattle.rg_separate.specs.Casing.{forms_in, sides_among}
 use Rattle.rg_separate.specs.Passing.{passed_at}
 use Rattle.rg_separate.proofs.PlaceOfPoint.{solves, place_shown, place_comes, place_fails}

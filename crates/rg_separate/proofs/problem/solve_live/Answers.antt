@@ -1,10 +1,10 @@
-use Rattle.std.proofs.Common.{◌≡◌, ℕ, ◌+◌, ◌<◌, refl, sym, subst}
+use Rattle.std.proofs.Common.{◌≡◌, ℕ, ◌+◌, ◌<◌, ◌∙◌, refl, sym, subst}
 use Rattle.rg_net.specs.Shown.{shown_place}
 use Rattle.rg_refuting.specs.Row.{cases_of}
 use Rattle.rg_outcome.specs.Solving.{Solved.placed}
 use Rattle.rg_outcome.specs.Casing.{CaseResult, CaseComes}
 use Rattle.rg_outcome.proofs.Cases.{same_result}
-use Rattle.rg_separate.specs.Keeping.{shown_setting}
+use Rattle.rg_case_parts.specs.SettingViews.{shown_setting}
 use Rattle.rg_separate.specs.declared.problem.Tried.{Tried}
 use Rattle.rg_separate.specs.Deciding.{CaseTells, CaseComesTo, AreTried, CasesCameTo}
 use Rattle.rg_separate.proofs.Coming.{refuted_more, passed_more, place_first, live_comes}
@@ -40,6 +40,7 @@ loop-case-preserved c =
             come = subst (λ (t : Tried). CasesCameTo setting c.args.problem (n + 1) t) (sym w.tried-is)
                 (refuted_more comes one n c.loop-case.tried after w.in-Refuted.case c.loop-case.invariant.come w.in_ok-push-in-Refuted.ensures.items refl
                 (subst (CaseComesTo (record { setting = setting; problem = c.args.problem; number = n })) w.in-Refuted.is c.in_ok-region.ensures.comes));
+            same = c.solve_case.ensures.same ∙ c.loop-case.invariant.same;
           })
       | in-Wide w ↦
           record {
@@ -49,5 +50,6 @@ loop-case-preserved c =
             come = subst (λ (t : Tried). CasesCameTo setting c.args.problem (n + 1) t) (sym w.tried-is)
                 (passed_more comes one n c.loop-case.tried w.note.new.self w.in-Wide.at c.loop-case.invariant.come w.note.ensures.passed
                 (subst (CaseComesTo (record { setting = setting; problem = c.args.problem; number = n })) w.in-Wide.is c.in_ok-region.ensures.comes));
+            same = c.solve_case.ensures.same ∙ c.loop-case.invariant.same;
           }
     ]

@@ -3,7 +3,7 @@ use Rattle.rg_theory.specs.declared.Problem.{Problem}
 use Rattle.rg_net.specs.Shown.{shown_place}
 use Rattle.rg_places.specs.RegionPlaces.{PlaceSeparates}
 use Rattle.rg_outcome.specs.Solving.{Solved.placed, ProblemComes}
-use Rattle.rg_separate.specs.Keeping.{shown_setting}
+use Rattle.rg_case_parts.specs.SettingViews.{shown_setting}
 use Rattle.rg_separate.proofs.problem.solve_problem.Goals as goal
 
 pub blocked-requires-clause-dead : goal.blocked-requires-clause-dead

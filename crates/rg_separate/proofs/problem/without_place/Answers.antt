@@ -4,7 +4,7 @@ use Rattle.rg_reasons.specs.Certificates.{case_tree}
 use Rattle.rg_outcome.specs.Casing.{CaseComes}
 use Rattle.rg_outcome.specs.Solving.{Solved.refuted, Solved.passed}
 use Rattle.rg_outcome.proofs.Cases.{same_result}
-use Rattle.rg_separate.specs.Keeping.{shown_setting}
+use Rattle.rg_case_parts.specs.SettingViews.{shown_setting}
 use Rattle.rg_separate.specs.View.{shown_of}
 use Rattle.rg_separate.proofs.Coming.{refuted_come, term_comes, live_comes}
 use Rattle.rg_separate.proofs.problem.without_place.Goals as goal

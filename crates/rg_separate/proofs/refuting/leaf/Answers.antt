@@ -1,8 +1,7 @@
-use Rattle.std.proofs.Common.{rules, ◌≡◌, ◌+◌, ◌<◌, List, All, Result, length, map, Ok, Err, inl, inr, ap, sym, subst, ◌∙◌}
+use Rattle.std.proofs.Common.{rules, ◌≡◌, List, Result, map, Ok, Err, inl, inr, ap, sym, subst, ◌∙◌}
 use Rattle.std.specs.Result.{IfOk}
 use Rattle.std.proofs.lemmas.List.{length-map}
 use Rattle.rg_refuting.specs.Row.{row_expression, Side}
-use Rattle.rg_linear.specs.Branching.{Weight}
 use Rattle.rg_order_of_work.specs.Shown.{named_sides}
 use Rattle.rg_cycles.specs.View.{cycle_of}
 use Rattle.rg_order_of_work.specs.Spreading.{leaf_fold}
@@ -34,8 +33,8 @@ spread-requires c =
     let named = c.args.named.now in
     let sides = c.args.above.now in
     let by_name = c.in_ok-above.ensures ∙ ap (λ (fs : List NamedForm). sides_among (map split_of fs) sides) c.deref.ensures.value ∙ ap (λ fs. sides_among fs sides) c.requires.system.by_name in
-    subst (λ (above : List Side). RefutesCase c.args.c.setting.lts.now c.args.c.setting.tree.now c.args.c.setting.basis.now c.args.c.setting.class c.args.c.problem c.args.c.number c.deref-2.result.now above) (sym c.deref-3.ensures.value)
-    (subst (λ (shares : List (RowName × Fraction)). RefutesCase c.args.c.setting.lts.now c.args.c.setting.tree.now c.args.c.setting.basis.now c.args.c.setting.class c.args.c.problem c.args.c.number shares c.in_ok-above.above.items) (sym c.deref-2.ensures.value)
+    subst (λ (above : List Side). RefutesCase c.args.c c.deref-2.result.now above) (sym c.deref-3.ensures.value)
+    (subst (λ (shares : List (RowName × Fraction)). RefutesCase c.args.c shares c.in_ok-above.above.items) (sym c.deref-2.ensures.value)
     (leaf_asked c.args.c named sides c.in_ok-above.above.items (map weight_of c.args.weights.now) c.in_ok-shares.shares.items c.requires.case c.requires.system c.requires.leaf by_name (c.in_ok-shares.ensures.one_each ∙ sym (length-map c.args.weights.now weight_of)) c.in_ok-shares.ensures.comes))
 
 pub returns-clause-made : goal.returns-clause-made

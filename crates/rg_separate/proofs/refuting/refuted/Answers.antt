@@ -11,7 +11,7 @@ use Rattle.rg_branch.specs.declared.whole.RawNode.{RawNode}
 use Rattle.rg_rows.specs.declared.named_form.NamedForm.{NamedForm}
 use Rattle.rg_rows.specs.Forms.{split_of}
 use Rattle.rg_reasons.specs.declared.wide_at.Stage.TheVariants.{Spread}
-use Rattle.rg_separate.specs.Keeping.{shown_case}
+use Rattle.rg_case_parts.specs.SettingViews.{shown_case}
 use Rattle.rg_separate.specs.Casing.{forms_in, sides_among, VisitStands, next_sides, IsMadeOf, LeafPasses}
 use Rattle.rg_separate.specs.Passing.{passed_at}
 use Rattle.rg_separate.proofs.Branched.{room_small}

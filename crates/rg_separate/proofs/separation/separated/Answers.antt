@@ -1,6 +1,7 @@
 use Rattle.std.proofs.Common.{map, refl, subst}
 use Rattle.rg_net.specs.Shown.{shown_place}
 use Rattle.rg_outcome.specs.Coming.{Separation.places}
+use Rattle.rg_case_parts.specs.SettingViews.{shown_setting}
 use Rattle.rg_blocks.specs.Separating.{IsSeparationOutcome}
 use Rattle.rg_separate.proofs.Keeping.{notable}
 use Rattle.rg_separate.proofs.Ending.{comes_of, places_separate, separated_tells, separated_searched, ends_refuted, ends_wide}
@@ -39,3 +40,12 @@ returns-in-Separated-clause-searched o c =
           c.in_ok-separate_all.ensures.comes);
       shows = refl;
     }
+
+pub separate_all-requires-clause-asked : goal.separate_all-requires-clause-asked
+separate_all-requires-clause-asked o c = λ lives within. record { each = λ problem has. (record { setting = c.requires.setting; common = c.requires.common; columns = c.column_count-columns.ensures (shown_setting c.args.setting) c.requires.common refl }, has) }
+
+pub certified-requires-clause-can : goal.certified-requires-clause-can
+certified-requires-clause-can o c = record { setting = c.requires.setting; common = c.requires.common; columns = c.column_count-columns.ensures (shown_setting c.args.setting) c.requires.common refl }
+
+pub shown-requires-clause-can : goal.shown-requires-clause-can
+shown-requires-clause-can o c = record { setting = c.requires.setting; common = c.requires.common; columns = c.column_count-columns.ensures (shown_setting c.args.setting) c.requires.common refl }

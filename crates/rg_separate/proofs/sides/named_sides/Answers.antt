@@ -1,4 +1,4 @@
-use Rattle.std.proofs.Common.{rules, ◌≡◌, ◌+◌, List, length, map, take, false, sym, subst}
+use Rattle.std.proofs.Common.{rules, ◌≡◌, ◌+◌, List, map, take, false, sym, subst}
 use Rattle.std.specs.Prelude.{pos, slice_index_or, FitsSigned}
 use Rattle.std.specs.Int.{w64}
 use Rattle.std.proofs.lemmas.Int.{to_z-of_z}

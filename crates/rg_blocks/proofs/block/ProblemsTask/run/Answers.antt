@@ -8,11 +8,12 @@ use Rattle.rg_blocks.proofs.block.ProblemsTask.run.Goals.{in-Place+in_ok-add+in-
 pub returns-clause-holds : goal.returns-clause-holds
 returns-clause-holds g c =
     let lts = c.args.self.now.lts.now in
+    let serves = c.in_ok-outcome.ensures.serves in
     elim c.match-outcome.branch [
-      | in-Place+in_ok-add+in-Some-1 w ↦ rw w.part-is (one_noted lts (shown_place w.in-Place.region.place) c.args.part.now w.add.new.self c.requires.holds w.in_ok-add.ensures.separated)
-      | in-Place+in_ok-add+in-None-1 w ↦ rw w.part-is (one_noted lts (shown_place w.in-Place.region.place) c.args.part.now w.add.new.self c.requires.holds w.in_ok-add.ensures.separated)
-      | in_default w ↦ rw w.part-is c.requires.holds
+      | in-Place+in_ok-add+in-Some-1 w ↦ rw w.part-is (one_noted lts (shown_place w.in-Place.region.place) c.args.part.now.separated w.add.new.self c.requires.holds.0 w.in_ok-add.ensures.separated, serves)
+      | in-Place+in_ok-add+in-None-1 w ↦ rw w.part-is (one_noted lts (shown_place w.in-Place.region.place) c.args.part.now.separated w.add.new.self c.requires.holds.0 w.in_ok-add.ensures.separated, serves)
+      | in_default w ↦ rw w.part-is (c.requires.holds.0, serves)
     ]
 
 pub returns-clause-answers : goal.returns-clause-answers
-returns-clause-answers g c = (slice_get-get_or c.args.self.now.problems.now c.args.i (Event 0 0) c.requires.asked.0, c.in_ok-outcome.ensures)
+returns-clause-answers g c = (slice_get-get_or c.args.self.now.problems.now c.args.i (Event 0 0) c.requires.asked.0, c.in_ok-outcome.ensures.outcome)

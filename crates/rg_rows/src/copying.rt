@@ -1,0 +1,127 @@
+//! Rows and forms in memory of their own.
+ghost use Rattle.std.specs.Prelude.{◌≡◌, map, IfOk};
+ghost use Rattle.rg_order_of_work.specs.Setting.{Setting};
+ghost use Rattle.rg_order_of_work.specs.Fold.{shown_result};
+ghost use Rattle.rg_rows.specs.View.{kept_row, terms_of};
+ghost use Rattle.rg_rows.specs.Sharing.{IsCommonOf};
+
+use crate::case_row::CaseRow;
+use crate::common::Common;
+use crate::form_terms::FormTerms;
+use rg_case_parts::Columns;
+use rg_integers::Wide;
+use std::alloc::{AllocError, Global};
+use std::sync::ArcSlice;
+
+impl Common {
+    /// The same rows and forms. Their coefficients are in memory of their own: threads that take rows, each from its own, don't
+    /// count in the same words of memory how often these are held. An error where there is no memory.
+    pub fn copied(&self, alloc: Global) -> Result<Common, AllocError>
+        ensures { IfOk result (λ copy. (s : Setting) → IsCommonOf s self.now → IsCommonOf s copy) }
+    {
+        Ok(Common {
+            columns: copied_columns(alloc, &self.columns)?,
+            tokens: copied_rows(alloc, &self.tokens)?,
+            caps: copied_rows(alloc, &self.caps)?,
+            ups: copied_rows(alloc, &self.ups)?,
+            downs: copied_rows(alloc, &self.downs)?,
+            makes: copied_rows(alloc, &self.makes)?,
+            token_terms: copied_terms(alloc, &self.token_terms)?,
+            effect_terms: copied_terms(alloc, &self.effect_terms)?,
+        })
+    }
+}
+
+// The same columns.
+fn copied_columns(alloc: Global, columns: &Columns) -> Result<Columns, AllocError>
+    ensures start { IfOk result (λ copy. copy.start ≡ columns.now.start) }
+    ensures used { IfOk result (λ copy. copy.used.items ≡ columns.now.used.items) }
+{
+    let used = columns.used.to_vec(alloc)?;
+    Ok(Columns {
+        start: columns.start,
+        used,
+    })
+}
+
+// The same rows.
+fn copied_rows(
+    alloc: Global,
+    rows: &[Result<CaseRow, Wide>],
+) -> Result<Vec<Result<CaseRow, Wide>>, AllocError>
+    ensures { IfOk result (λ v. map (shown_result kept_row) v.items ≡ map (shown_result kept_row) rows.now) }
+{
+    let mut copies = Vec::with_capacity(alloc, rows.len())?;
+    for row in rows {
+        copies.push(copied_row(alloc, row)?)?;
+    }
+    Ok(copies)
+}
+
+// The same row, or the same step out of range.
+fn copied_row(
+    alloc: Global,
+    written: &Result<CaseRow, Wide>,
+) -> Result<Result<CaseRow, Wide>, AllocError>
+    ensures { IfOk result (λ copy. shown_result kept_row copy ≡ shown_result kept_row written.now) }
+{
+    match written {
+        Ok(row) => Ok(Ok(same_row(alloc, row)?)),
+        Err(wide) => Ok(Err(*wide)),
+    }
+}
+
+// The same row.
+fn same_row(alloc: Global, row: &CaseRow) -> Result<CaseRow, AllocError>
+    ensures { IfOk result (λ copy. kept_row copy ≡ kept_row row.now) }
+{
+    let coeffs = ArcSlice::from_slice(alloc, &row.coeffs)?;
+    let numbers = row.numbers.shared()?;
+    Ok(CaseRow {
+        name: row.name,
+        coeffs,
+        constant: row.constant,
+        norm: row.norm,
+        idle: row.idle,
+        factor: row.factor,
+        numbers,
+    })
+}
+
+// The same terms.
+fn copied_terms(
+    alloc: Global,
+    terms: &[Result<FormTerms, Wide>],
+) -> Result<Vec<Result<FormTerms, Wide>>, AllocError>
+    ensures { IfOk result (λ v. map (shown_result terms_of) v.items ≡ map (shown_result terms_of) terms.now) }
+{
+    let mut copies = Vec::with_capacity(alloc, terms.len())?;
+    for written in terms {
+        copies.push(copied_form(alloc, written)?)?;
+    }
+    Ok(copies)
+}
+
+// The same terms of one form, or the same step out of range.
+fn copied_form(
+    alloc: Global,
+    written: &Result<FormTerms, Wide>,
+) -> Result<Result<FormTerms, Wide>, AllocError>
+    ensures { IfOk result (λ copy. shown_result terms_of copy ≡ shown_result terms_of written.now) }
+{
+    match written {
+        Ok(terms) => Ok(Ok(same_terms(alloc, terms)?)),
+        Err(wide) => Ok(Err(*wide)),
+    }
+}
+
+// The same terms of one form.
+fn same_terms(alloc: Global, terms: &FormTerms) -> Result<FormTerms, AllocError>
+    ensures { IfOk result (λ copy. terms_of copy ≡ terms_of terms.now) }
+{
+    let coeffs = ArcSlice::from_slice(alloc, &terms.coeffs)?;
+    Ok(FormTerms {
+        multiple: terms.multiple,
+        coeffs,
+    })
+}
