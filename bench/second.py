@@ -12,8 +12,8 @@
     bench/second.py cases 3 800 further > crates/worked_runs/data/random_further.cases
 
 It is written from docs/algorithm.md, docs/theory.md and docs/formats.md alone: fractions of any size, a problem at a time, each kept place asked, each
-dictionary made anew. `compare` makes random systems (2,000 unless a number is named) of up to 6 states and 4 labels, runs the program with 1 and
-with 3 jobs for a random class, and compares status and bytes; it prints each difference, and at last `N systems, M differences`. Where
+dictionary made anew. `compare` makes random systems (2,000 unless a number is named) of up to 6 states and 4 labels, runs the program with 1,
+2 and 7 jobs for a random class, and compares status and bytes; it prints each difference, and at last `N systems, M differences`. Where
 the second body forms a number out of 127 bits it can't tell the answer, and stops. It is run by hand and is no test. `cases SEED N`
 prints N random cases of `synthesize`, `verify`, `check` and `convert`, in all three forms, for `worked_runs`, with what the second
 body says is due: nets and certificates of `synthesize`; what `verify` says of those certificates as they are, with a first multiplier
@@ -535,7 +535,7 @@ def compare(program, count, seed):
             with open(path, 'w') as file:
                 file.write(system.text())
             second = answer(system, word)
-            for jobs in ('1', '3'):
+            for jobs in ('1', '2', '7'):
                 ran = subprocess.run([program, 'synthesize', word, path, '--jobs', jobs], capture_output=True)
                 first = ran.returncode, ran.stdout.decode()
                 if first != second:

@@ -111,10 +111,7 @@ where
             || self.kept.separates(self.lts, problem)
             || part.separated.separates(self.lts, problem)
         {
-            return Ok(SolvedProblem {
-                problem,
-                outcome: None,
-            });
+            return Ok(self.left(i));
         }
         let outcome = self.solving.solve(&mut part.workspace, problem)?;
         if let ProblemOutcome::Place(region) = &outcome {
@@ -126,12 +123,19 @@ where
             outcome: Some(outcome),
         })
     }
+
+    fn left(&self, i: u32) -> SolvedProblem {
+        SolvedProblem {
+            problem: self.problems[i as usize],
+            outcome: None,
+        }
+    }
 }
 
-/// What the problems of a block come to, in their order, solved by at most `jobs` parts that run beside each other. The first `taken`
-/// problems are left unsolved, and so is a problem that a kept place separates, or a place which its own part made before: its outcome is
-/// None. Each part solves with a workspace of its own. The gate is entered before each number of the block and left after it, also for a
-/// problem that is left. `NoMemory` where there is none.
+/// What the problems of a block come to, in their order, solved by at most `jobs` parts that run beside each other: each takes a few problems
+/// at a time. The first `taken` problems are left unsolved, and so is a problem that a kept place separates, or a place which its own part made
+/// before: its outcome is None. Each part solves with a workspace of its own. The gate is entered before each number of the block and left
+/// after it, also for a problem that is left. `NoMemory` where there is none.
 pub fn solve_block<R: Threads + Sync, K: Keeping + Sync, S: Solving + Sync, G: Gate + Sync>(
     rt: &R,
     alloc: Global,

@@ -5,13 +5,15 @@ ghost use Rattle.rg_outcome.specs.Coming.{IsSeparated};
 ghost use Rattle.rg_blocks.specs.Blocks.{most_in_block};
 ghost use Rattle.rg_blocks.specs.Taking.{IsOutcome, IsSolvedBy, problems_of, IsTakenOver, IsBegun, AreKeepable};
 
-use crate::block::FIRST_BLOCK;
 use crate::keeping::Keeping;
 use crate::solving::{ProblemOutcome, SolvedProblem, Solving};
 use rg_lts::Lts;
 use rg_memory::NoMemory;
 use rg_ports::Gate;
 use rg_theory::Problem;
+
+// Of so many problems of a block one is solved in turn.
+const ONE_IN_TURN_OF: usize = 256;
 
 // Takes over what a problem comes to that no kept place separates; the problem, where it is refuted.
 fn take<K: Keeping, S: Solving>(
@@ -140,7 +142,7 @@ pub enum Begun {
     First(usize),
 }
 
-/// Solves the first problems of a block one after the other, and takes over what each comes to at once: one of every 64, and the others as
+/// Solves the first problems of a block one after the other, and takes over what each comes to at once: one of every 256, and the others as
 /// long as the places that are kept separate the problem that follows. One that a kept place separates isn't solved. The first one that is
 /// refuted ends it. `NoMemory` where there is none.
 pub fn begin_in_turn<K: Keeping, S: Solving>(
@@ -162,7 +164,7 @@ pub fn begin_in_turn<K: Keeping, S: Solving>(
     ensures proves { IfSome proof.new (λ p. S.proves solving.now p.0 p.1) }
     ensures begun { IfOk result (IsBegun lts.now (S.comes solving.now) (K.places kept.old) problems.now (K.places kept.new)) }
 {
-    let in_turn = problems.len() / FIRST_BLOCK as usize;
+    let in_turn = problems.len() / ONE_IN_TURN_OF;
     for (i, &problem) in problems.iter().enumerate() {
         let Some(outcome) = solve_left(lts, kept, solving, workspace, problem, proof)? else {
             continue;

@@ -6,6 +6,8 @@ mod answers;
 #[cfg(test)]
 mod meeting;
 #[cfg(test)]
+mod passes;
+#[cfg(test)]
 mod phases;
 #[cfg(test)]
 mod places;

@@ -2,6 +2,7 @@
 ghost use Rattle.std.specs.Prelude.{◌≤◌};
 
 use crate::answers::{Answers, Counts, Given};
+use crate::meeting::Meeting;
 use crate::places::{Places, has_dead};
 use rg_blocks::{SeparationOutcome, separate_all};
 use rg_lts::Lts;
@@ -15,43 +16,53 @@ use std::sync::atomic::Ordering;
 use std::test::Fail;
 use std::thread::Threads;
 
-// The answers to the problems of labels, what all of them come to, the labels whose places are kept, how many problems one job
-// solves, and two, and how many of two jobs' inside the gate. Each is one block of less than 64 problems: the first label is solved in turn,
-// before the gate is entered, and the others as long as the one behind a label that was solved is stopped; then each of two jobs solves what
-// is left in its half of all labels, with the places kept so far and those of its half; at last those are solved that were left for a place
-// that isn't kept. One job solves each inside.
-const ROWS: [(&[Given], Option<SeparationOutcome>, &[usize], u64, u64, u64); 16] = [
+type Row = (
+    &'static [Given],
+    Option<SeparationOutcome>,
+    &'static [usize],
+    u64,
+    (u64, u64),
+    (u64, u64),
+);
+
+// The answers to the problems of labels, what all of them come to, the labels whose places are kept, how many problems one job solves, and at
+// least and at most how many more jobs do, and how many of them inside the gate. Each is one block of less than 64 problems: the first label is
+// solved in turn, before the gate is entered, and the others as long as the one behind a label that was solved is stopped. What is left then
+// is solved by parts, which take one label at a time; one of them leaves what a place kept so far stops, or one of its own. At last those are
+// solved that were left for a place that isn't kept. One job solves each inside. Most are solved where each label has a part of its own, and
+// fewest where one part does all that is left.
+const ROWS: [Row; 16] = [
     (
         &[Given::Stops(1), Given::Stops(0), Given::Stops(2)],
         Some(SeparationOutcome::Separated),
         &[0, 2],
         2,
-        2,
-        0,
+        (2, 2),
+        (0, 0),
     ),
     (
         &[Given::Stops(1), Given::TooWide, Given::Stops(0)],
         Some(SeparationOutcome::Separated),
         &[0, 2],
         2,
-        2,
-        0,
+        (2, 2),
+        (0, 0),
     ),
     (
         &[Given::Stops(1), Given::Refuted, Given::Stops(0)],
         Some(SeparationOutcome::Separated),
         &[0, 2],
         2,
-        2,
-        0,
+        (2, 2),
+        (0, 0),
     ),
     (
         &[Given::TooWide, Given::Stops(0)],
         Some(SeparationOutcome::Separated),
         &[1],
         2,
-        2,
-        1,
+        (2, 2),
+        (1, 1),
     ),
     (
         &[
@@ -63,8 +74,8 @@ const ROWS: [(&[Given], Option<SeparationOutcome>, &[usize], u64, u64, u64); 16]
         Some(SeparationOutcome::TooWide(Problem::Event(0, 1))),
         &[2],
         4,
-        4,
-        3,
+        (4, 4),
+        (3, 3),
     ),
     (
         &[
@@ -76,26 +87,33 @@ const ROWS: [(&[Given], Option<SeparationOutcome>, &[usize], u64, u64, u64); 16]
         Some(SeparationOutcome::Unsolvable(Problem::Event(0, 2))),
         &[1],
         3,
-        4,
-        3,
+        (4, 4),
+        (3, 3),
     ),
     (
         &[Given::Refuted, Given::Stops(1)],
         Some(SeparationOutcome::Unsolvable(Problem::Event(0, 0))),
         &[],
         1,
-        1,
-        0,
+        (1, 1),
+        (0, 0),
     ),
-    (&[Given::NoMemory], None, &[], 1, 1, 0),
-    (&[Given::Stops(0), Given::NoMemory], None, &[], 2, 2, 1),
+    (&[Given::NoMemory], None, &[], 1, (1, 1), (0, 0)),
+    (
+        &[Given::Stops(0), Given::NoMemory],
+        None,
+        &[],
+        2,
+        (2, 2),
+        (1, 1),
+    ),
     (
         &[Given::Stops(0)],
         Some(SeparationOutcome::Separated),
         &[0],
         1,
-        1,
-        0,
+        (1, 1),
+        (0, 0),
     ),
     // the first two places stop the labels behind them, so that all are solved in turn
     (
@@ -108,10 +126,10 @@ const ROWS: [(&[Given], Option<SeparationOutcome>, &[usize], u64, u64, u64); 16]
         Some(SeparationOutcome::Separated),
         &[0, 2],
         2,
-        2,
-        0,
+        (2, 2),
+        (0, 0),
     ),
-    // the place of label 0 is kept before the halves begin, so that label 2 is left
+    // the place of label 0 is kept before the parts begin, so that label 2 is left
     (
         &[
             Given::Stops(2),
@@ -122,10 +140,12 @@ const ROWS: [(&[Given], Option<SeparationOutcome>, &[usize], u64, u64, u64); 16]
         Some(SeparationOutcome::Separated),
         &[0, 1, 3],
         3,
-        3,
-        2,
+        (3, 3),
+        (2, 2),
     ),
-    // label 3 is left for the place of label 2, which is dropped for that of label 1: then label 3 is solved
+    // where one part does labels 1 and 2, it leaves label 2, and label 3 is solved; where one does labels 2 and 3, but another label 1, label 3 is
+    // left for the place of label 2, which is dropped for that of label 1: then label 3 is solved at last; else each of the three has a part that
+    // solves it
     (
         &[
             Given::Stops(0),
@@ -136,8 +156,8 @@ const ROWS: [(&[Given], Option<SeparationOutcome>, &[usize], u64, u64, u64); 16]
         Some(SeparationOutcome::Separated),
         &[0, 1, 3],
         3,
-        4,
-        2,
+        (3, 4),
+        (2, 3),
     ),
     (
         &[
@@ -149,8 +169,8 @@ const ROWS: [(&[Given], Option<SeparationOutcome>, &[usize], u64, u64, u64); 16]
         Some(SeparationOutcome::TooWide(Problem::Event(0, 3))),
         &[0, 1],
         3,
-        4,
-        2,
+        (3, 4),
+        (2, 3),
     ),
     (
         &[
@@ -162,8 +182,8 @@ const ROWS: [(&[Given], Option<SeparationOutcome>, &[usize], u64, u64, u64); 16]
         Some(SeparationOutcome::Unsolvable(Problem::Event(0, 3))),
         &[0, 1],
         3,
-        4,
-        2,
+        (3, 4),
+        (2, 3),
     ),
     (
         &[
@@ -175,8 +195,8 @@ const ROWS: [(&[Given], Option<SeparationOutcome>, &[usize], u64, u64, u64); 16]
         None,
         &[],
         3,
-        4,
-        2,
+        (3, 4),
+        (2, 3),
     ),
 ];
 
@@ -276,112 +296,233 @@ struct Seen {
     counted: Counted,
 }
 
-fn see<R: Threads + Sync>(rt: &R, alloc: Global, lts: &Lts, given: &[Given], jobs: u8) -> Seen
+impl Seen {
+    // Whether this is what all problems come to, and the places are those of these labels; or there is no memory, where nothing is wanted.
+    fn is_wanted(&self, wanted: Option<SeparationOutcome>, labels: &[usize]) -> bool {
+        match &self.found {
+            Some((outcome, places)) => { Some(*outcome) == wanted && are_places_of(places, labels) }
+            None => wanted.is_none(),
+        }
+    }
+}
+
+fn see_through<R: Threads + Sync, G: Gate + Sync>(
+    rt: &R,
+    alloc: Global,
+    lts: &Lts,
+    given: &[Given],
+    jobs: u8,
+    counts: &Counts,
+    gate: &G,
+) -> Seen
     requires { 1 ≤ jobs }
 {
-    let gate = Counts::new();
-    let answers = Answers::new(alloc, lts, given, &gate);
-    let found = come(rt, alloc, &answers, jobs, &gate);
+    let answers = Answers::new(alloc, lts, given, counts);
+    let found = come(rt, alloc, &answers, jobs, gate);
     let counted = Counted {
         solved: answers.solved.load(Ordering::SeqCst),
         solved_inside: answers.solved_inside.load(Ordering::SeqCst),
         in_turn: answers.in_turn.load(Ordering::SeqCst),
         made: answers.made.load(Ordering::SeqCst),
         used: answers.used.load(Ordering::SeqCst),
-        entered: gate.entered.load(Ordering::SeqCst),
-        left: gate.left.load(Ordering::SeqCst),
+        entered: counts.entered.load(Ordering::SeqCst),
+        left: counts.left.load(Ordering::SeqCst),
     };
     Seen { found, counted }
 }
 
-// How many workspaces are made: one for the calling thread, and one for each part, where what is left of the block is solved inside the gate
-// by so many parts.
-fn made_by(jobs: u8, inside: u64) -> u64 {
+fn see<R: Threads + Sync>(rt: &R, alloc: Global, lts: &Lts, given: &[Given], jobs: u8) -> Seen
+    requires { 1 ≤ jobs }
+{
+    let gate = Counts::new();
+    see_through(rt, alloc, lts, given, jobs, &gate, &gate)
+}
+
+fn is_within(n: u64, range: (u64, u64)) -> bool {
+    range.0 <= n && n <= range.1
+}
+
+// How many workspaces are made at least and at most: one for the calling thread, and one for each part that does something, where what is
+// left of a block of so many problems is solved inside the gate.
+fn made_by(jobs: u8, labels: usize, inside: u64) -> (u64, u64) {
     if jobs == 1 || inside == 0 {
-        return 1;
+        return (1, 1);
     }
-    1 + u64::from(jobs)
+    (2, 1 + u64::from(jobs).min(labels as u64))
 }
 
 #[test]
 fn rows(rt: HostRuntime) -> Result<(), Fail> {
-    for (given, wanted, labels, by_one, by_two, inside) in ROWS {
+    for (given, wanted, labels, by_one, by_more, inside) in ROWS {
         let Some(lts) = labelled(rt.alloc(), given.len()) else {
             assert!(rt; false);
             return Ok(());
         };
         for jobs in [1u8, 2, 3, 7, 16] {
-            let Seen { found, counted } = see(&rt, rt.alloc(), &lts, given, jobs);
-            let solved = (counted.solved, counted.solved_inside);
+            let seen = see(&rt, rt.alloc(), &lts, given, jobs);
+            let counted = seen.counted;
+            assert!(rt; seen.is_wanted(wanted, labels));
             assert_eq!(rt; counted.left, counted.entered);
-            assert_eq!(rt; counted.made, made_by(jobs, inside));
+            assert!(rt; wanted.is_none() || counted.entered == given.len() as u64);
+            assert!(rt; is_within(counted.made, made_by(jobs, given.len(), inside.1)));
             if jobs == 1 {
-                assert_eq!(rt; solved, (by_one, by_one));
-            }
-            if jobs == 2 {
-                assert_eq!(rt; solved, (by_two, inside));
-            }
-            match found {
-                Some((outcome, places)) => {
-                    assert_eq!(rt; Some(outcome), wanted);
-                    assert!(rt; are_places_of(&places, labels));
-                    assert_eq!(rt; counted.entered, given.len() as u64);
-                }
-                None => assert!(rt; wanted.is_none()),
+                assert_eq!(rt; (counted.solved, counted.solved_inside), (by_one, by_one));
+            } else {
+                assert!(rt; is_within(counted.solved, by_more));
+                assert!(rt; is_within(counted.solved_inside, inside));
             }
         }
     }
     Ok(())
 }
 
+// Counts, and holds the first numbers of a block.
+#[derive(Drop)]
+struct Held<'a> {
+    counts: &'a Counts,
+    meeting: &'a Meeting,
+}
+
+impl Gate for Held<'_> {
+    fn enter(&self, i: u32) {
+        self.counts.enter(i);
+        self.meeting.enter(i);
+    }
+
+    fn leave(&self, i: u32) {
+        self.counts.leave(i);
+        self.meeting.leave(i);
+    }
+}
+
+// What is seen of a search where so many of the first numbers of the only block wait until the last one is entered. None where that fails.
+fn see_held<R: Threads + Sync>(
+    rt: &R,
+    alloc: Global,
+    lts: &Lts,
+    given: &[Given],
+    jobs: u8,
+    first: u32,
+) -> Option<Seen>
+    requires { 1 ≤ jobs }
+{
+    let counts = Counts::new();
+    let meeting = Meeting::new(alloc, lts.labels().saturating_sub(1), first).ok()?;
+    let gate = Held {
+        counts: &counts,
+        meeting: &meeting,
+    };
+    let seen = see_through(rt, alloc, lts, given, jobs, &counts, &gate);
+    if meeting.have_met() && meeting.passed_once() {
+        return Some(seen);
+    }
+    None
+}
+
+// One of two parts waits in label 0, which is solved already, until the last label is entered; so the other one does all that is left, and
+// fewest are solved. Each part has a workspace, and the one that waits solves nothing with it.
+#[test]
+fn one_part_does_the_rest(rt: HostRuntime) -> Result<(), Fail> {
+    for (given, wanted, labels, _, (solved, _), (inside, _)) in ROWS {
+        if inside == 0 {
+            continue;
+        }
+        let Some(lts) = labelled(rt.alloc(), given.len()) else {
+            assert!(rt; false);
+            return Ok(());
+        };
+        let Some(seen) = see_held(&rt, rt.alloc(), &lts, given, 2, 1) else {
+            assert!(rt; false);
+            return Ok(());
+        };
+        let counted = seen.counted;
+        assert!(rt; seen.is_wanted(wanted, labels));
+        assert_eq!(rt; (counted.solved, counted.solved_inside), (solved, inside));
+        assert_eq!(rt; (counted.made, counted.used), (3, 2));
+    }
+    Ok(())
+}
+
+// All labels wait for each other, so that each has a part of its own, and most are solved. A part without a label makes no workspace.
+#[test]
+fn each_part_does_one(rt: HostRuntime) -> Result<(), Fail> {
+    for (given, wanted, labels, _, (_, solved), (_, inside)) in ROWS {
+        if inside == 0 {
+            continue;
+        }
+        let Some(lts) = labelled(rt.alloc(), given.len()) else {
+            assert!(rt; false);
+            return Ok(());
+        };
+        let first = lts.labels().saturating_sub(1);
+        let Some(seen) = see_held(&rt, rt.alloc(), &lts, given, 5, first) else {
+            assert!(rt; false);
+            return Ok(());
+        };
+        let counted = seen.counted;
+        assert!(rt; seen.is_wanted(wanted, labels));
+        assert_eq!(rt; (counted.solved, counted.solved_inside), (solved, inside));
+        assert_eq!(rt; counted.made, 1 + u64::from(lts.labels()));
+        assert_eq!(rt; counted.used.checked_sub(1), Some(inside));
+    }
+    Ok(())
+}
+
+// Whether so many workspaces were made, and problems were solved in so many: one is that of the calling thread, and of each block's parts at
+// least one solves something.
+fn are_of_blocks(counted: Counted, blocks: u64, jobs: u8) -> bool {
+    if jobs == 1 {
+        return counted.made == 1 && counted.used == 1;
+    }
+    let most = blocks.saturating_mul(u64::from(jobs)).saturating_add(1);
+    counted.used > blocks && counted.used <= counted.made && counted.made <= most
+}
+
 // With 255 labels that have no arc, 24 states ask for 24 * 255 + 1 labels, since the last label has no arc at the last state, and for 276 pairs.
 // The first block has labels 0 to 63 of the first state. The places of labels 0, 1 and 2 stop labels 63, 62 and 64 too, at each state, so that
-// the second block has labels 65 to 192. Its second label is the last one that is solved in turn; the places of it and of the two behind it stop
-// labels 192, 191 and 193 too. Twelve labels are stopped then. What is left are labels 194 to 254 of the first state, 243 labels of each
-// other state, label 255 of the last one and the pairs, 61 + 23 * 243 + 1 + 276 = 5,927. No other place is made, and they are solved in blocks
-// of 256, 512, 1,024, 2,048, 2,048 and 39.
+// the second block has labels 65 to 192. The places of its first three labels stop labels 192, 191 and 193 too. Twelve labels are stopped then.
+// What is left are labels 194 to 254 of the first state, 243 labels of each other state, label 255 of the last one and the pairs,
+// 61 + 23 * 243 + 1 + 276 = 5,927. No other place is made, and they are solved in blocks of 256, 512, 1,024, 2,048, 2,048 and 39.
 //
-// One job solves all but the last two labels of the first two blocks. Of more jobs the last part solves the last but one as well, since the
-// first part makes the place that stops it; the last is left, since its place is kept before the parts begin. They solve 1, 2, 4, 8, 16, 32, 32
-// and 1 of the problems of the blocks in turn, 96 in all. Each of the parts, 16 at most, has one to solve in each of the eight blocks.
+// One job solves all but the last two labels of the first two blocks. More jobs solve 1, 1, 1, 2, 4, 8, 8 and 1 of the problems of the blocks in
+// turn, 26 in all. So the place that stops the last label of either of the first two blocks is kept before the parts begin, and that label is
+// left. The last but one is left too where the part that takes it made the place that stops it.
 #[test]
 fn growing_blocks(rt: HostRuntime) -> Result<(), Fail> {
     let mut given = [Given::TooWide; 255];
     given[0] = Given::Stops(63);
     given[1] = Given::Stops(62);
     given[2] = Given::Stops(64);
-    given[66] = Given::Stops(192);
-    given[67] = Given::Stops(191);
-    given[68] = Given::Stops(193);
+    given[65] = Given::Stops(192);
+    given[66] = Given::Stops(191);
+    given[67] = Given::Stops(193);
     let Some(lts) = in_a_row(rt.alloc(), 24, 255) else {
         assert!(rt; false);
         return Ok(());
     };
-    for (jobs, solved, in_turn, workspaces) in [
-        (1u8, 62 + 126 + 5927, 62 + 126 + 5927, 1),
-        (2, 63 + 127 + 5927, 96, 1 + 8 * 2),
-        (3, 63 + 127 + 5927, 96, 1 + 8 * 3),
-        (7, 63 + 127 + 5927, 96, 1 + 8 * 7),
-        (16, 63 + 127 + 5927, 96, 1 + 8 * 16),
+    let (least, most) = (62 + 126 + 5927, 63 + 127 + 5927);
+    for (jobs, solved, in_turn) in [
+        (1u8, (least, least), least),
+        (2, (least, most), 26),
+        (3, (least, most), 26),
+        (7, (least, most), 26),
+        (16, (least, most), 26),
     ] {
-        let Seen { found, counted } = see(&rt, rt.alloc(), &lts, &given, jobs);
+        let seen = see(&rt, rt.alloc(), &lts, &given, jobs);
+        let counted = seen.counted;
         let entered = 64 + 128 + 5927;
         assert_eq!(rt; (counted.entered, counted.left), (entered, entered));
-        assert_eq!(rt; (counted.solved, counted.in_turn), (solved, in_turn));
-        assert_eq!(rt; (counted.made, counted.used), (workspaces, workspaces));
-        match found {
-            Some((outcome, places)) => {
-                assert_eq!(rt; outcome, SeparationOutcome::TooWide(Problem::Event(0, 3)));
-                assert!(rt; are_places_of(&places, &[0, 1, 2, 66, 67, 68]));
-            }
-            None => assert!(rt; false),
-        }
+        assert!(rt; is_within(counted.solved, solved));
+        assert_eq!(rt; counted.in_turn, in_turn);
+        assert!(rt; are_of_blocks(counted, 8, jobs));
+        let wanted = Some(SeparationOutcome::TooWide(Problem::Event(0, 3)));
+        assert!(rt; seen.is_wanted(wanted, &[0, 1, 2, 65, 66, 67]));
     }
     Ok(())
 }
 
-// The first block has labels 0 to 63, of which label 0 is solved in turn, and the second one labels 64 to 191. Its first two would be solved in
-// turn, but the place of label 64 stops label 65, and so label 66 is solved behind them; its place stops label 67, and so label 68 is solved. That
+// The first block has labels 0 to 63, of which label 0 is solved in turn, and the second one labels 64 to 191. Its first one, label 64, is solved
+// in turn; its place stops label 65, and so label 66 is solved behind it; its place stops label 67, and so label 68 is solved. That
 // makes no place, and label 69 isn't stopped. Labels 65 and 67 are solved by no part, since the places are kept before the parts begin.
 #[test]
 fn on_in_turn(rt: HostRuntime) -> Result<(), Fail> {
@@ -392,24 +533,20 @@ fn on_in_turn(rt: HostRuntime) -> Result<(), Fail> {
         assert!(rt; false);
         return Ok(());
     };
-    for (jobs, in_turn, workspaces) in [
-        (1u8, 192 - 2, 1),
-        (2, 1 + 3, 1 + 2 * 2),
-        (3, 1 + 3, 1 + 2 * 3),
-        (7, 1 + 3, 1 + 2 * 7),
-        (16, 1 + 3, 1 + 2 * 16),
+    for (jobs, in_turn) in [
+        (1u8, 192 - 2),
+        (2, 1 + 3),
+        (3, 1 + 3),
+        (7, 1 + 3),
+        (16, 1 + 3),
     ] {
-        let Seen { found, counted } = see(&rt, rt.alloc(), &lts, &given, jobs);
+        let seen = see(&rt, rt.alloc(), &lts, &given, jobs);
+        let counted = seen.counted;
         assert_eq!(rt; (counted.entered, counted.left), (192, 192));
         assert_eq!(rt; (counted.solved, counted.in_turn), (192 - 2, in_turn));
-        assert_eq!(rt; (counted.made, counted.used), (workspaces, workspaces));
-        match found {
-            Some((outcome, places)) => {
-                assert_eq!(rt; outcome, SeparationOutcome::TooWide(Problem::Event(0, 0)));
-                assert!(rt; are_places_of(&places, &[64, 66]));
-            }
-            None => assert!(rt; false),
-        }
+        assert!(rt; are_of_blocks(counted, 2, jobs));
+        let wanted = Some(SeparationOutcome::TooWide(Problem::Event(0, 0)));
+        assert!(rt; seen.is_wanted(wanted, &[64, 66]));
     }
     Ok(())
 }

@@ -46,7 +46,7 @@ among x (k ∷ keys) e = go (cases_Bool (same_pair x k)) (among x keys)
 abbrev pub AreDistinct : List (ℕ × ℕ) → Type 0
 AreDistinct keys = (i j : ℕ) (x : ℕ × ℕ) → slice_get keys i ≡ Some x → slice_get keys j ≡ Some x → i ≡ j
 
-get_before : (keys : List (ℕ × ℕ)) (y : ℕ × ℕ) (i : ℕ) (x : ℕ × ℕ) → slice_get keys i ≡ Some x → slice_get (keys ++ y ∷ []) i ≡ Some x
+get_before : {X : Type 0} (keys : List X) (y : X) (i : ℕ) (x : X) → slice_get keys i ≡ Some x → slice_get (keys ++ y ∷ []) i ≡ Some x
 get_before [] y i x e = absurd (none-some x e)
 get_before (k ∷ keys) y zero x e = e
 get_before (k ∷ keys) y (suc i) x e = get_before keys y i x e
@@ -163,3 +163,36 @@ AreApart blocks = (s other : ℕ) → s < length blocks → other < length block
 pub refined_alone : (blocks tokens : List ℕ) → AreApart blocks → AreRefined blocks tokens blocks
 refined_alone blocks tokens apart =
     record { one_each = refl; same = λ k k' lt lt'. (λ e. (e, ap (λ n. get_or tokens n 0) (apart k k' lt lt' e)), λ (e, f). e) }
+
+get_last : (xs : List ℕ) (y k : ℕ) → k ≡ length xs → slice_get (xs ++ y ∷ []) k ≡ Some y
+get_last [] y zero e = refl
+get_last [] y (suc k) e = absurd (omega arith)
+get_last (x ∷ xs) y zero e = absurd (omega arith)
+get_last (x ∷ xs) y (suc k) e = get_last xs y k (omega arith)
+
+-- the states before s have the tokens that are listed for their blocks
+abbrev pub SameSoFar : List ℕ → List ℕ → List ℕ → ℕ → Type 0
+SameSoFar blocks tokens firsts s = (k : ℕ) → k < s → slice_get firsts (get_or blocks k 0) ≡ Some (get_or tokens k 0)
+
+-- one more state, the first one of its block
+pub same_first : (blocks tokens firsts : List ℕ) (s : ℕ) → SameSoFar blocks tokens firsts s → get_or blocks s 0 ≡ length firsts → SameSoFar blocks tokens (firsts ++ get_or tokens s 0 ∷ []) (s + 1)
+same_first blocks tokens firsts s so_far is k lt = go (cases_eq k s)
+  where
+    go : (k ≡ s) ⊎ (k ≡ s → ⊥) → slice_get (firsts ++ get_or tokens s 0 ∷ []) (get_or blocks k 0) ≡ Some (get_or tokens k 0)
+    go (inl e) = subst (λ n. slice_get (firsts ++ get_or tokens s 0 ∷ []) (get_or blocks n 0) ≡ Some (get_or tokens n 0)) (sym e) (get_last firsts (get_or tokens s 0) (get_or blocks s 0) is)
+    go (inr differ) = get_before firsts (get_or tokens s 0) (get_or blocks k 0) (get_or tokens k 0) (so_far k (omega arith))
+
+-- one more state, with the tokens of its block
+pub same_again : (blocks tokens firsts : List ℕ) (s : ℕ) → SameSoFar blocks tokens firsts s → slice_get firsts (get_or blocks s 0) ≡ Some (get_or tokens s 0) → SameSoFar blocks tokens firsts (s + 1)
+same_again blocks tokens firsts s so_far at k lt = go (cases_eq k s)
+  where
+    go : (k ≡ s) ⊎ (k ≡ s → ⊥) → slice_get firsts (get_or blocks k 0) ≡ Some (get_or tokens k 0)
+    go (inl e) = subst (λ n. slice_get firsts (get_or blocks n 0) ≡ Some (get_or tokens n 0)) (sym e) at
+    go (inr differ) = so_far k (omega arith)
+
+-- then the place changes no block
+pub refined_same : (blocks tokens firsts : List ℕ) (s : ℕ) → length blocks ≤ s → SameSoFar blocks tokens firsts s → AreRefined blocks tokens blocks
+refined_same blocks tokens firsts s past so_far = record { one_each = refl; same = λ k k' lt lt'. (λ e. (e, same k k' lt lt' e), λ (e, f). e) }
+  where
+    same : (k k' : ℕ) → k < length blocks → k' < length blocks → get_or blocks k 0 ≡ get_or blocks k' 0 → get_or tokens k 0 ≡ get_or tokens k' 0
+    same k k' lt lt' e = same_Some _ _ (sym (so_far k (omega arith)) ∙ ap (λ n. slice_get firsts n) e ∙ so_far k' (omega arith))

@@ -5,8 +5,20 @@ ghost use Rattle.rg_marks.specs.Blocks.{AreRefined};
 use indexmap::IndexSet;
 use std::alloc::{AllocError, Global};
 
+// Whether the blocks stay after the tokens of one more place. The answer may be no where they stay, as it is where their numbers don't come in
+// order.
+pub(crate) fn stay(alloc: Global, blocks: &[u32], tokens: &[u128]) -> Result<bool, AllocError>
+    requires { length blocks.now ≡ length tokens.now }
+    ensures { IfOk result (λ r. IsTrue r → AreRefined blocks.now tokens.now blocks.now) }
+{
+    if are_all_apart(blocks) {
+        return Ok(true);
+    }
+    are_same_within(alloc, blocks, tokens)
+}
+
 // Whether the number of each state is its index: then all states are told apart.
-pub(crate) fn are_all_apart(blocks: &[u32]) -> bool
+fn are_all_apart(blocks: &[u32]) -> bool
     ensures { IsTrue result → (s other : ℕ) → s < length blocks.now → other < length blocks.now → slice_index blocks.now s ≡ slice_index blocks.now other → s ≡ other }
 {
     for s in 0..blocks.len() {
@@ -15,6 +27,23 @@ pub(crate) fn are_all_apart(blocks: &[u32]) -> bool
         }
     }
     true
+}
+
+// Whether the states of each block have the same number of tokens, where the first states of the blocks are numbered in order.
+fn are_same_within(alloc: Global, blocks: &[u32], tokens: &[u128]) -> Result<bool, AllocError>
+    requires { length blocks.now ≡ length tokens.now }
+    ensures { IfOk result (λ r. IsTrue r → AreRefined blocks.now tokens.now blocks.now) }
+{
+    let mut firsts = Vec::with_capacity(alloc, blocks.len())?;
+    for s in 0..blocks.len() {
+        let block = blocks[s] as usize;
+        if block == firsts.len() {
+            firsts.push(tokens[s])?;
+        } else if block > firsts.len() || firsts[block] != tokens[s] {
+            return Ok(false);
+        }
+    }
+    Ok(true)
 }
 
 // The blocks after the tokens of one more place: each is numbered by the first of its states.

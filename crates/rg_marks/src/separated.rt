@@ -6,7 +6,7 @@ ghost use Rattle.rg_net.specs.Shown.{shown_place};
 ghost use Rattle.rg_marks.specs.Tokens.{IsNarrow, AreTokens};
 ghost use Rattle.rg_marks.specs.Separated.{AddsOne, SeparateSoMuch, AreSome};
 
-use crate::blocks::{are_all_apart, refined};
+use crate::blocks::{refined, stay};
 use crate::stops::{mark, no_marks};
 use rg_lts::Lts;
 use rg_net::Place;
@@ -51,7 +51,7 @@ impl Separated {
         ensures none_added { OnErr result (self.new ≡ self.old) }
     {
         lts.is_well_formed();
-        if are_all_apart(&self.blocks) {
+        if stay(alloc, &self.blocks, tokens)? {
             mark(lts, &mut self.stops, place, tokens);
             return Ok(None);
         }

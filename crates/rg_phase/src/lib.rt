@@ -2,6 +2,8 @@
 //! the answers doesn't depend on the parts.
 #![tactic(auto)]
 
+mod numbers;
+mod order;
 mod parts;
 mod work;
 

@@ -31,4 +31,9 @@ pub trait Task {
         requires asked { asks self.now i }
         ensures holds { OnOk result (holds self.now part.new) }
         ensures answers { IfOk result (λ v. answers self.now i v) };
+
+    /// The answer for number `i` where no part does the work for it.
+    fn left(&self, i: u32) -> Self::Out
+        requires { asks self.now i }
+        ensures { answers self.now i result };
 }

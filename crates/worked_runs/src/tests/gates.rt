@@ -18,22 +18,23 @@ const RING: &str =
 const RING_AND_LABEL: &str =
     "file f\n| .type LTS .states s0[initial]\ncount 1 8 s#\n| .labels\ncount 0 8 a#\n| x .arcs\ncount 0 7 s# a# s%\n| s8 a8 s0\nstatus 0\n";
 
-// Words and files of a run, and the numbers of the first block that are inside at once: the first of each part.
+// Words and files of a run, and the numbers of the first block that are inside at once: the first of the share that each part takes first. Of 64
+// numbers a share has 8 with two jobs, 5 with three and 4 with four, and of 11 numbers it has 1 with two.
 const RUNS: [(&str, &str, &[u32]); 7] = [
     ("words synthesize none f\n", RING, &[0]),
-    ("words synthesize none f --jobs 2\n", RING, &[0, 32]),
-    ("words synthesize none f --jobs 3\n", RING, &[0, 32, 48]),
-    ("words synthesize none f --jobs 4\n", RING, &[0, 16, 32, 48]),
-    ("words split f --jobs 4\n", RING, &[0, 16, 32, 48]),
+    ("words synthesize none f --jobs 2\n", RING, &[0, 8]),
+    ("words synthesize none f --jobs 3\n", RING, &[0, 5, 10]),
+    ("words synthesize none f --jobs 4\n", RING, &[0, 4, 8, 12]),
+    ("words split f --jobs 4\n", RING, &[0, 4, 8, 12]),
     (
         "words factor f --class none --jobs 2\n",
         RING_AND_LABEL,
-        &[0, 32],
+        &[0, 8],
     ),
     (
         "words synthesize none f --from words --jobs 2\n",
         WORD,
-        &[0, 10],
+        &[0, 1],
     ),
 ];
 

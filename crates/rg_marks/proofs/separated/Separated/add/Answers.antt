@@ -3,19 +3,19 @@ use Rattle.std.specs.declared.alloc.Global.{Global}
 use Rattle.std.proofs.lemmas.List.{with_items_is}
 use Rattle.std.proofs.lemmas.Slice.Eq.{bytes_eq-Decides}
 use Rattle.rg_net.specs.Shown.{shown_place}
-use Rattle.rg_marks.proofs.Blocking.{AreApart, refined_alone}
+use Rattle.rg_marks.specs.Blocks.{AreRefined}
 use Rattle.rg_marks.proofs.Separating.{so_much_more}
 use Rattle.rg_marks.proofs.separated.Separated.add.Goals as goal
 
-pub returns-then-are_all_apart-clause-separated : goal.returns-then-are_all_apart-clause-separated
-returns-then-are_all_apart-clause-separated c = λ places more adds much.
+pub returns-then-branch-clause-separated : goal.returns-then-branch-clause-separated
+returns-then-branch-clause-separated c = λ places more adds much.
     let lts = c.args.lts.now in
     let old = c.args.self.now in
-    let apart = subst AreApart c.deref.ensures.value (c.are_all_apart.ensures c.if-are_all_apart.true) in
+    let same = subst (λ blocks. AreRefined blocks c.args.tokens.now blocks) c.deref.ensures.value (c.in_ok-stay.ensures c.if-branch.true) in
     so_much_more lts (shown_place c.args.place.now) c.args.tokens.now places more old _ c.deref_mut.result.now c.mark.new.rows old.blocks.items old.blocks.items
     c.requires.narrow c.requires.tokens adds much c.deref_mut.ensures.value
     (with_items_is old.stops c.mark.new.rows (c.mark.auto.rows ∙ ap (λ (l : List (Vec Bool Global)). length l) c.deref_mut.ensures.value ∙ sym old.stops.ok.0))
-    c.mark.ensures.table c.mark.ensures.marks refl (refined_alone old.blocks.items c.args.tokens.now apart) refl
+    c.mark.ensures.table c.mark.ensures.marks refl same refl
 
 pub returns-then-eq-clause-separated : goal.returns-then-eq-clause-separated
 returns-then-eq-clause-separated c = λ places more adds much.
