@@ -1,9 +1,15 @@
--- Blocks of states, numbered by a set of pairs.
-use Rattle.std.proofs.Common.{◌≡◌, ℕ, zero, suc, ◌+◌, ◌<◌, ◌≤◌, ◌⊎◌, ◌&&◌, ◌||◌, ◌==◌, if◌then◌else◌, Bool, true, false, List, [], ◌∷◌, ◌++◌, length, Some, slice_get, get_or, inl, inr, ⊎_elim, refl, sym, ap, ◌∙◌, subst, arith, eq-eqb, eqb-true, length-append}
+-- Blocks of states, each numbered by the first of its states, which is found by a set of pairs.
+use Rattle.std.proofs.Common.{◌≡◌, ℕ, zero, suc, ◌+◌, ◌<◌, ◌≤◌, ◌⊎◌, ◌&&◌, ◌||◌, ◌==◌, if◌then◌else◌, Bool, true, false, List, [], ◌∷◌, ◌++◌, length, Some, slice_get, get_or, inl, inr, ⊎_elim, refl, sym, ap, ◌∙◌, subst, arith}
+use Rattle.std.proofs.Common.{eq-eqb, eqb-true, length-append}
 use Rattle.std.specs.List.{list_any}
 use Rattle.std.proofs.lemmas.Bool.{cases_eq, cases_Bool, true≢false}
-use Rattle.std.proofs.lemmas.Option.{same_Some, none-some}
+use Rattle.std.proofs.lemmas.Option.{same_Some, none-some, slice_get_within, slice_get_read}
 use Rattle.rg_marks.specs.Blocks.{AreRefined}
+use Rattle.rg_marks.proofs.Members.{get_before, get_last, get_cases}
+
+-- the states before s have as many tokens as the states by which their blocks are numbered
+abbrev pub SameSoFar : List ℕ → List ℕ → ℕ → Type 0
+SameSoFar blocks tokens s = (k : ℕ) → k < s → get_or tokens (get_or blocks k 0) 0 ≡ get_or tokens k 0
 
 -- whether two pairs are the same
 abbrev pub same_pair : ℕ × ℕ → ℕ × ℕ → Bool
@@ -42,65 +48,11 @@ among x (k ∷ keys) e = go (cases_Bool (same_pair x k)) (among x keys)
     go (inl p) later = (0, ap Some (sym (same_is x k p)))
     go (inr p) later = let (i, at) = later (sym (ap (λ b. b || list_any (same_pair x) keys) p) ∙ e) in (suc i, at)
 
--- each pair stands once
-abbrev pub AreDistinct : List (ℕ × ℕ) → Type 0
-AreDistinct keys = (i j : ℕ) (x : ℕ × ℕ) → slice_get keys i ≡ Some x → slice_get keys j ≡ Some x → i ≡ j
+-- the number that was given is that of the pair
+pub given_number : (keys : List (ℕ × ℕ)) (x : ℕ × ℕ) (number : ℕ) → (k : ℕ × ℕ) × (slice_get keys number ≡ Some k) × (same_pair x k ≡ true) → slice_get keys number ≡ Some x
+given_number keys x number (k, at, same) = at ∙ ap Some (sym (same_is x k same))
 
-get_before : {X : Type 0} (keys : List X) (y : X) (i : ℕ) (x : X) → slice_get keys i ≡ Some x → slice_get (keys ++ y ∷ []) i ≡ Some x
-get_before [] y i x e = absurd (none-some x e)
-get_before (k ∷ keys) y zero x e = e
-get_before (k ∷ keys) y (suc i) x e = get_before keys y i x e
-
-get_cases : (keys : List (ℕ × ℕ)) (y : ℕ × ℕ) (i : ℕ) (x : ℕ × ℕ) → slice_get (keys ++ y ∷ []) i ≡ Some x → (slice_get keys i ≡ Some x) ⊎ ((i ≡ length keys) × (y ≡ x))
-get_cases [] y zero x e = inr (refl, same_Some y x e)
-get_cases [] y (suc i) x e = absurd (none-some x e)
-get_cases (k ∷ keys) y zero x e = inl e
-get_cases (k ∷ keys) y (suc i) x e = ⊎_elim (λ before. inl before) (λ (at, is). inr (ap suc at, is)) (get_cases keys y i x e)
-
--- what putting a pair in keeps
-with_keeps : (keys : List (ℕ × ℕ)) (y : ℕ × ℕ) (i : ℕ) (x : ℕ × ℕ) → slice_get keys i ≡ Some x → slice_get (with_pair keys y) i ≡ Some x
-with_keeps keys y i x e = go (cases_Bool (list_any (same_pair y) keys))
-  where
-    go : (list_any (same_pair y) keys ≡ true) ⊎ (list_any (same_pair y) keys ≡ false) → slice_get (with_pair keys y) i ≡ Some x
-    go (inl p) = subst (λ b. slice_get (if b then keys else (keys ++ y ∷ [])) i ≡ Some x) (sym p) e
-    go (inr p) = subst (λ b. slice_get (if b then keys else (keys ++ y ∷ [])) i ≡ Some x) (sym p) (get_before keys y i x e)
-
-with_distinct : (keys : List (ℕ × ℕ)) (y : ℕ × ℕ) → AreDistinct keys → AreDistinct (with_pair keys y)
-with_distinct keys y distinct = go (cases_Bool (list_any (same_pair y) keys))
-  where
-    pushed : list_any (same_pair y) keys ≡ false → AreDistinct (keys ++ y ∷ [])
-    pushed none i j x e f = at (get_cases keys y i x e) (get_cases keys y j x f)
-      where
-        gone : (k : ℕ) → slice_get keys k ≡ Some x → y ≡ x → ⊥
-        gone k h is = true≢false (sym (found y keys k (h ∙ ap Some (sym is))) ∙ none)
-
-        at : (slice_get keys i ≡ Some x) ⊎ ((i ≡ length keys) × (y ≡ x)) → (slice_get keys j ≡ Some x) ⊎ ((j ≡ length keys) × (y ≡ x)) → i ≡ j
-        at (inl h) (inl k) = distinct i j x h k
-        at (inl h) (inr (p, is)) = absurd (gone i h is)
-        at (inr (p, is)) (inl k) = absurd (gone j k is)
-        at (inr (p, is)) (inr (q, is')) = p ∙ sym q
-
-    go : (list_any (same_pair y) keys ≡ true) ⊎ (list_any (same_pair y) keys ≡ false) → AreDistinct (with_pair keys y)
-    go (inl p) = subst (λ b. AreDistinct (if b then keys else (keys ++ y ∷ []))) (sym p) distinct
-    go (inr p) = subst (λ b. AreDistinct (if b then keys else (keys ++ y ∷ []))) (sym p) (pushed p)
-
-pub with_length : (keys : List (ℕ × ℕ)) (y : ℕ × ℕ) → length (with_pair keys y) ≤ length keys + 1
-with_length keys y = go (cases_Bool (list_any (same_pair y) keys))
-  where
-    go : (list_any (same_pair y) keys ≡ true) ⊎ (list_any (same_pair y) keys ≡ false) → length (with_pair keys y) ≤ length keys + 1
-    go (inl p) = subst (λ b. length (if b then keys else (keys ++ y ∷ [])) ≤ length keys + 1) (sym p) (omega arith)
-    go (inr p) = subst (λ b. length (if b then keys else (keys ++ y ∷ [])) ≤ length keys + 1) (sym p) (omega (arith, length-append keys (y ∷ [])))
-
--- the states before s have the numbers of their pairs
-pub record NumberedSoFar (blocks tokens : List ℕ) (keys : List (ℕ × ℕ)) (refined : List ℕ) (s : ℕ) : Type 0 where
-  pub long : length refined ≡ s
-  pub few : length keys ≤ s
-  pub stored : (k : ℕ) → k < s → slice_get keys (get_or refined k 0) ≡ Some (get_or blocks k 0, get_or tokens k 0)
-  pub distinct : AreDistinct keys
-
-pub numbered_start : (blocks tokens : List ℕ) → NumberedSoFar blocks tokens [] [] 0
-numbered_start blocks tokens = record { long = refl; few = omega arith; stored = λ k lt. absurd (omega arith); distinct = λ i j x e f. absurd (none-some x e) }
-
+-- the entry at the end of a list of numbers, and one before it
 last_of : (xs : List ℕ) (y k : ℕ) → k ≡ length xs → get_or (xs ++ y ∷ []) k 0 ≡ y
 last_of [] y zero e = refl
 last_of [] y (suc k) e = absurd (omega arith)
@@ -112,87 +64,146 @@ first_of [] y k lt = absurd (omega arith)
 first_of (x ∷ xs) y zero lt = refl
 first_of (x ∷ xs) y (suc k) lt = first_of xs y k (omega arith)
 
--- the number that was given is that of the pair
-pub given_number : (keys : List (ℕ × ℕ)) (x : ℕ × ℕ) (number : ℕ) → (k : ℕ × ℕ) × (slice_get keys number ≡ Some k) × (same_pair x k ≡ true) → slice_get keys number ≡ Some x
-given_number keys x number (k, at, same) = at ∙ ap Some (sym (same_is x k same))
+-- each of the list stands there once
+abbrev pub AreDistinct : {X : Type 0} → List X → Type 0
+AreDistinct {X} xs = (i j : ℕ) (x : X) → slice_get xs i ≡ Some x → slice_get xs j ≡ Some x → i ≡ j
 
-pub numbered_next : (blocks tokens : List ℕ) (keys : List (ℕ × ℕ)) (refined : List ℕ) (s number : ℕ) → NumberedSoFar blocks tokens keys refined s
-    → slice_get (with_pair keys (get_or blocks s 0, get_or tokens s 0)) number ≡ Some (get_or blocks s 0, get_or tokens s 0)
-    → NumberedSoFar blocks tokens (with_pair keys (get_or blocks s 0, get_or tokens s 0)) (refined ++ number ∷ []) (s + 1)
-numbered_next blocks tokens keys refined s number so_far at =
-    record {
-      long = omega (arith, length-append refined (number ∷ []), so_far.long);
-      few = omega (arith, with_length keys (get_or blocks s 0, get_or tokens s 0), so_far.few);
-      stored = λ k lt. by k lt (cases_eq k s);
-      distinct = with_distinct keys (get_or blocks s 0, get_or tokens s 0) so_far.distinct;
-    }
+one_more_distinct : {X : Type 0} (xs : List X) (y : X) → AreDistinct xs → ((i : ℕ) → slice_get xs i ≡ Some y → ⊥) → AreDistinct (xs ++ y ∷ [])
+one_more_distinct xs y distinct gone i j x e f = at (get_cases xs y i x e) (get_cases xs y j x f)
   where
-    by : (k : ℕ) → k < s + 1 → (k ≡ s) ⊎ (k ≡ s → ⊥) → slice_get (with_pair keys (get_or blocks s 0, get_or tokens s 0)) (get_or (refined ++ number ∷ []) k 0) ≡ Some (get_or blocks k 0, get_or tokens k 0)
-    by k lt (inl e) =
-        subst (λ n. slice_get (with_pair keys (get_or blocks s 0, get_or tokens s 0)) (get_or (refined ++ number ∷ []) n 0) ≡ Some (get_or blocks n 0, get_or tokens n 0)) (sym e)
-        (ap (λ n. slice_get (with_pair keys (get_or blocks s 0, get_or tokens s 0)) n) (last_of refined number s (sym so_far.long)) ∙ at)
-    by k lt (inr differ) =
-        ap (λ n. slice_get (with_pair keys (get_or blocks s 0, get_or tokens s 0)) n) (first_of refined number k (let n = so_far.long in omega arith))
-        ∙ with_keeps keys (get_or blocks s 0, get_or tokens s 0) (get_or refined k 0) (get_or blocks k 0, get_or tokens k 0) (so_far.stored k (omega arith))
+    at : (slice_get xs i ≡ Some x) ⊎ ((i ≡ length xs) × (y ≡ x)) → (slice_get xs j ≡ Some x) ⊎ ((j ≡ length xs) × (y ≡ x)) → i ≡ j
+    at (inl h) (inl k) = distinct i j x h k
+    at (inl h) (inr (p, is)) = absurd (gone i (h ∙ ap Some (sym is)))
+    at (inr (p, is)) (inl k) = absurd (gone j (k ∙ ap Some (sym is)))
+    at (inr (p, is)) (inr (q, is')) = p ∙ sym q
 
-pub numbered_end : (blocks tokens : List ℕ) (keys : List (ℕ × ℕ)) (refined : List ℕ) (s : ℕ) → length blocks ≤ s → s ≤ length blocks → NumberedSoFar blocks tokens keys refined s → AreRefined blocks tokens refined
-numbered_end blocks tokens keys refined s past most so_far =
-    record {
-      one_each = so_far.long ∙ same;
-      same = λ k k' lt lt'. (λ e. to k k' lt lt' e, λ (e, f). from k k' lt lt' e f);
-    }
-  where
-    same : s ≡ length blocks
-    same = omega arith
+-- the states before s are numbered by the first states with their pairs: one for each of the keys
+pub record NumberedSoFar (blocks tokens : List ℕ) (keys : List (ℕ × ℕ)) (firsts refined : List ℕ) (s : ℕ) : Type 0 where
+  pub long : length refined ≡ s
+  pub listed : length firsts ≡ length keys
+  pub few : length keys ≤ s
+  pub below : (i f : ℕ) → slice_get firsts i ≡ Some f → f < s
+  pub distinct : AreDistinct keys
+  pub apart : AreDistinct firsts
+  pub stored : (k : ℕ) → k < s → (i : ℕ) × (slice_get keys i ≡ Some (get_or blocks k 0, get_or tokens k 0)) × (slice_get firsts i ≡ Some (get_or refined k 0))
 
-    to : (k k' : ℕ) → k < length blocks → k' < length blocks → get_or refined k 0 ≡ get_or refined k' 0 → (get_or blocks k 0 ≡ get_or blocks k' 0) × (get_or tokens k 0 ≡ get_or tokens k' 0)
-    to k k' lt lt' e =
-        let one : (get_or blocks k 0, get_or tokens k 0) ≡ (get_or blocks k' 0, get_or tokens k' 0) =
-        same_Some _ _ (sym (so_far.stored k (omega arith)) ∙ ap (λ n. slice_get keys n) e ∙ so_far.stored k' (omega arith)) in
-        (ap (λ (x : ℕ × ℕ). x.0) one, ap (λ (x : ℕ × ℕ). x.1) one)
+module _ (blocks tokens : List ℕ) (keys : List (ℕ × ℕ)) (firsts refined : List ℕ) (s : ℕ) (so_far : NumberedSoFar blocks tokens keys firsts refined s) where
+  -- the pair of the next state
+  abbrev next_pair : ℕ × ℕ
+  next_pair = (get_or blocks s 0, get_or tokens s 0)
 
-    from : (k k' : ℕ) → k < length blocks → k' < length blocks → get_or blocks k 0 ≡ get_or blocks k' 0 → get_or tokens k 0 ≡ get_or tokens k' 0 → get_or refined k 0 ≡ get_or refined k' 0
-    from k k' lt lt' e f = so_far.distinct (get_or refined k 0) (get_or refined k' 0) (get_or blocks k 0, get_or tokens k 0) (so_far.stored k (omega arith))
-        (so_far.stored k' (omega arith) ∙ ap Some (λ i. (sym e i, sym f i)))
+  -- one more state is stored with its number, and those before stay
+  stored_next : (more : List (ℕ × ℕ)) (others : List ℕ) (number f : ℕ)
+      → ((i : ℕ) (x : ℕ × ℕ) → slice_get keys i ≡ Some x → slice_get more i ≡ Some x) → ((i x : ℕ) → slice_get firsts i ≡ Some x → slice_get others i ≡ Some x)
+      → slice_get more number ≡ Some next_pair → slice_get others number ≡ Some f
+      → (k : ℕ) → k < s + 1 → (i : ℕ) × (slice_get more i ≡ Some (get_or blocks k 0, get_or tokens k 0)) × (slice_get others i ≡ Some (get_or (refined ++ f ∷ []) k 0))
+  stored_next more others number f keeps holds at is k lt = by (cases_eq k s)
+    where
+      by : (k ≡ s) ⊎ (k ≡ s → ⊥) → (i : ℕ) × (slice_get more i ≡ Some (get_or blocks k 0, get_or tokens k 0)) × (slice_get others i ≡ Some (get_or (refined ++ f ∷ []) k 0))
+      by (inl e) = (
+        number,
+        subst (λ n. slice_get more number ≡ Some (get_or blocks n 0, get_or tokens n 0)) (sym e) at,
+        is ∙ ap Some (sym (last_of refined f k (let n = so_far.long in omega arith))),
+      )
+      by (inr differ) =
+          let (i, here, there) = so_far.stored k (omega arith) in
+          (i, keeps i (get_or blocks k 0, get_or tokens k 0) here, holds i (get_or refined k 0) there ∙ ap Some (sym (first_of refined f k (let n = so_far.long in omega arith))))
 
--- each state has a number of its own
-abbrev pub AreApart : List ℕ → Type 0
-AreApart blocks = (s other : ℕ) → s < length blocks → other < length blocks → get_or blocks s 0 ≡ get_or blocks other 0 → s ≡ other
+  -- the next state is the first one with its pair
+  first_next : list_any (same_pair next_pair) keys ≡ false → NumberedSoFar blocks tokens (keys ++ next_pair ∷ []) (firsts ++ s ∷ []) (refined ++ s ∷ []) (s + 1)
+  first_next none = record {
+    long = omega (arith, length-append refined (s ∷ []), so_far.long);
+    listed = omega (arith, length-append firsts (s ∷ []), length-append keys (next_pair ∷ []), so_far.listed);
+    few = omega (arith, length-append keys (next_pair ∷ []), so_far.few);
+    below = λ i f e. ⊎_elim (λ h. let lt = so_far.below i f h in omega arith) (λ (at, is). omega arith) (get_cases firsts s i f e);
+    distinct = one_more_distinct keys next_pair so_far.distinct (λ i e. true≢false (sym (found next_pair keys i e) ∙ none));
+    apart = one_more_distinct firsts s so_far.apart (λ i e. let lt = so_far.below i s e in omega arith);
+    stored = stored_next (keys ++ next_pair ∷ []) (firsts ++ s ∷ []) (length keys) s (get_before keys next_pair) (get_before firsts s)
+        (get_last keys next_pair (length keys) refl) (get_last firsts s (length keys) (sym so_far.listed));
+  }
 
--- then no place changes the blocks
-pub refined_alone : (blocks tokens : List ℕ) → AreApart blocks → AreRefined blocks tokens blocks
-refined_alone blocks tokens apart =
-    record { one_each = refl; same = λ k k' lt lt'. (λ e. (e, ap (λ n. get_or tokens n 0) (apart k k' lt lt' e)), λ (e, f). e) }
+  -- the next state has the pair of an earlier one
+  again_next : (number f : ℕ) → slice_get keys number ≡ Some next_pair → slice_get firsts number ≡ Some f → NumberedSoFar blocks tokens keys firsts (refined ++ f ∷ []) (s + 1)
+  again_next number f at is = record {
+    long = omega (arith, length-append refined (f ∷ []), so_far.long);
+    listed = so_far.listed;
+    few = let n = so_far.few in omega arith;
+    below = λ i x e. let lt = so_far.below i x e in omega arith;
+    distinct = so_far.distinct;
+    apart = so_far.apart;
+    stored = stored_next keys firsts number f (λ i x e. e) (λ i x e. e) at is;
+  }
 
-get_last : (xs : List ℕ) (y k : ℕ) → k ≡ length xs → slice_get (xs ++ y ∷ []) k ≡ Some y
-get_last [] y zero e = refl
-get_last [] y (suc k) e = absurd (omega arith)
-get_last (x ∷ xs) y zero e = absurd (omega arith)
-get_last (x ∷ xs) y (suc k) e = get_last xs y k (omega arith)
+  -- the pair of the next state was put in with the next number: the state is listed as the first one with it
+  pub numbered_first : (number f : ℕ) → slice_get (with_pair keys next_pair) number ≡ Some next_pair → number ≡ length firsts → f ≡ get_or (firsts ++ s ∷ []) number f
+      → NumberedSoFar blocks tokens (with_pair keys next_pair) (firsts ++ s ∷ []) (refined ++ f ∷ []) (s + 1)
+  numbered_first number f at past read = go (cases_Bool (list_any (same_pair next_pair) keys))
+    where
+      is : s ≡ f
+      is = same_Some s f (
+          sym (get_last firsts s number past)
+          ∙ slice_get_read (firsts ++ s ∷ []) (length firsts + 1) number f (let n = length-append firsts (s ∷ []) in omega arith) (omega arith) read
+          )
 
--- the states before s have the tokens that are listed for their blocks
-abbrev pub SameSoFar : List ℕ → List ℕ → List ℕ → ℕ → Type 0
-SameSoFar blocks tokens firsts s = (k : ℕ) → k < s → slice_get firsts (get_or blocks k 0) ≡ Some (get_or tokens k 0)
+      go : (list_any (same_pair next_pair) keys ≡ true) ⊎ (list_any (same_pair next_pair) keys ≡ false) → NumberedSoFar blocks tokens (with_pair keys next_pair) (firsts ++ s ∷ []) (refined ++ f ∷ []) (s + 1)
+      go (inl p) =
+          let lt = slice_get_within keys number next_pair (subst (λ b. slice_get (if b then keys else (keys ++ next_pair ∷ [])) number ≡ Some next_pair) p at) in
+          let same = so_far.listed in
+          absurd (omega arith)
+      go (inr p) =
+          subst (λ b. NumberedSoFar blocks tokens (if b then keys else (keys ++ next_pair ∷ [])) (firsts ++ s ∷ []) (refined ++ f ∷ []) (s + 1)) (sym p)
+          (subst (λ n. NumberedSoFar blocks tokens (keys ++ next_pair ∷ []) (firsts ++ s ∷ []) (refined ++ n ∷ []) (s + 1)) is (first_next p))
 
--- one more state, the first one of its block
-pub same_first : (blocks tokens firsts : List ℕ) (s : ℕ) → SameSoFar blocks tokens firsts s → get_or blocks s 0 ≡ length firsts → SameSoFar blocks tokens (firsts ++ get_or tokens s 0 ∷ []) (s + 1)
-same_first blocks tokens firsts s so_far is k lt = go (cases_eq k s)
-  where
-    go : (k ≡ s) ⊎ (k ≡ s → ⊥) → slice_get (firsts ++ get_or tokens s 0 ∷ []) (get_or blocks k 0) ≡ Some (get_or tokens k 0)
-    go (inl e) = subst (λ n. slice_get (firsts ++ get_or tokens s 0 ∷ []) (get_or blocks n 0) ≡ Some (get_or tokens n 0)) (sym e) (get_last firsts (get_or tokens s 0) (get_or blocks s 0) is)
-    go (inr differ) = get_before firsts (get_or tokens s 0) (get_or blocks k 0) (get_or tokens k 0) (so_far k (omega arith))
+  -- the pair of the next state was there, with a number for which a first state is listed
+  pub numbered_again : (number f : ℕ) → slice_get (with_pair keys next_pair) number ≡ Some next_pair → (number ≡ length firsts → ⊥) → f ≡ get_or firsts number f
+      → NumberedSoFar blocks tokens (with_pair keys next_pair) firsts (refined ++ f ∷ []) (s + 1)
+  numbered_again number f at differ read = go (cases_Bool (list_any (same_pair next_pair) keys))
+    where
+      go : (list_any (same_pair next_pair) keys ≡ true) ⊎ (list_any (same_pair next_pair) keys ≡ false) → NumberedSoFar blocks tokens (with_pair keys next_pair) firsts (refined ++ f ∷ []) (s + 1)
+      go (inl p) =
+          let here = subst (λ b. slice_get (if b then keys else (keys ++ next_pair ∷ [])) number ≡ Some next_pair) p at in
+          subst (λ b. NumberedSoFar blocks tokens (if b then keys else (keys ++ next_pair ∷ [])) firsts (refined ++ f ∷ []) (s + 1)) (sym p)
+          (again_next number f here (slice_get_read firsts (length keys) number f (sym so_far.listed) (slice_get_within keys number next_pair here) read))
+      go (inr p) =
+          let same = so_far.listed in
+          ⊎_elim
+          (λ here. absurd (true≢false (sym (found next_pair keys number here) ∙ p)))
+          (λ (past, is). absurd (differ (past ∙ sym same)))
+          (get_cases keys next_pair number next_pair (subst (λ b. slice_get (if b then keys else (keys ++ next_pair ∷ [])) number ≡ Some next_pair) p at))
 
--- one more state, with the tokens of its block
-pub same_again : (blocks tokens firsts : List ℕ) (s : ℕ) → SameSoFar blocks tokens firsts s → slice_get firsts (get_or blocks s 0) ≡ Some (get_or tokens s 0) → SameSoFar blocks tokens firsts (s + 1)
-same_again blocks tokens firsts s so_far at k lt = go (cases_eq k s)
-  where
-    go : (k ≡ s) ⊎ (k ≡ s → ⊥) → slice_get firsts (get_or blocks k 0) ≡ Some (get_or tokens k 0)
-    go (inl e) = subst (λ n. slice_get firsts (get_or blocks n 0) ≡ Some (get_or tokens n 0)) (sym e) at
-    go (inr differ) = so_far k (omega arith)
+  -- no number is past the next one
+  pub number_within : (number : ℕ) → number < length (with_pair keys next_pair) → number ≤ length firsts
+  number_within number lt = go (cases_Bool (list_any (same_pair next_pair) keys))
+    where
+      go : (list_any (same_pair next_pair) keys ≡ true) ⊎ (list_any (same_pair next_pair) keys ≡ false) → number ≤ length firsts
+      go (inl p) =
+          let less = subst (λ b. number < length (if b then keys else (keys ++ next_pair ∷ []))) p lt in
+          let same = so_far.listed in
+          omega arith
+      go (inr p) =
+          let less = subst (λ b. number < length (if b then keys else (keys ++ next_pair ∷ []))) p lt in
+          omega (arith, so_far.listed, length-append keys (next_pair ∷ []))
 
--- then the place changes no block
-pub refined_same : (blocks tokens firsts : List ℕ) (s : ℕ) → length blocks ≤ s → SameSoFar blocks tokens firsts s → AreRefined blocks tokens blocks
-refined_same blocks tokens firsts s past so_far = record { one_each = refl; same = λ k k' lt lt'. (λ e. (e, same k k' lt lt' e), λ (e, f). e) }
-  where
-    same : (k k' : ℕ) → k < length blocks → k' < length blocks → get_or blocks k 0 ≡ get_or blocks k' 0 → get_or tokens k 0 ≡ get_or tokens k' 0
-    same k k' lt lt' e = same_Some _ _ (sym (so_far k (omega arith)) ∙ ap (λ n. slice_get firsts n) e ∙ so_far k' (omega arith))
+  pub numbered_end : length blocks ≤ s → s ≤ length blocks → AreRefined blocks tokens refined
+  numbered_end past most = record {
+    one_each = so_far.long ∙ same;
+    same = λ k k' lt lt'. (λ e. to k k' lt lt' e, λ (e, f). from k k' lt lt' e f);
+  }
+    where
+      same : s ≡ length blocks
+      same = omega arith
+
+      to : (k k' : ℕ) → k < length blocks → k' < length blocks → get_or refined k 0 ≡ get_or refined k' 0 → (get_or blocks k 0 ≡ get_or blocks k' 0) × (get_or tokens k 0 ≡ get_or tokens k' 0)
+      to k k' lt lt' e =
+          let (i, at, is) = so_far.stored k (omega arith) in
+          let (j, at', is') = so_far.stored k' (omega arith) in
+          let there : i ≡ j = so_far.apart i j (get_or refined k 0) is (is' ∙ ap Some (sym e)) in
+          let one : (get_or blocks k 0, get_or tokens k 0) ≡ (get_or blocks k' 0, get_or tokens k' 0) = same_Some _ _ (sym at ∙ ap (λ n. slice_get keys n) there ∙ at') in
+          (ap (λ (x : ℕ × ℕ). x.0) one, ap (λ (x : ℕ × ℕ). x.1) one)
+
+      from : (k k' : ℕ) → k < length blocks → k' < length blocks → get_or blocks k 0 ≡ get_or blocks k' 0 → get_or tokens k 0 ≡ get_or tokens k' 0 → get_or refined k 0 ≡ get_or refined k' 0
+      from k k' lt lt' e f =
+          let (i, at, is) = so_far.stored k (omega arith) in
+          let (j, at', is') = so_far.stored k' (omega arith) in
+          let there : i ≡ j = so_far.distinct i j (get_or blocks k 0, get_or tokens k 0) at (at' ∙ ap Some (λ n. (sym e n, sym f n))) in
+          same_Some _ _ (sym is ∙ ap (λ n. slice_get firsts n) there ∙ is')

@@ -1,5 +1,6 @@
 -- Facts that hold of some element of a list, and of lists with one more.
-use Rattle.std.proofs.Common.{suc, List, [], ◌∷◌, ◌++◌, Any, ◌⊎◌, inl, inr, ⊎_elim, refl, sym, subst, arith}
+use Rattle.std.proofs.Common.{◌≡◌, ℕ, zero, suc, List, [], ◌∷◌, ◌++◌, Any, Some, ◌⊎◌, length, slice_get, inl, inr, ⊎_elim, refl, sym, ap, subst, arith}
+use Rattle.std.proofs.lemmas.Option.{same_Some, none-some}
 use Rattle.std.proofs.lemmas.List.Elements.{Contains-append_left, Contains-append_right, Contains-append_cases}
 use Rattle.rg_theory.proofs.Lists.{Contains-cons_cases}
 use Rattle.rg_theory.proofs.Among.{one_of, any_of, any_within}
@@ -24,3 +25,21 @@ any_adds P p xs ys adds some =
 pub adds_any : {X : Type 0} (P : X → Type 0) (p : X) (xs ys : List X) → AddsOne p xs ys → P p ⊎ Any P xs → Any P ys
 adds_any P p xs ys adds (inl holds) = any_of P ys p adds.here holds
 adds_any P p xs ys adds (inr some) = any_within P xs ys adds.stay some
+
+-- what stands in a list with one more at its end
+pub get_before : {X : Type 0} (xs : List X) (y : X) (i : ℕ) (x : X) → slice_get xs i ≡ Some x → slice_get (xs ++ y ∷ []) i ≡ Some x
+get_before [] y i x e = absurd (none-some x e)
+get_before (k ∷ xs) y zero x e = e
+get_before (k ∷ xs) y (suc i) x e = get_before xs y i x e
+
+pub get_last : {X : Type 0} (xs : List X) (y : X) (k : ℕ) → k ≡ length xs → slice_get (xs ++ y ∷ []) k ≡ Some y
+get_last [] y zero e = refl
+get_last [] y (suc k) e = absurd (omega arith)
+get_last (x ∷ xs) y zero e = absurd (omega arith)
+get_last (x ∷ xs) y (suc k) e = get_last xs y k (omega arith)
+
+pub get_cases : {X : Type 0} (xs : List X) (y : X) (i : ℕ) (x : X) → slice_get (xs ++ y ∷ []) i ≡ Some x → (slice_get xs i ≡ Some x) ⊎ ((i ≡ length xs) × (y ≡ x))
+get_cases [] y zero x e = inr (refl, same_Some y x e)
+get_cases [] y (suc i) x e = absurd (none-some x e)
+get_cases (k ∷ xs) y zero x e = inl e
+get_cases (k ∷ xs) y (suc i) x e = ⊎_elim (λ before. inl before) (λ (at, is). inr (ap suc at, is)) (get_cases xs y i x e)

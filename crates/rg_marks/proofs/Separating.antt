@@ -1,5 +1,5 @@
 -- What places separate, and what one more separates.
-use Rattle.std.proofs.Common.{◌≡◌, ◌≢◌, ◌↔◌, ℕ, ◌<◌, ◌⊎◌, ◌==◌, Bool, true, false, not, List, [], length, replicate, get_or, Any, IsTrue, Vec, inl, inr, ⊎_elim, sym, ap, ◌∙◌, subst, arith, eq-eqb, eqb-true}
+use Rattle.std.proofs.Common.{◌≡◌, ◌≢◌, ◌↔◌, ℕ, ◌<◌, ◌⊎◌, ◌==◌, Bool, true, false, not, List, [], length, replicate, get_or, Any, Contains, IsTrue, Vec, inl, inr, ⊎_elim, sym, ap, ◌∙◌, subst, arith, eq-eqb, eqb-true}
 use Rattle.std.proofs.lemmas.Bool.{cases_eq, cases_Bool, true≢false}
 use Rattle.std.proofs.lemmas.List.{length-replicate, get_or-replicate}
 use Rattle.std.specs.declared.alloc.Global.{Global}
@@ -70,6 +70,20 @@ one_block lts blocks is = subst (AreBlocks lts []) (sym is) (record {
     λ (k, x, less, e, sep). absurd (omega arith),
   );
 })
+
+-- the marks with those that are new are the marks with one more place
+pub marks_with_new : (lts : System) (p : Place) (tokens : List ℕ) (before after : List (List Bool)) (events : List (ℕ × ℕ))
+    → ((s t : ℕ) → s < states lts → t < labels lts → Contains events (s, t) ↔ (IsStoppedBy p tokens s t × (mark_at before s t ≡ false)))
+    → ((s t : ℕ) → s < states lts → t < labels lts → (mark_at after s t ≡ true) ↔ ((mark_at before s t ≡ true) ⊎ Contains events (s, t)))
+    → (s t : ℕ) → s < states lts → t < labels lts → (mark_at after s t ≡ true) ↔ ((mark_at before s t ≡ true) ⊎ IsStoppedBy p tokens s t)
+marks_with_new lts p tokens before after events new says s t lt lt' = (
+  λ h. ⊎_elim (λ is. inl is) (λ has. inr ((new s t lt lt').0 has).0) ((says s t lt lt').0 h),
+  λ h. (says s t lt lt').1 (⊎_elim (λ is. inl is) (λ stops. by stops (cases_Bool (mark_at before s t))) h),
+)
+  where
+    by : IsStoppedBy p tokens s t → (mark_at before s t ≡ true) ⊎ (mark_at before s t ≡ false) → (mark_at before s t ≡ true) ⊎ Contains events (s, t)
+    by stops (inl is) = inl is
+    by stops (inr not) = inr ((new s t lt lt').1 (stops, not))
 
 -- what is separated with one more place, as it was written
 pub so_much_more : (lts : System) (p : Place) (tokens : List ℕ) (xs ys : List Place) (old new : Separated) (before : List (Vec Bool Global)) (rows : List (Vec Bool Global)) (from : List ℕ) (refined : List ℕ) → IsNarrow lts p → AreTokens lts p tokens → AddsOne p xs ys → SeparateSoMuch lts xs old

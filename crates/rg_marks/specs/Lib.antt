@@ -2,3 +2,4 @@ pub mod Tokens
 pub mod Stops
 pub mod Blocks
 pub mod Separated
+pub mod Firsts

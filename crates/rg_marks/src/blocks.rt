@@ -1,66 +1,61 @@
 //! Blocks of states that places don't tell apart.
-ghost use Rattle.std.specs.Prelude.{◌≡◌, ℕ, ◌<◌, length, IsTrue, IfOk, slice_index};
+ghost use Rattle.std.specs.Prelude.{◌≡◌, ◌≢◌, ℕ, ◌<◌, length, IsTrue, IfOk, IfSome, IfNone, slice_index};
 ghost use Rattle.rg_marks.specs.Blocks.{AreRefined};
 
 use indexmap::IndexSet;
 use std::alloc::{AllocError, Global};
 
-// Whether the blocks stay after the tokens of one more place. The answer may be no where they stay, as it is where their numbers don't come in
-// order.
-pub(crate) fn stay(alloc: Global, blocks: &[u32], tokens: &[u128]) -> Result<bool, AllocError>
-    requires { length blocks.now ≡ length tokens.now }
-    ensures { IfOk result (λ r. IsTrue r → AreRefined blocks.now tokens.now blocks.now) }
+// The blocks after the tokens of one more place, where they aren't the same: they are finer.
+pub(crate) fn finer(
+    alloc: Global,
+    blocks: &[u32],
+    tokens: &[u128],
+) -> Result<Option<Vec<u32>>, AllocError>
+    requires same { length blocks.now ≡ length tokens.now }
+    requires few { length blocks.now < 4294967296 }
+    ensures after { IfOk result (λ after. IfSome after (λ numbers. AreRefined blocks.now tokens.now numbers.items × (numbers.items ≢ blocks.now))) }
+    ensures stay { IfOk result (λ after. IfNone after (AreRefined blocks.now tokens.now blocks.now)) }
 {
-    if are_all_apart(blocks) {
-        return Ok(true);
+    if are_same_within(blocks, tokens) {
+        return Ok(None);
     }
-    are_same_within(alloc, blocks, tokens)
+    let refined = refined(alloc, blocks, tokens)?;
+    if refined.as_slice() == blocks {
+        return Ok(None);
+    }
+    Ok(Some(refined))
 }
 
-// Whether the number of each state is its index: then all states are told apart.
-fn are_all_apart(blocks: &[u32]) -> bool
-    ensures { IsTrue result → (s other : ℕ) → s < length blocks.now → other < length blocks.now → slice_index blocks.now s ≡ slice_index blocks.now other → s ≡ other }
+// Whether each state has as many tokens as the state by which its block is numbered. The answer may be no where a number isn't that of a state
+// of the block.
+fn are_same_within(blocks: &[u32], tokens: &[u128]) -> bool
+    requires { length blocks.now ≡ length tokens.now }
+    ensures { IsTrue result → AreRefined blocks.now tokens.now blocks.now }
 {
     for s in 0..blocks.len() {
-        if blocks[s] as usize != s {
+        let first = blocks[s] as usize;
+        if first != s && (first >= tokens.len() || tokens[first] != tokens[s]) {
             return false;
         }
     }
     true
 }
 
-// Whether the states of each block have the same number of tokens, where the first states of the blocks are numbered in order.
-fn are_same_within(alloc: Global, blocks: &[u32], tokens: &[u128]) -> Result<bool, AllocError>
-    requires { length blocks.now ≡ length tokens.now }
-    ensures { IfOk result (λ r. IsTrue r → AreRefined blocks.now tokens.now blocks.now) }
-{
-    let mut firsts = Vec::with_capacity(alloc, blocks.len())?;
-    for s in 0..blocks.len() {
-        let block = blocks[s] as usize;
-        if block == firsts.len() {
-            firsts.push(tokens[s])?;
-        } else if block > firsts.len() || firsts[block] != tokens[s] {
-            return Ok(false);
-        }
-    }
-    Ok(true)
-}
-
 // The blocks after the tokens of one more place: each is numbered by the first of its states.
-pub(crate) fn refined(
-    alloc: Global,
-    blocks: &[u32],
-    tokens: &[u128],
-) -> Result<Vec<u32>, AllocError>
+fn refined(alloc: Global, blocks: &[u32], tokens: &[u128]) -> Result<Vec<u32>, AllocError>
     requires same { length blocks.now ≡ length tokens.now }
     requires few { length blocks.now < 4294967296 }
     ensures { IfOk result (λ refined. AreRefined blocks.now tokens.now refined.items) }
 {
     let mut seen = IndexSet::new(alloc);
+    let mut firsts = Vec::new(alloc);
     let mut refined = Vec::with_capacity(alloc, blocks.len())?;
     for s in 0..blocks.len() {
         let (number, _) = seen.insert_full((blocks[s], tokens[s]))?;
-        refined.push(number as u32)?;
+        if number == firsts.len() {
+            firsts.push(s as u32)?;
+        }
+        refined.push(firsts[number])?;
     }
     Ok(refined)
 }

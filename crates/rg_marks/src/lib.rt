@@ -5,9 +5,11 @@
 #![tactic(auto)]
 
 mod blocks;
+mod firsts;
 mod region_place;
 mod separated;
 mod stops;
 
+pub use firsts::Firsts;
 pub use region_place::RegionPlace;
 pub use separated::Separated;

@@ -4,10 +4,12 @@ ghost use Rattle.rg_theory.specs.Net.{Place as PlaceOfTheory};
 ghost use Rattle.rg_theory.specs.Problem.{IsProblem, IsSeparatedBy};
 ghost use Rattle.rg_net.specs.Shown.{shown_place};
 ghost use Rattle.rg_marks.specs.Tokens.{IsNarrow, AreTokens};
+ghost use Rattle.rg_marks.specs.Firsts.{AreFirsts};
 ghost use Rattle.rg_marks.specs.Separated.{AddsOne, SeparateSoMuch, AreSome};
 
-use crate::blocks::{refined, stay};
-use crate::stops::{mark, no_marks};
+use crate::blocks::finer;
+use crate::firsts::Firsts;
+use crate::stops::{mark, new_stops, no_marks};
 use rg_lts::Lts;
 use rg_net::Place;
 use rg_theory::Problem;
@@ -32,35 +34,34 @@ impl Separated {
         Ok(Separated { stops, blocks })
     }
 
-    /// Adds what one more place separates, given with its tokens: one number for each state. Where that changes the blocks, as it does
-    /// where the place tells two states of one block apart, they are given as they were, a number for each state; else None.
-    /// `AllocError` where there is no memory: then nothing is added.
+    /// Adds what one more place separates, given with its tokens: one number for each state. What it is the first to separate, behind
+    /// the places that were added, is given: the blocks as they were, where it changes them, as it does where the place tells two states
+    /// of one block apart. `AllocError` where there is no memory: then nothing is added.
     pub fn add(
         &mut self,
         alloc: Global,
         lts: &Lts,
         place: &Place,
         tokens: &[u128],
-    ) -> Result<Option<Vec<u32>>, AllocError>
+    ) -> Result<Firsts, AllocError>
         requires narrow { IsNarrow lts.now (shown_place place.now) }
         requires tokens { AreTokens lts.now (shown_place place.now) tokens.now }
         requires some { AreSome lts.now self.old }
         ensures separated { OnOk result ((places more : List PlaceOfTheory) → AddsOne (shown_place place.now) places more → SeparateSoMuch lts.now places self.old → SeparateSoMuch lts.now more self.new) }
-        ensures before { IfOk result (λ before. IfSome before (λ numbers. (numbers.items ≡ self.old.blocks.items) × (self.new.blocks.items ≢ numbers.items))) }
-        ensures same { IfOk result (λ before. IfNone before (self.new.blocks.items ≡ self.old.blocks.items)) }
+        ensures firsts { IfOk result (λ firsts. (front : List PlaceOfTheory) → SeparateSoMuch lts.now front self.old → AreFirsts lts.now front (shown_place place.now) firsts) }
+        ensures before { IfOk result (λ firsts. IfSome firsts.blocks (λ numbers. (numbers.items ≡ self.old.blocks.items) × (self.new.blocks.items ≢ numbers.items))) }
+        ensures same { IfOk result (λ firsts. IfNone firsts.blocks (self.new.blocks.items ≡ self.old.blocks.items)) }
         ensures none_added { OnErr result (self.new ≡ self.old) }
     {
         lts.is_well_formed();
-        if stay(alloc, &self.blocks, tokens)? {
-            mark(lts, &mut self.stops, place, tokens);
-            return Ok(None);
-        }
-        let blocks = refined(alloc, &self.blocks, tokens)?;
-        mark(lts, &mut self.stops, place, tokens);
-        if blocks == self.blocks {
-            return Ok(None);
-        }
-        Ok(Some(std::mem::replace(&mut self.blocks, blocks)))
+        let events = new_stops(alloc, lts, &self.stops, place, tokens)?;
+        let blocks = finer(alloc, &self.blocks, tokens)?;
+        mark(lts, &mut self.stops, &events);
+        let blocks = match blocks {
+            Some(after) => Some(std::mem::replace(&mut self.blocks, after)),
+            None => None,
+        };
+        Ok(Firsts { events, blocks })
     }
 
     /// Whether one of the places separates the problem of the system.

@@ -5,7 +5,6 @@
 #![tactic(auto)]
 
 mod differing;
-mod firsts;
 mod pruning;
 mod stops;
 mod tokens;

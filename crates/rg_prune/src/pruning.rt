@@ -8,14 +8,14 @@ ghost use Rattle.rg_net.specs.Shown.{shown_place};
 ghost use Rattle.rg_marks.specs.Tokens.{IsNarrow};
 ghost use Rattle.rg_marks.specs.Separated.{SeparateSoMuch};
 ghost use Rattle.rg_theory.specs.Pruned.{IsPruned};
-ghost use Rattle.rg_prune.specs.Firsts.{AreFirsts, AreAllFirsts, IsPending};
+ghost use Rattle.rg_marks.specs.Firsts.{AreFirsts, AreAllFirsts};
+ghost use Rattle.rg_prune.specs.Pending.{IsPending};
 
 use crate::differing::all_differ;
-use crate::firsts::{Firsts, all_firsts};
 use crate::stops::are_marked;
 use crate::tokens::{fill, no_tokens};
 use rg_lts::Lts;
-use rg_marks::Separated;
+use rg_marks::{Firsts, Separated};
 use rg_memory::NoMemory;
 use rg_net::Place;
 use rg_spanning::{GrowStop, Tree};
@@ -24,11 +24,17 @@ use std::alloc::{AllocError, Global};
 
 /// What is left of places that separate all separation problems of the system, each of whose states is reachable: from the last
 /// place to the first, a place is dropped where the others that are left still separate all. They stay in order, and
-/// none of those left can be left out. `NoMemory` where there is none.
-pub fn prune(alloc: Global, lts: &Lts, places: Vec<Place>) -> Result<Vec<Place>, NoMemory>
+/// none of those left can be left out. For each place the problems are given that it is the first to separate. `NoMemory` where there is none.
+pub fn prune(
+    alloc: Global,
+    lts: &Lts,
+    places: Vec<Place>,
+    firsts: Vec<Firsts>,
+) -> Result<Vec<Place>, NoMemory>
     requires reachable { IsAllReachable lts.now }
     requires narrow { All (λ p. IsNarrow lts.now (shown_place p)) places.items }
     requires separate { SeparateAll (map shown_place places.items) lts.now }
+    requires firsts { AreAllFirsts lts.now (map shown_place places.items) firsts.items }
     ensures { IfOk result (λ left. IsPruned lts.now (map shown_place places.items) (map shown_place left.items)) }
 {
     let tree = match Tree::grow(alloc, lts) {
@@ -36,7 +42,6 @@ pub fn prune(alloc: Global, lts: &Lts, places: Vec<Place>) -> Result<Vec<Place>,
         Err(GrowStop::NoMemory) => return Err(NoMemory),
         Err(GrowStop::Unreachable(_)) => unreachable!(),
     };
-    let firsts = all_firsts(alloc, lts, tree.arcs(), &places)?;
     Ok(dropped(alloc, lts, tree.arcs(), places, firsts)?)
 }
 

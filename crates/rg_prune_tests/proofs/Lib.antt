@@ -1,2 +1,3 @@
 mod Narrowing
 mod ByTokens
+mod Taking

@@ -1,12 +1,17 @@
 //! Which of the places of a net that solves a system are left.
 ghost use Rattle.std.specs.Prelude.{◌≡◌, map, IfOk};
+ghost use Rattle.rg_theory.specs.System.{IsAllReachable};
 ghost use Rattle.rg_net.specs.Shown.{shown_place};
+ghost use Rattle.rg_marks.specs.Firsts.{AreAllFirsts};
 
-use rg_lts::Lts;
+use crate::separated::is_region;
+use rg_lts::{Arc, Lts};
+use rg_marks::{Firsts, Separated};
 use rg_net::{Net, Place};
 use rg_net_verdict::{NetVerdict, check_net, verdict_is_sound};
 use rg_prune::prune;
 use rg_samples::{CHOICE, CHOICE_NET, DEAD, LOOP, STEP, net, system};
+use rg_spanning::Tree;
 use rg_theory::{ALL_NETS, solved_is_separated};
 use std::alloc::{AllocError, Global};
 
@@ -99,6 +104,48 @@ fn copied(alloc: Global, places: &[Place]) -> Result<Vec<Place>, AllocError>
     Ok(copies)
 }
 
+// The tokens that the place has behind an arc.
+fn moved(tokens: &[u128], place: &Place, a: Arc) -> Option<u128> {
+    let takes = *place.pre.get(a.label as usize)?;
+    let puts = *place.post.get(a.label as usize)?;
+    tokens
+        .get(a.from as usize)?
+        .checked_sub(takes)?
+        .checked_add(puts)
+}
+
+// The tokens of the place at the states, as the arcs of a tree lead to them.
+fn tokens_of(alloc: Global, lts: &Lts, place: &Place) -> Option<Vec<u128>> {
+    let tree = Tree::grow(alloc, lts).ok()?;
+    let mut tokens = vec![in alloc; 0u128; lts.states() as usize].ok()?;
+    *tokens.get_mut(lts.initial() as usize)? = place.start;
+    for a in tree.arcs() {
+        let there = moved(&tokens, place, *a)?;
+        *tokens.get_mut(a.to as usize)? = there;
+    }
+    Some(tokens)
+}
+
+// For each place the problems that it is the first to separate; an error where one isn't a region, or there is no memory left.
+fn all_firsts(alloc: Global, lts: &Lts, places: &[Place]) -> Result<Vec<Firsts>, AllocError>
+    requires { IsAllReachable lts.now }
+    ensures { IfOk result (λ all. AreAllFirsts lts.now (map shown_place places.now) all.items) }
+{
+    let mut separated = Separated::nothing(alloc, lts)?;
+    let mut all = Vec::new(alloc);
+    for place in places {
+        let Some(tokens) = tokens_of(alloc, lts, place) else {
+            return Err(AllocError);
+        };
+        if !is_region(lts, place, &tokens) {
+            return Err(AllocError);
+        }
+        let firsts = separated.add(alloc, lts, place, &tokens)?;
+        all.push(firsts)?;
+    }
+    Ok(all)
+}
+
 // Those of the places of the net that are left; None where it doesn't solve the system, or there is no memory left.
 fn left(alloc: Global, lts: &Lts, net: &Net) -> Option<Vec<Place>> {
     if net.labels() != lts.labels() {
@@ -113,7 +160,10 @@ fn left(alloc: Global, lts: &Lts, net: &Net) -> Option<Vec<Place>> {
     let Ok(places) = copied(alloc, net.places()) else {
         return None;
     };
-    prune(alloc, lts, places).ok()
+    let Ok(firsts) = all_firsts(alloc, lts, &places) else {
+        return None;
+    };
+    prune(alloc, lts, places, firsts).ok()
 }
 
 // Whether the places are the same, in order.

@@ -8,7 +8,7 @@ ghost use Rattle.rg_marks.specs.Separated.{AreSome};
 ghost use Rattle.rg_prune_tests.specs.Regions.{Moves, IsRegionBy};
 
 use rg_lts::{Arc, Lts};
-use rg_marks::Separated;
+use rg_marks::{Firsts, Separated};
 use rg_net::Place;
 use rg_samples::{ABA, system};
 use rg_spanning::Tree;
@@ -92,6 +92,18 @@ const ROWS: [(&[Given], [bool; 11]); 9] = [
     (&[COUNTS, TURNS, ONCE], [Y, Y, Y, Y, Y, Y, Y, Y, Y, Y, Y]),
 ];
 
+// Which two of four states are in one block: 0 and 1, 0 and 2, 0 and 3, 1 and 2, 1 and 3, 2 and 3.
+type Together = [bool; 6];
+
+// Places one after the other, the states and labels that each is the first to stop, and the blocks before it, where it splits one.
+const FIRSTS: [(Given, &[(u32, u32)], Option<Together>); 5] = [
+    (EMPTY, &[], None),
+    (COUNTS, &[(0, 1)], Some([Y, Y, Y, Y, Y, Y])),
+    (TURNS, &[(1, 0), (3, 0)], Some([N, N, N, Y, N, N])),
+    (ONCE, &[(2, 1), (3, 1)], None),
+    (COUNTS, &[], None),
+];
+
 // Whether the arc moves the tokens as a firing does.
 fn moves(lts: &Lts, place: &Place, tokens: &[u128], a: Arc) -> bool
     requires arc { IsArcInRange lts.now a }
@@ -136,7 +148,7 @@ fn are_few(tokens: &[u128]) -> bool
 }
 
 // Whether the place is a region with these tokens.
-fn is_region(lts: &Lts, place: &Place, tokens: &[u128]) -> bool
+pub(crate) fn is_region(lts: &Lts, place: &Place, tokens: &[u128]) -> bool
     ensures { IsTrue result → IsRegionBy lts.now (shown_place place.now) tokens.now }
 {
     let labels = lts.labels() as usize;
@@ -151,8 +163,8 @@ fn is_region(lts: &Lts, place: &Place, tokens: &[u128]) -> bool
         && all_move(lts, lts.arcs(), place, tokens)
 }
 
-// Adds the place, which has to be a region with its tokens.
-fn add(alloc: Global, lts: &Lts, separated: &mut Separated, given: Given) -> Result<(), Fail>
+// Adds the place, which has to be a region with its tokens; what it is the first to separate.
+fn add(alloc: Global, lts: &Lts, separated: &mut Separated, given: Given) -> Result<Firsts, Fail>
     requires reachable { IsAllReachable lts.now }
     requires some { AreSome lts.now separated.old }
     ensures { OnOk result (AreSome lts.now separated.new) }
@@ -165,8 +177,7 @@ fn add(alloc: Global, lts: &Lts, separated: &mut Separated, given: Given) -> Res
     if !is_region(lts, &place, &given.tokens) {
         return Err(Fail::from(AllocError));
     }
-    separated.add(alloc, lts, &place, &given.tokens)?;
-    Ok(())
+    Ok(separated.add(alloc, lts, &place, &given.tokens)?)
 }
 
 // What the places separate, added one after the other.
@@ -201,6 +212,51 @@ fn tells(lts: &Lts, separated: &Separated, wanted: [bool; 11]) -> bool
         }
     }
     true
+}
+
+// Which two of the four states have the same number.
+fn together(blocks: &[u32]) -> Together {
+    let pairs = [(0, 1), (0, 2), (0, 3), (1, 2), (1, 3), (2, 3)];
+    pairs.map(|(s, other)| blocks.get(s) == blocks.get(other))
+}
+
+// Whether these are the problems that are wanted.
+fn are_wanted(firsts: &Firsts, events: &[(u32, u32)], blocks: Option<Together>) -> bool {
+    let told = match &firsts.blocks {
+        Some(numbers) => Some(together(numbers)),
+        None => None,
+    };
+    firsts.events.as_slice() == events && told == blocks
+}
+
+// Whether each of the places, added one after the other, is the first to separate what is wanted.
+fn all_wanted(
+    alloc: Global,
+    lts: &Lts,
+    given: &[(Given, &[(u32, u32)], Option<Together>)],
+) -> Result<bool, Fail>
+    requires { IsAllReachable lts.now }
+{
+    let mut separated = Separated::nothing(alloc, lts)?;
+    for &(one, events, blocks) in given {
+        let firsts = add(alloc, lts, &mut separated, one)?;
+        if !are_wanted(&firsts, events, blocks) {
+            return Ok(false);
+        }
+    }
+    Ok(true)
+}
+
+#[test]
+fn first_problems(rt: HostRuntime) -> Result<(), Fail> {
+    let Some(lts) = system(rt.alloc(), ABA) else {
+        return Err(Fail::from(AllocError));
+    };
+    let Ok(_) = Tree::grow(rt.alloc(), &lts) else {
+        return Err(Fail::from(AllocError));
+    };
+    assert!(rt; all_wanted(rt.alloc(), &lts, &FIRSTS)?);
+    Ok(())
 }
 
 #[test]

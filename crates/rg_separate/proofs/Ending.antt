@@ -11,6 +11,7 @@ use Rattle.rg_net.specs.declared.net.Place.{Place as PlaceOfCode}
 use Rattle.rg_order_of_work.specs.Shown.{Shown, CycleShown}
 use Rattle.rg_theory.specs.declared.Class.{Class}
 use Rattle.rg_marks.specs.declared.separated.Separated.{Separated}
+use Rattle.rg_marks.specs.declared.firsts.Firsts.{Firsts}
 use Rattle.rg_cycles.specs.declared.stop.CycleWide.{CycleWide}
 use Rattle.rg_cycles.specs.View.{cycle_of}
 use Rattle.rg_reasons.specs.declared.certificate.Reason.{Reason}
@@ -54,7 +55,7 @@ module _ (s : Setting) (is : IsSetting s) where
   all_kept kept (unsolvable problem trees) come shows = absurd shows
   all_kept kept (too_wide w) come shows = absurd shows
 
-  module _ (fine : IsWellFormed s.lts.now) (kept : List PlaceOfCode) (separated : Separated) (are : AreKept s.lts.now kept separated) (end : IsSeparationOutcome s.lts.now (comes_of s) (map shown_place kept) ended.Separated) where
+  module _ (fine : IsWellFormed s.lts.now) (kept : List PlaceOfCode) (firsts : List Firsts) (separated : Separated) (are : AreKept s.lts.now kept firsts separated) (end : IsSeparationOutcome s.lts.now (comes_of s) (map shown_place kept) ended.Separated) where
     all_come : AllComeTo s.lts.now (comes_of s) (places (map shown_place kept))
     all_come = all_kept (map shown_place kept) end.o end.comes_to end.shows
 
@@ -62,7 +63,7 @@ module _ (s : Setting) (is : IsSetting s) where
     separated_searched = searched_of (places (map shown_place kept)) all_come
 
     pub separated_tells : AreSeparating s.lts.now s.class (map shown_place kept)
-    separated_tells = separating s.lts.now s.class kept separated is.in_range is.bound are (let few = few_places s.lts.now (comes_of s) (map shown_place kept) fine all_come in let l = length-map kept shown_place in omega arith) separated_searched
+    separated_tells = separating s.lts.now s.class kept firsts separated is.in_range is.bound are (let few = few_places s.lts.now (comes_of s) (map shown_place kept) fine all_come in let l = length-map kept shown_place in omega arith) separated_searched
 
   -- the problem that ends the search
   refuted_last : (kept : List Place) (q : Problem) (o : outcome.Separation) → AllComeTo s.lts.now (comes_of s) o → ShowsSeparation s.lts.now (comes_of s) kept (ended.Unsolvable q) o → EndsWith s q

@@ -1,5 +1,5 @@
 -- Places that are kept, and one more.
-use Rattle.std.proofs.Common.{◌≡◌, List, [], ◌∷◌, ◌++◌, map, All, sym, subst, ◌∙◌, ap, arith}
+use Rattle.std.proofs.Common.{◌≡◌, List, [], ◌∷◌, ◌++◌, map, All, refl, sym, subst, ◌∙◌, ap, arith}
 use Rattle.std.proofs.lemmas.List.{map-append}
 use Rattle.std.proofs.lemmas.List.Elements.{All-nil, All-push}
 use Rattle.rg_theory.specs.System.{System, IsAllReachable}
@@ -13,7 +13,10 @@ use Rattle.rg_places.specs.RegionPlaces.{region_tokens, IsRegionPlace}
 use Rattle.rg_marks.specs.Tokens.{IsNarrow, AreTokens}
 use Rattle.rg_marks.specs.Separated.{AddsOne, SeparateSoMuch, AreSome}
 use Rattle.rg_marks.specs.declared.separated.Separated.{Separated}
+use Rattle.rg_marks.specs.Firsts.{AreFirsts, AreAllFirsts}
+use Rattle.rg_marks.specs.declared.firsts.Firsts.{Firsts}
 use Rattle.rg_marks.proofs.Members.{adds_last}
+use Rattle.rg_marks.proofs.FirstProblems.{no_firsts, firsts_more}
 use Rattle.rg_blocks.specs.Taking.{AreNotable}
 use Rattle.rg_separate.specs.Keeping.{MayKeep, IsKept, AreKept}
 
@@ -37,13 +40,17 @@ module _ (lts : System) (r : RegionPlace) (may : MayKeep lts r) where
   is_kept : IsKept lts r.place
   is_kept = record { narrow = narrow_place; in_range = may.1.in_range }
 
-  -- it is kept behind the others
-  pub one_more : (places after : List Place) (before now : Separated) → AreKept lts places before → after ≡ places ++ r.place ∷ []
+  -- it is kept behind the others, with the problems that it is the first to separate
+  pub one_more : (places after : List Place) (all more : List Firsts) (f : Firsts) (before now : Separated) → AreKept lts places all before → after ≡ places ++ r.place ∷ [] → more ≡ all ++ f ∷ []
       → ((front more : List PlaceOfTheory) → AddsOne (shown_place r.place) front more → SeparateSoMuch lts front before → SeparateSoMuch lts more now)
-      → AreKept lts after now
-  one_more places after before now are is adds = record {
+      → ((front : List PlaceOfTheory) → SeparateSoMuch lts front before → AreFirsts lts front (shown_place r.place) f)
+      → AreKept lts after more now
+  one_more places after all more f before now are is is' adds first = record {
     reachable = are.reachable;
     each = subst (All (IsKept lts)) (sym is) (All-push (IsKept lts) places r.place are.each is_kept);
+    firsts = subst (λ l. AreAllFirsts lts l more) (sym (shown_more places after is))
+        (subst (AreAllFirsts lts (map shown_place places ++ shown_place r.place ∷ [])) (sym is')
+        (firsts_more lts (map shown_place places) (shown_place r.place) all f are.firsts (first (map shown_place places) are.so_much)));
     so_much = subst (λ l. SeparateSoMuch lts l now) (sym (shown_more places after is)) (adds (map shown_place places) (map shown_place places ++ shown_place r.place ∷ []) (adds_last (shown_place r.place) (map shown_place places)) are.so_much);
   }
     where
@@ -54,8 +61,8 @@ module _ (lts : System) (r : RegionPlace) (may : MayKeep lts r) where
 pub notable : (lts : System) (class : Class) → IsAllReachable lts → AreNotable lts (IsRegionPlace lts class)
 notable lts class reachable = record { each = λ r is. (narrow_place lts r (class, is), tokens_of_place lts r (class, is) reachable) }
 
-pub some_kept : (lts : System) (places : List Place) (separated : Separated) → AreKept lts places separated → AreSome lts separated
-some_kept lts places separated are = record { places = map shown_place places; so_much = are.so_much }
+pub some_kept : (lts : System) (places : List Place) (firsts : List Firsts) (separated : Separated) → AreKept lts places firsts separated → AreSome lts separated
+some_kept lts places firsts separated are = record { places = map shown_place places; so_much = are.so_much }
 
-pub none_kept : (lts : System) (places : List Place) (separated : Separated) → places ≡ [] → IsAllReachable lts → SeparateSoMuch lts [] separated → AreKept lts places separated
-none_kept lts places separated none reachable much = subst (λ l. AreKept lts l separated) (sym none) (record { reachable = reachable; each = All-nil (IsKept lts); so_much = much })
+pub none_kept : (lts : System) (places : List Place) (firsts : List Firsts) (separated : Separated) → places ≡ [] → firsts ≡ [] → IsAllReachable lts → SeparateSoMuch lts [] separated → AreKept lts places firsts separated
+none_kept lts places firsts separated none none' reachable much = subst (λ l. AreKept lts l firsts separated) (sym none) (record { reachable = reachable; each = All-nil (IsKept lts); firsts = no_firsts lts [] firsts refl none'; so_much = much })

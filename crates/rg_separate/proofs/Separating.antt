@@ -12,6 +12,7 @@ use Rattle.rg_integers.specs.Range.{greatest}
 use Rattle.rg_net.specs.Shown.{shown_place}
 use Rattle.rg_net.specs.declared.net.Place.{Place as PlaceOfCode}
 use Rattle.rg_marks.specs.declared.separated.Separated.{Separated}
+use Rattle.rg_marks.specs.declared.firsts.Firsts.{Firsts}
 use Rattle.rg_outcome.specs.Coming.{Separation.places}
 use Rattle.rg_theory.specs.Region.{IsRegionIn}
 use Rattle.rg_outcome.specs.Outcome.{Searched}
@@ -28,8 +29,8 @@ narrow lts class p reachable kept (m, region) = record {
 }
 
 -- the places with which the search ends are regions that separate all problems
-pub separating : (lts : System) (class : Class) (kept : List PlaceOfCode) (separated : Separated) → IsInRange lts → HasNumbersInRange class → AreKept lts kept separated → length kept < 4294967296 → Searched lts class (places (map shown_place kept)) → AreSeparating lts class (map shown_place kept)
-separating lts class kept separated fine numbers are few searched = record {
+pub separating : (lts : System) (class : Class) (kept : List PlaceOfCode) (firsts : List Firsts) (separated : Separated) → IsInRange lts → HasNumbersInRange class → AreKept lts kept firsts separated → length kept < 4294967296 → Searched lts class (places (map shown_place kept)) → AreSeparating lts class (map shown_place kept)
+separating lts class kept firsts separated fine numbers are few searched = record {
   regions = All-map (IsNarrowRegion lts class) shown_place kept
       (λ i d lt. narrow lts class (get_or kept i d) are.reachable (are.each i d lt)
       (subst (IsRegionIn lts class) (get_or-map shown_place kept i d (shown_place d) lt)

@@ -8,6 +8,8 @@ use Rattle.rg_theory.specs.Problem.{SeparateAll}
 use Rattle.rg_net.specs.Range.{IsNetInRange}
 use Rattle.rg_integers.specs.Range.{greatest}
 use Rattle.rg_net.specs.declared.net.Place.{Place as PlaceOfCode}
+use Rattle.rg_marks.specs.declared.firsts.Firsts.{Firsts}
+use Rattle.rg_marks.specs.Firsts.{AreAllFirsts}
 use Rattle.rg_reasons.specs.declared.certificate.Certificate.{Certificate}
 use Rattle.rg_net.specs.Shown.{shown_place}
 use Rattle.rg_theory.specs.declared.Problem.{Problem}
@@ -35,8 +37,13 @@ pub record AreSeparating (lts : System) (class : Class) (places : List Place) : 
 
 -- the fact holds of the places, of the certificate, of the term
 abbrev pub IfPlaces : Separation → (List PlaceOfCode → Type 0) → Type 0
-IfPlaces (Places places) P = P places.items
+IfPlaces (Places places firsts) P = P places.items
 IfPlaces _ P = Unit {0}
+
+-- the fact holds of the places with the problems that each is the first to separate
+abbrev pub IfFirsts : Separation → (List PlaceOfCode → List Firsts → Type 0) → Type 0
+IfFirsts (Places places firsts) P = P places.items firsts.items
+IfFirsts _ P = Unit {0}
 
 abbrev pub IfUnsolvable : Separation → (Certificate → Type 0) → Type 0
 IfUnsolvable (Unsolvable cert) P = P cert
@@ -52,15 +59,15 @@ pub record IsGoodCertificate (lts : System) (class : Class) (cert : Certificate)
   pub in_range : IsCertificateOf lts cert
   pub holds : Accepts lts class (reason_of cert.reason)
 
--- what a separation says
+-- what a separation says: of the places also which problems each is the first to separate
 abbrev pub SeparationTells : System → Class → Separation → Type 0
-SeparationTells lts class (Places places) = AreSeparating lts class (map shown_place places.items)
+SeparationTells lts class (Places places firsts) = AreSeparating lts class (map shown_place places.items) × AreAllFirsts lts (map shown_place places.items) firsts.items
 SeparationTells lts class (Unsolvable cert) = IsGoodCertificate lts class cert
 SeparationTells lts class (TooWide w) = ShownWide lts class (shown_of w)
 
 -- the separation is this one, in the words of the one answer
 abbrev pub ShowsSeparation : Separation → outcome.Separation → Type 0
-ShowsSeparation (Places places) o = o ≡ outcome.Separation.places (map shown_place places.items)
+ShowsSeparation (Places places firsts) o = o ≡ outcome.Separation.places (map shown_place places.items)
 ShowsSeparation (Unsolvable cert) o = (problem : Problem) × (trees : List Tree) × (reason_of cert.reason ≡ refuted problem trees) × (o ≡ outcome.Separation.unsolvable problem trees)
 ShowsSeparation (TooWide w) o = o ≡ outcome.Separation.too_wide (shown_of w)
 

@@ -8,6 +8,8 @@ use Rattle.rg_net.specs.Range.{IsPlaceInRange}
 use Rattle.rg_net.specs.Shown.{shown_place}
 use Rattle.rg_marks.specs.Tokens.{IsNarrow}
 use Rattle.rg_marks.specs.Separated.{SeparateSoMuch}
+use Rattle.rg_marks.specs.Firsts.{AreAllFirsts}
+use Rattle.rg_marks.specs.declared.firsts.Firsts.{Firsts}
 use Rattle.rg_marks.specs.declared.separated.Separated.{Separated}
 use Rattle.rg_spanning.specs.Spanning.{IsTreeOf}
 use Rattle.rg_order_of_work.specs.Setting.{Setting as ShownSetting}
@@ -57,8 +59,9 @@ pub record IsKept (lts : System) (p : Place) : Type 0 where
   pub narrow : IsNarrow lts (shown_place p)
   pub in_range : IsPlaceInRange (shown_place p)
 
--- each state can be reached, such places are kept, and they separate so much
-pub record AreKept (lts : System) (places : List Place) (separated : Separated) : Type 0 where
+-- each state can be reached, such places are kept, each with the problems that it is the first to separate, and they separate so much
+pub record AreKept (lts : System) (places : List Place) (all : List Firsts) (separated : Separated) : Type 0 where
   pub reachable : IsAllReachable lts
   pub each : All (IsKept lts) places
+  pub firsts : AreAllFirsts lts (map shown_place places) all
   pub so_much : SeparateSoMuch lts (map shown_place places) separated

@@ -5,24 +5,25 @@ ghost use Rattle.rg_separate.specs.Keeping.{AreKept, MayKeep};
 
 use rg_blocks::Keeping;
 use rg_lts::Lts;
-use rg_marks::{RegionPlace, Separated};
+use rg_marks::{Firsts, RegionPlace, Separated};
 use rg_memory::NoMemory;
 use rg_net::Place;
 use rg_theory::Problem;
 use std::alloc::Global;
 
-// Places of the system that are kept, and what they separate. Their tokens are let go.
+// Places of the system that are kept, for each the problems that it is the first to separate, and what they separate. Their tokens are let go.
 #[derive(Drop)]
 pub(crate) struct Kept {
     pub(crate) alloc: Global,
     pub(crate) places: Vec<Place>,
+    pub(crate) firsts: Vec<Firsts>,
     pub(crate) separated: Separated,
 }
 
 impl Keeping for Kept {
     ghost places = { λ k. map shown_place k.places.items };
 
-    ghost keeps_for = { λ k lts. AreKept lts k.places.items k.separated };
+    ghost keeps_for = { λ k lts. AreKept lts k.places.items k.firsts.items k.separated };
 
     ghost may_keep = { MayKeep };
 
@@ -31,8 +32,10 @@ impl Keeping for Kept {
     }
 
     fn keep(&mut self, lts: &Lts, place: RegionPlace) -> Result<(), NoMemory> {
-        self.separated
+        let firsts = self
+            .separated
             .add(self.alloc, lts, &place.place, &place.tokens)?;
+        self.firsts.push(firsts)?;
         self.places.push(place.place)?;
         Ok(())
     }

@@ -4,13 +4,14 @@ ghost use Rattle.rg_theory.specs.ClassWords.{HasNumbersInRange};
 ghost use Rattle.rg_theory.specs.System.{IsAllReachable};
 ghost use Rattle.rg_net.specs.Shown.{shown_place};
 ghost use Rattle.rg_order_of_work.specs.Shown.{ShownWide};
+ghost use Rattle.rg_marks.specs.Firsts.{AreAllFirsts};
 ghost use Rattle.rg_separate.specs.View.{shown_of};
 ghost use Rattle.rg_separate.specs.Passing.{cycle_passed};
 ghost use Rattle.rg_separate.specs.Keeping.{IsSetting, CanSolve};
 ghost use Rattle.rg_rows.specs.Sharing.{IsCommonOf};
 ghost use Rattle.rg_case_parts.specs.SettingViews.{shown_setting};
 ghost use Rattle.rg_separate.specs.Deciding.{EndsWith, ProvesRefuted};
-ghost use Rattle.rg_separate.specs.Answer.{AreSeparating, IsGoodCertificate, IfPlaces, IfUnsolvable, IfTooWide, SeparationTells, IsSearched};
+ghost use Rattle.rg_separate.specs.Answer.{AreSeparating, IsGoodCertificate, IfPlaces, IfFirsts, IfUnsolvable, IfTooWide, SeparationTells, IsSearched};
 
 use crate::kept::Kept;
 use crate::problem::{ProblemAnswer, solve_problem};
@@ -19,7 +20,7 @@ use rg_blocks::{SeparationOutcome, Solving, separate_all};
 use rg_case_parts::{Setting, chord_vectors};
 use rg_cycles::{CycleWide, Stop, reduce};
 use rg_lts::Lts;
-use rg_marks::Separated;
+use rg_marks::{Firsts, Separated};
 use rg_memory::NoMemory;
 use rg_net::Place;
 use rg_ports::Gate;
@@ -33,8 +34,8 @@ use std::thread::Threads;
 /// What the separation problems of a system come to.
 #[derive(Drop)]
 pub enum Separation {
-    /// Places that separate all problems.
-    Places(Vec<Place>),
+    /// Places that separate all problems, and for each the problems that it is the first to separate.
+    Places(Vec<Place>, Vec<Firsts>),
     /// No place of the class separates some problem.
     Unsolvable(Certificate),
     /// A number passes in some problem that no place found separates.
@@ -50,7 +51,7 @@ pub enum Separation {
 /// the branching on them, and the place of its point or the leaves of its tree. The first place is kept. A problem
 /// whose cases are all refuted ends the work: `Unsolvable`. One without a place in which a number passes is passed
 /// over; at the end the first problem that no kept place separates makes the answer `TooWide`, and without one the
-/// answer is `Places`. `NoMemory` where there is none.
+/// answer is `Places`: of each place also the problems are told that it is the first to separate. `NoMemory` where there is none.
 ///
 /// The answer is the one of the system and the class, for any number of jobs and any gate: `searched`, with
 /// `outcome_is_one`, is "exactly". The problems are solved in blocks, on so many threads as `jobs` says at most.
@@ -67,6 +68,7 @@ pub fn separate<R: Threads + Sync, G: Gate + Sync>(
     requires some { 1 ≤ jobs }
     ensures searched { IfOk result (IsSearched lts.now class) }
     ensures places { IfOk result (λ s. IfPlaces s (λ places. AreSeparating lts.now class (map shown_place places))) }
+    ensures firsts { IfOk result (λ s. IfFirsts s (λ places firsts. AreAllFirsts lts.now (map shown_place places) firsts)) }
     ensures unsolvable { IfOk result (λ s. IfUnsolvable s (IsGoodCertificate lts.now class)) }
     ensures too_wide { IfOk result (λ s. IfTooWide s (λ w. ShownWide lts.now class (shown_of w))) }
 {
@@ -119,11 +121,12 @@ fn separated<R: Threads + Sync, G: Gate + Sync>(
     let mut kept = Kept {
         alloc,
         places: Vec::new(alloc),
+        firsts: Vec::new(alloc),
         separated: Separated::nothing(alloc, lts)?,
     };
     let mut proof = None;
     match separate_all(rt, alloc, lts, &mut kept, &problems, jobs, gate, &mut proof)? {
-        SeparationOutcome::Separated => Ok(Separation::Places(kept.places)),
+        SeparationOutcome::Separated => Ok(Separation::Places(kept.places, kept.firsts)),
         SeparationOutcome::Unsolvable(refuted) => certified(problems, refuted, proof),
         SeparationOutcome::TooWide(left) => shown(problems, left),
     }

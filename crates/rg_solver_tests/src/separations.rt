@@ -14,7 +14,7 @@ use std::thread::Threads;
 // How many places a separation has, and `None` where a problem has no place.
 fn count(separation: Separation) -> Option<Option<usize>> {
     match separation {
-        Separation::Places(places) => Some(Some(places.len())),
+        Separation::Places(places, _) => Some(Some(places.len())),
         Separation::Unsolvable(_) => Some(None),
         Separation::TooWide(_) => None,
     }

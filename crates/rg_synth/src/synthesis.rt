@@ -6,6 +6,7 @@ ghost use Rattle.rg_theory.specs.Problem.{SeparateAll};
 ghost use Rattle.rg_net.specs.Range.{IsNetInRange};
 ghost use Rattle.rg_net.specs.Shown.{shown_place};
 ghost use Rattle.rg_theory.specs.Pruned.{IsPruned};
+ghost use Rattle.rg_marks.specs.Firsts.{AreAllFirsts};
 ghost use Rattle.rg_marks.specs.Tokens.{IsNarrow};
 ghost use Rattle.rg_order_of_work.specs.Shown.{ShownWide};
 ghost use Rattle.rg_outcome.specs.Outcome.{Out};
@@ -15,6 +16,7 @@ ghost use Rattle.rg_synth.specs.Answer.{answer_of, IsOpen, IsSolvingNet, IsRight
 use crate::answer::Answer;
 use rg_checks::{first_fork, first_unreachable};
 use rg_lts::Lts;
+use rg_marks::Firsts;
 use rg_memory::NoMemory;
 use rg_net::{Net, Place};
 use rg_ports::Gate;
@@ -85,23 +87,32 @@ fn open_answer<R: Threads + Sync, G: Gate + Sync>(
 {
     lts.is_well_formed();
     match separate(rt, alloc, lts, class, jobs, gate)? {
-        Separation::Places(places) => Ok(Answer::Net(net_of_those_needed(alloc, lts, places)?)),
+        Separation::Places(places, firsts) => {
+            let net = net_of_those_needed(alloc, lts, places, firsts)?;
+            Ok(Answer::Net(net))
+        }
         Separation::Unsolvable(cert) => Ok(Answer::Unsolvable(cert)),
         Separation::TooWide(at) => Ok(Answer::TooWide(at)),
     }
 }
 
-// The net of those places of which none can be left out.
-fn net_of_those_needed(alloc: Global, lts: &Lts, places: Vec<Place>) -> Result<Net, NoMemory>
+// The net of those places of which none can be left out, given with the problems that each is the first to separate.
+fn net_of_those_needed(
+    alloc: Global,
+    lts: &Lts,
+    places: Vec<Place>,
+    firsts: Vec<Firsts>,
+) -> Result<Net, NoMemory>
     requires reachable { IsAllReachable lts.now }
     requires narrow { All (λ p. IsNarrow lts.now (shown_place p)) places.items }
     requires separate { SeparateAll (map shown_place places.items) lts.now }
+    requires firsts { AreAllFirsts lts.now (map shown_place places.items) firsts.items }
     requires in_range { IsNetInRange (record { labels = labels lts.now; places = map shown_place places.items }) }
     ensures labels { IfOk result (λ net. net.labels ≡ labels lts.now) }
     ensures in_range { IfOk result IsNetInRange }
     ensures pruned { IfOk result (λ net. IsPruned lts.now (map shown_place places.items) net.places) }
 {
     let labels = lts.labels();
-    let needed = prune(alloc, lts, places)?;
+    let needed = prune(alloc, lts, places, firsts)?;
     Ok(Net::new(labels, needed))
 }

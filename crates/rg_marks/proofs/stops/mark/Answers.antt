@@ -1,32 +1,29 @@
-use Rattle.std.proofs.Common.{◌<◌, ◌≡◌, length, get_or, List, Bool, Vec, ap, sym, subst, ◌∙◌, arith}
+use Rattle.std.proofs.Common.{◌<◌, Bool, get_or, Vec, vec_len, sym, subst, ◌∙◌, refl}
 use Rattle.std.specs.declared.alloc.Global.{Global}
-use Rattle.std.specs.Vec.{with_items}
-use Rattle.std.proofs.lemmas.List.{with_items_is}
-use Rattle.rg_net.specs.Shown.{shown_place}
+use Rattle.std.proofs.lemmas.List.{get_or_default}
 use Rattle.rg_marks.specs.Stops.{rows_in}
-use Rattle.rg_marks.proofs.Marking.{weight_read, row_length, label_of_row, rows_written, rows_passed}
+use Rattle.rg_marks.proofs.Marking.{row_of_label, row_length, marked_written, marked_end}
+use Rattle.rg_marks.proofs.Stopping.{event_within}
 use Rattle.rg_marks.proofs.stops.mark.Goals as goal
-use Rattle.rg_marks.proofs.stops.mark.Goals.{then-weight-gt0, else-weight-gt0}
 
-pub mark_row-requires : goal.mark_row-requires
-mark_row-requires c =
-    let lt : c.loop-t.t < length c.loop-t.rows = omega arith in
-    row_length c.args.lts.now c.loop-t.rows c.loop-t.t c.index-rows-t.result c.deref_mut.result.now lt c.loop-t.invariant.table c.index-rows-t.is (c.deref_mut.ensures.value ∙ ap (λ (v : Vec Bool Global). v.items) (sym c.index-rows-t.is)) ∙ sym c.requires.tokens
+pub bounds-rows-t : goal.bounds-rows-t
+bounds-rows-t c =
+    let (lt, lt') = event_within c.args.lts.now c.args.events.now c.loop-s.s-index (0, 0) c.loop-s-test.true c.requires.within in
+    row_of_label c.args.lts.now c.loop-s.rows _ lt' c.loop-s.invariant.table
 
-pub loop-t-preserved : goal.loop-t-preserved
-loop-t-preserved c =
-    let lt : c.loop-t.t < length c.loop-t.rows = omega arith in
-    elim c.if-weight-gt0.branch [
-      | then-weight-gt0 w ↦ rw w.rows-is (rows_written c.args.lts.now (shown_place c.args.place.now) c.args.tokens.now
-          (rows_in c.args.rows.now) c.loop-t.rows c.loop-t.t w.index-rows-t.result
-          (with_items (get_or c.loop-t.rows c.loop-t.t w.index-rows-t.result) w.mark_row.new.row) w.deref_mut.result.now w.mark_row.new.row c.index-weight.result.now
-          c.requires.tokens c.requires.weights lt c.loop-t.invariant w.index-rows-t.is
-          (w.deref_mut.ensures.value ∙ ap (λ (v : Vec Bool Global). v.items) (sym w.index-rows-t.is)) c.index-weight.ensures
-          (with_items_is (get_or c.loop-t.rows c.loop-t.t w.index-rows-t.result) w.mark_row.new.row
-          (w.mark_row.auto.row ∙ ap (λ (b : List Bool). length b) w.deref_mut.ensures.value ∙ sym (get_or c.loop-t.rows c.loop-t.t w.index-rows-t.result).ok.0))
-          w.mark_row.auto.row w.mark_row.ensures)
-      | else-weight-gt0 w ↦
-          let weighs = weight_read c.args.place.now.pre.items c.loop-t.t c.index-weight.result.now (subst (λ n. c.loop-t.t < n) (sym c.requires.weights) (label_of_row c.args.lts.now c.loop-t.rows c.loop-t.t lt c.loop-t.invariant.table)) c.index-weight.ensures in
-          let none : c.index-weight.result.now ≡ 0 = (let few = w.if-weight-gt0.false in omega arith) in
-          rw w.rows-is (rows_passed c.args.lts.now (shown_place c.args.place.now) c.args.tokens.now (rows_in c.args.rows.now) (rows_in c.loop-t.rows) c.loop-t.t (sym weighs ∙ none) c.loop-t.invariant)
-    ]
+pub index_mut-requires : goal.index_mut-requires
+index_mut-requires c =
+    let (lt, lt') = event_within c.args.lts.now c.args.events.now c.loop-s.s-index (0, 0) c.loop-s-test.true c.requires.within in
+    let size = row_length c.args.lts.now c.loop-s.rows _ c.index-rows-t.result c.index-rows-t.result.items (row_of_label c.args.lts.now c.loop-s.rows _ lt' c.loop-s.invariant.table) c.loop-s.invariant.table c.index-rows-t.is refl in
+    subst (λ (v : Vec Bool Global). (get_or c.args.events.now c.loop-s.s-index (0, 0)).0 < vec_len v) c.index-rows-t.is
+    (subst (λ n. (get_or c.args.events.now c.loop-s.s-index (0, 0)).0 < n) (sym (c.index-rows-t.result.ok.0 ∙ size)) lt)
+
+pub loop-s-preserved : goal.loop-s-preserved
+loop-s-preserved c =
+    let (lt, lt') = event_within c.args.lts.now c.args.events.now c.loop-s.s-index (0, 0) c.loop-s-test.true c.requires.within in
+    marked_written c.args.lts.now c.args.events.now (rows_in c.args.rows.now) c.loop-s.rows c.loop-s.s-index _ _ c.index-rows-t.result c.loop-s.invariant c.loop-s-test.true
+    (get_or_default c.args.events.now c.loop-s.s-index (get_or c.args.events.now c.loop-s.s-index (0, 0)) (0, 0) c.loop-s-test.true) lt lt' c.index-rows-t.is
+
+pub returns-clause-marks : goal.returns-clause-marks
+returns-clause-marks c =
+    marked_end c.args.lts.now c.args.events.now (rows_in c.args.rows.now) (rows_in c.loop-s.rows) c.loop-s.s-index c.loop-s-test.false c.loop-s.auto.s-index-end c.loop-s.invariant

@@ -25,17 +25,19 @@ shown-requires-clause-shows o c =
 
 pub returns-in-Separated-clause-tells : goal.returns-in-Separated-clause-tells
 returns-in-Separated-clause-tells o c =
-    let kept = c.separate_all.new.kept in
-    separated_tells c.args.setting c.requires.setting c.is_well_formed.ensures kept.places.items kept.separated c.in_ok-separate_all.ensures.kept
-    (subst (IsSeparationOutcome c.args.setting.lts.now (comes_of c.args.setting) (map shown_place kept.places.items)) c.in-Separated.is
-    c.in_ok-separate_all.ensures.comes)
+    let kept = c.separate_all.new.kept in (
+      separated_tells c.args.setting c.requires.setting c.is_well_formed.ensures kept.places.items kept.firsts.items kept.separated c.in_ok-separate_all.ensures.kept
+          (subst (IsSeparationOutcome c.args.setting.lts.now (comes_of c.args.setting) (map shown_place kept.places.items)) c.in-Separated.is
+          c.in_ok-separate_all.ensures.comes),
+      c.in_ok-separate_all.ensures.kept.firsts,
+    )
 
 pub returns-in-Separated-clause-searched : goal.returns-in-Separated-clause-searched
 returns-in-Separated-clause-searched o c =
     let kept = c.separate_all.new.kept in
     record {
       o = places (map shown_place kept.places.items);
-      searched = separated_searched c.args.setting c.requires.setting c.is_well_formed.ensures kept.places.items kept.separated c.in_ok-separate_all.ensures.kept
+      searched = separated_searched c.args.setting c.requires.setting c.is_well_formed.ensures kept.places.items kept.firsts.items kept.separated c.in_ok-separate_all.ensures.kept
           (subst (IsSeparationOutcome c.args.setting.lts.now (comes_of c.args.setting) (map shown_place kept.places.items)) c.in-Separated.is
           c.in_ok-separate_all.ensures.comes);
       shows = refl;

@@ -1,6 +1,7 @@
 use Rattle.std.proofs.Common.{map, subst}
 use Rattle.rg_net.specs.Shown.{shown_place}
-use Rattle.rg_separate.specs.Answer.{IfPlaces, IfUnsolvable, IsSearched, AreSeparating, IsGoodCertificate}
+use Rattle.rg_marks.specs.Firsts.{AreAllFirsts}
+use Rattle.rg_separate.specs.Answer.{IfPlaces, IfFirsts, IfUnsolvable, IsSearched, AreSeparating, IsGoodCertificate}
 use Rattle.rg_synth.proofs.Pruned.{narrow_all}
 use Rattle.rg_synth.proofs.Nets.{solving_net}
 use Rattle.rg_synth.proofs.Answers.{net_out, reason_out, term_out, right}
@@ -11,15 +12,18 @@ net_of_those_needed-requires-clause-narrow g c =
     narrow_all c.args.lts.now c.args.class c.in-Places.places.items
     (subst (λ s. IfPlaces s (λ places. AreSeparating c.args.lts.now c.args.class (map shown_place places))) c.in-Places.is c.in_ok-places.ensures.places)
 
-pub returns-in_ok-net_of_those_needed-in-Places-clause-out : goal.returns-in_ok-net_of_those_needed-in-Places-clause-out
-returns-in_ok-net_of_those_needed-in-Places-clause-out g c =
-    net_out c.args.lts.now c.args.class c.in-Places.places c.in_ok-net_of_those_needed-in-Places.field-0.places c.requires.is_open
-    (subst (IsSearched c.args.lts.now c.args.class) c.in-Places.is c.in_ok-places.ensures.searched) c.in_ok-net_of_those_needed-in-Places.ensures.pruned
+pub net_of_those_needed-requires-clause-firsts : goal.net_of_those_needed-requires-clause-firsts
+net_of_those_needed-requires-clause-firsts g c = subst (λ s. IfFirsts s (λ places firsts. AreAllFirsts c.args.lts.now (map shown_place places) firsts)) c.in-Places.is c.in_ok-places.ensures.firsts
 
-pub returns-in_ok-net_of_those_needed-in-Places-clause-net : goal.returns-in_ok-net_of_those_needed-in-Places-clause-net
-returns-in_ok-net_of_those_needed-in-Places-clause-net g c =
-    let made = c.in_ok-net_of_those_needed-in-Places in
-    solving_net c.args.lts.now c.args.class (map shown_place c.in-Places.places.items) made.field-0 c.is_well_formed.ensures.in_range c.requires.is_open.reachable
+pub returns-in_ok-net-in-Places-clause-out : goal.returns-in_ok-net-in-Places-clause-out
+returns-in_ok-net-in-Places-clause-out g c =
+    net_out c.args.lts.now c.args.class c.in-Places.places c.in-Places.firsts c.in_ok-net-in-Places.net.places c.requires.is_open
+    (subst (IsSearched c.args.lts.now c.args.class) c.in-Places.is c.in_ok-places.ensures.searched) c.in_ok-net-in-Places.ensures.pruned
+
+pub returns-in_ok-net-in-Places-clause-net : goal.returns-in_ok-net-in-Places-clause-net
+returns-in_ok-net-in-Places-clause-net g c =
+    let made = c.in_ok-net-in-Places in
+    solving_net c.args.lts.now c.args.class (map shown_place c.in-Places.places.items) made.net c.is_well_formed.ensures.in_range c.requires.is_open.reachable
     (subst (λ s. IfPlaces s (λ places. AreSeparating c.args.lts.now c.args.class (map shown_place places))) c.in-Places.is c.in_ok-places.ensures.places)
     made.ensures.labels made.ensures.in_range made.ensures.pruned
 

@@ -8,7 +8,8 @@ pub add-requires-clause-tokens : goal.add-requires-clause-tokens
 add-requires-clause-tokens c = rw c.deref.ensures.value (tokens_of_place c.args.lts.now c.args.place c.requires.place c.requires.system.reachable)
 
 pub add-requires-clause-some : goal.add-requires-clause-some
-add-requires-clause-some c = some_kept c.args.lts.now c.args.self.now.places.items c.args.self.now.separated c.requires.system
+add-requires-clause-some c = some_kept c.args.lts.now c.args.self.now.places.items c.args.self.now.firsts.items c.args.self.now.separated c.requires.system
 
 pub returns-clause-system : goal.returns-clause-system
-returns-clause-system c = one_more c.args.lts.now c.args.place c.requires.place c.args.self.now.places.items c.push.new.self.items c.args.self.now.separated c.add.new.self c.requires.system c.in_ok-push.ensures.items c.in_ok-add.ensures.separated
+returns-clause-system c = one_more c.args.lts.now c.args.place c.requires.place c.args.self.now.places.items c.push-2.new.self.items c.args.self.now.firsts.items c.push.new.self.items c.in_ok-firsts.firsts c.args.self.now.separated c.add.new.self
+    c.requires.system c.in_ok-push-2.ensures.items c.in_ok-push.ensures.items c.in_ok-firsts.ensures.separated c.in_ok-firsts.ensures.firsts

@@ -1,0 +1,13 @@
+//! The problems that a place is the first to separate.
+
+/// The problems that a place of a list is the first to separate: none of the places in front of it separates them.
+///
+/// They tell whether the place can be left out of a net: it can, where places behind it separate them all. A net from which no place can be
+/// left out is called irredundant (Badouel, Bernardinello and Darondeau, *Petri Net Synthesis*).
+#[derive(Drop)]
+pub struct Firsts {
+    /// The states, each with a label that the place stops there and no place in front does.
+    pub events: Vec<(u32, u32)>,
+    /// The blocks of the places in front, a number for each state, where the place splits one.
+    pub blocks: Option<Vec<u32>>,
+}
