@@ -12,7 +12,7 @@ use rg_genet::read_graph;
 use rg_lts::Lts;
 use rg_ports::{FolderShelf, read_all};
 use rg_text::MOST_BYTES;
-use rg_words::read_word_list;
+use rg_words::read_words;
 use std::alloc::Global;
 use std::time::{Clock, Instant};
 use std::{env, io};
@@ -42,7 +42,7 @@ fn read(alloc: Global, form: Form, bytes: &[u8]) -> Option<Lts>
     match form {
         Form::System => read_lts(alloc, bytes).ok(),
         Form::Graph => read_graph(alloc, bytes).ok(),
-        Form::Words => read_word_list(alloc, bytes).ok(),
+        Form::Words => read_words(alloc, bytes).ok(),
     }
 }
 

@@ -20,7 +20,7 @@ none_both [] ys none = (tt, none)
 none_both (None ∷ xs) ys none = none_both xs ys none
 none_both (Some f ∷ xs) ys none = absurd none
 
-none_head : (o : Option TextFault) (more : List (Option TextFault)) → AreNone (o ∷ more) → (o ≡ None) × AreNone more
+pub none_head : (o : Option TextFault) (more : List (Option TextFault)) → AreNone (o ∷ more) → (o ≡ None) × AreNone more
 none_head None more none = (refl, none)
 none_head (Some f) more none = absurd none
 
@@ -56,7 +56,7 @@ other_name text x b (c ∷ before) none (inr h) =
     other_name text x b before parts.1 h
 
 -- an entry is fresh, where its fault is none
-abbrev IsFresh : {X : Type 0} → (X → List ℕ) → (List X → X → Option TextFault) → Type 0
+abbrev pub IsFresh : {X : Type 0} → (X → List ℕ) → (List X → X → Option TextFault) → Type 0
 IsFresh {X} text fault = (before : List X) (x : X) → fault before x ≡ None → list_any (λ b. bytes_eq (text x) (text b)) before ≡ false
 
 later_differs : {X : Type 0} (text : X → List ℕ) (fault : List X → X → Option TextFault) → IsFresh text fault → (before : List X) (b : X) (more : List X) → Among b before
@@ -71,7 +71,7 @@ later_differs text fault fresh before b (x ∷ more) among none (suc k) at =
     later_differs text fault fresh (before ++ x ∷ []) b more (among-append b before (x ∷ []) among) head.1 k at
 
 -- one number for a name
-one_number : {X : Type 0} (text : X → List ℕ) (fault : List X → X → Option TextFault) → IsFresh text fault → (before xs : List X) → AreNone (faults_after fault before xs)
+pub one_number : {X : Type 0} (text : X → List ℕ) (fault : List X → X → Option TextFault) → IsFresh text fault → (before xs : List X) → AreNone (faults_after fault before xs)
     → (name : List ℕ) (i j : ℕ) → slice_get (map text xs) i ≡ Some name → slice_get (map text xs) j ≡ Some name → i ≡ j
 one_number text fault fresh before [] none name i j at at' = absurd cc
 one_number text fault fresh before (x ∷ xs) none name zero zero at at' = refl
@@ -85,7 +85,7 @@ one_number text fault fresh before (x ∷ xs) none name (suc i) (suc j) at at' =
     let head = none_head (fault before x) (faults_after fault (before ++ x ∷ []) xs) none in
     ap suc (one_number text fault fresh (before ++ x ∷ []) xs head.1 name i j at at')
 
-state_fresh : IsFresh (λ (e : StateEntry). e.name.text) state_fault
+pub state_fresh : IsFresh (λ (e : StateEntry). e.name.text) state_fault
 state_fresh before x none = by (list_any (λ (b : StateEntry). same_text x.name b.name) before) refl none
   where
     by : (t : Bool) → list_any (λ (b : StateEntry). same_text x.name b.name) before ≡ t
@@ -94,7 +94,7 @@ state_fresh before x none = by (list_any (λ (b : StateEntry). same_text x.name 
     by true e none = absurd cc
     by false e none = e
 
-label_fresh : IsFresh (λ (x : Lexeme). x.text) label_fault
+pub label_fresh : IsFresh (λ (x : Lexeme). x.text) label_fault
 label_fresh before x none = by (list_any (same_text x) before) refl none
   where
     by : (t : Bool) → list_any (same_text x) before ≡ t
@@ -108,7 +108,7 @@ pub record Known (d : Declared) (a : ArcNames) : Type 0 where
   pub label : is_label d a.label ≡ true
   pub to : is_state d a.to ≡ true
 
-known : (d : Declared) (before : List ArcNames) (a : ArcNames) → arc_fault d before a ≡ None → Known d a
+pub known : (d : Declared) (before : List ArcNames) (a : ArcNames) → arc_fault d before a ≡ None → Known d a
 known d before a none = by (is_state d a.from) (is_label d a.label) (is_state d a.to) refl refl refl none
   where
     rest : Option TextFault
@@ -132,7 +132,7 @@ label_names d = map (λ (x : Lexeme). x.text) d.labels
 abbrev Names : Declared → Arc → ArcNames → Type 0
 Names d n a = (slice_get (state_names d) n.from ≡ Some a.from.text) × (slice_get (label_names d) n.label ≡ Some a.label.text) × (slice_get (state_names d) n.to ≡ Some a.to.text)
 
-arc_of : (d : Declared) (a : ArcNames) → Known d a → (n : Arc) × Names d n a
+pub arc_of : (d : Declared) (a : ArcNames) → Known d a → (n : Arc) × Names d n a
 arc_of d a k =
     let from = numbered (λ (e : StateEntry). e.name.text) a.from.text d.states k.from in
     let label = numbered (λ (x : Lexeme). x.text) a.label.text d.labels k.label in
@@ -144,7 +144,7 @@ pub record ArcsOf (d : Declared) (names : List ArcNames) (arcs : List Arc) : Typ
   pub named : (n : Arc) → Has arcs n → (a : ArcNames) × Among a names × Names d n a
   pub all : (a : ArcNames) → Among a names → (n : Arc) × Has arcs n × Names d n a
 
-arcs_of : (d : Declared) (before names : List ArcNames) → AreNone (faults_after (arc_fault d) before names) → (arcs : List Arc) × ArcsOf d names arcs
+pub arcs_of : (d : Declared) (before names : List ArcNames) → AreNone (faults_after (arc_fault d) before names) → (arcs : List Arc) × ArcsOf d names arcs
 arcs_of d before [] none = ([], record { named = λ n h. absurd h; all = λ a h. absurd h })
 arcs_of d before (a ∷ names) none =
     let head = none_head (arc_fault d before a) (faults_after (arc_fault d) (before ++ a ∷ []) names) none in
@@ -184,7 +184,7 @@ pub record Faultless (d : Declared) : Type 0 where
   pub arcs : AreNone (faults_after (arc_fault d) [] d.arcs)
   pub initial : list_any (λ (e : StateEntry). e.initial) d.states ≡ true
 
-faultless : (d : Declared) → AreNone (faults d) → Faultless d
+pub faultless : (d : Declared) → AreNone (faults d) → Faultless d
 faultless d none =
     let a = if_not d.typed NoType in
     let b = faults_after state_fault [] d.states in

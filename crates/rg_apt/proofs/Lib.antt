@@ -14,3 +14,6 @@ pub mod Built
 pub mod PrintSteps
 pub mod Declares
 pub mod PlainTexts
+pub mod SpelledNames
+pub mod SpelledSystems
+pub mod MemoryFaults

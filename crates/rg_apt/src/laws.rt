@@ -6,6 +6,7 @@ ghost use Rattle.rg_theory.specs.System.{System};
 ghost use Rattle.rg_lexer.specs.Lexeme.{Lexeme};
 ghost use Rattle.rg_items.specs.declared.fault.ItemFault.{ItemFault};
 ghost use Rattle.rg_apt.specs.declared.fault.TextFault.{TextFault};
+ghost use Rattle.rg_apt.specs.declared.fault.TextFault.TheVariants.{NoMemory};
 ghost use Rattle.rg_apt.specs.Item.{Item, AreItems};
 ghost use Rattle.rg_apt.specs.Reading.{FirstRefusal, system_grammar};
 ghost use Rattle.rg_apt.specs.Contents.{declared};
@@ -39,4 +40,10 @@ pub fn plain_is_spelled()
 /// The plain text of a system, as `print_lts` writes it, spells that system.
 pub fn printed_is_spelled()
     ensures { (lts : System) → IsWellFormed lts → Spells (lts_text lts) lts }
+{}
+
+/// What a text spells is well formed, and no text has want of memory as its first fault.
+pub fn spelled_is_well_formed()
+    ensures formed { (bytes : List ℕ) (lts : System) → Spells bytes lts → IsWellFormed lts }
+    ensures fault { (bytes : List ℕ) → ¬ FirstFault bytes NoMemory }
 {}

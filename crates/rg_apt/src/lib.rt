@@ -23,7 +23,9 @@ mod print;
 mod whole;
 
 pub use fault::TextFault;
-pub use laws::{items_are_read, one_answer, plain_is_spelled, printed_is_spelled};
+pub use laws::{
+    items_are_read, one_answer, plain_is_spelled, printed_is_spelled, spelled_is_well_formed,
+};
 pub use print::print_lts;
 pub use rg_memory::NoMemory;
 pub use whole::read_lts;

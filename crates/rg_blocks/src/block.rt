@@ -13,7 +13,7 @@ use crate::solving::{ProblemOutcome, SolvedProblem, Solving};
 use rg_lts::Lts;
 use rg_marks::Separated;
 use rg_memory::NoMemory;
-use rg_phase::{Task, block};
+use rg_phase::{PartTask, block_of_parts};
 use rg_ports::Gate;
 use rg_theory::Problem;
 use std::alloc::Global;
@@ -64,13 +64,14 @@ pub fn next_block<K: Keeping>(
     Ok(block)
 }
 
-// The solving of the problems of a block that aren't taken over yet, by their numbers in it.
+// The solving of the problems of a block that aren't taken over yet, by their numbers in it. Each part has a copy of the workspace.
 #[derive(Drop)]
-struct Problems<'a, K, S> {
+struct Problems<'a, K, S: Solving> {
     alloc: Global,
     lts: &'a Lts,
     kept: &'a K,
     solving: &'a S,
+    workspace: &'a S::Workspace,
     problems: &'a [Problem],
     taken: usize,
 }
@@ -82,7 +83,7 @@ struct Part<W> {
     workspace: W,
 }
 
-impl<K: Keeping, S: Solving> Task for Problems<'_, K, S>
+impl<K: Keeping, S: Solving> PartTask for Problems<'_, K, S>
 where
     S::Workspace: Drop,
 {
@@ -90,15 +91,15 @@ where
 
     type Out = SolvedProblem;
 
-    ghost holds = { λ s part. AreSome s.lts.now part.separated × S.serves s.solving.now part.workspace };
+    ghost holds = { λ s part. AreSome s.lts.now part.separated × (S.serves s.solving.now s.workspace.now → S.serves s.solving.now part.workspace) };
 
-    ghost asks = { λ s i. (i < length s.problems.now) × K.keeps_for s.kept.now s.lts.now × All (IsProblem s.lts.now) s.problems.now × All (S.asks s.solving.now) s.problems.now × AreNotable s.lts.now (S.makes s.solving.now) };
+    ghost asks = { λ s i. (i < length s.problems.now) × K.keeps_for s.kept.now s.lts.now × All (IsProblem s.lts.now) s.problems.now × All (S.asks s.solving.now) s.problems.now × AreNotable s.lts.now (S.makes s.solving.now) × S.serves s.solving.now s.workspace.now };
 
     ghost answers = { λ s i v. (slice_get s.problems.now i ≡ Some v.problem) × IsSolvedBy (S.comes s.solving.now) (S.makes s.solving.now) v };
 
     fn begin(&self) -> Result<Part<S::Workspace>, NoMemory> {
         let separated = Separated::nothing(self.alloc, self.lts)?;
-        let workspace = self.solving.workspace()?;
+        let workspace = self.solving.copy_workspace(self.workspace)?;
         Ok(Part {
             separated,
             workspace,
@@ -111,7 +112,10 @@ where
             || self.kept.separates(self.lts, problem)
             || part.separated.separates(self.lts, problem)
         {
-            return Ok(self.left(i));
+            return Ok(SolvedProblem {
+                problem,
+                outcome: None,
+            });
         }
         let outcome = self.solving.solve(&mut part.workspace, problem)?;
         if let ProblemOutcome::Place(region) = &outcome {
@@ -123,38 +127,33 @@ where
             outcome: Some(outcome),
         })
     }
-
-    fn left(&self, i: u32) -> SolvedProblem {
-        SolvedProblem {
-            problem: self.problems[i as usize],
-            outcome: None,
-        }
-    }
 }
 
-/// What the problems of a block come to, in their order, solved by at most `jobs` parts that run beside each other: each takes a few problems
-/// at a time. The first `taken` problems are left unsolved, and so is a problem that a kept place separates, or a place which its own part made
-/// before: its outcome is None. Each part solves with a workspace of its own. The gate is entered before each number of the block and left
-/// after it, also for a problem that is left. `NoMemory` where there is none.
+/// Returns what the problems of a block come to, in their order, solved by at most `jobs` parts that run beside each other, each a run of
+/// neighbours. The first `taken` problems are left unsolved, and so is a problem that a kept place separates, or a place which its own part made
+/// before: its outcome is None. Each part solves with a copy of the workspace. The gate is entered before each number of the block and left
+/// after it, also for a problem that is left. Returns `NoMemory` if memory runs out.
 pub fn solve_block<R: Threads + Sync, K: Keeping + Sync, S: Solving + Sync, G: Gate + Sync>(
     rt: &R,
     alloc: Global,
     lts: &Lts,
     kept: &K,
     solving: &S,
+    workspace: &S::Workspace,
     problems: &[Problem],
     taken: usize,
     jobs: u8,
     gate: &G,
 ) -> Result<Vec<SolvedProblem>, NoMemory>
 where
-    S::Workspace: Send + Drop,
+    S::Workspace: Send + Sync + Drop,
     requires few { length problems.now ≤ most_in_block }
     requires some { 1 ≤ jobs }
     requires kept { K.keeps_for kept.now lts.now }
     requires problems { All (IsProblem lts.now) problems.now }
     requires asked { All (S.asks solving.now) problems.now }
     requires notable { AreNotable lts.now (S.makes solving.now) }
+    requires serves { S.serves solving.now workspace.now }
     ensures solved { IfOk result (λ v. All (IsSolvedBy (S.comes solving.now) (S.makes solving.now)) v.items) }
     ensures same { IfOk result (λ v. problems_of v.items ≡ problems.now) }
 {
@@ -163,8 +162,9 @@ where
         lts,
         kept,
         solving,
+        workspace,
         problems,
         taken,
     };
-    block(rt, alloc, &task, 0, problems.len() as u32, jobs, gate)
+    block_of_parts(rt, alloc, &task, 0, problems.len() as u32, jobs, gate)
 }

@@ -3,8 +3,8 @@
 //! Places that separate all problems, kept one after the other, are the usual way to a net (Badouel, Bernardinello and Darondeau,
 //! *Petri Net Synthesis*). The problems are solved in blocks, by parts that run beside each other, and what they come to is taken over in
 //! their order, so that it is the same as if they were solved one after the other. The first problems of a block are solved in turn, as long
-//! as their places separate what follows. Which part solves a problem may differ from run to run. A part leaves a problem unsolved that a kept
-//! place separates, or one which it made itself; such a problem is solved when its turn comes, unless a kept place separates it then.
+//! as their places separate what follows. A part leaves a problem unsolved that a kept place separates, or one which it made itself; such a
+//! problem is solved when its turn comes, unless a kept place separates it then.
 #![tactic(auto)]
 
 mod block;

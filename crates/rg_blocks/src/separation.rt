@@ -45,7 +45,7 @@ fn take_block<R: Threads + Sync, K: Keeping + Sync, S: Solving + Sync, G: Gate +
     proof: &mut Option<(Problem, S::Proof)>,
 ) -> Result<Option<Problem>, NoMemory>
 where
-    S::Workspace: Send + Drop,
+    S::Workspace: Send + Sync + Drop,
     requires few { length problems.now ≤ most_in_block }
     requires some { 1 ≤ jobs }
     requires kept { K.keeps_for kept.old lts.now }
@@ -70,7 +70,7 @@ where
         }
         Begun::First(taken) => {
             let mut solved = solve_block(
-                rt, alloc, lts, kept, solving, problems, taken, jobs, gate,
+                rt, alloc, lts, kept, solving, workspace, problems, taken, jobs, gate,
             )?;
             let others = solved.split_off(taken)?;
             take_over(lts, kept, solving, workspace, others, proof)
@@ -92,7 +92,7 @@ fn solve_all<R: Threads + Sync, K: Keeping + Sync, S: Solving + Sync, G: Gate + 
     proof: &mut Option<(Problem, S::Proof)>,
 ) -> Result<Option<Problem>, NoMemory>
 where
-    S::Workspace: Send + Drop,
+    S::Workspace: Send + Sync + Drop,
     requires some { 1 ≤ jobs }
     requires asked { AsksAll lts.now (S.asks solving.now) }
     requires reachable { IsAllReachable lts.now }
@@ -127,20 +127,21 @@ where
 }
 
 /// Separates all problems of the system, each of whose states is reachable, from no place on. What the problems come to, and the places
-/// that are kept, are the same for any number of jobs and any gate. The calling thread solves with one workspace, and each part of a block
-/// with one of its own. `NoMemory` where there is none.
+/// that are kept, are the same for any number of jobs and any gate. The calling thread solves with the workspace, and each part of a block
+/// with a copy of it. Returns `NoMemory` if memory runs out: then nothing is said of the workspace.
 pub fn separate_all<R: Threads + Sync, K: Keeping + Sync, S: Solving + Sync, G: Gate + Sync>(
     rt: &R,
     alloc: Global,
     lts: &Lts,
     kept: &mut K,
     solving: &S,
+    workspace: &mut S::Workspace,
     jobs: u8,
     gate: &G,
     proof: &mut Option<(Problem, S::Proof)>,
 ) -> Result<SeparationOutcome, NoMemory>
 where
-    S::Workspace: Send + Drop,
+    S::Workspace: Send + Sync + Drop,
     requires some { 1 ≤ jobs }
     requires asked { AsksAll lts.now (S.asks solving.now) }
     requires reachable { IsAllReachable lts.now }
@@ -149,25 +150,14 @@ where
     requires keepable { AreKeepable (S.makes solving.now) (K.may_keep lts.now) }
     requires notable { AreNotable lts.now (S.makes solving.now) }
     requires empty { K.places kept.old ≡ [] }
+    requires serves { S.serves solving.now workspace.old }
     requires proves { IfSome proof.old (λ p. S.proves solving.now p.0 p.1) }
     ensures kept { OnOk result (K.keeps_for kept.new lts.now) }
+    ensures serves { OnOk result (S.serves solving.now workspace.new) }
     ensures proves { IfSome proof.new (λ p. S.proves solving.now p.0 p.1) }
     ensures comes { IfOk result (IsSeparationOutcome lts.now (S.comes solving.now) (K.places kept.new)) }
 {
-    let refuted = {
-        let mut workspace = solving.workspace()?;
-        solve_all(
-            rt,
-            alloc,
-            lts,
-            kept,
-            solving,
-            &mut workspace,
-            jobs,
-            gate,
-            proof,
-        )?
-    };
+    let refuted = solve_all(rt, alloc, lts, kept, solving, workspace, jobs, gate, proof)?;
     match refuted {
         Some(problem) => Ok(SeparationOutcome::Unsolvable(problem)),
         None => match next_problem(lts, kept, None) {

@@ -54,9 +54,9 @@ pub trait Solving {
     /// What is said of what shows that a problem is refuted.
     ghost proves: { Self → Problem → Self.Proof → Type 0 };
 
-    /// What one thread solves with, before its first problem. `NoMemory` where there is none.
-    fn workspace(&self) -> Result<Self::Workspace, NoMemory>
-        ensures { IfOk result (serves self.now) };
+    /// Returns a copy of a workspace for another thread, which serves if that one does. Returns `NoMemory` if memory runs out.
+    fn copy_workspace(&self, workspace: &Self::Workspace) -> Result<Self::Workspace, NoMemory>
+        ensures { IfOk result (λ copy. serves self.now workspace.now → serves self.now copy) };
 
     /// Solves a problem in a thread that solves with this. `NoMemory` where there is none: then nothing is said of what it solves with.
     fn solve(

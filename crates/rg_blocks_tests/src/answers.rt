@@ -59,7 +59,7 @@ impl Gate for Counts {
 }
 
 // One answer for each of the first labels, which have no arc; in any other problem a number passes. Kept are how many problems were solved,
-// how many of them while their number was inside the gate, and how many in turn; how many workspaces were made, and in how many of them a
+// how many of them while their number was inside the gate, and how many in turn; how many workspaces were copied, and in how many workspaces a
 // problem was solved.
 #[derive(Drop)]
 pub(crate) struct Answers<'a> {
@@ -70,7 +70,7 @@ pub(crate) struct Answers<'a> {
     pub(crate) solved: AtomicU64,
     pub(crate) solved_inside: AtomicU64,
     pub(crate) in_turn: AtomicU64,
-    pub(crate) made: AtomicU64,
+    pub(crate) copied: AtomicU64,
     pub(crate) used: AtomicU64,
 }
 
@@ -89,7 +89,7 @@ impl<'a> Answers<'a> {
             solved: AtomicU64::new(0),
             solved_inside: AtomicU64::new(0),
             in_turn: AtomicU64::new(0),
-            made: AtomicU64::new(0),
+            copied: AtomicU64::new(0),
             used: AtomicU64::new(0),
         }
     }
@@ -99,6 +99,12 @@ impl<'a> Answers<'a> {
 #[derive(Drop)]
 pub(crate) struct Work {
     used: bool,
+}
+
+impl Work {
+    pub(crate) fn new() -> Work {
+        Work { used: false }
+    }
 }
 
 impl Solving for Answers<'_> {
@@ -116,9 +122,9 @@ impl Solving for Answers<'_> {
 
     ghost proves = { λ _ _ _. ⊤ };
 
-    fn workspace(&self) -> Result<Work, NoMemory> {
-        self.made.fetch_add(1, Ordering::SeqCst);
-        Ok(Work { used: false })
+    fn copy_workspace(&self, _workspace: &Work) -> Result<Work, NoMemory> {
+        self.copied.fetch_add(1, Ordering::SeqCst);
+        Ok(Work::new())
     }
 
     fn solve(&self, workspace: &mut Work, problem: Problem) -> Result<ProblemOutcome, NoMemory> {

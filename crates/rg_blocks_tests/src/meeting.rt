@@ -8,9 +8,8 @@ use std::sync::atomic::{AtomicU64, Ordering};
 // How often a number that waits looks for the others.
 const TURNS: u64 = 10_000_000_000;
 
-/// Holds the first numbers of a block until the last one is entered, and the last one until each of them is. So no part that takes one of
-/// the first numbers does another one, where a part takes one number at a time; and none waits in vain where there are more parts than first
-/// numbers.
+/// Holds the first numbers of a block until the last one is entered, and the last one until each of them is. None waits in vain where each of
+/// these numbers has a part of its own.
 #[derive(Drop)]
 pub struct Meeting {
     last: u32,

@@ -1,7 +1,7 @@
 //! What all problems come to, worked by hand, with any number of jobs.
 ghost use Rattle.std.specs.Prelude.{◌≤◌};
 
-use crate::answers::{Answers, Counts, Given};
+use crate::answers::{Answers, Counts, Given, Work};
 use crate::meeting::Meeting;
 use crate::places::{Places, has_dead};
 use rg_blocks::{SeparationOutcome, separate_all};
@@ -16,6 +16,8 @@ use std::sync::atomic::Ordering;
 use std::test::Fail;
 use std::thread::Threads;
 
+// The answers to the problems of labels, what all of them come to, the labels whose places are kept, and how many problems are solved: by one job,
+// by two or three and how many of these inside the gate, and the same where each label has a part of its own.
 type Row = (
     &'static [Given],
     Option<SeparationOutcome>,
@@ -25,44 +27,42 @@ type Row = (
     (u64, u64),
 );
 
-// The answers to the problems of labels, what all of them come to, the labels whose places are kept, how many problems one job solves, and at
-// least and at most how many more jobs do, and how many of them inside the gate. Each is one block of less than 64 problems: the first label is
-// solved in turn, before the gate is entered, and the others as long as the one behind a label that was solved is stopped. What is left then
-// is solved by parts, which take one label at a time; one of them leaves what a place kept so far stops, or one of its own. At last those are
-// solved that were left for a place that isn't kept. One job solves each inside. Most are solved where each label has a part of its own, and
-// fewest where one part does all that is left.
+// Each is one block of less than 64 problems: the first label is solved in turn, before the gate is entered, and the others as long as the one
+// behind a label that was solved is stopped. What is left then is solved by parts: of four labels two jobs have 0 and 1, and 2 and 3; of three
+// jobs the first two have one label each, and the third one has labels 2 and 3. A part leaves what a place kept so far stops, or one of its own.
+// At last those are solved that were left for a place that isn't kept. One job solves each inside.
 const ROWS: [Row; 16] = [
     (
         &[Given::Stops(1), Given::Stops(0), Given::Stops(2)],
         Some(SeparationOutcome::Separated),
         &[0, 2],
         2,
-        (2, 2),
-        (0, 0),
+        (2, 0),
+        (2, 0),
     ),
     (
         &[Given::Stops(1), Given::TooWide, Given::Stops(0)],
         Some(SeparationOutcome::Separated),
         &[0, 2],
         2,
-        (2, 2),
-        (0, 0),
+        (2, 0),
+        (2, 0),
     ),
     (
         &[Given::Stops(1), Given::Refuted, Given::Stops(0)],
         Some(SeparationOutcome::Separated),
         &[0, 2],
         2,
-        (2, 2),
-        (0, 0),
+        (2, 0),
+        (2, 0),
     ),
     (
         &[Given::TooWide, Given::Stops(0)],
         Some(SeparationOutcome::Separated),
         &[1],
         2,
-        (2, 2),
-        (1, 1),
+        (2, 1),
+        (2, 1),
     ),
     (
         &[
@@ -74,8 +74,8 @@ const ROWS: [Row; 16] = [
         Some(SeparationOutcome::TooWide(Problem::Event(0, 1))),
         &[2],
         4,
-        (4, 4),
-        (3, 3),
+        (4, 3),
+        (4, 3),
     ),
     (
         &[
@@ -87,33 +87,33 @@ const ROWS: [Row; 16] = [
         Some(SeparationOutcome::Unsolvable(Problem::Event(0, 2))),
         &[1],
         3,
-        (4, 4),
-        (3, 3),
+        (4, 3),
+        (4, 3),
     ),
     (
         &[Given::Refuted, Given::Stops(1)],
         Some(SeparationOutcome::Unsolvable(Problem::Event(0, 0))),
         &[],
         1,
-        (1, 1),
-        (0, 0),
+        (1, 0),
+        (1, 0),
     ),
-    (&[Given::NoMemory], None, &[], 1, (1, 1), (0, 0)),
+    (&[Given::NoMemory], None, &[], 1, (1, 0), (1, 0)),
     (
         &[Given::Stops(0), Given::NoMemory],
         None,
         &[],
         2,
-        (2, 2),
-        (1, 1),
+        (2, 1),
+        (2, 1),
     ),
     (
         &[Given::Stops(0)],
         Some(SeparationOutcome::Separated),
         &[0],
         1,
-        (1, 1),
-        (0, 0),
+        (1, 0),
+        (1, 0),
     ),
     // the first two places stop the labels behind them, so that all are solved in turn
     (
@@ -126,8 +126,8 @@ const ROWS: [Row; 16] = [
         Some(SeparationOutcome::Separated),
         &[0, 2],
         2,
-        (2, 2),
-        (0, 0),
+        (2, 0),
+        (2, 0),
     ),
     // the place of label 0 is kept before the parts begin, so that label 2 is left
     (
@@ -140,12 +140,11 @@ const ROWS: [Row; 16] = [
         Some(SeparationOutcome::Separated),
         &[0, 1, 3],
         3,
-        (3, 3),
-        (2, 2),
+        (3, 2),
+        (3, 2),
     ),
-    // where one part does labels 1 and 2, it leaves label 2, and label 3 is solved; where one does labels 2 and 3, but another label 1, label 3 is
-    // left for the place of label 2, which is dropped for that of label 1: then label 3 is solved at last; else each of the three has a part that
-    // solves it
+    // where one part does labels 2 and 3, label 3 is left for the place of label 2, which is dropped for that of label 1: then label 3 is solved at
+    // last; where each has a part of its own, label 3 is solved by its part
     (
         &[
             Given::Stops(0),
@@ -156,8 +155,8 @@ const ROWS: [Row; 16] = [
         Some(SeparationOutcome::Separated),
         &[0, 1, 3],
         3,
-        (3, 4),
-        (2, 3),
+        (4, 2),
+        (4, 3),
     ),
     (
         &[
@@ -169,8 +168,8 @@ const ROWS: [Row; 16] = [
         Some(SeparationOutcome::TooWide(Problem::Event(0, 3))),
         &[0, 1],
         3,
-        (3, 4),
-        (2, 3),
+        (4, 2),
+        (4, 3),
     ),
     (
         &[
@@ -182,8 +181,8 @@ const ROWS: [Row; 16] = [
         Some(SeparationOutcome::Unsolvable(Problem::Event(0, 3))),
         &[0, 1],
         3,
-        (3, 4),
-        (2, 3),
+        (4, 2),
+        (4, 3),
     ),
     (
         &[
@@ -195,8 +194,8 @@ const ROWS: [Row; 16] = [
         None,
         &[],
         3,
-        (3, 4),
-        (2, 3),
+        (4, 2),
+        (4, 3),
     ),
 ];
 
@@ -256,8 +255,20 @@ fn come<R: Threads + Sync, G: Gate + Sync>(
     let mut places = Places {
         kept: Vec::new(alloc),
     };
+    let mut workspace = Work::new();
     let mut proof = None;
-    match separate_all(rt, alloc, lts, &mut places, answers, jobs, gate, &mut proof) {
+    let end = separate_all(
+        rt,
+        alloc,
+        lts,
+        &mut places,
+        answers,
+        &mut workspace,
+        jobs,
+        gate,
+        &mut proof,
+    );
+    match end {
         Ok(outcome) => Some((outcome, places.kept)),
         Err(_) => None,
     }
@@ -276,14 +287,14 @@ fn are_places_of(places: &[RegionPlace], labels: &[usize]) -> bool {
     true
 }
 
-// How many problems were solved, how many of them inside the gate, and how many in turn; how many workspaces were made, and in how many of
-// them a problem was solved; and how often the gate was entered and left.
+// How many problems were solved, how many of them inside the gate, and how many in turn; how many workspaces were copied, and in how many
+// workspaces a problem was solved; and how often the gate was entered and left.
 #[derive(Clone, Copy)]
 struct Counted {
     solved: u64,
     solved_inside: u64,
     in_turn: u64,
-    made: u64,
+    copied: u64,
     used: u64,
     entered: u64,
     left: u64,
@@ -323,7 +334,7 @@ fn see_through<R: Threads + Sync, G: Gate + Sync>(
         solved: answers.solved.load(Ordering::SeqCst),
         solved_inside: answers.solved_inside.load(Ordering::SeqCst),
         in_turn: answers.in_turn.load(Ordering::SeqCst),
-        made: answers.made.load(Ordering::SeqCst),
+        copied: answers.copied.load(Ordering::SeqCst),
         used: answers.used.load(Ordering::SeqCst),
         entered: counts.entered.load(Ordering::SeqCst),
         left: counts.left.load(Ordering::SeqCst),
@@ -338,39 +349,36 @@ fn see<R: Threads + Sync>(rt: &R, alloc: Global, lts: &Lts, given: &[Given], job
     see_through(rt, alloc, lts, given, jobs, &gate, &gate)
 }
 
-fn is_within(n: u64, range: (u64, u64)) -> bool {
-    range.0 <= n && n <= range.1
-}
-
-// How many workspaces are made at least and at most: one for the calling thread, and one for each part that does something, where what is
-// left of a block of so many problems is solved inside the gate.
-fn made_by(jobs: u8, labels: usize, inside: u64) -> (u64, u64) {
+// How many workspaces are copied: none for the calling thread, and one for each part with a label, where what is left of so many labels is
+// solved inside the gate.
+fn copied_by(jobs: u8, labels: usize, inside: u64) -> u64 {
     if jobs == 1 || inside == 0 {
-        return (1, 1);
+        return 0;
     }
-    (2, 1 + u64::from(jobs).min(labels as u64))
+    u64::from(jobs).min(labels as u64)
 }
 
 #[test]
 fn rows(rt: HostRuntime) -> Result<(), Fail> {
-    for (given, wanted, labels, by_one, by_more, inside) in ROWS {
+    for (given, wanted, labels, by_one, by_two, by_each) in ROWS {
         let Some(lts) = labelled(rt.alloc(), given.len()) else {
             assert!(rt; false);
             return Ok(());
         };
-        for jobs in [1u8, 2, 3, 7, 16] {
+        for (jobs, solved) in [
+            (1u8, (by_one, by_one)),
+            (2, by_two),
+            (3, by_two),
+            (7, by_each),
+            (16, by_each),
+        ] {
             let seen = see(&rt, rt.alloc(), &lts, given, jobs);
             let counted = seen.counted;
             assert!(rt; seen.is_wanted(wanted, labels));
             assert_eq!(rt; counted.left, counted.entered);
             assert!(rt; wanted.is_none() || counted.entered == given.len() as u64);
-            assert!(rt; is_within(counted.made, made_by(jobs, given.len(), inside.1)));
-            if jobs == 1 {
-                assert_eq!(rt; (counted.solved, counted.solved_inside), (by_one, by_one));
-            } else {
-                assert!(rt; is_within(counted.solved, by_more));
-                assert!(rt; is_within(counted.solved_inside, inside));
-            }
+            assert_eq!(rt; counted.copied, copied_by(jobs, given.len(), by_two.1));
+            assert_eq!(rt; (counted.solved, counted.solved_inside), solved);
         }
     }
     Ok(())
@@ -419,34 +427,10 @@ fn see_held<R: Threads + Sync>(
     None
 }
 
-// One of two parts waits in label 0, which is solved already, until the last label is entered; so the other one does all that is left, and
-// fewest are solved. Each part has a workspace, and the one that waits solves nothing with it.
-#[test]
-fn one_part_does_the_rest(rt: HostRuntime) -> Result<(), Fail> {
-    for (given, wanted, labels, _, (solved, _), (inside, _)) in ROWS {
-        if inside == 0 {
-            continue;
-        }
-        let Some(lts) = labelled(rt.alloc(), given.len()) else {
-            assert!(rt; false);
-            return Ok(());
-        };
-        let Some(seen) = see_held(&rt, rt.alloc(), &lts, given, 2, 1) else {
-            assert!(rt; false);
-            return Ok(());
-        };
-        let counted = seen.counted;
-        assert!(rt; seen.is_wanted(wanted, labels));
-        assert_eq!(rt; (counted.solved, counted.solved_inside), (solved, inside));
-        assert_eq!(rt; (counted.made, counted.used), (3, 2));
-    }
-    Ok(())
-}
-
-// All labels wait for each other, so that each has a part of its own, and most are solved. A part without a label makes no workspace.
+// All labels wait for each other, since each has a part of its own. A part without a label copies no workspace.
 #[test]
 fn each_part_does_one(rt: HostRuntime) -> Result<(), Fail> {
-    for (given, wanted, labels, _, (_, solved), (_, inside)) in ROWS {
+    for (given, wanted, labels, _, _, (solved, inside)) in ROWS {
         if inside == 0 {
             continue;
         }
@@ -462,20 +446,10 @@ fn each_part_does_one(rt: HostRuntime) -> Result<(), Fail> {
         let counted = seen.counted;
         assert!(rt; seen.is_wanted(wanted, labels));
         assert_eq!(rt; (counted.solved, counted.solved_inside), (solved, inside));
-        assert_eq!(rt; counted.made, 1 + u64::from(lts.labels()));
+        assert_eq!(rt; counted.copied, u64::from(lts.labels()));
         assert_eq!(rt; counted.used.checked_sub(1), Some(inside));
     }
     Ok(())
-}
-
-// Whether so many workspaces were made, and problems were solved in so many: one is that of the calling thread, and of each block's parts at
-// least one solves something.
-fn are_of_blocks(counted: Counted, blocks: u64, jobs: u8) -> bool {
-    if jobs == 1 {
-        return counted.made == 1 && counted.used == 1;
-    }
-    let most = blocks.saturating_mul(u64::from(jobs)).saturating_add(1);
-    counted.used > blocks && counted.used <= counted.made && counted.made <= most
 }
 
 // With 255 labels that have no arc, 24 states ask for 24 * 255 + 1 labels, since the last label has no arc at the last state, and for 276 pairs.
@@ -486,7 +460,8 @@ fn are_of_blocks(counted: Counted, blocks: u64, jobs: u8) -> bool {
 //
 // One job solves all but the last two labels of the first two blocks. More jobs solve 1, 1, 1, 2, 4, 8, 8 and 1 of the problems of the blocks in
 // turn, 26 in all. So the place that stops the last label of either of the first two blocks is kept before the parts begin, and that label is
-// left. The last but one is left too where the part that takes it made the place that stops it.
+// left. The last but one is solved as well, since the first part makes the place that stops it, and the last part solves it. Each of the parts, 16
+// at most, has one to solve in each of the eight blocks.
 #[test]
 fn growing_blocks(rt: HostRuntime) -> Result<(), Fail> {
     let mut given = [Given::TooWide; 255];
@@ -500,21 +475,20 @@ fn growing_blocks(rt: HostRuntime) -> Result<(), Fail> {
         assert!(rt; false);
         return Ok(());
     };
-    let (least, most) = (62 + 126 + 5927, 63 + 127 + 5927);
-    for (jobs, solved, in_turn) in [
-        (1u8, (least, least), least),
-        (2, (least, most), 26),
-        (3, (least, most), 26),
-        (7, (least, most), 26),
-        (16, (least, most), 26),
+    let (by_one, by_more) = (62 + 126 + 5927, 63 + 127 + 5927);
+    for (jobs, solved, in_turn, copied) in [
+        (1u8, by_one, by_one, 0),
+        (2, by_more, 26, 8 * 2),
+        (3, by_more, 26, 8 * 3),
+        (7, by_more, 26, 8 * 7),
+        (16, by_more, 26, 8 * 16),
     ] {
         let seen = see(&rt, rt.alloc(), &lts, &given, jobs);
         let counted = seen.counted;
         let entered = 64 + 128 + 5927;
         assert_eq!(rt; (counted.entered, counted.left), (entered, entered));
-        assert!(rt; is_within(counted.solved, solved));
-        assert_eq!(rt; counted.in_turn, in_turn);
-        assert!(rt; are_of_blocks(counted, 8, jobs));
+        assert_eq!(rt; (counted.solved, counted.in_turn), (solved, in_turn));
+        assert_eq!(rt; (counted.copied, counted.used), (copied, 1 + copied));
         let wanted = Some(SeparationOutcome::TooWide(Problem::Event(0, 3)));
         assert!(rt; seen.is_wanted(wanted, &[0, 1, 2, 65, 66, 67]));
     }
@@ -533,18 +507,18 @@ fn on_in_turn(rt: HostRuntime) -> Result<(), Fail> {
         assert!(rt; false);
         return Ok(());
     };
-    for (jobs, in_turn) in [
-        (1u8, 192 - 2),
-        (2, 1 + 3),
-        (3, 1 + 3),
-        (7, 1 + 3),
-        (16, 1 + 3),
+    for (jobs, in_turn, copied) in [
+        (1u8, 192 - 2, 0),
+        (2, 1 + 3, 2 * 2),
+        (3, 1 + 3, 2 * 3),
+        (7, 1 + 3, 2 * 7),
+        (16, 1 + 3, 2 * 16),
     ] {
         let seen = see(&rt, rt.alloc(), &lts, &given, jobs);
         let counted = seen.counted;
         assert_eq!(rt; (counted.entered, counted.left), (192, 192));
         assert_eq!(rt; (counted.solved, counted.in_turn), (192 - 2, in_turn));
-        assert!(rt; are_of_blocks(counted, 2, jobs));
+        assert_eq!(rt; (counted.copied, counted.used), (copied, 1 + copied));
         let wanted = Some(SeparationOutcome::TooWide(Problem::Event(0, 0)));
         assert!(rt; seen.is_wanted(wanted, &[64, 66]));
     }

@@ -9,6 +9,7 @@ ghost use Rattle.rg_cert.specs.Spells.{Spells};
 ghost use Rattle.rg_cert.specs.Lines.{Position, Position.at_heading};
 ghost use Rattle.rg_cert.specs.Faults.{LinesLead, FirstFault};
 ghost use Rattle.rg_cert.specs.declared.fault.CertFault.{CertFault};
+ghost use Rattle.rg_cert.specs.declared.fault.CertFault.TheVariants.{NoMemory};
 
 /// For a system a text spells one claim or has one first fault, and never both.
 pub fn one_answer()
@@ -27,4 +28,11 @@ pub fn lines_go_on()
 /// Two claims for a system with the same text are the same.
 pub fn certificate_is_told()
     ensures { (lts : System) (a b : Claim) → IsWellFormed lts → IsClaimOf lts a → IsClaimOf lts b → cert_text a lts ≡ cert_text b lts → a ≡ b }
+{}
+
+/// The numbers of a claim that a text spells for a system are in range of the system, and those of its class from 1 to 255. No text has want
+/// of memory as its first fault.
+pub fn spelled_is_in_range()
+    ensures claim { (bytes : List ℕ) (lts : System) (claim : Claim) → Spells bytes lts claim → IsClaimOf lts claim }
+    ensures fault { (bytes : List ℕ) (lts : System) → ¬ FirstFault bytes lts NoMemory }
 {}

@@ -16,7 +16,7 @@ mod table;
 mod version;
 
 pub use fault::CertFault;
-pub use laws::{certificate_is_told, lines_go_on, one_answer};
+pub use laws::{certificate_is_told, lines_go_on, one_answer, spelled_is_in_range};
 pub use printing::print;
 pub use reading::read;
 pub use rg_memory::NoMemory;

@@ -25,5 +25,6 @@ fn laws_of_trees_and_certificates(_rt: HostRuntime) {
     rg_cert::one_answer();
     rg_cert::lines_go_on();
     rg_cert::certificate_is_told();
+    rg_cert::spelled_is_in_range();
     rg_verify::one_verdict();
 }

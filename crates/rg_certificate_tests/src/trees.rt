@@ -57,6 +57,7 @@ fn is_right(lts: &Lts, tree: &Tree) -> bool
         && has_chords(tree)
         && counts_labels(lts, tree)
         && enters_states(lts, tree)
+        && writes_chords(lts, tree)
 }
 
 fn has_order(tree: &Tree) -> bool {
@@ -103,4 +104,13 @@ fn enters_states(lts: &Lts, tree: &Tree) -> bool
     requires { IsTreeOf lts.now tree.now }
 {
     lts.states() == 8 && tree.parent(0) == None && tree.parent(7) == Some(arc(6, 3, 7))
+}
+
+fn writes_chords(lts: &Lts, tree: &Tree) -> bool
+    requires { IsTreeOf lts.now tree.now }
+{
+    let many = lts.labels() == 6 && tree.chords().len() == 7;
+    many && tree.chord_entry(2, 3) == 1
+        && tree.chord_entry(2, 5) == 1
+        && tree.chord_entry(4, 0) == 0
 }

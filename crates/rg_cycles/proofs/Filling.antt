@@ -8,7 +8,7 @@ use Rattle.rg_integers.specs.Sum.{number_at}
 use Rattle.rg_linear.specs.System.{LinearRow}
 use Rattle.rg_linear.specs.Cycle.{vector_at, vector_system}
 use Rattle.rg_dictionary.specs.Contents.{with_row}
-use Rattle.rg_cycles.specs.Vectors.{numbers_in, AreVectors}
+use Rattle.rg_cycles.specs.Vectors.{vectors_by, AreVectors}
 use Rattle.rg_cycles.proofs.Firsts.{vector_is, below_in}
 
 abbrev pub row : List ℤ → LinearRow
@@ -25,9 +25,10 @@ row_added labels vectors kept i lt coeffs is = λ j. record { columns = labels; 
         ∙ map-append {B = LinearRow} (λ c. record { coeffs = vector_at vectors c; constant = pos 0 }) (take i kept) (slice_index kept i ∷ []))
 
 -- a vector of code has a number for each label, in range
-module _ (labels : ℕ) (vectors : List (Vec ℤ Global)) (are : AreVectors labels (numbers_in vectors)) (c : ℕ) (lt : c < length vectors) (v : Vec ℤ Global) (at : v ≡ slice_index_or vectors c v) where
-  pub vector_length : length v.items ≡ labels
-  vector_length = ap length (sym (vector_is vectors c v lt at)) ∙ are.one_each c (below_in vectors c lt)
+module _ {N : Type 0} (numbers : List N → List ℤ) (labels : ℕ) (vectors : List (Vec N Global)) (are : AreVectors labels (vectors_by numbers vectors))
+    (c : ℕ) (lt : c < length vectors) (v : Vec N Global) (at : v ≡ slice_index_or vectors c v) where
+  pub vector_length : length (numbers v.items) ≡ labels
+  vector_length = ap length (sym (vector_is numbers vectors c v lt at)) ∙ are.one_each c (below_in numbers vectors c lt)
 
-  pub vector_in_range : (j : ℕ) → j < length v.items → InRange (number_at v.items j)
-  vector_in_range j below = subst (λ xs. InRange (number_at xs j)) (vector_is vectors c v lt at) (are.in_range c j (below_in vectors c lt) (let e = vector_length in omega arith))
+  pub vector_in_range : (j : ℕ) → j < length (numbers v.items) → InRange (number_at (numbers v.items) j)
+  vector_in_range j below = subst (λ xs. InRange (number_at xs j)) (vector_is numbers vectors c v lt at) (are.in_range c j (below_in numbers vectors c lt) (let e = vector_length in omega arith))

@@ -10,3 +10,4 @@ pub mod Filling
 pub mod Equations
 pub mod Folding
 pub mod AddsNothing
+pub mod Entries

@@ -5,9 +5,13 @@ use Rattle.rg_integers.specs.Range.{InRange}
 use Rattle.rg_integers.specs.Sum.{sum_below, number_at}
 use Rattle.rg_linear.specs.Cycle.{vector_at}
 
--- the numbers of each vector
+-- the numbers of each vector, where its entries are these numbers
+abbrev pub vectors_by : {N : Type 0} → (List N → List ℤ) → List (Vec N Global) → List (List ℤ)
+vectors_by numbers vectors = map (λ v. numbers v.items) vectors
+
+-- the same of vectors of whole numbers
 abbrev pub numbers_in : List (Vec ℤ Global) → List (List ℤ)
-numbers_in vectors = map (λ v. v.items) vectors
+numbers_in vectors = vectors_by (λ entries. entries) vectors
 
 -- each vector has one number for each label, in range
 pub record AreVectors (labels : ℕ) (vectors : List (List ℤ)) : Type 0 where

@@ -6,6 +6,7 @@
 #![tactic(auto)]
 
 mod basis;
+mod chord_entry;
 mod columns;
 mod distinct;
 mod reading;
@@ -18,7 +19,9 @@ mod walk;
 mod widened;
 
 pub use basis::Basis;
+pub use chord_entry::ChordEntry;
 pub use relation::Relation;
+pub use rg_fraction::FoldStop;
 pub use solving::reduce;
 pub use stop::{CycleWide, Stop};
 pub use substitution::{FreeRow, dependent, substitute};

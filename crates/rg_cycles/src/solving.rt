@@ -7,12 +7,13 @@ ghost use Rattle.rg_dictionary.specs.Contents.{IsDictionary};
 ghost use Rattle.rg_linear.specs.Descent.{WideAt};
 ghost use Rattle.rg_cycles.specs.declared.stop.Stop.TheVariants as stop;
 ghost use Rattle.rg_cycles.specs.declared.stop.CycleWide.{CycleWide};
-ghost use Rattle.rg_cycles.specs.Vectors.{numbers_in, AreVectors, AllSumsAreZero};
+ghost use Rattle.rg_cycles.specs.Vectors.{vectors_by, AreVectors, AllSumsAreZero};
 ghost use Rattle.rg_cycles.specs.Solutions.{FollowsFree, RelationsHold, AreReduced};
 ghost use Rattle.rg_cycles.specs.View.{labels_of, cycle_of};
 ghost use Rattle.rg_cycles.specs.Refusal.{PassesAt, shown_term};
 
 use crate::basis::Basis;
+use crate::chord_entry::ChordEntry;
 use crate::columns::walk_columns;
 use crate::distinct::first_indices;
 use crate::relations::Relations;
@@ -24,22 +25,23 @@ use rg_revised::RevisedWalk;
 use std::alloc::{AllocError, Global};
 
 /// Solves the equations that each chord has the value 0, over the effects of so many labels. A chord has
-/// one entry for each label. The distinct chords that aren't 0 are taken in order; each whose relation
-/// names a label is exchanged with the least such label. Labels that are left over are free.
+/// one entry for each label, which is not `i128::MIN`. The distinct chords that aren't 0 are taken in
+/// order; each whose relation names a label is exchanged with the least such label. Labels that are left
+/// over are free.
 ///
 /// `Stop::Wide` comes exactly where a term on this walk is out of range, with the first such term.
 /// `Stop::NoMemory` where there is no memory.
-pub fn reduce(alloc: Global, labels: u32, chords: &[Vec<i64>]) -> Result<Basis, Stop>
+pub fn reduce<N: ChordEntry>(alloc: Global, labels: u32, chords: &[Vec<N>]) -> Result<Basis, Stop>
     requires labels { labels ≤ most_labels }
     requires chords { length chords.now ≤ most_arcs }
-    requires vectors { AreVectors labels (numbers_in chords.now) }
+    requires vectors { AreVectors labels (vectors_by N.numbers chords.now) }
     ensures labels { IfOk result (λ b. labels_of b ≡ labels) }
-    ensures basis { IfOk result (λ b. IsCycleBasis labels (numbers_in chords.now) (cycle_of b)) }
-    ensures solutions { IfOk result (λ b. (v : ℕ → ℤ) → AllSumsAreZero labels (numbers_in chords.now) v ↔ FollowsFree labels (cycle_of b) v) }
-    ensures holds { IfOk result (λ b. RelationsHold labels (cycle_of b) (numbers_in chords.now)) }
+    ensures basis { IfOk result (λ b. IsCycleBasis labels (vectors_by N.numbers chords.now) (cycle_of b)) }
+    ensures solutions { IfOk result (λ b. (v : ℕ → ℤ) → AllSumsAreZero labels (vectors_by N.numbers chords.now) v ↔ FollowsFree labels (cycle_of b) v) }
+    ensures holds { IfOk result (λ b. RelationsHold labels (cycle_of b) (vectors_by N.numbers chords.now)) }
     ensures reduced { IfOk result (λ b. AreReduced labels (cycle_of b)) }
-    ensures fits { IfOk result (λ _. (at : WideAt) → ¬ PassesAt labels (numbers_in chords.now) at) }
-    ensures wide { (w : CycleWide) → IsErrOf result (stop.Wide w) → PassesAt labels (numbers_in chords.now) (shown_term w) }
+    ensures fits { IfOk result (λ _. (at : WideAt) → ¬ PassesAt labels (vectors_by N.numbers chords.now) at) }
+    ensures wide { (w : CycleWide) → IsErrOf result (stop.Wide w) → PassesAt labels (vectors_by N.numbers chords.now) (shown_term w) }
 {
     let kept = first_indices(alloc, chords)?;
     let basis = basis_of(alloc, labels, chords, kept)?;
@@ -47,13 +49,18 @@ pub fn reduce(alloc: Global, labels: u32, chords: &[Vec<i64>]) -> Result<Basis, 
 }
 
 // The basis of the vectors, of which these are kept.
-fn basis_of(alloc: Global, labels: u32, vectors: &[Vec<i64>], kept: Vec<u32>) -> Result<Basis, Stop>
+fn basis_of<N: ChordEntry>(
+    alloc: Global,
+    labels: u32,
+    vectors: &[Vec<N>],
+    kept: Vec<u32>,
+) -> Result<Basis, Stop>
     requires few { labels + length kept.items < 2 ^ 32 }
-    requires keeps { KeepsVectors (numbers_in vectors.now) kept.items }
-    requires vectors { AreVectors labels (numbers_in vectors.now) }
+    requires keeps { KeepsVectors (vectors_by N.numbers vectors.now) kept.items }
+    requires vectors { AreVectors labels (vectors_by N.numbers vectors.now) }
     ensures labels { IfOk result (λ b. labels_of b ≡ labels) }
-    ensures basis { IfOk result (λ b. IsCycleBasis labels (numbers_in vectors.now) (cycle_of b)) }
-    ensures wide { (w : CycleWide) → IsErrOf result (stop.Wide w) → PassesAt labels (numbers_in vectors.now) (shown_term w) }
+    ensures basis { IfOk result (λ b. IsCycleBasis labels (vectors_by N.numbers vectors.now) (cycle_of b)) }
+    ensures wide { (w : CycleWide) → IsErrOf result (stop.Wide w) → PassesAt labels (vectors_by N.numbers vectors.now) (shown_term w) }
 {
     let mut columns = RevisedWalk::new(alloc, labels)?;
     if walk_columns(alloc, &mut columns, labels, vectors, &kept)? {
@@ -64,18 +71,18 @@ fn basis_of(alloc: Global, labels: u32, vectors: &[Vec<i64>], kept: Vec<u32>) ->
 }
 
 // The same with a dictionary that has a row for each variable.
-fn full_basis(
+fn full_basis<N: ChordEntry>(
     alloc: Global,
     labels: u32,
-    vectors: &[Vec<i64>],
+    vectors: &[Vec<N>],
     kept: Vec<u32>,
 ) -> Result<Basis, Stop>
     requires few { labels + length kept.items < 2 ^ 32 }
-    requires keeps { KeepsVectors (numbers_in vectors.now) kept.items }
-    requires vectors { AreVectors labels (numbers_in vectors.now) }
+    requires keeps { KeepsVectors (vectors_by N.numbers vectors.now) kept.items }
+    requires vectors { AreVectors labels (vectors_by N.numbers vectors.now) }
     ensures labels { IfOk result (λ b. labels_of b ≡ labels) }
-    ensures basis { IfOk result (λ b. IsCycleBasis labels (numbers_in vectors.now) (cycle_of b)) }
-    ensures wide { (w : CycleWide) → IsErrOf result (stop.Wide w) → PassesAt labels (numbers_in vectors.now) (shown_term w) }
+    ensures basis { IfOk result (λ b. IsCycleBasis labels (vectors_by N.numbers vectors.now) (cycle_of b)) }
+    ensures wide { (w : CycleWide) → IsErrOf result (stop.Wide w) → PassesAt labels (vectors_by N.numbers vectors.now) (shown_term w) }
 {
     let mut dictionary = filled(alloc, labels, vectors, &kept)?;
     walk(alloc, &mut dictionary)?;
@@ -84,16 +91,16 @@ fn full_basis(
 }
 
 // The dictionary of the rows that these vectors are, over so many columns.
-fn filled(
+fn filled<N: ChordEntry>(
     alloc: Global,
     labels: u32,
-    vectors: &[Vec<i64>],
+    vectors: &[Vec<N>],
     kept: &[u32],
 ) -> Result<RelationTable, AllocError>
     requires few { labels + length kept.now < 2 ^ 32 }
     requires kept { (c : ℕ) → Contains kept.now c → c < length vectors.now }
-    requires vectors { AreVectors labels (numbers_in vectors.now) }
-    ensures whole { IfOk result (IsDictionary (vector_system labels (numbers_in vectors.now) kept.now)) }
+    requires vectors { AreVectors labels (vectors_by N.numbers vectors.now) }
+    ensures whole { IfOk result (IsDictionary (vector_system labels (vectors_by N.numbers vectors.now) kept.now)) }
     ensures start { IfOk result (λ d. d.members ≡ numbers_from 0 d.columns) }
 {
     let mut dictionary = RelationTable::with_columns(alloc, labels, kept.len() as u32)?;

@@ -12,7 +12,7 @@ use Rattle.rg_theory.specs.declared.Class.{Class}
 use Rattle.rg_theory.specs.Class.{IsBounded, InClass, NoNet}
 use Rattle.rg_lts.specs.WellFormed.{IsWellFormed}
 use Rattle.rg_net.specs.Range.{IsNetInRange}
-use Rattle.rg_product.specs.Product.{Factor, IsFactorAt, name_at, AreInRange, ShareLabels, Product}
+use Rattle.rg_product.specs.Product.{Factor, IsFactorAt, name_at, AreInRange, Product}
 use Rattle.rg_product.specs.Factoring.{IsFactoring, IsFactoring.of_factors, Factoring.factors as of_all}
 use Rattle.rg_product.specs.Beside.{places_beside, net_beside}
 use Rattle.rg_product.proofs.Narrowing.{no_net_above}
@@ -69,12 +69,9 @@ module _ (lts : System) (fine : IsWellFormed lts) (reachable : IsAllReachable lt
   inside : AreInRange fs
   inside = inside_of factoring
 
-  pub shared : ShareLabels lts fs
-  shared = product.shared
-
   pub one_each : (class : Class) (nets : List Net) → AllZip (IsNetOf class) fs nets → AllZip (λ f net. net.labels ≡ length f.labels) fs nets
   one_each class nets zip = zip_from (IsNetOf class) (λ f net. net.labels ≡ length f.labels) fs nets zip
-      (λ i f net at (out, right). right.solves.transitions ∙ ap length (shared.names i f at) ∙ length-map f.labels (name_at lts.label_names))
+      (λ i f net at (out, right). right.solves.transitions ∙ ap length (product.shared.names i f at) ∙ length-map f.labels (name_at lts.label_names))
 
   pub few : (class : Class) (nets : List Net) → AllZip (IsNetOf class) fs nets → length (places_beside (labels lts) fs nets) < 4294967296
   few class nets zip = few_beside lts fs tuples nets fine factoring

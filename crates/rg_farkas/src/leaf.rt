@@ -45,7 +45,7 @@ use std::alloc::{AllocError, Global};
 /// `FoldStop::Wide` comes exactly where a step of this is out of range, with the first such step; the last steps are
 /// the sums of the absolute values for each state, each label and the constants. `FoldStop::NoMemory` comes where
 /// there is no memory.
-pub fn spread(
+pub fn spread_in(
     alloc: Global,
     c: CaseSetting<'_>,
     named: &[(RowName, Fraction)],

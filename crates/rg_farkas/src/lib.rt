@@ -17,6 +17,8 @@ mod parts;
 mod rows;
 mod sizes;
 mod sums;
+mod triples;
 
 pub use laws::node_multipliers_refute;
-pub use leaf::spread;
+pub use leaf::spread_in;
+pub use triples::spread;

@@ -12,5 +12,6 @@ mod settled;
 mod step;
 
 pub use dictionary::Dictionary;
+pub use rg_linear::{Row, System};
 pub use rg_memory::NoMemory;
 pub use settled::{PivotWide, Settled};

@@ -15,5 +15,6 @@ mod whole;
 pub use divisor::gcd;
 pub use fold_stop::FoldStop;
 pub use fraction::Fraction;
+pub use rg_integers::Wide;
 pub use row::{eliminate, reduce, row_gcd};
 pub use whole::{whole_product, whole_sum};

@@ -12,3 +12,6 @@ mod PrintSteps
 mod Tokens
 mod PrintedLines
 mod ReadAgain
+mod SpelledLines
+mod SpelledGraphs
+mod MemoryFaults

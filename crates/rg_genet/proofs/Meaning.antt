@@ -13,7 +13,7 @@ use Rattle.rg_genet.specs.Contents.{Triple, heading, body, is_closed, heading_fa
 use Rattle.rg_genet.specs.Spells.{or_alone, IsGraphOf, Spells, FirstFault}
 use Rattle.rg_genet.proofs.Marked.{one_marking}
 
-none_both : {F : Type 0} (xs ys : List (Option F)) → AreNone (xs ++ ys) → AreNone xs × AreNone ys
+pub none_both : {F : Type 0} (xs ys : List (Option F)) → AreNone (xs ++ ys) → AreNone xs × AreNone ys
 none_both [] ys none = (tt, none)
 none_both (None ∷ xs) ys none = none_both xs ys none
 none_both (Some f ∷ xs) ys none = absurd none

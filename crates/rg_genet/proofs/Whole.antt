@@ -120,7 +120,7 @@ last_none lines d has m lts shows fin =
 some_number_is : (n : ℕ) → true ≡ nat_lt 0 (n + 1)
 some_number_is n = grind (arith, nat_tests)
 
-same_arcs : (arcs : List Triple) (name : List ℕ) → map (arc_of (or_alone (state_names arcs) name) (label_names arcs)) arcs ≡ arcs_of arcs
+pub same_arcs : (arcs : List Triple) (name : List ℕ) → map (arc_of (or_alone (state_names arcs) name) (label_names arcs)) arcs ≡ arcs_of arcs
 same_arcs [] name = refl
 same_arcs (t ∷ arcs) name = by (state_names (t ∷ arcs)) refl (λ e. some_state (t ∷ arcs) (positive (length arcs)) e)
   where

@@ -8,6 +8,6 @@ mod print;
 mod reading;
 
 pub use fault::{GraphFault, GraphLoss};
-pub use laws::{one_answer, printed_is_read_again};
+pub use laws::{one_answer, printed_is_read_again, spelled_is_well_formed};
 pub use print::print_graph;
 pub use reading::read_graph;

@@ -1,5 +1,5 @@
 //! Small bases worked by hand, and the walk at the limit of the range.
-ghost use Rattle.std.specs.Prelude.{◌≡◌, ◌<◌, IfSome};
+ghost use Rattle.std.specs.Prelude.{◌≡◌, ◌<◌, IfSome, IfOk};
 ghost use Rattle.rg_cycles.specs.View.{labels_of};
 
 use rg_cycles::{Basis, CycleWide, Stop, dependent, substitute};
@@ -56,6 +56,63 @@ fn is_bound(alloc: Global) -> bool {
 #[test]
 fn one_chord_leaves_no_free_label(rt: HostRuntime) {
     assert!(rt; is_bound(rt.alloc()));
+}
+
+// The basis of these chords, whose entries have 128 bits.
+fn basis_of_long<const N: usize>(
+    alloc: Global,
+    labels: u32,
+    chords: &[[i128; N]],
+) -> Result<Basis, Stop>
+    ensures { IfOk result (λ b. labels_of b ≡ labels) }
+{
+    let list = long_chords(alloc, chords)?;
+    solved(alloc, labels, &list)
+}
+
+// The chords with these entries.
+fn long_chords<const N: usize>(
+    alloc: Global,
+    chords: &[[i128; N]],
+) -> Result<Vec<Vec<i128>>, AllocError> {
+    let mut list = Vec::new(alloc);
+    for chord in chords {
+        list.push(chord.to_vec(alloc)?)?;
+    }
+    Ok(list)
+}
+
+// Whether one chord with this entry leaves no label free.
+fn is_bound_by(alloc: Global, entry: i128) -> bool {
+    match basis_of_long(alloc, 1, &[[entry]]) {
+        Ok(basis) => basis.free().is_empty() && is_relation(&basis, 0, entry, &[], &[(0, 1)]),
+        Err(_) => false,
+    }
+}
+
+// Whether the product of two entries passes.
+fn is_product_too_wide(alloc: Global) -> bool {
+    let product = Wide {
+        a: HALF,
+        b: HALF,
+        c: 1,
+        d: 1,
+    };
+    match basis_of_long(alloc, 2, &[[HALF, 1], [1, HALF]]) {
+        Err(Stop::Wide(w)) => {
+            w.members.as_slice() == [0, 1].as_slice()
+                && (w.pivot, w.leaves, w.target, w.entry) == (2, 0, 3, 2)
+                && w.wide == product
+        }
+        _ => false,
+    }
+}
+
+#[test]
+fn entries_may_have_128_bits(rt: HostRuntime) {
+    assert!(rt; is_bound_by(rt.alloc(), 2));
+    assert!(rt; is_bound_by(rt.alloc(), HALF));
+    assert!(rt; is_product_too_wide(rt.alloc()));
 }
 
 // Whether each label is free where there is no chord.

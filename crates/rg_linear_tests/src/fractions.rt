@@ -37,7 +37,8 @@ type Case = (
 const NONE: (i128, i128, i128, i128) = (0, 0, 0, 0);
 
 // Sums: two fractions, and their sum, or the numbers of the term that is out of range.
-const SUMS: [Case; 6] = [
+const SUMS: [Case; 7] = [
+    ((1, 2), (1, 3), Some((5, 6)), NONE),
     ((-2, 4), (1, 3), Some((-1, 6)), NONE),
     ((HALF, 1), (HALF - 1, 1), Some((MOST, 1)), NONE),
     ((MOST, 1), (MOST, 1), None, (MOST, 1, -MOST, 1)),

@@ -7,10 +7,11 @@ mod builder;
 mod fault;
 mod lts;
 mod names;
+mod naming;
 
 pub use arc_set::MOST_ARCS;
 pub use builder::{LtsBuilder, MOST_LABELS, MOST_STATES};
 pub use fault::BuildFault;
 pub use lts::Lts;
-pub use rg_text::is_name;
+pub use naming::is_name;
 pub use rg_theory::Arc;

@@ -4,9 +4,9 @@ use Rattle.std.proofs.lemmas.List.Elements.{All-from_get_or}
 use Rattle.std.proofs.lemmas.Option.{slice_get_within, get_or_from_slice_get, slice_get-get_or}
 use Rattle.rg_theory.specs.System.{System, states, labels, IsInRange}
 use Rattle.rg_theory.proofs.Arcs.{arc_in_range}
-use Rattle.rg_isomorphism.specs.Isomorphic.{IsIsomorphismTo}
-use Rattle.rg_isomorphism.specs.Words.{Difference, DiffersBy, first_alone, second_alone, targets}
-use Rattle.rg_isomorphism.specs.Compared.{Told, Compares, Compares.same as by_map, Compares.first_label as by_first, Compares.second_label as by_second, Compares.difference as by_difference}
+use Rattle.rg_iso.specs.Isomorphic.{IsIsomorphismTo}
+use Rattle.rg_iso.specs.Words.{Difference, DiffersBy, first_alone, second_alone, targets}
+use Rattle.rg_iso.specs.Compared.{Told, Compares, Compares.same as by_map, Compares.first_label as by_first, Compares.second_label as by_second, Compares.difference as by_difference}
 use Rattle.rg_messages.specs.ComparedTexts.{HasDifferenceNames, HasToldNames}
 
 difference_names : (a b : System) (w : List ℕ) (d : Difference) → IsInRange a → IsInRange b → DiffersBy a b w d → HasDifferenceNames a b d

@@ -3,8 +3,8 @@ use Rattle.std.specs.Prelude.{◌≡◌, ℕ, ◌+◌, ◌<◌, ◌==◌, List, 
 use Rattle.rg_text.specs.Line.{fed}
 use Rattle.rg_theory.specs.System.{System, states, labels}
 use Rattle.rg_cert.specs.Text.{state_name, label_name}
-use Rattle.rg_isomorphism.specs.Words.{Difference, Difference.step as by_step, Difference.target as by_target}
-use Rattle.rg_isomorphism.specs.Compared.{Told, Told.map as as_map, Told.label as as_label, Told.differs as as_difference}
+use Rattle.rg_iso.specs.Words.{Difference, Difference.step as by_step, Difference.target as by_target}
+use Rattle.rg_iso.specs.Compared.{Told, Told.map as as_map, Told.label as as_label, Told.differs as as_difference}
 use Rattle.rg_messages.specs.CheckedTexts.{yes_line, step_text}
 
 -- the name of state s of the one system and that of state q of the other

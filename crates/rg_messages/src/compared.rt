@@ -2,13 +2,13 @@
 ghost use Rattle.std.specs.Prelude.{◌≡◌, ◌<◌, ◌++◌, ◌∷◌, [], IfOk, OnOk, codes, decimal};
 ghost use Rattle.rg_theory.specs.System.{System, states, labels, IsInRange};
 ghost use Rattle.rg_cert.specs.Text.{label_name};
-ghost use Rattle.rg_isomorphism.specs.Compared.{Told, Compares, told_of};
+ghost use Rattle.rg_iso.specs.Compared.{Told, Compares, told_of};
 ghost use Rattle.rg_messages.specs.CheckedTexts.{step_text};
 ghost use Rattle.rg_messages.specs.ComparedTexts.{numbered as numbered_of, pair_line, map_text as text_of_map, told_text, unreachable_line, fork_line, HasPairNames, HasToldNames};
 
 use crate::checked::{push_states, push_step};
 use crate::pieces::{push_label, push_number, push_state};
-use rg_isomorphism::Same;
+use rg_iso::Same;
 use rg_lts::Lts;
 use std::alloc::{AllocError, Global};
 

@@ -12,4 +12,4 @@ pub use firing::{FireStop, enabled, fire};
 pub use laws::{net_is_told, prefix_is_free};
 pub use net::{Net, Place};
 pub use rg_memory::NoMemory;
-pub use rg_theory::{Class, ClassFault, class_is_told};
+pub use rg_theory::{Class, ClassFault, class_is_told, class_text};

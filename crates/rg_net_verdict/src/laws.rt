@@ -18,9 +18,11 @@ pub fn verdict_is_sound()
     ensures no { (lts : System) (net : Net) (class : Class) (n : NetNo) → IsInRange lts → net.labels ≡ labels lts → IsVerdict lts net class (Ok (verdict.No n)) → Solves net lts → ¬ InClass net class }
 {}
 
-/// A net has one verdict, or the judge stops at one place.
+/// A net has one verdict, or the judge stops at one place. Each net with one transition for each label of a system in range has a verdict,
+/// or the judge stops at some place.
 pub fn verdict_is_one()
-    ensures { (lts : System) (net : Net) (class : Class) (v w : Told) → IsInRange lts → IsVerdict lts net class v → IsVerdict lts net class w → v ≡ w }
+    ensures once { (lts : System) (net : Net) (class : Class) (v w : Told) → IsInRange lts → IsVerdict lts net class v → IsVerdict lts net class w → v ≡ w }
+    ensures some { (lts : System) (net : Net) (class : Class) → IsInRange lts → net.labels ≡ labels lts → (v : Told) × IsVerdict lts net class v }
 {
     one_least_fork();
 }

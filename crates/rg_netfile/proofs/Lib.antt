@@ -26,3 +26,4 @@ pub mod PrintedSums
 pub mod PrintedFaults
 pub mod PrintedNets
 pub mod PrintedTexts
+pub mod MemoryFaults

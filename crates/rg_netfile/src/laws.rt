@@ -7,6 +7,7 @@ ghost use Rattle.rg_net.specs.NetText.{net_text};
 ghost use Rattle.rg_net.specs.Range.{IsNetInRange};
 ghost use Rattle.rg_netfile.specs.Contents.{most_places};
 ghost use Rattle.rg_netfile.specs.declared.fault.NetFault.{NetFault};
+ghost use Rattle.rg_netfile.specs.declared.fault.NetFault.TheVariants.{NoMemory};
 ghost use Rattle.rg_netfile.specs.Spells.{Spells, FirstFault};
 
 /// A text spells a net for a system or has a first fault, never both and never two.
@@ -21,4 +22,10 @@ pub fn one_answer()
 pub fn printed_is_spelled()
     ensures { (net : Net) (lts : System) → IsWellFormed lts → net.labels ≡ labels lts → IsNetInRange net → length net.places ≤ most_places
         → Spells (net_text net lts) lts net }
+{}
+
+/// A net that a text spells for a system has the system's labels, and no text has want of memory as its first fault.
+pub fn spelled_is_for_the_system()
+    ensures labels { (bytes : List ℕ) (lts : System) (net : Net) → Spells bytes lts net → net.labels ≡ labels lts }
+    ensures fault { (bytes : List ℕ) (lts : System) → ¬ FirstFault bytes lts NoMemory }
 {}

@@ -19,7 +19,7 @@ mod whole;
 
 pub use fault::NetFault;
 pub use labelled::print_labelled;
-pub use laws::{one_answer, printed_is_spelled};
+pub use laws::{one_answer, printed_is_spelled, spelled_is_for_the_system};
 pub use print::print_net;
 pub use rg_memory::NoMemory;
 pub use whole::read_net;

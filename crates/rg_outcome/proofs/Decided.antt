@@ -10,62 +10,10 @@ use Rattle.rg_theory.specs.Problem.{IsProblem, Separates, IsSeparatedBy, ComesBe
 use Rattle.rg_theory.proofs.Arcs.{find_arc}
 use Rattle.rg_theory.proofs.Yes.{region_unique}
 use Rattle.rg_outcome.specs.Coming.{IsFirstProblem, IsSeparated, IsLeft, IsBehind}
+use Rattle.rg_decided.proofs.Deciding.{Decided, find_pair}
 use Rattle.rg_outcome.proofs.Ordering.{PairBefore, cases_order, not_before_itself, not_both_before}
 
-abbrev pub Decided : Type 0 → Type 0
-Decided P = P ⊎ ¬ P
-
--- ---- numbers and pairs of numbers
-
--- the first number below the bound, or none
-pub find_number : (P : ℕ → Type 0) → ((i : ℕ) → Decided (P i)) → (n : ℕ) → ((i : ℕ) × (i < n) × P i × ((j : ℕ) → j < i → ¬ P j)) ⊎ ((i : ℕ) → i < n → ¬ P i)
-find_number P decide zero = inr (λ i lt p. (omega arith))
-find_number P decide (suc n) = go (find_number P decide n) (decide n)
-  where
-    at : (i : ℕ) → i < suc n → (n ≤ i) → P i → P n
-    at i lt ge p = let e : i ≡ n = omega arith in subst P e p
-
-    none_too : ((i : ℕ) → i < n → ¬ P i) → ¬ P n → (i : ℕ) → i < suc n → ¬ P i
-    none_too none not_here i lt p = by (cases_lt i n)
-      where
-        by : (i < n) ⊎ (n ≤ i) → ⊥
-        by (inl less) = none i less p
-        by (inr more) = not_here (at i lt more p)
-
-    go : ((i : ℕ) × (i < n) × P i × ((j : ℕ) → j < i → ¬ P j)) ⊎ ((i : ℕ) → i < n → ¬ P i) → Decided (P n) → ((i : ℕ) × (i < suc n) × P i × ((j : ℕ) → j < i → ¬ P j)) ⊎ ((i : ℕ) → i < suc n → ¬ P i)
-    go (inl (i, lt, p, before)) _ = inl (i, omega arith, p, before)
-    go (inr none) (inl p) = inl (n, omega arith, p, none)
-    go (inr none) (inr not_here) = inr (none_too none not_here)
-
--- the first pair, or none
-pub find_pair : (Q : ℕ → ℕ → Type 0) → ((s t : ℕ) → Decided (Q s t)) → (n m : ℕ) → ((s t : ℕ) → Q s t → (s < n) × (t < m))
-    → ((s : ℕ) × (t : ℕ) × Q s t × ((s' t' : ℕ) → PairBefore s' t' s t → ¬ Q s' t')) ⊎ ((s t : ℕ) → ¬ Q s t)
-find_pair Q decide n m bound = go (find_number E decide_row n)
-  where
-    E : ℕ → Type 0
-    E s = (t : ℕ) × Q s t
-
-    decide_row : (s : ℕ) → Decided (E s)
-    decide_row s = by (find_number (Q s) (decide s) m)
-      where
-        by : ((t : ℕ) × (t < m) × Q s t × ((u : ℕ) → u < t → ¬ Q s u)) ⊎ ((t : ℕ) → t < m → ¬ Q s t) → Decided (E s)
-        by (inl (t, lt, q, before)) = inl (t, q)
-        by (inr none) = inr (λ (t, q). none t (bound s t q).1 q)
-
-    row : (s : ℕ) → E s → ((r : ℕ) → r < s → ¬ E r) → (s : ℕ) × (t : ℕ) × Q s t × ((s' t' : ℕ) → PairBefore s' t' s t → ¬ Q s' t')
-    row s (t₀, q₀) before_rows = by (find_number (Q s) (decide s) m)
-      where
-        earlier : (t : ℕ) → ((u : ℕ) → u < t → ¬ Q s u) → (s' t' : ℕ) → PairBefore s' t' s t → ¬ Q s' t'
-        earlier t before s' t' (inl lt) q = before_rows s' lt (t', q)
-        earlier t before s' t' (inr (e, lt)) q = before t' lt (subst (λ r. Q r t') e q)
-
-        by : ((t : ℕ) × (t < m) × Q s t × ((u : ℕ) → u < t → ¬ Q s u)) ⊎ ((t : ℕ) → t < m → ¬ Q s t) → (s : ℕ) × (t : ℕ) × Q s t × ((s' t' : ℕ) → PairBefore s' t' s t → ¬ Q s' t')
-        by (inl (t, lt, q, before)) = (s, t, q, earlier t before)
-        by (inr none) = absurd (none t₀ (bound s t₀ q₀).1 q₀)
-
-    go : ((s : ℕ) × (s < n) × E s × ((r : ℕ) → r < s → ¬ E r)) ⊎ ((s : ℕ) → s < n → ¬ E s) → ((s : ℕ) × (t : ℕ) × Q s t × ((s' t' : ℕ) → PairBefore s' t' s t → ¬ Q s' t')) ⊎ ((s t : ℕ) → ¬ Q s t)
-    go (inl (s, lt, e, before)) = inl (row s e before)
-    go (inr none) = inr (λ s t q. none s (bound s t q).0 (t, q))
+-- ---- pairs of numbers
 
 -- from the last pair on
 pub from_last_pair : (Q : ℕ → ℕ → Type 0) (n m : ℕ) → ((s t : ℕ) → ((s' t' : ℕ) → s' < n → t' < m → PairBefore s t s' t' → Q s' t') → Q s t) → (s t : ℕ) → Q s t

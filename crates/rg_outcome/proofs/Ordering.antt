@@ -1,24 +1,10 @@
 -- Problems stand in one order, and there is one first of them.
-use Rattle.std.proofs.Common.{◌≡◌, ◌⊎◌, inl, inr, ℕ, ◌<◌, ◌≤◌, arith}
-use Rattle.std.proofs.lemmas.Bool.{cases_lt}
+use Rattle.std.proofs.Common.{◌≡◌, ◌⊎◌, inl, inr, ℕ, arith}
 use Rattle.rg_theory.specs.declared.Problem.{Problem}
 use Rattle.rg_theory.specs.declared.Problem.TheVariants.{Event, States}
 use Rattle.rg_theory.specs.Problem.{ComesBefore}
 use Rattle.rg_outcome.specs.Coming.{IsFirstProblem}
-
--- of pairs of numbers
-abbrev pub PairBefore : ℕ → ℕ → ℕ → ℕ → Type 0
-PairBefore s t s' t' = (s < s') ⊎ (s ≡ s') × (t < t')
-
-pub cases_pair : (s t s' t' : ℕ) → PairBefore s t s' t' ⊎ (((s ≡ s') × (t ≡ t')) ⊎ PairBefore s' t' s t)
-cases_pair s t s' t' = go (cases_lt s s') (cases_lt s' s) (cases_lt t t') (cases_lt t' t)
-  where
-    go : (s < s') ⊎ (s' ≤ s) → (s' < s) ⊎ (s ≤ s') → (t < t') ⊎ (t' ≤ t) → (t' < t) ⊎ (t ≤ t') → PairBefore s t s' t' ⊎ (((s ≡ s') × (t ≡ t')) ⊎ PairBefore s' t' s t)
-    go (inl a) _ _ _ = inl (inl a)
-    go (inr a) (inl b) _ _ = inr (inr (inl b))
-    go (inr a) (inr b) (inl c) _ = inl (inr (omega arith, c))
-    go (inr a) (inr b) (inr c) (inl d) = inr (inr (inr (omega arith, d)))
-    go (inr a) (inr b) (inr c) (inr d) = inr (inl (omega arith, omega arith))
+pub use Rattle.rg_decided.proofs.Deciding.{PairBefore, cases_pair}
 
 pub pair_after : (s t s' t' s'' t'' : ℕ) → PairBefore s t s' t' → PairBefore s' t' s'' t'' → PairBefore s t s'' t''
 pair_after s t s' t' s'' t'' (inl a) (inl b) = inl (omega arith)

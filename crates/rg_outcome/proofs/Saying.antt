@@ -10,7 +10,8 @@ use Rattle.rg_order_of_work.specs.Shown.{Shown}
 use Rattle.rg_outcome.specs.Solving.{Solved, Solved.placed, Solved.refuted, Solved.passed}
 use Rattle.rg_outcome.specs.Coming.{Separation, IsSeparated, IsLeft, IsBehind, IsNext, ComesFrom, ComesFrom.keeps, ComesFrom.goes_on, ComesFrom.ends, ComesFrom.all_separated, ComesFrom.one_is_left, AllComeTo, IsOneResult, RefutedStay, IsRefutedIn, IsMade, Says}
 use Rattle.rg_outcome.proofs.Ordering.{cases_order}
-use Rattle.rg_outcome.proofs.Decided.{Decided, behind_is_decided}
+use Rattle.rg_decided.proofs.Deciding.{Decided}
+use Rattle.rg_outcome.proofs.Decided.{behind_is_decided}
 
 -- the places are those of problems, and no problem that isn't behind the last one is refuted
 record IsToldSoFar (lts : System) (comes : Problem → Solved → Type 0) (last : Option Problem) (kept : List Place) : Type 0 where

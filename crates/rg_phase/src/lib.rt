@@ -2,11 +2,11 @@
 //! the answers doesn't depend on the parts.
 #![tactic(auto)]
 
-mod numbers;
-mod order;
+mod alone;
 mod parts;
 mod work;
 
-pub use parts::block;
+pub use alone::block;
+pub use parts::block_of_parts;
 pub use rg_memory::NoMemory;
-pub use work::Task;
+pub use work::{PartTask, Task};

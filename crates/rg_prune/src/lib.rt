@@ -5,9 +5,10 @@
 #![tactic(auto)]
 
 mod differing;
+mod firsts;
 mod pruning;
 mod stops;
 mod tokens;
 
-pub use pruning::prune;
+pub use pruning::{prune, prune_with_firsts};
 pub use rg_memory::NoMemory;

@@ -12,6 +12,7 @@ ghost use Rattle.rg_marks.specs.Firsts.{AreFirsts, AreAllFirsts};
 ghost use Rattle.rg_prune.specs.Pending.{IsPending};
 
 use crate::differing::all_differ;
+use crate::firsts::all_firsts;
 use crate::stops::are_marked;
 use crate::tokens::{fill, no_tokens};
 use rg_lts::Lts;
@@ -24,8 +25,21 @@ use std::alloc::{AllocError, Global};
 
 /// What is left of places that separate all separation problems of the system, each of whose states is reachable: from the last
 /// place to the first, a place is dropped where the others that are left still separate all. They stay in order, and
-/// none of those left can be left out. For each place the problems are given that it is the first to separate. `NoMemory` where there is none.
-pub fn prune(
+/// none of those left can be left out. Returns `NoMemory` if memory runs out.
+pub fn prune(alloc: Global, lts: &Lts, places: Vec<Place>) -> Result<Vec<Place>, NoMemory>
+    requires reachable { IsAllReachable lts.now }
+    requires narrow { All (λ p. IsNarrow lts.now (shown_place p)) places.items }
+    requires separate { SeparateAll (map shown_place places.items) lts.now }
+    ensures { IfOk result (λ left. IsPruned lts.now (map shown_place places.items) (map shown_place left.items)) }
+{
+    let tree = grown(alloc, lts)?;
+    let firsts = all_firsts(alloc, lts, tree.arcs(), &places)?;
+    Ok(dropped(alloc, lts, tree.arcs(), places, firsts)?)
+}
+
+/// What `prune` leaves of the places, where the caller has the problems that each place is the first to separate, as a search for
+/// places finds them. Returns `NoMemory` if memory runs out.
+pub fn prune_with_firsts(
     alloc: Global,
     lts: &Lts,
     places: Vec<Place>,
@@ -37,12 +51,20 @@ pub fn prune(
     requires firsts { AreAllFirsts lts.now (map shown_place places.items) firsts.items }
     ensures { IfOk result (λ left. IsPruned lts.now (map shown_place places.items) (map shown_place left.items)) }
 {
-    let tree = match Tree::grow(alloc, lts) {
-        Ok(tree) => tree,
-        Err(GrowStop::NoMemory) => return Err(NoMemory),
-        Err(GrowStop::Unreachable(_)) => unreachable!(),
-    };
+    let tree = grown(alloc, lts)?;
     Ok(dropped(alloc, lts, tree.arcs(), places, firsts)?)
+}
+
+// The tree of the system.
+fn grown(alloc: Global, lts: &Lts) -> Result<Tree, NoMemory>
+    requires { IsAllReachable lts.now }
+    ensures { IfOk result (λ tree. IsTree lts.now tree.arcs) }
+{
+    match Tree::grow(alloc, lts) {
+        Ok(tree) => Ok(tree),
+        Err(GrowStop::NoMemory) => Err(NoMemory),
+        Err(GrowStop::Unreachable(_)) => unreachable!(),
+    }
 }
 
 // Takes the places from the last one to the first, and keeps those that are needed.

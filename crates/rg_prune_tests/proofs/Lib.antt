@@ -1,3 +1,2 @@
 mod Narrowing
 mod ByTokens
-mod Taking

@@ -1,7 +1,9 @@
 //! Which of the places of a net that solves a system are left.
-ghost use Rattle.std.specs.Prelude.{◌≡◌, map, IfOk};
+ghost use Rattle.std.specs.Prelude.{◌≡◌, map, All, IfOk, IfSome};
 ghost use Rattle.rg_theory.specs.System.{IsAllReachable};
+ghost use Rattle.rg_theory.specs.Problem.{SeparateAll};
 ghost use Rattle.rg_net.specs.Shown.{shown_place};
+ghost use Rattle.rg_marks.specs.Tokens.{IsNarrow};
 ghost use Rattle.rg_marks.specs.Firsts.{AreAllFirsts};
 
 use crate::separated::is_region;
@@ -9,7 +11,7 @@ use rg_lts::{Arc, Lts};
 use rg_marks::{Firsts, Separated};
 use rg_net::{Net, Place};
 use rg_net_verdict::{NetVerdict, check_net, verdict_is_sound};
-use rg_prune::prune;
+use rg_prune::{prune, prune_with_firsts};
 use rg_samples::{CHOICE, CHOICE_NET, DEAD, LOOP, STEP, net, system};
 use rg_spanning::Tree;
 use rg_theory::{ALL_NETS, solved_is_separated};
@@ -146,8 +148,12 @@ fn all_firsts(alloc: Global, lts: &Lts, places: &[Place]) -> Result<Vec<Firsts>,
     Ok(all)
 }
 
-// Those of the places of the net that are left; None where it doesn't solve the system, or there is no memory left.
-fn left(alloc: Global, lts: &Lts, net: &Net) -> Option<Vec<Place>> {
+// The places of the net; None where it doesn't solve the system, or there is no memory left.
+fn solving_places(alloc: Global, lts: &Lts, net: &Net) -> Option<Vec<Place>>
+    ensures reachable { IfSome result (λ _. IsAllReachable lts.now) }
+    ensures narrow { IfSome result (λ places. All (λ p. IsNarrow lts.now (shown_place p)) places.items) }
+    ensures separate { IfSome result (λ places. SeparateAll (map shown_place places.items) lts.now) }
+{
     if net.labels() != lts.labels() {
         return None;
     }
@@ -160,10 +166,20 @@ fn left(alloc: Global, lts: &Lts, net: &Net) -> Option<Vec<Place>> {
     let Ok(places) = copied(alloc, net.places()) else {
         return None;
     };
-    let Ok(firsts) = all_firsts(alloc, lts, &places) else {
-        return None;
-    };
-    prune(alloc, lts, places, firsts).ok()
+    Some(places)
+}
+
+// Those of the places of the net that are left; None where it doesn't solve the system, or there is no memory left.
+fn left(alloc: Global, lts: &Lts, net: &Net) -> Option<Vec<Place>> {
+    let places = solving_places(alloc, lts, net)?;
+    prune(alloc, lts, places).ok()
+}
+
+// The same, by the problems that each place is the first to separate.
+fn left_with_firsts(alloc: Global, lts: &Lts, net: &Net) -> Option<Vec<Place>> {
+    let places = solving_places(alloc, lts, net)?;
+    let firsts = all_firsts(alloc, lts, &places).ok()?;
+    prune_with_firsts(alloc, lts, places, firsts).ok()
 }
 
 // Whether the places are the same, in order.
@@ -188,7 +204,8 @@ fn leaves(alloc: Global, lts: &str, given: &str, wanted: &str) -> Option<bool> {
     let given = net(alloc, &lts, given)?;
     let wanted = net(alloc, &lts, wanted)?;
     let left = left(alloc, &lts, &given)?;
-    Some(are_same(&left, wanted.places()))
+    let with_firsts = left_with_firsts(alloc, &lts, &given)?;
+    Some(are_same(&left, wanted.places()) && are_same(&with_firsts, wanted.places()))
 }
 
 #[test]

@@ -1,7 +1,7 @@
 //! Where a number is out of range.
 
 use rg_integers::Wide;
-use rg_refuting::Side;
+use rg_refuting::Form;
 use rg_theory::Problem;
 
 /// The part of the work in which a term is out of range.
@@ -23,14 +23,14 @@ pub enum Stage {
 ///
 /// `case` is the number of a case of the problem. In the stage `Cycle` the term stands at the set `members`, in the
 /// exchange of `pivot` with `leaves`, in the new relation of `target`, as term number `entry`; so it does in the
-/// stage `Pivot`. Elsewhere it is the first step out of range. `above` are the sides of the splits above the node,
-/// outermost first.
+/// stage `Pivot`. Elsewhere it is the first step out of range. `above` has the side of each split above the node,
+/// outermost first: the form, the number, and true in the high side.
 #[derive(Debug, PartialEq, Eq, Drop)]
 pub struct WideAt {
     pub stage: Stage,
     pub problem: Option<Problem>,
     pub case: u32,
-    pub above: Vec<Side>,
+    pub above: Vec<(Form, i64, bool)>,
     pub members: Vec<u32>,
     pub pivot: u32,
     pub leaves: u32,

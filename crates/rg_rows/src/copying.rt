@@ -14,8 +14,8 @@ use std::alloc::{AllocError, Global};
 use std::sync::ArcSlice;
 
 impl Common {
-    /// The same rows and forms. Their coefficients are in memory of their own: threads that take rows, each from its own, don't
-    /// count in the same words of memory how often these are held. An error where there is no memory.
+    /// Returns the same rows and forms, with all their numbers in memory of their own: threads that take rows, each from its own, write
+    /// in no word of memory in common, not even to count how often numbers are held. Returns an error if memory runs out.
     pub fn copied(&self, alloc: Global) -> Result<Common, AllocError>
         ensures { IfOk result (λ copy. (s : Setting) → IsCommonOf s self.now → IsCommonOf s copy) }
     {
@@ -76,7 +76,7 @@ fn same_row(alloc: Global, row: &CaseRow) -> Result<CaseRow, AllocError>
     ensures { IfOk result (λ copy. kept_row copy ≡ kept_row row.now) }
 {
     let coeffs = ArcSlice::from_slice(alloc, &row.coeffs)?;
-    let numbers = row.numbers.shared()?;
+    let numbers = row.numbers.copied(alloc)?;
     Ok(CaseRow {
         name: row.name,
         coeffs,

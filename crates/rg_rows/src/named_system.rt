@@ -8,9 +8,10 @@ ghost use Rattle.rg_refuting.specs.Refutes.{IsSeparationProblem};
 ghost use Rattle.rg_refuting.specs.Row.{cases_of};
 ghost use Rattle.rg_spanning.specs.Spanning.{IsTreeOf};
 ghost use Rattle.rg_order_of_work.specs.Rewriting.{CaseSystem, split_forms, system_fold};
+ghost use Rattle.rg_order_of_work.specs.Setting.{setting_at, case_at};
 ghost use Rattle.rg_order_of_work.specs.Chords.{IsBasis};
 ghost use Rattle.rg_order_of_work.specs.Fold.{Comes, each};
-ghost use Rattle.rg_cycles.specs.View.{labels_of};
+ghost use Rattle.rg_cycles.specs.View.{labels_of, cycle_of};
 ghost use Rattle.rg_fraction.specs.declared.fold_stop.FoldStop.TheVariants as stop;
 ghost use Rattle.rg_rows.specs.View.{kept_row, row_in, columns_in, AreNamesWithin, fold_of};
 ghost use Rattle.rg_rows.specs.Sharing.{IsCommonOf};
@@ -24,10 +25,14 @@ use crate::held_row::{HeldRow, row_in_case};
 use crate::kept::firsts;
 use crate::named_form::NamedForm;
 use crate::names::names;
-use rg_case_parts::CaseSetting;
+use rg_case_parts::{CaseSetting, Setting};
+use rg_cycles::Basis;
 use rg_fraction::{FoldStop, Fraction};
 use rg_linear::System;
+use rg_lts::Lts;
 use rg_refuting::RowName;
+use rg_spanning::Tree;
+use rg_theory::{Class, Problem};
 use std::alloc::Global;
 
 /// A system of linear rows, and the forms that are to be whole. Each row is a named row times a factor, which is
@@ -60,19 +65,41 @@ pub struct NamedSystem {
 /// `FoldStop::Wide` comes exactly where a step of this, row by row and then form by form, is out of range, with the
 /// first such step; `FoldStop::NoMemory` where there is no memory. The steps have one result, so that a system that is
 /// given is the only one.
-pub fn system(alloc: Global, c: CaseSetting<'_>) -> Result<NamedSystem, FoldStop>
-    requires asked { IsSeparationProblem c.setting.lts.now c.problem }
-    requires case { c.number < cases_of c.setting.lts.now c.setting.class c.problem }
-    requires tree { IsTreeOf c.setting.lts.now c.setting.tree.now }
-    requires labels { labels_of c.setting.basis.now ≡ labels c.setting.lts.now }
-    ensures system { IfOk result (λ named. (shown : CaseSystem) × system_fold (shown_case c.entry) (Ok shown) × ShowsCase named shown) }
-    ensures named { IfOk result (λ named. map split_of named.forms.items ≡ split_forms c.entry.setting.lts.now c.entry.setting.class c.entry.problem) }
-    ensures rows { IfOk result (λ named. All (StandsInRow (shown_case c.entry) named.system) named.forms.items) }
-    ensures forms { let s = shown_setting c.entry.setting in
+pub fn system(
+    alloc: Global,
+    lts: &Lts,
+    tree: &Tree,
+    basis: &Basis,
+    class: Class,
+    problem: Problem,
+    case: u32,
+) -> Result<NamedSystem, FoldStop>
+    requires asked { IsSeparationProblem lts.now problem }
+    requires case { case < cases_of lts.now class problem }
+    requires tree { IsTreeOf lts.now tree.now }
+    requires labels { labels_of basis.now ≡ labels lts.now }
+    ensures system { let s = setting_at lts.now tree.now.arcs (cycle_of basis.now) class in
+        IfOk result (λ named. (shown : CaseSystem) × system_fold (case_at s problem case) (Ok shown) × ShowsCase named shown) }
+    ensures named { IfOk result (λ named. map split_of named.forms.items ≡ split_forms lts.now class problem) }
+    ensures rows { let s = setting_at lts.now tree.now.arcs (cycle_of basis.now) class in
+        IfOk result (λ named. All (StandsInRow (case_at s problem case) named.system) named.forms.items) }
+    ensures forms { let s = setting_at lts.now tree.now.arcs (cycle_of basis.now) class in
         IsAllReachable s.lts → IsBasis s.lts s.tree s.basis → HasNumbersInRange s.class → IfOk result (λ named. AreFormsOf named.system named.forms.items) }
-    ensures wide { (w : Wide) → IsErrOf result (stop.Wide w) → system_fold (shown_case c.entry) (Err w) }
+    ensures wide { let s = setting_at lts.now tree.now.arcs (cycle_of basis.now) class in
+        (w : Wide) → IsErrOf result (stop.Wide w) → system_fold (case_at s problem case) (Err w) }
 {
-    let common = Common::new(alloc, c.setting)?;
+    let setting = Setting {
+        lts,
+        tree,
+        basis,
+        class,
+    };
+    let common = Common::new(alloc, setting)?;
+    let c = CaseSetting {
+        setting,
+        problem,
+        number: case,
+    };
     system_with(alloc, &common, c)
 }
 

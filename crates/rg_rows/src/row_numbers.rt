@@ -8,7 +8,7 @@ ghost use Rattle.std.specs.Cmp.Rules.{comparing, hashing};
 ghost use Rattle.std.proofs.Common.{rules};
 ghost use Rattle.rg_rows.specs.Hashing.{with_word, hash_with, numbers_hash};
 
-use std::alloc::AllocError;
+use std::alloc::{AllocError, Global};
 use std::hash::{Hash, Hasher};
 use std::marker::Model;
 use std::sync::ArcSlice;
@@ -16,7 +16,7 @@ use std::sync::ArcSlice;
 // An odd factor whose powers differ in many bits.
 const HASH_FACTOR: u64 = 0x9e37_79b9_7f4a_7c15;
 
-/// The numbers of a row. They are hashed once, where they are written, and copies of a row share them, since they are only read.
+/// The numbers of a row. They are hashed once, where they are written.
 #[derive(Drop)]
 pub(crate) struct RowNumbers {
     numbers: ArcSlice<i128>,
@@ -45,11 +45,11 @@ impl RowNumbers {
         Ok(RowNumbers { numbers, hash })
     }
 
-    // The same numbers, in the same memory.
-    pub(crate) fn shared(&self) -> Result<RowNumbers, AllocError>
+    // The same numbers, in memory of their own.
+    pub(crate) fn copied(&self, alloc: Global) -> Result<RowNumbers, AllocError>
         ensures { IfOk result (λ same. same ≡ self.now) }
     {
-        let numbers = self.numbers.clone()?;
+        let numbers = ArcSlice::from_slice(alloc, &self.numbers)?;
         Ok(RowNumbers {
             numbers,
             hash: self.hash,

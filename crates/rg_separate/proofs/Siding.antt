@@ -1,10 +1,11 @@
 -- The sides of splits with their forms by name.
 use Rattle.std.proofs.Common.{◌≡◌, ℕ, ◌+◌, ◌<◌, List, [], ◌∷◌, ◌++◌, map, take, length, get_or, All, sym, ap, subst, ◌∙◌, arith}
-use Rattle.std.specs.Prelude.{ℤ}
+use Rattle.std.specs.Prelude.{Bool, ℤ}
 use Rattle.std.proofs.lemmas.List.{get_or-map, length-map, map-append, take_more}
 use Rattle.std.proofs.lemmas.List.Elements.{All-nil, All-cons, All-weaker}
 use Rattle.rg_refuting.specs.declared.Form.{Form as SplitForm}
 use Rattle.rg_refuting.specs.Row.{Side}
+use Rattle.rg_refuting.specs.Sides.{side_of}
 use Rattle.rg_linear.specs.Branching.{Form, SplitSide, SidesWithin, Weight}
 use Rattle.rg_branch.specs.Asked.{IsSideOf, AreSidesOf}
 use Rattle.rg_branch.specs.View.{weight_of}
@@ -25,6 +26,14 @@ sides_more forms above i d f sides lt within so_far =
     ap (λ xs. xs ++ record { form = split_of (get_or forms (get_or above i d).form f); at = (get_or above i d).at; high = (get_or above i d).high } ∷ []) so_far
     ∙ ap (λ g. sides_among (map split_of forms) (take i above) ++ record { form = g; at = (get_or above i d).at; high = (get_or above i d).high } ∷ []) (sym (get_or-map split_of forms (get_or above i d).form f (split_form.Tokens 0) within))
     ∙ sym (ap (sides_among (map split_of forms)) (take_more above i d lt) ∙ map-append (named (map split_of forms)) (take i above) (get_or above i d ∷ []))
+
+-- one more side as a triple
+pub triples_more : (forms : List NamedForm) (above : List SplitSide) (i : ℕ) (d : SplitSide) (f : NamedForm) (triples : List (SplitForm × ℤ × Bool)) → i < length above
+    → (get_or above i d).form < length forms → map side_of triples ≡ sides_among (map split_of forms) (take i above)
+    → map side_of (triples ++ ((get_or forms (get_or above i d).form f).form, (get_or above i d).at, (get_or above i d).high) ∷ []) ≡ sides_among (map split_of forms) (take (i + 1) above)
+triples_more forms above i d f triples lt within so_far =
+    map-append side_of triples (((get_or forms (get_or above i d).form f).form, (get_or above i d).at, (get_or above i d).high) ∷ [])
+    ∙ sides_more forms above i d f (map side_of triples) lt within so_far
 
 -- the splits of a branching are on its forms
 pub sides_on_forms : (forms : List Form) (above sides : List SplitSide) → SidesWithin forms above sides → All (λ s. s.form < length forms) sides

@@ -22,6 +22,8 @@ use Rattle.rg_separate.specs.View.{shown_of}
 use Rattle.rg_reasons.specs.declared.wide_at.WideAt.{WideAt}
 use Rattle.rg_separate.specs.declared.separation.Separation.{Separation}
 use Rattle.rg_separate.specs.declared.separation.Separation.TheVariants.{Places, Unsolvable, TooWide}
+use Rattle.rg_separate.specs.declared.separation.SeparationWithFirsts.{SeparationWithFirsts}
+use Rattle.rg_separate.specs.declared.separation.SeparationWithFirsts.TheVariants as with_firsts
 
 -- the place is a region of the class with numbers of at most 2^127 - 1 at every state
 pub record IsNarrowRegion (lts : System) (class : Class) (p : Place) : Type 0 where
@@ -35,14 +37,20 @@ pub record AreSeparating (lts : System) (class : Class) (places : List Place) : 
   pub in_range : IsNetInRange (record { labels = labels lts; places = places })
   pub separate : SeparateAll places lts
 
+-- the separation without the problems that each place is the first to separate
+abbrev pub separation_of : SeparationWithFirsts → Separation
+separation_of (with_firsts.Places places firsts) = Places places
+separation_of (with_firsts.Unsolvable cert) = Unsolvable cert
+separation_of (with_firsts.TooWide w) = TooWide w
+
 -- the fact holds of the places, of the certificate, of the term
 abbrev pub IfPlaces : Separation → (List PlaceOfCode → Type 0) → Type 0
-IfPlaces (Places places firsts) P = P places.items
+IfPlaces (Places places) P = P places.items
 IfPlaces _ P = Unit {0}
 
 -- the fact holds of the places with the problems that each is the first to separate
-abbrev pub IfFirsts : Separation → (List PlaceOfCode → List Firsts → Type 0) → Type 0
-IfFirsts (Places places firsts) P = P places.items firsts.items
+abbrev pub IfFirsts : SeparationWithFirsts → (List PlaceOfCode → List Firsts → Type 0) → Type 0
+IfFirsts (with_firsts.Places places firsts) P = P places.items firsts.items
 IfFirsts _ P = Unit {0}
 
 abbrev pub IfUnsolvable : Separation → (Certificate → Type 0) → Type 0
@@ -60,14 +68,14 @@ pub record IsGoodCertificate (lts : System) (class : Class) (cert : Certificate)
   pub holds : Accepts lts class (reason_of cert.reason)
 
 -- what a separation says: of the places also which problems each is the first to separate
-abbrev pub SeparationTells : System → Class → Separation → Type 0
-SeparationTells lts class (Places places firsts) = AreSeparating lts class (map shown_place places.items) × AreAllFirsts lts (map shown_place places.items) firsts.items
-SeparationTells lts class (Unsolvable cert) = IsGoodCertificate lts class cert
-SeparationTells lts class (TooWide w) = ShownWide lts class (shown_of w)
+abbrev pub SeparationTells : System → Class → SeparationWithFirsts → Type 0
+SeparationTells lts class (with_firsts.Places places firsts) = AreSeparating lts class (map shown_place places.items) × AreAllFirsts lts (map shown_place places.items) firsts.items
+SeparationTells lts class (with_firsts.Unsolvable cert) = IsGoodCertificate lts class cert
+SeparationTells lts class (with_firsts.TooWide w) = ShownWide lts class (shown_of w)
 
 -- the separation is this one, in the words of the one answer
 abbrev pub ShowsSeparation : Separation → outcome.Separation → Type 0
-ShowsSeparation (Places places firsts) o = o ≡ outcome.Separation.places (map shown_place places.items)
+ShowsSeparation (Places places) o = o ≡ outcome.Separation.places (map shown_place places.items)
 ShowsSeparation (Unsolvable cert) o = (problem : Problem) × (trees : List Tree) × (reason_of cert.reason ≡ refuted problem trees) × (o ≡ outcome.Separation.unsolvable problem trees)
 ShowsSeparation (TooWide w) o = o ≡ outcome.Separation.too_wide (shown_of w)
 

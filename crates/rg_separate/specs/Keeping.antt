@@ -12,7 +12,6 @@ use Rattle.rg_marks.specs.Firsts.{AreAllFirsts}
 use Rattle.rg_marks.specs.declared.firsts.Firsts.{Firsts}
 use Rattle.rg_marks.specs.declared.separated.Separated.{Separated}
 use Rattle.rg_spanning.specs.Spanning.{IsTreeOf}
-use Rattle.rg_order_of_work.specs.Setting.{Setting as ShownSetting}
 use Rattle.rg_order_of_work.specs.Rewriting.{column_count}
 use Rattle.rg_order_of_work.specs.Chords.{IsBasis}
 use Rattle.rg_cycles.specs.View.{labels_of, cycle_of}
@@ -39,15 +38,14 @@ pub record Serves (s : Setting) (w : Workspace) : Type 0 where
   pub common : IsCommonOf (shown_setting s) w.common
   pub columns : w.solver ≡ column_count s.lts.now (cycle_of s.basis.now) s.class
 
--- the problems are of a setting, with the rows and forms that all of them share and the number of their columns
+-- the problems are of a setting, with the number of their columns
 pub record CanSolve (p : Problems) : Type 0 where
   pub setting : IsSetting p.setting
-  pub common : IsCommonOf (shown_setting p.setting) p.common.now
   pub columns : p.columns ≡ column_count p.setting.lts.now (cycle_of p.setting.basis.now) p.setting.class
 
--- the rows and forms are shared wherever those of the problems are, and the solver is for systems of so many columns
+-- the rows and forms are those that all problems of the setting share, and the solver is for systems of as many columns as they have
 pub record Works (p : Problems) (w : Workspace) : Type 0 where
-  pub common : (s : ShownSetting) → IsCommonOf s p.common.now → IsCommonOf s w.common
+  pub common : IsCommonOf (shown_setting p.setting) w.common
   pub columns : w.solver ≡ p.columns
 
 -- the place is a region, of some class, and its numbers fit

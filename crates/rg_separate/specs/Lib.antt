@@ -4,3 +4,4 @@ pub mod Passing
 pub mod Keeping
 pub mod Casing
 pub mod Deciding
+pub mod Points

@@ -1,4 +1,6 @@
 -- What a term out of range shows.
+use Rattle.std.specs.Prelude.{map}
+use Rattle.rg_refuting.specs.Sides.{side_of}
 use Rattle.rg_order_of_work.specs.Shown as shown
 use Rattle.rg_order_of_work.specs.Shown.{Shown}
 use Rattle.rg_reasons.specs.declared.wide_at.Stage.{Stage}
@@ -18,7 +20,7 @@ shown_of w = record {
   stage = stage_of w.stage;
   problem = w.problem;
   case_number = w.case;
-  above = w.above.items;
+  above = map side_of w.above.items;
   members = w.members.items;
   pivot_variable = w.pivot;
   leaves = w.leaves;

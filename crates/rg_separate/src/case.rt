@@ -1,6 +1,7 @@
 //! One case of a problem.
 ghost use Rattle.std.specs.Prelude.{◌≡◌, map, IfOk};
 ghost use Rattle.rg_linear.specs.Branching.{form_at};
+ghost use Rattle.rg_refuting.specs.Sides.{side_of};
 ghost use Rattle.rg_branch.specs.View.{forms_of};
 ghost use Rattle.rg_branch.specs.Asked.{CanBranch, AreSidesOf};
 ghost use Rattle.rg_rows.specs.Forms.{linear_form, split_of, AreFormsOf};
@@ -12,7 +13,7 @@ ghost use Rattle.rg_separate.specs.Passing.{passed_at, pivot_at};
 
 use crate::placing::placed;
 use crate::refuting::refuted;
-use crate::sides::named_sides;
+use crate::sides::named_triples;
 use crate::workspace::Workspace;
 use rg_branch::{Bounded, BranchStop, Solver, Whole};
 use rg_case_parts::CaseSetting;
@@ -21,7 +22,7 @@ use rg_fraction::FoldStop;
 use rg_integers::Wide;
 use rg_marks::RegionPlace;
 use rg_reasons::{Case, Stage, WideAt};
-use rg_refuting::Side;
+use rg_refuting::Form;
 use rg_rows::{NamedForm, NamedSystem, system_with};
 use std::alloc::{AllocError, Global};
 
@@ -80,7 +81,7 @@ fn branched(
                 wide,
             },
         ) => {
-            let above = named_sides(alloc, &named.forms, &above)?;
+            let above = named_triples(alloc, &named.forms, &above)?;
             Ok(CaseAnswer::Wide(stopped(c, above, members, wide)))
         }
         Err(BranchStop::NoMemory) => Err(AllocError),
@@ -112,10 +113,10 @@ pub(crate) fn passed(
     alloc: Global,
     stage: Stage,
     c: CaseSetting<'_>,
-    above: Vec<Side>,
+    above: Vec<(Form, i64, bool)>,
     wide: Wide,
 ) -> WideAt
-    ensures { shown_of result ≡ passed_at stage c.entry above.items wide }
+    ensures { shown_of result ≡ passed_at stage c.entry (map side_of above.items) wide }
 {
     WideAt {
         stage,
@@ -132,8 +133,13 @@ pub(crate) fn passed(
 }
 
 // The term of an exchange that is out of range, below these sides and at this set.
-fn stopped(c: CaseSetting<'_>, above: Vec<Side>, members: Vec<u32>, at: PivotWide) -> WideAt
-    ensures { shown_of result ≡ pivot_at c.entry above.items members.items at }
+fn stopped(
+    c: CaseSetting<'_>,
+    above: Vec<(Form, i64, bool)>,
+    members: Vec<u32>,
+    at: PivotWide,
+) -> WideAt
+    ensures { shown_of result ≡ pivot_at c.entry (map side_of above.items) members.items at }
 {
     WideAt {
         stage: Stage::Pivot,

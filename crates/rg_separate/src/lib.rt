@@ -4,6 +4,7 @@
 mod case;
 mod dead;
 mod kept;
+mod place;
 mod placing;
 mod problem;
 mod refuting;
@@ -13,4 +14,7 @@ mod sides;
 mod solving;
 mod workspace;
 
-pub use separation::{Separation, separate};
+pub use place::make_place;
+pub use rg_memory::NoMemory;
+pub use rg_reasons::{Stage, WideAt};
+pub use separation::{Separation, SeparationWithFirsts, separate, separate_with_firsts};

@@ -5,7 +5,7 @@ ghost use Rattle.rg_separate.specs.Casing.{IsCase, IsNamedSystem, forms_in};
 ghost use Rattle.rg_separate.specs.Deciding.{CaseTells, CaseComesTo};
 
 use crate::case::{CaseAnswer, passed};
-use crate::sides::named_sides;
+use crate::sides::named_triples;
 use rg_case_parts::CaseSetting;
 use rg_fraction::{FoldStop, Fraction};
 use rg_places::make_place;
@@ -32,7 +32,7 @@ pub(crate) fn placed(
     match make_place(alloc, c.setting, c.problem, point) {
         Ok(region) => Ok(CaseAnswer::Place(region)),
         Err(FoldStop::Wide(wide)) => {
-            let above = named_sides(alloc, &named.forms, above)?;
+            let above = named_triples(alloc, &named.forms, above)?;
             Ok(CaseAnswer::Wide(passed(alloc, Stage::Place, c, above, wide)))
         }
         Err(FoldStop::NoMemory) => Err(AllocError),

@@ -12,10 +12,10 @@ ghost use Rattle.rg_separate.specs.Deciding.{CaseTells, CaseComesTo};
 
 use crate::case::{CaseAnswer, passed};
 use crate::shares::shares;
-use crate::sides::named_sides;
+use crate::sides::{named_sides, named_triples};
 use rg_branch::RawNode;
 use rg_case_parts::CaseSetting;
-use rg_farkas::spread;
+use rg_farkas::spread_in;
 use rg_fraction::FoldStop;
 use rg_reasons::{Case, Node, Stage};
 use rg_rows::NamedSystem;
@@ -41,7 +41,7 @@ pub(crate) fn refuted(
         match made_of(alloc, c, named, &above, node) {
             Ok(node) => made.push(node)?,
             Err(FoldStop::Wide(wide)) => {
-                let above = named_sides(alloc, &named.forms, &above)?;
+                let above = named_triples(alloc, &named.forms, &above)?;
                 return Ok(CaseAnswer::Wide(passed(alloc, Stage::Spread, c, above, wide)));
             }
             Err(FoldStop::NoMemory) => return Err(AllocError),
@@ -104,5 +104,5 @@ fn leaf(
 {
     let shares = shares(alloc, named, above, weights)?;
     let above = named_sides(alloc, &named.forms, above)?;
-    spread(alloc, c, &shares, &above)
+    spread_in(alloc, c, &shares, &above)
 }

@@ -7,16 +7,17 @@ ghost use Rattle.rg_order_of_work.specs.Shown.{ShownWide};
 ghost use Rattle.rg_marks.specs.Firsts.{AreAllFirsts};
 ghost use Rattle.rg_separate.specs.View.{shown_of};
 ghost use Rattle.rg_separate.specs.Passing.{cycle_passed};
-ghost use Rattle.rg_separate.specs.Keeping.{IsSetting, CanSolve};
+ghost use Rattle.rg_separate.specs.Keeping.{IsSetting, CanSolve, Works};
 ghost use Rattle.rg_rows.specs.Sharing.{IsCommonOf};
 ghost use Rattle.rg_case_parts.specs.SettingViews.{shown_setting};
 ghost use Rattle.rg_separate.specs.Deciding.{EndsWith, ProvesRefuted};
-ghost use Rattle.rg_separate.specs.Answer.{AreSeparating, IsGoodCertificate, IfPlaces, IfFirsts, IfUnsolvable, IfTooWide, SeparationTells, IsSearched};
+ghost use Rattle.rg_separate.specs.Answer.{AreSeparating, IsGoodCertificate, separation_of, IfPlaces, IfFirsts, IfUnsolvable, IfTooWide, SeparationTells, IsSearched};
 
 use crate::kept::Kept;
 use crate::problem::{ProblemAnswer, solve_problem};
 use crate::solving::Problems;
-use rg_blocks::{SeparationOutcome, Solving, separate_all};
+use crate::workspace::Workspace;
+use rg_blocks::{SeparationOutcome, separate_all};
 use rg_case_parts::{Setting, chord_vectors};
 use rg_cycles::{CycleWide, Stop, reduce};
 use rg_lts::Lts;
@@ -34,6 +35,17 @@ use std::thread::Threads;
 /// What the separation problems of a system come to.
 #[derive(Drop)]
 pub enum Separation {
+    /// Places that separate all problems.
+    Places(Vec<Place>),
+    /// No place of the class separates some problem.
+    Unsolvable(Certificate),
+    /// A number passes in some problem that no place found separates.
+    TooWide(WideAt),
+}
+
+/// What the separation problems of a system come to, with the problems that each place is the first to separate.
+#[derive(Drop)]
+pub enum SeparationWithFirsts {
     /// Places that separate all problems, and for each the problems that it is the first to separate.
     Places(Vec<Place>, Vec<Firsts>),
     /// No place of the class separates some problem.
@@ -51,7 +63,7 @@ pub enum Separation {
 /// the branching on them, and the place of its point or the leaves of its tree. The first place is kept. A problem
 /// whose cases are all refuted ends the work: `Unsolvable`. One without a place in which a number passes is passed
 /// over; at the end the first problem that no kept place separates makes the answer `TooWide`, and without one the
-/// answer is `Places`: of each place also the problems are told that it is the first to separate. `NoMemory` where there is none.
+/// answer is `Places`. Returns `NoMemory` if memory runs out.
 ///
 /// The answer is the one of the system and the class, for any number of jobs and any gate: `searched`, with
 /// `outcome_is_one`, is "exactly". The problems are solved in blocks, on so many threads as `jobs` says at most.
@@ -68,9 +80,31 @@ pub fn separate<R: Threads + Sync, G: Gate + Sync>(
     requires some { 1 ≤ jobs }
     ensures searched { IfOk result (IsSearched lts.now class) }
     ensures places { IfOk result (λ s. IfPlaces s (λ places. AreSeparating lts.now class (map shown_place places))) }
-    ensures firsts { IfOk result (λ s. IfFirsts s (λ places firsts. AreAllFirsts lts.now (map shown_place places) firsts)) }
     ensures unsolvable { IfOk result (λ s. IfUnsolvable s (IsGoodCertificate lts.now class)) }
     ensures too_wide { IfOk result (λ s. IfTooWide s (λ w. ShownWide lts.now class (shown_of w))) }
+{
+    let separation = separate_with_firsts(rt, alloc, lts, class, jobs, gate)?;
+    Ok(separation.without_firsts())
+}
+
+/// What `separate` returns, and for each place the problems that it is the first to separate, which the search finds in any case.
+/// Returns `NoMemory` if memory runs out.
+pub fn separate_with_firsts<R: Threads + Sync, G: Gate + Sync>(
+    rt: &R,
+    alloc: Global,
+    lts: &Lts,
+    class: Class,
+    jobs: u8,
+    gate: &G,
+) -> Result<SeparationWithFirsts, NoMemory>
+    requires reachable { IsAllReachable lts.now }
+    requires bound { HasNumbersInRange class }
+    requires some { 1 ≤ jobs }
+    ensures searched { IfOk result (λ s. IsSearched lts.now class (separation_of s)) }
+    ensures places { IfOk result (λ s. IfPlaces (separation_of s) (λ places. AreSeparating lts.now class (map shown_place places))) }
+    ensures firsts { IfOk result (λ s. IfFirsts s (λ places firsts. AreAllFirsts lts.now (map shown_place places) firsts)) }
+    ensures unsolvable { IfOk result (λ s. IfUnsolvable (separation_of s) (IsGoodCertificate lts.now class)) }
+    ensures too_wide { IfOk result (λ s. IfTooWide (separation_of s) (λ w. ShownWide lts.now class (shown_of w))) }
 {
     let tree = match Tree::grow(alloc, lts) {
         Ok(tree) => tree,
@@ -87,10 +121,23 @@ pub fn separate<R: Threads + Sync, G: Gate + Sync>(
                 class,
             };
             let common = Common::new(alloc, setting)?;
-            separated(rt, alloc, setting, &common, jobs, gate)
+            separated(rt, alloc, setting, common, jobs, gate)
         }
-        Err(Stop::Wide(wide)) => Ok(Separation::TooWide(stopped(alloc, wide))),
+        Err(Stop::Wide(wide)) => Ok(SeparationWithFirsts::TooWide(stopped(alloc, wide))),
         Err(Stop::NoMemory) => Err(NoMemory),
+    }
+}
+
+impl SeparationWithFirsts {
+    // The same without the problems that each place is the first to separate.
+    fn without_firsts(self) -> Separation
+        ensures { result ≡ separation_of self }
+    {
+        match self {
+            SeparationWithFirsts::Places(places, _) => Separation::Places(places),
+            SeparationWithFirsts::Unsolvable(certificate) => Separation::Unsolvable(certificate),
+            SeparationWithFirsts::TooWide(at) => Separation::TooWide(at),
+        }
     }
 }
 
@@ -99,23 +146,23 @@ fn separated<R: Threads + Sync, G: Gate + Sync>(
     rt: &R,
     alloc: Global,
     setting: Setting<'_>,
-    common: &Common,
+    common: Common,
     jobs: u8,
     gate: &G,
-) -> Result<Separation, NoMemory>
+) -> Result<SeparationWithFirsts, NoMemory>
     requires setting { IsSetting setting }
-    requires common { IsCommonOf (shown_setting setting) common.now }
+    requires common { IsCommonOf (shown_setting setting) common }
     requires some { 1 ≤ jobs }
     ensures tells { IfOk result (SeparationTells setting.entry.lts.now setting.entry.class) }
-    ensures searched { IfOk result (IsSearched setting.entry.lts.now setting.entry.class) }
+    ensures searched { IfOk result (λ s. IsSearched setting.entry.lts.now setting.entry.class (separation_of s)) }
 {
     let lts = setting.lts;
     lts.is_well_formed();
     let columns = common.column_count(setting.basis);
+    let mut workspace = Workspace::new(alloc, common, columns)?;
     let problems = Problems {
         alloc,
         setting,
-        common,
         columns,
     };
     let mut kept = Kept {
@@ -125,50 +172,72 @@ fn separated<R: Threads + Sync, G: Gate + Sync>(
         separated: Separated::nothing(alloc, lts)?,
     };
     let mut proof = None;
-    match separate_all(rt, alloc, lts, &mut kept, &problems, jobs, gate, &mut proof)? {
-        SeparationOutcome::Separated => Ok(Separation::Places(kept.places, kept.firsts)),
-        SeparationOutcome::Unsolvable(refuted) => certified(problems, refuted, proof),
-        SeparationOutcome::TooWide(left) => shown(problems, left),
+    let outcome = separate_all(
+        rt,
+        alloc,
+        lts,
+        &mut kept,
+        &problems,
+        &mut workspace,
+        jobs,
+        gate,
+        &mut proof,
+    )?;
+    match outcome {
+        SeparationOutcome::Separated => Ok(SeparationWithFirsts::Places(kept.places, kept.firsts)),
+        SeparationOutcome::Unsolvable(refuted) => certified(
+            problems,
+            &mut workspace,
+            refuted,
+            proof,
+        ),
+        SeparationOutcome::TooWide(left) => shown(problems, &mut workspace, left),
     }
 }
 
 // The certificate of a refuted problem: with the reason that was kept, where it is that of the problem.
 fn certified(
     problems: Problems<'_>,
+    workspace: &mut Workspace,
     problem: Problem,
     proof: Option<(Problem, Reason)>,
-) -> Result<Separation, NoMemory>
+) -> Result<SeparationWithFirsts, NoMemory>
     requires can { CanSolve problems }
+    requires serves { Works problems workspace.old }
     requires shows { EndsWith problems.setting problem }
     requires proves { IfSome proof (λ p. ProvesRefuted problems.setting p.0 p.1) }
     ensures tells { IfOk result (SeparationTells problems.entry.setting.lts.now problems.entry.setting.class) }
-    ensures searched { IfOk result (IsSearched problems.entry.setting.lts.now problems.entry.setting.class) }
+    ensures searched { IfOk result (λ s. IsSearched problems.entry.setting.lts.now problems.entry.setting.class (separation_of s)) }
 {
     if let Some((proved, reason)) = proof {
         if proved == problem {
-            return Ok(Separation::Unsolvable(Certificate {
+            return Ok(SeparationWithFirsts::Unsolvable(Certificate {
                 class: problems.setting.class,
                 reason,
             }));
         }
     }
-    shown(problems, problem)
+    shown(problems, workspace, problem)
 }
 
 // The certificate of a refuted problem, or the term that a problem shows: it is solved once more, and comes to the same.
-fn shown(problems: Problems<'_>, problem: Problem) -> Result<Separation, NoMemory>
+fn shown(
+    problems: Problems<'_>,
+    workspace: &mut Workspace,
+    problem: Problem,
+) -> Result<SeparationWithFirsts, NoMemory>
     requires can { CanSolve problems }
+    requires serves { Works problems workspace.old }
     requires shows { EndsWith problems.setting problem }
     ensures tells { IfOk result (SeparationTells problems.entry.setting.lts.now problems.entry.setting.class) }
-    ensures searched { IfOk result (IsSearched problems.entry.setting.lts.now problems.entry.setting.class) }
+    ensures searched { IfOk result (λ s. IsSearched problems.entry.setting.lts.now problems.entry.setting.class (separation_of s)) }
 {
-    let mut workspace = problems.workspace()?;
-    match solve_problem(problems.alloc, &mut workspace, problems.setting, problem)? {
-        ProblemAnswer::Refuted(reason) => Ok(Separation::Unsolvable(Certificate {
+    match solve_problem(problems.alloc, workspace, problems.setting, problem)? {
+        ProblemAnswer::Refuted(reason) => Ok(SeparationWithFirsts::Unsolvable(Certificate {
             class: problems.setting.class,
             reason,
         })),
-        ProblemAnswer::Wide(at) => Ok(Separation::TooWide(at)),
+        ProblemAnswer::Wide(at) => Ok(SeparationWithFirsts::TooWide(at)),
         ProblemAnswer::Place(_) => unreachable!(),
     }
 }

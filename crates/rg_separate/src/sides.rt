@@ -1,9 +1,10 @@
 //! The sides of splits, with their forms by name.
 ghost use Rattle.std.specs.Prelude.{◌≡◌, ◌<◌, length, map, All, IfOk};
+ghost use Rattle.rg_refuting.specs.Sides.{side_of};
 ghost use Rattle.rg_rows.specs.Forms.{split_of};
 ghost use Rattle.rg_separate.specs.Casing.{sides_among};
 
-use rg_refuting::Side as NamedSide;
+use rg_refuting::{Form, Side as NamedSide};
 use rg_rows::NamedForm;
 use rg_splits::Side;
 use std::alloc::{AllocError, Global};
@@ -23,4 +24,21 @@ pub(crate) fn named_sides(
         sides.push(NamedSide { form, at, high })?;
     }
     Ok(sides)
+}
+
+// The sides as triples: the form by name, the number, and true in the high side.
+pub(crate) fn named_triples(
+    alloc: Global,
+    forms: &[NamedForm],
+    above: &[Side<u32>],
+) -> Result<Vec<(Form, i64, bool)>, AllocError>
+    requires { All (λ s. s.form < length forms.now) above.now }
+    ensures { IfOk result (λ v. map side_of v.items ≡ sides_among (map split_of forms.now) above.now) }
+{
+    let mut triples = Vec::new(alloc);
+    for &Side { form, at, high } in above {
+        let form = forms[form as usize].form;
+        triples.push((form, at, high))?;
+    }
+    Ok(triples)
 }

@@ -13,16 +13,14 @@ use rg_blocks::{ProblemOutcome, Solving};
 use rg_case_parts::Setting;
 use rg_memory::NoMemory;
 use rg_reasons::Reason;
-use rg_rows::Common;
 use rg_theory::Problem;
 use std::alloc::Global;
 
-// The problems of a system and a class, the rows and forms that they share, and how many columns their systems have.
+// The problems of a system and a class, and how many columns their systems have.
 #[derive(Clone, Copy)]
 pub(crate) struct Problems<'a> {
     pub(crate) alloc: Global,
     pub(crate) setting: Setting<'a>,
-    pub(crate) common: &'a Common,
     pub(crate) columns: u32,
 }
 
@@ -41,8 +39,8 @@ impl Solving for Problems<'_> {
 
     ghost proves = { λ s. ProvesRefuted s.setting };
 
-    fn workspace(&self) -> Result<Workspace, NoMemory> {
-        Workspace::new(self.alloc, self.common, self.columns)
+    fn copy_workspace(&self, workspace: &Workspace) -> Result<Workspace, NoMemory> {
+        workspace.copied(self.alloc, self.columns)
     }
 
     fn solve(

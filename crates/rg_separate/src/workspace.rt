@@ -16,13 +16,21 @@ pub(crate) struct Workspace {
 }
 
 impl Workspace {
-    // A workspace with a copy of these rows and forms, for systems of so many columns.
-    pub(crate) fn new(alloc: Global, common: &Common, columns: u32) -> Result<Workspace, NoMemory>
-        ensures common { IfOk result (λ w. (s : Setting) → IsCommonOf s common.now → IsCommonOf s w.common) }
+    // A workspace with these rows and forms, for systems of so many columns.
+    pub(crate) fn new(alloc: Global, common: Common, columns: u32) -> Result<Workspace, NoMemory>
+        ensures common { IfOk result (λ w. w.common ≡ common) }
         ensures columns { IfOk result (λ w. w.solver ≡ columns) }
     {
         let solver = Solver::new(alloc, columns)?;
-        let common = common.copied(alloc)?;
         Ok(Workspace { common, solver })
+    }
+
+    // A workspace with a copy of the rows and forms, for systems of so many columns.
+    pub(crate) fn copied(&self, alloc: Global, columns: u32) -> Result<Workspace, NoMemory>
+        ensures common { IfOk result (λ w. (s : Setting) → IsCommonOf s self.now.common → IsCommonOf s w.common) }
+        ensures columns { IfOk result (λ w. w.solver ≡ columns) }
+    {
+        let common = self.common.copied(alloc)?;
+        Workspace::new(alloc, common, columns)
     }
 }

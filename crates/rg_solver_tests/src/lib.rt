@@ -6,6 +6,8 @@ mod asked;
 #[cfg(test)]
 mod bases;
 #[cfg(test)]
+mod calls;
+#[cfg(test)]
 mod expressions;
 #[cfg(test)]
 mod laws;

@@ -24,16 +24,20 @@ use std::alloc::{AllocError, Global};
 use std::process::Abort;
 use std::test::Fail;
 
-// Each of two users gets the lock and puts it back.
-const GET_AND_PUT: &str =
+/// Each of two users gets the lock and puts it back.
+pub(crate) const GET_AND_PUT: &str =
     ".type LTS .states s0[initial] s1 s2 .labels get1 put1 get2 put2 .arcs s0 get1 s1 s1 put1 s0 s0 get2 s2 s2 put2 s0";
 
 // One b goes as far as two a.
 const TWO_A_OR_ONE_B: &str =
     ".type LTS .states s0[initial] s1 s2 .labels a b .arcs s0 a s1 s1 a s2 s0 b s2";
 
-// Whether the point has one number for each column.
-fn is_point(alloc: Global, setting: Setting<'_>, point: &[Fraction]) -> Result<bool, AllocError>
+/// Whether the point has one number for each column.
+pub(crate) fn is_point(
+    alloc: Global,
+    setting: Setting<'_>,
+    point: &[Fraction],
+) -> Result<bool, AllocError>
     requires { labels_of setting.basis.now ≡ labels setting.lts.now }
     ensures { let s = setting.entry in
         IfOk result (λ b. IsTrue b → length point.now ≡ column_count s.lts.now (cycle_of s.basis.now) s.class) }
@@ -83,8 +87,8 @@ fn placed(
     place_over(alloc, setting, problem, &point)
 }
 
-// Fractions of numbers in range.
-fn point(alloc: Global, numbers: &[(i128, i128)]) -> Result<Vec<Fraction>, AllocError> {
+/// Fractions of numbers in range.
+pub(crate) fn point(alloc: Global, numbers: &[(i128, i128)]) -> Result<Vec<Fraction>, AllocError> {
     let mut point = Vec::new(alloc);
     for &(n, d) in numbers {
         point.push(Fraction::new(n.max(-i128::MAX), d.max(1)))?;

@@ -68,7 +68,13 @@ fn case_text(alloc: Global, c: CaseSetting<'_>) -> Option<String>
     if c.number >= count || !is_asked(c.setting.lts, c.problem) {
         return None;
     }
-    let named = rg_rows::system(alloc, c).ok()?;
+    let Setting {
+        lts,
+        tree,
+        basis,
+        class,
+    } = c.setting;
+    let named = rg_rows::system(alloc, lts, tree, basis, class, c.problem, c.number).ok()?;
     text_of(alloc, count, &named).ok()
 }
 

@@ -131,4 +131,24 @@ impl Tree {
     {
         &self.chords
     }
+
+    /// Returns the entry of label `t` in the vector of chord `i`: how often the label occurs on the tree's path to the
+    /// chord's source and on the chord, minus how often it occurs on the tree's path to the chord's target.
+    pub fn chord_entry(&self, i: usize, t: u32) -> i128
+        requires chord { i < length self.now.chords }
+        requires label { t < self.now.labels }
+        ensures { (a : Arc) → slice_get self.now.chords i ≡ Some a → result ≡ chord_entry self.now.arcs a t }
+    {
+        let a = self.chords[i];
+        let source = self.rows.row(a.from)[t as usize];
+        let target = self.rows.row(a.to)[t as usize];
+        difference(source, t == a.label, target)
+    }
+}
+
+// The source's count, and one where the chord has the label, less the target's.
+fn difference(source: u32, own: bool, target: u32) -> i128
+    ensures { result ≡ (pos source +ℤ (if own then pos 1 else pos 0)) -ℤ pos target }
+{
+    i128::from(source) + if own { 1 } else { 0 } - i128::from(target)
 }

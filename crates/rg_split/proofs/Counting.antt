@@ -22,7 +22,7 @@ use Rattle.rg_refuting.specs.Refutes.{NamedRow, IsMultiplier, coefficient_sum, c
 use Rattle.rg_refuting.proofs.Rows.{Says-times}
 use Rattle.rg_refuting.proofs.Sums.{no_contradiction}
 use Rattle.rg_order_of_work.specs.Spreading.{arc_name}
-use Rattle.rg_outcome.proofs.Decided.{Decided, find_number}
+use Rattle.rg_decided.proofs.Deciding.{Decided, find_number}
 use Rattle.rg_split.specs.Parts.{arc_multiplier, Counts}
 use Rattle.rg_split.proofs.ArcSums.{is_arc, IsArcOf, parted, others, sum_of_others, others_have}
 use Rattle.rg_split.proofs.Signs.{is_zero, some_positive, some_negative}

@@ -15,7 +15,6 @@ use Rattle.rg_reasons.specs.declared.certificate.Reason.TheVariants.{Unreachable
 use Rattle.rg_reasons.specs.Certificates.{reason_of, IsCertificateOf}
 use Rattle.rg_outcome.specs.Coming.{Separation, Separation.places as places_of, Separation.unsolvable as problem_of, Separation.too_wide as term_of}
 use Rattle.rg_outcome.specs.Outcome.{Gives, Searched, Out, Out.a_state, Out.a_fork, Out.a_search, Answer.net as of_net, Answer.unsolvable as of_reason, Answer.too_wide as of_term}
-use Rattle.rg_marks.specs.declared.firsts.Firsts.{Firsts}
 use Rattle.rg_separate.specs.View.{shown_of}
 use Rattle.rg_reasons.specs.declared.wide_at.WideAt.{WideAt}
 use Rattle.rg_separate.specs.declared.separation.Separation.TheVariants as separation
@@ -24,8 +23,8 @@ use Rattle.rg_synth.specs.Answer.{IsOpen, IsReason, IsRightCertificate}
 
 -- ---- what the search ends with
 
-pub net_out : (lts : System) (class : Class) (places : Vec PlaceOfCode Global) (firsts : Vec Firsts Global) (left : List Place) → IsOpen lts → IsSearched lts class (separation.Places places firsts) → IsPruned lts (map shown_place places.items) left → Out lts class (of_net left)
-net_out lts class places firsts left opened is pruned =
+pub net_out : (lts : System) (class : Class) (places : Vec PlaceOfCode Global) (left : List Place) → IsOpen lts → IsSearched lts class (separation.Places places) → IsPruned lts (map shown_place places.items) left → Out lts class (of_net left)
+net_out lts class places left opened is pruned =
     a_search (places_of (map shown_place places.items)) (of_net left) opened.reachable opened.fork_free (subst (Searched lts class) is.shows is.searched) pruned
 
 pub reason_out : (lts : System) (class : Class) (cert : Certificate) → IsOpen lts → IsSearched lts class (separation.Unsolvable cert) → Out lts class (of_reason (reason_of cert.reason))

@@ -20,9 +20,9 @@ use rg_marks::Firsts;
 use rg_memory::NoMemory;
 use rg_net::{Net, Place};
 use rg_ports::Gate;
-use rg_prune::prune;
+use rg_prune::prune_with_firsts;
 use rg_reasons::{Certificate, Reason};
-use rg_separate::{Separation, separate};
+use rg_separate::{SeparationWithFirsts, separate_with_firsts};
 use rg_theory::Class;
 use std::alloc::Global;
 use std::thread::Threads;
@@ -86,13 +86,13 @@ fn open_answer<R: Threads + Sync, G: Gate + Sync>(
     ensures too_wide { IfOk result (λ a. IfTooWide a (λ w. IsOpen lts.now × ShownWide lts.now class (shown_of w))) }
 {
     lts.is_well_formed();
-    match separate(rt, alloc, lts, class, jobs, gate)? {
-        Separation::Places(places, firsts) => {
+    match separate_with_firsts(rt, alloc, lts, class, jobs, gate)? {
+        SeparationWithFirsts::Places(places, firsts) => {
             let net = net_of_those_needed(alloc, lts, places, firsts)?;
             Ok(Answer::Net(net))
         }
-        Separation::Unsolvable(cert) => Ok(Answer::Unsolvable(cert)),
-        Separation::TooWide(at) => Ok(Answer::TooWide(at)),
+        SeparationWithFirsts::Unsolvable(cert) => Ok(Answer::Unsolvable(cert)),
+        SeparationWithFirsts::TooWide(at) => Ok(Answer::TooWide(at)),
     }
 }
 
@@ -113,6 +113,6 @@ fn net_of_those_needed(
     ensures pruned { IfOk result (λ net. IsPruned lts.now (map shown_place places.items) net.places) }
 {
     let labels = lts.labels();
-    let needed = prune(alloc, lts, places, firsts)?;
+    let needed = prune_with_firsts(alloc, lts, places, firsts)?;
     Ok(Net::new(labels, needed))
 }

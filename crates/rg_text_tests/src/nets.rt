@@ -1,7 +1,7 @@
 //! Nets in memory, and the texts that spell them.
 use rg_lts::Lts;
 use rg_net::{Class, Net, Place, net_is_told, prefix_is_free};
-use rg_netfile::{one_answer, print_net, printed_is_spelled, read_net};
+use rg_netfile::{one_answer, print_net, printed_is_spelled, read_net, spelled_is_for_the_system};
 use rg_samples::{DEAD, SAFE, TWO_MARKING, system, system_of};
 use rg_text::MOST_BYTES;
 use rg_theory::{ALL_NETS, class_text};
@@ -33,7 +33,12 @@ const NUMBERS: [(&str, u128, u128); 4] = [
 ];
 
 // Texts of systems, texts of nets, and these as they are printed.
-const PRINTED: [(&str, &str, &str); 3] = [
+const PRINTED: [(&str, &str, &str); 4] = [
+    (
+        ".type LTS .states s0[initial] s1 s2 .labels a b .arcs s0 a s1 s0 b s2",
+        ".type PN\n.places\np0\np1\n.transitions\na\nb\n.flows\na: {p0, p1} -> {p1}\nb: {p0, p1} -> {p0}\n.initial_marking {p0, p1}\n",
+        ".type PN\n.places\np0\np1\n.transitions\na\nb\n.flows\na: {p0, p1} -> {p1}\nb: {p0, p1} -> {p0}\n.initial_marking {p0, p1}\n",
+    ),
     (
         ".type TS .states s[initial] .labels a",
         ".type PN .transitions a",
@@ -153,6 +158,7 @@ fn laws() {
     prefix_is_free();
     one_answer();
     printed_is_spelled();
+    spelled_is_for_the_system();
 }
 
 #[test]

@@ -1,5 +1,7 @@
 //! Systems that are built in memory, and the laws of the texts that spell them.
-use rg_apt::{items_are_read, one_answer, plain_is_spelled, printed_is_spelled};
+use rg_apt::{
+    items_are_read, one_answer, plain_is_spelled, printed_is_spelled, spelled_is_well_formed,
+};
 use rg_lts::{BuildFault, LtsBuilder};
 use std::alloc::Global;
 use std::process::Abort;
@@ -28,6 +30,7 @@ fn laws_are_called(_rt: HostRuntime) {
     items_are_read();
     plain_is_spelled();
     printed_is_spelled();
+    spelled_is_well_formed();
 }
 
 // Two states and two labels.

@@ -3,9 +3,9 @@ use Rattle.std.proofs.Common.{◌≡◌, ◌↔◌, ℕ, List, [], Option, sym, 
 use Rattle.rg_ports.specs.Shelf.{Files}
 use Rattle.rg_theory.specs.System.{System}
 use Rattle.rg_lts.specs.WellFormed.{IsWellFormed}
-use Rattle.rg_isomorphism.specs.Isomorphic.{AreIsomorphic}
-use Rattle.rg_isomorphism.specs.Compared.{IsJudged, Told, Told.label as as_label, Told.differs as as_difference, Compares, IsMap}
-use Rattle.rg_isomorphism.specs.Compared.{Compares.same as by_map, Compares.first_label as by_first, Compares.second_label as by_second, Compares.difference as by_difference}
+use Rattle.rg_iso.specs.Isomorphic.{AreIsomorphic}
+use Rattle.rg_iso.specs.Compared.{IsJudged, Told, Told.label as as_label, Told.differs as as_difference, Compares, IsMap}
+use Rattle.rg_iso.specs.Compared.{Compares.same as by_map, Compares.first_label as by_first, Compares.second_label as by_second, Compares.difference as by_difference}
 use Rattle.rg_commands.specs.declared.forms.Form.{Form}
 use Rattle.rg_messages.specs.ComparedTexts.{told_text}
 use Rattle.rg_top.specs.Given.{IsSystemFile}

@@ -4,8 +4,8 @@ use Rattle.std.proofs.lemmas.Bool.{cases_order}
 use Rattle.rg_ports.specs.Shelf.{Files}
 use Rattle.rg_theory.specs.System.{System, IsLeastUnreachable, IsLeastFork}
 use Rattle.rg_lts.specs.WellFormed.{IsWellFormed}
-use Rattle.rg_isomorphism.specs.Isomorphic.{AreIsomorphic}
-use Rattle.rg_isomorphism.specs.Compared.{IsJudged, Told, Told.map as as_map, Compares, Compares.same as by_map}
+use Rattle.rg_iso.specs.Isomorphic.{AreIsomorphic}
+use Rattle.rg_iso.specs.Compared.{IsJudged, Told, Told.map as as_map, Compares, Compares.same as by_map}
 use Rattle.rg_commands.specs.declared.forms.Form.{Form}
 use Rattle.rg_messages.specs.ComparedTexts.{told_text, unreachable_line, fork_line}
 use Rattle.rg_messages.specs.Files.{file_line}

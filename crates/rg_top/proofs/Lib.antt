@@ -21,3 +21,12 @@ pub mod Found
 pub mod Compared
 pub mod ToldApart
 pub mod Trials
+pub mod Something
+pub mod SomeNets
+pub mod SomeFactors
+pub mod SomeTrials
+pub mod SomeAsked
+pub mod SomeFile
+pub mod SomeJudged
+pub mod SomePair
+pub mod SomeEnd

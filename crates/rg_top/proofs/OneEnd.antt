@@ -11,9 +11,11 @@ use Rattle.rg_messages.specs.Files.{file_line}
 use Rattle.rg_messages.specs.Usages.{usage_line}
 use Rattle.rg_top.specs.Second.{first_fault}
 use Rattle.rg_top.specs.Ends.{EndsOn, FileEnds, EndsOf, no_system as ends_no_system, on_system as ends_on_system, Answers, refused as ends_refused, asked as ends_asked}
-use Rattle.rg_top.specs.Due.{DueOn, FileDue, DueOf, no_system as due_no_system, on_system as due_on_system, IsDue, refused as due_refused, asked as due_asked, Decides, for_a_net, for_factors, for_labels, IsPassed}
+use Rattle.rg_top.specs.Due.{DueOn, FileDue, DueOf, no_system as due_no_system, on_system as due_on_system, IsDue, refused as due_refused, asked as due_asked, Decides, for_a_net, for_factors, for_labels, DecidesAsked, IsPassed}
 use Rattle.rg_top.specs.Run.{IsDecided, IsTheOne, AreOne}
-use Rattle.rg_top.specs.Terms.{Term, ShowsTerm}
+use Rattle.rg_top.specs.Terms.{Term, of_net, of_factor, of_split, ShowsTerm}
+use Rattle.rg_top.specs.Given.{IsSystemFile}
+use Rattle.rg_top.specs.SelfTest.{SelfTestEnds}
 use Rattle.rg_top.specs.One.{OneAnswer}
 use Rattle.rg_top.specs.declared.status.Status.{Status}
 use Rattle.rg_top.specs.declared.status.Status.TheVariants.{Usage as Refuses, File}
@@ -27,7 +29,8 @@ use Rattle.rg_top.proofs.SplitOnce.{OneSplitting, split_due, split_once, split_t
 use Rattle.rg_top.proofs.IsomorphicOnce.{OneComparison, isomorphic_due, isomorphic_once}
 use Rattle.rg_top.proofs.ExamineOnce.{OneExamination, examine_due, examine_once}
 use Rattle.rg_top.proofs.GenerateOnce.{OneOfFamily, generate_due, generate_once}
-use Rattle.rg_top.proofs.SelfTestOnce.{OneOfTrials, self_test_due, self_test_once}
+use Rattle.rg_top.proofs.SelfTestOnce.{OneOfTrials, self_test_due, self_test_once, self_test_term}
+use Rattle.rg_top.proofs.SomeEnd.{SomeOfAll, answers_some}
 
 -- what is one: what words say, what is read, the system of a family, what comes out, what is judged
 pub record OneOfAll : Type 0 where
@@ -154,19 +157,32 @@ term_on one files _ lts _ s out err formed (for_a_net class w answer) x = synthe
 term_on one files _ lts _ s out err formed (for_factors class fs i f w has first answer) x = factor_term one.factoring lts class fs i f w s out err formed.in_range x has first answer
 term_on one files _ lts _ s out err formed (for_labels output system old w comes) x = split_term one.splitting lts output system old w s out err x comes
 
-of_term_shown : OneOfAll → (files : Files) (words : List (List ℕ)) (w : Term) (s : Status) (out err : List ℕ) (passed : IsPassed words (Some files) w)
-    → FileEnds (Some files) passed.work passed.file passed.form s out err → ShowsTerm w s
-of_term_shown one files words w s out err passed (ends_no_system f h) = absurd (system_or_none one.reading files passed.form passed.file f passed.lts h passed.spelled)
-of_term_shown one files words w s out err passed (ends_on_system lts status o e h formed x) =
-    let same = one_system one.reading files passed.form passed.file passed.lts lts passed.spelled h in
-    term_on one files passed.work lts w status o e formed (subst (λ l. Decides l passed.work w) same passed.decides) x
+of_term_shown : OneOfAll → (files : Files) (work : Work) (file : List ℕ) (form : Form) (w : Term) (s : Status) (out err : List ℕ) (lts : System) → IsSystemFile (Some files) form file lts
+    → Decides lts work w → FileEnds (Some files) work file form s out err → ShowsTerm w s
+of_term_shown one files work file form w s out err lts spelled decides (ends_no_system f h) = absurd (system_or_none one.reading files form file f lts h spelled)
+of_term_shown one files work file form w s out err lts spelled decides (ends_on_system other status o e h formed x) =
+    let same = one_system one.reading files form file lts other spelled h in
+    term_on one files work other w status o e formed (subst (λ l. Decides l work w) same decides) x
 
-pub answers_term : OneOfAll → (words : List (List ℕ)) (files : Option Files) (w : Term) (s : Status) (out err : List ℕ) → IsSome files → Answers words files s out err → IsPassed words files w
-    → ShowsTerm w s
-answers_term one words None w s out err there x passed = let none : ⊥ = cc in absurd none
-answers_term one words (Some files) w s out err there (ends_refused u is) passed = absurd (not_both one words (of_system passed.work passed.file passed.form) u passed.ask is)
-answers_term one words (Some files) w s out err there (ends_asked asked status o e ask x) passed =
-    of_term_shown one files words w status o e passed (subst (λ a. EndsOf (Some files) a status o e) (same_asked one words asked (of_system passed.work passed.file passed.form) ask passed.ask) x)
+-- the term of the trials of a self test
+trials_shown : OneOfAll → (files : Option Files) (n : ℕ) (w : Term) (s : Status) (out err : List ℕ) → DecidesAsked files (self_test n) w → SelfTestEnds n s out err → ShowsTerm w s
+trials_shown one files n (of_net w) s out err passes x = self_test_term (trials_of one) n w s out err x passes
+trials_shown one files n (of_factor i w) s out err passes x = absurd passes
+trials_shown one files n (of_split system w) s out err passes x = absurd passes
 
-pub all_one : OneOfAll → OneAnswer
-all_one one = record { once = answers_once one; due = answers_due one; term = answers_term one }
+asked_term : OneOfAll → (words : List (List ℕ)) (files : Option Files) (asked : Asked) (w : Term) (s : Status) (out err : List ℕ) → IsDecided words files → Ask words asked
+    → EndsOf files asked s out err → DecidesAsked files asked w → ShowsTerm w s
+asked_term one words (Some files) (of_system work file form) w s out err decided ask x (lts, spelled, decides) = of_term_shown one files work file form w s out err lts spelled decides x
+asked_term one words None (of_system work file form) w s out err (inl told) ask x decides = let none : ⊥ = cc in absurd none
+asked_term one words None (of_system work file form) w s out err (inr no_file) ask x decides = absurd (no_file.none work file form ask)
+asked_term one words files (generation kind n) w s out err decided ask x decides = absurd decides
+asked_term one words files (self_test n) w s out err decided ask x decides = trials_shown one files n w s out err decides x
+
+pub answers_term : OneOfAll → (words : List (List ℕ)) (files : Option Files) (w : Term) (s : Status) (out err : List ℕ) → IsDecided words files → Answers words files s out err
+    → IsPassed words files w → ShowsTerm w s
+answers_term one words files w s out err decided (ends_refused u is) passed = absurd (not_both one words passed.asked u passed.ask is)
+answers_term one words files w s out err decided (ends_asked asked status o e ask x) passed =
+    asked_term one words files asked w status o e decided ask x (subst (λ a. DecidesAsked files a w) (same_asked one words passed.asked asked passed.ask ask) passed.decides)
+
+pub all_one : OneOfAll → SomeOfAll → OneAnswer
+all_one one some = record { once = answers_once one; due = answers_due one; term = answers_term one; some = answers_some one.judgement some }

@@ -10,8 +10,8 @@ use Rattle.rg_messages.specs.TrialTexts.{solved_line, unsolvable_line}
 use Rattle.rg_messages.specs.Wides.{wide_line}
 use Rattle.rg_messages.specs.declared.wide.WideCause.TheVariants.{Synthesis, Check, Factor, Split}
 use Rattle.rg_top.specs.SelfTest.{Trial, grid_trial, doubling_trial, lock_trial, HasLine, solved, unsolvable, Passes, HasAnswer, IsConclusive, IsTerm}
-use Rattle.rg_top.specs.SelfTest.{SelfTestEnds, three_lines, first_passes, second_passes, third_passes, SelfTestIsDue}
-use Rattle.rg_top.specs.Terms.{Term.of_net as of_net_term}
+use Rattle.rg_top.specs.SelfTest.{SelfTestEnds, three_lines, first_passes, second_passes, third_passes, TrialsPass, SelfTestIsDue}
+use Rattle.rg_top.specs.Terms.{Term.of_net as of_net_term, ShowsTerm}
 use Rattle.rg_top.specs.Run.{IsTheOne, AreOne}
 use Rattle.rg_top.specs.declared.status.Status.{Status}
 use Rattle.rg_top.specs.declared.status.Status.TheVariants.{Done, No, Usage, File, TooWide, ReadFault, WriteFault, NoMemory}
@@ -88,21 +88,25 @@ term_of t w p = record { lts = p.lts; of_family = p.of_family; answer = p.shown.
 shown_term : (w v : Shown) → w ≡ v → Some (of_net_term w) ≡ Some (of_net_term v)
 shown_term w v is = ap (λ x. Some (of_net_term x)) is
 
+-- a term that decides the trials is shown
+pub self_test_term : OneOfTrials → (n : ℕ) (w : Shown) (s : Status) (out err : List ℕ) → SelfTestEnds n s out err → TrialsPass n w → ShowsTerm (of_net_term w) s
+self_test_term one n w s out err (three_lines f g h a b c) (inl t) = absurd (line_or_term one (grid_trial n) f w a t)
+self_test_term one n w s out err (three_lines f g h a b c) (inr (inl (k, t))) = absurd (line_or_term one (doubling_trial n) g w b t)
+self_test_term one n w s out err (three_lines f g h a b c) (inr (inr (k, l, t))) = absurd (line_or_term one (lock_trial n) h w c t)
+self_test_term one n w s out err (first_passes other p) (inl t) = shown_term _ _ (one_term one (grid_trial n) (shown_of other) w (term_of (grid_trial n) (shown_of other) p) t)
+self_test_term one n w s out err (first_passes other p) (inr (inl (k, t))) = absurd (conclusive_or_term one (grid_trial n) (shown_of other) k (term_of (grid_trial n) (shown_of other) p))
+self_test_term one n w s out err (first_passes other p) (inr (inr (k, l, t))) = absurd (conclusive_or_term one (grid_trial n) (shown_of other) k (term_of (grid_trial n) (shown_of other) p))
+self_test_term one n w s out err (second_passes f other a p) (inl t) = absurd (line_or_term one (grid_trial n) f w a t)
+self_test_term one n w s out err (second_passes f other a p) (inr (inl (k, t))) =
+    shown_term _ _ (one_term one (doubling_trial n) (shown_of other) w (term_of (doubling_trial n) (shown_of other) p) t)
+self_test_term one n w s out err (second_passes f other a p) (inr (inr (k, l, t))) = absurd (conclusive_or_term one (doubling_trial n) (shown_of other) l (term_of (doubling_trial n) (shown_of other) p))
+self_test_term one n w s out err (third_passes f g other a b p) (inl t) = absurd (line_or_term one (grid_trial n) f w a t)
+self_test_term one n w s out err (third_passes f g other a b p) (inr (inl (k, t))) = absurd (line_or_term one (doubling_trial n) g w b t)
+self_test_term one n w s out err (third_passes f g other a b p) (inr (inr (k, l, t))) =
+    shown_term _ _ (one_term one (lock_trial n) (shown_of other) w (term_of (lock_trial n) (shown_of other) p) t)
+
 term_due : OneOfTrials → (n : ℕ) (at : WideAt) (s : Status) (out err : List ℕ) → SelfTestEnds n s out err → SelfTestIsDue n (TooWide (Synthesis at)) → IsTheOne (TooWide (Synthesis at)) s
-term_due one n at s out err (three_lines f g h a b c) (inl t) = absurd (line_or_term one (grid_trial n) f (shown_of at) a t)
-term_due one n at s out err (three_lines f g h a b c) (inr (inl (k, t))) = absurd (line_or_term one (doubling_trial n) g (shown_of at) b t)
-term_due one n at s out err (three_lines f g h a b c) (inr (inr (k, l, t))) = absurd (line_or_term one (lock_trial n) h (shown_of at) c t)
-term_due one n at s out err (first_passes other p) (inl t) = shown_term _ _ (one_term one (grid_trial n) (shown_of other) (shown_of at) (term_of (grid_trial n) (shown_of other) p) t)
-term_due one n at s out err (first_passes other p) (inr (inl (k, t))) = absurd (conclusive_or_term one (grid_trial n) (shown_of other) k (term_of (grid_trial n) (shown_of other) p))
-term_due one n at s out err (first_passes other p) (inr (inr (k, l, t))) = absurd (conclusive_or_term one (grid_trial n) (shown_of other) k (term_of (grid_trial n) (shown_of other) p))
-term_due one n at s out err (second_passes f other a p) (inl t) = absurd (line_or_term one (grid_trial n) f (shown_of at) a t)
-term_due one n at s out err (second_passes f other a p) (inr (inl (k, t))) =
-    shown_term _ _ (one_term one (doubling_trial n) (shown_of other) (shown_of at) (term_of (doubling_trial n) (shown_of other) p) t)
-term_due one n at s out err (second_passes f other a p) (inr (inr (k, l, t))) = absurd (conclusive_or_term one (doubling_trial n) (shown_of other) l (term_of (doubling_trial n) (shown_of other) p))
-term_due one n at s out err (third_passes f g other a b p) (inl t) = absurd (line_or_term one (grid_trial n) f (shown_of at) a t)
-term_due one n at s out err (third_passes f g other a b p) (inr (inl (k, t))) = absurd (line_or_term one (doubling_trial n) g (shown_of at) b t)
-term_due one n at s out err (third_passes f g other a b p) (inr (inr (k, l, t))) =
-    shown_term _ _ (one_term one (lock_trial n) (shown_of other) (shown_of at) (term_of (lock_trial n) (shown_of other) p) t)
+term_due one n at s out err x is = self_test_term one n (shown_of at) s out err x is
 
 pub self_test_due : OneOfTrials → (n : ℕ) (s d : Status) (out err : List ℕ) → SelfTestEnds n s out err → SelfTestIsDue n d → IsTheOne d s
 self_test_due one n s Done out err (three_lines f g h a b c) is = refl

@@ -26,7 +26,7 @@ use Rattle.rg_top.specs.Terms.{Term, of_net, of_factor, of_split}
 use Rattle.rg_top.specs.Isomorphic.{IsomorphicIsDue}
 use Rattle.rg_top.specs.Examine.{ExamineIsDue}
 use Rattle.rg_top.specs.Generate.{GenerateIsDue}
-use Rattle.rg_top.specs.SelfTest.{SelfTestIsDue}
+use Rattle.rg_top.specs.SelfTest.{TrialsPass, SelfTestIsDue}
 use Rattle.rg_top.specs.declared.status.Status.{Status}
 use Rattle.rg_top.specs.declared.status.Status.TheVariants.{Usage as Refuses, File}
 
@@ -65,12 +65,15 @@ pub data Decides (lts : System) : Work → Term → Type 0 where
       → Decides lts (factoring (Some class)) (of_factor i w)
   for_labels : (output : SplitOutput) (system : System) (old : List ℕ) (w : Shown) → SplitsTo lts (passes (labelling system old) w) → Decides lts (splitting output) (of_split system w)
 
--- work on the system of a file is asked for, and the term decides it
+-- the term decides what is asked of the file of a system, or the answers of a self test
+abbrev pub DecidesAsked : Option Files → Asked → Term → Type 0
+DecidesAsked files (of_system work file form) w = (lts : System) × IsSystemFile files form file lts × Decides lts work w
+DecidesAsked files (generation kind n) w = ⊥
+DecidesAsked files (self_test n) (of_net w) = TrialsPass n w
+DecidesAsked files (self_test n) _ = ⊥
+
+-- the words ask for what the term decides
 pub record IsPassed (words : List (List ℕ)) (files : Option Files) (w : Term) : Type 0 where
-  pub work : Work
-  pub file : List ℕ
-  pub form : Form
-  pub ask : Ask words (of_system work file form)
-  pub lts : System
-  pub spelled : IsSystemFile files form file lts
-  pub decides : Decides lts work w
+  pub asked : Asked
+  pub ask : Ask words asked
+  pub decides : DecidesAsked files asked w

@@ -3,8 +3,8 @@ use Rattle.std.specs.Prelude.{◌≡◌, ◌⊎◌, ℕ, List, [], Option}
 use Rattle.rg_ports.specs.Shelf.{Files}
 use Rattle.rg_theory.specs.System.{System, IsAllReachable, IsLeastUnreachable, IsLeastFork}
 use Rattle.rg_lts.specs.WellFormed.{IsWellFormed}
-use Rattle.rg_isomorphism.specs.Isomorphic.{HaveSameLabels, IsIsomorphismTo, AreIsomorphic}
-use Rattle.rg_isomorphism.specs.Compared.{IsJudged, Told, Told.map as as_map, Compares, IsMap}
+use Rattle.rg_iso.specs.Isomorphic.{HaveSameLabels, IsIsomorphismTo, AreIsomorphic}
+use Rattle.rg_iso.specs.Compared.{IsJudged, Told, Told.map as as_map, Compares, IsMap}
 use Rattle.rg_commands.specs.declared.forms.Form.{Form}
 use Rattle.rg_messages.specs.Files.{file_line}
 use Rattle.rg_messages.specs.ComparedTexts.{map_text, told_text, unreachable_line, fork_line}

@@ -1,5 +1,5 @@
 -- That words and files have one answer.
-use Rattle.std.specs.Prelude.{ℕ, List, Option, IsSome}
+use Rattle.std.specs.Prelude.{ℕ, List, Option, Some, ◌⊎◌}
 use Rattle.rg_ports.specs.Shelf.{Files}
 use Rattle.rg_top.specs.Ends.{Answers}
 use Rattle.rg_top.specs.Due.{IsDue, IsPassed}
@@ -8,8 +8,9 @@ use Rattle.rg_top.specs.Terms.{Term, ShowsTerm}
 use Rattle.rg_top.specs.declared.status.Status.{Status}
 
 -- where it is decided what is due two answers are one, and the status is the one that is due; and where the answer for the system and
--- the class is a term that is out of range, the status shows that term
+-- the class is a term that is out of range, the status shows that term. Where the files are told, a status is due, or such a term decides
 pub record OneAnswer : Type 0 where
   pub once : (words : List (List ℕ)) (files : Option Files) (s s' : Status) (out err out' err' : List ℕ) → IsDecided words files → Answers words files s out err → Answers words files s' out' err' → AreOne s s' out out' err err'
   pub due : (words : List (List ℕ)) (files : Option Files) (s due : Status) (out err : List ℕ) → IsDecided words files → Answers words files s out err → IsDue words files due → IsTheOne due s
-  pub term : (words : List (List ℕ)) (files : Option Files) (w : Term) (s : Status) (out err : List ℕ) → IsSome files → Answers words files s out err → IsPassed words files w → ShowsTerm w s
+  pub term : (words : List (List ℕ)) (files : Option Files) (w : Term) (s : Status) (out err : List ℕ) → IsDecided words files → Answers words files s out err → IsPassed words files w → ShowsTerm w s
+  pub some : (words : List (List ℕ)) (files : Files) → ((due : Status) × IsDue words (Some files) due) ⊎ ((w : Term) × IsPassed words (Some files) w)

@@ -1,5 +1,5 @@
 -- What the parts of the answer say. Contracts of the crate's private functions cite it.
-use Rattle.std.specs.Prelude.{◌≡◌, ◌≤◌, ◌++◌, ℕ, Bool, List, [], ◌∷◌, Option, option_map, Ok, Err}
+use Rattle.std.specs.Prelude.{◌≡◌, ◌≤◌, ◌++◌, ℕ, Bool, List, [], ◌∷◌, Option, None, Some, option_map, Ok, Err}
 use Rattle.rg_ports.specs.Calls.{LastCall, ReadsFile}
 use Rattle.rg_ports.specs.Shelf.{Files}
 use Rattle.rg_integers.specs.Range.{greatest}
@@ -64,6 +64,23 @@ abbrev pub HasTaskJobs : Task → Type 0
 HasTaskJobs (OfSystem work file form) = HasWorkJobs work
 HasTaskJobs (Generation kind n) = Unit {0}
 HasTaskJobs (SelfTested n) = Unit {0}
+
+-- the number of jobs that the words of a request name, and that with which the work of a task is done; none where the work has no jobs
+abbrev pub jobs_by : Request → Option ℕ
+jobs_by (Synthesize words) = Some words.jobs
+jobs_by (Factor words) = Some words.jobs
+jobs_by (Split words) = Some words.jobs
+jobs_by _ = None
+
+abbrev pub work_jobs : Work → Option ℕ
+work_jobs (task.Net class jobs) = Some jobs
+work_jobs (task.Factoring class jobs) = Some jobs
+work_jobs (task.Splitting output jobs) = Some jobs
+work_jobs _ = None
+
+abbrev pub jobs_of : Task → Option ℕ
+jobs_of (OfSystem work file form) = work_jobs work
+jobs_of _ = None
 
 -- the work that is asked of a system, and what a task asks
 abbrev pub work_of : Work → asked.Work

@@ -2,6 +2,7 @@
 use Rattle.std.specs.Prelude.{◌≡◌, ◌⊎◌, ℕ, ◌<◌, Bool, true, false, List, [], ◌∷◌, ◌++◌, length, Option, None, Some, option_map, IsSome}
 use Rattle.rg_ports.specs.Calls.{LastCall, finds_end, ReadsFile}
 use Rattle.rg_ports.specs.Count.{HasRisen}
+use Rattle.rg_ports.specs.Offer.{Offers}
 use Rattle.rg_ports.specs.Shelf.{Files}
 use Rattle.rg_ports.specs.Sink.{taken_with, TakesPart}
 use Rattle.rg_theory.specs.System.{System}
@@ -34,6 +35,20 @@ pub record Run : Type 1 where
   pub shelf_faults : Change ℕ
   pub out : Writes
   pub err : Writes
+
+abbrev pub change : {A : Type 0} → A → A → Change A
+change before after = record { before = before; after = after }
+
+-- what is seen of a sink with these meanings, whose state was s before the run and is t after it
+abbrev pub writes : {S : Type 0} (taken : S → Option (List ℕ)) (faults : S → ℕ) (gives : S → List ℕ → Option ℕ → S → Type 0) → S → S → Writes
+writes taken faults gives s t = record {
+  taken = change (taken s) (taken t);
+  faults = change (faults s) (faults t);
+  offers = λ bytes whole. Offers gives s bytes whole t;
+}
+
+abbrev pub seen : List (List ℕ) → Option Files → Change ℕ → Writes → Writes → Run
+seen words files shelf_faults out err = record { words = words; files = files; shelf_faults = shelf_faults; out = out; err = err }
 
 -- the sink was offered these bytes, each time all that it hadn't taken, and took them after what it had
 pub record Takes (sink : Writes) (bytes : List ℕ) : Type 0 where
@@ -152,7 +167,7 @@ AreOne s s' out out' err err' = IsTheOne s' s × (out ≡ out') × (err ≡ err'
 abbrev pub ComesIfDue : List (List ℕ) → Option Files → Status → Status → Type 0
 ComesIfDue words files due result = IsDecided words files → IsDue words files due → IsTheOne due result ⊎ IsMishap result
 
--- where nets are asked for, the shelf tells its files, and what decides is a term that is out of range, the status shows that term,
+-- where nets are asked for, it is decided what is due, and what decides is a term that is out of range, the status shows that term,
 -- unless a fault or want of memory comes in its place
 abbrev pub ComesIfPassed : List (List ℕ) → Option Files → Term → Status → Type 0
-ComesIfPassed words files w result = IsSome files → IsPassed words files w → ShowsTerm w result ⊎ IsMishap result
+ComesIfPassed words files w result = IsDecided words files → IsPassed words files w → ShowsTerm w result ⊎ IsMishap result

@@ -87,11 +87,15 @@ IsConclusive t = ((places : List Place) × HasAnswer t (of_net places)) ⊎ ((re
 abbrev pub IsTerm : Trial → Shown → Type 0
 IsTerm t w = HasAnswer t (of_term w)
 
+-- the first of the three answers that is neither a net nor a reason is this term
+abbrev pub TrialsPass : ℕ → Shown → Type 0
+TrialsPass n w =
+    IsTerm (grid_trial n) w
+    ⊎ (IsConclusive (grid_trial n) × IsTerm (doubling_trial n) w)
+    ⊎ (IsConclusive (grid_trial n) × IsConclusive (doubling_trial n) × IsTerm (lock_trial n) w)
+
 -- when each status is due: as the answers are nets and reasons, or the first that isn't is a term
 abbrev pub SelfTestIsDue : ℕ → Status → Type 0
 SelfTestIsDue n Done = IsConclusive (grid_trial n) × IsConclusive (doubling_trial n) × IsConclusive (lock_trial n)
-SelfTestIsDue n (TooWide (Synthesis at)) =
-    IsTerm (grid_trial n) (shown_of at)
-    ⊎ (IsConclusive (grid_trial n) × IsTerm (doubling_trial n) (shown_of at))
-    ⊎ (IsConclusive (grid_trial n) × IsConclusive (doubling_trial n) × IsTerm (lock_trial n) (shown_of at))
+SelfTestIsDue n (TooWide (Synthesis at)) = TrialsPass n (shown_of at)
 SelfTestIsDue n _ = ⊥

@@ -70,6 +70,7 @@ pub(crate) fn make_answer<R: Threads + Sync, H: Shelf, G: Gate + Sync>(
     shelf: &mut H,
     gate: &G,
 ) -> Result<Answer, Stop>
+    ensures files { H.files shelf.new ≡ H.files shelf.old }
     ensures asked { AsksAtMost (map string_bytes words.now) (H.files shelf.old) (H.asked shelf.old) (H.asked shelf.new) }
     ensures reads { ReadsAtMost H.finds H.hands (map string_bytes words.now) (H.files shelf.old) shelf.old shelf.new }
     ensures says { IfOk result (λ a. Answers (map string_bytes words.now) (H.files shelf.old) a.status a.out.items a.err.items) }
@@ -92,6 +93,7 @@ fn request_answer<R: Threads + Sync, H: Shelf, G: Gate + Sync>(
 ) -> Result<Answer, Stop>
     requires bounds { HasBounds (asked_by request) }
     requires jobs { HasJobs request }
+    ensures files { H.files shelf.new ≡ H.files shelf.old }
     ensures asked { AsksOf (H.files shelf.old) (asked_by request.entry) (H.asked shelf.old) (H.asked shelf.new) }
     ensures reads { ReadsOf H.finds H.hands (H.files shelf.old) (asked_by request.entry) shelf.old shelf.new }
     ensures ok { IfOk result (λ a. EndsOf (H.files shelf.old) (asked_by request.entry) a.status a.out.items a.err.items) }
@@ -116,6 +118,7 @@ fn file_answer<R: Threads + Sync, H: Shelf, G: Gate + Sync>(
 ) -> Result<Answer, Stop>
     requires bounds { HasClassNumbers (work_of work) }
     requires jobs { HasWorkJobs work }
+    ensures files { H.files shelf.new ≡ H.files shelf.old }
     ensures asked { AsksFiles (H.files shelf.old) (work_of work.entry) file.now form (H.asked shelf.old) (H.asked shelf.new) }
     ensures reads { ReadsFiles H.finds H.hands (H.files shelf.old) (work_of work.entry) file.now form shelf.old shelf.new }
     ensures ok { IfOk result (λ a. FileEnds (H.files shelf.old) (work_of work.entry) file.now form a.status a.out.items a.err.items) }
@@ -141,6 +144,7 @@ fn system_answer<R: Threads + Sync, H: Shelf, G: Gate + Sync>(
     requires bounds { HasClassNumbers (work_of work) }
     requires jobs { HasWorkJobs work }
     ensures formed { IsWellFormed lts.now }
+    ensures files { H.files shelf.new ≡ H.files shelf.old }
     ensures asked { H.asked shelf.new ≡ asked_more (H.asked shelf.old) (second_files (work_of work.entry)) }
     ensures reads { ReadsMore H.finds H.hands (second_files (work_of work.entry)) shelf.old shelf.new }
     ensures ok { IfOk result (λ a. EndsOn (H.files shelf.old) (work_of work.entry) lts.now a.status a.out.items a.err.items) }

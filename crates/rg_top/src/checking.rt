@@ -29,6 +29,7 @@ pub(crate) fn verdict_answer<H: Shelf>(
     name: &str,
     shelf: &mut H,
 ) -> Result<Answer, Stop>
+    ensures files { H.files shelf.new ≡ H.files shelf.old }
     ensures asked { H.asked shelf.new ≡ asked_more (H.asked shelf.old) (name.now ∷ []) }
     ensures reads { ReadsMore H.finds H.hands (name.now ∷ []) shelf.old shelf.new }
     ensures ok { IfOk result (λ a. CheckEnds (H.files shelf.old) class name.now lts.now a.status a.out.items a.err.items) }

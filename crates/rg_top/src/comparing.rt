@@ -2,7 +2,7 @@
 ghost use Rattle.std.specs.Prelude.{◌≡◌, ℕ, ◌∷◌, [], ◌≤◌, IfOk, IfSome, IfNone, IsErrOf};
 ghost use Rattle.rg_ports.specs.Count.{HasRisen};
 ghost use Rattle.rg_lts.specs.WellFormed.{IsWellFormed};
-ghost use Rattle.rg_isomorphism.specs.Compared.{IsJudged, told_of};
+ghost use Rattle.rg_iso.specs.Compared.{IsJudged, told_of};
 ghost use Rattle.rg_top.specs.Isomorphic.{IsomorphicEnds, PairEnds, IsUnjudged, told_status};
 ghost use Rattle.rg_top.specs.Requests.{asked_more, ReadsMore};
 ghost use Rattle.rg_top.specs.declared.answer.Stop.TheVariants as stop;
@@ -12,7 +12,7 @@ use crate::files::{FileStop, read_system};
 use crate::status::Status;
 use rg_checks::{first_fork, first_unreachable};
 use rg_commands::Form;
-use rg_isomorphism::{Same, compare};
+use rg_iso::{Same, compare};
 use rg_lts::Lts;
 use rg_memory::NoMemory;
 use rg_messages::{comparison_has_names, fork_text, same_text, unreachable_text};
@@ -27,6 +27,7 @@ pub(crate) fn comparison_answer<H: Shelf>(
     form: Form,
     shelf: &mut H,
 ) -> Result<Answer, Stop>
+    ensures files { H.files shelf.new ≡ H.files shelf.old }
     ensures asked { H.asked shelf.new ≡ asked_more (H.asked shelf.old) (name.now ∷ []) }
     ensures reads { ReadsMore H.finds H.hands (name.now ∷ []) shelf.old shelf.new }
     ensures ok { IfOk result (λ a. IsomorphicEnds (H.files shelf.old) name.now form lts.now a.status a.out.items a.err.items) }

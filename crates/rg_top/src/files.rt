@@ -15,7 +15,7 @@ use rg_lts::Lts;
 use rg_messages::Fault;
 use rg_ports::{ReadStop, Shelf, read_all};
 use rg_text::MOST_BYTES;
-use rg_words::{WordFault, read_word_list};
+use rg_words::{WordFault, read_words};
 use std::alloc::Global;
 
 // Why a file gave nothing.
@@ -89,7 +89,7 @@ fn system_of(alloc: Global, bytes: &[u8], form: Form) -> Result<Lts, FileStop>
             Err(GraphFault::NoMemory) => Err(FileStop::NoMemory),
             Err(fault) => Err(FileStop::Refused(Fault::Graph(fault))),
         },
-        Form::Words => match read_word_list(alloc, bytes) {
+        Form::Words => match read_words(alloc, bytes) {
             Ok(lts) => Ok(lts),
             Err(WordFault::NoMemory) => Err(FileStop::NoMemory),
             Err(fault) => Err(FileStop::Refused(Fault::Words(fault))),

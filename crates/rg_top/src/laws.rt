@@ -25,14 +25,15 @@ ghost use Rattle.rg_top.specs.One.{OneAnswer};
 ghost use Rattle.rg_top.specs.declared.status.Status.{Status};
 
 use rg_commands::words_say_one_thing;
+use rg_decided::systems_are_decided;
 use rg_families::one_of_each;
-use rg_isomorphism::one_comparison;
+use rg_iso::{difference_refutes, one_comparison};
 use rg_net_verdict::verdict_is_one;
 use rg_outcome::outcome_is_one;
 use rg_product::factoring_is_one;
 use rg_report::one_examination;
 use rg_split::{splitting_is_one, splitting_says};
-use rg_theory::one_least_fork;
+use rg_theory::{class_is_told, one_least_fork};
 use rg_verify::one_verdict;
 
 /// What `synthesize` writes with status 1 is accepted by `verify` for the same system, wherever it stands in a file.
@@ -132,7 +133,7 @@ pub fn self_test_ends_once()
 /// Words and files have one answer: where the files are told, two answers have the same status, or show the same term, and the same bytes
 /// for out and for err. So two runs over them in which there is memory and no call fails end alike and write the same, with any
 /// numbers of jobs and any gates. The status is the one that is due, and where the answer for the system and the class is a term that is out
-/// of range it shows that term.
+/// of range it shows that term. Where the files are told, a status is due to all words, or a term that is out of range decides.
 pub fn answers_are_one()
     ensures { OneAnswer }
 {
@@ -152,4 +153,12 @@ pub fn answers_are_one()
     splitting_says();
     one_comparison();
     one_examination();
+    class_is_told();
+    rg_apt::spelled_is_well_formed();
+    rg_genet::spelled_is_well_formed();
+    rg_words::spelled_is_well_formed();
+    rg_cert::spelled_is_in_range();
+    rg_netfile::spelled_is_for_the_system();
+    systems_are_decided();
+    difference_refutes();
 }

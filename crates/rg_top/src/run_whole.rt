@@ -1,8 +1,7 @@
 //! The top call.
-ghost use Rattle.std.specs.Prelude.{map, string_bytes};
-ghost use Rattle.rg_ports.specs.Offer.{Offers};
+ghost use Rattle.std.specs.Prelude.{◌≡◌, map, string_bytes};
 ghost use Rattle.rg_top.specs.Terms.{Term};
-ghost use Rattle.rg_top.specs.Run.{Ends, AsksAtMost, ReadsAtMost, ComesIfDue, ComesIfPassed};
+ghost use Rattle.rg_top.specs.Run.{Ends, seen, change, writes, AsksAtMost, ReadsAtMost, ComesIfDue, ComesIfPassed};
 ghost use Rattle.rg_top.specs.declared.status.Status.{Status};
 
 use crate::answer::{Stop, make_answer};
@@ -37,23 +36,11 @@ pub fn run<R: Threads + Sync, H: Shelf, O: Sink, E: Sink, G: Gate + Sync>(
     err: &mut E,
     gate: &G,
 ) -> Status
-    ensures ends { Ends (record {
-      words = map string_bytes words.now;
-      files = H.files shelf.old;
-      shelf_faults = record { before = H.faults shelf.old; after = H.faults shelf.new };
-      out = record {
-        taken = record { before = O.taken out.old; after = O.taken out.new };
-        faults = record { before = O.faults out.old; after = O.faults out.new };
-        offers = λ bytes whole. Offers O.gives out.old bytes whole out.new;
-      };
-      err = record {
-        taken = record { before = E.taken err.old; after = E.taken err.new };
-        faults = record { before = E.faults err.old; after = E.faults err.new };
-        offers = λ bytes whole. Offers E.gives err.old bytes whole err.new;
-      };
-    }) result }
+    ensures ends { Ends (seen (map string_bytes words.now) (H.files shelf.old) (change (H.faults shelf.old) (H.faults shelf.new))
+        (writes O.taken O.faults O.gives out.old out.new) (writes E.taken E.faults E.gives err.old err.new)) result }
     ensures exactly { (due : Status) → ComesIfDue (map string_bytes words.now) (H.files shelf.old) due result }
     ensures passed { (w : Term) → ComesIfPassed (map string_bytes words.now) (H.files shelf.old) w result }
+    ensures files { H.files shelf.new ≡ H.files shelf.old }
     ensures asked { AsksAtMost (map string_bytes words.now) (H.files shelf.old) (H.asked shelf.old) (H.asked shelf.new) }
     ensures reads { ReadsAtMost H.finds H.hands (map string_bytes words.now) (H.files shelf.old) shelf.old shelf.new }
 {

@@ -8,28 +8,28 @@ use rg_messages::{FileFault, WideCause};
 /// How a run ends.
 #[derive(Drop)]
 pub enum Status {
-    /// The command's yes: its text stands in out, a net, a system, that a certificate is accepted, that a net is right, or the
-    /// lines of a self test.
+    /// The command's yes. Its text is written to out: a net, a net with labels, a system, factors, a map of states, a report, that a
+    /// certificate is accepted, that a net is right, or the lines of a self test.
     Done,
-    /// The command's no: its text stands in out, a certificate, why a certificate is refused or a net isn't right, or what a form
-    /// can't hold.
+    /// The command's no. Its text is written to out: a certificate, why a certificate is refused or a net isn't right, why a system has no
+    /// factors or is not split, the first difference of two systems, or what a form can't hold.
     No,
-    /// The words were refused.
+    /// The words are refused; a line is written to err.
     Usage(Usage),
-    /// A file isn't there or is too long, the first spells no system, or the second of `check` no net.
+    /// A file is missing or too long, or a file other than a certificate has a fault of its text; a line is written to err.
     File(FileFault),
-    /// A number that the stated order of work forms, or a marking of a net, is out of range; it stands in err.
+    /// A number that the stated order of work forms, or a marking of a net, is out of range; a line with it is written to err.
     TooWide(WideCause),
-    /// The shelf failed.
+    /// A call of the shelf failed; nothing is written.
     ReadFault,
-    /// A sink failed.
+    /// A write failed; a proper prefix of what was due is written.
     WriteFault,
-    /// There was no memory.
+    /// Memory ran out; nothing is written.
     NoMemory,
 }
 
 impl Status {
-    /// The number with which the program ends.
+    /// Returns the exit status of the program, from 0 to 7.
     pub fn number(&self) -> u8
         ensures { result ≡ status_number self.now }
     {

@@ -1,7 +1,7 @@
 //! What a request asks, by what it needs.
 ghost use Rattle.std.specs.Prelude.{◌≡◌};
 ghost use Rattle.rg_commands.specs.Requests.{asked_by};
-ghost use Rattle.rg_top.specs.Requests.{asked_of, HasJobs, HasTaskJobs};
+ghost use Rattle.rg_top.specs.Requests.{asked_of, HasJobs, HasTaskJobs, jobs_by, jobs_of};
 
 use rg_commands::{ExamineOutput, Form, Request, SplitOutput, Target};
 use rg_families::Kind;
@@ -41,6 +41,7 @@ pub(crate) fn task_of<'a>(request: Request<'a>) -> Task<'a>
     requires { HasJobs request }
     ensures asked { asked_of result ≡ asked_by request.entry }
     ensures jobs { HasTaskJobs result }
+    ensures same_jobs { jobs_of result ≡ jobs_by request.entry }
 {
     match request {
         Request::Synthesize(words) => {

@@ -28,6 +28,7 @@ pub(crate) fn judgement_answer<H: Shelf>(
     cert: &str,
     shelf: &mut H,
 ) -> Result<Answer, Stop>
+    ensures files { H.files shelf.new ≡ H.files shelf.old }
     ensures asked { H.asked shelf.new ≡ asked_more (H.asked shelf.old) (cert.now ∷ []) }
     ensures reads { ReadsMore H.finds H.hands (cert.now ∷ []) shelf.old shelf.new }
     ensures ok { IfOk result (λ a. VerifyEnds (H.files shelf.old) cert.now lts.now a.status a.out.items a.err.items) }

@@ -1,6 +1,5 @@
 -- The first variable whose sum isn't 0.
-use Rattle.std.proofs.Common.{◌≡◌, ◌≢◌, ◌⊎◌, ℕ, ◌<◌, List, [], ◌∷◌, ◌++◌, Option, Some, None, MatchOption, map, length, get_or, All, Contains, inl, inr, sym, subst, arith, pos}
-use Rattle.std.proofs.lemmas.List.{map-append}
+use Rattle.std.proofs.Common.{◌≡◌, ◌≢◌, ◌⊎◌, ℕ, ◌<◌, List, [], ◌∷◌, ◌++◌, Option, Some, None, MatchOption, length, get_or, All, Contains, inl, inr, sym, subst, arith, pos}
 use Rattle.std.proofs.lemmas.List.Elements.{Contains-push_cases}
 use Rattle.rg_verify.specs.declared.sums.Sums.{Sums}
 use Rattle.rg_verify.specs.Judged.{IsVariableBefore}

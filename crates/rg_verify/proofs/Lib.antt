@@ -10,3 +10,6 @@ mod Defects
 mod Walking
 mod Verdicts
 pub mod OneVerdict
+pub mod StandingOrNot
+pub mod LeafOrDefect
+pub mod SomeVerdict

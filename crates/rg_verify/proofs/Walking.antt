@@ -1,7 +1,7 @@
 -- The walk over the nodes of a tree: which trees are due after each node, and what their leaves are.
 use Rattle.std.proofs.Common.{◌≡◌, ℕ, ◌+◌, ◌<◌, Bool, true, false, if◌then◌else◌, List, [], ◌∷◌, ◌++◌, Some, length, take, drop, reverse, slice_get, get_or, All, append_assoc, append-nil, refl, sym, subst, ap, ap₂, ◌∙◌, ℤ}
 use Rattle.std.specs.List.{flat_map}
-use Rattle.std.proofs.lemmas.List.{length-append, reverse-append, reverse-reverse}
+use Rattle.std.proofs.lemmas.List.{length-append, reverse-append}
 use Rattle.std.proofs.lemmas.List.Elements.{All-contains, Contains-get_or, Contains-append_left, Contains-append_right, All-head, All-tail, All-nil, All-cons, All-push}
 use Rattle.rg_theory.specs.System.{System}
 use Rattle.rg_theory.specs.declared.Class.{Class}
@@ -86,7 +86,7 @@ none_due (split form at low high ∷ more) is = absurd cc
 
 -- ---- all nodes
 
-both_parts : {X : Type 0} (P : X → Type 0) (xs ys : List X) → All P (xs ++ ys) → All P xs × All P ys
+pub both_parts : {X : Type 0} (P : X → Type 0) (xs ys : List X) → All P (xs ++ ys) → All P xs × All P ys
 both_parts P xs ys each = (
   λ k d lt. All-contains P (xs ++ ys) (get_or xs k d) each (Contains-append_left xs ys _ (Contains-get_or xs k d lt)),
   λ k d lt. All-contains P (xs ++ ys) (get_or ys k d) each (Contains-append_right xs ys _ (Contains-get_or ys k d lt)),

@@ -31,10 +31,10 @@ prefixes_differ all = firsts_differ same_word same_word-Decides ([] ∷ map pref
 pub labels_differ : (all : List Use) → AllPairs (λ a b. a ≢ b) (label_names all)
 labels_differ all = firsts_differ bytes_eq bytes_eq-Decides (map (λ (v : Use). v.label) all)
 
-prefix_met : (all : List Use) (v : Use) → Contains all v → Contains (prefixes all) (prefix v)
+pub prefix_met : (all : List Use) (v : Use) → Contains all v → Contains (prefixes all) (prefix v)
 prefix_met all v has = met same_word same_word-Decides [] ([] ∷ map prefix all) (prefix v) (there_later [] (map prefix all) (prefix v) (map_there prefix all v has))
 
-label_met : (all : List Use) (v : Use) → Contains all v → Contains (label_names all) v.label
+pub label_met : (all : List Use) (v : Use) → Contains all v → Contains (label_names all) v.label
 label_met all v has = met bytes_eq bytes_eq-Decides [] (map (λ (w : Use). w.label) all) v.label (map_there (λ (w : Use). w.label) all v has)
 
 -- the empty word is the first prefix
@@ -121,7 +121,7 @@ arc_at k (s ∷ steps) (suc i) step at =
     (subst (λ m. Contains (arcs_from (k + 1) steps) (arc step.0 step.1 m)) n (arc_at (k + 1) steps i step at))
 
 -- a word with one label more tells both
-last_same : (v w : Word) (l m : List ℕ) → v ++ l ∷ [] ≡ w ++ m ∷ [] → (v ≡ w) × (l ≡ m)
+pub last_same : (v w : Word) (l m : List ℕ) → v ++ l ∷ [] ≡ w ++ m ∷ [] → (v ≡ w) × (l ≡ m)
 last_same [] [] l m e = (refl, cc)
 last_same [] (y ∷ w) l m e = absurd (tail_some w m (ap length e))
   where

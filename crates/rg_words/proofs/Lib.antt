@@ -5,3 +5,5 @@ mod Steps
 mod Trees
 mod Going
 mod LabelSteps
+mod SpelledUses
+mod SpelledTrees

@@ -7,5 +7,5 @@ mod laws;
 mod reading;
 
 pub use fault::WordFault;
-pub use laws::one_answer;
-pub use reading::read_word_list;
+pub use laws::{one_answer, spelled_is_well_formed};
+pub use reading::read_words;

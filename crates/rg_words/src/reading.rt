@@ -204,7 +204,7 @@ fn finish(builder: LtsBuilder) -> Result<Lts, WordFault>
 
 /// The tree of the prefixes of the words of a list of at most 16,777,216 bytes, or the text's first fault. By `one_answer` no
 /// other answer meets these clauses.
-pub fn read_word_list(alloc: Global, bytes: &[u8]) -> Result<Lts, WordFault>
+pub fn read_words(alloc: Global, bytes: &[u8]) -> Result<Lts, WordFault>
     requires { length bytes.now ≤ most_bytes }
     ensures ok { IfOk result (λ lts. Spells bytes.now lts) }
     ensures fault { IfErr result (λ e. e ≢ NoMemory → FirstFault bytes.now e) }

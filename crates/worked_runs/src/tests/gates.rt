@@ -18,23 +18,33 @@ const RING: &str =
 const RING_AND_LABEL: &str =
     "file f\n| .type LTS .states s0[initial]\ncount 1 8 s#\n| .labels\ncount 0 8 a#\n| x .arcs\ncount 0 7 s# a# s%\n| s8 a8 s0\nstatus 0\n";
 
-// Words and files of a run, and the numbers of the first block that are inside at once: the first of the share that each part takes first. Of 64
-// numbers a share has 8 with two jobs, 5 with three and 4 with four, and of 11 numbers it has 1 with two.
-const RUNS: [(&str, &str, &[u32]); 7] = [
+// The first numbers of the parts, where 64 numbers are cut for sixteen jobs.
+const OF_SIXTEEN: [u32; 16] = [0, 4, 8, 12, 16, 20, 24, 28, 32, 36, 40, 44, 48, 52, 56, 60];
+
+// Words and files of a run, and the numbers of the first block that are inside at once: the first number of each part. The range is cut in
+// proportion to the jobs of the two sides, until each part has one job. Of the word's eleven numbers one part has 0 to 4, and the other 5 to 10.
+const RUNS: [(&str, &str, &[u32]); 10] = [
     ("words synthesize none f\n", RING, &[0]),
-    ("words synthesize none f --jobs 2\n", RING, &[0, 8]),
-    ("words synthesize none f --jobs 3\n", RING, &[0, 5, 10]),
-    ("words synthesize none f --jobs 4\n", RING, &[0, 4, 8, 12]),
-    ("words split f --jobs 4\n", RING, &[0, 4, 8, 12]),
+    ("words synthesize none f --jobs 2\n", RING, &[0, 32]),
+    ("words synthesize none f --jobs 3\n", RING, &[0, 21, 42]),
+    ("words synthesize none f --jobs 4\n", RING, &[0, 16, 32, 48]),
+    ("words split f --jobs 4\n", RING, &[0, 16, 32, 48]),
     (
         "words factor f --class none --jobs 2\n",
         RING_AND_LABEL,
-        &[0, 8],
+        &[0, 32],
+    ),
+    ("words synthesize none f --jobs 16\n", RING, &OF_SIXTEEN),
+    ("words split f --jobs 16\n", RING, &OF_SIXTEEN),
+    (
+        "words factor f --class none --jobs 16\n",
+        RING_AND_LABEL,
+        &OF_SIXTEEN,
     ),
     (
         "words synthesize none f --from words --jobs 2\n",
         WORD,
-        &[0, 1],
+        &[0, 10],
     ),
 ];
 

@@ -1,25 +1,29 @@
 use Rattle.std.proofs.Common.{refl, subst}
 use Rattle.std.proofs.lemmas.List.{length-map}
 use Rattle.rg_linear.specs.Cycle.{IsCycleBasis}
-use Rattle.rg_cycles.specs.Vectors.{numbers_in}
+use Rattle.rg_cycles.specs.Vectors.{vectors_by}
 use Rattle.rg_cycles.specs.View.{cycle_of}
 use Rattle.rg_cycles.proofs.Showing.{kept_below}
 use Rattle.rg_cycles.proofs.Related.{solved_by}
 use Rattle.rg_cycles.proofs.solving.basis_of.Goals as goal
 
 pub walk_columns-requires-clause-kept : goal.walk_columns-requires-clause-kept
-walk_columns-requires-clause-kept c = rw c.deref.ensures.value (λ index has. (let h = kept_below (numbers_in c.args.vectors.now) c.args.kept.items c.requires.keeps index has in simp length-map at h))
+walk_columns-requires-clause-kept g c =
+    let vectors = vectors_by g.N.ChordEntry.numbers c.args.vectors.now in
+    rw c.deref.ensures.value (λ index has. (let h = kept_below vectors c.args.kept.items c.requires.keeps index has in simp length-map at h))
 
 pub read-requires : goal.read-requires
-read-requires c =
+read-requires g c =
+    let vectors = vectors_by g.N.ChordEntry.numbers c.args.vectors.now in
     let are = rw c.deref.ensures.value at c.in_ok-walk_columns.ensures.are c.if-branch.true in
     let ends = rw c.deref.ensures.value at c.in_ok-walk_columns.ensures.ends c.if-branch.true in
-    record { solved = (numbers_in c.args.vectors.now, solved_by c.args.labels (numbers_in c.args.vectors.now) c.args.kept.items _ c.requires.keeps c.walk_columns.ensures.columns are ends) }
+    record { solved = (vectors, solved_by c.args.labels vectors c.args.kept.items _ c.requires.keeps c.walk_columns.ensures.columns are ends) }
 
 pub returns-then-branch-clause-basis : goal.returns-then-branch-clause-basis
-returns-then-branch-clause-basis c =
+returns-then-branch-clause-basis g c =
+    let vectors = vectors_by g.N.ChordEntry.numbers c.args.vectors.now in
     let are = rw c.deref.ensures.value at c.in_ok-walk_columns.ensures.are c.if-branch.true in
     let ends = rw c.deref.ensures.value at c.in_ok-walk_columns.ensures.ends c.if-branch.true in
-    subst (λ n. IsCycleBasis n (numbers_in c.args.vectors.now) (cycle_of c.in_ok-basis.basis)) c.walk_columns.ensures.columns
-    (c.in_ok-basis.ensures.basis (numbers_in c.args.vectors.now)
-    (solved_by c.args.labels (numbers_in c.args.vectors.now) c.args.kept.items _ c.requires.keeps c.walk_columns.ensures.columns are ends))
+    subst (λ n. IsCycleBasis n vectors (cycle_of c.in_ok-basis.basis)) c.walk_columns.ensures.columns
+    (c.in_ok-basis.ensures.basis vectors
+    (solved_by c.args.labels vectors c.args.kept.items _ c.requires.keeps c.walk_columns.ensures.columns are ends))

@@ -1,26 +1,26 @@
 use Rattle.std.proofs.Common.{arith}
 use Rattle.std.proofs.lemmas.List.{length-map}
-use Rattle.rg_cycles.specs.Vectors.{numbers_in}
+use Rattle.rg_cycles.specs.Vectors.{vectors_by}
 use Rattle.rg_cycles.specs.View.{cycle_of}
 use Rattle.rg_cycles.proofs.Equations.{basis_solves, basis_holds, basis_is_reduced, basis_fits, kept_few}
 use Rattle.rg_cycles.proofs.solving.reduce.Goals as goal
 
 pub basis_of-requires-clause-few : goal.basis_of-requires-clause-few
-basis_of-requires-clause-few c =
-    let few = kept_few (numbers_in c.args.chords.now) c.in_ok-kept.kept.items c.in_ok-kept.ensures in
-    let size = length-map c.args.chords.now (λ v. v.items) in
+basis_of-requires-clause-few g c =
+    let few = kept_few (vectors_by g.N.ChordEntry.numbers c.args.chords.now) c.in_ok-kept.kept.items c.in_ok-kept.ensures in
+    let size = length-map c.args.chords.now (λ v. g.N.ChordEntry.numbers v.items) in
     let labels = c.requires.labels in
     let chords = c.requires.chords in
     omega arith
 
 pub returns-clause-solutions : goal.returns-clause-solutions
-returns-clause-solutions c = basis_solves c.args.labels (numbers_in c.args.chords.now) (cycle_of c.in_ok-basis.basis) c.in_ok-basis.ensures.basis
+returns-clause-solutions g c = basis_solves c.args.labels (vectors_by g.N.ChordEntry.numbers c.args.chords.now) (cycle_of c.in_ok-basis.basis) c.in_ok-basis.ensures.basis
 
 pub returns-clause-holds : goal.returns-clause-holds
-returns-clause-holds c = basis_holds c.args.labels (numbers_in c.args.chords.now) (cycle_of c.in_ok-basis.basis) c.in_ok-basis.ensures.basis
+returns-clause-holds g c = basis_holds c.args.labels (vectors_by g.N.ChordEntry.numbers c.args.chords.now) (cycle_of c.in_ok-basis.basis) c.in_ok-basis.ensures.basis
 
 pub returns-clause-reduced : goal.returns-clause-reduced
-returns-clause-reduced c = basis_is_reduced c.args.labels (numbers_in c.args.chords.now) (cycle_of c.in_ok-basis.basis) c.in_ok-basis.ensures.basis
+returns-clause-reduced g c = basis_is_reduced c.args.labels (vectors_by g.N.ChordEntry.numbers c.args.chords.now) (cycle_of c.in_ok-basis.basis) c.in_ok-basis.ensures.basis
 
 pub returns-clause-fits : goal.returns-clause-fits
-returns-clause-fits c = basis_fits c.args.labels (numbers_in c.args.chords.now) (cycle_of c.in_ok-basis.basis) c.in_ok-basis.ensures.basis
+returns-clause-fits g c = basis_fits c.args.labels (vectors_by g.N.ChordEntry.numbers c.args.chords.now) (cycle_of c.in_ok-basis.basis) c.in_ok-basis.ensures.basis

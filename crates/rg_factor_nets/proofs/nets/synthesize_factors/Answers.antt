@@ -11,7 +11,7 @@ use Rattle.rg_product.specs.Beside.{places_beside, net_beside}
 use Rattle.rg_factor.specs.View.{shown_factor}
 use Rattle.rg_factor.proofs.FewBeside.{factors_few}
 use Rattle.rg_factor_nets.specs.Answer.{IsNetOf}
-use Rattle.rg_factor_nets.proofs.Factors.{shown_at, zip_more, zip_all, behind_nets, shared, one_each, few, beside, none_above}
+use Rattle.rg_factor_nets.proofs.Factors.{shown_at, zip_more, zip_all, behind_nets, one_each, few, beside, none_above}
 use Rattle.rg_factor_nets.proofs.nets.synthesize_factors.Goals as goal
 
 pub overflow_cast-result : goal.overflow_cast-result
@@ -70,10 +70,6 @@ loop-i-preserved g c =
     let right = subst (λ a. IfNet a (IsSolvingNet f.lts class)) c.in-Net.is c.in_ok-net.ensures.net in
     zip_more (IsNetOf class) (map shown_factor c.args.factors.now) c.loop-i.nets.items c.push.new.self.items c.loop-i.i (shown_factor f) c.in-Net.net at (out, right)
     c.in_ok-push-in-Net.ensures.items c.loop-i.invariant
-
-pub side_by_side-requires-clause-shared : goal.side_by_side-requires-clause-shared
-side_by_side-requires-clause-shared g c =
-    shared c.args.lts.now c.is_well_formed.ensures c.requires.reachable (map shown_factor c.args.factors.now) c.requires.factors.0 c.requires.factors.1
 
 pub side_by_side-requires-clause-one_each : goal.side_by_side-requires-clause-one_each
 side_by_side-requires-clause-one_each g c =

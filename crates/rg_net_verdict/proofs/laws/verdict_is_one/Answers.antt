@@ -1,5 +1,10 @@
+-- A net has one verdict, and always one.
 use Rattle.rg_net_verdict.proofs.One.{one_verdict}
+use Rattle.rg_net_verdict.proofs.SomeVerdict.{some_verdict}
 use Rattle.rg_net_verdict.proofs.laws.verdict_is_one.Goals as goal
 
-pub returns : goal.returns
-returns c = one_verdict c.one_least_fork.ensures
+pub returns-clause-once : goal.returns-clause-once
+returns-clause-once c = one_verdict c.one_least_fork.ensures
+
+pub returns-clause-some : goal.returns-clause-some
+returns-clause-some c = some_verdict

@@ -7,7 +7,7 @@ use Rattle.rg_marks.specs.Separated.{SeparateSoMuch}
 use Rattle.rg_marks.proofs.Members.{adds_last}
 use Rattle.rg_marks.proofs.FirstProblems.{no_firsts, firsts_more}
 use Rattle.rg_prune_tests.proofs.ByTokens.{narrow_by, tokens_by}
-use Rattle.rg_prune_tests.proofs.Taking.{images_next}
+use Rattle.rg_prune.proofs.Taking.{images_next}
 use Rattle.rg_prune_tests.proofs.rows.all_firsts.Goals as goal
 
 pub loop-place-init : goal.loop-place-init

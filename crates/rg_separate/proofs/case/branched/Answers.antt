@@ -17,8 +17,8 @@ use Rattle.rg_separate.proofs.Passing.{pivot_shown, pivot_comes}
 use Rattle.rg_separate.proofs.Siding.{sides_on_forms, sides_on_named}
 use Rattle.rg_separate.proofs.case.branched.Goals as goal
 
-pub named_sides-requires : goal.named_sides-requires
-named_sides-requires c =
+pub named_triples-requires : goal.named_triples-requires
+named_triples-requires c =
     let named = c.args.named.now in
     let sides = c.in-Err-Wide.above.items in
     let at = wide_at c.in-Err-Wide.members.items c.in-Err-Wide.wide in

@@ -1,4 +1,5 @@
-use Rattle.std.proofs.Common.{List, Err, ap, sym, subst, ◌∙◌}
+use Rattle.std.proofs.Common.{List, map, Err, ap, sym, subst, ◌∙◌}
+use Rattle.std.specs.Prelude.{Bool, ℤ}
 use Rattle.rg_order_of_work.specs.Shown.{Shown, ShownWide}
 use Rattle.rg_outcome.specs.Casing.{CaseResult.passes, CaseComes, CaseComes.row_passes}
 use Rattle.rg_reasons.specs.declared.wide_at.Stage.TheVariants.{Row}
@@ -6,16 +7,17 @@ use Rattle.rg_case_parts.specs.SettingViews.{shown_case}
 use Rattle.rg_separate.specs.Passing.{passed_at}
 use Rattle.rg_separate.proofs.Passing.{row_shown}
 use Rattle.rg_separate.proofs.case.solve_case.Goals as goal
-use Rattle.rg_refuting.specs.Row.{Side}
+use Rattle.rg_refuting.specs.declared.Form.{Form}
+use Rattle.rg_refuting.specs.Sides.{side_of}
 
 pub returns-in-Err-Wide-clause-comes : goal.returns-in-Err-Wide-clause-comes
 returns-in-Err-Wide-clause-comes c =
     subst (λ (w : Shown). CaseComes (shown_case c.args.c) (passes w)) (sym (c.passed.ensures
-    ∙ ap (λ (above : List Side). passed_at Row c.args.c above c.in-Err-Wide.wide) c.new-above.ensures.items))
+    ∙ ap (λ (above : List (Form × ℤ × Bool)). passed_at Row c.args.c (map side_of above) c.in-Err-Wide.wide) c.new-above.ensures.items))
     (row_passes c.in-Err-Wide.wide (c.in-Err-Wide.ensures.wide c.in-Err-Wide.wide (ap Err c.in-Err-Wide.field-0-is)))
 
 pub returns-in-Err-Wide-clause-tells : goal.returns-in-Err-Wide-clause-tells
 returns-in-Err-Wide-clause-tells c =
     subst (λ (w : Shown). ShownWide c.args.c.setting.lts.now c.args.c.setting.class w) (sym (c.passed.ensures
-    ∙ ap (λ (above : List Side). passed_at Row c.args.c above c.in-Err-Wide.wide) c.new-above.ensures.items))
+    ∙ ap (λ (above : List (Form × ℤ × Bool)). passed_at Row c.args.c (map side_of above) c.in-Err-Wide.wide) c.new-above.ensures.items))
     (row_shown c.args.c c.in-Err-Wide.wide c.requires.case (c.in-Err-Wide.ensures.wide c.in-Err-Wide.wide (ap Err c.in-Err-Wide.field-0-is)))

@@ -15,8 +15,8 @@ use Rattle.rg_separate.proofs.PlaceOfPoint.{solves, place_shown, place_comes, pl
 use Rattle.rg_separate.proofs.Siding.{sides_on_forms, sides_on_named}
 use Rattle.rg_separate.proofs.placing.placed.Goals as goal
 
-pub named_sides-requires : goal.named_sides-requires
-named_sides-requires c =
+pub named_triples-requires : goal.named_triples-requires
+named_triples-requires c =
     let named = c.args.named.now in
     let sides = c.args.above.now in
     subst (λ (fs : List NamedForm). All (λ (s : SplitSide). s.form < length fs) sides) (sym c.deref.ensures.value)

@@ -28,8 +28,8 @@ shares-requires-clause-rows c = leaf_rows c.args.c c.args.named.now c.args.above
 pub shares-requires-clause-not_negative : goal.shares-requires-clause-not_negative
 shares-requires-clause-not_negative c = leaf_not_negative c.args.c c.args.named.now c.args.above.now (map weight_of c.args.weights.now) c.requires.leaf.node
 
-pub spread-requires : goal.spread-requires
-spread-requires c =
+pub spread_in-requires : goal.spread_in-requires
+spread_in-requires c =
     let named = c.args.named.now in
     let sides = c.args.above.now in
     let by_name = c.in_ok-above.ensures ∙ ap (λ (fs : List NamedForm). sides_among (map split_of fs) sides) c.deref.ensures.value ∙ ap (λ fs. sides_among fs sides) c.requires.system.by_name in
@@ -42,7 +42,7 @@ returns-clause-made c =
     let sides = c.args.above.now in
     let by_name = c.in_ok-above.ensures ∙ ap (λ (fs : List NamedForm). sides_among (map split_of fs) sides) c.deref.ensures.value ∙ ap (λ fs. sides_among fs sides) c.requires.system.by_name in
     let fold = subst (λ (shares : List (RowName × Fraction)). SharesFold c.args.named.now sides (map weight_of c.args.weights.now) (Ok (map share_of shares))) (sym c.deref-2.ensures.value) c.in_ok-shares.ensures.comes in
-    IfOk_both c.spread.result c.spread.ensures.leaf c.spread.ensures.refutes
+    IfOk_both c.spread_in.result c.spread_in.ensures.leaf c.spread_in.ensures.refutes
     (λ node leaf is. leaf_made c.args.c c.args.named.now sides c.deref-3.result.now (map weight_of c.args.weights.now)
     (map share_of c.deref-2.result.now) (made_node_of node) c.requires.system (c.deref-3.ensures.value ∙ by_name) fold leaf is)
 
@@ -58,7 +58,7 @@ returns-clause-wide c = λ w is case shows.
       shares_named c.args.c c.args.named.now c.requires.system sides (map weight_of c.args.weights.now)
           (Ok (map share_of c.in_ok-shares.shares.items)) c.in_ok-shares.ensures.comes case shows,
       subst (λ shares. Fails (named_sides lts class c.args.c.problem sides) shares) c.deref-2.ensures.value
-          (subst (λ above. Fails above c.deref-2.result.now) (c.deref-3.ensures.value ∙ by_name) (c.spread.ensures.wide w is)),
+          (subst (λ above. Fails above c.deref-2.result.now) (c.deref-3.ensures.value ∙ by_name) (c.spread_in.ensures.wide w is)),
     )
 
 pub returns-in_err-shares-clause-wide : goal.returns-in_err-shares-clause-wide

@@ -2,6 +2,7 @@ use Rattle.std.proofs.Common.{◌≡◌, ℕ, ◌+◌, ◌<◌, List, [], ◌∷
 use Rattle.std.proofs.lemmas.List.{length-map, get_or-map, map-append}
 use Rattle.rg_integers.specs.declared.term.Wide.{Wide}
 use Rattle.rg_refuting.specs.Row.{Side}
+use Rattle.rg_refuting.specs.Sides.{side_of}
 use Rattle.rg_linear.specs.Branching.{SplitSide}
 use Rattle.rg_order_of_work.specs.Shown.{Shown, ShownWide}
 use Rattle.rg_reasons.specs.Trees as reasons
@@ -41,8 +42,8 @@ made_of-requires-clause-node c =
     (room_small named.system named.forms.items c.requires.system.forms) (node_of c.node-item.result) (within nodes i c.loop-node-test.true)
     (visited nodes i c.node-item.result c.loop-node-test.true c.node-item.is))
 
-pub named_sides-requires : goal.named_sides-requires
-named_sides-requires c =
+pub named_triples-requires : goal.named_triples-requires
+named_triples-requires c =
     let named = c.args.named.now in
     let nodes = c.args.nodes.now in
     let i = c.loop-node.node-index in
@@ -67,7 +68,7 @@ returns-in-Err-Wide-clause-tells c =
     ∙ ap (λ above. sides_among (map split_of named.forms.items) above) c.deref-in-Err-Wide-2.ensures.value
     ∙ ap (λ fs. sides_among fs sides) c.requires.system.by_name in
     let fails = subst (λ above. LeafPasses c.args.c named above (node_of c.node-item.result) c.in-Err-Wide.wide) c.deref.ensures.value (c.in-Err-Wide.ensures.wide c.in-Err-Wide.wide (ap Err c.in-Err-Wide.field-0-is)) in
-    subst (λ (w : Shown). ShownWide lts class w) (sym (c.passed.ensures ∙ ap (λ (v : Wide). passed_at Spread c.args.c c.in_ok-above-in-Err-Wide.above.items v) c.in-Err-Wide.wide-is ∙ ap (λ (ss : List Side). passed_at Spread c.args.c ss c.in-Err-Wide.wide) by_name))
+    subst (λ (w : Shown). ShownWide lts class w) (sym (c.passed.ensures ∙ ap (λ (v : Wide). passed_at Spread c.args.c (map side_of c.in_ok-above-in-Err-Wide.above.items) v) c.in-Err-Wide.wide-is ∙ ap (λ (ss : List Side). passed_at Spread c.args.c ss c.in-Err-Wide.wide) by_name))
     (leaf_shown c.args.c named (map node_of nodes) i sides (map reasons.node_of c.loop-node.made.items)
     (node_of c.node-item.result) c.in-Err-Wide.wide c.requires.case c.requires.system c.loop-node.invariant (within nodes i c.loop-node-test.true)
     (visited nodes i c.node-item.result c.loop-node-test.true c.node-item.is) fails)
@@ -86,7 +87,7 @@ returns-in-Err-Wide-clause-comes c =
     ∙ ap (λ fs. sides_among fs sides) c.requires.system.by_name in
     let fails = subst (λ above. LeafPasses c.args.c named above (node_of c.node-item.result) c.in-Err-Wide.wide) c.deref.ensures.value (c.in-Err-Wide.ensures.wide c.in-Err-Wide.wide (ap Err c.in-Err-Wide.field-0-is)) in
     subst (λ (w : Shown). CaseComes (shown_case c.args.c) (passes w))
-    (sym (c.passed.ensures ∙ ap (λ (v : Wide). passed_at Spread c.args.c c.in_ok-above-in-Err-Wide.above.items v) c.in-Err-Wide.wide-is
+    (sym (c.passed.ensures ∙ ap (λ (v : Wide). passed_at Spread c.args.c (map side_of c.in_ok-above-in-Err-Wide.above.items) v) c.in-Err-Wide.wide-is
     ∙ ap (λ (ss : List Side). passed_at Spread c.args.c ss c.in-Err-Wide.wide) by_name))
     (walk_passes c.args.c named c.requires.system (map node_of nodes) i sides (map reasons.node_of c.loop-node.made.items)
     (node_of c.node-item.result) c.in-Err-Wide.wide c.loop-node.invariant (within nodes i c.loop-node-test.true)

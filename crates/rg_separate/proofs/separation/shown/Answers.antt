@@ -5,7 +5,7 @@ use Rattle.rg_separate.proofs.Serving.{serving}
 use Rattle.rg_separate.proofs.separation.shown.Goals as goal
 
 pub solve_problem-requires-clause-serves : goal.solve_problem-requires-clause-serves
-solve_problem-requires-clause-serves c = serving c.args.problems c.in_ok-workspace.workspace c.requires.can c.in_ok-workspace.ensures
+solve_problem-requires-clause-serves c = serving c.args.problems c.args.workspace.now c.requires.can c.requires.serves
 
 pub unreachable-requires : goal.unreachable-requires
 unreachable-requires c = shown_never c.args.problems.setting c.args.problem c.requires.shows c.in-Place.field-0 (subst (ProblemComesTo c.args.problems.setting c.args.problem) c.in-Place.is c.in_ok-reason.ensures.comes)

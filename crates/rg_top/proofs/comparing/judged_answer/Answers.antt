@@ -1,5 +1,5 @@
 use Rattle.std.proofs.Common.{◌∙◌}
-use Rattle.rg_isomorphism.specs.Compared.{told_of}
+use Rattle.rg_iso.specs.Compared.{told_of}
 use Rattle.rg_messages.specs.ComparedTexts.{told_text}
 use Rattle.rg_top.specs.Isomorphic.{told_status}
 use Rattle.rg_top.proofs.Compared.{told_ends, ends_so}

@@ -1,5 +1,5 @@
 use Rattle.std.proofs.Common.{ℕ, Vec, Global, Option, IfSome, IfNone, subst}
-use Rattle.rg_isomorphism.specs.Compared.{IsJudged}
+use Rattle.rg_iso.specs.Compared.{IsJudged}
 use Rattle.rg_top.specs.Isomorphic.{IsUnjudged, first_unjudged, second_unjudged}
 use Rattle.rg_top.specs.declared.status.Status.TheVariants.{No}
 use Rattle.rg_top.proofs.Compared.{ends_so}

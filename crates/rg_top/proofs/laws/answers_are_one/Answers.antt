@@ -21,17 +21,17 @@ returns c = all_one (record {
     one_claim = c.one_answer-4.ensures.one_claim;
     one_fault = c.one_answer-4.ensures.one_fault;
     not_both = c.one_answer-4.ensures.not_both;
-    one_verdict = c.one_verdict.ensures;
+    one_verdict = c.one_verdict.ensures.once;
   };
   verdict = record {
     one_net = c.one_answer-5.ensures.one_net;
     one_fault = c.one_answer-5.ensures.one_fault;
     not_both = c.one_answer-5.ensures.not_both;
-    one_verdict = c.verdict_is_one.ensures;
+    one_verdict = c.verdict_is_one.ensures.once;
   };
   factoring = record {
     one_fork = c.one_least_fork.ensures;
-    one_factoring = c.factoring_is_one.ensures;
+    one_factoring = c.factoring_is_one.ensures.once;
     out = c.outcome_is_one.ensures.answer;
   };
   splitting = record {
@@ -40,7 +40,52 @@ returns c = all_one (record {
   };
   comparison = record {
     one_fork = c.one_least_fork.ensures;
-    one_told = c.one_comparison.ensures;
+    one_told = c.one_comparison.ensures.once;
   };
-  examination = c.one_examination.ensures;
+  examination = c.one_examination.ensures.once;
+}) (record {
+  words = c.words_say_one_thing.ensures.some;
+  class = c.class_is_told.ensures.in_range;
+  reading = record {
+    apt = c.one_answer.ensures.some;
+    apt_formed = c.spelled_is_well_formed.ensures.formed;
+    apt_memory = c.spelled_is_well_formed.ensures.fault;
+    graph = c.one_answer-2.ensures.some;
+    graph_formed = c.spelled_is_well_formed-2.ensures.formed;
+    graph_memory = c.spelled_is_well_formed-2.ensures.fault;
+    words = c.one_answer-3.ensures.some;
+    words_formed = c.spelled_is_well_formed-3.ensures.formed;
+    words_memory = c.spelled_is_well_formed-3.ensures.fault;
+  };
+  judgement = record {
+    claim = c.one_answer-4.ensures.some;
+    in_range = c.spelled_is_in_range.ensures.claim;
+    verdict = c.one_verdict.ensures.some;
+  };
+  verdict = record {
+    net = c.one_answer-5.ensures.some;
+    same_labels = c.spelled_is_for_the_system.ensures.labels;
+    memory = c.spelled_is_for_the_system.ensures.fault;
+    verdict = c.verdict_is_one.ensures.some;
+  };
+  factoring = record {
+    reachable = c.systems_are_decided.ensures.reachable;
+    fork_free = c.systems_are_decided.ensures.fork_free;
+    factoring = c.factoring_is_one.ensures.some;
+    out = c.outcome_is_one.ensures.some;
+  };
+  splitting = record {
+    some = c.splitting_is_one.ensures.some;
+    right = c.splitting_says.ensures.right;
+  };
+  comparison = record {
+    reachable = c.systems_are_decided.ensures.reachable;
+    fork_free = c.systems_are_decided.ensures.fork_free;
+    told = c.one_comparison.ensures.some;
+    refutes = c.difference_refutes.ensures;
+  };
+  trials = record {
+    sound = c.one_of_each.ensures.sound;
+    out = c.outcome_is_one.ensures.some;
+  };
 })

@@ -6,7 +6,7 @@ returns-clause-once c = check_once (record {
   one_net = c.one_answer.ensures.one_net;
   one_fault = c.one_answer.ensures.one_fault;
   not_both = c.one_answer.ensures.not_both;
-  one_verdict = c.verdict_is_one.ensures;
+  one_verdict = c.verdict_is_one.ensures.once;
 })
 
 pub returns-clause-due : goal.returns-clause-due
@@ -14,5 +14,5 @@ returns-clause-due c = check_due (record {
   one_net = c.one_answer.ensures.one_net;
   one_fault = c.one_answer.ensures.one_fault;
   not_both = c.one_answer.ensures.not_both;
-  one_verdict = c.verdict_is_one.ensures;
+  one_verdict = c.verdict_is_one.ensures.once;
 })

@@ -6,7 +6,7 @@ returns-clause-once c = verify_once (record {
   one_claim = c.one_answer.ensures.one_claim;
   one_fault = c.one_answer.ensures.one_fault;
   not_both = c.one_answer.ensures.not_both;
-  one_verdict = c.one_verdict.ensures;
+  one_verdict = c.one_verdict.ensures.once;
 })
 
 pub returns-clause-due : goal.returns-clause-due

@@ -1,0 +1,4 @@
+pub mod Deciding
+pub mod Growing
+pub mod Reaching
+pub mod Forking

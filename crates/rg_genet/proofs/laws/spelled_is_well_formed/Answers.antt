@@ -1,0 +1,6 @@
+use Rattle.rg_genet.proofs.SpelledGraphs.{spelled_formed}
+use Rattle.rg_genet.proofs.MemoryFaults.{memory_is_no_fault}
+use Rattle.rg_genet.proofs.laws.spelled_is_well_formed.Goals as goal
+
+pub returns : goal.returns
+returns c = record { formed = spelled_formed; fault = memory_is_no_fault }

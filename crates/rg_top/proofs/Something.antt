@@ -1,0 +1,12 @@
+-- Something comes of work on a system.
+use Rattle.std.proofs.Common.{◌⊎◌, Some}
+use Rattle.rg_ports.specs.Shelf.{Files}
+use Rattle.rg_theory.specs.System.{System}
+use Rattle.rg_commands.specs.Requests.{Work}
+use Rattle.rg_top.specs.Due.{DueOn, Decides}
+use Rattle.rg_top.specs.Terms.{Term}
+use Rattle.rg_top.specs.declared.status.Status.{Status}
+
+-- where the files are told, a status is due to the work on the system, or a term out of range decides
+abbrev pub SomethingOn : Files → Work → System → Type 0
+SomethingOn files work lts = ((s : Status) × DueOn (Some files) work lts s) ⊎ ((w : Term) × Decides lts work w)
