@@ -1,5 +1,5 @@
 #!/usr/bin/env python3
-"""Compares docs/check_certificate.py with the program's `verify`, on certificates as they are written and changed.
+"""Compares tools/check_certificate.py with the program's `verify`, on certificates as they are written and changed.
 
     bench/certificates.py crates/regions/out/regions [CERTIFICATES [SEED ..]]
 
@@ -7,7 +7,7 @@ For each seed (1 unless some are named) it makes random systems until `synthesiz
 number is named), for random classes of all words, with bounds and markings. Each is judged by both as it is written, and changed: of
 each eighth one by every change that is told below, of the others by some twenty of them. It prints each difference, and behind each
 seed a table of all so far: how many certificates both accept, both refuse, and where only the program refuses, by rule 4 of
-docs/formats.md (`sum passes`), which the checker leaves out. Each other difference is an error, and status 1. One in a hundred is
+docs/certificates.md (`sum passes`), which the checker leaves out. Each other difference is an error, and status 1. One in a hundred is
 judged by the checker's command line too. It is run by hand and is no test.
 
 A changed line is: left out; doubled; swapped with the next; with a blank, a carriage return or a word more, or a word less; and for
@@ -27,7 +27,7 @@ import tempfile
 import second
 
 TOP = os.path.dirname(os.path.dirname(os.path.abspath(__file__)))
-CHECKER = os.path.join(TOP, 'docs', 'check_certificate.py')
+CHECKER = os.path.join(TOP, 'tools', 'check_certificate.py')
 ROWS = ('arc', 'tokens', 'cap', 'up', 'down', 'makes', 'stop', 'block', 'empty', 'full', 'keep', 'apart', 'above')
 WORDS = (*ROWS, 'unreachable', 'fork', 'event', 'states', 'split', 'leaf', 'case', 'end', 'start', 'effect')
 CLASSES = ('none', 'pure', 'plain', 'safe', '2-bounded', '3-bounded', 'pure,plain,safe', 'output-nonbranching', '2-marking',
@@ -187,9 +187,11 @@ class Judges:
     def by_checker(self, system, cert):
         """What its last lines do."""
         try:
-            return 'accepted: no net of class ' + self.checker.Judge(self.checker.System(system), cert).judge() + '\n'
-        except ValueError as why:
+            return 'accepted: no net of class ' + self.checker.Checker(self.checker.System(system), cert).check() + '\n'
+        except self.checker.Refused as why:
             return f'refused: {why}\n'
+        except self.checker.BadFile as why:
+            return f'no system file: {why}\n'
 
     def by_program(self, system, cert):
         self.write(self.file, system)
@@ -215,9 +217,9 @@ class Judges:
     def by_command_line(self, agree, first):
         """The checker's own run over the two files that were judged last: its line and its status."""
         ran = subprocess.run([sys.executable, CHECKER, self.file, self.cert], capture_output=True, text=True)
-        accepts = first.startswith('accepted')
-        holds = ran.stdout == first if accepts else ran.stdout.startswith('refused: ')
-        if not holds or ran.returncode != (0 if accepts else 1) or ran.stderr:
+        accepts, unread = first.startswith('accepted'), first.startswith('no system file')
+        holds = ran.stdout == first if accepts else not ran.stdout if unread else ran.stdout.startswith('refused: ')
+        if not holds or ran.returncode != (0 if accepts else 2 if unread else 1) or bool(ran.stderr) != unread:
             self.differences += 1
             print(f'by the command line: {ran.returncode} {ran.stdout}{ran.stderr}, and {first}')
         self.counts['by the command line', agree] += 1

@@ -13,10 +13,10 @@
 seconds, the peak memory as GNU time tells it, the numbers of states and of separation problems, how many places the net has or how
 many nodes (splits and leaves) the certificate's trees, and what err says. `beside` runs an earlier program first, and prints its
 seconds, memory and places in columns of their own: a program that prunes no places shows how many are found. `speed` runs both
-five times by turns on the systems of docs/using.md, and prints the least and the middle processor seconds and the peak of memory of
+five times by turns on the systems of docs/performance.md, and prints the least and the middle processor seconds and the peak of memory of
 each, and says so where the bytes differ, which they never may. `jobs` prints the
 seconds and the memory with 1, 2, 4 and 16 jobs, and says so where the bytes differ, which they never may. `threads` prints the middle
-of five runs' seconds of the clock with 1, 2 and 4 jobs on the systems of docs/using.md, by turns, and the seconds that four runs with one job
+of five runs' seconds of the clock with 1, 2 and 4 jobs on the systems of docs/performance.md, by turns, and the seconds that four runs with one job
 each take beside each other, which tell what the machine's processors allow. `blocks` prints how many
 problems all blocks have, as a gate counts them, beside the places of the net: no kept place separated them when their block was
 formed, so no more are solved, and none of these twice but the one that is told. It is run by hand and is no test.

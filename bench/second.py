@@ -11,7 +11,7 @@
     bench/second.py cases 2 400 marking > crates/worked_runs/data/random_marking.cases
     bench/second.py cases 3 800 further > crates/worked_runs/data/random_further.cases
 
-It is written from docs/algorithm.md, docs/theory.md and docs/formats.md alone: fractions of any size, a problem at a time, each kept place asked, each
+It is written from docs/dev/algorithm.md, docs/theory.md and docs/formats.md alone: fractions of any size, a problem at a time, each kept place asked, each
 dictionary made anew. `compare` makes random systems (2,000 unless a number is named) of up to 6 states and 4 labels, runs the program with 1,
 2 and 7 jobs for a random class, and compares status and bytes; it prints each difference, and at last `N systems, M differences`. Where
 the second body forms a number out of 127 bits it can't tell the answer, and stops. It is run by hand and is no test. `cases SEED N`

@@ -1,0 +1,191 @@
+#!/usr/bin/env python3
+"""Makes the pictures of the pages, docs/img/*.svg, from the repository's own data.
+
+    bench/pictures.py PROGRAM                  all pictures (Graphviz's `dot` draws the graphs)
+
+Systems and nets are drawn by tools/lts2dot.awk and tools/net2dot.awk from what PROGRAM writes; the layers come from crates.txt, the
+plots from the tables of docs/performance.md.
+"""
+import math
+import os
+import re
+import subprocess
+import sys
+
+TOP = os.path.dirname(os.path.dirname(os.path.abspath(__file__)))
+IMG = os.path.join(TOP, 'docs', 'img')
+COLORS = ('#1f77b4', '#d62728', '#2ca02c', '#9467bd', '#8c564b', '#ff7f0e', '#17becf', '#7f7f7f')
+
+
+def run(words, text=''):
+    return subprocess.run(words, input=text, capture_output=True, text=True, check=False, cwd=TOP).stdout
+
+
+def draw(name, graph):
+    svg = run(['dot', '-Tsvg'], graph)
+    svg = re.sub(r'<!--.*?-->\n?', '', svg, flags=re.S)
+    with open(os.path.join(IMG, name + '.svg'), 'w', encoding='utf-8') as file:
+        file.write(svg)
+
+
+def draw_system(program, name, words):
+    draw(name, run(['awk', '-f', 'tools/lts2dot.awk'], run([program, 'convert', 'apt', *words])))
+
+
+def draw_net(program, name, words, renamed_by=None):
+    net = run([program, 'synthesize', *words])
+    if renamed_by is not None:
+        with open(os.path.join(IMG, 'net.tmp'), 'w', encoding='ascii') as file:
+            file.write(net)
+        net = run(['awk', '-f', 'examples/old-names.awk', renamed_by, os.path.join(IMG, 'net.tmp')])
+        os.remove(os.path.join(IMG, 'net.tmp'))
+    draw(name, run(['awk', '-f', 'tools/net2dot.awk'], net))
+
+
+def celement(program):
+    """The state graph of the C-element with its signals, and its net."""
+    plain = os.path.join(IMG, 'plain.tmp')
+    with open(plain, 'w', encoding='ascii') as file:
+        file.write(run(['awk', '-f', 'examples/plain-names.awk', 'examples/celement.sg']))
+    graph = run(['awk', '-f', 'tools/lts2dot.awk'], run([program, 'convert', 'apt', plain, '--from', 'graph']))
+    draw('celement', re.sub(r'label="(\w)_(plus|minus)"', lambda m: f'label="{m[1]}{"+" if m[2] == "plus" else "-"}"', graph))
+    draw_net(program, 'celement-net', ['pure,safe', plain, '--from', 'graph'], plain)
+    os.remove(plain)
+
+
+def certificate():
+    """The certificate with a split, as a tree: rows with their multipliers, and what they add up to."""
+    lines = open(os.path.join(TOP, 'examples', 'cycle3-plain.cert'), encoding='ascii').read().split('\n')
+    leaves, leaf = [], None
+    for line in lines[5:-2]:
+        if line == 'leaf':
+            leaf = []
+            leaves.append(leaf)
+        else:
+            leaf.append(line)
+    boxes = [rows + ['adds up to -1 >= 0'] for rows in leaves]
+    label = lambda rows: '\\l'.join(rows) + '\\l'
+    draw('certificate', f'''digraph certificate {{
+  node [shape=box, fontname=monospace, fontsize=11];
+  root [label="event s0 b, class plain\\nsplit effect a 0"];
+  low [label="{label(boxes[0])}"];
+  high [label="{label(boxes[1])}"];
+  root -> low [label="E(a) <= 0"];
+  root -> high [label="E(a) >= 1"];
+}}
+''')
+
+
+def chain():
+    """The way from the command line to the answer: what is proved, tested and trusted."""
+    draw('chain', '''digraph chain {
+  rankdir=LR; node [shape=box, style=filled, fontsize=11];
+  subgraph proved { node [fillcolor="#cfe8cf"]; words [label="words\\n(clap)"]; reader; solver; answer [label="net or\\ncertificate"]; text; }
+  subgraph tested { node [fillcolor="#fdf2c0"]; main; shelf [label="FolderShelf"]; sink [label="StdSink"]; }
+  subgraph trusted { node [fillcolor="#f3d0d0"]; system [label="operating system,\\nC library, LLVM"]; prover [label="Rattle: prover,\\ncompilers, libraries"]; }
+  system -> main -> words -> reader -> solver -> answer -> text -> sink -> out [arrowhead=normal];
+  out [label="standard\\noutput", fillcolor="#f3d0d0"];
+  system -> shelf -> reader;
+  legend [shape=plaintext, style="", label="green: proved   yellow: tested   red: trusted"];
+  prover -> solver [style=dotted, label="checks all green boxes"];
+}
+''')
+
+
+def layers():
+    """The crates of the product by the sections of crates.txt, lowest first."""
+    sections, tests = [], ('# what tests share', '# tests of single calls', '# cases of whole runs', '# measure')
+    for line in open(os.path.join(TOP, 'crates.txt'), encoding='ascii'):
+        line = line.rstrip('\n')
+        if line.startswith('#'):
+            sections.append((line[2:], []))
+        elif line:
+            sections[-1][1].append(line.split(':')[0])
+    kept = [(title, crates) for title, crates in sections if crates and not ('# ' + title).startswith(tests) and not any('test' in c or 'bench' in c for c in crates)]
+    boxes = [f'  s{i} [label="{title}\\n{", ".join(c.removeprefix("rg_") for c in crates)}"];' for i, (title, crates) in enumerate(kept)]
+    arrows = [f'  s{i + 1} -> s{i} [style=invis];' for i in range(len(kept) - 1)]
+    draw('layers', 'digraph layers {\n  ranksep=0.1; node [shape=box, width=9, fontsize=11];\n' + '\n'.join(boxes + arrows) + '\n}\n')
+
+
+# ---- plots
+
+def svg_of(width, height, body):
+    return f'<svg xmlns="http://www.w3.org/2000/svg" width="{width}" height="{height}" font-family="sans-serif" font-size="11">\n' + '\n'.join(body) + '\n</svg>\n'
+
+
+def table_rows(heading):
+    """The rows of the first table below a heading of docs/performance.md."""
+    text = open(os.path.join(TOP, 'docs', 'performance.md'), encoding='utf-8').read()
+    text = text[text.index(heading):]
+    rows = [[cell.strip() for cell in line.strip('|').split('|')] for line in text.split('\n') if line.startswith('|')]
+    last = next((i for i, row in enumerate(rows) if i > 1 and row[0] == rows[0][0]), len(rows))
+    return rows[0], rows[2:last]
+
+
+def second_method():
+    """Seconds over the number of problems, of this program and of the second method, in class none; crosses are runs that were stopped."""
+    head, rows = table_rows('## Measured: a second method')
+    points = []
+    for row in rows:
+        if len(row) != len(head) or not re.match(r'[\d,]+$', row[2]):
+            continue
+        cell = re.sub(r'\(\d+\)|no:|status 4:', '', row[3])
+        ours, theirs = [part.strip() for part in cell.split('/')]
+        stopped = theirs.startswith('over')
+        points.append((int(row[2].replace(',', '')), max(float(ours), 0.005), 20.0 if stopped else float(theirs), stopped, 'status 4' in row[3]))
+    x = lambda n: 60 + 440 * (math.log10(n) - 2) / 5
+    y = lambda s: 300 - 260 * (math.log10(s) + 2.4) / 4
+    body = ['<rect x="60" y="40" width="440" height="260" fill="none" stroke="#999"/>']
+    for k in range(2, 8):
+        body.append(f'<text x="{x(10 ** k):.0f}" y="316" text-anchor="middle">10^{k}</text>')
+    for k in (0.01, 0.1, 1, 10):
+        body.append(f'<text x="54" y="{y(k) + 4:.0f}" text-anchor="end">{k} s</text><line x1="60" x2="500" y1="{y(k):.0f}" y2="{y(k):.0f}" stroke="#ddd"/>')
+    for n, ours, theirs, stopped, wide in points:
+        body.append(f'<line x1="{x(n) - 3:.1f}" x2="{x(n) + 3:.1f}" y1="{y(ours) - 3:.1f}" y2="{y(ours) + 3:.1f}" stroke="{COLORS[0]}"/><line x1="{x(n) - 3:.1f}" x2="{x(n) + 3:.1f}" y1="{y(ours) + 3:.1f}" y2="{y(ours) - 3:.1f}" stroke="{COLORS[0]}"/>'
+                    if wide else f'<circle cx="{x(n):.1f}" cy="{y(ours):.1f}" r="3" fill="{COLORS[0]}"/>')
+        mark = f'<path d="M{x(n) - 4:.1f} {y(theirs) - 4:.1f}l8 8m0 -8l-8 8" stroke="{COLORS[1]}" fill="none"/>' if stopped else f'<rect x="{x(n) - 3:.1f}" y="{y(theirs) - 3:.1f}" width="6" height="6" fill="{COLORS[1]}"/>'
+        body.append(mark)
+    body.append(f'<text x="280" y="334" text-anchor="middle">separation problems</text><text x="70" y="26" fill="{COLORS[0]}">regions, class none (a cross: status 4)</text>'
+                f'<text x="300" y="26" fill="{COLORS[1]}">second method (a cross: stopped at 20 s)</text>')
+    save('second-method', svg_of(520, 344, body))
+
+
+def speed_up():
+    """The time of two and four jobs beside one, of each row of the table of threads."""
+    head, rows = table_rows('## Measured: threads')
+    body, height = [], 30
+    for row in rows:
+        if len(row) != len(head):
+            continue
+        one, two, four = (float(row[i]) for i in (2, 3, 4))
+        body.append(f'<text x="250" y="{height + 11}" text-anchor="end">{row[0]}, {row[1]}</text>')
+        for k, (jobs, seconds) in enumerate(((2, two), (4, four))):
+            width = 60 * one / seconds
+            body.append(f'<rect x="256" y="{height + 8 * k}" width="{width:.0f}" height="7" fill="{COLORS[k]}"/><text x="{260 + width:.0f}" y="{height + 8 * k + 7}" font-size="8">{one / seconds:.1f}</text>')
+        height += 20
+    body.append(f'<text x="256" y="20" fill="{COLORS[0]}">2 jobs</text><text x="310" y="20" fill="{COLORS[1]}">4 jobs: so many times as fast as one</text>')
+    save('speed-up', svg_of(560, height + 10, body))
+
+
+def save(name, text):
+    with open(os.path.join(IMG, name + '.svg'), 'w', encoding='utf-8') as file:
+        file.write(text)
+
+
+def main():
+    if len(sys.argv) != 2:
+        sys.exit(__doc__)
+    program = os.path.abspath(sys.argv[1])
+    os.makedirs(IMG, exist_ok=True)
+    draw_system(program, 'cycle3', ['examples/cycle3.apt'])
+    draw_net(program, 'cycle3-net', ['pure', 'examples/cycle3.apt'])
+    celement(program)
+    certificate()
+    chain()
+    layers()
+    second_method()
+    speed_up()
+
+
+if __name__ == '__main__':
+    main()
