@@ -44,7 +44,7 @@ pub(crate) fn table_of(alloc: Global, system: &System) -> Result<RelationTable, 
     Ok(table)
 }
 
-/// Adds rows behind those of the table, which is over its columns.
+/// Adds rows after those of the table, which is over its columns.
 pub(crate) fn add_rows(table: &mut RelationTable, rows: &[Row])
     requires start { table.old.members ≡ numbers_from 0 table.old.columns }
     requires room { length rows.now ≤ table.old.room }

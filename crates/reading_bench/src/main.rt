@@ -25,7 +25,7 @@ enum Form {
     Words,
 }
 
-// The form of this name; None where there is none.
+// The form of this name; None if there is none.
 fn form_named(name: &str) -> Option<Form> {
     match name {
         "system" => Some(Form::System),

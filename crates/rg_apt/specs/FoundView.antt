@@ -23,7 +23,7 @@ labels_in bytes labels = map (lexeme bytes) labels
 abbrev pub arcs_in : List ℕ → List FoundArc → List ArcNames
 arcs_in bytes arcs = map (arc_in bytes) arcs
 
--- what is found, with its tokens as they stand in the text
+-- what is found, with the bytes that its tokens have in the text
 abbrev pub found_in : List ℕ → Found → Declared
 found_in bytes f = record {
   typed = f.typed;

@@ -63,7 +63,7 @@ after_name states x = after_entry states
 after_name labels x = after_entry labels
 after_name arcs x = second x
 
--- where a token of a kind leads from a position, if it may stand there
+-- where a token of a kind leads from a position, if it is allowed there
 abbrev pub leads_by : Position → Kind → Lexeme → Option Position
 leads_by section Word x = Some (after_word x.text)
 leads_by type_name Name x = if is_type_name x.text then Some section else None
@@ -81,7 +81,7 @@ leads_by _ _ _ = None
 abbrev pub leads : Position → Lexeme → Option Position
 leads position x = leads_by position x.kind x
 
--- the fault of a token that may not stand at a position
+-- the fault of a token that isn't allowed at a position
 abbrev pub refusal_by : Position → Kind → ℕ → ItemFault
 refusal_by type_name Name at = WrongType at
 refusal_by position _ at = Expected at (wanted position)

@@ -14,7 +14,7 @@ section_in States = table.states
 section_in Labels = table.labels
 section_in Arcs = table.arcs
 
--- a position, with its tokens as they stand in the text
+-- a position, with the bytes that its tokens have in the text
 abbrev pub position_in : List ℕ → Position → table.Position
 position_in bytes Start = table.section
 position_in bytes TypeName = table.type_name

@@ -16,7 +16,7 @@ pub enum TextFault {
     /// The token at this position can't go on with the text before it, or the text ends at this position and can't
     /// end yet. The other value says what is wanted instead.
     Expected(u32, Want),
-    /// No `.type` stands in the text.
+    /// The text has no `.type`.
     NoType,
     /// The name at this position, after `.type`, is neither `LTS` nor `TS`.
     WrongType(u32),
@@ -39,7 +39,7 @@ pub enum TextFault {
     /// The name at this position is the first of a new arc, and 262,144 were declared before, repetitions not
     /// counted.
     TooManyArcs(u32),
-    /// There is no memory left.
+    /// Memory ran out.
     NoMemory,
 }
 

@@ -1,4 +1,4 @@
-//! Where a token stands in a file, and where it leads.
+//! Positions of tokens in a system file, and the position that follows each token.
 ghost use Rattle.std.specs.Prelude.{◌≡◌, ◌≤◌, ℕ, List, length, option_map, slice_range, IfSome};
 ghost use Rattle.rg_lexer.specs.Lexeme.{lexeme};
 ghost use Rattle.rg_apt.specs.Table.{wanted, after_word, is_type_name, after_name, leads};
@@ -19,7 +19,7 @@ pub enum Section {
     Arcs,
 }
 
-/// Where a token stands. The tokens in it came before and still count.
+/// The position of a token. The tokens that a position holds came before it and still count.
 #[derive(Clone, Copy, Debug, PartialEq, Eq)]
 pub enum Position {
     Start,

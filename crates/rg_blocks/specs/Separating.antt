@@ -14,11 +14,11 @@ use Rattle.rg_blocks.specs.declared.separation.SeparationOutcome.TheVariants as 
 pub record AsksAll (lts : System) (asks : Problem → Type 0) : Type 0 where
   pub each : (problem : Problem) → IsProblem lts problem → asks problem
 
--- what comes behind the last problem, with the places kept now, comes of all problems
+-- what comes after the last problem, with the places kept now, comes of all problems
 pub record LeadsTo (lts : System) (comes : Problem → Solved → Type 0) (before now : List Place) (last : Option Problem) : Type 0 where
   pub leads : (o : Separation) → ComesFrom lts comes last now o → ComesFrom lts comes None before o
 
--- no problem is left behind some last one, or this one was refuted
+-- no problem is left after some last one, or this one was refuted
 abbrev pub EndsAll : System → (Problem → Solved → Type 0) → List Place → List Place → Option Problem → Type 0
 EndsAll lts comes before after None = (last : Option Problem) × IsDone lts after last × LeadsTo lts comes before after last × IsSound lts comes last after
 EndsAll lts comes before after (Some q) = (trees : List Tree) × ComesFrom lts comes None before (unsolvable q trees)

@@ -25,7 +25,7 @@ pub(crate) const FIRST_BLOCK: u32 = 64;
 // How many problems any block has at most.
 const LARGEST_BLOCK: u32 = 2048;
 
-// How many problems a block has at most behind one of at most so many: twice as many, as long as that is no more than a block may have.
+// How many problems a block has at most after one of at most so many: twice as many, as long as that is no more than a block may have.
 pub(crate) fn most_behind(most: u32) -> u32
     requires some { 1 ≤ most }
     requires few { most ≤ most_in_block }
@@ -35,8 +35,8 @@ pub(crate) fn most_behind(most: u32) -> u32
     (2 * most).min(LARGEST_BLOCK)
 }
 
-/// The first problems behind the last one that was taken, or of all where none was, that no kept place separates, in order: so many as
-/// `most` says, fewer where no more are left. `NoMemory` where there is none.
+/// Returns the first `most` problems that no kept place separates, in order: of those after the problem `last`, or of
+/// all if it is None. Returns fewer if no more are left, and `NoMemory` if memory runs out.
 pub fn next_block<K: Keeping>(
     alloc: Global,
     lts: &Lts,
@@ -129,10 +129,11 @@ where
     }
 }
 
-/// Returns what the problems of a block come to, in their order, solved by at most `jobs` parts that run beside each other, each a run of
-/// neighbours. The first `taken` problems are left unsolved, and so is a problem that a kept place separates, or a place which its own part made
-/// before: its outcome is None. Each part solves with a copy of the workspace. The gate is entered before each number of the block and left
-/// after it, also for a problem that is left. Returns `NoMemory` if memory runs out.
+/// Returns the outcomes of the problems of a block, in their order, computed by at most `jobs` parts that run in
+/// parallel, each for a run of neighbours. The first `taken` problems are left unsolved, and so is a problem that a
+/// kept place separates, or a place that its own part made before: its outcome is None. Each part solves with a copy
+/// of the workspace. The gate is entered before each number of the block and left after it, also for a problem that
+/// is left unsolved. Returns `NoMemory` if memory runs out.
 pub fn solve_block<R: Threads + Sync, K: Keeping + Sync, S: Solving + Sync, G: Gate + Sync>(
     rt: &R,
     alloc: Global,

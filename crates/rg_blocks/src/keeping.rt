@@ -29,7 +29,7 @@ pub trait Keeping {
         requires problem { IsProblem lts.now problem }
         ensures { IsTrue result ↔ IsSeparated lts.now (places self.now) problem };
 
-    /// Keeps one more place, behind the others. `NoMemory` where there is none.
+    /// Keeps one more place, after the others. Returns `NoMemory` if memory runs out.
     fn keep(&mut self, lts: &Lts, place: RegionPlace) -> Result<(), NoMemory>
         requires system { keeps_for self.old lts.now }
         requires place { may_keep lts.now place }

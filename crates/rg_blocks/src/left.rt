@@ -104,8 +104,9 @@ fn left_from<K: Keeping>(lts: &Lts, kept: &K, s: u32, first: u32) -> Option<Prob
     states_left(lts, kept, 0, 1)
 }
 
-/// The next problem: of those behind the last one that was taken, or of all where none was, the first that no kept place separates.
-/// Event problems come before state problems, each kind by its numbers. None where no problem is left behind the last one.
+/// Returns the next problem: the first that no kept place separates, of those after `last`, or of all if it is None.
+/// Event problems precede state problems, and each kind is in the order of its numbers. Returns None if no problem is
+/// left.
 pub fn next_problem<K: Keeping>(lts: &Lts, kept: &K, last: Option<Problem>) -> Option<Problem>
     requires kept { K.keeps_for kept.now lts.now }
     requires last { IfSome last (IsProblem lts.now) }

@@ -1,10 +1,11 @@
 //! All separation problems of a system, block by block.
 //!
-//! Places that separate all problems, kept one after the other, are the usual way to a net (Badouel, Bernardinello and Darondeau,
-//! *Petri Net Synthesis*). The problems are solved in blocks, by parts that run beside each other, and what they come to is taken over in
-//! their order, so that it is the same as if they were solved one after the other. The first problems of a block are solved in turn, as long
-//! as their places separate what follows. A part leaves a problem unsolved that a kept place separates, or one which it made itself; such a
-//! problem is solved when its turn comes, unless a kept place separates it then.
+//! Places that separate all problems, kept one after the other, are the usual way to a net (Badouel, Bernardinello
+//! and Darondeau, *Petri Net Synthesis*). The problems of a block are solved by parts that run in parallel, and their
+//! outcomes are taken over in the order of the problems, so that the result is the same as if they were solved one
+//! after the other. The first problems of a block are solved in turn, as long as their places separate what follows.
+//! A part leaves a problem unsolved if a kept place separates it, or a place that the part made; such a problem is
+//! solved in its turn, unless a kept place separates it by then.
 #![tactic(auto)]
 
 mod block;

@@ -19,7 +19,7 @@ use rg_theory::Problem;
 use std::alloc::Global;
 use std::thread::Threads;
 
-/// What all problems of a system come to.
+/// The outcome of all problems of a system.
 #[derive(Clone, Copy, Debug, PartialEq, Eq)]
 pub enum SeparationOutcome {
     /// The places that are kept separate all problems.
@@ -78,7 +78,7 @@ where
     }
 }
 
-// Takes all problems, block by block, as long as one is left behind the last one. The first problem that is refuted ends it, and is given;
+// Takes all problems, block by block, as long as one is left after the last one. The first problem that is refuted ends it, and is given;
 // None where none is.
 fn solve_all<R: Threads + Sync, K: Keeping + Sync, S: Solving + Sync, G: Gate + Sync>(
     rt: &R,
@@ -126,9 +126,10 @@ where
     }
 }
 
-/// Separates all problems of the system, each of whose states is reachable, from no place on. What the problems come to, and the places
-/// that are kept, are the same for any number of jobs and any gate. The calling thread solves with the workspace, and each part of a block
-/// with a copy of it. Returns `NoMemory` if memory runs out: then nothing is said of the workspace.
+/// Separates all problems of the system, all of whose states are reachable, beginning without a place. The outcome
+/// and the places that are kept are the same for any number of jobs and any gate. The calling thread solves with
+/// `workspace`, and each part of a block with a copy of it. Returns `NoMemory` if memory runs out; nothing is known
+/// of the workspace then.
 pub fn separate_all<R: Threads + Sync, K: Keeping + Sync, S: Solving + Sync, G: Gate + Sync>(
     rt: &R,
     alloc: Global,

@@ -9,8 +9,8 @@ use rg_marks::RegionPlace;
 use rg_memory::NoMemory;
 use rg_theory::Problem;
 
-/// What a problem comes to. It is small, so that many may wait for being taken over: of a refuted problem it has no trees, and of
-/// one in which a number passes no term.
+/// The outcome of a problem. It is small, because many outcomes may wait until they are taken over: that of a refuted
+/// problem has no trees, and that of a problem with a number out of range has no term.
 #[derive(Drop)]
 pub enum ProblemOutcome {
     /// A place that separates it, with its tokens at the states.
@@ -21,17 +21,17 @@ pub enum ProblemOutcome {
     TooWide,
 }
 
-/// A problem of a block, and what it comes to.
+/// A problem of a block, and its outcome.
 #[derive(Drop)]
 pub struct SolvedProblem {
     /// The problem.
     pub problem: Problem,
-    /// What it comes to. None where it isn't solved yet, since a place that was made beside it separates it.
+    /// The outcome, or None if the problem isn't solved yet because a place made by the same part separates it.
     pub outcome: Option<ProblemOutcome>,
 }
 
-/// How the problems of a system are solved, each by itself: what one comes to depends neither on the places that are kept nor on what was
-/// solved before in the same workspace.
+/// How the problems of a system are solved, each by itself: the outcome of a problem depends neither on the places
+/// that are kept nor on what was solved before in the same workspace.
 pub trait Solving {
     /// What shows that a problem is refuted.
     type Proof;
@@ -42,7 +42,7 @@ pub trait Solving {
     /// What the solving of a problem asks for.
     ghost asks: { Self → Problem → Type 0 };
 
-    /// What a problem comes to.
+    /// The outcome of a problem.
     ghost comes: { Self → Problem → Solved → Type 0 };
 
     /// What is said of each place that is made.
@@ -58,7 +58,8 @@ pub trait Solving {
     fn copy_workspace(&self, workspace: &Self::Workspace) -> Result<Self::Workspace, NoMemory>
         ensures { IfOk result (λ copy. serves self.now workspace.now → serves self.now copy) };
 
-    /// Solves a problem in a thread that solves with this. `NoMemory` where there is none: then nothing is said of what it solves with.
+    /// Solves a problem with the workspace of a thread. Returns `NoMemory` if memory runs out; nothing is known of
+    /// the workspace then.
     fn solve(
         &self,
         workspace: &mut Self::Workspace,
@@ -69,8 +70,8 @@ pub trait Solving {
         ensures outcome { IfOk result (IsOutcome (comes self.now) (makes self.now) problem) }
         ensures serves { OnOk result (serves self.now workspace.new) };
 
-    /// Solves a problem that is taken over at once, and keeps what shows that it is refuted, if it is. `NoMemory` where there is none: then
-    /// nothing is said of what the thread solves with.
+    /// Solves a problem whose outcome is taken over at once, and keeps the proof that it is refuted, if it is.
+    /// Returns `NoMemory` if memory runs out; nothing is known of the workspace then.
     fn solve_in_turn(
         &self,
         workspace: &mut Self::Workspace,

@@ -1,4 +1,4 @@
-//! How what the problems of a block come to is taken over.
+//! How the outcomes of the problems of a block are taken over.
 ghost use Rattle.std.specs.Prelude.{◌≡◌, ◌≤◌, [], ◌∷◌, All, IfOk, IfSome, IfNone, OnOk, length};
 ghost use Rattle.rg_theory.specs.Problem.{IsProblem};
 ghost use Rattle.rg_outcome.specs.Coming.{IsSeparated};
@@ -40,10 +40,11 @@ fn take<K: Keeping, S: Solving>(
     }
 }
 
-/// Takes over what the problems of a block come to, in their order: a place is kept, and a problem in which a number passes is passed over.
-/// What a problem comes to that a place kept meanwhile separates is dropped, whatever it is. Any other problem that isn't solved yet is
-/// solved now, on the calling thread and with its workspace. The first other one that is refuted ends it, and is given; None where there is
-/// no such problem. What shows that a problem is refuted is kept where it is solved here. `NoMemory` where there is none.
+/// Takes over the outcomes of the problems of a block, in the order of the problems. A place is kept, and a problem
+/// with a number out of range is passed over. The outcome of a problem that a place kept meanwhile separates is
+/// dropped, whatever it is. Any other problem that isn't solved yet is solved now, on the calling thread and with its
+/// workspace. The first other problem that is refuted ends the call and is returned, with its proof kept if it was
+/// solved here; None is returned if there is no such problem. Returns `NoMemory` if memory runs out.
 pub fn take_over<K: Keeping, S: Solving>(
     lts: &Lts,
     kept: &mut K,
@@ -142,9 +143,10 @@ pub enum Begun {
     First(usize),
 }
 
-/// Solves the first problems of a block one after the other, and takes over what each comes to at once: one of every 256, and the others as
-/// long as the places that are kept separate the problem that follows. One that a kept place separates isn't solved. The first one that is
-/// refuted ends it. `NoMemory` where there is none.
+/// Solves the first problems of a block one after the other, and takes over each outcome at once: one problem of
+/// every 256, and further ones as long as the places that are kept separate the problem that follows. A problem that
+/// a kept place separates isn't solved. The first one that is refuted ends the call. Returns `NoMemory` if memory
+/// runs out.
 pub fn begin_in_turn<K: Keeping, S: Solving>(
     lts: &Lts,
     kept: &mut K,
@@ -190,9 +192,10 @@ fn follows_separated<K: Keeping>(lts: &Lts, kept: &K, problems: &[Problem], numb
     }
 }
 
-/// Solves the problems of a block one after the other, and takes over what each comes to at once. One that a place kept meanwhile separates
-/// isn't solved. The first one that is refuted ends it, and is given; None where there is no such problem. The gate is entered and left once
-/// for each number of the block, also for those that aren't solved. `NoMemory` where there is none.
+/// Solves the problems of a block one after the other, and takes over each outcome at once. A problem that a place
+/// kept meanwhile separates isn't solved. The first one that is refuted ends the call and is returned; None is
+/// returned if there is no such problem. The gate is entered and left once for each number of the block, also for
+/// problems that aren't solved. Returns `NoMemory` if memory runs out.
 pub fn solve_in_turn<K: Keeping, S: Solving, G: Gate>(
     lts: &Lts,
     kept: &mut K,

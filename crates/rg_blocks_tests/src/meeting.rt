@@ -1,4 +1,4 @@
-//! A gate that shows whether numbers of a block are at work beside each other.
+//! A gate that shows whether numbers of a block are at work in parallel.
 use crate::passes::Passes;
 use rg_phase::NoMemory;
 use rg_ports::Gate;

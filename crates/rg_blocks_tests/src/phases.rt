@@ -1,4 +1,4 @@
-//! Each number is done once, in parts that run beside each other.
+//! Each number is done once, in parts that run in parallel.
 ghost use Rattle.std.specs.Prelude.{ℕ, ◌+◌, ◌<◌, ◌≤◌};
 
 use crate::meeting::Meeting;

@@ -28,7 +28,7 @@ type Row = (
 );
 
 // Each is one block of less than 64 problems: the first label is solved in turn, before the gate is entered, and the others as long as the one
-// behind a label that was solved is stopped. What is left then is solved by parts: of four labels two jobs have 0 and 1, and 2 and 3; of three
+// after a label that was solved is stopped. What is left then is solved by parts: of four labels two jobs have 0 and 1, and 2 and 3; of three
 // jobs the first two have one label each, and the third one has labels 2 and 3. A part leaves what a place kept so far stops, or one of its own.
 // At last those are solved that were left for a place that isn't kept. One job solves each inside.
 const ROWS: [Row; 16] = [
@@ -115,7 +115,7 @@ const ROWS: [Row; 16] = [
         (1, 0),
         (1, 0),
     ),
-    // the first two places stop the labels behind them, so that all are solved in turn
+    // the first two places stop the labels after them, so that all are solved in turn
     (
         &[
             Given::Stops(1),
@@ -199,7 +199,7 @@ const ROWS: [Row; 16] = [
     ),
 ];
 
-// Puts this letter with each of the numbers from `from` on below `to` behind the text.
+// Puts this letter with each of the numbers from `from` on below `to` after the text.
 fn push_names(
     alloc: Global,
     text: &mut String,
@@ -221,7 +221,7 @@ fn labelled(alloc: Global, labels: usize) -> Option<Lts> {
     system(alloc, text.as_str())
 }
 
-// The system with so many states in a row, so many labels without an arc, and one behind them that leads from each state to the next.
+// The system with so many states in a row, so many labels without an arc, and one after them that leads from each state to the next.
 fn in_a_row(alloc: Global, states: usize, labels: usize) -> Option<Lts> {
     let mut text = String::from_str(alloc, ".type LTS .states s0[initial]").ok()?;
     push_names(alloc, &mut text, 's', 1, states).ok()?;
@@ -496,7 +496,7 @@ fn growing_blocks(rt: HostRuntime) -> Result<(), Fail> {
 }
 
 // The first block has labels 0 to 63, of which label 0 is solved in turn, and the second one labels 64 to 191. Its first one, label 64, is solved
-// in turn; its place stops label 65, and so label 66 is solved behind it; its place stops label 67, and so label 68 is solved. That
+// in turn; its place stops label 65, and so label 66 is solved after it; its place stops label 67, and so label 68 is solved. That
 // makes no place, and label 69 isn't stopped. Labels 65 and 67 are solved by no part, since the places are kept before the parts begin.
 #[test]
 fn on_in_turn(rt: HostRuntime) -> Result<(), Fail> {

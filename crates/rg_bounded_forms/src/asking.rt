@@ -136,8 +136,8 @@ fn gap(low: i64, high: i64) -> u64
     high.abs_diff(low)
 }
 
-/// Whether `solve_whole` may be asked, as far as single rows tell: each form is one of the system, its own row bounds it
-/// from below, and its top row from above. There is one top for each form, and up to 1,000 forms.
+/// Whether `solve_whole` may be called, as far as single rows show: each form is one of the system, its own row
+/// bounds it from below, and its top row from above. There is one top for each form, and there are up to 1,000 forms.
 pub fn can_branch(system: &System, forms: &[Bounded], tops: &[Top]) -> bool
     ensures { IsTrue result → CanBranch system.now forms.now }
 {

@@ -10,13 +10,13 @@ use crate::whole::{BranchStop, Whole};
 use rg_linear::System;
 use std::alloc::Global;
 
-/// A point of the system at which every form is whole, or a tree that leaves none.
+/// Returns a point of the system at which every form is whole, or a tree that shows that there is none.
 ///
-/// Each node is the system with the rows of the splits above it behind all others, outermost first, and its
-/// descent is made from the start. The first form without a whole value at its point is split at its floor, and the
-/// low side is taken first; a point of the low side is the answer. `BranchStop::Wide` comes exactly where a node is
-/// reached whose descent has a term out of range; the first such node ends the call. `BranchStop::NoMemory` where
-/// there is no memory. A system with its forms has one answer.
+/// Each node is the system with the rows of the splits above it after all others, outermost first, and its descent is
+/// made from the start. The first form without a whole value at its point is split at its floor, and the low side is
+/// taken first; a point of the low side is the answer. Returns `BranchStop::Wide` exactly if a node is reached whose
+/// descent has a term out of range; the first such node ends the call. Returns `BranchStop::NoMemory` if memory runs
+/// out. A system with its forms has one answer.
 pub fn solve_whole(alloc: Global, system: &System, forms: &[Bounded]) -> Result<Whole, BranchStop>
     requires { CanBranch system.now forms.now }
     ensures answer { IfOk result (IsAnswer system.now (forms_of forms.now)) }

@@ -34,7 +34,7 @@ impl Model for Solver {
 }
 
 impl Solver {
-    /// One for systems of so many columns. `NoMemory` where there is no memory.
+    /// One for systems of so many columns. Returns `NoMemory` if memory runs out.
     pub fn new(alloc: Global, columns: u32) -> Result<Solver, NoMemory>
         ensures { IfOk result (λ solver. solver ≡ columns) }
     {

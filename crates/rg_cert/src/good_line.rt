@@ -20,7 +20,7 @@ pub(crate) struct GoodLine<'a> {
     pub(crate) form: LineForm,
     /// Its fields.
     pub(crate) texts: Vec<&'a [u8]>,
-    /// Where the next line stands.
+    /// The position of the next line.
     pub(crate) to: Position,
     pub(crate) rest: &'a [u8],
 }

@@ -1,4 +1,4 @@
-//! What the text of a certificate tells.
+//! What the text of a certificate says.
 ghost use Rattle.std.specs.Prelude.{◌≡◌, ◌⊎◌, ◌++◌, ℕ, List};
 ghost use Rattle.rg_text.specs.Line.{fed};
 ghost use Rattle.rg_theory.specs.System.{System};

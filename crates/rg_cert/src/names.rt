@@ -7,7 +7,7 @@ ghost use Rattle.rg_cert.specs.Text.{state_name, label_name};
 use rg_lts::Lts;
 use std::str;
 
-// The state of this name; None where there is none.
+// The state of this name; None if there is none.
 pub(crate) fn state_in(name: &[u8], lts: &Lts) -> Option<u32>
     requires { IsName name.now }
     ensures some { IfSome result (λ s. (s < states lts.now) × (name.now ≡ state_name lts.now s)) }
@@ -19,7 +19,7 @@ pub(crate) fn state_in(name: &[u8], lts: &Lts) -> Option<u32>
     }
 }
 
-// The label of this name; None where there is none.
+// The label of this name; None if there is none.
 pub(crate) fn label_in(name: &[u8], lts: &Lts) -> Option<u32>
     requires { IsName name.now }
     ensures some { IfSome result (λ t. (t < labels lts.now) × (name.now ≡ label_name lts.now t)) }

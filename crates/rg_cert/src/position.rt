@@ -1,4 +1,4 @@
-//! Where a line stands, and which lines may follow.
+//! Positions of lines, and which lines may follow.
 ghost use Rattle.std.specs.Prelude.{◌≡◌, ◌<◌};
 ghost use Rattle.rg_cert.specs.Lines.{if_two, follows, in_tree, after_tree};
 ghost use Rattle.rg_cert.specs.View.{HasFewDue, line_form_in, version_in, count_in, position_in, next_in};
@@ -13,7 +13,7 @@ pub(crate) enum Count {
     Several,
 }
 
-/// Where a line stands, in a text of a version.
+/// The position of a line, in a text of a version.
 #[derive(Clone, Copy, Debug, PartialEq, Eq)]
 pub(crate) enum Position {
     /// The third line.
@@ -24,19 +24,19 @@ pub(crate) enum Position {
     OneCase(Version),
     /// After `states`.
     Cases(Version),
-    /// In a tree; a node is due, and so many after it.
+    /// In a tree; a node is expected, and this many nodes after it.
     Node(Version, Count, u32),
-    /// In a leaf; so many nodes are due after it.
+    /// In a leaf; this many nodes are expected after it.
     Row(Version, Count, u32),
     /// After `end`.
     End,
 }
 
-/// What comes of a line of some form.
+/// The result of a line of some form.
 #[derive(Clone, Copy, Debug, PartialEq, Eq)]
 pub(crate) enum Next {
     To(Position),
-    /// A node is due.
+    /// A node is expected.
     Short,
     /// The tree is whole.
     Long,

@@ -55,8 +55,7 @@ impl Basis {
         &self.free
     }
 
-    /// The indices of the chords that stand as rows of the walk: those that aren't 0, of equal ones the
-    /// first.
+    /// Returns the indices of the chords that are rows of the walk: those that aren't 0, and of equal ones the first.
     pub fn kept(&self) -> &[u32]
         ensures { result.now ≡ (cycle_of self.now).kept }
     {

@@ -1,8 +1,8 @@
-//! The equations that the cycles of a transition system put on the effects of its labels, solved.
+//! The equations that the cycles of a transition system impose on the effects of its labels, solved.
 //!
-//! A region gives each label an effect, and along each cycle the effects add up to 0 (Badouel,
-//! Bernardinello and Darondeau, *Petri Net Synthesis*). `reduce` finds labels whose effects are free,
-//! and for each other label how its effect follows from theirs.
+//! A region gives each label an effect, and along each cycle the effects add up to 0 (Badouel, Bernardinello and
+//! Darondeau, *Petri Net Synthesis*). `reduce` finds labels whose effects are free, and for each other label how its
+//! effect follows from theirs.
 #![tactic(auto)]
 
 mod basis;

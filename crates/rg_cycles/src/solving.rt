@@ -24,13 +24,12 @@ use rg_dictionary::RelationTable;
 use rg_revised::RevisedWalk;
 use std::alloc::{AllocError, Global};
 
-/// Solves the equations that each chord has the value 0, over the effects of so many labels. A chord has
-/// one entry for each label, which is not `i128::MIN`. The distinct chords that aren't 0 are taken in
-/// order; each whose relation names a label is exchanged with the least such label. Labels that are left
-/// over are free.
+/// Solves the equations that each chord has the value 0, over the effects of `labels` labels. A chord has one entry
+/// for each label, which is not `i128::MIN`. The distinct chords that aren't 0 are taken in order; each whose
+/// relation names a label is exchanged with the least such label. Labels that are left over are free.
 ///
-/// `Stop::Wide` comes exactly where a term on this walk is out of range, with the first such term.
-/// `Stop::NoMemory` where there is no memory.
+/// Returns `Stop::Wide` exactly if a term on this walk is out of range, with the first such term, and
+/// `Stop::NoMemory` if memory runs out.
 pub fn reduce<N: ChordEntry>(alloc: Global, labels: u32, chords: &[Vec<N>]) -> Result<Basis, Stop>
     requires labels { labels ≤ most_labels }
     requires chords { length chords.now ≤ most_arcs }

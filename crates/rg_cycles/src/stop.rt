@@ -5,9 +5,9 @@ ghost use Rattle.rg_cycles.specs.declared.stop.Stop.TheVariants as stop;
 use rg_integers::Wide;
 use std::alloc::AllocError;
 
-/// The first term out of range on the walk over the chords. It stands at the free set `members`, in the
-/// exchange of the row `pivot` with the member `leaves`, in the new relation of `target`, as term number
-/// `entry`, counted from 0. Variables are the labels and, after them, the distinct chords that aren't 0.
+/// The first term out of range on the walk over the chords. It occurs at the free set `members`, in the exchange of
+/// the row `pivot` with the member `leaves`, in the new relation of `target`, as term number `entry`, counted from 0.
+/// Variables are the labels and, after them, the distinct chords that aren't 0.
 #[derive(PartialEq, Debug, Drop)]
 pub struct CycleWide {
     pub members: Vec<u32>,
@@ -23,7 +23,7 @@ pub struct CycleWide {
 pub enum Stop {
     /// A term of the walk is out of range.
     Wide(CycleWide),
-    /// There is no memory left.
+    /// Memory ran out.
     NoMemory,
 }
 

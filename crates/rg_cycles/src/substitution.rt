@@ -19,14 +19,13 @@ pub struct FreeRow {
     pub coeffs: Vec<Fraction>,
 }
 
-/// The sum of the effects of all labels, each times its count, over the free labels: where the cycle
-/// equations hold, it is the sum of the effects of the free labels, each times its coefficient. There is
-/// one count for each label.
+/// Returns the sum of the effects of all labels, each times its count, over the free labels: if the cycle equations
+/// hold, it is the sum of the effects of the free labels, each times its coefficient. There is one count for each
+/// label.
 ///
-/// The coefficient of a free label is its own count, to which each label that isn't free, in order, adds
-/// its count times the quotient of its number and its `d`. `FoldStop::Wide` comes exactly where a step of
-/// this, label by label, is out of range, with the first such step; `FoldStop::NoMemory` where there is
-/// no memory.
+/// The coefficient of a free label is its own count, to which each label that isn't free, in order, adds its count
+/// times the quotient of its number and its `d`. Returns `FoldStop::Wide` exactly if a step of this, label by label,
+/// is out of range, with the first such step, and `FoldStop::NoMemory` if memory runs out.
 pub fn substitute(alloc: Global, basis: &Basis, counts: &[i128]) -> Result<FreeRow, FoldStop>
     requires counts { length counts.now ≡ labels_of basis.now }
     requires in_range { (t : ℕ) → t < length counts.now → InRange (number_at counts.now t) }

@@ -43,8 +43,8 @@ impl Model for RelationTable {
 }
 
 impl RelationTable {
-    /// The dictionary of so many columns without a row. It takes the memory for so many rows, and no
-    /// later call but `restart` takes any. `AllocError` where there is none.
+    /// Returns the dictionary of `columns` columns without a row. It takes the memory for `rows` rows, and no later
+    /// call but `restart` takes any. Returns `AllocError` if memory runs out.
     pub fn with_columns(alloc: Global, columns: u32, rows: u32) -> Result<RelationTable, AllocError>
         requires { columns + rows < 2 ^ 32 }
         ensures system { IfOk result (IsDictionary (columns_alone columns)) }
@@ -69,9 +69,9 @@ impl RelationTable {
         })
     }
 
-    /// Takes all rows away, so that it is the dictionary of its columns alone. It has room for as many rows as it had,
-    /// or for so many where that is more. It takes memory only in this case, and no later call but
-    /// `restart` takes any. `AllocError` where there is none; then it is as before.
+    /// Removes all rows, so that it is the dictionary of its columns alone. It has room for as many rows as before,
+    /// or for `rows` if that is more. It takes memory only in that case, and no later call but `restart` takes any.
+    /// Returns `AllocError` if memory runs out; then it is as before.
     pub fn restart(&mut self, rows: u32) -> Result<(), AllocError>
         requires { self.old.columns + rows < 2 ^ 32 }
         ensures system { OnOk result (IsDictionary (columns_alone self.old.columns) self.new) }

@@ -16,10 +16,12 @@ use rg_theory::Class;
 use std::alloc::Global;
 use std::thread::Threads;
 
-/// A net of the class for a system that has these factors: the nets of all factors side by side. The factors are taken in order, and the first
-/// one whose answer is no net decides: then no net of the class solves the system, or a number of the work on that factor is out of range.
+/// Returns a net of the class for a system that has these factors: the nets of all factors side by side. The factors
+/// are taken in order, and the first one whose answer is no net decides: then no net of the class solves the system,
+/// or a number of the work on that factor is out of range.
 ///
-/// Each answer of a factor is the one answer for it and the class, for any number of jobs and any gate. `NoMemory` where there is none.
+/// Each answer of a factor is the one answer for it and the class, for any number of jobs and any gate. Returns
+/// `NoMemory` if memory runs out.
 pub fn synthesize_factors<R: Threads + Sync, G: Gate + Sync>(
     rt: &R,
     alloc: Global,

@@ -71,7 +71,7 @@ names_of names = map string_bytes names
 abbrev pub triple_of : NamedArc → Triple
 triple_of a = triple (string_bytes a.from) (string_bytes a.label) (string_bytes a.to)
 
--- the lists f 0, f 1, and so on to f (n - 1), one behind the other
+-- the lists f 0, f 1, and so on to f (n - 1), one after the other
 abbrev pub each_below : {X : Type 0} → ℕ → (ℕ → List X) → List X
 each_below n f = flat_map f (range_with_len 0 n)
 

@@ -47,8 +47,8 @@ pub fn is_family_number(kind: Kind, n: u32) -> bool
     1 <= n && n <= greatest(kind)
 }
 
-/// The system of the family that this number gives, as `is_family_number` says that there is one. `NoMemory` where there is no
-/// memory for it, and for no other reason.
+/// Returns the system of the family for a number for which `is_family_number` holds. Returns `NoMemory` if memory
+/// runs out, and for no other reason.
 pub fn generate(alloc: Global, kind: Kind, n: u32) -> Result<Lts, NoMemory>
     requires { IsFamilyNumber kind n }
     ensures { IfOk result (IsOfFamily kind n) }

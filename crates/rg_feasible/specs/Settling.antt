@@ -11,7 +11,7 @@ use Rattle.rg_feasible.specs.declared.settled.Settled.TheVariants.{Point, Refute
 use Rattle.rg_feasible.specs.declared.settled.PivotWide.{PivotWide}
 use Rattle.rg_feasible.specs.View.{DescentState}
 
--- the system with these rows behind its own
+-- the system with these rows after its own
 abbrev pub with_rows : LinearSystem → List LinearRow → LinearSystem
 with_rows system rows = record { columns = system.columns; rows = system.rows ++ rows }
 

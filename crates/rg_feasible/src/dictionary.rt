@@ -43,8 +43,8 @@ impl Model for Dictionary {
 }
 
 impl Dictionary {
-    /// The dictionary of the system over its columns. It takes all memory that the descent needs.
-    /// `NoMemory` where there is none.
+    /// Returns the dictionary of the system over its columns. It takes all memory that the descent needs. Returns
+    /// `NoMemory` if memory runs out.
     pub fn new(alloc: Global, system: &System) -> Result<Dictionary, NoMemory>
         ensures dictionary { IfOk result (IsDictionaryOf system.now) }
         ensures fresh { IfOk result IsFresh }
@@ -55,9 +55,9 @@ impl Dictionary {
         Ok(dictionary)
     }
 
-    /// Makes it the dictionary of the system with these rows behind its own, over its columns, as `new` does. It takes
-    /// memory only where it never had so many rows, or has another number of columns. `NoMemory` where there is
-    /// none; then it is as before.
+    /// Makes it the dictionary of the system with the rows `further` after its own, over its columns, as `new` does.
+    /// It takes memory only if it never had so many rows, or has another number of columns. Returns `NoMemory` if
+    /// memory runs out; then it is as before.
     pub fn renew(&mut self, alloc: Global, system: &System, further: &[Row]) -> Result<(), NoMemory>
         requires { IsWellFormed (with_rows system.now (map linear_row further.now)) }
         ensures dictionary { OnOk result (IsDictionaryOf (with_rows system.now (map linear_row further.now)) self.new) }
@@ -92,13 +92,13 @@ impl Dictionary {
     }
 
     /// Makes the descent, once. Rows are taken in order. One that fails is exchanged with the least variable of the
-    /// set that its relation names and that isn't fixed; it is fixed, and the rows before it are taken again from
-    /// the first one, before the rows behind it are taken. It takes no memory.
+    /// set that its relation names and that isn't fixed; it is fixed, and the rows before it are taken again from the
+    /// first one, before the rows after it are taken. It takes no memory.
     ///
-    /// `Settled::Point` comes exactly where this ends behind the last row, `Settled::Refuted` exactly where it
-    /// reaches a row that fails and names fixed variables alone, and `Settled::Wide` exactly where it reaches an
-    /// exchange with a term out of range, with the first such term. A system has one outcome. On at most 5 columns with
-    /// numbers below `2^(2^(6 - columns) - 1)` in absolute value it is never `Wide`.
+    /// Returns `Settled::Point` exactly if this ends after the last row, `Settled::Refuted` exactly if it reaches a
+    /// row that fails and names fixed variables alone, and `Settled::Wide` exactly if it reaches an exchange with a
+    /// term out of range, with the first such term. A system has one outcome. On at most 5 columns with numbers below
+    /// `2^(2^(6 - columns) - 1)` in absolute value it is never `Wide`.
     pub fn settle(&mut self) -> Settled
         requires fresh { IsFresh self.old }
         ensures outcome { (system : LinearSystem) → IsDictionaryOf system self.old → IsOutcome system self.new.table.members result }
@@ -177,7 +177,7 @@ fn without_rows(alloc: Global, columns: u32, rows: u32) -> Result<Dictionary, Al
     })
 }
 
-// Adds rows behind those of the table, which is over its columns.
+// Adds rows after those of the table, which is over its columns.
 fn add_rows(table: &mut RelationTable, rows: &[Row])
     requires start { table.old.members ≡ numbers_from 0 table.old.columns }
     requires room { length rows.now ≤ table.old.room }

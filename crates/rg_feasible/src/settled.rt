@@ -2,9 +2,9 @@
 
 use rg_integers::Wide;
 
-/// The first term out of range. It stands in the exchange of the row variable `pivot` with the member
-/// `leaves`, in the new relation of the variable `target`, as term number `entry`, counted from 0. Variables
-/// are columns and rows, numbered columns first.
+/// The first term out of range. It occurs in the exchange of the row variable `pivot` with the member `leaves`, in
+/// the new relation of the variable `target`, as term number `entry`, counted from 0. Variables are columns and rows,
+/// numbered columns first.
 #[derive(Clone, Copy, PartialEq, Eq, Debug)]
 pub struct PivotWide {
     pub pivot: u32,

@@ -9,8 +9,8 @@ use rg_lts::{BuildFault, Lts, LtsBuilder};
 use rg_theory::Arc;
 use std::alloc::{AllocError, Global};
 
-/// The system with states and labels of these names, these arcs and this initial state, by numbers. Arcs may stand in any order and more
-/// than once. `AllocError` where there is no memory left.
+/// Returns the system with states and labels of these names, these arcs and this initial state, by numbers. Arcs may
+/// be in any order and may be repeated. Returns `AllocError` if memory runs out.
 pub fn build(
     alloc: Global,
     states: &[&str],

@@ -22,7 +22,8 @@ pub fn cut_line(text: &[u8]) -> (&[u8], Option<&[u8]>)
     }
 }
 
-/// The words of a line, in order: what stands between its blank bytes, but for empty parts. `AllocError` where there is no memory for the list.
+/// Returns the words of a line, in order: what is between its blank bytes, but for empty parts. Returns `AllocError`
+/// if memory runs out.
 pub fn words<'a>(alloc: Global, line: &'a [u8]) -> Result<Vec<&'a [u8]>, AllocError>
     ensures { IfOk result (λ v. map (λ w. w.now) v.items ≡ words line.entry.now) }
 {

@@ -18,7 +18,8 @@ pub fn as_name(name: &[u8]) -> &str
     str::from_utf8(name).unwrap()
 }
 
-/// Adds a state of this name where there is none, and answers its number. `TooManyStates` where there are 4,096 others, else `NoMemory`.
+/// Adds a state of this name if there is none, and returns its number. Returns `TooManyStates` if there are 4,096
+/// others, and `NoMemory` if memory runs out.
 pub fn add_state(builder: &mut LtsBuilder, name: &str) -> Result<u32, BuildFault>
     requires { IsName name.now }
     ensures ok { OnOk result (builder.new ≡ with_state builder.old name.now) }
@@ -39,7 +40,8 @@ pub fn add_state(builder: &mut LtsBuilder, name: &str) -> Result<u32, BuildFault
     }
 }
 
-/// Adds a label of this name where there is none, and answers its number. `TooManyLabels` where there are 256 others, else `NoMemory`.
+/// Adds a label of this name if there is none, and returns its number. Returns `TooManyLabels` if there are 256
+/// others, and `NoMemory` if memory runs out.
 pub fn add_label(builder: &mut LtsBuilder, name: &str) -> Result<u32, BuildFault>
     requires { IsName name.now }
     ensures ok { OnOk result (builder.new ≡ with_label builder.old name.now) }

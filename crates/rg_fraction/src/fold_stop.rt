@@ -11,7 +11,7 @@ use std::alloc::{AllocError, AllocFailed};
 pub enum FoldStop {
     /// A step is out of range: the four numbers of the first such one.
     Wide(Wide),
-    /// There is no memory left.
+    /// Memory ran out.
     NoMemory,
 }
 

@@ -31,7 +31,7 @@ heading bytes = before_first opens (numbered bytes)
 abbrev pub body : List ℕ → List Line
 body bytes = before_first closes (after_first opens (numbered bytes))
 
--- `.end` stands behind `.state graph`
+-- `.end` stands after `.state graph`
 abbrev pub is_closed : List ℕ → Bool
 is_closed bytes = list_any closes (after_first opens (numbered bytes))
 

@@ -9,8 +9,8 @@ use std::alloc::{AllocError, AllocFailed};
 /// The first fault of a text that is no state graph. Lines are numbered from 1.
 #[derive(Clone, Copy, Debug, PartialEq, Eq)]
 pub enum GraphFault {
-    /// This line can't stand here: before `.state graph`, no line without a word and none whose first word begins with `.`;
-    /// after it, no arc of three names, no `.marking {NAME}`, a second one, or no `.end`.
+    /// The line has another form than is expected. Before `.state graph`, a line is empty or its first word begins
+    /// with `.`; after it, a line is an arc of three names, one `.marking {NAME}`, or `.end`.
     Expected(u32),
     /// There is no `.marking`.
     NoMarking,
@@ -26,7 +26,7 @@ pub enum GraphFault {
     TooManyArcs(u32),
     /// A name in this line, which is right otherwise, has more than 255 bytes.
     LongName(u32),
-    /// There is no memory left.
+    /// Memory ran out.
     NoMemory,
 }
 
@@ -53,7 +53,7 @@ pub enum GraphLoss {
     Label(u32),
     /// No label is lost, there are two states or more, and this is the first one on no arc.
     State(u32),
-    /// There is no memory left.
+    /// Memory ran out.
     NoMemory,
 }
 

@@ -9,7 +9,7 @@ ghost use Rattle.rg_genet.specs.View.{form_in, HoldsNames};
 use rg_text::{is_name_byte, len_before};
 use std::alloc::{AllocError, Global};
 
-// What a line behind `.state graph` says.
+// What a line after `.state graph` says.
 #[derive(Clone, Copy)]
 pub(crate) enum Form<'a> {
     Blank,

@@ -27,7 +27,7 @@ struct Rest<'a> {
     number: u32,
 }
 
-// What the lines behind `.state graph` declare.
+// What the lines after `.state graph` declare.
 #[derive(Drop)]
 struct Graph {
     builder: LtsBuilder,

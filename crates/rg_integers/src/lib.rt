@@ -1,6 +1,6 @@
-//! Integer arithmetic that the crates above share: the range of numbers, terms out of range, greatest common divisors,
-//! rational values as two whole numbers, and finite sums. The definitions stand in `specs/`, the
-//! lemmas in `proofs/`; the functions in this file are laws, and do nothing.
+//! Integer arithmetic that the crates above share: the range of numbers, terms out of range, greatest common
+//! divisors, rational values as two whole numbers, and finite sums. The definitions are in `specs/`, the lemmas in
+//! `proofs/`; the functions in this file are laws, and do nothing.
 #![tactic(auto)]
 
 mod term;
@@ -16,8 +16,8 @@ pub use term::{Wide, difference, negated, product, value};
 /// The greatest number in range, `2^127 - 1`.
 pub const GREATEST: i128 = i128::MAX;
 
-/// What Euclid's steps give is the greatest common divisor: it divides both numbers, each number
-/// that divides both divides it, and no other number does so.
+/// Law: Euclid's steps give the greatest common divisor. It divides both numbers, each number that divides both
+/// divides it, and no other number does so.
 pub fn gcd_is_greatest()
     ensures greatest { (a b : ℕ) → IsGcd a b (gcd_of a b) }
     ensures only { (a b g : ℕ) → IsGcd a b g → g ≡ gcd_of a b }

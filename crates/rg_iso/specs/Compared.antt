@@ -31,7 +31,7 @@ abbrev pub HasLabelsOf : System → System → Type 0
 HasLabelsOf a b = (name : List ℕ) → Contains a.label_names name → Contains b.label_names name
 
 -- what may be told: the state of the second system for each of the first; the number of the file, 1 or 2, that alone has its label;
--- or the first difference behind a word
+-- or the first difference after a word
 pub data Told : Type 0 where
   map : List ℕ → Told
   label : ℕ → ℕ → Told

@@ -27,7 +27,7 @@ read_on g position found (x ∷ xs) = option_and_then (λ next. read_on g next (
 abbrev pub Finds : {P D F : Type 0} → Grammar P D F → List Lexeme → D → Type 0
 Finds {P} g xs found = (position : P) × (g.may_end position ≡ true) × (read_on g g.start g.nothing xs ≡ Some (position, found))
 
--- the rest begins with a token that may not stand at the position, or the text may not end there
+-- the rest begins with a token that isn't allowed at the position, or the text may not end there
 abbrev pub IsRefused : {P D F : Type 0} → Grammar P D F → P → List Lexeme → ℕ → F → Type 0
 IsRefused g position [] end fault = (g.may_end position ≡ false) × (fault ≡ g.ends position end)
 IsRefused g position (x ∷ rest) end fault = (g.leads position x ≡ None) × (fault ≡ g.refuses position x)

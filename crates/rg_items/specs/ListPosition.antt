@@ -7,7 +7,7 @@ use Rattle.rg_lexer.specs.declared.token.Want.{Want}
 use Rattle.rg_lexer.specs.declared.token.Want.TheVariants as want
 use Rattle.rg_items.specs.Entry.{Setting, alone, valued}
 
--- where a token stands in an option list; a key that a position holds came before it
+-- the position of a token in an option list; a key that a position holds came before it
 pub data ListPosition : Type 0 where
   first_key : ListPosition  -- after `[`
   next_key : ListPosition  -- after `,`

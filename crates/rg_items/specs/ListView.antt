@@ -10,7 +10,7 @@ use Rattle.rg_items.specs.declared.list_position.FoundSetting.{FoundSetting}
 use Rattle.rg_items.specs.declared.list_position.FoundSetting.TheVariants.{Alone, Valued}
 use Rattle.rg_items.specs.ListPosition as table
 
--- a position, with its tokens as they stand in the text
+-- a position, with the bytes that its tokens have in the text
 abbrev pub list_position_in : List ℕ → ListPosition → table.ListPosition
 list_position_in bytes FirstKey = table.first_key
 list_position_in bytes NextKey = table.next_key

@@ -1,5 +1,5 @@
 //! What the texts of systems and nets share: names, options, entries, lists of things, grammars as tables of
-//! positions, and the loop that reads a text by such a grammar, or tells its first fault.
+//! positions, and the loop that reads a text by such a grammar, or returns its first fault.
 #![tactic(auto)]
 
 mod fault;

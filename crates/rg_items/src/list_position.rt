@@ -1,4 +1,4 @@
-//! Where a token stands in an option list, where it leads, and which option it completes.
+//! Positions of tokens in an option list, the position that follows each token, and the option that it completes.
 ghost use Rattle.std.specs.Prelude.{◌≡◌, ℕ, List, option_map, IfSome};
 ghost use Rattle.rg_lexer.specs.Lexeme.{lexeme};
 ghost use Rattle.rg_lexer.specs.Tokens.{IsTokenOf};
@@ -9,8 +9,8 @@ ghost use Rattle.rg_items.specs.ListView.{list_position_in, list_step_in, settin
 
 use rg_lexer::{Kind, Token, Want};
 
-/// Where a token stands in an option list: `[`, options separated by commas, `]`. A key that a position holds
-/// came before it and still counts.
+/// The position of a token in an option list: `[`, options separated by commas, `]`. A key that a position holds came
+/// before it and still counts.
 #[derive(Clone, Copy, Debug, PartialEq, Eq)]
 pub enum ListPosition {
     /// After `[`.
@@ -25,7 +25,7 @@ pub enum ListPosition {
     AfterValue,
 }
 
-/// Where a token leads that may stand in an option list.
+/// The position that follows a token that is allowed in an option list.
 #[derive(Clone, Copy, Debug, PartialEq, Eq)]
 pub enum ListStep {
     /// To another position of the list.
@@ -112,7 +112,7 @@ fn from_value(token: Token) -> Option<ListStep>
     }
 }
 
-/// Where a token leads from a position of an option list, if it may stand there.
+/// Returns the position after a token of an option list, or None if the token isn't allowed.
 pub fn list_lead(position: ListPosition, token: Token) -> Option<ListStep>
     ensures leads { (bytes : List ℕ) → option_map (list_step_in bytes) result ≡ list_leads (list_position_in bytes position) (lexeme bytes token) }
     ensures holds { (bytes : List ℕ) → IsTokenOf bytes token → HoldsKey bytes position → IfSome result (StepHoldsKey bytes) }

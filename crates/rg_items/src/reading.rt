@@ -14,7 +14,7 @@ use std::alloc::Global;
 
 /// What is found of a text, token by token, by the rules of a grammar.
 pub trait Reader {
-    /// Where a token stands. The tokens in it came before and still count.
+    /// The position of a token. The tokens that it holds came before it and still count.
     type Position: Copy;
 
     /// The positions of the grammar.
@@ -26,10 +26,10 @@ pub trait Reader {
     /// The grammar.
     ghost grammar: { Grammar GrammarPosition Content ItemFault };
 
-    /// A position, with its tokens as they stand in the text.
+    /// A position, with the bytes that its tokens have in the text.
     ghost grammar_position_in: { List ℕ → Self.Position → GrammarPosition };
 
-    /// What is found, with its tokens as they stand in the text.
+    /// What is found, with the bytes that its tokens have in the text.
     ghost content_in: { List ℕ → Self → Content };
 
     /// The tokens that a position holds are of the text.
@@ -43,19 +43,19 @@ pub trait Reader {
         ensures found { (bytes : List ℕ) → content_in bytes result ≡ grammar.nothing }
         ensures names { (bytes : List ℕ) → holds_names bytes result };
 
-    /// Where the first token stands.
+    /// Returns the position of the first token.
     fn start() -> Self::Position
         ensures position { (bytes : List ℕ) → grammar_position_in bytes result ≡ grammar.start }
         ensures holds { (bytes : List ℕ) → holds_tokens bytes result };
 
-    /// Where a token of the text leads from a position, if it may stand there.
+    /// Returns the position after a token of the text, or None if the token isn't allowed.
     fn lead(bytes: &[u8], position: Self::Position, token: Token) -> Option<Self::Position>
         requires token { IsTokenOf bytes.now token }
         requires held { holds_tokens bytes.now position }
         ensures leads { option_map (grammar_position_in bytes.now) result ≡ grammar.leads (grammar_position_in bytes.now position) (lexeme bytes.now token) }
         ensures holds { IfSome result (holds_tokens bytes.now) };
 
-    /// Adds what is found with a token that stands at a position.
+    /// Adds what is found with a token at a position.
     fn add(
         &mut self,
         alloc: Global,
@@ -73,7 +73,7 @@ pub trait Reader {
     fn may_end(position: Self::Position) -> bool
         ensures { (bytes : List ℕ) → result ≡ grammar.may_end (grammar_position_in bytes position) };
 
-    /// The fault of a token that may not stand at a position.
+    /// Returns the fault of a token that isn't allowed at a position.
     fn refusal(position: Self::Position, token: Token) -> ItemFault
         ensures { (bytes : List ℕ) → result ≡ grammar.refuses (grammar_position_in bytes position) (lexeme bytes token) };
 

@@ -53,7 +53,7 @@ struct Met {
     marking: Vec<u128>,
 }
 
-/// The verdict on the net, by single firings; None where there is no memory left.
+/// The verdict on the net, by single firings; None if memory runs out.
 pub(crate) fn second_verdict(alloc: Global, lts: &Lts, net: &Net, class: Class) -> Option<Told> {
     match judge(alloc, lts, net, class) {
         Ok(()) => Some(Told::Verdict(NetVerdict::Yes)),
@@ -220,7 +220,7 @@ fn same(lts: &Lts, met: &[Met]) -> Result<(), Ended> {
     Ok(())
 }
 
-// Ends at the first state behind this one with its marking.
+// Ends at the first state after this one with its marking.
 fn same_as(lts: &Lts, met: &[Met], s: u32) -> Result<(), Ended>
     requires { s < 4294967295 }
 {

@@ -33,8 +33,8 @@ pub enum Kind {
     Arrow,
 }
 
-/// A token, and where its bytes stand in the text: from the byte `from` up to the byte before `to`,
-/// both counted from 0. The quotes of a `Text` and the `.` of a `Word` belong to it.
+/// A token, and the range of its bytes in the text: from the byte `from` up to the byte before `to`, both counted
+/// from 0. The quotes of a `Text` and the `.` of a `Word` belong to it.
 #[derive(Clone, Copy, Debug, PartialEq, Eq)]
 pub struct Token {
     pub kind: Kind,
@@ -42,7 +42,7 @@ pub struct Token {
     pub to: u32,
 }
 
-/// What a grammar of systems or nets wants where another token stands, or where the text ends.
+/// What a grammar of systems or nets expects at another token, or at the end of the text.
 #[derive(Clone, Copy, Debug, PartialEq, Eq)]
 pub enum Want {
     /// A word that begins an item.

@@ -12,7 +12,7 @@ abbrev pub limit : LinearSystem → List ℕ → ℕ
 limit system [] = length system.rows
 limit system (s ∷ stack) = s
 
--- what is left to do at row i leads to the outcome: a point below resumes the row behind the last fixed one
+-- what is left to do at row i leads to the outcome: a point below resumes the row after the last fixed one
 pub data Resumes (system : LinearSystem) : List ℕ → List ℕ → ℕ → Outcome → Type 0 where
   last : {members : List ℕ} {i : ℕ} {o : Outcome} → DescentFrom system members [] (length system.rows) i o → Resumes system [] members i o
   returns : {s : ℕ} {stack members : List ℕ} {i : ℕ} {o : Outcome} (after : List ℕ) → DescentFrom system members (fixed_of system (s ∷ stack)) s i (point after)
@@ -20,7 +20,7 @@ pub data Resumes (system : LinearSystem) : List ℕ → List ℕ → ℕ → Out
   ends : {s : ℕ} {stack members : List ℕ} {i : ℕ} {o : Outcome} → DescentFrom system members (fixed_of system (s ∷ stack)) s i o
       → IsStop o → Resumes system (s ∷ stack) members i o
 
--- a number that falls with each step: of the rows that are left in each frame, where the frame below resumes behind its fixed row
+-- a number that falls with each step: of the rows that are left in each frame, where the frame below resumes after its fixed row
 abbrev pub work_left : ℕ → List ℕ → ℕ → ℕ
 work_left rows [] i = 3 ^ rows - 3 ^ i
 work_left rows (s ∷ stack) i = (3 ^ s - 3 ^ i) + suc (work_left rows stack (suc s))

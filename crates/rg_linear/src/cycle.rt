@@ -1,13 +1,13 @@
-//! The outcome of the walk over the rows of a system without constants, and the basis that it gives for
-//! vectors. Its columns are the labels of a transition system, its rows the Parikh vectors of cycles
-//! (Badouel, Bernardinello and Darondeau, *Petri Net Synthesis*).
+//! The outcome of the walk over the rows of a system without constants, and the basis that it gives for vectors. Its
+//! columns are the labels of a transition system, its rows the Parikh vectors of cycles (Badouel, Bernardinello and
+//! Darondeau, *Petri Net Synthesis*).
 
 ghost use Rattle.std.specs.Prelude.{◌≡◌, ◌↔◌, ℕ, List, ℤ};
 ghost use Rattle.rg_linear.specs.System.{LinearSystem, IsPoint};
 ghost use Rattle.rg_linear.specs.Cycle.{IsHomogeneous, CycleOutcome, CycleWalkFrom, CycleWalk, RowsAreZero, FollowsRelations, KeepsVectors, CycleBasis, IsCycleBasis};
 
-/// The walk over the rows has one outcome, and one for every system. With its set, all rows are 0
-/// exactly where the columns outside the set have the values that their relations give.
+/// Law: the walk over the rows has exactly one outcome for every system. With its set, all rows are 0 exactly if the
+/// columns outside the set have the values that their relations give.
 pub fn cycle_is_exact()
     ensures one { (system : LinearSystem) (members : List ℕ) (i : ℕ) (o o' : CycleOutcome) → CycleWalkFrom system members i o → CycleWalkFrom system members i o' → o ≡ o' }
     ensures some { (system : LinearSystem) → (o : CycleOutcome) × CycleWalk system o }

@@ -47,8 +47,8 @@ pub fn zero_is_a_point()
     ensures value { (system : LinearSystem) (members : List ℕ) (w : ℕ) (k : Relation) → DictionaryRow system members w k → (scale : ℤ) (v : ℕ → ℤ) → IsPoint system scale v → IsAtZero members v → k.d *ℤ v w ≡ k.constant *ℤ scale }
 {}
 
-/// An exchange gives a free set. The new relations are the numbers that the terms are worth, without
-/// their common factor; that of the member that leaves has none to begin with.
+/// Law: an exchange gives a free set. The new relations are the values of the terms, without their common factor;
+/// that of the member that leaves has none to begin with.
 pub fn exchange_is_exact()
     ensures set { (system : LinearSystem) (members : List ℕ) (i j : ℕ) (k : Relation) → DictionaryRow system members i k → Contains members j → k.coefficient j ≢ pos 0 → IsFree system (exchanged members i j) }
     ensures leaves { (system : LinearSystem) (members : List ℕ) (i j : ℕ) (k : Relation) → DictionaryRow system members i k → Contains members j → k.coefficient j ≢ pos 0 → DictionaryRow system (exchanged members i j) j (turned k i j) }

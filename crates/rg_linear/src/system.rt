@@ -10,7 +10,7 @@ use std::marker::Model;
 use std::sync::ArcSlice;
 
 impl Row {
-    /// The row of these coefficients and this constant. `AllocError` where there is no memory.
+    /// The row of these coefficients and this constant. Returns `AllocError` if memory runs out.
     pub fn new(coeffs: Vec<i128>, constant: i128) -> Result<Row, AllocError>
         ensures { IfOk result (λ row. linear_row row ≡ record { coeffs = coeffs.items; constant = constant }) }
     {

@@ -102,7 +102,7 @@ impl LtsBuilder {
         Ok(t as u32)
     }
 
-    /// The state with the name; None where there is none.
+    /// Returns the state with the name, or None if there is none.
     pub fn state_number(&self, name: &str) -> Option<u32>
         ensures within { IfSome result (λ s. s < length self.now.state_names) }
         ensures found { IfSome result (λ s. slice_get self.now.state_names s ≡ Some name.now) }
@@ -111,7 +111,7 @@ impl LtsBuilder {
         names::number_of(&self.state_names, name)
     }
 
-    /// The label with the name; None where there is none.
+    /// Returns the label with the name, or None if there is none.
     pub fn label_number(&self, name: &str) -> Option<u32>
         ensures within { IfSome result (λ t. t < length self.now.label_names) }
         ensures found { IfSome result (λ t. slice_get self.now.label_names t ≡ Some name.now) }
@@ -120,9 +120,9 @@ impl LtsBuilder {
         names::number_of(&self.label_names, name)
     }
 
-    /// Adds the arc between two states that are there. An arc that is there already changes nothing.
-    /// The first of the three names that isn't there is told, as `UnknownState` or `UnknownLabel`;
-    /// `TooManyArcs` where the arc is new and there are 262,144 arcs.
+    /// Adds the arc between two states that were added before. An arc that is there already changes nothing. Returns
+    /// `UnknownState` or `UnknownLabel` for the first of the three names that wasn't added, and `TooManyArcs` if the
+    /// arc is new and there are 262,144 arcs.
     pub fn arc(&mut self, from: &str, label: &str, to: &str) -> Result<(), BuildFault>
         ensures ok { OnOk result ((a : Arc) × IsArcNamed self.old from.now label.now to.now a × AddsArc self.old self.new a) }
         ensures unknown_state { IsErrOf result fault.UnknownState ↔ LacksState self.old from.now label.now to.now }

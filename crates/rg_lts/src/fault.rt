@@ -25,7 +25,7 @@ pub enum BuildFault {
     TooManyLabels,
     /// There are 262,144 arcs.
     TooManyArcs,
-    /// There is no memory left.
+    /// Memory ran out.
     NoMemory,
 }
 

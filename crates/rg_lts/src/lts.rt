@@ -50,8 +50,8 @@ impl Lts {
         }
     }
 
-    /// Law: what a system in memory keeps to, so that its numbers are in range, its names differ, its arcs stand in
-    /// order and no limit is passed.
+    /// Law: a system in memory is well formed. Its numbers are in range, its names differ, its arcs are in order, and
+    /// it is within all limits.
     pub fn is_well_formed(&self)
         ensures { IsWellFormed self.now }
     {
@@ -118,7 +118,7 @@ impl Lts {
         names::name_at(&self.label_names, t)
     }
 
-    /// The state with the name; None where there is none.
+    /// Returns the state with the name, or None if there is none.
     pub fn state_number(&self, name: &str) -> Option<u32>
         ensures within { IfSome result (λ s. s < states self.now) }
         ensures found { IfSome result (λ s. slice_get self.now.state_names s ≡ Some name.now) }
@@ -127,7 +127,7 @@ impl Lts {
         names::number_of(&self.state_names, name)
     }
 
-    /// The label with the name; None where there is none.
+    /// Returns the label with the name, or None if there is none.
     pub fn label_number(&self, name: &str) -> Option<u32>
         ensures within { IfSome result (λ t. t < labels self.now) }
         ensures found { IfSome result (λ t. slice_get self.now.label_names t ≡ Some name.now) }

@@ -6,7 +6,7 @@ use Rattle.rg_marks.specs.Stops.{rows_in, MarksStops}
 use Rattle.rg_marks.specs.Blocks.{AreBlocks}
 use Rattle.rg_marks.specs.declared.separated.Separated.{Separated}
 
--- the labels that the places stop, and the states that they don't tell apart
+-- the labels that the places stop, and the states that they don't distinguish
 pub record SeparateSoMuch (lts : System) (places : List Place) (separated : Separated) : Type 0 where
   pub stops : MarksStops lts places (rows_in separated.stops.items)
   pub blocks : AreBlocks lts places separated.blocks.items

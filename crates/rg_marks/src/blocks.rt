@@ -1,4 +1,4 @@
-//! Blocks of states that places don't tell apart.
+//! Blocks of states that places don't distinguish.
 ghost use Rattle.std.specs.Prelude.{◌≡◌, ◌≢◌, ℕ, ◌<◌, length, IsTrue, IfOk, IfSome, IfNone, slice_index};
 ghost use Rattle.rg_marks.specs.Blocks.{AreRefined};
 

@@ -1,7 +1,9 @@
-//! What places of a system separate, as marks and numbers: whether one of them separates a problem is one look, however many they are.
+//! What places of a system separate, as marks and numbers: one look finds whether one of them separates a problem,
+//! however many they are.
 //!
-//! A place that is a region stops a label at the states where it has fewer tokens than the label takes, and tells two states apart
-//! where it has different numbers of tokens (Badouel, Bernardinello and Darondeau, *Petri Net Synthesis*).
+//! A place that is a region stops a label at the states at which it has fewer tokens than the label takes, and
+//! distinguishes two states if it has different numbers of tokens at them (Badouel, Bernardinello and Darondeau,
+//! *Petri Net Synthesis*).
 #![tactic(auto)]
 
 mod blocks;

@@ -20,12 +20,12 @@ use std::alloc::{AllocError, Global};
 pub struct Separated {
     /// A row for each label, with a mark for each state: whether one of the places stops the label there.
     pub stops: Vec<Vec<bool>>,
-    /// A number for each state. Two states have different ones exactly where one of the places tells them apart.
+    /// A number for each state. Two states have different ones exactly if one of the places distinguishes them.
     pub blocks: Vec<u32>,
 }
 
 impl Separated {
-    /// What no place separates: nothing. `AllocError` where there is no memory.
+    /// What no place separates: nothing. Returns `AllocError` if memory runs out.
     pub fn nothing(alloc: Global, lts: &Lts) -> Result<Separated, AllocError>
         ensures { IfOk result (SeparateSoMuch lts.now []) }
     {
@@ -34,9 +34,10 @@ impl Separated {
         Ok(Separated { stops, blocks })
     }
 
-    /// Adds what one more place separates, given with its tokens: one number for each state. What it is the first to separate, behind
-    /// the places that were added, is given: the blocks as they were, where it changes them, as it does where the place tells two states
-    /// of one block apart. `AllocError` where there is no memory: then nothing is added.
+    /// Adds what one more place separates, given with its tokens, one number for each state. Returns what it is the
+    /// first to separate, after the places that were added before: with the former blocks, if it changes them, that
+    /// is, if the place distinguishes two states of one block. Returns `AllocError` if memory runs out; then nothing
+    /// is added.
     pub fn add(
         &mut self,
         alloc: Global,

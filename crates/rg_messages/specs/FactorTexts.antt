@@ -15,11 +15,11 @@ unreachable_line lts s = no_line lts (Unreachable s)
 abbrev pub fork_line : System → ℕ → ℕ → ℕ → ℕ → List ℕ
 fork_line lts s t s₁ s₂ = no_line lts (Fork s t s₁ s₂)
 
--- each of the names behind a space
+-- each of the names after a space
 abbrev pub names_text : List (List ℕ) → List ℕ
 names_text names = flat_map (λ name. codes " " ++ name) names
 
--- each of the numbers behind a space
+-- each of the numbers after a space
 abbrev pub numbers_text : List ℕ → List ℕ
 numbers_text numbers = flat_map (λ n. codes " " ++ decimal n) numbers
 

@@ -17,8 +17,8 @@ pub fn yes_text(alloc: Global) -> Result<Vec<u8>, AllocError>
     Vec::from_slice(alloc, b"yes\n")
 }
 
-/// The line that tells the first difference of a net from the system or the class. States and labels are told by
-/// their names, and places by their numbers.
+/// Returns the line for the first difference of a net from the system or the class. States and labels have their
+/// names in it, and places their numbers.
 pub fn check_text(alloc: Global, lts: &Lts, found: NetNo) -> Result<Vec<u8>, AllocError>
     requires { HasNames lts.now found }
     ensures { IfOk result (λ text. text.items ≡ no_line lts.now found) }

@@ -47,7 +47,8 @@ pub fn fork_text(
     Ok(text)
 }
 
-/// What is told of two systems: `yes` and a line for each state of the first with its state of the second; or the first difference.
+/// Returns the text of a comparison of two systems: `yes` and a line for each state of the first with its state of
+/// the second, or the first difference.
 pub fn same_text(alloc: Global, a: &Lts, b: &Lts, same: &Same) -> Result<Vec<u8>, AllocError>
     requires { HasToldNames a.now b.now (told_of same.now) }
     ensures { IfOk result (λ text. text.items ≡ told_text a.now b.now (told_of same.now)) }
@@ -60,7 +61,7 @@ pub fn same_text(alloc: Global, a: &Lts, b: &Lts, same: &Same) -> Result<Vec<u8>
     }
 }
 
-/// The states and labels of what is told of two systems are those of the systems, so `same_text` may be called.
+/// Law: the states and labels of a comparison of two systems are those of the systems, so `same_text` may be called.
 pub fn comparison_has_names()
     ensures { (a b : System) (told : Told) → IsInRange a → IsInRange b → Compares a b told → HasToldNames a b told }
 {}

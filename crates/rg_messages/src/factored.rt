@@ -12,7 +12,7 @@ use rg_factor::{Broken, Factor};
 use rg_lts::Lts;
 use std::alloc::{AllocError, Global};
 
-/// The lines that tell that there are fewer than two blocks of labels, with the broken squares that join all labels.
+/// Returns the lines for a system with fewer than two blocks of labels, with the broken squares that join all labels.
 pub fn one_block_text(alloc: Global, lts: &Lts, squares: &[Broken]) -> Result<Vec<u8>, AllocError>
     requires { All (IsBroken lts.now) squares.now }
     ensures { IfOk result (λ text. text.items ≡ one_block_text lts.now squares.now) }
@@ -36,7 +36,7 @@ fn push_broken(text: &mut Vec<u8>, lts: &Lts, b: Broken) -> Result<(), AllocErro
     Ok(())
 }
 
-/// The line that tells how many states each factor would have.
+/// Returns the line with the number of states that each factor would have.
 pub fn sizes_text(alloc: Global, lts: &Lts, sizes: &[u32]) -> Result<Vec<u8>, AllocError>
     ensures { IfOk result (λ text. text.items ≡ sizes_line lts.now sizes.now) }
 {
@@ -49,7 +49,7 @@ pub fn sizes_text(alloc: Global, lts: &Lts, sizes: &[u32]) -> Result<Vec<u8>, Al
     Ok(text)
 }
 
-/// The lines that tell the factors, and for each state its entries.
+/// Returns the lines for the factors, and for each state its entries.
 pub fn factors_text(
     alloc: Global,
     lts: &Lts,

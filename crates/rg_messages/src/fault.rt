@@ -1,4 +1,4 @@
-//! The faults of files, and the lines that tell them.
+//! The faults of files, and their lines.
 ghost use Rattle.std.specs.Prelude.{◌≡◌, ◌++◌, IfOk, OnOk};
 ghost use Rattle.rg_messages.specs.Files.{number_after, fault_text, file_line};
 

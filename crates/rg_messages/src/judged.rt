@@ -36,7 +36,8 @@ pub fn fault_text(alloc: Global, fault: CertFault) -> Result<Vec<u8>, AllocError
     }
 }
 
-/// The line that refuses a certificate of the system for a defect, told with its case and node where it is a node's.
+/// Returns the line that rejects a certificate of the system for a defect, with the case and node if it is the defect
+/// of a node.
 pub fn defect_text(
     alloc: Global,
     lts: &Lts,

@@ -1,4 +1,4 @@
-//! What is told of nets and losses has names.
+//! Laws: what is printed of nets and losses has names.
 ghost use Rattle.std.specs.Prelude.{◌≡◌, ℕ, ◌<◌, Ok};
 ghost use Rattle.rg_theory.specs.System.{System, states, labels, IsInRange};
 ghost use Rattle.rg_theory.specs.Net.{Net};

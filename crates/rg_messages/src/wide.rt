@@ -1,4 +1,4 @@
-//! Numbers that are out of range, and the lines that tell them.
+//! Numbers that are out of range, and their lines.
 ghost use Rattle.std.specs.Prelude.{◌≡◌, ◌++◌, IfOk, OnOk};
 ghost use Rattle.rg_messages.specs.Wides.{stage_words, product_text, term_text, passed_line, wide_line};
 
@@ -16,13 +16,13 @@ pub enum WideCause {
     Synthesis(WideAt),
     /// That of `factor` on the factor of this number.
     Factor(u32, WideAt),
-    /// That of `split` on this system, which has the file's states and arcs with the labels told apart so far.
+    /// That of `split` on this system, which has the file's states and arcs, with the labels that were split so far.
     Split(Lts, WideAt),
     /// That of `check`.
     Check(CheckWide),
 }
 
-/// The line that says where a number is out of range, with the term that gives it.
+/// Returns the line that says where a number is out of range, with the term that gives it.
 pub fn wide_text(alloc: Global, cause: &WideCause) -> Result<Vec<u8>, AllocError>
     ensures { IfOk result (λ text. text.items ≡ wide_line cause.now) }
 {

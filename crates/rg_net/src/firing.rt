@@ -16,7 +16,7 @@ use std::alloc::{AllocError, Global};
 pub enum FireStop {
     /// The first place that would get more than `2^127 - 1` tokens.
     Passes(u32),
-    /// There is no memory left.
+    /// Memory ran out.
     NoMemory,
 }
 

@@ -1,4 +1,4 @@
-//! What the text of a net tells.
+//! What the text of a net says.
 ghost use Rattle.std.specs.Prelude.{◌≡◌, ℕ, ◌≤◌, false, length, List};
 ghost use Rattle.std.specs.List.{list_any};
 ghost use Rattle.rg_theory.specs.Limits.{most_labels};
@@ -7,8 +7,8 @@ ghost use Rattle.rg_theory.specs.Net.{Net};
 ghost use Rattle.rg_net.specs.NetText.{net_text, blocks, place_prefix};
 ghost use Rattle.rg_net.specs.Range.{IsNetInRange};
 
-/// Two nets for one system with the same text are the same net: the text tells a net whole. Each number is in
-/// the range that every `Net` keeps to.
+/// Law: two nets for one system with the same text are the same net. Each number is in the range that every `Net`
+/// keeps to.
 pub fn net_is_told()
     ensures { (lts : System) (a b : Net) → a.labels ≡ labels lts → b.labels ≡ labels lts → IsNetInRange a → IsNetInRange b → net_text a lts ≡ net_text b lts → a ≡ b }
 {}

@@ -38,15 +38,15 @@ impl From<AllocError> for Halt {
     }
 }
 
-/// Whether the net, which has one transition for each label of the system, solves the system and is of the class; if
-/// not, the first difference. The tests run in this order, and the first that fails decides: each state can be
-/// reached; no label leads from a state to two; the arcs of the breadth first tree are enabled, in the order in which
-/// they join; no two states have one marking; at each state the labels with an arc, and no others, are enabled, and
-/// their firings give the markings of the arcs' targets; the class. The marking of a state is the one in which the
-/// labels of its way in the tree end.
+/// Returns whether the net, which has one transition for each label of the system, solves the system and is of the
+/// class; if not, the first difference. The tests run in this order, and the first that fails decides: each state can
+/// be reached; no label leads from a state to two; the arcs of the breadth first tree are enabled, in the order in
+/// which they join; no two states have one marking; at each state the labels with an arc, and no others, are enabled,
+/// and their firings give the markings of the arcs' targets; the class. The marking of a state is the one that the
+/// labels of its way in the tree lead to.
 ///
-/// `Wide` where a firing along the tree leaves more than `2^127 - 1` tokens on a place, `NoMemory` where there is no
-/// memory left: the markings of all states are held at once, 16 bytes for each state and place, and for each label the
+/// Returns `Wide` if a firing along the tree leaves more than `2^127 - 1` tokens on a place, and `NoMemory` if memory
+/// runs out: the markings of all states are held at once, 16 bytes for each state and place, and for each label the
 /// places from which it takes or on which it puts tokens, 48 bytes for each.
 pub fn check_net(alloc: Global, lts: &Lts, net: &Net, class: Class) -> Result<NetVerdict, CheckStop>
     requires { net.now.labels ≡ labels lts.now }
@@ -70,7 +70,7 @@ pub fn check_net(alloc: Global, lts: &Lts, net: &Net, class: Class) -> Result<Ne
     }
 }
 
-// The tests along the tree and behind them.
+// The tests along the tree and after them.
 fn judge(alloc: Global, lts: &Lts, tree: &Tree, net: &Net, class: Class) -> Result<(), Halt>
     requires system { IsWellFormed lts.now }
     requires labels { net.now.labels ≡ labels lts.now }

@@ -1,4 +1,4 @@
-//! What is told of a net.
+//! The verdict on a net.
 use rg_integers::Wide;
 use rg_net::ClassBreak;
 
@@ -11,7 +11,7 @@ pub enum NetVerdict {
     No(NetNo),
 }
 
-/// The first difference between a net and a system or a class. States, labels and places are told by their numbers.
+/// The first difference between a net and a system or a class. States, labels and places are given by their numbers.
 #[derive(Clone, Copy, Debug, PartialEq, Eq)]
 pub enum NetNo {
     /// The least state that can't be reached.
@@ -35,7 +35,7 @@ pub enum NetNo {
 pub enum CheckStop {
     /// A marking is out of range.
     Wide(CheckWide),
-    /// There is no memory left.
+    /// Memory ran out.
     NoMemory,
 }
 

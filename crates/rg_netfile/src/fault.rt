@@ -19,7 +19,7 @@ pub enum NetFault {
     LongName(u32),
     /// The token at this position, or the end of the text, can't continue the grammar, which wants this.
     Expected(u32, Want),
-    /// No `.type` stands in the text.
+    /// The text has no `.type`.
     NoType,
     /// The name at this position is no type of nets: those are `PN` and `LPN`.
     WrongType(u32),
@@ -31,9 +31,9 @@ pub enum NetFault {
     TwiceTransition(u32),
     /// The transitions' labels aren't each label of the system once.
     TransitionsDiffer,
-    /// No transition has the name that stands here.
+    /// No transition has the name at this token.
     UnknownTransition(u32),
-    /// No place has the name that stands here.
+    /// No place has the name at this token.
     UnknownPlace(u32),
     /// The number here is over `2^127 - 1`, or the sum with the member here is.
     NumberPasses(u32),

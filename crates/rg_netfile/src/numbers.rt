@@ -1,4 +1,4 @@
-//! How many tokens a member of a set stands for.
+//! The number of tokens that a member of a set gives.
 ghost use Rattle.std.specs.Prelude.{◌≡◌, ℕ, List, ◌<◌, ◌≤◌, MatchOption, MatchResult};
 ghost use Rattle.std.specs.Str.Parse.{digits_value};
 ghost use Rattle.rg_lexer.specs.Lexeme.{lexeme};

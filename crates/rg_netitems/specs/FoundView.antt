@@ -35,7 +35,7 @@ transitions_in bytes transitions = map (transition_in bytes) transitions
 abbrev pub flows_in : List ℕ → List FoundFlow → List Flow
 flows_in bytes flows = map (flow_in bytes) flows
 
--- what is found, with its tokens as they stand in the text
+-- what is found, with the bytes that its tokens have in the text
 abbrev pub found_in : List ℕ → Found → Declared
 found_in bytes f = record {
   typed = f.typed;

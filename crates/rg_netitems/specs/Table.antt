@@ -24,7 +24,7 @@ pub data Side : Type 0 where
   post : Side
   marking : Side
 
--- where a token stands in a set; a name that a position holds came before it
+-- the position of a token in a set; a name that a position holds came before it
 pub data SetPosition : Type 0 where
   first_member : SetPosition  -- after `{`
   next_member : SetPosition  -- after `,`
@@ -32,7 +32,7 @@ pub data SetPosition : Type 0 where
   after_star : Lexeme → SetPosition  -- after a number and `*`
   after_member : SetPosition  -- after a member with a number
 
--- where a token stands
+-- the position of a token
 pub data Position : Type 0 where
   section : Position  -- start of the file, after `.type` Name, after a passed-over Text, after the marking's set
   type_name : Position  -- after `.type`
@@ -98,7 +98,7 @@ after_set pre = after_pre
 after_set post = in_flows
 after_set marking = section
 
--- where a token of a kind leads from a position in a set, if it may stand there
+-- where a token of a kind leads from a position in a set, if it is allowed there
 abbrev pub set_leads_by : Side → SetPosition → Kind → Lexeme → Option Position
 set_leads_by side first_member Name x = Some (in_set side (after_name x))
 set_leads_by side first_member RightBrace x = Some (after_set side)
@@ -111,7 +111,7 @@ set_leads_by side after_member Comma x = Some (in_set side next_member)
 set_leads_by side after_member RightBrace x = Some (after_set side)
 set_leads_by side _ _ _ = None
 
--- where a token of a kind leads from a position, if it may stand there
+-- where a token of a kind leads from a position, if it is allowed there
 abbrev pub leads_by : Position → Kind → Lexeme → Option Position
 leads_by section Word x = Some (after_word x.text)
 leads_by type_name Name x = if is_type_name x.text then Some section else None
@@ -130,7 +130,7 @@ leads_by (in_set side position) kind x = set_leads_by side position kind x
 leads_by after_pre Arrow x = Some (before_set post)
 leads_by _ _ _ = None
 
--- the fault of a token that may not stand at a position: a name before `*` that isn't digits alone is at fault itself
+-- the fault of a token that isn't allowed at a position: a name before `*` that isn't digits alone is at fault itself
 abbrev pub refusal_by : Position → Kind → ℕ → ItemFault
 refusal_by type_name Name at = WrongType at
 refusal_by (in_set side (after_name name)) Star at = Expected name.at want.Number

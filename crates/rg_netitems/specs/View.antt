@@ -30,7 +30,7 @@ set_position_in bytes (AfterName name) = table.after_name (lexeme bytes name)
 set_position_in bytes (AfterStar number) = table.after_star (lexeme bytes number)
 set_position_in bytes AfterMember = table.after_member
 
--- a position, with its tokens as they stand in the text
+-- a position, with the bytes that its tokens have in the text
 abbrev pub position_in : List ℕ → Position → table.Position
 position_in bytes Start = table.section
 position_in bytes TypeName = table.type_name

@@ -21,7 +21,7 @@ use rg_items::{FoundSetting, ItemFault, ListPosition, Reader, completed, text_of
 use rg_lexer::{Kind, Token, Want};
 use std::alloc::Global;
 
-/// A member of a set: the number that stands before the name of a place, if one does, and the name.
+/// A member of a set: the number before the name of a place, if there is one, and the name.
 #[derive(Clone, Copy, Debug, PartialEq, Eq)]
 pub struct FoundMember {
     pub number: Option<Token>,

@@ -17,8 +17,8 @@ pub fn one_answer()
     ensures not_both { (bytes : List ℕ) (items : List Item) (f : ItemFault) → AreItemsOf bytes items → ¬ FirstItemFault bytes f }
 {}
 
-/// Tokens that lead anywhere from the start go on to the tokens of a whole file, so a first fault of the grammar
-/// is told at the first token that can't continue any file.
+/// Law: tokens that lead anywhere from the start go on to the tokens of a whole file, so a first fault of the grammar
+/// is reported at the first token that can't continue any file.
 pub fn tokens_go_on()
     ensures { (front : List Lexeme) (position : Position) → leads_all net_grammar section front ≡ Some position → (more : List Lexeme) × (items : List Item) × AreItems items (front ++ more) }
 {}

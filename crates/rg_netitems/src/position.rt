@@ -1,4 +1,4 @@
-//! Where a token stands in a net file, and where it leads.
+//! Positions of tokens in a net file, and the position that follows each token.
 ghost use Rattle.std.specs.Prelude.{◌≡◌, ◌≤◌, ℕ, List, length, option_map, slice_range, IfSome};
 ghost use Rattle.rg_lexer.specs.Lexeme.{lexeme};
 ghost use Rattle.rg_lexer.specs.Tokens.{IsTokenOf};
@@ -19,7 +19,7 @@ pub enum Section {
     Transitions,
 }
 
-/// Where a token stands.
+/// The position of a token.
 #[derive(Clone, Copy, Debug, PartialEq, Eq)]
 pub enum Position {
     Start,
@@ -195,7 +195,7 @@ pub fn from_pre(token: Token) -> Option<Position>
     }
 }
 
-/// Where a token leads where a set is due.
+/// Returns the position after a token where a set is expected.
 pub fn from_before_set(side: Side, token: Token) -> Option<Position>
     ensures leads { (bytes : List ℕ) → option_map (position_in bytes) result ≡ leads (table.before_set (side_in side)) (lexeme bytes token) }
     ensures holds { (bytes : List ℕ) → IfSome result (HoldsTokens bytes) }

@@ -1,4 +1,4 @@
-//! Where a token stands in a set, and where it leads.
+//! Positions of tokens in a set, and the position that follows each token.
 ghost use Rattle.std.specs.Prelude.{◌≡◌, ℕ, List, option_map, IfSome};
 ghost use Rattle.rg_lexer.specs.Lexeme.{lexeme};
 ghost use Rattle.rg_lexer.specs.Tokens.{IsTokenOf};
@@ -21,7 +21,7 @@ pub enum Side {
     Marking,
 }
 
-/// Where a token stands in a set. The tokens in it came before and still count.
+/// The position of a token in a set. The tokens that a position holds came before it and still count.
 #[derive(Clone, Copy, Debug, PartialEq, Eq)]
 pub enum SetPosition {
     FirstMember,
@@ -155,7 +155,7 @@ pub fn from_set(bytes: &[u8], side: Side, position: SetPosition, token: Token) -
     }
 }
 
-/// The fault of a token that may not stand at a position of a set.
+/// Returns the fault of a token that isn't allowed at a position of a set.
 pub fn set_refusal(position: SetPosition, token: Token) -> ItemFault
     ensures { (bytes : List ℕ) (side : table.Side) → result ≡ refusal_by (table.in_set side (set_position_in bytes position)) token.kind token.from }
 {

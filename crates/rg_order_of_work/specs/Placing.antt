@@ -22,7 +22,7 @@ effect_fold lts basis value t =
 abbrev pub negated : Ratio → Ratio
 negated f = record { top = neg_ℤ f.top; bottom = f.bottom }
 
--- the effects by label, and Start behind them, made whole in a class that is neither plain nor bounded, and then multiples
+-- the effects by label, and Start after them, made whole in a class that is neither plain nor bounded, and then multiples
 -- of what the start has to be a multiple of
 abbrev pub made_whole : Class → List Ratio → Result (List Ratio) Wide → Type 0
 made_whole class numbers =

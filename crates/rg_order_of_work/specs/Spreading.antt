@@ -28,7 +28,7 @@ pub record Share : Type 0 where
   pub name : RowName
   pub multiplier : Ratio
 
--- row number i of a node's system: the rows that are kept, and behind them those of the splits
+-- row number i of a node's system: the rows that are kept, and after them those of the splits
 abbrev pub kept_at : CaseSystem → ℕ → KeptRow
 kept_at case i = slice_index_or case.kept i (record { name = row_name.Above 0; row = record { coeffs = []; constant = pos 0 }; factor = whole (pos 1) })
 
@@ -108,7 +108,7 @@ leaving s (x ∷ done) = if x.arc.from == s then (number x.multiplier ∷ leavin
 abbrev pub addends_at : (RowName → Expression) → List NamedRow → List ArcTimes → ℕ → List Addend
 addends_at expression rows done s = map (λ r. product r.multiplier (coefficient_in (expression r.name).terms (Tokens s))) rows ++ leaving s done
 
--- the arcs in `last_first` get their multipliers, one after the other; `done` has those behind them in the tree
+-- the arcs in `last_first` get their multipliers, one after the other; `done` has those after them in the tree
 abbrev pub tree_fold : (RowName → Expression) → List NamedRow → List ArcTimes → List Arc → Result (List ArcTimes) Wide → Type 0
 tree_fold expression rows done [] = gives done
 tree_fold expression rows done (a ∷ last_first) = and_then (joined whole_sum addend_fold (pos 0) (addends_at expression rows done a.to)) (λ m. tree_fold expression rows (record { arc = a; multiplier = m } ∷ done) last_first)

@@ -34,18 +34,17 @@ ghost use Rattle.rg_refuting.specs.declared.Variable.TheVariants.{Tokens};
 
 use rg_theory::{Arc, Class, Problem};
 
-/// The names of a case's rows stand in the case and name labels of the system, and each row that stands
-/// is among them or left out.
+/// Law: the names of a case's rows apply in the case and name labels of the system, and each row that applies is
+/// among them or left out.
 pub fn rows_are_named()
     ensures stand { (lts : System) (class : Class) (problem : Problem) (number : ℕ) (name : RowName) → Contains (names_of lts class problem number) name → RowStands lts class problem number [] name }
     ensures labels { (lts : System) (class : Class) (problem : Problem) (number : ℕ) (name : RowName) → IsSeparationProblem lts problem → Contains (names_of lts class problem number) name → NamesLabels (labels lts) (row_expression lts class problem number [] name).terms }
     ensures others { (lts : System) (class : Class) (problem : Problem) (number : ℕ) (name : RowName) → IsInRange lts → RowStands lts class problem number [] name → Contains (names_of lts class problem number) name ⊎ IsLeftOut lts class name }
 {}
 
-/// Start and effects that follow the relations give numbers along the tree that keep every arc. Where
-/// Start is a column, they keep all rows of the case exactly where Start and the free effects meet its
-/// system; where it is none, all rows but those of tokens, and some shift of all numbers keeps these too:
-/// each that leaves no state below 0.
+/// Law: Start and effects that follow the relations give numbers along the tree that keep every arc. If Start is a
+/// column, they keep all rows of the case exactly if Start and the free effects meet its system; if it is none, all
+/// rows but those of tokens, and some shift of all numbers keeps these too: each that leaves no state below 0.
 pub fn start_and_free_effects_mean()
     ensures arcs { (s : CaseSetting) (case : CaseSystem) (start : ℤ) (effect : ℕ → ℤ) (scale : ℤ) (q t q' : ℕ) → IsCaseOver s case
         → AreEffects s.lts s.tree s.basis effect → HasArc s.lts q t q'
@@ -100,10 +99,9 @@ pub fn columns_are_values()
         → dot coeffs (column_values s.lts s.basis s.class start effect) ≡ sum_below case.columns (λ j. number_at coeffs j *ℤ number_at (column_values s.lts s.basis s.class start effect) j) }
 {}
 
-/// Each point over the columns gives Start and effects, over a multiple of its scale and one choice for
-/// each multiple, and meets the rows exactly where they meet the case's system; and Start and effects are
-/// given by a point. So some point
-/// meets all rows exactly where some numbers over a scale keep all rows that stand in the case.
+/// Law: each point over the columns gives Start and effects, over a multiple of its scale and one choice for each
+/// multiple, and meets the rows exactly if they meet the case's system; and Start and effects are given by a point.
+/// So some point meets all rows exactly if some numbers over a scale keep all rows that apply in the case.
 pub fn points_are_exact()
     ensures give { (s : CaseSetting) (case : CaseSystem) (v : ℕ → ℤ) → IsCaseOver s case
         → (times : ℤ) × (start : ℤ) × (effect : ℕ → ℤ) × AreGivenBy s.setting case v times start effect }
@@ -117,9 +115,10 @@ pub fn points_are_exact()
     ensures exact { (s : CaseSetting) (case : CaseSystem) → IsCaseOver s case → IsLive s.lts s.problem → HasPoint case ↔ HasSolution s.lts s.class s.problem s.number }
 {}
 
-/// The form of a split, with its scale, is worth the tokens or the effect that Start and the effects give
-/// it, by its steps; that of the start is Start alone, once. The forms of a case lie between their bounds wherever its
-/// rows are met; each has the coefficients of a row, so many times; and its bounds times its scale are in range.
+/// Law: the form of a split, with its scale, has the value of the tokens or of the effect that Start and the effects
+/// give it, by its steps; that of the start is Start alone, once. The forms of a case lie between their bounds
+/// wherever its rows are met; each has the coefficients of a row, times its factor; and its bounds times its scale
+/// are in range.
 pub fn forms_are_exact()
     ensures value { (s : CaseSetting) (case : CaseSystem) → IsCaseOver s case → (split : SplitForm) (form : Form) (start : ℤ) (effect : ℕ → ℤ)
         → form_fold s.setting split (Ok form) → NamesLabels (labels s.lts) (plus (form_variable s.lts.initial split) ∷ [])

@@ -1,4 +1,4 @@
-//! A row over Start and the free labels is a positive multiple of the named row that it stands for.
+//! A row over Start and the free labels is a positive multiple of the named row that it represents.
 
 ghost use Rattle.std.specs.Prelude.{◌≡◌, ◌↔◌, ℕ, ℤ, List, [], Contains, false, Ok, pos, ◌+ℤ◌, ◌*ℤ◌, ◌≤ℤ◌, ◌<ℤ◌};
 ghost use Rattle.rg_theory.specs.System.{System, labels};

@@ -21,8 +21,8 @@ pub fn ways_are_one()
     ensures one { (lts : System) (tree : List Arc) (ts : List ℕ) (s : ℕ) → IsTree lts tree → Leads (record lts { arcs = tree }) lts.initial ts s → ts ≡ way_to tree s }
 {}
 
-/// Effects of the labels give numbers along the tree that keep every arc exactly where every chord's sum
-/// is 0; and numbers that keep every arc are given in this way by their own effects.
+/// Law: effects of the labels give numbers along the tree that keep every arc exactly if every chord's sum is 0; and
+/// numbers that keep every arc are given in this way by their own effects.
 pub fn chords_are_exact()
     ensures exact { (lts : System) (tree : List Arc) (start : ℤ) (effect : ℕ → ℤ) → IsInRange lts → IsTree lts tree → KeepsArcs lts (potential lts tree start effect) effect ↔ ((a : Arc) → Contains (chords lts tree) a → chord_sum lts tree effect a ≡ pos 0) }
     ensures own { (lts : System) (tree : List Arc) (number effect : ℕ → ℤ) (s : ℕ) → IsInRange lts → IsTree lts tree → KeepsArcs lts number effect → IsReachable lts s → number s ≡ potential lts tree (number lts.initial) effect s }

@@ -9,7 +9,7 @@ use Rattle.rg_order_of_work.specs.Shown.{Shown}
 use Rattle.rg_outcome.specs.Solving.{Solved, Solved.placed, Solved.refuted, Solved.passed}
 use Rattle.rg_outcome.specs.Coming.{IsFirstProblem, Separation, Separation.places, Separation.unsolvable, Separation.too_wide, IsSeparated, IsLeft, IsNext, IsDone}
 
--- a block: problems behind the last one, in order, that no kept place separates, and none left out between them
+-- a block: problems after the last one, in order, that no kept place separates, and none left out between them
 abbrev pub IsBlock : System → List Place → Option Problem → List Problem → Type 0
 IsBlock lts kept last [] = Unit {0}
 IsBlock lts kept last (problem ∷ rest) = IsNext lts kept last problem × IsBlock lts kept (Some problem) rest
@@ -37,7 +37,7 @@ TakenOver lts comes kept (problem ∷ rest) a =
     (IsSeparated lts kept problem × TakenOver lts comes kept rest a)
     ⊎ (¬ IsSeparated lts kept problem × ((r : Solved) × comes problem r × GoesOn problem r kept (λ after. TakenOver lts comes after rest a) a))
 
--- what the problems behind the last one come to by blocks of any lengths
+-- what the problems after the last one come to by blocks of any lengths
 pub data ComesByBlocks (lts : System) (comes : Problem → Solved → Type 0) : Option Problem → List Place → Separation → Type 0 where
   one_block : {last : Option Problem} {kept : List Place} {o : Separation} (problems : List Problem) (after : List Place) → IsBlock lts kept last problems
       → TakenOver lts comes kept problems (kept_places after) → ComesByBlocks lts comes (last_of last problems) after o → ComesByBlocks lts comes last kept o

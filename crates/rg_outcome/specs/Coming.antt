@@ -32,20 +32,20 @@ IsSeparatedIn lts class problem p = (m : ℕ → ℕ) × RegionIn lts class p m 
 abbrev pub IsLeft : System → List Place → Problem → Type 0
 IsLeft lts kept problem = IsProblem lts problem × ¬ IsSeparated lts kept problem
 
--- the problem comes behind the last one that was taken, if one was
+-- the problem comes after the last one that was taken, if one was
 abbrev pub IsBehind : Option Problem → Problem → Type 0
 IsBehind None problem = Unit {0}
 IsBehind (Some last) problem = ComesBefore last problem
 
--- the next problem: of those behind the last one the first that no kept place separates
+-- the next problem: of those after the last one the first that no kept place separates
 abbrev pub IsNext : System → List Place → Option Problem → Problem → Type 0
 IsNext lts kept last problem = IsFirstProblem (λ q. IsLeft lts kept q × IsBehind last q) problem
 
--- no problem behind the last one is left
+-- no problem after the last one is left
 abbrev pub IsDone : System → List Place → Option Problem → Type 0
 IsDone lts kept last = (problem : Problem) → IsBehind last problem → ¬ IsLeft lts kept problem
 
--- what the problems behind the last one come to, with the places kept so far. The next one is solved: its place is kept; where it is
+-- what the problems after the last one come to, with the places kept so far. The next one is solved: its place is kept; where it is
 -- refuted all ends; where its number passes the work goes on. When none is left, the places separate all problems, or some of those in
 -- which a number passed are left, and the first of them shows its term
 pub data ComesFrom (lts : System) (comes : Problem → Solved → Type 0) : Option Problem → List Place → Separation → Type 0 where
@@ -114,7 +114,7 @@ Says lts comes (places kept) = AreEnough lts comes kept
 Says lts comes (unsolvable problem trees) = IsFirstRefuted lts comes problem trees
 Says lts comes (too_wide w) = IsFirstLeft lts comes w
 
--- a problem that isn't behind the last one is separated, or its number passed; the places are regions
+-- a problem that isn't after the last one is separated, or its number passed; the places are regions
 pub record IsSound (lts : System) (comes : Problem → Solved → Type 0) (last : Option Problem) (kept : List Place) : Type 0 where
   pub over : (problem : Problem) → IsProblem lts problem → ¬ IsBehind last problem → IsSeparated lts kept problem ⊎ ((w : Shown) × comes problem (passed w))
   pub regions : All (IsRegion lts) kept

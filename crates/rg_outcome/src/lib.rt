@@ -23,8 +23,9 @@ ghost use Rattle.rg_outcome.specs.Outcome.{Answer, Searched, Out, IsSearchRight,
 
 use rg_theory::{Class, Problem, one_least_fork, pruned_is_one};
 
-/// A case of a problem comes to one result: a place, a tree that refutes it, or a term out of range. So does a problem, and
-/// each problem of a system comes to some: every computation ends, or stops at its first step out of range. Neither knows of places that are kept, so a problem may be solved at any time.
+/// Law: a case of a problem has one outcome: a place, a tree that refutes it, or a term out of range. A problem has
+/// one too, and each problem of a system has some: every computation ends, or stops at its first step out of range.
+/// Neither depends on places that are kept, so a problem may be solved at any time.
 pub fn solving_is_one()
     ensures case { (s : CaseSetting) (r r' : CaseResult) → CaseComes s r → CaseComes s r' → r ≡ r' }
     ensures problem { (s : Setting) (problem : Problem) (r r' : Solved) → ProblemComes s problem r → ProblemComes s problem r' → r ≡ r' }
@@ -32,14 +33,15 @@ pub fn solving_is_one()
         → IsBasis s.lts s.tree s.basis → IsProblem s.lts problem → (r : Solved) × ProblemComes s problem r }
 {}
 
-/// What is left of all problems, with the places kept so far, comes to one result, and all of them come to some.
+/// Law: what is left of all problems, with the places kept so far, has one outcome, and all problems of a system have
+/// some.
 pub fn separation_is_one()
     ensures one { (s : Setting) (last : Option Problem) (kept : List Place) (o o' : Separation) → ComesFrom s.lts (ProblemComes s) last kept o → ComesFrom s.lts (ProblemComes s) last kept o' → o ≡ o' }
     ensures some { (s : Setting) → IsInRange s.lts → HasNumbersInRange s.class → IsAllReachable s.lts → IsTree s.lts s.tree → IsBasis s.lts s.tree s.basis → (o : Separation) × AllComeTo s.lts (ProblemComes s) o }
 {}
 
-/// Solved in blocks of any lengths, whose results are taken over in the order of the problems, the problems come to what
-/// they come to one after the other.
+/// Law: problems solved in blocks of any lengths, whose outcomes are taken over in the order of the problems, have
+/// the same outcome as problems solved one after the other.
 pub fn blocks_come_to_the_same()
     ensures { (s : Setting) (last : Option Problem) (kept : List Place) (o : Separation) → ComesByBlocks s.lts (ProblemComes s) last kept o → ComesFrom s.lts (ProblemComes s) last kept o }
 {}
@@ -52,20 +54,20 @@ pub fn separation_says()
         → AllComeTo s.lts (ProblemComes s) o → Says s.lts (ProblemComes s) o }
 {}
 
-/// A problem all of whose cases are refuted is separated by no region of the class: a region would give some case a point
-/// with whole forms, and branching leaves none (Schrijver, *Theory of Linear and Integer Programming*).
+/// Law: no region of the class separates a problem all of whose cases are refuted: a region would give some case a
+/// point with whole forms, and branching leaves none (Schrijver, *Theory of Linear and Integer Programming*).
 pub fn refuted_is_inseparable()
     ensures { (s : Setting) (problem : Problem) (trees : List Tree) → IsInRange s.lts → HasNumbersInRange s.class → IsAllReachable s.lts → IsTree s.lts s.tree
         → IsBasis s.lts s.tree s.basis → IsProblem s.lts problem → ProblemComes s problem (Solved.refuted trees) → IsInseparable s.lts s.class problem }
 {}
 
-/// The place that a problem comes to is a region of the class that separates it.
+/// Law: the place that is the outcome of a problem is a region of the class that separates it.
 pub fn placed_separates()
     ensures { (s : Setting) (problem : Problem) (p : Place) → IsInRange s.lts → HasNumbersInRange s.class → IsAllReachable s.lts → IsTree s.lts s.tree
         → IsBasis s.lts s.tree s.basis → IsProblem s.lts problem → ProblemComes s problem (Solved.placed p) → IsSeparatedIn s.lts s.class problem p }
 {}
 
-/// A search for places comes to one result. A system and a class have one answer, and always one.
+/// Law: a search for places has one outcome. A system and a class have exactly one answer.
 pub fn outcome_is_one()
     ensures search { (lts : System) (class : Class) (o o' : Separation) → Searched lts class o → Searched lts class o' → o ≡ o' }
     ensures answer { (lts : System) (class : Class) (a a' : Answer) → Out lts class a → Out lts class a' → a ≡ a' }

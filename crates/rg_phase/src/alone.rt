@@ -33,9 +33,9 @@ impl<T: Task> PartTask for Alone<'_, T> {
     }
 }
 
-/// Returns the results of the task for the numbers from `from` on below `to`, in order, by at most `jobs` parts that run beside each other:
-/// what they show is the list of the answers. The gate is entered before the work for a number and left after it, whatever comes of it, and
-/// can't change a result. Returns `NoMemory` if memory runs out.
+/// Returns the results of the task for the numbers from `from` on below `to`, in order, by at most `jobs` parts that
+/// run in parallel: what they show is the list of the answers. The gate is entered before the work for a number and
+/// left after it, whatever its result, and can't change a result. Returns `NoMemory` if memory runs out.
 pub fn block<T: Task + Sync, G: Gate + Sync, R: Threads + Sync>(
     rt: &R,
     alloc: Global,

@@ -1,5 +1,5 @@
-//! Tasks with numbers, done by parts that run beside each other. A part may keep something from number to number; what is said of
-//! the answers doesn't depend on the parts.
+//! Tasks with numbers, done by parts that run in parallel. A part may keep something from number to number; what is
+//! known of the answers doesn't depend on the parts.
 #![tactic(auto)]
 
 mod alone;

@@ -55,10 +55,11 @@ fn end_of_share(from: u32, to: u32, few: u8, jobs: u8) -> u32
     from + share as u32
 }
 
-/// Returns the results of the task for the numbers from `from` on below `to`, in order, by at most `jobs` parts that run beside each other:
-/// the jobs are halved until each has a part, and each side gets a share of the range in proportion to its jobs. A part with a number begins anew,
-/// and keeps what it likes from one of its numbers to the next. The gate is entered before the work for a number and left after it,
-/// whatever comes of it, and can't change a result. Returns `NoMemory` if memory runs out.
+/// Returns the results of the task for the numbers from `from` on below `to`, in order, by at most `jobs` parts that
+/// run in parallel: the jobs are halved until each has a part, and each side gets a share of the range in proportion
+/// to its jobs. A part with a number begins anew, and keeps what it likes from one of its numbers to the next. The
+/// gate is entered before the work for a number and left after it, whatever its result, and can't change a result.
+/// Returns `NoMemory` if memory runs out.
 pub fn block_of_parts<R: Threads + Sync, T: PartTask + Sync, G: Gate + Sync>(
     rt: &R,
     alloc: Global,

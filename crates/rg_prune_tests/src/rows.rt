@@ -106,7 +106,7 @@ fn copied(alloc: Global, places: &[Place]) -> Result<Vec<Place>, AllocError>
     Ok(copies)
 }
 
-// The tokens that the place has behind an arc.
+// The tokens that the place has after an arc.
 fn moved(tokens: &[u128], place: &Place, a: Arc) -> Option<u128> {
     let takes = *place.pre.get(a.label as usize)?;
     let puts = *place.post.get(a.label as usize)?;

@@ -28,7 +28,7 @@ pub enum Reason {
     Fork(u32, u32, u32, u32),
     /// No region of the class stops the label, the second number, at the state; with a tree.
     Event(u32, u32, Case),
-    /// No region of the class tells the two states apart; with one tree for each case.
+    /// No region of the class distinguishes the two states; with one tree for each case.
     States(u32, u32, Vec<Case>),
 }
 

@@ -13,10 +13,10 @@ use rg_refuting::Variable::{Effect, Tokens};
 use rg_refuting::{RowName, Side};
 use rg_theory::{Class, Problem};
 
-/// What the row says in the case, below the sides of the splits above it: the sum that isn't negative wherever the
-/// row holds, and that of an arc is 0 (Badouel, Bernardinello and Darondeau, *Petri Net Synthesis*). The sides are
-/// given outermost first; a row that speaks of none needs none. A name that says nothing in the case, as `Above`
-/// beyond the sides, gives the sum of no terms and 0.
+/// Returns what the row says in the case, below the sides of the splits above it: the sum that isn't negative
+/// wherever the row holds, and that of an arc is 0 (Badouel, Bernardinello and Darondeau, *Petri Net Synthesis*). The
+/// sides are given outermost first; a row that names none needs none. A name that says nothing in the case, such as
+/// `Above` beyond the sides, gives the sum of no terms and 0.
 pub fn expression(lts: &Lts, case: ProblemCase, above: &[Side], name: RowName) -> Expression
     ensures { expression_of result ≡ row_expression lts.now case.class case.problem case.number above.now name }
 {

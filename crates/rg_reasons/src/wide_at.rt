@@ -19,12 +19,12 @@ pub enum Stage {
     Spread,
 }
 
-/// A term out of range, and where it stands. What a stage doesn't use is 0, an empty list or None.
+/// A term out of range, and where it occurs. What a stage doesn't use is 0, an empty list or None.
 ///
-/// `case` is the number of a case of the problem. In the stage `Cycle` the term stands at the set `members`, in the
-/// exchange of `pivot` with `leaves`, in the new relation of `target`, as term number `entry`; so it does in the
-/// stage `Pivot`. Elsewhere it is the first step out of range. `above` has the side of each split above the node,
-/// outermost first: the form, the number, and true in the high side.
+/// `case` is the number of a case of the problem. In the stage `Cycle` the term occurs at the set `members`, in the
+/// exchange of `pivot` with `leaves`, in the new relation of `target`, as term number `entry`, and so it does in the
+/// stage `Pivot`. In the other stages it is the first step out of range. `above` has the side of each split above the
+/// node, outermost first: the form, the number, and true in the high side.
 #[derive(Debug, PartialEq, Eq, Drop)]
 pub struct WideAt {
     pub stage: Stage,

@@ -50,7 +50,7 @@ pub record IsNamedSystem (c : CaseSetting) (named : NamedSystem) : Type 0 where
 abbrev pub Visit : Type 0
 Visit = splits.PlacedNode (List Weight) ℕ
 
--- the sides above the node behind this one
+-- the sides above the node after this one
 abbrev pub next_sides : List SplitSide → TreeNode → List SplitSide
 next_sides above (leaf_node weights) = turned above
 next_sides above (split_node f u) = above ++ low_side f u ∷ []

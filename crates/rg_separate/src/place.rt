@@ -26,9 +26,9 @@ use std::alloc::Global;
 /// Returns the place that a point of the system of a case makes (`rg_places::make_place` returns its tokens too). The
 /// point has one fraction for each column of that system.
 ///
-/// Where the point meets every row of the system of this case, and the forms of the case are whole at it, the
-/// place is a region of the class that separates the problem. `FoldStop::Wide` comes exactly where a step of the
-/// computation is out of range, with the first such step; `FoldStop::NoMemory` if memory runs out.
+/// If the point meets every row of the system of this case, and the forms of the case are whole at it, the place is a
+/// region of the class that separates the problem. Returns `FoldStop::Wide` exactly if a step of the computation is
+/// out of range, with the first such step, and `FoldStop::NoMemory` if memory runs out.
 pub fn make_place(
     alloc: Global,
     lts: &Lts,

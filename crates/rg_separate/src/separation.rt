@@ -32,7 +32,7 @@ use rg_theory::{Class, Problem};
 use std::alloc::Global;
 use std::thread::Threads;
 
-/// What the separation problems of a system come to.
+/// The outcome of the separation problems of a system.
 #[derive(Drop)]
 pub enum Separation {
     /// Places that separate all problems.
@@ -43,7 +43,7 @@ pub enum Separation {
     TooWide(WideAt),
 }
 
-/// What the separation problems of a system come to, with the problems that each place is the first to separate.
+/// The outcome of the separation problems of a system, with the problems that each place is the first to separate.
 #[derive(Drop)]
 pub enum SeparationWithFirsts {
     /// Places that separate all problems, and for each the problems that it is the first to separate.

@@ -63,7 +63,7 @@ fn share(
     }
 }
 
-// The name and the factor of a row below these splits, whose rows come behind those of the system.
+// The name and the factor of a row below these splits, whose rows come after those of the system.
 fn row_of(named: &NamedSystem, above: &[Side<u32>], row: u32) -> (RowName, Fraction)
     requires shows { (case : CaseSystem) × ShowsCase named.now case }
     requires sides { All (λ s. s.form < length named.now.forms.items) above.now }

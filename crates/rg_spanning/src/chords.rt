@@ -1,4 +1,4 @@
-//! The arcs beside the tree.
+//! The arcs that aren't in the tree.
 ghost use Rattle.std.specs.Prelude.{◌≡◌, ◌<◌, IfOk};
 ghost use Rattle.rg_theory.specs.System.{states};
 ghost use Rattle.rg_theory.specs.Tree.{chords, is_among};

@@ -1,4 +1,4 @@
-//! How often each label stands on the way to each state.
+//! How often each label occurs on the way to each state.
 ghost use Rattle.std.specs.Prelude.{◌≡◌, length, IfOk};
 ghost use Rattle.rg_theory.specs.System.{labels};
 ghost use Rattle.rg_theory.specs.Tree.{IsTree};

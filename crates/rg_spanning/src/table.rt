@@ -5,7 +5,7 @@ ghost use Rattle.rg_spanning.specs.Rows.{rows_of};
 use std::alloc::{AllocError, Global};
 use std::marker::Model;
 
-/// Rows of one length, which stand one after the other in one list.
+/// Rows of one length, one after the other in one list.
 #[derive(Drop)]
 pub(crate) struct Table {
     rows: usize,
@@ -69,7 +69,7 @@ impl Table {
     }
 }
 
-// Copies so many cells from one index to another; from before or behind the cells that are written.
+// Copies so many cells from one index to another; from before or after the cells that are written.
 fn copy_cells(cells: &mut [u32], count: usize, from: usize, to: usize)
     requires from { from + count ≤ length cells.old }
     requires to { to + count ≤ length cells.old }

@@ -20,7 +20,7 @@ use std::marker::Model;
 pub enum GrowStop {
     /// The least state that can't be reached.
     Unreachable(u32),
-    /// There is no memory left.
+    /// Memory ran out.
     NoMemory,
 }
 
@@ -32,9 +32,9 @@ impl From<AllocError> for GrowStop {
     }
 }
 
-/// The tree of the breadth first walk from the initial state, which takes the states in the order in
-/// which they are met and the arcs of each by label and target. Beside it stand the Parikh vector of
-/// each state, which counts the labels on the way to it, and the chords, which are the other arcs.
+/// The tree of the breadth first walk from the initial state, which takes the states in the order in which they are
+/// met and the arcs of each by label and target; with the Parikh vector of each state, which counts the labels on the
+/// way to it, and the chords, which are the other arcs.
 #[derive(Drop)]
 pub struct Tree {
     labels: u32,
@@ -65,7 +65,8 @@ impl Model for Tree {
 }
 
 impl Tree {
-    /// Grows the tree of the system. `Unreachable` tells the least state that can't be reached.
+    /// Grows the tree of the system. Returns `Unreachable` with the least state that can't be reached, and `NoMemory`
+    /// if memory runs out.
     pub fn grow(alloc: Global, lts: &Lts) -> Result<Tree, GrowStop>
         ensures tree { IfOk result (IsTreeOf lts.now) }
         ensures all_reachable { IfOk result (λ _. IsAllReachable lts.now) }
@@ -116,7 +117,7 @@ impl Tree {
         self.entries[s as usize]
     }
 
-    /// The Parikh vector of state `s`: how often each label stands on the way to it.
+    /// Returns the Parikh vector of state `s`: how often each label occurs on the way to it.
     pub fn parikh(&self, s: u32) -> &[u32]
         requires { s < self.now.states }
         ensures one_each { length result.now ≡ self.now.labels }

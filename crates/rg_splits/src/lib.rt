@@ -13,8 +13,8 @@ pub struct Side<F> {
 }
 
 /// Goes from the sides above the last node of a tree, or of a side, to those above the next node in preorder: the
-/// innermost low side becomes the high one, and the high sides within it end. Where all sides are high, none is left.
-/// The outermost side comes first.
+/// innermost low side becomes the high one, and the high sides within it end. If all sides are high, none is left.
+/// The outermost side is the first.
 pub fn turn<F: Copy>(above: &mut Vec<Side<F>>)
     ensures { above.new.items ≡ turned above.old.items }
 {

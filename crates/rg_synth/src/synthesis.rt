@@ -27,16 +27,17 @@ use rg_theory::Class;
 use std::alloc::Global;
 use std::thread::Threads;
 
-/// The answer for the system and the class: a net of the class whose reachability graph is the system, or a certificate
-/// that no net of the class has it (Badouel, Bernardinello and Darondeau, *Petri Net Synthesis*).
+/// Returns the answer for the system and the class: a net of the class whose reachability graph is the system, or a
+/// certificate that no net of the class has it (Badouel, Bernardinello and Darondeau, *Petri Net Synthesis*).
 ///
-/// An unreachable state is the reason that is told first, the least one; then the first fork; and then the first separation
-/// problem that no region of the class separates. Where there is none of these, the regions that were found make the net,
-/// but for those that the others make superfluous: no place of the net can be left out. `TooWide` where a number of the
-/// work on the problems is out of range, and no answer was found without it. `NoMemory` where there is none.
+/// The least unreachable state is the first reason, if there is one; then the first fork; and then the first
+/// separation problem that no region of the class separates. If there is none of these, the regions that were found
+/// make the net, but for those that the others make superfluous: no place of the net can be left out. Returns
+/// `TooWide` if a number of the work on the problems is out of range and no answer was found without it, and
+/// `NoMemory` if memory runs out.
 ///
-/// There is one answer for a system and a class, and it is this one, for any number of jobs and any gate: `out`, with
-/// `outcome_is_one`, is "exactly". The problems are solved on so many threads as `jobs` says at most.
+/// There is one answer for a system and a class, for any number of jobs and any gate (`out`, with `outcome_is_one`).
+/// The problems are solved on at most `jobs` threads.
 pub fn synthesize<R: Threads + Sync, G: Gate + Sync>(
     rt: &R,
     alloc: Global,

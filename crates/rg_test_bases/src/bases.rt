@@ -38,8 +38,8 @@ fn are_vectors<N: ChordEntry>(labels: u32, chords: &[Vec<N>]) -> bool
     true
 }
 
-/// The basis of these chords, as `reduce` gives it. `NoMemory` also where there are more labels or chords than a system has, or where a
-/// chord hasn't one entry in range for each label.
+/// Returns the basis of these chords, as `reduce` gives it. Returns `NoMemory` also if there are more labels or
+/// chords than a system has, or if a chord hasn't one entry in range for each label.
 pub fn solved<N: ChordEntry>(alloc: Global, labels: u32, chords: &[Vec<N>]) -> Result<Basis, Stop>
     ensures labels { IfOk result (λ b. labels_of b ≡ labels) }
     ensures basis { IfOk result (λ b. IsCycleBasis labels (vectors_by N.numbers chords.now) (cycle_of b)) }

@@ -120,7 +120,7 @@ abbrev pub AsksAtMost : List (List ℕ) → Option Files → Option (List (List 
 AsksAtMost words files before after =
     (after ≡ before) ⊎ ((work : Work) × (file : List ℕ) × (form : Form) × Ask words (of_system work file form) × AsksFiles files work file form before after)
 
--- the calls that read the system's file, and behind them, where its end was found and it spells a system, those that read the second
+-- the calls that read the system's file, and after them, where its end was found and it spells a system, those that read the second
 -- one
 pub data ReadsFiles {S : Type 0} (finds : S → List ℕ → Option Bool → S → Type 0) (hands : S → ℕ → Option ℕ → S → Type 0) (files : Option Files) (work : Work) (file : List ℕ) (form : Form) : S → S → Type 0 where
   first_alone : (s t : S) (last : LastCall) → ReadsFile finds hands file s last t → ReadsFiles finds hands files work file form s t

@@ -36,13 +36,13 @@ use rg_split::{splitting_is_one, splitting_says};
 use rg_theory::{class_is_told, one_least_fork};
 use rg_verify::one_verdict;
 
-/// What `synthesize` writes with status 1 is accepted by `verify` for the same system, wherever it stands in a file.
+/// Law: `verify` accepts what `synthesize` writes with status 1, for the same system, in any file.
 pub fn written_is_accepted()
     ensures { (class : Class) (lts : System) (out : List ℕ) (files : Option Files) (name : List ℕ) → IsCertificateText class lts out → IsFile files name out → IsAccepted files name lts class }
 {}
 
-/// `synthesize` ends in one way for a system and a class: two ends have the same status, or show the same term, and the same bytes for
-/// out and for err; and that status is the one that is due.
+/// Law: `synthesize` ends in one way for a system and a class. Two ends have the same status, or show the same term,
+/// and the same bytes for `out` and for `err`; and that status is the one of `SynthesizeIsDue`.
 pub fn synthesize_ends_once()
     ensures once { (class : Class) (lts : System) (s s' : Status) (out err out' err' : List ℕ) → SynthesizeEnds class lts s out err → SynthesizeEnds class lts s' out' err' → AreOne s s' out out' err err' }
     ensures due { (class : Class) (lts : System) (s due : Status) (out err : List ℕ) → SynthesizeEnds class lts s out err → SynthesizeIsDue class lts due → IsTheOne due s }
@@ -50,7 +50,7 @@ pub fn synthesize_ends_once()
     outcome_is_one();
 }
 
-/// `verify` ends in one way for a system and the files that are told, with the status that is due.
+/// Law: `verify` ends in one way for a system and files that are known, with the expected status.
 pub fn verify_ends_once()
     ensures once { (files : Files) (cert : List ℕ) (lts : System) (s s' : Status) (out err out' err' : List ℕ) → IsWellFormed lts → VerifyEnds (Some files) cert lts s out err → VerifyEnds (Some files) cert lts s' out' err' → AreOne s s' out out' err err' }
     ensures due { (files : Files) (cert : List ℕ) (lts : System) (s due : Status) (out err : List ℕ) → VerifyEnds (Some files) cert lts s out err → VerifyIsDue (Some files) cert lts due → IsTheOne due s }
@@ -59,7 +59,7 @@ pub fn verify_ends_once()
     one_verdict();
 }
 
-/// `check` ends in one way for a system, a class and the files that are told, with the status that is due.
+/// Law: `check` ends in one way for a system, a class and files that are known, with the expected status.
 pub fn check_ends_once()
     ensures once { (files : Files) (class : Class) (name : List ℕ) (lts : System) (s s' : Status) (out err out' err' : List ℕ) → IsInRange lts → CheckEnds (Some files) class name lts s out err → CheckEnds (Some files) class name lts s' out' err' → AreOne s s' out out' err err' }
     ensures due { (files : Files) (class : Class) (name : List ℕ) (lts : System) (s due : Status) (out err : List ℕ) → IsInRange lts → CheckEnds (Some files) class name lts s out err → CheckIsDue (Some files) class name lts due → IsTheOne due s }
@@ -68,13 +68,13 @@ pub fn check_ends_once()
     verdict_is_one();
 }
 
-/// `convert` ends in one way for a system and a form, with the status that is due.
+/// Law: `convert` ends in one way for a system and a form, with the expected status.
 pub fn convert_ends_once()
     ensures once { (lts : System) (target : Target) (s s' : Status) (out err out' err' : List ℕ) → ConvertEnds lts target s out err → ConvertEnds lts target s' out' err' → AreOne s s' out out' err err' }
     ensures due { (lts : System) (target : Target) (s due : Status) (out err : List ℕ) → ConvertEnds lts target s out err → ConvertIsDue lts target due → IsTheOne due s }
 {}
 
-/// `factor` ends in one way for a system and a class or none, with the status that is due.
+/// Law: `factor` ends in one way for a system and a class or none, with the expected status.
 pub fn factor_ends_once()
     ensures once { (lts : System) (class : Option Class) (s s' : Status) (out err out' err' : List ℕ) → IsInRange lts → FactorEnds lts class s out err → FactorEnds lts class s' out' err' → AreOne s s' out out' err err' }
     ensures due { (lts : System) (class : Option Class) (s due : Status) (out err : List ℕ) → IsInRange lts → FactorEnds lts class s out err → FactorIsDue lts class due → IsTheOne due s }
@@ -84,7 +84,7 @@ pub fn factor_ends_once()
     outcome_is_one();
 }
 
-/// `split` ends in one way for a system and what is to be written, with the status that is due.
+/// Law: `split` ends in one way for a system and what is to be written, with the expected status.
 pub fn split_ends_once()
     ensures once { (lts : System) (output : SplitOutput) (s s' : Status) (out err out' err' : List ℕ) → SplitEnds lts output s out err → SplitEnds lts output s' out' err' → AreOne s s' out out' err err' }
     ensures due { (lts : System) (output : SplitOutput) (s due : Status) (out err : List ℕ) → SplitEnds lts output s out err → SplitIsDue lts due → IsTheOne due s }
@@ -93,7 +93,7 @@ pub fn split_ends_once()
     splitting_says();
 }
 
-/// `isomorphic` ends in one way for a system, a form and the files that are told, with the status that is due.
+/// Law: `isomorphic` ends in one way for a system, a form and files that are known, with the expected status.
 pub fn isomorphic_ends_once()
     ensures once { (files : Files) (named : List ℕ) (form : Form) (lts : System) (s s' : Status) (out err out' err' : List ℕ) → IsWellFormed lts → IsomorphicEnds (Some files) named form lts s out err → IsomorphicEnds (Some files) named form lts s' out' err' → AreOne s s' out out' err err' }
     ensures due { (files : Files) (named : List ℕ) (form : Form) (lts : System) (s due : Status) (out err : List ℕ) → IsomorphicEnds (Some files) named form lts s out err → IsomorphicIsDue (Some files) named form lts due → IsTheOne due s }
@@ -105,7 +105,7 @@ pub fn isomorphic_ends_once()
     one_comparison();
 }
 
-/// `examine` ends in one way for a system and a form of the report, with the status that is due.
+/// Law: `examine` ends in one way for a system and a form of the report, with the expected status.
 pub fn examine_ends_once()
     ensures once { (output : ExamineOutput) (lts : System) (s s' : Status) (out err out' err' : List ℕ) → ExamineEnds output lts s out err → ExamineEnds output lts s' out' err' → AreOne s s' out out' err err' }
     ensures due { (output : ExamineOutput) (lts : System) (s due : Status) (out err : List ℕ) → ExamineEnds output lts s out err → ExamineIsDue due → IsTheOne due s }
@@ -113,7 +113,7 @@ pub fn examine_ends_once()
     one_examination();
 }
 
-/// `generate` ends in one way for a family and a number, with the status that is due.
+/// Law: `generate` ends in one way for a family and a number, with the expected status.
 pub fn generate_ends_once()
     ensures once { (kind : Kind) (n : ℕ) (s s' : Status) (out err out' err' : List ℕ) → GenerateEnds kind n s out err → GenerateEnds kind n s' out' err' → AreOne s s' out out' err err' }
     ensures due { (kind : Kind) (n : ℕ) (s due : Status) (out err : List ℕ) → GenerateEnds kind n s out err → GenerateIsDue kind n due → IsTheOne due s }
@@ -121,7 +121,7 @@ pub fn generate_ends_once()
     one_of_each();
 }
 
-/// `selftest` ends in one way for a number, with the status that is due.
+/// Law: `selftest` ends in one way for a number, with the expected status.
 pub fn self_test_ends_once()
     ensures once { (n : ℕ) (s s' : Status) (out err out' err' : List ℕ) → SelfTestEnds n s out err → SelfTestEnds n s' out' err' → AreOne s s' out out' err err' }
     ensures due { (n : ℕ) (s due : Status) (out err : List ℕ) → SelfTestEnds n s out err → SelfTestIsDue n due → IsTheOne due s }
@@ -130,10 +130,11 @@ pub fn self_test_ends_once()
     outcome_is_one();
 }
 
-/// Words and files have one answer: where the files are told, two answers have the same status, or show the same term, and the same bytes
-/// for out and for err. So two runs over them in which there is memory and no call fails end alike and write the same, with any
-/// numbers of jobs and any gates. The status is the one that is due, and where the answer for the system and the class is a term that is out
-/// of range it shows that term. Where the files are told, a status is due to all words, or a term that is out of range decides.
+/// Law: words and files have one answer. If the files are known, two answers have the same status, or show the same
+/// term, and the same bytes for `out` and for `err`. So two runs over them in which there is memory and no call fails
+/// end alike and write the same, with any numbers of jobs and any gates. The status is the expected one, and if the
+/// answer for the system and the class is a term that is out of range, it shows that term. If the files are known,
+/// all words have an expected status, or a term that is out of range decides.
 pub fn answers_are_one()
     ensures { OneAnswer }
 {

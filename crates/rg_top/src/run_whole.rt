@@ -11,22 +11,25 @@ use rg_ports::{Gate, Shelf, Sink, write_all};
 use std::alloc::Global;
 use std::thread::Threads;
 
-/// Runs the command that the words name. `synthesize CLASS FILE` writes to `out` the text of a net of the class that solves the system of
-/// the file, or of a certificate that there is none; `verify FILE CERT` whether the certificate is accepted for the system; `check CLASS
-/// FILE NET` whether the net solves the system and is of the class; `factor FILE` the factors of which the system is the product, or with a
-/// class the net of them all side by side; `split FILE` a net for the system with occurrences of labels told apart, or that system;
-/// `isomorphic FILE FILE2` whether two systems are isomorphic, with the map or the first difference; `examine FILE` what the system is
-/// like; `convert FORM FILE` the system in another form; `generate KIND N` the system of a family for a number; `selftest N` what comes of
-/// three such systems: a net with what `check` says of it, or a certificate with what `verify` says.
+/// Runs the command that the words name. `synthesize CLASS FILE` writes to `out` the text of a net of the class that
+/// solves the system of the file, or of a certificate that there is none; `verify FILE CERT` whether the certificate
+/// is accepted for the system; `check CLASS FILE NET` whether the net solves the system and is of the class; `factor
+/// FILE` the factors of which the system is the product, or with a class the net of them all side by side; `split
+/// FILE` a net for the system with some labels split, or that system; `isomorphic FILE FILE2` whether two systems are
+/// isomorphic, with the map or the first difference; `examine FILE` what the system is like; `convert FORM FILE` the
+/// system in another form; `generate KIND N` the system of a family for a number; `selftest N` the results for three
+/// such systems: a net with the verdict of `check`, or a certificate with the verdict of `verify`.
 ///
-/// A refusal of words or files, and a number out of range, is a line to `err`. What is due is whole before the first write, and each
-/// write offers all that isn't taken yet. A file isn't read on once its end was found, and the second one is asked for only where the first
-/// spells a system. The problems of a system are solved by as many jobs as the words say, those of a self test by one, and the gate is
-/// entered and left for each number of a block of them.
+/// A refusal of words or files, and a number out of range, is a line on `err`. The whole output is computed before
+/// the first write, and each write offers all that isn't taken yet. A file isn't read on once its end was found, and
+/// the second one is asked for only if the first spells a system. The problems of a system are solved by as many jobs
+/// as the words say, those of a self test by one, and the gate is entered and left for each number of a block of
+/// them.
 ///
-/// The status says how it ended: each has its cause in `Ends`, and a status that is due comes by `ComesIfDue`. Of `synthesize` the one
-/// answer for the system and the class is due (`Out`, in `rg_outcome`): a net, a reason, or by `ComesIfPassed` a number out of range.
-/// Neither the jobs nor the gate can change it (`answers_are_one`).
+/// The status says how the run ended. `Ends` has the cause of each status, and `ComesIfDue` says that an expected
+/// status is returned. `synthesize` has one answer for the system and the class (`Out`, in `rg_outcome`): a net, a
+/// reason, or by `ComesIfPassed` a number out of range. Neither the jobs nor the gate can change it
+/// (`answers_are_one`).
 pub fn run<R: Threads + Sync, H: Shelf, O: Sink, E: Sink, G: Gate + Sync>(
     rt: &R,
     alloc: Global,

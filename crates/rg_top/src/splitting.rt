@@ -1,4 +1,4 @@
-//! The answer to a request for a system with its labels told apart.
+//! The answer to a request for a system with some labels split.
 ghost use Rattle.std.specs.Prelude.{◌≡◌, ◌≤◌, IfOk};
 ghost use Rattle.rg_top.specs.Split.{SplitEnds, IsSolvedBy, solved_text};
 ghost use Rattle.rg_split.specs.Rounds.{labelling};

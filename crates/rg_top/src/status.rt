@@ -22,7 +22,7 @@ pub enum Status {
     TooWide(WideCause),
     /// A call of the shelf failed; nothing is written.
     ReadFault,
-    /// A write failed; a proper prefix of what was due is written.
+    /// A write failed; a proper prefix of the output is written.
     WriteFault,
     /// Memory ran out; nothing is written.
     NoMemory,

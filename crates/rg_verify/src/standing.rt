@@ -1,4 +1,4 @@
-//! Where a row stands.
+//! Whether a row applies.
 ghost use Rattle.std.specs.Prelude.{◌≡◌, ◌<◌, ◌↔◌, AllPairs, Contains, IsTrue};
 ghost use Rattle.rg_theory.specs.System.{arc, states, labels, IsArcBefore};
 ghost use Rattle.rg_refuting.specs.Row.{HasArcAt, SharedStands, EventStands};
@@ -11,7 +11,7 @@ use rg_reasons::ProblemCase;
 use rg_refuting::{RowName, Side};
 use rg_theory::{Arc, Class, Problem};
 
-/// Whether the row stands in a case of a problem, below the sides above it.
+/// Whether the row applies in a case of a problem, below the sides above it.
 pub(crate) fn stands(lts: &Lts, problem_case: ProblemCase, above: &[Side], name: RowName) -> bool
     requires asked { IsSeparationProblem lts.now problem_case.problem }
     requires name { IsRowNameOf lts.now name }

@@ -60,7 +60,7 @@ impl Sum {
 pub(crate) enum Stop {
     /// A sum of absolute values passes the greatest.
     Passes,
-    /// There is no memory left.
+    /// Memory ran out.
     NoMemory,
 }
 

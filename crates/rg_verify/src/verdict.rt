@@ -16,11 +16,13 @@ pub(crate) fn comes_before(one: Variable, other: Variable) -> bool
     }
 }
 
-/// What is wrong with a certificate. The first defect is told: `NotSo`, then `CaseMissing`, then by case and by node, in preorder:
-/// `WrongForm` of a split, or of a leaf that of the first wrong row, `SumPasses`, `LeftOver` and `NoContradiction`.
+/// What is wrong with a certificate: the first defect. `NotSo` precedes `CaseMissing`, and then the order is by case
+/// and by node, in preorder: `WrongForm` of a split, or of a leaf that of the first wrong row, `SumPasses`,
+/// `LeftOver` and `NoContradiction`.
 #[derive(Clone, Copy, Debug, PartialEq, Eq)]
 pub enum Defect {
-    /// A row doesn't stand: the class, the problem or its case hasn't it, there is no such arc, or no split so deep above.
+    /// A row doesn't apply: the class, the problem or its case hasn't it, there is no such arc, or no split so deep
+    /// above.
     WrongRow,
     /// A row other than an arc's has a multiplier below 1.
     NotPositive,

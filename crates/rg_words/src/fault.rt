@@ -7,7 +7,7 @@ use std::alloc::{AllocError, AllocFailed};
 /// The first fault of a text that is no word list. Lines are numbered from 1.
 #[derive(Clone, Copy, Debug, PartialEq, Eq)]
 pub enum WordFault {
-    /// In this line a label has a byte that may not stand in a name.
+    /// In this line a label has a byte that isn't allowed in a name.
     BadByte(u32),
     /// With this line there are more than 4,096 states.
     TooManyStates(u32),
@@ -15,7 +15,7 @@ pub enum WordFault {
     TooManyLabels(u32),
     /// A label in this line begins with more than 255 name bytes.
     LongName(u32),
-    /// There is no memory left.
+    /// Memory ran out.
     NoMemory,
 }
 

@@ -1,4 +1,4 @@
-//! How a run ends, beside how it has to end.
+//! How a run ends, compared with how it has to end.
 use crate::case::Case;
 use crate::outside::Outside;
 use crate::stop::Stop;
@@ -26,7 +26,7 @@ impl<'a> Due<'a> {
     }
 }
 
-/// What is told of a run that ended otherwise than it had to; None where it ended so.
+/// Returns a description of a run that ended otherwise than it had to, or None if it ended so.
 pub fn difference_from(
     alloc: Global,
     status: u8,
@@ -70,7 +70,7 @@ fn common_length(a: &[u8], b: &[u8]) -> usize {
     count
 }
 
-// The text behind its first bytes.
+// The text after its first bytes.
 fn behind(text: &[u8], at: usize) -> &[u8] {
     text.get(at..).unwrap_or(&[])
 }

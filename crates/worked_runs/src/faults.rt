@@ -11,7 +11,8 @@ const READ_FAULT: u8 = 5;
 
 const WRITE_FAULT: u8 = 6;
 
-/// What is told where a call of the shelf fails, each in turn, and then one that isn't made.
+/// Returns a description of the first wrong run where a call of the shelf fails, each in turn, and then one that
+/// isn't made.
 pub fn each_read<R: Threads + Sync>(
     rt: &R,
     alloc: Global,
@@ -62,7 +63,8 @@ fn read_fails<R: Threads + Sync>(
     difference_from(alloc, status, &outside, Due::of(case))
 }
 
-/// What is told where a call of the sink that is written to fails, each in turn, and where each smaller room is full.
+/// Returns a description of the first wrong run where a call of the sink that is written to fails, each in turn, and
+/// where each smaller room is full.
 pub fn each_write<R: Threads + Sync>(
     rt: &R,
     alloc: Global,
@@ -100,7 +102,7 @@ fn written(case: &Case) -> &[u8] {
 }
 
 // Only the first k bytes of what is due are taken, since there is no more room, or since this call fails. In the second way the same run
-// again writes all that is due behind them.
+// again writes all that is due after them.
 fn write_fails<R: Threads + Sync>(
     rt: &R,
     alloc: Global,

@@ -1,8 +1,8 @@
-//! Runs the program on cases that stand in files, and tells which end otherwise than they say.
+//! Runs the program on cases from files, and prints which end otherwise than they say.
 //!
-//! The words are names of files of cases, in the form that docs/dev/cases.md gives. For each case that ends otherwise a line is
-//! printed, and at the end `N cases, M differ`; a line that is none of the form ends the program at once, and is named. The status is 0
-//! where each case ended as it says, and 1 otherwise.
+//! The words are names of files of cases, in the form that docs/dev/cases.md gives. For each case that ends otherwise
+//! a line is printed, and at the end `N cases, M differ`; a line that has none of the forms ends the program at once,
+//! and is named. The status is 0 if each case ended as it says, and 1 otherwise.
 #![tactic(auto)]
 
 mod case;

@@ -1,4 +1,4 @@
-//! What is no comparison of bytes: numbers at work beside each other, lines of cases that are refused, and laws.
+//! What isn't a comparison of bytes: numbers at work in parallel, lines of cases that are refused, and laws.
 mod gates;
 mod holding;
 mod laws;

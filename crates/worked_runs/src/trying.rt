@@ -1,4 +1,4 @@
-//! A case as it stands, and with each failure in turn that it asks for.
+//! A case as it is, and with each failure in turn that it asks for.
 use crate::case::Case;
 use crate::ending::{Due, difference_from};
 use crate::faults::{each_read, each_write};
@@ -8,7 +8,7 @@ use rg_ports::NoGate;
 use std::alloc::Global;
 use std::thread::Threads;
 
-/// What is told of the first run of the case that ends otherwise than it has to; None where each ends so.
+/// Returns a description of the first run of the case that ends otherwise than it has to, or None if each ends so.
 pub fn difference<R: Threads + Sync>(
     rt: &R,
     alloc: Global,

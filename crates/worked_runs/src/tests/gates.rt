@@ -1,4 +1,4 @@
-//! So many numbers are at work beside each other as the words say, and each is inside the gate while it is.
+//! As many numbers are at work in parallel as the words say, and each is inside the gate while it is.
 use crate::case::{Case, Fails};
 use crate::outside::Outside;
 use crate::stop::Stop;

@@ -33,7 +33,7 @@ impl<'a> Holding<'a> {
         }
     }
 
-    /// Whether all of the numbers that are held were inside at once, and no other number beside them.
+    /// Whether all of the numbers that are held were inside at once, and no other number with them.
     pub fn were_alone(&self) -> bool {
         self.most.load(Ordering::SeqCst) == self.held.len() as u64
     }
