@@ -14,10 +14,10 @@ program=$(readlink -f "${1:-$top/crates/regions/out/regions}")
 [ -x "$program" ] || { echo "no program at $program: build it first (README.md)"; exit 2; }
 room=$(mktemp -d)
 trap 'rm -rf "$room"' EXIT
-mkdir "$room/bin" "$room/tools"
+mkdir "$room/bin"
 ln -s "$program" "$room/bin/regions"
 cp -r "$top/examples" "$room/examples"
-cp "$top/tools/check_certificate.py" "$room/tools/"
+cp -r "$top/tools" "$room/tools"
 cd "$room" || exit 2
 export PATH="$room/bin:$PATH"
 passed=0
