@@ -1,6 +1,6 @@
 # Renames the labels of a state graph that are no plain names, as a+, a- and a+/1, and prints the state graph:
 #     awk -f examples/plain-names.awk examples/celement.sg > c.sg
-# A name that another label has already gets _ behind it. The old names are told behind .end, where nothing is read: #name NEW OLD.
+# A name that another label already has gets a further _. Lines `#name NEW OLD` after .end, where nothing is read, keep the old names.
 function plain(label,    name) {
   if (label ~ /^[A-Za-z0-9_]+$/)
     return label

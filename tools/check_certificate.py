@@ -211,7 +211,7 @@ def class_number(text):
 
 # ---- the certificate
 
-# What stands behind the word of a reason, a split and a row (before its word too, for a row):
+# What follows the word of a reason, a split and a row (for a row, also what precedes its word):
 #   s  a state         t  a label
 #   m  a multiplier    v  the number of a split    d  a depth: the number of a split on the way from the root
 REASONS = {"unreachable": "s", "fork": "stss", "event": "st", "states": "ss"}
@@ -312,7 +312,7 @@ class Checker:
     def split(self, words):
         form = words[0] if words else ""
         *name, number = self.values(words[1:], SPLITS.get(form))
-        # a split on the start stands only where the class has an N-marking
+        # a split on the start is allowed only if the class has an N-marking
         require(form != "start" or self.net_class.marking is not None, "a split on the start in a class without N-marking")
         return Split(form, name[0] if name else None, number)
 
@@ -323,7 +323,7 @@ class Checker:
             multiplier, *words = self.take()
             word = words[0] if words else ""
             k, *values = self.values([multiplier, *words[1:]], ROWS.get(word))
-            # rule 1: the row stands there
+            # rule 1: the row is allowed there
             terms, constant = self.row(word, values, path)
             # rule 2: the multiplier of each row but `arc` is at least 1
             require(word == "arc" or k >= 1, "a multiplier that isn't positive")
@@ -335,50 +335,50 @@ class Checker:
         # rule 4 (the sums of absolute values are at most 2^127 - 1) isn't needed with numbers of any size
 
     def row(self, word, values, path):
-        """Returns the terms and the constant of a row, which add up to at least 0 (to 0 for an `arc`). Refuses a row that doesn't stand."""
+        """Returns the terms and the constant of a row, which add up to at least 0 (to 0 for an `arc`). Refuses a row that isn't allowed there."""
         net_class, event = self.net_class, self.reason == "event"
         q = values[0] if values else None
         neither = not net_class.pure and not net_class.plain
         plain_alone = net_class.plain and not net_class.pure
         if word == "arc":  # M(Q) + E(T) - M(Q') = 0; the system has this arc; a firing adds the effect
             q, t, r = values
-            self.stands((q, t, r) in self.system.arcs)
+            self.allowed((q, t, r) in self.system.arcs)
             return [(1, tokens_at(q)), (1, effect_of(t)), (-1, tokens_at(r))], 0
         if word == "tokens":  # M(Q) >= 0; always
             return [(1, tokens_at(q))], 0
         if word == "cap":  # k - M(Q) >= 0; the class is k-bounded
-            self.stands(net_class.bound is not None)
+            self.allowed(net_class.bound is not None)
             return [(-1, tokens_at(q))], net_class.bound
         if word == "up":  # 1 - E(T) >= 0; the class is plain; T puts at most 1
-            self.stands(net_class.plain)
+            self.allowed(net_class.plain)
             return [(-1, effect_of(q))], 1
         if word == "down":  # E(T) + 1 >= 0; the class is plain; T takes at most 1
-            self.stands(net_class.plain)
+            self.allowed(net_class.plain)
             return [(1, effect_of(q))], 1
         if word == "makes":  # E(T) >= 0; the class is output-nonbranching, T isn't the consumer; T takes nothing
-            self.stands(net_class.nonbranching and q != self.consumer)
+            self.allowed(net_class.nonbranching and q != self.consumer)
             return [(1, effect_of(q))], 0
         if word == "stop":  # M(Q) - M(S) - 1 >= 0; event S T, neither pure nor plain, an arc of T leaves Q: T takes at most M(Q), more than M(S)
-            self.stands(event and neither and (q, self.t) in self.system.leaving)
+            self.allowed(event and neither and (q, self.t) in self.system.leaving)
             return [(1, tokens_at(q)), (-1, tokens_at(self.s))], -1
         if word == "block":  # -M(S) - E(T) - 1 >= 0; event S T, the class is pure: T takes -E(T), more than M(S)
-            self.stands(event and net_class.pure)
+            self.allowed(event and net_class.pure)
             return [(-1, tokens_at(self.s)), (-1, effect_of(self.t))], -1
         if word == "empty":  # -M(S) >= 0; event S T, plain and not pure: T takes 1, more than M(S)
-            self.stands(event and plain_alone)
+            self.allowed(event and plain_alone)
             return [(-1, tokens_at(self.s))], 0
         if word == "full":  # M(Q) - 1 >= 0; event S T, plain and not pure, an arc of T leaves Q: T takes 1 at Q
-            self.stands(event and plain_alone and (q, self.t) in self.system.leaving)
+            self.allowed(event and plain_alone and (q, self.t) in self.system.leaving)
             return [(1, tokens_at(q))], -1
         if word == "keep":  # -E(T) >= 0; event S T, plain and not pure: T takes 1 and puts at most 1
-            self.stands(event and plain_alone)
+            self.allowed(event and plain_alone)
             return [(-1, effect_of(self.t))], 0
         if word == "apart":  # order 0: M(S') - M(S) - 1 >= 0; order 1: M(S) - M(S') - 1 >= 0; states S S'
-            self.stands(not event)
+            self.allowed(not event)
             less, more = (self.s, self.other) if self.order == 0 else (self.other, self.s)
             return [(1, tokens_at(more)), (-1, tokens_at(less))], -1
         # above D; there is a split number D on the way from the root to the leaf, 0 the root
-        self.stands(q < len(path))
+        self.allowed(q < len(path))
         return self.side(path[q])
 
     def side(self, split):
@@ -390,8 +390,8 @@ class Checker:
         return [(-1, variable)], step * split.number
 
     @staticmethod
-    def stands(holds):
-        require(holds, "a row that doesn't stand there")
+    def allowed(holds):
+        require(holds, "a row that isn't allowed there")
 
 
 def tokens_at(state):

@@ -1,6 +1,6 @@
 # Draws a system by Graphviz: reads a system file as regions writes it (`regions convert apt FILE --from FORM`), and prints a graph for dot.
 #     regions convert apt FILE | awk -f tools/lts2dot.awk | dot -Tsvg > system.svg
-# The initial state has two circles; labels stand on the arrows.
+# The initial state has two circles; labels are at the arrows.
 BEGIN { print "digraph system {\n  rankdir=LR;\n  node [shape=circle];" }
 /^[.]/ { section = $1; next }
 section == ".states" {

@@ -1,6 +1,6 @@
 # Draws a net by Graphviz: reads a net file as regions writes it, and prints a graph for dot.
 #     regions synthesize none FILE | awk -f tools/net2dot.awk | dot -Tsvg > net.svg
-# Places are circles with their tokens, transitions are boxes with their labels, weights stand on the arrows.
+# Places are circles with their tokens, transitions are boxes with their labels, weights are at the arrows.
 function flow(from, to, weight) {
   printf "  \"%s\" -> \"%s\"%s;\n", from, to, weight == 1 ? "" : " [label=\"" weight "\"]"
 }
