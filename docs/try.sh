@@ -1,13 +1,14 @@
 #!/usr/bin/env bash
 # Runs every command line that README.md, the pages of docs/, examples/README.md and the manual page show, and compares its output, its
-# status, and that it prints nothing to err, with what the page says. Run it by hand at the top of the repository, once the program is
-# built; it is no part of the gate:
-#     docs/try.sh [the program, crates/regions/out/regions unless named]
-# A block of lines that begins with `$ ` is a command and what it prints to out. ` # status N` may follow the command; without it the
-# status is 0. Lines of err are shown by `2>&1`. A row of a table may have such a command, then the status and one of the lines of out or
-# err. The manual page has no statuses and may leave output out: where lines follow a command they are those of out and err.
-# Each system and its certificate that a command line gives to `verify` is judged by tools/check_certificate.py too, which has to say the
-# same yes or no.
+# status, and that it prints nothing to standard error, with what the page says. Run it by hand at the top of the repository, once the
+# program is built; it is no part of the gate:
+#     docs/try.sh [the program, crates/regions/out/regions by default]
+# A block of lines that begins with `$ ` is a command and what it prints to standard output. ` # status N` may follow the command; the
+# default is 0. Lines of standard error are shown by `2>&1`. A row of a table may have such a command, then the status and one of the lines
+# that are printed. The manual page has no statuses and may leave output out: lines that follow a command are those of both outputs.
+# tools/check_certificate.py checks each system and certificate that a command line gives to `verify`, or that `synthesize` writes, and has
+# to answer the same yes or no as `verify`.
+# The last line is `N passed, M failed`. The status is 0 if nothing failed and at least `least` lines were tried.
 set -u
 top=$(cd "$(dirname "$0")/.." && pwd)
 program=$(readlink -f "${1:-$top/crates/regions/out/regions}")
@@ -22,8 +23,10 @@ cd "$room" || exit 2
 export PATH="$room/bin:$PATH"
 passed=0
 failed=0
+# how many lines the pages have at least; raise it when they get more
+least=178
 
-# whether what was tried is as it should be, the page, the command, and what differs
+# counts a result. Arguments: whether the result is right, the page, the command, what differs
 count() {
   if [ "$1" = yes ]; then
     passed=$((passed + 1))
@@ -33,35 +36,35 @@ count() {
   fi
 }
 
-# a command, what it prints, and the page
+# runs a command of a block. Arguments: the command, what it prints, the page
 try() {
-  local line=$1 due=0 status right=no
-  case "$line" in *' # status '[0-9]) due=${line##* } ;; esac
+  local line=$1 wanted_status=0 status right=no
+  case "$line" in *' # status '[0-9]) wanted_status=${line##* } ;; esac
   bash -c "$line" > "$room/out" 2> "$room/err"
   status=$?
-  if [ "$(cat "$room/out")" = "$2" ] && [ "$status" = "$due" ] && [ ! -s "$room/err" ]; then right=yes; fi
-  count "$right" "$3" "$line" "status $status, due $due; $(diff <(printf '%s\n' "$2") "$room/out" | head -20; head -3 "$room/err")"
+  if [ "$(cat "$room/out")" = "$2" ] && [ "$status" = "$wanted_status" ] && [ ! -s "$room/err" ]; then right=yes; fi
+  count "$right" "$3" "$line" "status $status, expected $wanted_status; $(diff <(printf '%s\n' "$2") "$room/out" | head -20; head -3 "$room/err")"
   both "$3" "$status" "$line"
 }
 
-# a command of a row, its status, one of the lines that come, and the page
+# runs a command of a row. Arguments: the command, its status, one of the lines that it prints, the page
 try_row() {
   local status right=no
   bash -c "$1" > "$room/out" 2>&1
   status=$?
   if [ "$status" = "$2" ] && grep -qxF -e "$3" "$room/out"; then right=yes; fi
-  count "$right" "$4" "$1" "status $status, due $2; no line $3"
+  count "$right" "$4" "$1" "status $status, expected $2; no line $3"
   both "$4" "$status" "$1"
 }
 
-# the page, the status and the command of `verify`, or of `synthesize` that wrote a certificate: `verify` and the checker say the same
+# compares `verify` with the checker after a `verify`, or a `synthesize` that wrote a certificate. Arguments: the page, the status, the command
 both() {
-  local page=$1 status=$2 line=${3% # status [0-9]} file certificate due=0 right=no
+  local page=$1 status=$2 line=${3% # status [0-9]} file certificate verdict=0 right=no
   local -a words
   read -ra words <<< "$line"
   file=${words[3]-}
   case "$status $line" in
-    '0 regions verify '* | '1 regions verify '*) file=${words[2]} certificate=${words[3]} due=$status ;;
+    '0 regions verify '* | '1 regions verify '*) file=${words[2]} certificate=${words[3]} verdict=$status ;;
     '1 regions synthesize '*' > '*) certificate=${line##* > } ;;
     '1 regions synthesize '*) certificate=$room/out ;;
     *) return ;;
@@ -73,14 +76,14 @@ both() {
     *) cp "$file" "$room/system" ;;
   esac
   regions verify "$room/system" "$room/certificate" > "$room/first" 2> "$room/err"
-  [ $? = "$due" ] && right=yes
+  [ $? = "$verdict" ] && right=yes
   python3 tools/check_certificate.py "$room/system" "$room/certificate" > "$room/second" 2>> "$room/err"
-  [ $? = "$due" ] || right=no
-  [ "$due" = 1 ] || cmp -s "$room/first" "$room/second" || right=no
+  [ $? = "$verdict" ] || right=no
+  [ "$verdict" = 1 ] || cmp -s "$room/first" "$room/second" || right=no
   count "$right" "$page" "verify and the checker after: $line" "$(cat "$room/first" "$room/second" "$room/err")"
 }
 
-# a command of the manual page, what it prints where that is shown, and whether it is shown
+# runs a command of the manual page. Arguments: the command, what it prints if that is shown, whether it is shown
 try_manual() {
   local status right=no
   bash -c "$1" > "$room/out" 2>&1
@@ -108,9 +111,9 @@ for page in README.md $(cd "$top" && echo docs/*.md) examples/README.md; do
         ;;
       '|'*'`$ '*)
         row=${line#*'`$ '}
-        comes=${row#*'` | '}
-        told=${comes#*': `'}
-        try_row "${row%%'` | '*}" "${comes%%:*}" "${told%'` |'}" "$page"
+        result=${row#*'` | '}
+        shown_line=${result#*': `'}
+        try_row "${row%%'` | '*}" "${result%%:*}" "${shown_line%'` |'}" "$page"
         ;;
       *)
         [ -z "$command" ] || try "$command" "$wanted" "$page"
@@ -139,8 +142,8 @@ while IFS= read -r line; do
   esac
 done < "$top/docs/regions.1"
 
-# what no page shows: a word that isn't UTF-8, a folder in a file's place, output that isn't taken, or in part alone; and of each status with a line
-# to err that it is there, and that nothing is written to out
+# what no page shows: an argument that isn't UTF-8, a folder instead of a file, output that isn't taken, or only in part; and for each status with
+# a line on standard error, that the line is there and nothing is written to standard output
 try "regions \$'\\xff' # status 9" '' docs/try.sh
 try "regions examine examples # status 5" '' docs/try.sh
 try "regions generate grid 1 > /dev/full # status 6" '' docs/try.sh
@@ -152,4 +155,6 @@ try "regions examine 2>&1 > /dev/null # status 2" 'usage: words refused' docs/tr
 try "regions generate doubling 127 > doubling; regions synthesize none doubling 2> /dev/null # status 4" '' docs/try.sh
 try "regions synthesize none doubling 2>&1 > /dev/null # status 4" 'too wide: cycle: 85070591730234615865843651857942052864 * 2 - 0 * 0' docs/try.sh
 echo "$passed passed, $failed failed"
-[ "$failed" = 0 ]
+tried=$((passed + failed))
+[ "$tried" -ge "$least" ] || echo "tried $tried lines, expected $least at least"
+[ "$failed" = 0 ] && [ "$tried" -ge "$least" ]

@@ -8,6 +8,8 @@ Exit status: 0  the certificate holds: it prints `accepted: no net of class CLAS
              1  the certificate doesn't hold: it prints `refused: line N: ` and why
              2  wrong arguments, or a file that can't be read, or FILE is no system file: it prints why to standard error
 
+Example:     python3 tools/check_certificate.py examples/cycle3.apt examples/cycle3-plain.cert
+
 For a state graph or a list of words write an APT file first: regions convert apt FILE --from graph > FILE.apt
 Numbers have any size here, so rule 4 of a leaf (sums within 128 bits) isn't checked; what is accepted besides is right too.
 """
@@ -319,6 +321,7 @@ class Checker:
     def check_leaf(self, path):
         """Checks that the rows of a leaf add up to a negative constant."""
         sums, constants = {}, 0
+        # a row begins with its multiplier; a set, since an empty line begins with no character, and "" is in every string
         while self.line + 1 < len(self.lines) and self.lines[self.line][:1] in {*"-0123456789"}:
             multiplier, *words = self.take()
             word = words[0] if words else ""
