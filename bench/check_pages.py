@@ -138,9 +138,9 @@ def check_trusted(text):
 
 def check_style(page, text):
     for number, line in prose(text):
-        if len(line) > 120 and not line.startswith('|'):
+        if len(line) > 120 and not line.lstrip().startswith('|'):
             yield f'{page}:{number}: {len(line)} characters'
-        if page == CASE_NAMES and line.startswith('|'):
+        if page == CASE_NAMES and line.lstrip().startswith('|'):
             continue
         for found in AVOIDED.finditer(re.sub(r'`[^`]*`', '', line)):
             yield f'{page}:{number}: {found.group(0)}'
