@@ -22,7 +22,7 @@ TOP = os.path.normpath(os.path.join(os.path.dirname(os.path.abspath(__file__)), 
 PAGES = sorted(['README.md', 'tools/README.md', 'examples/README.md', 'docs/regions.1']
                + [os.path.relpath(p, TOP) for p in glob.glob(os.path.join(TOP, 'docs/**/*.md'), recursive=True)])
 # what the pages say of other tools and of the outside
-ELSEWHERE = {'OpenSSL', 'GitHub', 'LibreOffice', 'write_sg', 'a_minus', 'a_plus_1', 'a_toggle', 'gI_J', 'gI_', 'k_j'}
+ELSEWHERE = {'OpenSSL', 'GitHub', 'LibreOffice', 'write_sg', 'a_minus', 'a_plus_1', 'a_plus_2', 'a_toggle', 'gI_J', 'gI_', 'k_j'}
 AVOIDED = re.compile(r'\b(noes|is due|tells?|told|telling|stands?|standing|stood|behind|beside)\b', re.IGNORECASE)
 # whose table has names of cases without backquotes
 CASE_NAMES = 'docs/dev/contributing.md'
