@@ -1,7 +1,7 @@
 -- The arcs of one label at one state.
-use Rattle.std.proofs.Common.{◌≡◌, ◌⊎◌, ◌↔◌, ℕ, ◌+◌, ◌<◌, ◌≤◌, true, false, IsTrue, ltb, nat_eq, nat_lt, eqb-true, List, length, get_or, slice_index_or, Contains, AllPairs, inl, inr, sym, ap, subst, ◌∙◌, arith}
+use Rattle.std.proofs.Common.{◌≡◌, ◌⊎◌, ◌↔◌, ℕ, ◌+◌, ◌<◌, ◌≤◌, true, false, IsTrue, ltb, nat_eq, nat_lt, eqb-true, leb, List, length, get_or, slice_index_or, Contains, AllPairs, inl, inr, sym, ap, subst, ◌∙◌, arith}
 use Rattle.std.specs.List.Sorted.{IsNonDecreasingBy}
-use Rattle.std.proofs.lemmas.Bool.{cases_lt, ltb-true, ltb-false, eq-eqb}
+use Rattle.std.proofs.lemmas.Bool.{cases_lt, ltb-true, ltb-false, leb-true, leb-false, eq-eqb}
 use Rattle.std.proofs.lemmas.List.{get_or_default}
 use Rattle.std.proofs.lemmas.List.Elements.{Contains-get_or}
 use Rattle.rg_theory.specs.declared.Arc.{Arc}
@@ -109,3 +109,21 @@ stands_nowhere arcs t index less past = (λ is. let m = ltb-true index (length a
         let is : (get_or arcs k a).label ≡ t = ap (λ (x : Arc). x.label) at ∙ label in
         let m = ltb-true (get_or arcs k a).label t (less k a (omega (arith, in_k, past))) in
         absurd (omega (arith, m, is))
+
+-- where the labels that are no greater than that of arc i end, arc i is passed, and the arcs from it on have its label
+pub ends_after : (arcs : List Arc) (i end : ℕ) (d : Arc) → i < length arcs
+    → ((k : ℕ) (e : Arc) → end ≤ k → k < length arcs → leb (slice_index_or arcs k e).label (slice_index_or arcs i d).label ≡ false) → i < end
+ends_after arcs i end d lt past = go (cases_lt i end)
+  where
+    go : (i < end) ⊎ (end ≤ i) → i < end
+    go (inl less) = less
+    go (inr le) = let n = leb-false (slice_index_or arcs i d).label (slice_index_or arcs i d).label (past i d le lt) in absurd (omega (arith, n))
+
+pub ends_same : (arcs : List Arc) (i end : ℕ) (d : Arc) → i < length arcs → end ≤ length arcs → IsNonDecreasingBy (λ (a : Arc). a.label) arcs
+    → ((k : ℕ) (e : Arc) → k < end → leb (slice_index_or arcs k e).label (slice_index_or arcs i d).label ≡ true)
+    → (k : ℕ) (e : Arc) → i ≤ k → k < end → (slice_index_or arcs k e).label ≡ (slice_index_or arcs i e).label
+ends_same arcs i end d lt within rises up k e le less =
+    let same = ap (λ (a : Arc). a.label) (get_or_default arcs i d e lt) in
+    let high = leb-true (slice_index_or arcs k e).label (slice_index_or arcs i d).label (up k e less) in
+    let low = rises i k e le (omega (arith, within, less)) in
+    omega (arith, same, high, low)

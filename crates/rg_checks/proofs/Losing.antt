@@ -19,15 +19,16 @@ step_of lts s t a has from label = (a.to, subst (Contains lts.arcs) (λ i. recor
 abbrev pub AreKept : System → ℕ → ℕ → List Arc → ℕ → Type 0
 AreKept lts t to here n = (k : ℕ) (d : Arc) → k < n → ((slice_index_or here k d).label ≡ t) ⊎ HasStep lts to (slice_index_or here k d).label
 
-pub kept_more : (lts : System) (t to i : ℕ) (d : Arc) (here : List Arc) → i < length here → AreKept lts t to here i
-    → ((slice_index_or here i d).label ≡ t) ⊎ HasStep lts to (slice_index_or here i d).label → AreKept lts t to here (i + 1)
-kept_more lts t to i d here lt kept next k e less = go (cases_eq k i)
+-- and so are those of further arcs, which have one label
+pub kept_more : (lts : System) (t to i j : ℕ) (d : Arc) (here : List Arc) → i < length here → AreKept lts t to here i
+    → ((k : ℕ) (e : Arc) → i ≤ k → k < j → (slice_index_or here k e).label ≡ (slice_index_or here i e).label)
+    → ((slice_index_or here i d).label ≡ t) ⊎ HasStep lts to (slice_index_or here i d).label → AreKept lts t to here j
+kept_more lts t to i j d here lt kept same next k e less = go (cases_lt k i)
   where
-    go : (k ≡ i) ⊎ (k ≡ i → ⊥) → ((slice_index_or here k e).label ≡ t) ⊎ HasStep lts to (slice_index_or here k e).label
-    go (inl same) =
-        subst (λ n. ((slice_index_or here n e).label ≡ t) ⊎ HasStep lts to (slice_index_or here n e).label) (sym same)
-        (subst (λ (x : Arc). (x.label ≡ t) ⊎ HasStep lts to x.label) (get_or_default here i d e lt) next)
-    go (inr ne) = kept k e (omega (arith, less, ne))
+    go : (k < i) ⊎ (i ≤ k) → ((slice_index_or here k e).label ≡ t) ⊎ HasStep lts to (slice_index_or here k e).label
+    go (inl early) = kept k e early
+    go (inr late) =
+        subst (λ n. (n ≡ t) ⊎ HasStep lts to n) (ap (λ (x : Arc). x.label) (get_or_default here i d e lt) ∙ sym (same k e late less)) next
 
 module _ (lts : System) (s t to : ℕ) (here : List Arc) (leaving : (a : Arc) → Contains here a ↔ (Contains lts.arcs a × (a.from ≡ s))) where
   -- a label that is lost has an arc that isn't kept
