@@ -1,14 +1,17 @@
 -- The list of a label's places, place by place, and the lists of all labels.
-use Rattle.std.proofs.Common.{◌≡◌, ◌≢◌, ◌⊎◌, inl, inr, ⊎_elim, ℕ, zero, suc, ◌+◌, ◌<◌, ◌≤◌, List, [], ◌∷◌, ◌++◌, length, get_or, Some, slice_get, All, Contains, Vec, refl, sym, ap, subst, ◌∙◌, arith, length-append}
+use Rattle.std.proofs.Common.{◌≡◌, ◌≢◌, ◌⊎◌, inl, inr, ⊎_elim, ℕ, zero, suc, ◌+◌, ◌<◌, ◌≤◌, ◌==◌, ◌&&◌, Bool, List, [], ◌∷◌, ◌++◌, length, get_or, Some, slice_get, All, Contains, Vec, refl, sym, ap, subst, ◌∙◌, arith, length-append}
 use Rattle.std.specs.declared.alloc.Global.{Global}
-use Rattle.std.proofs.lemmas.Bool.{cases_lt}
-use Rattle.std.proofs.lemmas.List.{get_or_push}
+use Rattle.std.proofs.Math.Bool.{and-false}
+use Rattle.std.proofs.lemmas.Bool.{cases_lt, cases_eq, ne_eqb, cond-false}
+use Rattle.std.proofs.Math.ListN.{set}
+use Rattle.std.proofs.lemmas.List.{get_or_push, append-nil, length-set, get_or-set_other}
+use Rattle.std.proofs.lemmas.Grind.{get_or-set_at}
 use Rattle.std.proofs.lemmas.List.Elements.{All-push, All-weaker, Contains-push, Contains-append_left}
 use Rattle.std.proofs.lemmas.Option.{same_Some}
 use Rattle.rg_integers.specs.Range.{greatest}
 use Rattle.rg_theory.specs.Net.{Place, Net, IsPlaceAt, pre_weight, post_weight}
 use Rattle.rg_net_verdict.specs.declared.flow.Flow.{Flow}
-use Rattle.rg_net_verdict.specs.Flows.{IsFlowBelow, IsFlow, AreFlowsBelow, AreFlows}
+use Rattle.rg_net_verdict.specs.Flows.{IsFlowBelow, IsFlow, AreFlowsBelow, AreFlowsAt, AreFlows, flow_if}
 
 pub flow_start : (net : Net) (t : ℕ) → IsFlowBelow net t 0 []
 flow_start net t = record {
@@ -84,24 +87,49 @@ module _ (net : Net) (t i : ℕ) (flow : List Flow) (so_far : IsFlowBelow net t 
           inr (ap (λ q. pre_weight q t) (sym same) ∙ none, ap (λ q. post_weight q t) (sym same) ∙ none', λ k d lt' e'. absurd (let below = so_far.listed.within k d lt' in omega arith))))
           (cases_lt j i)
 
-pub flow_all : (net : Net) (t i : ℕ) (flow : List Flow) → i ≡ length net.places → IsFlowBelow net t i flow → IsFlow net t flow
-flow_all net t i flow e so_far = subst (λ n. IsFlowBelow net t n flow) e so_far
+-- the next place joins the list, unless both weights are 0
+pub flow_next : (net : Net) (t i : ℕ) (flow : List Flow) (x : Place) (pre post : ℕ) → IsFlowBelow net t i flow → IsPlaceAt net i x → pre ≡ pre_weight x t → post ≡ post_weight x t → post ≤ greatest
+    → IsFlowBelow net t (i + 1) (flow ++ flow_if i pre post)
+flow_next net t i flow x pre post so_far at is is' small = go (cases_eq pre 0) (cases_eq post 0)
+  where
+    one : Flow
+    one = record { place = i; pre = pre; post = post }
 
-pub flows_start : (net : Net) → AreFlowsBelow net 0 []
-flows_start net = record { one_each = refl; each = λ t d lt. absurd (omega arith) }
+    some : flow_if i pre post ≡ one ∷ [] → IsFlowBelow net t (i + 1) (flow ++ flow_if i pre post)
+    some is_one = subst (λ l. IsFlowBelow net t (i + 1) (flow ++ l)) (sym is_one) (flow_more net t i flow so_far x at one refl is is' small)
 
-pub flows_more : (net : Net) (n : ℕ) (flows : List (Vec Flow Global)) (x : Vec Flow Global) → AreFlowsBelow net n flows → IsFlow net n x.items → AreFlowsBelow net (n + 1) (flows ++ x ∷ [])
-flows_more net n flows x so_far here =
-    record {
-      one_each = length-append flows (x ∷ []) ∙ ap (λ k. k + 1) so_far.one_each;
-      each = λ t d lt. ⊎_elim
-          (λ before. subst (λ (v : Vec Flow Global). IsFlow net t v.items) (sym (get_or_before flows x d t (let long = so_far.one_each in omega arith))) (so_far.each t d before))
-          (λ last. (let e : n ≡ t = omega arith in subst (λ (v : Vec Flow Global). IsFlow net t v.items) (sym (get_or_push flows x d t (so_far.one_each ∙ e))) (subst (λ k. IsFlow net k x.items) e here)))
-          (cases_lt t n);
-    }
+    go : (pre ≡ 0) ⊎ (pre ≡ 0 → ⊥) → (post ≡ 0) ⊎ (post ≡ 0 → ⊥) → IsFlowBelow net t (i + 1) (flow ++ flow_if i pre post)
+    go (inl none) (inl none') =
+        let empty : flow_if i pre post ≡ [] = ap (λ (n : ℕ). flow_if i n post) none ∙ ap (λ (n : ℕ). flow_if i 0 n) none' in
+        subst (λ l. IsFlowBelow net t (i + 1) (flow ++ l)) (sym empty) (subst (IsFlowBelow net t (i + 1)) (sym (append-nil flow)) (flow_kept net t i flow so_far x at (sym is ∙ none) (sym is' ∙ none')))
+    go (inr ne) _ = some (cond-false ((pre == 0) && (post == 0)) [] (one ∷ []) (ap (λ (b : Bool). b && (post == 0)) (ne_eqb pre 0 ne)))
+    go (inl none) (inr ne) = some (cond-false ((pre == 0) && (post == 0)) [] (one ∷ []) (ap (λ (b : Bool). (pre == 0) && b) (ne_eqb post 0 ne) ∙ and-false (pre == 0)))
 
-pub flows_all : (net : Net) (n : ℕ) (flows : List (Vec Flow Global)) → n ≡ net.labels → AreFlowsBelow net n flows → AreFlows net flows
-flows_all net n flows e so_far = subst (λ k. AreFlowsBelow net k flows) e so_far
+pub flows_start : (net : Net) (flows : List (Vec Flow Global)) → length flows ≡ net.labels → All (λ f. f.items ≡ []) flows → AreFlowsBelow net 0 flows
+flows_start net flows one_each empty = record {
+  one_each = one_each;
+  each = λ t d lt. subst (IsFlowBelow net t 0) (sym (empty t d (omega (arith, one_each, lt)))) (flow_start net t);
+}
+
+pub at_start : (net : Net) (i : ℕ) (flows : List (Vec Flow Global)) → AreFlowsBelow net i flows → AreFlowsAt net i 0 flows
+at_start net i flows are = record { one_each = are.one_each; done = λ t d lt few. absurd (omega arith); left = λ t d le few. are.each t d few }
+
+pub at_more : (net : Net) (i k : ℕ) (flows : List (Vec Flow Global)) (x : Vec Flow Global) → AreFlowsAt net i k flows → k < length flows → IsFlowBelow net k (i + 1) x.items
+    → AreFlowsAt net i (k + 1) (set flows k x)
+at_more net i k flows x are lt next = record {
+  one_each = length-set flows k x ∙ are.one_each;
+  done = λ t d less few. done t d (cases_eq t k) less few;
+  left = λ t d le few. subst (λ (v : Vec Flow Global). IsFlowBelow net t i v.items) (sym (get_or-set_other flows k t x d (omega (arith, le)))) (are.left t d (omega (arith, le)) few);
+}
+  where
+    done : (t : ℕ) (d : Vec Flow Global) → (t ≡ k) ⊎ (t ≡ k → ⊥) → t < k + 1 → t < net.labels → IsFlowBelow net t (i + 1) (get_or (set flows k x) t d).items
+    done t d (inl same) less few =
+        subst (λ (v : Vec Flow Global). IsFlowBelow net t (i + 1) v.items) (sym (get_or-set_at flows k t x d same lt)) (subst (λ n. IsFlowBelow net n (i + 1) x.items) (sym same) next)
+    done t d (inr ne) less few =
+        subst (λ (v : Vec Flow Global). IsFlowBelow net t (i + 1) v.items) (sym (get_or-set_other flows k t x d ne)) (are.done t d (omega (arith, less, ne)) few)
+
+pub at_end : (net : Net) (i k : ℕ) (flows : List (Vec Flow Global)) → length flows ≤ k → AreFlowsAt net i k flows → AreFlowsBelow net (i + 1) flows
+at_end net i k flows all are = let long = are.one_each in record { one_each = long; each = λ t d lt. are.done t d (omega (arith, all, long, lt)) lt }
 
 -- the list of a label that was read
 pub flow_read : (net : Net) (flows : List (Vec Flow Global)) (t : ℕ) (x : Vec Flow Global) → AreFlows net flows → t < net.labels → x ≡ get_or flows t x → IsFlow net t x.items

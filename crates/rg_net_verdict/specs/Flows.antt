@@ -1,5 +1,5 @@
 -- What a label takes from places and puts on them, as a list of these places.
-use Rattle.std.specs.Prelude.{◌≡◌, ◌≢◌, ◌⊎◌, ℕ, ◌+◌, ◌-◌, ◌<◌, ◌≤◌, List, length, All, Contains, Vec, slice_index, slice_index_or}
+use Rattle.std.specs.Prelude.{◌≡◌, ◌≢◌, ◌⊎◌, ℕ, ◌+◌, ◌-◌, ◌<◌, ◌≤◌, ◌==◌, ◌&&◌, if◌then◌else◌, List, [], ◌∷◌, length, All, Contains, Vec, slice_index, slice_index_or}
 use Rattle.std.specs.declared.alloc.Global.{Global}
 use Rattle.rg_integers.specs.Range.{greatest}
 use Rattle.rg_theory.specs.Net.{Place, Net, Marking, pre_weight, post_weight, IsPlaceAt}
@@ -20,13 +20,23 @@ pub record IsFlowBelow (net : Net) (t n : ℕ) (flow : List Flow) : Type 0 where
 abbrev pub IsFlow : Net → ℕ → List Flow → Type 0
 IsFlow net t flow = IsFlowBelow net t (length net.places) flow
 
--- one list for each of the first n labels
+-- one list for each label, of the places below n
 pub record AreFlowsBelow (net : Net) (n : ℕ) (flows : List (Vec Flow Global)) : Type 0 where
-  pub one_each : length flows ≡ n
-  pub each : (t : ℕ) (d : Vec Flow Global) → t < n → IsFlow net t (slice_index_or flows t d).items
+  pub one_each : length flows ≡ net.labels
+  pub each : (t : ℕ) (d : Vec Flow Global) → t < net.labels → IsFlowBelow net t n (slice_index_or flows t d).items
 
 abbrev pub AreFlows : Net → List (Vec Flow Global) → Type 0
-AreFlows net flows = AreFlowsBelow net net.labels flows
+AreFlows net flows = AreFlowsBelow net (length net.places) flows
+
+-- the lists of the first k labels are of the places up to n, and the others of those below n
+pub record AreFlowsAt (net : Net) (n k : ℕ) (flows : List (Vec Flow Global)) : Type 0 where
+  pub one_each : length flows ≡ net.labels
+  pub done : (t : ℕ) (d : Vec Flow Global) → t < k → t < net.labels → IsFlowBelow net t (n + 1) (slice_index_or flows t d).items
+  pub left : (t : ℕ) (d : Vec Flow Global) → k ≤ t → t < net.labels → IsFlowBelow net t n (slice_index_or flows t d).items
+
+-- the place with its weights, unless both are 0
+abbrev pub flow_if : ℕ → ℕ → ℕ → List Flow
+flow_if place pre post = if (pre == 0) && (post == 0) then [] else (record { place = place; pre = pre; post = post } ∷ [])
 
 -- each place of the list has the tokens that the label takes
 abbrev pub HasTokens : List Flow → Marking → Type 0
