@@ -9,7 +9,7 @@
     bench/second.py examine examples/side.apt [json]
     bench/second.py cases 1 1000 > crates/worked_runs/data/random.cases
     bench/second.py cases 2 400 marking > crates/worked_runs/data/random_marking.cases
-    bench/second.py cases 3 800 further > crates/worked_runs/data/random_further.cases
+    bench/second.py cases 3 600 further > crates/worked_runs/data/random_further.cases
 
 It is written from docs/dev/algorithm.md, docs/theory.md and docs/formats.md alone: fractions of any size, a problem at a time, each kept place asked, each
 dictionary made anew. `compare` makes random systems (2,000 unless a number is named) of up to 6 states and 4 labels, runs the program with 1,
