@@ -1,8 +1,11 @@
 -- The bytes of a text that names a class, and the bound of that class.
-use Rattle.std.proofs.Common.{◌≡◌, inl, inr, ℕ, nat_lt, Bool, true, false, ◌&&◌, List, [], ◌∷◌, ◌++◌, codes, decimal, refl, sym, ap, ap₂, subst, ◌∙◌, arith}
+use Rattle.std.proofs.Common.{◌≡◌, inl, inr, ℕ, nat_lt, Bool, true, false, not, ◌&&◌, ◌==◌, ◌≤◌, All, List, [], ◌∷◌, ◌++◌, codes, decimal, refl, sym, ap, ap₂, subst, ◌∙◌, arith}
 use Rattle.std.specs.List.{list_all, join_with_byte}
 use Rattle.std.specs.Char.{is_ascii_digit}
+use Rattle.std.proofs.lemmas.Bool.{and_parts}
 use Rattle.std.proofs.lemmas.Bool.Decides.{nat_tests}
+use Rattle.std.proofs.lemmas.List.Elements.{All-weaker}
+use Rattle.std.proofs.lemmas.List.Sums.{AllPass-from_list_all, list_all-from_AllPass}
 use Rattle.std.proofs.lemmas.Fmt.{digits_decimal}
 use Rattle.std.proofs.lemmas.List.Folds.{list_all-append}
 use Rattle.std.proofs.lemmas.List.Splits.{join_with_byte-slice_split}
@@ -16,30 +19,47 @@ use Rattle.rg_theory.proofs.ClassTexts.{numerals}
 abbrev pub is_shown : ℕ → Bool
 is_shown b = nat_lt 32 b && nat_lt b 127
 
-digit_shown : (b : ℕ) → is_ascii_digit b ≡ true → is_shown b ≡ true
-digit_shown b is = grind (arith, nat_tests)
+-- such a byte that is no comma
+abbrev pub is_word_byte : ℕ → Bool
+is_word_byte b = is_shown b && not (b == 44)
 
-digits_shown : (bs : List ℕ) → list_all is_ascii_digit bs ≡ true → list_all is_shown bs ≡ true
-digits_shown [] all = refl
-digits_shown (b ∷ bs) all = by (is_ascii_digit b) refl all (digits_shown bs)
+digit_in_word : (b : ℕ) → is_ascii_digit b ≡ true → is_word_byte b ≡ true
+digit_in_word b is = grind (arith, nat_tests)
+
+-- a test that bytes pass which pass another one
+all_weaker : (p q : ℕ → Bool) → ((b : ℕ) → p b ≡ true → q b ≡ true) → (bs : List ℕ) → list_all p bs ≡ true → list_all q bs ≡ true
+all_weaker p q weaker bs all = list_all-from_AllPass q bs (All-weaker (λ b. p b ≡ true) (λ b. q b ≡ true) weaker bs (AllPass-from_list_all p bs all))
+
+number_in_word : (k : ℕ) (tail : List ℕ) → k ≤ 255 → list_all is_word_byte tail ≡ true → list_all is_word_byte (decimal k ++ tail) ≡ true
+number_in_word k tail few all =
+    list_all-append is_word_byte (decimal k) tail ∙ ap₂ ◌&&◌ (all_weaker is_ascii_digit is_word_byte digit_in_word (decimal k) (digits_decimal numerals k (omega arith))) all
+
+-- the bytes of a word that gives a condition
+pub word_bytes : (c : Condition) (word : List ℕ) → IsWordOf c word → list_all is_word_byte word ≡ true
+word_bytes Pure word is = ap (list_all is_word_byte) is
+word_bytes Plain word is = ap (list_all is_word_byte) is
+word_bytes (Bounded k) word (inl (one, safe)) = ap (list_all is_word_byte) safe
+word_bytes (Bounded k) word (inr (some, few, spelled)) = ap (list_all is_word_byte) spelled ∙ number_in_word k (codes "-bounded") few refl
+word_bytes (Multiple n) word (some, few, spelled) = ap (list_all is_word_byte) spelled ∙ number_in_word n (codes "-marking") few refl
+word_bytes Nonbranching word is = ap (list_all is_word_byte) is
+
+word_shown : (c : Condition) (word : List ℕ) → IsWordOf c word → list_all is_shown word ≡ true
+word_shown c word is = all_weaker is_word_byte is_shown (λ b e. (and_parts (is_shown b) (not (b == 44)) e).0) word (word_bytes c word is)
+
+-- no comma stands in the word
+abbrev pub LacksComma : List ℕ → Type 0
+LacksComma word = All (λ b. (b == 44) ≡ false) word
+
+pub word_lacks : (c : Condition) (word : List ℕ) → IsWordOf c word → LacksComma word
+word_lacks c word is =
+    All-weaker (λ b. is_word_byte b ≡ true) (λ b. (b == 44) ≡ false) (λ b e. not_true (b == 44) (and_parts (is_shown b) (not (b == 44)) e).1) word (AllPass-from_list_all is_word_byte word (word_bytes c word is))
   where
-    by : (d : Bool) → is_ascii_digit b ≡ d → (d && list_all is_ascii_digit bs) ≡ true → (list_all is_ascii_digit bs ≡ true → list_all is_shown bs ≡ true)
-        → list_all is_shown (b ∷ bs) ≡ true
-    by true e rest more = ap₂ ◌&&◌ (digit_shown b e) (more rest)
-    by false e rest more = absurd cc
+    not_true : (a : Bool) → not a ≡ true → a ≡ false
+    not_true true e = absurd cc
+    not_true false e = refl
 
 both_shown : (xs ys : List ℕ) → list_all is_shown xs ≡ true → list_all is_shown ys ≡ true → list_all is_shown (xs ++ ys) ≡ true
 both_shown xs ys x y = list_all-append is_shown xs ys ∙ ap₂ ◌&&◌ x y
-
-word_shown : (c : Condition) (word : List ℕ) → IsWordOf c word → list_all is_shown word ≡ true
-word_shown Pure word is = ap (list_all is_shown) is
-word_shown Plain word is = ap (list_all is_shown) is
-word_shown (Bounded k) word (inl (one, safe)) = ap (list_all is_shown) safe
-word_shown (Bounded k) word (inr (some, few, spelled)) =
-    ap (list_all is_shown) spelled ∙ both_shown (decimal k) (codes "-bounded") (digits_shown (decimal k) (digits_decimal numerals k (omega arith))) refl
-word_shown (Multiple n) word (some, few, spelled) =
-    ap (list_all is_shown) spelled ∙ both_shown (decimal n) (codes "-marking") (digits_shown (decimal n) (digits_decimal numerals n (omega arith))) refl
-word_shown Nonbranching word is = ap (list_all is_shown) is
 
 joined_shown : (word : List ℕ) (more : List (List ℕ)) → list_all is_shown word ≡ true → list_all is_shown (join_with_byte 44 more) ≡ true
     → list_all is_shown (join_with_byte 44 (word ∷ more)) ≡ true

@@ -1,5 +1,5 @@
 -- The words of a class, read one after the other.
-use Rattle.std.proofs.Common.{◌≡◌, ◌≢◌, inr, ℕ, zero, suc, ◌+◌, ◌<◌, ◌≤◌, Bool, true, false, List, [], ◌∷◌, ◌++◌, length, get_or, Option, None, Some, refl, sym, ap, subst, ◌∙◌, arith, codes, append_assoc, append-nil, length-append, is_some}
+use Rattle.std.proofs.Common.{◌≡◌, ◌≢◌, inr, ℕ, ◌+◌, ◌≤◌, Bool, true, false, List, [], ◌∷◌, ◌++◌, length, Option, None, Some, refl, sym, ap, subst, ◌∙◌, arith, codes, append_assoc, append-nil, length-append, is_some}
 use Rattle.std.proofs.lemmas.List.Quantifiers.{all_pairs_push}
 use Rattle.std.specs.Str.{bytes_eq}
 use Rattle.std.proofs.lemmas.Slice.Eq.{bytes_eq-Decides}
@@ -9,6 +9,7 @@ use Rattle.rg_theory.specs.declared.class_words.Condition.{Condition}
 use Rattle.rg_theory.specs.declared.class_words.Condition.TheVariants.{Pure, Plain, Bounded, Multiple, Nonbranching}
 use Rattle.rg_theory.specs.declared.class_words.ClassFault.{ClassFault}
 use Rattle.rg_theory.specs.ClassWords.{IsWordOf, AreWordsOf, is_like, AreUnlike, no_condition, with_condition, with_conditions, asks_for, class_words, NamesClass, IsRefusedWord, FirstRefusedWord}
+use Rattle.rg_theory.proofs.ClassAsked.{unasked_all}
 
 -- how many conditions a class asks for
 abbrev one_if : Bool → ℕ
@@ -56,7 +57,7 @@ reads_none text class number made none = record {
   heavy = none ∙ ap weight (sym made);
 }
 
-words_push : (cs : List Condition) (words : List (List ℕ)) (c : Condition) (word : List ℕ) → AreWordsOf cs words → IsWordOf c word → AreWordsOf (cs ++ c ∷ []) (words ++ word ∷ [])
+pub words_push : (cs : List Condition) (words : List (List ℕ)) (c : Condition) (word : List ℕ) → AreWordsOf cs words → IsWordOf c word → AreWordsOf (cs ++ c ∷ []) (words ++ word ∷ [])
 words_push [] words c word are gives = subst (λ l. AreWordsOf (c ∷ []) (l ++ word ∷ [])) (sym are) (word, [], gives, refl, refl)
 words_push (b ∷ cs) words c word are gives =
     (are.0, are.1 ++ word ∷ [], are.2, words_push cs are.1 c word are.3 gives, ap (λ l. l ++ word ∷ []) are.4)
@@ -64,79 +65,6 @@ words_push (b ∷ cs) words c word are gives =
 made_push : (class : Class) (cs : List Condition) (c : Condition) → with_conditions class (cs ++ c ∷ []) ≡ with_condition (with_conditions class cs) c
 made_push class [] c = refl
 made_push class (b ∷ cs) c = made_push (with_condition class b) cs c
-
--- what a class asks for it goes on asking for
-kept : (class : Class) (b c : Condition) → asks_for class c ≡ true → asks_for (with_condition class b) c ≡ true
-kept class Pure Pure e = refl
-kept class Pure Plain e = e
-kept class Pure (Bounded k) e = e
-kept class Pure (Multiple n) e = e
-kept class Pure Nonbranching e = e
-kept class Plain Pure e = e
-kept class Plain Plain e = refl
-kept class Plain (Bounded k) e = e
-kept class Plain (Multiple n) e = e
-kept class Plain Nonbranching e = e
-kept class (Bounded j) Pure e = e
-kept class (Bounded j) Plain e = e
-kept class (Bounded j) (Bounded k) e = refl
-kept class (Bounded j) (Multiple n) e = e
-kept class (Bounded j) Nonbranching e = e
-kept class (Multiple m) Pure e = e
-kept class (Multiple m) Plain e = e
-kept class (Multiple m) (Bounded k) e = e
-kept class (Multiple m) (Multiple n) e = refl
-kept class (Multiple m) Nonbranching e = e
-kept class Nonbranching Pure e = e
-kept class Nonbranching Plain e = e
-kept class Nonbranching (Bounded k) e = e
-kept class Nonbranching (Multiple n) e = e
-kept class Nonbranching Nonbranching e = refl
-
-like_asked : (class : Class) (b c : Condition) → is_like b c ≡ true → asks_for (with_condition class b) c ≡ true
-like_asked class Pure Pure e = refl
-like_asked class Pure Plain e = absurd cc
-like_asked class Pure (Bounded k) e = absurd cc
-like_asked class Pure (Multiple n) e = absurd cc
-like_asked class Pure Nonbranching e = absurd cc
-like_asked class Plain Pure e = absurd cc
-like_asked class Plain Plain e = refl
-like_asked class Plain (Bounded k) e = absurd cc
-like_asked class Plain (Multiple n) e = absurd cc
-like_asked class Plain Nonbranching e = absurd cc
-like_asked class (Bounded j) Pure e = absurd cc
-like_asked class (Bounded j) Plain e = absurd cc
-like_asked class (Bounded j) (Bounded k) e = refl
-like_asked class (Bounded j) (Multiple n) e = absurd cc
-like_asked class (Bounded j) Nonbranching e = absurd cc
-like_asked class (Multiple m) Pure e = absurd cc
-like_asked class (Multiple m) Plain e = absurd cc
-like_asked class (Multiple m) (Bounded k) e = absurd cc
-like_asked class (Multiple m) (Multiple n) e = refl
-like_asked class (Multiple m) Nonbranching e = absurd cc
-like_asked class Nonbranching Pure e = absurd cc
-like_asked class Nonbranching Plain e = absurd cc
-like_asked class Nonbranching (Bounded k) e = absurd cc
-like_asked class Nonbranching (Multiple n) e = absurd cc
-like_asked class Nonbranching Nonbranching e = refl
-
-kept_all : (class : Class) (cs : List Condition) (c : Condition) → asks_for class c ≡ true → asks_for (with_conditions class cs) c ≡ true
-kept_all class [] c e = e
-kept_all class (b ∷ cs) c e = kept_all (with_condition class b) cs c (kept class b c e)
-
--- a condition that the class doesn't ask for is like none of those given
-unlike_first : (class : Class) (cs : List Condition) (b c : Condition) → asks_for (with_conditions class (b ∷ cs)) c ≡ false → is_like b c ≡ false
-unlike_first class cs b c e = by (is_like b c) refl
-  where
-    by : (t : Bool) → is_like b c ≡ t → is_like b c ≡ false
-    by true like = let both : true ≡ false = sym (kept_all (with_condition class b) cs c (like_asked class b c like)) ∙ e in absurd cc
-    by false like = like
-
-unlike_all : (class : Class) (cs : List Condition) (c : Condition) → asks_for (with_conditions class cs) c ≡ false → (k : ℕ) (d : Condition) → k < length cs
-    → is_like (get_or cs k d) c ≡ false
-unlike_all class [] c e k d lt = absurd (omega arith)
-unlike_all class (b ∷ cs) c e zero d lt = unlike_first class cs b c e
-unlike_all class (b ∷ cs) c e (suc k) d lt = unlike_all (with_condition class b) cs c e k d (omega arith)
 
 pub reads_more : (text : List ℕ) (old new : Class) (number : ℕ) (word : List ℕ) (left : List (List ℕ)) (c : Condition) → IsWordOf c word → asks_for old c ≡ false
     → new ≡ with_condition old c → ReadsTo text old number (word ∷ left) → ReadsTo text new (number + 1) left
@@ -146,7 +74,7 @@ reads_more text old new number word left c gives unlike made r = record {
   cut = r.cut ∙ sym (append_assoc r.done (word ∷ []) left);
   words = words_push r.conditions r.done c word r.words gives;
   unlike = all_pairs_push (λ a b. is_like a b ≡ false) r.conditions c r.unlike
-      (unlike_all no_condition r.conditions c (ap (λ d. asks_for d c) (sym r.made) ∙ unlike));
+      (unasked_all no_condition r.conditions c (ap (λ d. asks_for d c) (sym r.made) ∙ unlike)).1;
   made = made ∙ ap (λ d. with_condition d c) r.made ∙ sym (made_push no_condition r.conditions c);
   count = omega (arith, r.count, length-append r.done (word ∷ []));
   heavy = omega (arith, r.heavy, heavier old c unlike, ap weight made);

@@ -1,5 +1,5 @@
 -- A text names a class, or it has a first refused word.
-use Rattle.std.proofs.Common.{◌≡◌, ◌≢◌, ◌⊎◌, inl, inr, ⊎_elim, ℕ, zero, suc, ◌-◌, ◌<◌, ◌≤◌, Bool, true, false, List, [], ◌∷◌, ◌++◌, length, take, get_or, Any, codes, decimal, true≢false, refl, sym, ap, ap₂, subst, ◌∙◌, arith, append_assoc, append-nil, length-append}
+use Rattle.std.proofs.Common.{◌≡◌, ◌≢◌, ◌⊎◌, inl, inr, ⊎_elim, ℕ, zero, suc, ◌-◌, ◌<◌, ◌≤◌, Bool, true, false, List, [], ◌∷◌, ◌++◌, length, take, Any, codes, decimal, true≢false, refl, sym, ap, ap₂, subst, ◌∙◌, arith, append_assoc, append-nil, length-append}
 use Rattle.std.proofs.Math.Seq.{take-append_seam}
 use Rattle.std.proofs.lemmas.Bool.{cases_lt}
 use Rattle.std.proofs.lemmas.List.Quantifiers.{all_pairs_push}
@@ -10,12 +10,10 @@ use Rattle.rg_theory.specs.declared.class_words.Condition.TheVariants.{Bounded, 
 use Rattle.rg_theory.specs.declared.class_words.ClassFault.{ClassFault}
 use Rattle.rg_theory.specs.declared.class_words.ClassFault.TheVariants.{UnknownWord, BadNumber, Repeated}
 use Rattle.rg_theory.specs.ClassWords.{IsWordOf, AreWordsOf, is_like, AreUnlike, no_condition, with_conditions, class_words, IsBadNumeral, IsTail, IsBadNumber, IsRefusedWord, IsClassTold}
-use Rattle.rg_theory.proofs.ClassDecided.{Decided, same_bytes, condition_or_not}
+use Rattle.rg_theory.proofs.ClassAsked.{IsNewTo}
+use Rattle.rg_theory.proofs.ClassLoop.{words_push}
+use Rattle.rg_theory.proofs.ClassRead.{Decided, Gives, same_bytes, condition_or_not}
 use Rattle.rg_theory.proofs.ClassTexts.{tail_length}
-
--- a condition that the word gives
-abbrev Gives : List ℕ → Type 0
-Gives word = (c : Condition) × IsWordOf c word
 
 -- a number with a tail gives a condition
 gives_numbered : (word tail : List ℕ) (k : ℕ) → 0 < k → k ≤ 255 → IsTail tail → word ≡ decimal k ++ tail → Gives word
@@ -64,31 +62,27 @@ bad_or_not word gives = by (bad_before word (codes "-bounded") (inl refl) gives)
     by (inr bound) (inl (digits, bad, is)) = inl (record { digits = digits; tail = codes "-marking"; numeral = bad; ends = inr refl; spelled = is })
     by (inr bound) (inr marking) = inr (λ b. neither bound marking b.digits b.tail b.numeral b.ends b.spelled)
 
--- no condition before is like this one
-abbrev IsNew : List Condition → Condition → Type 0
-IsNew before c = (k : ℕ) (d : Condition) → k < length before → is_like (get_or before k d) c ≡ false
-
-like_or_new : (before : List Condition) (c : Condition) → Any (λ b. is_like b c ≡ true) before ⊎ IsNew before c
+like_or_new : (before : List Condition) (c : Condition) → Any (λ b. is_like b c ≡ true) before ⊎ IsNewTo before c
 like_or_new [] c = inr (λ k d less. absurd (omega arith))
 like_or_new (b ∷ before) c = by (is_like b c) refl (like_or_new before c)
   where
-    each : is_like b c ≡ false → IsNew before c → IsNew (b ∷ before) c
+    each : is_like b c ≡ false → IsNewTo before c → IsNewTo (b ∷ before) c
     each e new zero d less = e
     each e new (suc k) d less = new k d (omega arith)
 
-    by : (like : Bool) → is_like b c ≡ like → Any (λ b. is_like b c ≡ true) before ⊎ IsNew before c → Any (λ b. is_like b c ≡ true) (b ∷ before) ⊎ IsNew (b ∷ before) c
+    by : (like : Bool) → is_like b c ≡ like → Any (λ b. is_like b c ≡ true) before ⊎ IsNewTo before c → Any (λ b. is_like b c ≡ true) (b ∷ before) ⊎ IsNewTo (b ∷ before) c
     by true e rest = inl (0, b, omega arith, refl, e)
     by false e (inl more) = inl (suc more.0, more.1, omega (arith, more.2), more.3, more.4)
     by false e (inr new) = inr (each e new)
 
 -- a word gives a new condition, or it is refused
 abbrev IsTold : List Condition → List ℕ → ℕ → Type 0
-IsTold before word i = ((c : Condition) × IsWordOf c word × IsNew before c) ⊎ ((fault : ClassFault) × IsRefusedWord before word i fault)
+IsTold before word i = ((c : Condition) × IsWordOf c word × IsNewTo before c) ⊎ ((fault : ClassFault) × IsRefusedWord before word i fault)
 
 word_told : (before : List Condition) (word : List ℕ) (i : ℕ) → IsTold before word i
 word_told before word i = by (condition_or_not word) (bad_or_not word)
   where
-    given : (c : Condition) → IsWordOf c word → Any (λ b. is_like b c ≡ true) before ⊎ IsNew before c → IsTold before word i
+    given : (c : Condition) → IsWordOf c word → Any (λ b. is_like b c ≡ true) before ⊎ IsNewTo before c → IsTold before word i
     given c gives (inl again) = inr (Repeated i, (refl, record { condition = c; gives = gives; again = again }))
     given c gives (inr new) = inl (c, gives, new)
 
@@ -99,11 +93,6 @@ word_told before word i = by (condition_or_not word) (bad_or_not word)
     by : Decided (Gives word) → ((Gives word → ⊥) → Decided (IsBadNumber word)) → IsTold before word i
     by (inl (c, gives)) bad = given c gives (like_or_new before c)
     by (inr none) bad = refused none (bad none)
-
-words_push : (cs : List Condition) (words : List (List ℕ)) (c : Condition) (word : List ℕ) → AreWordsOf cs words → IsWordOf c word → AreWordsOf (cs ++ c ∷ []) (words ++ word ∷ [])
-words_push [] words c word are gives = subst (λ l. AreWordsOf (c ∷ []) (l ++ word ∷ [])) (sym are) (word, [], gives, refl, refl)
-words_push (b ∷ cs) words c word are gives =
-    (are.0, are.1 ++ word ∷ [], are.2, words_push cs are.1 c word are.3 gives, ap (λ l. l ++ word ∷ []) are.4)
 
 -- the words that are left after those that gave conditions, none twice
 read_on : (text : List ℕ) → text ≢ codes "none" → (left done : List (List ℕ)) (cs : List Condition) → class_words text ≡ done ++ left → AreWordsOf cs done → AreUnlike cs
@@ -122,7 +111,7 @@ read_on text other (word ∷ left) done cs cut words unlike =
     (λ c gives new. read_on text other left (done ++ word ∷ []) (cs ++ c ∷ []) (cut ∙ sym (append_assoc done (word ∷ []) left)) (words_push cs done c word words gives)
     (all_pairs_push (λ a b. is_like a b ≡ false) cs c unlike new))
   where
-    by : IsTold cs word (length done) → ((c : Condition) → IsWordOf c word → IsNew cs c → IsClassTold text) → IsClassTold text
+    by : IsTold cs word (length done) → ((c : Condition) → IsWordOf c word → IsNewTo cs c → IsClassTold text) → IsClassTold text
     by (inl (c, gives, new)) rest = rest c gives new
     by (inr (fault, refused)) rest = inr (
       fault,

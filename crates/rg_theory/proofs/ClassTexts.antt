@@ -1,5 +1,5 @@
 -- The words of classes.
-use Rattle.std.proofs.Common.{◌≡◌, ◌≢◌, ◌⊎◌, inl, inr, ⊎_elim, ℕ, zero, suc, ◌<◌, ◌≤◌, true, false, ◌&&◌, ◌==◌, List, [], ◌∷◌, ◌++◌, length, get_or, codes, decimal, Any, Result, Ok, Err, refl, sym, ap, ap₂, subst, ◌∙◌, arith, length-append}
+use Rattle.std.proofs.Common.{◌≡◌, ◌≢◌, ◌⊎◌, inl, inr, ⊎_elim, ℕ, zero, suc, ◌<◌, ◌≤◌, true, false, ◌&&◌, ◌==◌, List, [], ◌∷◌, ◌++◌, length, get_or, codes, decimal, Result, Ok, Err, refl, sym, ap, ap₂, subst, ◌∙◌, arith, length-append}
 use Rattle.std.specs.List.{list_all}
 use Rattle.std.specs.Char.{is_ascii_digit}
 use Rattle.std.specs.Str.{all_ascii_digits}
@@ -11,7 +11,8 @@ use Rattle.rg_theory.specs.declared.class_words.Condition.{Condition}
 use Rattle.rg_theory.specs.declared.class_words.Condition.TheVariants.{Pure, Plain, Bounded, Multiple, Nonbranching}
 use Rattle.rg_theory.specs.declared.class_words.ClassFault.{ClassFault}
 use Rattle.rg_theory.specs.declared.class_words.ClassFault.TheVariants.{UnknownWord, BadNumber}
-use Rattle.rg_theory.specs.ClassWords.{IsWordOf, is_like, no_condition, with_condition, with_conditions, asks_for, IsBadNumeral, IsTail, IsBadNumber, IsRepeated, IsRefusedWord}
+use Rattle.rg_theory.specs.ClassWords.{IsWordOf, no_condition, with_conditions, asks_for, IsBadNumeral, IsTail, IsBadNumber, IsRepeated, IsRefusedWord}
+use Rattle.rg_theory.proofs.ClassAsked.{asked_among}
 use Rattle.std.proofs.lemmas.Fmt.{first_decimal, decimal_digit, decimal_nonempty, digits_decimal, parse-decimal, decimal-digits_value}
 
 same_test : (ds : List ℕ) → list_all is_ascii_digit ds ≡ all_ascii_digits ds
@@ -135,46 +136,7 @@ refused_untailed word number before other unbounded unmarked = (refl, no_bad, no
         let (k, t, some, few, ends, spelled) = only_numbered word other c gives in
         none (decimal k) t ends spelled
 
--- a condition that a class asks for after one more was added was there, or is like that one
-asked_more : (class : Class) (b c : Condition) → asks_for (with_condition class b) c ≡ true → (asks_for class c ≡ true) ⊎ (is_like b c ≡ true)
-asked_more class Pure Pure e = inr refl
-asked_more class Pure Plain e = inl e
-asked_more class Pure (Bounded k) e = inl e
-asked_more class Pure (Multiple n) e = inl e
-asked_more class Pure Nonbranching e = inl e
-asked_more class Plain Pure e = inl e
-asked_more class Plain Plain e = inr refl
-asked_more class Plain (Bounded k) e = inl e
-asked_more class Plain (Multiple n) e = inl e
-asked_more class Plain Nonbranching e = inl e
-asked_more class (Bounded j) Pure e = inl e
-asked_more class (Bounded j) Plain e = inl e
-asked_more class (Bounded j) (Bounded k) e = inr refl
-asked_more class (Bounded j) (Multiple n) e = inl e
-asked_more class (Bounded j) Nonbranching e = inl e
-asked_more class (Multiple m) Pure e = inl e
-asked_more class (Multiple m) Plain e = inl e
-asked_more class (Multiple m) (Bounded k) e = inl e
-asked_more class (Multiple m) (Multiple n) e = inr refl
-asked_more class (Multiple m) Nonbranching e = inl e
-asked_more class Nonbranching Pure e = inl e
-asked_more class Nonbranching Plain e = inl e
-asked_more class Nonbranching (Bounded k) e = inl e
-asked_more class Nonbranching (Multiple n) e = inl e
-asked_more class Nonbranching Nonbranching e = inr refl
-
-asked_among : (class : Class) (cs : List Condition) (c : Condition) → asks_for (with_conditions class cs) c ≡ true
-    → (asks_for class c ≡ true) ⊎ Any (λ b. is_like b c ≡ true) cs
-asked_among class [] c e = inl e
-asked_among class (b ∷ cs) c e =
-    ⊎_elim (λ earlier. ⊎_elim inl (λ like. inr (here b cs like)) (asked_more class b c earlier)) (λ more. inr (there b cs more)) (asked_among (with_condition class b) cs c e)
-  where
-    here : (b : Condition) (cs : List Condition) → is_like b c ≡ true → Any (λ b. is_like b c ≡ true) (b ∷ cs)
-    here b cs like = (0, b, omega arith, refl, like)
-
-    there : (b : Condition) (cs : List Condition) → Any (λ b. is_like b c ≡ true) cs → Any (λ b. is_like b c ≡ true) (b ∷ cs)
-    there b cs more = (suc more.0, more.1, omega (arith, more.2), more.3, more.4)
-
+-- the class of all nets asks for nothing
 none_asked : (c : Condition) → asks_for no_condition c ≡ true → ⊥
 none_asked Pure e = absurd cc
 none_asked Plain e = absurd cc

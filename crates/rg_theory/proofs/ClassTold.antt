@@ -1,84 +1,17 @@
 -- A text names one class or has one first refused word, never both.
-use Rattle.std.proofs.Common.{◌≡◌, ◌≢◌, ◌⊎◌, inl, inr, ℕ, ◌<◌, ◌≤◌, Bool, true, false, List, [], ◌∷◌, ◌++◌, length, get_or, Any, codes, decimal, refl, sym, ap, ap₂, subst, ◌∙◌, arith, length-append, ◌&&◌}
+use Rattle.std.proofs.Common.{◌≡◌, inl, inr, ℕ, ◌<◌, ◌≤◌, Bool, true, false, List, [], ◌∷◌, ◌++◌, length, get_or, Any, codes, decimal, refl, sym, ap, ap₂, subst, ◌∙◌, arith, length-append, ◌&&◌}
 use Rattle.std.proofs.Math.Seq.{get_or-append_seam}
 use Rattle.std.proofs.lemmas.List.{get_or_append_left}
-use Rattle.std.proofs.lemmas.Fmt.{decimal_injective, decimal_nonempty, length-decimal-le}
 use Rattle.std.specs.List.{list_all}
 use Rattle.std.specs.Char.{is_ascii_digit}
-use Rattle.std.proofs.lemmas.List.{append_cancel_right}
 use Rattle.rg_theory.specs.declared.Class.{Class}
-use Rattle.rg_theory.proofs.ClassTexts.{tail_length, same_tails}
+use Rattle.rg_theory.proofs.ClassTexts.{same_tails}
+use Rattle.rg_theory.proofs.ClassRead.{one_condition, none_gives}
 use Rattle.rg_theory.specs.declared.class_words.Condition.{Condition}
 use Rattle.rg_theory.specs.declared.class_words.Condition.TheVariants.{Pure, Plain, Bounded, Multiple, Nonbranching}
 use Rattle.rg_theory.specs.declared.class_words.ClassFault.{ClassFault}
 use Rattle.rg_theory.specs.declared.class_words.ClassFault.TheVariants.{UnknownWord, BadNumber, Repeated}
 use Rattle.rg_theory.specs.ClassWords.{IsWordOf, AreWordsOf, is_like, AreUnlike, no_condition, with_conditions, class_words, IsMadeOf, NamesClass, IsTail, IsBadNumber, IsRefusedWord, FirstRefusedWord}
-
--- a word with a number is longer than the short words and shorter than the long one
-number_length : (k : ℕ) (tail : List ℕ) → 0 < k → k ≤ 255 → IsTail tail → (9 ≤ length (decimal k ++ tail)) × (length (decimal k ++ tail) ≤ 11)
-number_length k tail some few ends =
-    let all = length-append (decimal k) tail in
-    let long = tail_length tail ends in
-    (omega (arith, all, long, decimal_nonempty k (omega arith)), omega (arith, all, long, length-decimal-le 3 k (omega arith) (omega arith) (omega arith)))
-
-not_number : (word : List ℕ) (k : ℕ) (tail : List ℕ) → 0 < k → k ≤ 255 → IsTail tail → ((length word < 9) ⊎ (11 < length word)) → word ≢ decimal k ++ tail
-not_number word k tail some few ends (inl short) is = omega (arith, ap length is, (number_length k tail some few ends).0)
-not_number word k tail some few ends (inr long) is = omega (arith, ap length is, (number_length k tail some few ends).1)
-
--- what a word that isn't a bound's can't be
-fixed_bound : (word : List ℕ) (k : ℕ) (text : List ℕ) → word ≡ text → ((length text < 9) ⊎ (11 < length text)) → (text ≢ codes "safe") → IsWordOf (Bounded k) word → ⊥
-fixed_bound word k text is far other (inl (one, safe)) = other (sym is ∙ safe)
-fixed_bound word k text is far other (inr (some, few, spelled)) = not_number text k (codes "-bounded") some few (inl refl) far (sym is ∙ spelled)
-
--- nor one that isn't a marking's
-fixed_marking : (word : List ℕ) (n : ℕ) (text : List ℕ) → word ≡ text → ((length text < 9) ⊎ (11 < length text)) → IsWordOf (Multiple n) word → ⊥
-fixed_marking word n text is far (some, few, spelled) = not_number text n (codes "-marking") some few (inr refl) far (sym is ∙ spelled)
-
-one_bound : (word : List ℕ) (j k : ℕ) → IsWordOf (Bounded j) word → IsWordOf (Bounded k) word → j ≡ k
-one_bound word j k (inl (one, safe)) (inl (one', safe')) = one ∙ sym one'
-one_bound word j k (inl (one, safe)) (inr (some, few, spelled)) = absurd (not_number (codes "safe") k (codes "-bounded") some few (inl refl) (inl (omega arith)) (sym safe ∙ spelled))
-one_bound word j k (inr (some, few, spelled)) (inl (one, safe)) = absurd (not_number (codes "safe") j (codes "-bounded") some few (inl refl) (inl (omega arith)) (sym safe ∙ spelled))
-one_bound word j k (inr (some, few, spelled)) (inr (some', few', spelled')) =
-    decimal_injective j k (omega arith) (omega arith) (append_cancel_right (decimal j) (decimal k) (codes "-bounded") (sym spelled ∙ spelled'))
-
-one_marking : (word : List ℕ) (m n : ℕ) → IsWordOf (Multiple m) word → IsWordOf (Multiple n) word → m ≡ n
-one_marking word m n (some, few, spelled) (some', few', spelled') =
-    decimal_injective m n (omega arith) (omega arith) (append_cancel_right (decimal m) (decimal n) (codes "-marking") (sym spelled ∙ spelled'))
-
--- no bound is a marking
-bound_apart : (word : List ℕ) (k n : ℕ) → IsWordOf (Bounded k) word → IsWordOf (Multiple n) word → ⊥
-bound_apart word k n (inl (one, safe)) y = fixed_marking word n (codes "safe") safe (inl (omega arith)) y
-bound_apart word k n (inr (some, few, spelled)) (some', few', spelled') =
-    let tails : codes "-bounded" ≡ codes "-marking" = (same_tails (decimal k) (decimal n) (codes "-bounded") (codes "-marking") (inl refl) (inr refl) (sym spelled ∙ spelled')).1 in
-    omega (arith, ap (λ l. get_or l 1 0) tails)
-
--- a word gives one condition
-pub one_condition : (a b : Condition) (word : List ℕ) → IsWordOf a word → IsWordOf b word → a ≡ b
-one_condition Pure Pure word x y = refl
-one_condition Pure Plain word x y = absurd (omega (arith, ap (λ l. get_or l 1 0) (sym x ∙ y)))
-one_condition Pure (Bounded k) word x y = absurd (fixed_bound word k (codes "pure") x (inl (omega arith)) (λ e. omega (arith, ap (λ l. get_or l 0 0) e)) y)
-one_condition Pure (Multiple n) word x y = absurd (fixed_marking word n (codes "pure") x (inl (omega arith)) y)
-one_condition Pure Nonbranching word x y = absurd (omega (arith, ap (λ l. get_or l 0 0) (sym x ∙ y)))
-one_condition Plain Pure word x y = absurd (omega (arith, ap (λ l. get_or l 1 0) (sym x ∙ y)))
-one_condition Plain Plain word x y = refl
-one_condition Plain (Bounded k) word x y = absurd (fixed_bound word k (codes "plain") x (inl (omega arith)) (λ e. omega (arith, ap (λ l. get_or l 0 0) e)) y)
-one_condition Plain (Multiple n) word x y = absurd (fixed_marking word n (codes "plain") x (inl (omega arith)) y)
-one_condition Plain Nonbranching word x y = absurd (omega (arith, ap (λ l. get_or l 0 0) (sym x ∙ y)))
-one_condition (Bounded j) Pure word x y = absurd (fixed_bound word j (codes "pure") y (inl (omega arith)) (λ e. omega (arith, ap (λ l. get_or l 0 0) e)) x)
-one_condition (Bounded j) Plain word x y = absurd (fixed_bound word j (codes "plain") y (inl (omega arith)) (λ e. omega (arith, ap (λ l. get_or l 0 0) e)) x)
-one_condition (Bounded j) (Bounded k) word x y = ap Bounded (one_bound word j k x y)
-one_condition (Bounded j) (Multiple n) word x y = absurd (bound_apart word j n x y)
-one_condition (Bounded j) Nonbranching word x y = absurd (fixed_bound word j (codes "output-nonbranching") y (inr (omega arith)) (λ e. omega (arith, ap (λ l. get_or l 0 0) e)) x)
-one_condition (Multiple m) Pure word x y = absurd (fixed_marking word m (codes "pure") y (inl (omega arith)) x)
-one_condition (Multiple m) Plain word x y = absurd (fixed_marking word m (codes "plain") y (inl (omega arith)) x)
-one_condition (Multiple m) (Bounded k) word x y = absurd (bound_apart word k m y x)
-one_condition (Multiple m) (Multiple n) word x y = ap Multiple (one_marking word m n x y)
-one_condition (Multiple m) Nonbranching word x y = absurd (fixed_marking word m (codes "output-nonbranching") y (inr (omega arith)) x)
-one_condition Nonbranching Pure word x y = absurd (omega (arith, ap (λ l. get_or l 0 0) (sym x ∙ y)))
-one_condition Nonbranching Plain word x y = absurd (omega (arith, ap (λ l. get_or l 0 0) (sym x ∙ y)))
-one_condition Nonbranching (Bounded k) word x y = absurd (fixed_bound word k (codes "output-nonbranching") x (inr (omega arith)) (λ e. omega (arith, ap (λ l. get_or l 0 0) e)) y)
-one_condition Nonbranching (Multiple n) word x y = absurd (fixed_marking word n (codes "output-nonbranching") x (inr (omega arith)) y)
-one_condition Nonbranching Nonbranching word x y = refl
 
 -- words give one list of conditions
 pub same_conditions : (cs ds : List Condition) (words : List (List ℕ)) → AreWordsOf cs words → AreWordsOf ds words → cs ≡ ds
@@ -90,14 +23,6 @@ same_conditions (a ∷ cs) (b ∷ ds) words x y =
     let head : x.0 ≡ y.0 = cc in
     let tail : x.1 ≡ y.1 = cc in
     ap₂ ◌∷◌ (one_condition a b x.0 x.2 (subst (IsWordOf b) (sym head) y.2)) (same_conditions cs ds x.1 x.3 (subst (AreWordsOf ds) (sym tail) y.3))
-
--- `none` gives no condition
-none_gives : (c : Condition) (word : List ℕ) → word ≡ codes "none" → IsWordOf c word → ⊥
-none_gives Pure word is x = omega (arith, ap (λ l. get_or l 0 0) (sym is ∙ x))
-none_gives Plain word is x = omega (arith, ap (λ l. get_or l 0 0) (sym is ∙ x))
-none_gives (Bounded k) word is x = fixed_bound word k (codes "none") is (inl (omega arith)) (λ e. omega (arith, ap (λ l. get_or l 0 0) e)) x
-none_gives (Multiple n) word is x = fixed_marking word n (codes "none") is (inl (omega arith)) x
-none_gives Nonbranching word is x = omega (arith, ap (λ l. get_or l 0 0) (sym is ∙ x))
 
 none_alone : (text : List ℕ) (class : Class) → text ≡ codes "none" → IsMadeOf text class → ⊥
 none_alone text class is made = by made.conditions (subst (λ t. AreWordsOf made.conditions (class_words t)) is made.words)

@@ -1,24 +1,17 @@
 -- The text with which a class is written names it.
-use Rattle.std.proofs.Common.{◌≡◌, inl, inr, ℕ, ◌<◌, ◌≤◌, ◌==◌, Bool, true, false, not, ◌&&◌, cond, List, [], ◌∷◌, ◌++◌, All, map, Option, None, Some, IfSome, codes, decimal, refl, sym, ap, ap₂, subst, ◌∙◌, arith}
-use Rattle.std.specs.List.{list_all}
-use Rattle.std.specs.Char.{is_ascii_digit}
+use Rattle.std.proofs.Common.{◌≡◌, inl, inr, ℕ, ◌<◌, ◌≤◌, ◌==◌, Bool, true, false, cond, List, [], ◌∷◌, All, map, Option, None, Some, IfSome, option_map, codes, refl, sym, ap, subst, ◌∙◌, arith}
+use Rattle.std.specs.Bool.{then_some}
+use Rattle.std.specs.List.{cons_option}
 use Rattle.std.proofs.lemmas.Bool.{eqb-true}
-use Rattle.std.proofs.lemmas.Bool.Decides.{nat_tests}
 use Rattle.std.proofs.lemmas.List.Kept.{AllPairs-cons}
-use Rattle.std.proofs.lemmas.Fmt.{digits_decimal}
 use Rattle.std.proofs.lemmas.List.Elements.{All-nil, All-cons, All-head, All-tail, All-weaker}
-use Rattle.std.proofs.lemmas.List.Folds.{list_all-append}
-use Rattle.std.proofs.lemmas.List.Sums.{AllPass-from_list_all}
 use Rattle.std.proofs.lemmas.List.Splits.{slice_split_none, slice_split_at}
-use Rattle.rg_theory.proofs.ClassTexts.{numerals}
+use Rattle.rg_theory.proofs.ClassAsked.{unasked_with}
+use Rattle.rg_theory.proofs.ClassBytes.{LacksComma, word_lacks}
 use Rattle.rg_theory.specs.declared.Class.{Class}
 use Rattle.rg_theory.specs.declared.class_words.Condition.{Condition}
 use Rattle.rg_theory.specs.declared.class_words.Condition.TheVariants.{Pure, Plain, Bounded, Multiple, Nonbranching}
-use Rattle.rg_theory.specs.ClassWords.{bounded_word, marking_word, IsWordOf, AreWordsOf, is_like, AreUnlike, no_condition, with_conditions, class_words, NamesClass, if_asked, bound_of, if_marking, conditions_of, word_of, comma_joined, class_text, HasNumbersInRange}
-
--- no comma stands in the word
-abbrev LacksComma : List ℕ → Type 0
-LacksComma word = All (λ b. (b == 44) ≡ false) word
+use Rattle.rg_theory.specs.ClassWords.{bounded_word, IsWordOf, AreWordsOf, is_like, AreUnlike, no_condition, with_condition, with_conditions, asks_for, class_words, NamesClass, conditions_of, word_of, comma_joined, class_text, HasNumbersInRange}
 
 joined_words : (word : List ℕ) (more : List (List ℕ)) → All LacksComma (word ∷ more) → class_words (comma_joined (word ∷ more)) ≡ word ∷ more
 joined_words word [] lacks = slice_split_none (λ b. b == 44) word (All-head LacksComma word [] lacks)
@@ -47,166 +40,68 @@ words_give : (cs : List Condition) → All InRange cs → AreWordsOf cs (map wor
 words_give [] h = refl
 words_give (c ∷ cs) h = (word_of c, map word_of cs, word_gives c (All-head InRange c cs h), words_give cs (All-tail InRange c cs h), refl)
 
-abbrev is_other : ℕ → Bool
-is_other b = not (b == 44)
-
-not_true : (a : Bool) → not a ≡ true → a ≡ false
-not_true true e = absurd cc
-not_true false e = refl
-
-lacks : (word : List ℕ) → list_all is_other word ≡ true → LacksComma word
-lacks word all = All-weaker (λ b. is_other b ≡ true) (λ b. (b == 44) ≡ false) (λ b e. not_true (b == 44) e) word (AllPass-from_list_all is_other word all)
-
-digit_is_other : (d : ℕ) → is_ascii_digit d ≡ true → is_other d ≡ true
-digit_is_other d e = grind (arith, nat_tests)
-
-and_parts : (a b : Bool) → (a && b) ≡ true → (a ≡ true) × (b ≡ true)
-and_parts true b e = (refl, e)
-and_parts false b e = absurd cc
-
-both : (a b : Bool) → a ≡ true → b ≡ true → (a && b) ≡ true
-both a b e f = ap₂ ◌&&◌ e f
-
-digits_are_other : (ds : List ℕ) → list_all is_ascii_digit ds ≡ true → list_all is_other ds ≡ true
-digits_are_other [] e = refl
-digits_are_other (d ∷ ds) e =
-    let parts = and_parts (is_ascii_digit d) (list_all is_ascii_digit ds) e in
-    both (is_other d) (list_all is_other ds) (digit_is_other d parts.0) (digits_are_other ds parts.1)
-
-word_lacks : (c : Condition) → InRange c → LacksComma (word_of c)
-word_lacks Pure h = lacks (codes "pure") refl
-word_lacks Plain h = lacks (codes "plain") refl
-word_lacks (Bounded k) h = by (k == 1)
-  where
-    by : (b : Bool) → LacksComma (cond b (codes "safe") (bounded_word k))
-    by true = lacks (codes "safe") refl
-    by false = lacks (bounded_word k) (list_all-append is_other (decimal k) (codes "-bounded")
-        ∙ both (list_all is_other (decimal k)) true (digits_are_other (decimal k) (digits_decimal numerals k (omega arith))) refl)
-word_lacks (Multiple n) h = lacks (marking_word n) (list_all-append is_other (decimal n) (codes "-marking")
-    ∙ both (list_all is_other (decimal n)) true (digits_are_other (decimal n) (digits_decimal numerals n (omega arith))) refl)
-word_lacks Nonbranching h = lacks (codes "output-nonbranching") refl
-
 words_lack : (cs : List Condition) → All InRange cs → All LacksComma (map word_of cs)
 words_lack [] h = All-nil LacksComma
-words_lack (c ∷ cs) h = All-cons LacksComma (word_of c) (map word_of cs) (word_lacks c (All-head InRange c cs h)) (words_lack cs (All-tail InRange c cs h))
+words_lack (c ∷ cs) h =
+    All-cons LacksComma (word_of c) (map word_of cs) (word_lacks c (word_of c) (word_gives c (All-head InRange c cs h))) (words_lack cs (All-tail InRange c cs h))
 
--- the conditions of a class are in range, no two of them are like, and they make the class
-record Lists (class : Class) (cs : List Condition) : Type 0 where
+-- conditions that a class doesn't ask for, in range and no two of them like, and the class that they make of it
+record Adds (class : Class) (cs : List Condition) (whole : Class) : Type 0 where
   in_range : All InRange cs
+  unasked : All (λ c. asks_for class c ≡ false) cs
   unlike : AreUnlike cs
-  made : class ≡ with_conditions no_condition cs
+  made : whole ≡ with_conditions class cs
 
-all_if : (P : Condition → Type 0) (t : Bool) (c : Condition) (cs : List Condition) → P c → All P cs → All P (if_asked t c ++ cs)
-all_if P true c cs here rest = All-cons P c cs here rest
-all_if P false c cs here rest = rest
+adds_none : (class : Class) → Adds class [] class
+adds_none class = record {
+  in_range = All-nil InRange;
+  unasked = All-nil (λ c. asks_for class c ≡ false);
+  unlike = λ i j d less within. absurd (omega arith);
+  made = refl;
+}
 
-all_bound : (P : Condition → Type 0) (b : Option ℕ) (cs : List Condition) → IfSome b (λ k. P (Bounded k)) → All P cs → All P (bound_of b ++ cs)
-all_bound P None cs here rest = rest
-all_bound P (Some k) cs here rest = All-cons P (Bounded k) cs here rest
+adds_one : (class : Class) (c : Condition) (cs : List Condition) (whole : Class) → InRange c → asks_for class c ≡ false → Adds (with_condition class c) cs whole → Adds class (c ∷ cs) whole
+adds_one class c cs whole here fresh rest = record {
+  in_range = All-cons InRange c cs here rest.in_range;
+  unasked = All-cons (λ d. asks_for class d ≡ false) c cs fresh (All-weaker (λ d. asks_for (with_condition class c) d ≡ false) (λ d. asks_for class d ≡ false) (λ d e. (unasked_with class c d e).1) cs rest.unasked);
+  unlike = AllPairs-cons (λ a b. is_like a b ≡ false) c cs
+      (All-weaker (λ d. asks_for (with_condition class c) d ≡ false) (λ d. is_like c d ≡ false) (λ d e. (unasked_with class c d e).0) cs rest.unasked) rest.unlike;
+  made = rest.made;
+}
 
-all_marking : (P : Condition → Type 0) (m : Option ℕ) (cs : List Condition) → IfSome m (λ n. P (Multiple n)) → All P cs → All P (if_marking m ++ cs)
-all_marking P None cs here rest = rest
-all_marking P (Some n) cs here rest = All-cons P (Multiple n) cs here rest
+-- what a class asks is added one by one, and each field of the class is set in its turn
+adds_flag : (set : Bool → Class) (t : Bool) (c : Condition) {cs : List Condition} (whole : Class) → InRange c → asks_for (set false) c ≡ false → with_condition (set false) c ≡ set true
+    → Adds (set t) cs whole → Adds (set false) (cons_option (then_some t c) cs) whole
+adds_flag set true c {cs} whole here fresh is rest = adds_one (set false) c cs whole here fresh (subst (λ a. Adds a cs whole) (sym is) rest)
+adds_flag set false c whole here fresh is rest = rest
 
-all_one : (P : Condition → Type 0) (t : Bool) (c : Condition) → P c → All P (if_asked t c)
-all_one P true c here = All-cons P c [] here (All-nil P)
-all_one P false c here = All-nil P
+adds_number : (set : Option ℕ → Class) (o : Option ℕ) (f : ℕ → Condition) {cs : List Condition} (whole : Class) → IfSome o (λ k. InRange (f k)) → ((k : ℕ) → asks_for (set None) (f k) ≡ false)
+    → ((k : ℕ) → with_condition (set None) (f k) ≡ set (Some k)) → Adds (set o) cs whole → Adds (set None) (cons_option (option_map f o) cs) whole
+adds_number set (Some k) f {cs} whole here fresh is rest = adds_one (set None) (f k) cs whole here (fresh k) (subst (λ a. Adds a cs whole) (sym (is k)) rest)
+adds_number set None f whole here fresh is rest = rest
 
-any_number : (P : ℕ → Type 0) (o : Option ℕ) → ((k : ℕ) → P k) → IfSome o P
-any_number P None h = tt
-any_number P (Some k) h = h k
-
-unlike_if : (t : Bool) (c : Condition) (cs : List Condition) → All (λ d. is_like c d ≡ false) cs → AreUnlike cs → AreUnlike (if_asked t c ++ cs)
-unlike_if true c cs apart rest = AllPairs-cons (λ a b. is_like a b ≡ false) c cs apart rest
-unlike_if false c cs apart rest = rest
-
-unlike_bound : (b : Option ℕ) (cs : List Condition) → ((k : ℕ) → All (λ d. is_like (Bounded k) d ≡ false) cs) → AreUnlike cs → AreUnlike (bound_of b ++ cs)
-unlike_bound None cs apart rest = rest
-unlike_bound (Some k) cs apart rest = AllPairs-cons (λ a b. is_like a b ≡ false) (Bounded k) cs (apart k) rest
-
-unlike_marking : (m : Option ℕ) (cs : List Condition) → ((n : ℕ) → All (λ d. is_like (Multiple n) d ≡ false) cs) → AreUnlike cs → AreUnlike (if_marking m ++ cs)
-unlike_marking None cs apart rest = rest
-unlike_marking (Some n) cs apart rest = AllPairs-cons (λ a b. is_like a b ≡ false) (Multiple n) cs (apart n) rest
-
-unlike_one : (t : Bool) (c : Condition) → AreUnlike (if_asked t c)
-unlike_one true c = AllPairs-cons (λ a b. is_like a b ≡ false) c [] (All-nil (λ d. is_like c d ≡ false)) (λ i j d less within. absurd (omega arith))
-unlike_one false c = λ i j d less within. absurd (omega arith)
-
-made_by : (p q : Bool) (b m : Option ℕ) (n : Bool) → record { pure = p; plain = q; bound = b; marking = m; nonbranching = n }
-    ≡ with_conditions no_condition (if_asked p Pure ++ (if_asked q Plain ++ (bound_of b ++ (if_marking m ++ if_asked n Nonbranching))))
-made_by true true None None true = refl
-made_by true true None None false = refl
-made_by true true None (Some i) true = refl
-made_by true true None (Some i) false = refl
-made_by true true (Some k) None true = refl
-made_by true true (Some k) None false = refl
-made_by true true (Some k) (Some i) true = refl
-made_by true true (Some k) (Some i) false = refl
-made_by true false None None true = refl
-made_by true false None None false = refl
-made_by true false None (Some i) true = refl
-made_by true false None (Some i) false = refl
-made_by true false (Some k) None true = refl
-made_by true false (Some k) None false = refl
-made_by true false (Some k) (Some i) true = refl
-made_by true false (Some k) (Some i) false = refl
-made_by false true None None true = refl
-made_by false true None None false = refl
-made_by false true None (Some i) true = refl
-made_by false true None (Some i) false = refl
-made_by false true (Some k) None true = refl
-made_by false true (Some k) None false = refl
-made_by false true (Some k) (Some i) true = refl
-made_by false true (Some k) (Some i) false = refl
-made_by false false None None true = refl
-made_by false false None None false = refl
-made_by false false None (Some i) true = refl
-made_by false false None (Some i) false = refl
-made_by false false (Some k) None true = refl
-made_by false false (Some k) None false = refl
-made_by false false (Some k) (Some i) true = refl
-made_by false false (Some k) (Some i) false = refl
-
-lists : (class : Class) → HasNumbersInRange class → Lists class (conditions_of class)
-lists class h =
-    let last = if_asked class.nonbranching Nonbranching in
-    let markings = if_marking class.marking ++ last in
-    let bounds = bound_of class.bound ++ markings in
-    let plains = if_asked class.plain Plain ++ bounds in
-    record {
-      in_range = all_if InRange class.pure Pure plains tt (all_if InRange class.plain Plain bounds tt
-          (all_bound InRange class.bound markings h.bound (all_marking InRange class.marking last h.marking (all_one InRange class.nonbranching Nonbranching tt))));
-      unlike = unlike_if class.pure Pure plains (apart Pure class.plain class.bound class.marking class.nonbranching refl (λ k. refl) (λ k. refl) refl)
-          (unlike_if class.plain Plain bounds (after Plain class.bound class.marking class.nonbranching (λ k. refl) (λ k. refl) refl)
-          (unlike_bound class.bound markings (λ k. behind (Bounded k) class.marking class.nonbranching (λ n. refl) refl)
-          (unlike_marking class.marking last (λ n. all_one (λ d. is_like (Multiple n) d ≡ false) class.nonbranching Nonbranching refl) (unlike_one class.nonbranching Nonbranching))));
-      made = made_by class.pure class.plain class.bound class.marking class.nonbranching;
-    }
-  where
-    behind : (c : Condition) (m : Option ℕ) (n : Bool) → ((k : ℕ) → is_like c (Multiple k) ≡ false) → is_like c Nonbranching ≡ false
-        → All (λ d. is_like c d ≡ false) (if_marking m ++ if_asked n Nonbranching)
-    behind c m n marked branching =
-        all_marking (λ d. is_like c d ≡ false) m (if_asked n Nonbranching) (any_number (λ k. is_like c (Multiple k) ≡ false) m marked) (all_one (λ d. is_like c d ≡ false) n Nonbranching branching)
-
-    after : (c : Condition) (b m : Option ℕ) (n : Bool) → ((k : ℕ) → is_like c (Bounded k) ≡ false) → ((k : ℕ) → is_like c (Multiple k) ≡ false) → is_like c Nonbranching ≡ false
-        → All (λ d. is_like c d ≡ false) (bound_of b ++ (if_marking m ++ if_asked n Nonbranching))
-    after c b m n bounded marked branching =
-        all_bound (λ d. is_like c d ≡ false) b (if_marking m ++ if_asked n Nonbranching) (any_number (λ k. is_like c (Bounded k) ≡ false) b bounded) (behind c m n marked branching)
-
-    apart : (c : Condition) (q : Bool) (b m : Option ℕ) (n : Bool) → is_like c Plain ≡ false → ((k : ℕ) → is_like c (Bounded k) ≡ false) → ((k : ℕ) → is_like c (Multiple k) ≡ false) → is_like c Nonbranching ≡ false
-        → All (λ d. is_like c d ≡ false) (if_asked q Plain ++ (bound_of b ++ (if_marking m ++ if_asked n Nonbranching)))
-    apart c q b m n plain bounded marked branching =
-        all_if (λ d. is_like c d ≡ false) q Plain (bound_of b ++ (if_marking m ++ if_asked n Nonbranching)) plain (after c b m n bounded marked branching)
+adds_conditions : (class : Class) → HasNumbersInRange class → Adds no_condition (conditions_of class) class
+adds_conditions class h =
+    let pure : Bool → Class = λ t. record no_condition { pure = t } in
+    let plain : Bool → Class = λ t. record (pure class.pure) { plain = t } in
+    let bound : Option ℕ → Class = λ o. record (plain class.plain) { bound = o } in
+    let marking : Option ℕ → Class = λ o. record (bound class.bound) { marking = o } in
+    let nonbranching : Bool → Class = λ t. record (marking class.marking) { nonbranching = t } in
+    adds_flag pure class.pure Pure class tt refl refl
+    (adds_flag plain class.plain Plain class tt refl refl
+    (adds_number bound class.bound Bounded class h.bound (λ k. refl) (λ k. refl)
+    (adds_number marking class.marking Multiple class h.marking (λ n. refl) (λ n. refl)
+    (adds_flag nonbranching class.nonbranching Nonbranching class tt refl refl (adds_none class)))))
 
 -- words, or none of them
-named : (class : Class) (cs : List Condition) → Lists class cs → NamesClass (comma_joined (map word_of cs)) class
-named class [] l = inl (refl, l.made)
-named class (c ∷ cs) l = inr (record {
+named : (class : Class) (cs : List Condition) → Adds no_condition cs class → NamesClass (comma_joined (map word_of cs)) class
+named class [] a = inl (refl, a.made)
+named class (c ∷ cs) a = inr (record {
   conditions = c ∷ cs;
-  words = subst (AreWordsOf (c ∷ cs)) (sym (joined_words (word_of c) (map word_of cs) (words_lack (c ∷ cs) l.in_range))) (words_give (c ∷ cs) l.in_range);
-  unlike = l.unlike;
-  made = l.made;
+  words = subst (AreWordsOf (c ∷ cs)) (sym (joined_words (word_of c) (map word_of cs) (words_lack (c ∷ cs) a.in_range))) (words_give (c ∷ cs) a.in_range);
+  unlike = a.unlike;
+  made = a.made;
 })
 
 pub written : (class : Class) → HasNumbersInRange class → NamesClass (class_text class) class
-written class h = named class (conditions_of class) (lists class h)
+written class h = named class (conditions_of class) (adds_conditions class h)

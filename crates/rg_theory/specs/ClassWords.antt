@@ -1,6 +1,8 @@
 -- Classes as words: `none`, or the words of its conditions, separated by commas in any order.
 use Rattle.std.specs.Prelude.{◌≡◌, ◌≢◌, ◌⊎◌, ℕ, ◌<◌, ◌≤◌, ◌==◌, Bool, true, false, List, [], ◌∷◌, ◌++◌, length, AllPairs, Any, Option, None, Some, is_some, IfSome, map, if◌then◌else◌, codes, decimal}
-use Rattle.std.specs.List.{slice_split, list_all}
+use Rattle.std.specs.Bool.{then_some}
+use Rattle.std.specs.List.{slice_split, list_all, filter_map}
+use Rattle.std.specs.Option.{option_map}
 use Rattle.std.specs.Char.{is_ascii_digit}
 use Rattle.rg_theory.specs.declared.Class.{Class}
 use Rattle.rg_theory.specs.declared.class_words.Condition.{Condition}
@@ -126,23 +128,19 @@ pub record FirstRefusedWord (text : List ℕ) (fault : ClassFault) : Type 0 wher
 abbrev pub IsClassTold : List ℕ → Type 0
 IsClassTold text = ((class : Class) × NamesClass text class) ⊎ ((fault : ClassFault) × FirstRefusedWord text fault)
 
--- the conditions of a class, in the order in which its text names them
-abbrev pub if_asked : Bool → Condition → List Condition
-if_asked true condition = condition ∷ []
-if_asked false condition = []
+-- what the class asks, in the order in which its text names it
+abbrev pub asked : Class → List (Option Condition)
+asked class =
+    then_some class.pure Pure
+    ∷ then_some class.plain Plain
+    ∷ option_map Bounded class.bound
+    ∷ option_map Multiple class.marking
+    ∷ then_some class.nonbranching Nonbranching
+    ∷ []
 
-abbrev pub bound_of : Option ℕ → List Condition
-bound_of None = []
-bound_of (Some k) = Bounded k ∷ []
-
-abbrev pub if_marking : Option ℕ → List Condition
-if_marking None = []
-if_marking (Some n) = Multiple n ∷ []
-
+-- the conditions of a class, in that order
 abbrev pub conditions_of : Class → List Condition
-conditions_of class =
-    if_asked class.pure Pure
-    ++ (if_asked class.plain Plain ++ (bound_of class.bound ++ (if_marking class.marking ++ if_asked class.nonbranching Nonbranching)))
+conditions_of class = filter_map (λ condition. condition) (asked class)
 
 -- the word of a condition; the bound 1 is `safe`
 abbrev pub word_of : Condition → List ℕ

@@ -1,9 +1,9 @@
 //! The text of a class.
 ghost use Rattle.std.specs.Prelude.{◌≡◌, ◌++◌, decimal, IfOk, OnOk};
-ghost use Rattle.rg_theory.specs.ClassWords.{class_text};
-ghost use Rattle.rg_theory.specs.ClassParts.{with_word, with_words, asked_words, bound_words, marking_words};
+ghost use Rattle.rg_theory.specs.ClassWords.{asked, word_of, class_text};
+ghost use Rattle.rg_theory.specs.ClassParts.{with_word};
 
-use crate::Class;
+use crate::{Class, Condition};
 use itoa::Buffer;
 use rg_memory::NoMemory;
 use std::alloc::Global;
@@ -14,11 +14,12 @@ pub fn class_text(alloc: Global, class: Class) -> Result<Vec<u8>, NoMemory>
     ensures { IfOk result (λ text. text.items ≡ class_text class) }
 {
     let mut text = Vec::new(alloc);
-    push_if(&mut text, class.pure, b"pure")?;
-    push_if(&mut text, class.plain, b"plain")?;
-    push_bound(&mut text, class.bound)?;
-    push_marking(&mut text, class.marking)?;
-    push_if(&mut text, class.nonbranching, b"output-nonbranching")?;
+    let conditions = asked(class);
+    for condition in &conditions {
+        if let Some(condition) = condition {
+            push_condition(&mut text, *condition)?;
+        }
+    }
     if text.is_empty() {
         text.extend_from_slice(b"none")?;
         return Ok(text);
@@ -26,34 +27,30 @@ pub fn class_text(alloc: Global, class: Class) -> Result<Vec<u8>, NoMemory>
     Ok(text)
 }
 
-// A word more, where its condition is asked.
-fn push_if(text: &mut Vec<u8>, asked: bool, word: &[u8]) -> Result<(), NoMemory>
-    ensures { OnOk result (text.new.items ≡ with_words text.old.items (asked_words asked word.now)) }
+// What the class asks, in the order of its text.
+fn asked(class: Class) -> [Option<Condition>; 5]
+    ensures { result ≡ asked class }
 {
-    if asked {
-        push_word(text, word)?;
-    }
-    Ok(())
+    [
+        class.pure.then_some(Condition::Pure),
+        class.plain.then_some(Condition::Plain),
+        class.bound.map(Condition::Bounded),
+        class.marking.map(Condition::Multiple),
+        class.nonbranching.then_some(Condition::Nonbranching),
+    ]
 }
 
-// The word of the bound, where there is one.
-fn push_bound(text: &mut Vec<u8>, bound: Option<u8>) -> Result<(), NoMemory>
-    ensures { OnOk result (text.new.items ≡ with_words text.old.items (bound_words bound)) }
+// The word of a condition more.
+fn push_condition(text: &mut Vec<u8>, condition: Condition) -> Result<(), NoMemory>
+    ensures { OnOk result (text.new.items ≡ with_word text.old.items (word_of condition)) }
 {
-    match bound {
-        None => Ok(()),
-        Some(1) => push_word(text, b"safe"),
-        Some(k) => push_number(text, k, b"-bounded"),
-    }
-}
-
-// The word of the marking, where there is one.
-fn push_marking(text: &mut Vec<u8>, marking: Option<u8>) -> Result<(), NoMemory>
-    ensures { OnOk result (text.new.items ≡ with_words text.old.items (marking_words marking)) }
-{
-    match marking {
-        None => Ok(()),
-        Some(n) => push_number(text, n, b"-marking"),
+    match condition {
+        Condition::Pure => push_word(text, b"pure"),
+        Condition::Plain => push_word(text, b"plain"),
+        Condition::Bounded(1) => push_word(text, b"safe"),
+        Condition::Bounded(k) => push_number(text, k, b"-bounded"),
+        Condition::Multiple(n) => push_number(text, n, b"-marking"),
+        Condition::Nonbranching => push_word(text, b"output-nonbranching"),
     }
 }
 
