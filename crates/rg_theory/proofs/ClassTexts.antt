@@ -1,17 +1,17 @@
 -- The words of classes.
-use Rattle.std.proofs.Common.{◌≡◌, ◌≢◌, ◌⊎◌, inl, inr, ⊎_elim, ℕ, zero, suc, ◌<◌, ◌≤◌, true, false, ◌&&◌, ◌==◌, List, [], ◌∷◌, ◌++◌, length, get_or, codes, decimal, Result, Ok, Err, refl, sym, ap, ap₂, subst, ◌∙◌, arith, length-append}
+use Rattle.std.proofs.Common.{◌≡◌, ◌≢◌, ◌⊎◌, inl, inr, ⊎_elim, ℕ, zero, suc, ◌<◌, ◌≤◌, true, ◌&&◌, List, [], ◌∷◌, ◌++◌, length, get_or, codes, decimal, Result, Ok, Err, refl, sym, ap, ap₂, subst, ◌∙◌, arith, length-append}
 use Rattle.std.specs.List.{list_all}
 use Rattle.std.specs.Char.{is_ascii_digit}
 use Rattle.std.specs.Str.{all_ascii_digits}
 use Rattle.std.specs.Str.Parse.{digits_value, ParsesUnsigned}
 use Rattle.std.proofs.lemmas.Str.Parse.{IsDigitsTest, IsNumeralModel, numerals_by_value, parse_digits, tells_all_ascii_digits}
-use Rattle.std.proofs.lemmas.Bool.Decides.{nat_tests}
 use Rattle.rg_theory.specs.declared.Class.{Class}
 use Rattle.rg_theory.specs.declared.class_words.Condition.{Condition}
 use Rattle.rg_theory.specs.declared.class_words.Condition.TheVariants.{Pure, Plain, Bounded, Multiple, Nonbranching}
 use Rattle.rg_theory.specs.declared.class_words.ClassFault.{ClassFault}
 use Rattle.rg_theory.specs.declared.class_words.ClassFault.TheVariants.{UnknownWord, BadNumber}
 use Rattle.rg_theory.specs.ClassWords.{IsWordOf, no_condition, with_conditions, asks_for, IsBadNumeral, IsTail, IsBadNumber, IsRepeated, IsRefusedWord}
+use Rattle.rg_theory.specs.ClassParts.{IsOther}
 use Rattle.rg_theory.proofs.ClassAsked.{asked_among}
 use Rattle.std.proofs.lemmas.Fmt.{first_decimal, decimal_digit, decimal_nonempty, digits_decimal, parse-decimal, decimal-digits_value}
 
@@ -77,23 +77,7 @@ not_numeral : (digits : List ℕ) → (0 < length digits → list_all is_ascii_d
 not_numeral digits none k some few e =
     none (subst (λ d. 0 < length d) (sym e) (decimal_nonempty k (omega arith))) (ap (list_all is_ascii_digit) e ∙ digits_decimal numerals k (omega arith))
 
-not_zero : (n : ℕ) → 0 < n → (n == 0) ≡ false
-not_zero n some = grind (arith, nat_tests)
-
-pub none_empty : (digits : List ℕ) → true ≡ (length digits == 0) → 0 < length digits → list_all is_ascii_digit digits ≡ true → ⊥
-none_empty digits empty some all = let off : true ≡ false = empty ∙ not_zero (length digits) some in absurd cc
-
-pub none_other : (digits : List ℕ) → false ≡ list_all is_ascii_digit digits → 0 < length digits → list_all is_ascii_digit digits ≡ true → ⊥
-none_other digits other some all = let same = other ∙ all in absurd cc
-
--- a word that gives none of the conditions without a number
-pub record IsOther (word : List ℕ) : Type 0 where
-  pub pure : word ≢ codes "pure"
-  pub plain : word ≢ codes "plain"
-  pub safe : word ≢ codes "safe"
-  pub nonbranching : word ≢ codes "output-nonbranching"
-
--- such a word gives a condition only by a number and a tail
+-- a word that is none of those without a number gives a condition only by a number and a tail
 only_numbered : (word : List ℕ) → IsOther word → (c : Condition) → IsWordOf c word → (k : ℕ) × (tail : List ℕ) × (0 < k) × (k ≤ 255) × IsTail tail × (word ≡ decimal k ++ tail)
 only_numbered word other Pure x = absurd (other.pure x)
 only_numbered word other Plain x = absurd (other.plain x)
@@ -118,23 +102,6 @@ refused_numeral word digits tail number f before other ends is (inl (e, none)) =
         not_numeral digits none k some few (same_tails digits (decimal k) tail t ends ends' (sym is ∙ spelled)).0
 refused_numeral word digits tail number f before other ends is (inr (e, bad)) =
     subst (IsRefusedWord before word number) (sym e) (refl, record { digits = digits; tail = tail; numeral = bad; ends = ends; spelled = is })
-
--- neither tail ends the word
-pub refused_untailed : (word : List ℕ) (number : ℕ) (before : List Condition) → IsOther word → ((front : List ℕ) → word ≢ front ++ codes "-bounded") → ((front : List ℕ) → word ≢ front ++ codes "-marking")
-    → IsRefusedWord before word number (UnknownWord number)
-refused_untailed word number before other unbounded unmarked = (refl, no_bad, no_word)
-  where
-    none : (digits tail : List ℕ) → IsTail tail → word ≡ digits ++ tail → ⊥
-    none digits tail (inl e) is = unbounded digits (is ∙ ap (λ t. digits ++ t) e)
-    none digits tail (inr e) is = unmarked digits (is ∙ ap (λ t. digits ++ t) e)
-
-    no_bad : IsBadNumber word → ⊥
-    no_bad b = none b.digits b.tail b.ends b.spelled
-
-    no_word : (c : Condition) → IsWordOf c word → ⊥
-    no_word c gives =
-        let (k, t, some, few, ends, spelled) = only_numbered word other c gives in
-        none (decimal k) t ends spelled
 
 -- the class of all nets asks for nothing
 none_asked : (c : Condition) → asks_for no_condition c ≡ true → ⊥

@@ -8,6 +8,7 @@ ghost use Rattle.rg_theory.specs.declared.class_words.Condition.{Condition};
 ghost use Rattle.rg_theory.specs.declared.class_words.Condition.TheVariants as condition;
 ghost use Rattle.rg_theory.specs.declared.class_words.ClassFault.TheVariants as fault;
 ghost use Rattle.rg_theory.specs.ClassWords.{IsWordOf, no_condition, with_condition, with_conditions, asks_for, NamesClass, IsBadNumeral, IsRefusedWord, FirstRefusedWord, IsClassTold, class_text, HasNumbersInRange};
+ghost use Rattle.rg_theory.specs.ClassParts.{IsOther};
 
 use crate::{ALL_NETS, Class};
 use rg_text::are_digits;
@@ -108,25 +109,18 @@ fn condition_of(word: &str, number: u32) -> Result<Condition, ClassFault>
     ensures ok { IfOk result (λ c. IsWordOf c word.now) }
     ensures fault { IfErr result (λ f. (before : List Condition) → IsRefusedWord before word.now number f) }
 {
-    if word == "pure" {
-        Ok(Condition::Pure)
-    } else if word == "plain" {
-        Ok(Condition::Plain)
-    } else if word == "safe" {
-        Ok(Condition::Bounded(1))
-    } else if word == "output-nonbranching" {
-        Ok(Condition::Nonbranching)
-    } else {
-        numbered(word, number)
+    match word {
+        "pure" => Ok(Condition::Pure),
+        "plain" => Ok(Condition::Plain),
+        "safe" => Ok(Condition::Bounded(1)),
+        "output-nonbranching" => Ok(Condition::Nonbranching),
+        _ => numbered(word, number),
     }
 }
 
 // The bound or the marking that word number i gives.
 fn numbered(word: &str, number: u32) -> Result<Condition, ClassFault>
-    requires pure { word.now ≢ codes "pure" }
-    requires plain { word.now ≢ codes "plain" }
-    requires safe { word.now ≢ codes "safe" }
-    requires nonbranching { word.now ≢ codes "output-nonbranching" }
+    requires other { IsOther word.now }
     ensures ok { IfOk result (λ c. IsWordOf c word.now) }
     ensures fault { IfErr result (λ f. (before : List Condition) → IsRefusedWord before word.now number f) }
 {
