@@ -20,3 +20,4 @@ pub mod Pairs
 pub mod Parted
 pub mod LeafSteps
 pub mod Asked
+pub mod Located

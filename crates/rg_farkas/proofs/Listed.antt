@@ -16,7 +16,6 @@ use Rattle.rg_refuting.specs.Refutes.{NamedRow}
 use Rattle.rg_order_of_work.specs.Spreading.{named_from, not_zero, multiplier_among, arc_name}
 use Rattle.rg_order_of_work.proofs.Potentials.{among_is}
 use Rattle.rg_farkas.specs.View.{arc_times}
-use Rattle.rg_order_of_work.proofs.Items.{from_index}
 
 -- what g of the rows' names adds up to, each times its multiplier
 abbrev pub rows_sum : (RowName → ℤ) → List NamedRow → ℤ
@@ -90,10 +89,10 @@ ordered_differ (a ∷ arcs) order = (later, ordered_differ arcs (λ i j d lt bel
     later : ¬ Contains arcs a
     later (k, lt, at) = itself a (subst (λ x. IsArcBefore a x) at (order 0 (suc k) a (omega arith) (omega arith)))
 
-same_arc_refl : (a : Arc) → same_arc a a ≡ true
+pub same_arc_refl : (a : Arc) → same_arc a a ≡ true
 same_arc_refl a = rw (eq-eqb a.from a.from refl, eq-eqb a.label a.label refl, eq-eqb a.to a.to refl) refl
 
-arc_is : (b a : Arc) → same_arc b a ≡ true → b ≡ a
+pub arc_is : (b a : Arc) → same_arc b a ≡ true → b ≡ a
 arc_is b a e = let (k, lt, at) = among_is (b ∷ []) a (ap (λ t. if t then true else false) e) in only k lt at
   where
     only : (k : ℕ) → k < length (b ∷ []) → slice_index_or (b ∷ []) k a ≡ a → b ≡ a
@@ -178,11 +177,3 @@ leaf_sum g names all arcs zs differ differ' inside le =
     rest [] zs n le = omega arith
     rest (x ∷ xs) [] n le = absurd (omega arith)
     rest (x ∷ xs) (z ∷ zs) n le = rest xs zs n (omega arith)
-
--- ---- the multiplier of an arc, found index by index
-
-pub among_next : (arcs : List Arc) (numbers : List ℤ) (k : ℕ) (d a : Arc) (z : ℤ) → k < length arcs → length arcs ≤ length numbers
-    → false ≡ same_arc (slice_index_or arcs k d) a → multiplier_among (drop k arcs) (drop k numbers) a ≡ z
-    → multiplier_among (drop (k + 1) arcs) (drop (k + 1) numbers) a ≡ z
-among_next arcs numbers k d a z lt le other so_far =
-    sym (ap₂ (λ l n. multiplier_among l n a) (from_index arcs k d lt) (from_index numbers k (pos 0) (omega arith)) ∙ ap (λ b. if b then slice_index_or numbers k (pos 0) else multiplier_among (drop (k + 1) arcs) (drop (k + 1) numbers) a) (sym other)) ∙ so_far

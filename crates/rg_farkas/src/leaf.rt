@@ -91,7 +91,7 @@ pub(crate) fn leaf_rows(
     let parts = divided(alloc, &scaled.numbers, &multipliers)?;
     let mut leaf = named_rows(alloc, named, &parts)?;
     let arcs = both(alloc, &chords, tree.arcs())?;
-    push_arcs(&mut leaf, system, &arcs, &parts[named.len()..])?;
+    push_arcs(alloc, &mut leaf, system, &arcs, &parts[named.len()..])?;
     let rows = with_expressions(alloc, c, above, &leaf)?;
     check_sizes(alloc, lts, &rows)?;
     Ok(leaf)

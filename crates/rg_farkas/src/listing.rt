@@ -1,8 +1,9 @@
 //! The rows of the leaf.
-ghost use Rattle.std.specs.Prelude.{◌≡◌, ◌≤◌, ◌++◌, length, map, All, IfOk, OnOk};
+ghost use Rattle.std.specs.Prelude.{◌≡◌, ◌<◌, ◌≤◌, ◌++◌, length, map, slice_index_or, All, AllPairs, Contains, IfOk, IfSome, IfNone, OnOk};
 ghost use Rattle.rg_integers.specs.Range.{InRange};
 ghost use Rattle.rg_reasons.specs.Trees.{named_row};
 ghost use Rattle.rg_order_of_work.specs.Spreading.{named_from, not_zero, multiplier_among, arc_name};
+ghost use Rattle.rg_theory.specs.System.{IsArcBefore};
 ghost use Rattle.rg_farkas.specs.Leaves.{share_of};
 
 use rg_fraction::Fraction;
@@ -31,16 +32,19 @@ pub(crate) fn named_rows(
 
 // Adds the arcs of the system with the multipliers that `arcs` have, without those whose multiplier is 0.
 pub(crate) fn push_arcs(
+    alloc: Global,
     rows: &mut Vec<(RowName, i128)>,
     system: &[Arc],
     arcs: &[Arc],
     multipliers: &[i128],
 ) -> Result<(), AllocError>
-    requires { length arcs.now ≤ length multipliers.now }
+    requires enough { length arcs.now ≤ length multipliers.now }
+    requires order { AllPairs IsArcBefore system.now }
     ensures { OnOk result (map named_row rows.new.items ≡ map named_row rows.old.items ++ not_zero (map (λ a. record { multiplier = multiplier_among arcs.now multipliers.now a; name = arc_name a }) system.now)) }
 {
-    for arc in system {
-        let multiplier = multiplier_among(arcs, multipliers, arc);
+    let system_multipliers = arc_multipliers(alloc, system, arcs, multipliers)?;
+    for (k, arc) in system.iter().enumerate() {
+        let multiplier = system_multipliers[k];
         if multiplier != 0 {
             rows.push((RowName::Arc(*arc), multiplier))?;
         }
@@ -48,15 +52,35 @@ pub(crate) fn push_arcs(
     Ok(())
 }
 
-// The multiplier of the arc, 0 where it isn't among the arcs.
-fn multiplier_among(arcs: &[Arc], multipliers: &[i128], arc: &Arc) -> i128
-    requires { length arcs.now ≤ length multipliers.now }
-    ensures { result ≡ multiplier_among arcs.now multipliers.now arc.now }
+// The multiplier of each arc of the system, 0 where it isn't among `arcs`.
+fn arc_multipliers(
+    alloc: Global,
+    system: &[Arc],
+    arcs: &[Arc],
+    multipliers: &[i128],
+) -> Result<Vec<i128>, AllocError>
+    requires enough { length arcs.now ≤ length multipliers.now }
+    requires order { AllPairs IsArcBefore system.now }
+    ensures { IfOk result (λ v. v.items ≡ map (multiplier_among arcs.now multipliers.now) system.now) }
 {
-    for (k, other) in arcs.iter().enumerate() {
-        if other == arc {
-            return multipliers[k];
+    let mut found = vec![in alloc; 0i128; system.len()]?;
+    for k in (0..arcs.len()).rev() {
+        if let Some(index) = index_of(system, &arcs[k]) {
+            found[index] = multipliers[k];
         }
     }
-    0
+    Ok(found)
+}
+
+// The index of the arc in a list in order; None where it isn't there.
+fn index_of(system: &[Arc], arc: &Arc) -> Option<usize>
+    requires { AllPairs IsArcBefore system.now }
+    ensures found { IfSome result (λ i. (i < length system.now) × (slice_index_or system.now i arc.now ≡ arc.now)) }
+    ensures none { IfNone result (¬ Contains system.now arc.now) }
+{
+    let index = system.partition_point(|a| a < arc);
+    match system.get(index) {
+        Some(a) if a == arc => Some(index),
+        _ => None,
+    }
 }

@@ -1,4 +1,5 @@
-use Rattle.std.proofs.Common.{rules, ◌≡◌, ◌∙◌, ◌++◌, [], Ok, Err, map, reverse, ap, sym, subst, All, Vec, Global}
+use Rattle.std.proofs.Common.{rules, ◌≡◌, ◌∙◌, ◌++◌, [], Ok, Err, map, reverse, ap, sym, subst, All, AllPairs, Vec, Global}
+use Rattle.rg_theory.specs.System.{IsArcBefore}
 use Rattle.rg_integers.specs.Range.{InRange}
 use Rattle.rg_case_parts.specs.SettingViews.{shown_case}
 use Rattle.rg_reasons.specs.Trees.{named_row}
@@ -94,8 +95,11 @@ returns-in_err-multipliers-clause-comes c =
     c.in_ok-listed.ensures) c.in_ok-rows.ensures.rows c.in_ok-rows.ensures.told c.deref-9.ensures.value c.arcs.ensures (Err w)
     (λ e t. rw is at (c.in_err-multipliers.ensures.comes e t)))))
 
-pub push_arcs-requires : goal.push_arcs-requires
-push_arcs-requires c =
+pub push_arcs-requires-clause-order : goal.push_arcs-requires-clause-order
+push_arcs-requires-clause-order c = subst (AllPairs IsArcBefore) (sym c.arcs-system.ensures.value) c.arcs-system.ensures.well_formed.arc_order
+
+pub push_arcs-requires-clause-enough : goal.push_arcs-requires-clause-enough
+push_arcs-requires-clause-enough c =
     let s = shown_case c.args.c in
     enough_parts c.args.named.now c.arcs.result.now c.arcs-2.result.now c.in_ok-arcs.arcs.items c.deref-14.result.now c.in_ok-chords.chords.items
     c.deref-13.result.now c.deref-6.result.now c.in_ok-scaled.scaled.numbers.items c.deref-10.result.now c.deref-7.result.now c.in_ok-multipliers.multipliers.items
