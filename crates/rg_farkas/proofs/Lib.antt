@@ -21,3 +21,4 @@ pub mod Parted
 pub mod LeafSteps
 pub mod Asked
 pub mod Located
+pub mod Bounded

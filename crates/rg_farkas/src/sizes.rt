@@ -1,8 +1,10 @@
 //! The sums of absolute values.
-ghost use Rattle.std.specs.Prelude.{◌≡◌, pos, map, All, IfOk};
+ghost use Rattle.std.specs.Prelude.{◌≡◌, ℤ, pos, List, map, All, Ok, Err, IfOk, IsErrOf};
 ghost use Rattle.rg_refuting.specs.Expression.{Expression};
 ghost use Rattle.rg_refuting.specs.declared.RowName.{RowName};
-ghost use Rattle.rg_order_of_work.specs.Fold.{Comes, further, whole_sum};
+ghost use Rattle.rg_integers.specs.declared.term.Wide.{Wide};
+ghost use Rattle.rg_fraction.specs.declared.fold_stop.FoldStop.TheVariants as stop;
+ghost use Rattle.rg_order_of_work.specs.Fold.{Comes, each, further, whole_sum};
 ghost use Rattle.rg_order_of_work.specs.Spreading.{variables_of, checked_leaf};
 ghost use Rattle.rg_farkas.specs.View.{named_of, Tells, size_fold, coefficient_at};
 
@@ -19,11 +21,44 @@ use std::alloc::{AllocError, Global};
 pub(crate) fn check_sizes(alloc: Global, lts: &Lts, rows: &[Row]) -> Result<(), FoldStop>
     ensures { (expression : RowName → Expression) → All (Tells expression) rows.now → Comes (checked_leaf lts.now expression (map named_of rows.now)) (λ _. map named_of rows.now) result }
 {
+    check_variables(alloc, lts, rows)?;
+    constant_sizes(rows)?;
+    Ok(())
+}
+
+// Refused where the sum for some state or label is out of range. None is greater than the sum in which each row has
+// its most terms.
+fn check_variables(alloc: Global, lts: &Lts, rows: &[Row]) -> Result<(), FoldStop>
+    ensures sums { IfOk result (λ _. (sums : List ℤ) × each (λ v. further whole_sum (size_fold (coefficient_at v)) (pos 0) rows.now) (variables_of lts.now) (Ok sums)) }
+    ensures wide { (w : Wide) → IsErrOf result (stop.Wide w) → each (λ v. further whole_sum (size_fold (coefficient_at v)) (pos 0) rows.now) (variables_of lts.now) (Err w) }
+{
+    if greatest_sizes(rows).is_ok() {
+        return Ok(());
+    }
+    each_variable(alloc, lts, rows)
+}
+
+// The sum of the absolute values of three times the multipliers.
+fn greatest_sizes(rows: &[Row]) -> Result<i128, Wide>
+    ensures { further whole_sum (size_fold (λ r. pos 3)) (pos 0) rows.now result }
+{
+    let mut sum = 0;
+    for row in rows {
+        let size = size_times(row.multiplier, 3)?;
+        sum = whole_sum(sum, size)?;
+    }
+    Ok(sum)
+}
+
+// Refused where the sum for some state or label is out of range, found one after the other.
+fn each_variable(alloc: Global, lts: &Lts, rows: &[Row]) -> Result<(), FoldStop>
+    ensures sums { IfOk result (λ _. (sums : List ℤ) × each (λ v. further whole_sum (size_fold (coefficient_at v)) (pos 0) rows.now) (variables_of lts.now) (Ok sums)) }
+    ensures wide { (w : Wide) → IsErrOf result (stop.Wide w) → each (λ v. further whole_sum (size_fold (coefficient_at v)) (pos 0) rows.now) (variables_of lts.now) (Err w) }
+{
     let variables = variables(alloc, lts)?;
     for variable in &variables {
         coefficient_sizes(rows, *variable)?;
     }
-    constant_sizes(rows)?;
     Ok(())
 }
 

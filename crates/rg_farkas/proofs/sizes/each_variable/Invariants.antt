@@ -4,7 +4,7 @@ use Rattle.rg_integers.specs.declared.term.Wide.{Wide}
 use Rattle.rg_order_of_work.specs.Fold.{each, further, whole_sum}
 use Rattle.rg_order_of_work.proofs.Folding.{behind}
 use Rattle.rg_farkas.specs.View.{size_fold, coefficient_at}
-use Rattle.rg_farkas.proofs.sizes.check_sizes.Given as goal
+use Rattle.rg_farkas.proofs.sizes.each_variable.Given as goal
 
 abbrev pub invariant-loop-variable : goal.invariant-loop-variable
 invariant-loop-variable l = (sums : List ℤ)

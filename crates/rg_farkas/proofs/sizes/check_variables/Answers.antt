@@ -1,0 +1,7 @@
+use Rattle.std.proofs.Common.{◌≡◌, ◌∙◌, sym, rules}
+use Rattle.rg_order_of_work.specs.Spreading.{variables_of}
+use Rattle.rg_farkas.proofs.Bounded.{all_summed_where}
+use Rattle.rg_farkas.proofs.sizes.check_variables.Goals as goal
+
+pub returns-then-is_ok-clause-sums : goal.returns-then-is_ok-clause-sums
+returns-then-is_ok-clause-sums c = all_summed_where c.args.rows.now c.greatest_sizes.result c.greatest_sizes.ensures (sym c.is_ok.ensures.value ∙ c.if-is_ok.true) (variables_of c.args.lts.now)

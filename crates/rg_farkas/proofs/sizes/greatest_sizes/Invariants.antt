@@ -1,0 +1,14 @@
+use Rattle.std.proofs.Common.{drop, Result}
+use Rattle.std.specs.Prelude.{ℤ, pos}
+use Rattle.rg_integers.specs.Range.{InRange}
+use Rattle.rg_integers.specs.declared.term.Wide.{Wide}
+use Rattle.rg_order_of_work.specs.Fold.{further, whole_sum}
+use Rattle.rg_farkas.specs.declared.multiplied.Row.{Row}
+use Rattle.rg_farkas.specs.View.{size_fold}
+use Rattle.rg_farkas.proofs.sizes.greatest_sizes.Given as goal
+
+abbrev pub invariant-loop-row : goal.invariant-loop-row
+invariant-loop-row l = record {
+  so_far : (r : Result ℤ Wide) → further whole_sum (size_fold (λ (r : Row). pos 3)) l.sum (drop l.row-index l.rows) r → further whole_sum (size_fold (λ (r : Row). pos 3)) (pos 0) l.rows r;
+  in_range : InRange l.sum;
+}
