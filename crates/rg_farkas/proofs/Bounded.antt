@@ -19,7 +19,7 @@ use Rattle.rg_farkas.specs.View.{size_fold, coefficient_at}
 
 -- ---- products and sums that are in range
 
-fits_product : (x y : ℤ) → InRange (x *ℤ y) → whole_product x y (Ok ((x *ℤ y) -ℤ (pos 0 *ℤ pos 0)))
+pub fits_product : (x y : ℤ) → InRange (x *ℤ y) → whole_product x y (Ok ((x *ℤ y) -ℤ (pos 0 *ℤ pos 0)))
 fits_product x y range = (record { left = range; right = omega arith; difference = subst InRange (same (x *ℤ y)) range }, refl)
   where
     same : (p : ℤ) → p ≡ p -ℤ (pos 0 *ℤ pos 0)
@@ -37,7 +37,7 @@ fits_sum m n lt = (record { left = subst InRange (one m) (omega arith); right = 
     whole : (m n : ℕ) → pos (m + n) ≡ (pos m *ℤ pos 1) -ℤ (neg_ℤ (pos n) *ℤ pos 1)
     whole m n = omega (arith, ints)
 
-made_sum : (m n : ℕ) (z : ℤ) → whole_sum (pos m) (pos n) (Ok z) → (z ≡ pos (m + n)) × (m + n < 2 ^ 127)
+pub made_sum : (m n : ℕ) (z : ℤ) → whole_sum (pos m) (pos n) (Ok z) → (z ≡ pos (m + n)) × (m + n < 2 ^ 127)
 made_sum m n z (fits, e) = (e ∙ sym (whole m n), small (m + n) (subst InRange (sym (whole m n)) fits.difference))
   where
     whole : (m n : ℕ) → pos (m + n) ≡ (pos m *ℤ pos 1) -ℤ (neg_ℤ (pos n) *ℤ pos 1)
@@ -46,13 +46,13 @@ made_sum m n z (fits, e) = (e ∙ sym (whole m n), small (m + n) (subst InRange 
     small : (k : ℕ) → InRange (pos k) → k < 2 ^ 127
     small k range = range
 
-made_product : (x y z : ℤ) → whole_product x y (Ok z) → (z ≡ x *ℤ y) × InRange (x *ℤ y)
+pub made_product : (x y z : ℤ) → whole_product x y (Ok z) → (z ≡ x *ℤ y) × InRange (x *ℤ y)
 made_product x y z (fits, e) = (e ∙ same (x *ℤ y), fits.left)
   where
     same : (p : ℤ) → p -ℤ (pos 0 *ℤ pos 0) ≡ p
     same p = omega (arith, ints)
 
-smaller_product : (m x y : ℤ) → unsigned_abs x ≤ unsigned_abs y → unsigned_abs (m *ℤ x) ≤ unsigned_abs (m *ℤ y)
+pub smaller_product : (m x y : ℤ) → unsigned_abs x ≤ unsigned_abs y → unsigned_abs (m *ℤ x) ≤ unsigned_abs (m *ℤ y)
 smaller_product m x y le =
     let a = unsigned_abs-mul m x in
     let b = unsigned_abs-mul m y in
@@ -88,7 +88,7 @@ smaller_sum f g (r ∷ rows) less m n t le (z, made, (more, joins, rest)) =
 
 -- ---- coefficients
 
-coefficient_most : (entries : List (Option Term)) (v : Variable) → unsigned_abs (coefficient_in (terms_in entries) v) ≤ length entries
+pub coefficient_most : (entries : List (Option Term)) (v : Variable) → unsigned_abs (coefficient_in (terms_in entries) v) ≤ length entries
 coefficient_most [] v = omega arith
 coefficient_most (None ∷ more) v = let rest = coefficient_most more v in omega arith
 coefficient_most (Some t ∷ more) v =

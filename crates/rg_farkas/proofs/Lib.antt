@@ -22,3 +22,5 @@ pub mod LeafSteps
 pub mod Asked
 pub mod Located
 pub mod Bounded
+pub mod AddendSums
+pub mod Filling

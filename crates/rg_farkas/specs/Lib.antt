@@ -1,3 +1,4 @@
+pub mod Addends
 pub mod Leaves
 pub mod Refuting
 pub mod View

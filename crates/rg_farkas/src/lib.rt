@@ -16,6 +16,7 @@ mod multiplied;
 mod parts;
 mod rows;
 mod sizes;
+mod summed;
 mod sums;
 mod triples;
 

@@ -39,7 +39,7 @@ fn check_variables(alloc: Global, lts: &Lts, rows: &[Row]) -> Result<(), FoldSto
 }
 
 // The sum of the absolute values of three times the multipliers.
-fn greatest_sizes(rows: &[Row]) -> Result<i128, Wide>
+pub(crate) fn greatest_sizes(rows: &[Row]) -> Result<i128, Wide>
     ensures { further whole_sum (size_fold (λ r. pos 3)) (pos 0) rows.now result }
 {
     let mut sum = 0;

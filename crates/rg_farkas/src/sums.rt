@@ -10,6 +10,7 @@ ghost use Rattle.rg_reasons.specs.Sums.{term_of, expression_of};
 ghost use Rattle.rg_farkas.specs.View.{named_of, Tells, arc_times, row_addend};
 
 use crate::multiplied::Row;
+use crate::summed::summed_multipliers;
 use rg_fraction::{FoldStop, whole_product, whole_sum};
 use rg_integers::Wide;
 use rg_reasons::Expression;
@@ -25,6 +26,18 @@ pub(crate) fn tree_multipliers(
     tree: &[Arc],
     rows: &[Row],
 ) -> Result<Vec<i128>, FoldStop>
+    ensures comes { (expression : RowName → Sum) → All (Tells expression) rows.now → Comes (tree_fold expression (map named_of rows.now) [] (reverse tree.now)) (λ v. arc_times tree.now v.items) result }
+    ensures one_each { IfOk result (λ v. length v.items ≡ length tree.now) }
+    ensures in_range { IfOk result (λ v. All InRange v.items) }
+{
+    if let Some(multipliers) = summed_multipliers(alloc, tree, rows)? {
+        return Ok(multipliers);
+    }
+    each_multiplier(alloc, tree, rows)
+}
+
+// The same multipliers, each by its own sum over the rows and the arcs.
+fn each_multiplier(alloc: Global, tree: &[Arc], rows: &[Row]) -> Result<Vec<i128>, FoldStop>
     ensures comes { (expression : RowName → Sum) → All (Tells expression) rows.now → Comes (tree_fold expression (map named_of rows.now) [] (reverse tree.now)) (λ v. arc_times tree.now v.items) result }
     ensures one_each { IfOk result (λ v. length v.items ≡ length tree.now) }
     ensures in_range { IfOk result (λ v. All InRange v.items) }
@@ -117,7 +130,7 @@ pub(crate) fn size_times(x: i128, y: i128) -> Result<i128, Wide>
 }
 
 // The absolute value.
-fn absolute(z: i128) -> i128
+pub(crate) fn absolute(z: i128) -> i128
     requires { InRange z }
     ensures value { result ≡ size z }
     ensures in_range { InRange result }

@@ -5,7 +5,7 @@ use Rattle.rg_integers.specs.Range.{InRange}
 use Rattle.rg_integers.proofs.Casts.{back}
 use Rattle.rg_fraction.specs.declared.fold_stop.FoldStop.TheVariants as stop
 use Rattle.rg_farkas.proofs.Told.{state_fails, state_next}
-use Rattle.rg_farkas.proofs.sums.tree_multipliers.Goals as goal
+use Rattle.rg_farkas.proofs.sums.each_multiplier.Goals as goal
 
 pub returns-in_err-sum-clause-comes : goal.returns-in_err-sum-clause-comes
 returns-in_err-sum-clause-comes c = λ expression told.

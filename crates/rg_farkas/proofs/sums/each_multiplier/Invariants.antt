@@ -5,7 +5,7 @@ use Rattle.rg_refuting.specs.Expression.{Expression}
 use Rattle.rg_refuting.specs.declared.RowName.{RowName}
 use Rattle.rg_order_of_work.specs.Spreading.{ArcTimes, tree_fold}
 use Rattle.rg_farkas.specs.View.{named_of, Tells, arc_times}
-use Rattle.rg_farkas.proofs.sums.tree_multipliers.Given as goal
+use Rattle.rg_farkas.proofs.sums.each_multiplier.Given as goal
 
 abbrev pub invariant-loop-i : goal.invariant-loop-i
 invariant-loop-i l = record {
