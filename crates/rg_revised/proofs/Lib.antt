@@ -15,6 +15,7 @@ pub mod Stepping
 pub mod Looping
 pub mod Units
 pub mod Indices
+pub mod NamedSums
 pub mod ConstantsHeld
 pub mod BasicValues
 pub mod Multipliers
