@@ -6,6 +6,7 @@
 mod basis;
 mod choosing;
 mod descent;
+mod divisor;
 mod factor;
 mod naming;
 mod pivot;

@@ -5,6 +5,8 @@ ghost use Rattle.rg_integers.specs.Range.{InRange};
 ghost use Rattle.rg_integers.specs.Sum.{number_at};
 ghost use Rattle.rg_revised.specs.Rows.{RowWithin, AreShort, IsSubtracted, RowRenewed};
 
+use crate::divisor::Divisor;
+
 // A number is short where its size is below this one: 2^31. The product of two short ones fits 64 bits.
 const SHORT: i64 = 2_147_483_648;
 
@@ -14,48 +16,6 @@ fn short_term(a: i64, b: i64, c: i64, d: i64) -> i128
     ensures in_range { InRange result }
 {
     i128::from(a) * i128::from(b) - i128::from(c) * i128::from(d)
-}
-
-// The quotient, where there is no rest.
-fn exact_quotient(n: i128, by: i64) -> Option<i128>
-    requires n_in_range { InRange n }
-    requires positive { pos 0 <ℤ by }
-    ensures value { IfSome result (λ q. by *ℤ q ≡ n) }
-    ensures in_range { IfSome result InRange }
-{
-    if by == 1 {
-        return Some(n);
-    }
-    match i64::try_from(n) {
-        Ok(short) => short_quotient(short, by),
-        Err(_) => long_quotient(n, by),
-    }
-}
-
-// The same for a number of 64 bits.
-fn short_quotient(n: i64, by: i64) -> Option<i128>
-    requires positive { pos 0 <ℤ by }
-    ensures value { IfSome result (λ q. by *ℤ q ≡ n) }
-    ensures in_range { IfSome result InRange }
-{
-    if n % by != 0 {
-        return None;
-    }
-    Some(i128::from(n / by))
-}
-
-// The same for any number in range.
-fn long_quotient(n: i128, by: i64) -> Option<i128>
-    requires n_in_range { InRange n }
-    requires positive { pos 0 <ℤ by }
-    ensures value { IfSome result (λ q. by *ℤ q ≡ n) }
-    ensures in_range { IfSome result InRange }
-{
-    let by = i128::from(by);
-    if n % by != 0 {
-        return None;
-    }
-    Some(n / by)
 }
 
 // The number, where its size is at most `most`.
@@ -91,22 +51,6 @@ fn difference(a: i64, b: i64, c: i64, d: i64) -> i64
     a * b - c * d
 }
 
-// The quotient, where there is no rest.
-fn whole_quotient(n: i64, by: i64) -> Option<i64>
-    requires positive { pos 0 <ℤ by }
-    requires above_least { unsigned_abs n < 2 ^ 63 }
-    ensures value { IfSome result (λ q. by *ℤ q ≡ n) }
-    ensures above_least { IfSome result (λ q. unsigned_abs q < 2 ^ 63) }
-{
-    if by == 1 {
-        return Some(n);
-    }
-    if n % by != 0 {
-        return None;
-    }
-    Some(n / by)
-}
-
 // The number, where its size is at most `most`.
 fn short_within(z: i64, most: i64) -> Option<i64>
     requires above_least { unsigned_abs z < 2 ^ 63 }
@@ -121,17 +65,17 @@ fn short_within(z: i64, most: i64) -> Option<i64>
 }
 
 // (a*b - c*d) / by in 64 bits.
-fn short_divided_term(a: i64, b: i64, c: i64, d: i64, by: i64, most: i64) -> Option<i64>
+fn short_divided_term(a: i64, b: i64, c: i64, d: i64, by: Divisor, most: i64) -> Option<i64>
     requires a { unsigned_abs a < 2 ^ 31 }
     requires b { unsigned_abs b < 2 ^ 31 }
     requires c { unsigned_abs c < 2 ^ 31 }
     requires d { unsigned_abs d < 2 ^ 31 }
-    requires positive { pos 0 <ℤ by }
+    requires positive { pos 0 <ℤ by.value }
     requires not_negative { pos 0 ≤ℤ most }
-    ensures value { IfSome result (λ q. by *ℤ q ≡ (a *ℤ b) -ℤ (c *ℤ d)) }
+    ensures value { IfSome result (λ q. by.value *ℤ q ≡ (a *ℤ b) -ℤ (c *ℤ d)) }
     ensures within { IfSome result (λ q. unsigned_abs q ≤ unsigned_abs most) }
 {
-    match whole_quotient(difference(a, b, c, d), by) {
+    match by.whole_quotient(difference(a, b, c, d)) {
         Some(q) => match short_within(q, most) {
             Some(z) => Some(z),
             None => None,
@@ -141,13 +85,13 @@ fn short_divided_term(a: i64, b: i64, c: i64, d: i64, by: i64, most: i64) -> Opt
 }
 
 // (a*b - c*d) / by in 128 bits.
-fn long_divided_term(a: i64, b: i64, c: i64, d: i64, by: i64, most: i64) -> Option<i64>
-    requires positive { pos 0 <ℤ by }
+fn long_divided_term(a: i64, b: i64, c: i64, d: i64, by: Divisor, most: i64) -> Option<i64>
+    requires positive { pos 0 <ℤ by.value }
     requires not_negative { pos 0 ≤ℤ most }
-    ensures value { IfSome result (λ q. by *ℤ q ≡ (a *ℤ b) -ℤ (c *ℤ d)) }
+    ensures value { IfSome result (λ q. by.value *ℤ q ≡ (a *ℤ b) -ℤ (c *ℤ d)) }
     ensures within { IfSome result (λ q. unsigned_abs q ≤ unsigned_abs most) }
 {
-    match exact_quotient(short_term(a, b, c, d), by) {
+    match by.exact_quotient(short_term(a, b, c, d)) {
         Some(q) => match kept_within(q, most) {
             Some(z) => Some(z),
             None => None,
@@ -157,10 +101,10 @@ fn long_divided_term(a: i64, b: i64, c: i64, d: i64, by: i64, most: i64) -> Opti
 }
 
 // (a*b - c*d) / by, where there is no rest and the size is at most `most`. Numbers that are short are multiplied in 64 bits.
-fn divided_term(a: i64, b: i64, c: i64, d: i64, by: i64, most: i64) -> Option<i64>
-    requires positive { pos 0 <ℤ by }
+fn divided_term(a: i64, b: i64, c: i64, d: i64, by: Divisor, most: i64) -> Option<i64>
+    requires positive { pos 0 <ℤ by.value }
     requires not_negative { pos 0 ≤ℤ most }
-    ensures value { IfSome result (λ q. by *ℤ q ≡ (a *ℤ b) -ℤ (c *ℤ d)) }
+    ensures value { IfSome result (λ q. by.value *ℤ q ≡ (a *ℤ b) -ℤ (c *ℤ d)) }
     ensures within { IfSome result (λ q. unsigned_abs q ≤ unsigned_abs most) }
 {
     if is_short(a) && is_short(b) && is_short(c) && is_short(d) {
@@ -237,13 +181,20 @@ fn renew_whole(row: &mut [i64], pivot: &[i64], p: usize, negative: bool, most: i
 }
 
 // The row after an exchange, number by number.
-fn renew_each(row: &mut [i64], pivot: &[i64], p: usize, negative: bool, d: i64, most: i64) -> bool
+fn renew_each(
+    row: &mut [i64],
+    pivot: &[i64],
+    p: usize,
+    negative: bool,
+    d: Divisor,
+    most: i64,
+) -> bool
     requires same_length { length pivot.now ≡ length row.old }
     requires index { p < length row.old }
-    requires positive { pos 0 <ℤ d }
+    requires positive { pos 0 <ℤ d.value }
     requires not_negative { pos 0 ≤ℤ most }
     requires within { RowWithin (unsigned_abs most) row.old }
-    ensures renewed { IsTrue result → RowRenewed pivot.now row.old row.new p negative d (unsigned_abs most) }
+    ensures renewed { IsTrue result → RowRenewed pivot.now row.old row.new p negative d.value (unsigned_abs most) }
 {
     let size = pivot[p];
     let leaving = row[p];
@@ -265,23 +216,23 @@ pub(crate) fn renew_row(
     pivot: &[i64],
     p: usize,
     negative: bool,
-    d: i64,
+    d: Divisor,
     most: i64,
     short: bool,
 ) -> bool
     requires same_length { length pivot.now ≡ length row.old }
     requires index { p < length row.old }
-    requires positive { pos 0 <ℤ d }
+    requires positive { pos 0 <ℤ d.value }
     requires not_negative { pos 0 ≤ℤ most }
     requires within { RowWithin (unsigned_abs most) row.old }
     requires short { IsTrue short → AreShort pivot.now }
-    ensures renewed { IsTrue result → RowRenewed pivot.now row.old row.new p negative d (unsigned_abs most) }
+    ensures renewed { IsTrue result → RowRenewed pivot.now row.old row.new p negative d.value (unsigned_abs most) }
 {
     let size = pivot[p];
-    if row[p] == 0 && size == d {
+    if row[p] == 0 && size == d.value {
         return true;
     }
-    if short && size == 1 && d == 1 && are_short(row) {
+    if short && size == 1 && d.value == 1 && are_short(row) {
         return renew_whole(row, pivot, p, negative, most);
     }
     renew_each(row, pivot, p, negative, d, most)

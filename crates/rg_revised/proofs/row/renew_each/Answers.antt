@@ -9,14 +9,12 @@ use Rattle.rg_revised.proofs.row.renew_each.Goals as goal
 
 pub loop-n-preserved : goal.loop-n-preserved
 loop-n-preserved c =
-    let fd : FitsSigned w64 c.args.d = search rules in
     let fp : FitsSigned w64 (number_at c.args.pivot.now c.args.p) = search rules in
     let fl : FitsSigned w64 (number_at c.args.row.now c.args.p) = search rules in
     let fx : FitsSigned w64 (number_at c.loop-n.row c.loop-n.n) = search rules in
     let fy : FitsSigned w64 (number_at c.args.pivot.now c.loop-n.n) = search rules in
     let fq : FitsSigned w64 c.in-Some.q = search rules in
     let fm : FitsSigned w64 c.args.most = search rules in
-    let d = to_z-of_z w64 c.args.d fd in
     let p = to_z-of_z w64 (number_at c.args.pivot.now c.args.p) fp in
     let l = to_z-of_z w64 (number_at c.args.row.now c.args.p) fl in
     let x = to_z-of_z w64 (number_at c.loop-n.row c.loop-n.n) fx in
@@ -25,14 +23,14 @@ loop-n-preserved c =
     let m = to_z-of_z w64 c.args.most fm in
     let lt : c.loop-n.n < length c.loop-n.row = omega arith in
     let same = c.loop-n.invariant.left c.loop-n.n (le_refl c.loop-n.n) in
-    let is = rw (d, x, y, p, l, same) at c.in-Some.ensures.value in
+    let is = rw (x, y, p, l, same) at c.in-Some.ensures.value in
     let small = rw m at c.in-Some.ensures.within in
-    let done = rw (d, p, l) at c.loop-n.invariant.done in
+    let done = rw (p, l) at c.loop-n.invariant.done in
     let within = rw m at c.loop-n.invariant.within in
     record {
       same_length = length-set c.loop-n.row c.loop-n.n _ ∙ c.loop-n.invariant.same_length;
-      done = rw (d, p, l, q)
-          (below_set (λ k z. c.args.d *ℤ z ≡ (number_at c.args.row.now k *ℤ number_at c.args.pivot.now c.args.p) -ℤ (number_at c.args.pivot.now k *ℤ number_at c.args.row.now c.args.p))
+      done = rw (p, l, q)
+          (below_set (λ k z. c.args.d.value *ℤ z ≡ (number_at c.args.row.now k *ℤ number_at c.args.pivot.now c.args.p) -ℤ (number_at c.args.pivot.now k *ℤ number_at c.args.row.now c.args.p))
           c.loop-n.row c.loop-n.n c.in-Some.q lt done is);
       left = λ k ge. let ne : k ≢ c.loop-n.n = omega arith in get_or-set_other c.loop-n.row c.loop-n.n k _ (pos 0) ne ∙ c.loop-n.invariant.left k (omega arith);
       within = rw (q, m) (within-set (unsigned_abs c.args.most) c.loop-n.row c.loop-n.n c.in-Some.q within small);
@@ -40,22 +38,20 @@ loop-n-preserved c =
 
 pub returns : goal.returns
 returns c =
-    let fd : FitsSigned w64 c.args.d = search rules in
     let fp : FitsSigned w64 (number_at c.args.pivot.now c.args.p) = search rules in
     let fl : FitsSigned w64 (number_at c.args.row.now c.args.p) = search rules in
     let fm : FitsSigned w64 c.args.most = search rules in
     let fz : FitsSigned w64 c.signed.result = search rules in
-    let d = to_z-of_z w64 c.args.d fd in
     let p = to_z-of_z w64 (number_at c.args.pivot.now c.args.p) fp in
     let l = to_z-of_z w64 (number_at c.args.row.now c.args.p) fl in
     let m = to_z-of_z w64 c.args.most fm in
     let z = to_z-of_z w64 c.signed.result fz in
     let end : length c.args.row.now ≤ c.loop-n.n = omega arith in
-    let done = rw (d, p, l) at c.loop-n.invariant.done in
+    let done = rw (p, l) at c.loop-n.invariant.done in
     let within = rw m at c.loop-n.invariant.within in
     let is = rw l at c.signed.ensures.value in
     let small = rw m at c.signed.ensures.within in
     record {
-      renewed = λ yes. rw z (renewed_row c.args.pivot.now c.args.row.now c.loop-n.row c.args.p c.args.negative c.args.d (unsigned_abs c.args.most) c.signed.result c.loop-n.invariant.same_length
+      renewed = λ yes. rw z (renewed_row c.args.pivot.now c.args.row.now c.loop-n.row c.args.p c.args.negative c.args.d.value (unsigned_abs c.args.most) c.signed.result c.loop-n.invariant.same_length
           c.requires.index (λ k lt. done k (omega arith)) within is small);
     }

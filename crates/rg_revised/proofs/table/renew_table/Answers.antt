@@ -9,19 +9,17 @@ use Rattle.rg_revised.proofs.table.renew_table.Goals as goal
 
 pub loop-t-preserved : goal.loop-t-preserved
 loop-t-preserved c =
-    let fd : FitsSigned w64 c.args.d = search rules in
     let fm : FitsSigned w64 c.args.most = search rules in
-    let d = to_z-of_z w64 c.args.d fd in
     let m = to_z-of_z w64 c.args.most fm in
-    let rows = rw (d, m) at c.loop-t.invariant.rows in
-    let h = rw (d, m) at c.if-not-renew_row.ensures.renewed in
+    let rows = rw m at c.loop-t.invariant.rows in
+    let h = rw m at c.if-not-renew_row.ensures.renewed in
     let old : length c.loop-t.table ≡ c.args.columns * length c.args.pivot.now = rows.same_length ∙ c.requires.size in
     let size = length-part (length c.args.pivot.now) c.loop-t.table c.renew_row.new.row c.args.columns c.loop-t.t old c.loop-t-test.true c.renew_row.auto.row in
     let is = part_is (length c.args.pivot.now) c.args.table.now c.loop-t.table c.loop-t.t (c.loop-t.invariant.left c.loop-t.t (le_refl c.loop-t.t)) in
-    let row = subst (λ x. RowRenewed c.args.pivot.now x c.renew_row.new.row c.args.p c.args.negative c.args.d (unsigned_abs c.args.most)) is (h refl) in
+    let row = subst (λ x. RowRenewed c.args.pivot.now x c.renew_row.new.row c.args.p c.args.negative c.args.d.value (unsigned_abs c.args.most)) is (h refl) in
     let k : (c.loop-t.t * length c.args.pivot.now + length c.args.pivot.now) - c.loop-t.t * length c.args.pivot.now ≡ length c.args.pivot.now = omega arith in
     record {
-      rows = rw (d, m) (rows_more (length c.args.pivot.now) c.args.pivot.now c.args.table.now c.loop-t.table c.renew_row.new.row c.args.p c.args.negative c.args.d (unsigned_abs c.args.most)
+      rows = rw m (rows_more (length c.args.pivot.now) c.args.pivot.now c.args.table.now c.loop-t.table c.renew_row.new.row c.args.p c.args.negative c.args.d.value (unsigned_abs c.args.most)
           c.loop-t.t c.args.columns _ rows c.requires.size c.loop-t-test.true k size row
           (length-put-mid (length c.args.pivot.now) c.loop-t.table c.renew_row.new.row c.args.columns c.loop-t.t _ old c.loop-t-test.true size k ∙ rows.same_length));
       left = λ v le. row_other (length c.args.pivot.now) c.loop-t.table c.renew_row.new.row c.args.columns c.loop-t.t _ v old c.loop-t-test.true size k (λ e. omega arith)
@@ -30,10 +28,8 @@ loop-t-preserved c =
 
 pub returns : goal.returns
 returns c =
-    let fd : FitsSigned w64 c.args.d = search rules in
     let fm : FitsSigned w64 c.args.most = search rules in
-    let d = to_z-of_z w64 c.args.d fd in
     let m = to_z-of_z w64 c.args.most fm in
-    let rows = rw (d, m) at c.loop-t.invariant.rows in
+    let rows = rw m at c.loop-t.invariant.rows in
     let end : c.loop-t.t ≡ c.args.columns = omega arith in
-    record { renewed = λ yes. subst (TableRenewed (length c.args.pivot.now) c.args.pivot.now c.args.table.now c.loop-t.table c.args.p c.args.negative c.args.d (unsigned_abs c.args.most)) end rows }
+    record { renewed = λ yes. subst (TableRenewed (length c.args.pivot.now) c.args.pivot.now c.args.table.now c.loop-t.table c.args.p c.args.negative c.args.d.value (unsigned_abs c.args.most)) end rows }

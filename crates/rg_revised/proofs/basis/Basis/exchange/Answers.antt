@@ -22,7 +22,8 @@ returns-clause-exchanged c =
     let d = to_z-of_z w64 c.args.self.now.d fd in
     let m = to_z-of_z w64 c.args.most fm in
     let width : length c.turn-negative.new.numbers ≡ length c.args.self.now.slots.items + 1 = signed.same_length ∙ c.requires.width in
-    let renewed = rw (d, m) at c.if-not-renew_table.ensures.renewed refl in
+    let by : c.new.result.value ≡ c.args.self.now.d = rw d at c.new.ensures in
+    let renewed = rw (by, m) at c.if-not-renew_table.ensures.renewed refl in
     let turned = subst (λ xs. TableRenewed (length xs) xs c.deref_mut-2.result.now c.renew_table.new.table c.args.p c.turn-negative.result c.args.self.now.d (unsigned_abs c.args.most)
     c.len-columns.result) pv renewed in
     let placed = subst (λ n. TableRenewed n c.turn-negative.new.numbers c.deref_mut-2.result.now c.renew_table.new.table c.args.p c.turn-negative.result c.args.self.now.d
