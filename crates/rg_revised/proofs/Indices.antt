@@ -1,9 +1,8 @@
 -- The indices of the numbers that are not 0.
-use Rattle.std.proofs.Common.{◌≡◌, ⊎_elim, ℕ, ◌+◌, ◌<◌, ◌≤◌, List, [], ◌∷◌, ◌++◌, length, length-append, Contains, ap, refl, subst, sym, ◌∙◌, arith, add-one, take, get_or, ◌*◌, ◌^◌}
-use Rattle.std.specs.Prelude.{ℤ, pos, ◌+ℤ◌, ◌*ℤ◌, unsigned_abs}
+use Rattle.std.proofs.Common.{◌≡◌, ⊎_elim, ℕ, ◌+◌, ◌<◌, ◌≤◌, List, [], ◌∷◌, ◌++◌, length, length-append, Contains, ap, refl, subst, sym, ◌∙◌, arith, add-one, take, get_or}
+use Rattle.std.specs.Prelude.{ℤ, pos, ◌+ℤ◌, ◌*ℤ◌}
 use Rattle.std.proofs.Math.IntN.{*ℤ_comm, *ℤ-zero}
 use Rattle.std.proofs.lemmas.List.{take_more, take_all}
-use Rattle.rg_integers.proofs.Signs.{abs-plus}
 use Rattle.rg_revised.specs.Reading.{AreNamed}
 use Rattle.std.proofs.lemmas.Int.{ints}
 use Rattle.std.proofs.lemmas.List.Elements.{Contains-append_cases}
@@ -63,9 +62,3 @@ whole_total coeffs constants indices k s constant d named same past is =
     ∙ ap (λ z. z +ℤ (constant *ℤ d)) (named (λ t. number_at coeffs t *ℤ number_at constants t) (λ t lt none. ap (λ z. number_at coeffs t *ℤ z) none ∙ *ℤ-zero (number_at coeffs t)))
     ∙ ap (λ n. sum_below n (λ t. number_at coeffs t *ℤ number_at constants t) +ℤ (constant *ℤ d)) same
     ∙ ap (λ z. sum_below (length coeffs) (λ t. number_at coeffs t *ℤ number_at constants t) +ℤ z) (*ℤ_comm constant d)
-
-pub size_more : (s z : ℤ) (k : ℕ) → unsigned_abs s ≤ (k + 1) * 2 ^ 63 → unsigned_abs z < 2 ^ 63 → unsigned_abs (s +ℤ z) ≤ ((k + 1) + 1) * 2 ^ 63
-size_more s z k h g = let p = abs-plus s z ((k + 1) * 2 ^ 63) (2 ^ 63) h (omega arith) in omega (arith, p)
-
-pub size_fits : (z : ℤ) (k : ℕ) → k < 2 ^ 32 → unsigned_abs z ≤ ((k + 1) + 1) * 2 ^ 63 → unsigned_abs z < 2 ^ 127
-size_fits z k few h = omega arith

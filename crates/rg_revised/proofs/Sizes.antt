@@ -104,16 +104,6 @@ module _ (norm most : ℕ) (coeffs : List ℤ) (constant : ℤ) (small : IsSmall
       spread : (a c m : ℕ) → a * m + m * c ≡ (a + c) * m
       spread a c m = omega arith
 
-module _ (norm most : ℕ) (coeffs : List ℤ) (constant : ℤ) (small : IsSmallRow norm most coeffs constant) where
-  below_room : (n : ℕ) → n ≤ norm * most → n < 2 ^ 63
-  below_room n h = let b = small.2 in omega arith
-
-  pub term_below : (t : ℕ) (x : ℤ) → t < length coeffs → unsigned_abs x ≤ most → unsigned_abs (number_at coeffs t *ℤ x) < 2 ^ 63
-  term_below t x lt h = below_room _ (abs-times (number_at coeffs t) x norm most (let a = total_one (length coeffs) t (λ j. unsigned_abs (number_at coeffs j)) lt in let b = small.1 in omega arith) h)
-
-  pub share_below : (d : ℤ) → unsigned_abs d ≤ most → unsigned_abs (constant *ℤ d) < 2 ^ 63
-  share_below d h = below_room _ (abs-times constant d norm most (let b = small.1 in omega arith) h)
-
 -- ---- a row is added
 
 own_index : (t : ℕ) (d : ℤ) → (if t == t then d else pos 0) ≡ d

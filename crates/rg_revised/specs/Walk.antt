@@ -18,12 +18,13 @@ pub record WalkState : Type 0 where
   pub most : ℕ
 
 -- memory for so many columns
-pub record IsWalkStored (w : WalkState) (numbers : List ℤ) (most : ℤ) : Type 0 where
+pub record IsWalkStored (w : WalkState) (numbers : List ℤ) (slots : ℕ) (most : ℤ) : Type 0 where
   pub few : w.columns < 2 ^ 32
   pub slots_size : length w.slots ≡ w.columns
   pub table_size : length w.table ≡ w.columns * (w.columns + 1)
   pub numbers_size : length numbers ≡ w.columns + 1
   pub members_size : length w.members ≡ w.columns
+  pub first_slots : slots ≡ w.columns
   pub not_negative : pos 0 ≤ℤ most
 
 -- the relations are those of the system's columns over the members

@@ -6,7 +6,6 @@ ghost use Rattle.rg_integers.specs.Range.{InRange};
 ghost use Rattle.rg_integers.specs.Sum.{number_at};
 ghost use Rattle.rg_linear.specs.System.{LinearSystem, row_at as row_of};
 ghost use Rattle.rg_linear.specs.Dictionary.{numbers_from};
-ghost use Rattle.rg_linear.specs.Exchange.{exchanged};
 ghost use Rattle.rg_linear.specs.Table.{ShowsRow};
 ghost use Rattle.rg_revised.specs.Basis.{HasNorms};
 ghost use Rattle.rg_revised.specs.State.{IsSmallHeld, HasRoom};
@@ -14,8 +13,9 @@ ghost use Rattle.rg_revised.specs.Walk.{IsWalkOf, NamesColumn, TakenTells, WalkT
 
 use crate::basis::Basis;
 use crate::choosing::is_less;
+use crate::members::Members;
 use crate::primitive::primitive_numbers;
-use crate::revised::{most_for, slot_of};
+use crate::revised::most_for;
 use crate::starting::number_slots;
 use std::alloc::{AllocError, Global};
 use std::marker::Model;
@@ -38,7 +38,7 @@ pub enum Taken {
 #[derive(Drop)]
 pub struct RevisedWalk {
     basis: Basis,
-    members: Vec<u32>,
+    members: Members,
     most: i64,
 }
 
@@ -48,9 +48,9 @@ impl Model for RevisedWalk {
 
     ghost Value = { WalkState };
 
-    ghost view = { λ a. record { columns = length a.basis.slots.items; members = a.members.items; slots = a.basis.slots.items; d = a.basis.d; table = a.basis.table.items; most = unsigned_abs a.most } };
+    ghost view = { λ a. record { columns = length a.basis.slots.items; members = a.members.variables.items; slots = a.basis.slots.items; d = a.basis.d; table = a.basis.table.items; most = unsigned_abs a.most } };
 
-    ghost invariant = { λ a. IsWalkStored (record { columns = length a.basis.slots.items; members = a.members.items; slots = a.basis.slots.items; d = a.basis.d; table = a.basis.table.items; most = unsigned_abs a.most }) a.basis.numbers.items a.most };
+    ghost invariant = { λ a. IsWalkStored (record { columns = length a.basis.slots.items; members = a.members.variables.items; slots = a.basis.slots.items; d = a.basis.d; table = a.basis.table.items; most = unsigned_abs a.most }) a.basis.numbers.items (length a.members.slots.items) a.most };
 }
 
 // Whether a member is a column. Members are in order.
@@ -86,49 +86,33 @@ fn least_column(columns: u32, slots: &[u32], numbers: &[i64]) -> Option<usize>
     best
 }
 
-// Puts a variable that is greater than every member in the place of one.
-fn replace(members: &mut Vec<u32>, leaves: u32, enters: u32)
-    requires ordered { IsStrictlyIncreasing members.old.items }
-    requires member { Contains members.old.items leaves }
-    requires last { (m : ℕ) → Contains members.old.items m → m < enters }
-    ensures exchanged { members.new.items ≡ exchanged members.old.items enters leaves }
-    ensures length { length members.new.items ≡ length members.old.items }
-{
-    let Some(index) = slot_of(members, leaves) else {
-        unreachable!()
-    };
-    members.remove(index);
-    match members.push(enters) {
-        Ok(()) => {}
-        Err(_) => unreachable!(),
-    }
-}
-
 // Takes row `i`, which has these coefficients.
 fn take_vector(
     basis: &mut Basis,
-    members: &mut Vec<u32>,
+    members: &mut Members,
     coeffs: &[i128],
     columns: u32,
     i: u32,
     most: i64,
 ) -> Taken
-    requires whole { (system : LinearSystem) × IsSmallHeld system members.old.items basis.old.slots.items basis.old.d basis.old.table.items (unsigned_abs most)
+    requires whole { (system : LinearSystem) × IsSmallHeld system members.old.variables.items basis.old.slots.items basis.old.d basis.old.table.items (unsigned_abs most)
         × HasRoom system (unsigned_abs most) × (i < length system.rows) × ((row_of system i).coeffs ≡ coeffs.now) × ((row_of system i).constant ≡ pos 0) }
-    requires ahead { (m : ℕ) → Contains members.old.items m → m < columns + i }
+    requires ahead { (m : ℕ) → Contains members.old.variables.items m → m < columns + i }
+    requires slots { length members.old.slots.items ≡ length members.old.variables.items }
     requires columns { length basis.old.slots.items ≡ columns }
     requires width { length basis.old.numbers.items ≡ length basis.old.slots.items + 1 }
     requires each { length coeffs.now ≡ columns }
     requires few { columns + i < 2 ^ 32 }
     requires not_negative { pos 0 ≤ℤ most }
-    ensures told { (system : LinearSystem) → IsSmallHeld system members.old.items basis.old.slots.items basis.old.d basis.old.table.items (unsigned_abs most) → HasRoom system (unsigned_abs most) → i < length system.rows → (row_of system i).coeffs ≡ coeffs.now → (row_of system i).constant ≡ pos 0
-        → TakenTells system members.old.items i (unsigned_abs most) members.new.items basis.new.slots.items basis.new.d basis.new.table.items result }
-    ensures members { length members.new.items ≡ length members.old.items }
+    ensures told { (system : LinearSystem) → IsSmallHeld system members.old.variables.items basis.old.slots.items basis.old.d basis.old.table.items (unsigned_abs most) → HasRoom system (unsigned_abs most) → i < length system.rows → (row_of system i).coeffs ≡ coeffs.now → (row_of system i).constant ≡ pos 0
+        → TakenTells system members.old.variables.items i (unsigned_abs most) members.new.variables.items basis.new.slots.items basis.new.d basis.new.table.items result }
+    ensures members { length members.new.variables.items ≡ length members.old.variables.items }
+    ensures slots { length members.new.slots.items ≡ length members.old.slots.items }
     ensures columns { length basis.new.slots.items ≡ length basis.old.slots.items }
     ensures width { length basis.new.numbers.items ≡ length basis.old.numbers.items }
     ensures size { length basis.new.table.items ≡ length basis.old.table.items }
 {
-    if !has_column(members, columns) {
+    if !has_column(&members.variables, columns) {
         return Taken::Skipped;
     }
     basis.read(coeffs, 0);
@@ -139,7 +123,7 @@ fn take_vector(
     if !basis.exchange(p, columns + i, most) {
         return Taken::Large;
     }
-    replace(members, leaves, columns + i);
+    members.replace(leaves, columns + i, p as u32);
     Taken::Exchanged
 }
 
@@ -153,7 +137,10 @@ impl RevisedWalk {
             return Err(AllocError);
         };
         let slots = vec![in alloc; 0u32; columns as usize]?;
-        let members = vec![in alloc; 0u32; columns as usize]?;
+        let members = Members {
+            variables: vec![in alloc; 0u32; columns as usize]?,
+            slots: vec![in alloc; 0u32; columns as usize]?,
+        };
         let table = vec![in alloc; 0i64; size]?;
         let numbers = vec![in alloc; 0i64; width]?;
         let basis = Basis {
@@ -183,7 +170,8 @@ impl RevisedWalk {
             return false;
         };
         self.basis.restart();
-        number_slots(&mut self.members);
+        number_slots(&mut self.members.variables);
+        number_slots(&mut self.members.slots);
         self.most = most;
         true
     }
@@ -219,7 +207,7 @@ impl RevisedWalk {
     pub fn members(&self) -> &[u32]
         ensures { result.now ≡ self.now.members }
     {
-        &self.members
+        &self.members.variables
     }
 
     /// The relation of column `t`, which is outside the set: its `d`, which is positive, the constant, and the coefficients of
@@ -236,7 +224,8 @@ impl RevisedWalk {
         let start = t as usize * width;
         primitive_numbers(
             alloc,
-            &self.members,
+            &self.members.variables,
+            &self.members.slots,
             &self.basis.slots,
             self.basis.d,
             &self.basis.table[start..start + width],

@@ -24,8 +24,8 @@ divided-requires-2-clause-divides c =
     rw (back c.common_factor-factor.result c.common_factor-factor.ensures.in_range, to_z-of_z w64 (number_at c.args.row.now (length c.args.slots.now)) fr)
     (common.greatest.divides (suc (length c.args.slots.now)) (omega arith))
 
-pub loop-member-init : goal.loop-member-init
-loop-member-init c =
+pub loop-index-init : goal.loop-index-init
+loop-index-init c =
     let fits : FitsSigned w64 c.args.d = search rules in
     let d = to_z-of_z w64 c.args.d fits in
     let fr : FitsSigned w64 (number_at c.args.row.now (length c.args.slots.now)) = search rules in
@@ -47,10 +47,10 @@ loop-member-init c =
     }
 
 pub primitive_number-number-requires-clause-slot : goal.primitive_number-number-requires-clause-slot
-primitive_number-number-requires-clause-slot c = c.requires.members _ (Contains-get_or c.args.members.now c.loop-member.member-index 0 c.loop-member-test.true)
+primitive_number-number-requires-clause-slot c = c.requires.members _ (Contains-get_or c.args.members.now c.loop-index.index 0 c.loop-index-test.true)
 
-pub loop-member-preserved : goal.loop-member-preserved
-loop-member-preserved c =
+pub loop-index-preserved : goal.loop-index-preserved
+loop-index-preserved c =
     let fits : FitsSigned w64 c.args.d = search rules in
     let d = to_z-of_z w64 c.args.d fits in
     let common = rw d at c.common_factor-factor.ensures.factor in
@@ -58,17 +58,17 @@ loop-member-preserved c =
     let z = back c.primitive_number-number.result c.primitive_number-number.ensures.in_range in
     let value = rw factor at c.primitive_number-number.ensures.value in
     let items = rw z at c.in_ok-push-3.ensures.items in
-    let shown = rw d at c.loop-member.invariant.shown in
+    let shown = rw d at c.loop-index.invariant.shown in
     record {
-      size = length_more c.loop-member.numbers.items c.push-in-loop-member.new.self.items _ c.loop-member.member-index items c.loop-member.invariant.size;
-      in_range = rw items (range_more c.loop-member.numbers.items c.primitive_number-number.result c.loop-member.invariant.in_range c.primitive_number-number.ensures.in_range);
-      shown = rw d (λ k distinct reduced. items ∙ shown_more k.coefficient k.d k.constant c.args.members.now c.loop-member.member-index c.loop-member.numbers.items c.primitive_number-number.result
-          c.loop-member-test.true (shown k distinct reduced)
+      size = length_more c.loop-index.numbers.items c.push-in-loop-index.new.self.items _ c.loop-index.index items c.loop-index.invariant.size;
+      in_range = rw items (range_more c.loop-index.numbers.items c.primitive_number-number.result c.loop-index.invariant.in_range c.primitive_number-number.ensures.in_range);
+      shown = rw d (λ k distinct reduced. items ∙ shown_more k.coefficient k.d k.constant c.args.members.now c.loop-index.index c.loop-index.numbers.items c.primitive_number-number.result
+          c.loop-index-test.true (shown k distinct reduced)
           (member_shown c.args.slots.now c.args.d c.args.row.now c.requires.row c.common_factor-factor.result common k distinct reduced _ c.primitive_number-number.result value));
     }
 
 pub returns-clause-numbers : goal.returns-clause-numbers
 returns-clause-numbers c = λ k distinct reduced.
     let fits : FitsSigned w64 c.args.d = search rules in
-    let shown = rw (to_z-of_z w64 c.args.d fits) at c.loop-member.invariant.shown in
-    shown k distinct reduced ∙ ap (λ ms. k.d ∷ k.constant ∷ map k.coefficient ms) (take_all c.loop-member.member-index c.args.members.now c.loop-member-test.false)
+    let shown = rw (to_z-of_z w64 c.args.d fits) at c.loop-index.invariant.shown in
+    shown k distinct reduced ∙ ap (λ ms. k.d ∷ k.constant ∷ map k.coefficient ms) (take_all c.loop-index.index c.args.members.now c.loop-index-test.false)

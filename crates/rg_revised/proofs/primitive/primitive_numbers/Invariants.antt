@@ -6,9 +6,9 @@ use Rattle.rg_linear.specs.Exchange.{IsReduced}
 use Rattle.rg_revised.specs.Held.{AreDistinct, relation_of}
 use Rattle.rg_revised.proofs.primitive.primitive_numbers.Given as goal
 
-abbrev pub invariant-loop-member : goal.invariant-loop-member
-invariant-loop-member l = record {
-  size : length l.numbers.items ≡ l.member-index + 2;
+abbrev pub invariant-loop-index : goal.invariant-loop-index
+invariant-loop-index l = record {
+  size : length l.numbers.items ≡ l.index + 2;
   in_range : (n : ℕ) → InRange (number_at l.numbers.items n);
-  shown : (k : Relation) → AreDistinct l.slots → IsReduced (relation_of l.slots l.d l.row) k → l.numbers.items ≡ k.d ∷ k.constant ∷ map k.coefficient (take l.member-index l.members);
+  shown : (k : Relation) → AreDistinct l.slots → IsReduced (relation_of l.slots l.d l.row) k → l.numbers.items ≡ k.d ∷ k.constant ∷ map k.coefficient (take l.index l.members);
 }

@@ -17,14 +17,14 @@ returns-clause-held c = λ yes system columns norms.
     let b = c.restart.new.self in
     let count : length c.self.inside.basis.slots.items ≡ system.columns = sym (columns ∙ ap (λ (xs : List ℕ). length xs) c.restart.ensures.slots ∙ length-numbers_from 0 _) in
     let slots = c.restart.ensures.slots ∙ ap (numbers_from 0) count in
-    let members = with_items_is c.self.inside.members c.number_slots.new.slots (c.number_slots.auto.slots ∙ c.deref_mut.ensures.len)
+    let members = with_items_is c.self.inside.members.variables c.number_slots.new.slots (c.number_slots.auto.slots ∙ c.deref_mut.ensures.len)
     ∙ c.number_slots.ensures ∙ ap (numbers_from 0) (ap (λ (xs : List ℕ). length xs) c.deref_mut.ensures.value ∙ c.self.invariant.members_size ∙ count) in
     let size = c.restart.ensures.size ∙ c.self.invariant.table_size ∙ ap (λ n. n * (n + 1)) count in
     let unit = subst (λ n. IsUnitTable (n + 1) n b.table.items) count c.restart.ensures.unit in
     rw (to_z-of_z w64 c.in-Some.most fits)
     (walk_started system (record {
       columns = length b.slots.items;
-      members = (with_items c.self.inside.members c.number_slots.new.slots).items;
+      members = (with_items c.self.inside.members.variables c.number_slots.new.slots).items;
       slots = b.slots.items;
       d = b.d;
       table = b.table.items;

@@ -21,14 +21,14 @@ returns-clause-told c = λ system is lt coeffs constant.
     let b = c.take_vector.new.basis in
     let ms = c.take_vector.new.members in
     subst (λ (w : WalkState). WalkTells system w c.args.i
-    (record { columns = length b.slots.items; members = ms.items; slots = b.slots.items; d = b.d; table = b.table.items; most = unsigned_abs c.self.inside.most }) c.take_vector.result) c.self.view_is
+    (record { columns = length b.slots.items; members = ms.variables.items; slots = b.slots.items; d = b.d; table = b.table.items; most = unsigned_abs c.self.inside.most }) c.take_vector.result) c.self.view_is
     (walk_told system (record {
       columns = length c.self.inside.basis.slots.items;
-      members = c.self.inside.members.items;
+      members = c.self.inside.members.variables.items;
       slots = c.self.inside.basis.slots.items;
       d = c.self.inside.basis.d;
       table = c.self.inside.basis.table.items;
       most = unsigned_abs c.self.inside.most;
     })
-    (record { columns = length b.slots.items; members = ms.items; slots = b.slots.items; d = b.d; table = b.table.items; most = unsigned_abs c.self.inside.most }) c.args.i c.take_vector.result refl
+    (record { columns = length b.slots.items; members = ms.variables.items; slots = b.slots.items; d = b.d; table = b.table.items; most = unsigned_abs c.self.inside.most }) c.args.i c.take_vector.result refl
     at.room told)
