@@ -1,6 +1,6 @@
 -- Products of numbers below 2^31, and their differences.
-use Rattle.std.proofs.Common.{◌≡◌, ◌^◌, ◌<◌, arith}
-use Rattle.std.specs.Prelude.{ℤ, pos, ◌-ℤ◌, ◌*ℤ◌, unsigned_abs, FitsSigned}
+use Rattle.std.proofs.Common.{◌^◌, ◌<◌, arith}
+use Rattle.std.specs.Prelude.{ℤ, ◌-ℤ◌, ◌*ℤ◌, unsigned_abs, FitsSigned}
 use Rattle.std.specs.Int.{w64}
 use Rattle.std.proofs.lemmas.Int.{ints, fits_signed_from_abs}
 use Rattle.rg_integers.proofs.Signs.{abs-times}
@@ -15,6 +15,3 @@ short_difference x y h k = omega (arith, ints)
 
 pub fits_short : (z : ℤ) → unsigned_abs z < 2 ^ 63 → FitsSigned w64 z
 fits_short z h = fits_signed_from_abs w64 z h
-
-pub times_one : (z x y : ℤ) → z ≡ (x *ℤ pos 1) -ℤ y → z ≡ x -ℤ y
-times_one z x y e = omega (arith, ints)

@@ -4,8 +4,7 @@ use Rattle.std.specs.Prelude.{ℤ, pos, neg_ℤ, ◌-ℤ◌, ◌*ℤ◌, unsigne
 use Rattle.std.proofs.Math.ListN.{set, length-set}
 use Rattle.rg_integers.specs.Sum.{number_at}
 use Rattle.rg_linear.proofs.Members.{equal_or_not}
-use Rattle.std.proofs.lemmas.Int.{ints}
-use Rattle.rg_revised.specs.Rows.{RowWithin, IsSubtracted, RowRenewed}
+use Rattle.rg_revised.specs.Rows.{RowWithin, RowRenewed}
 
 -- a small number is written
 pub within-set : (most : ℕ) (xs : List ℤ) (n : ℕ) (z : ℤ) → RowWithin most xs → unsigned_abs z ≤ most → RowWithin most (set xs n z)
@@ -30,20 +29,3 @@ renewed_row pivot old new p negative d most z same lt done within is small = rec
   index = get_or-set_same new p z (pos 0) (subst (λ n. p < n) (sym same) lt) ∙ is;
   within = within-set most new p z within small;
 }
-
--- the row where the denominator stays 1
-pub whole_row : (pivot old new : List ℤ) (p : ℕ) (negative : Bool) (most : ℕ) (z : ℤ) → IsSubtracted (number_at old p) pivot old new → p < length old → number_at pivot p ≡ pos 1
-    → z ≡ (if negative then neg_ℤ (number_at old p) else number_at old p) → RowWithin most (set new p z) → RowRenewed pivot old (set new p z) p negative (pos 1) most
-whole_row pivot old new p negative most z sub lt one is within = record {
-  same_length = length-set new p z ∙ sub.same_length;
-  others = λ n less ne. ap (λ x. pos 1 *ℤ x) (get_or-set_other new p n z (pos 0) ne ∙ sub.numbers n less)
-      ∙ by_one (number_at old n) (number_at pivot n *ℤ number_at old p) (number_at pivot p) one;
-  index = get_or-set_same new p z (pos 0) (subst (λ n. p < n) (sym sub.same_length) lt) ∙ is;
-  within = within;
-}
-  where
-    by_one : (x y q : ℤ) → q ≡ pos 1 → pos 1 *ℤ (x -ℤ y) ≡ (x *ℤ q) -ℤ y
-    by_one x y q e = rw e (one_times x y)
-      where
-        one_times : (x y : ℤ) → pos 1 *ℤ (x -ℤ y) ≡ (x *ℤ pos 1) -ℤ y
-        one_times x y = omega (arith, ints)

@@ -6,15 +6,6 @@ use Rattle.rg_integers.specs.Sum.{number_at}
 abbrev pub RowWithin : ℕ → List ℤ → Type 0
 RowWithin most row = (n : ℕ) → n < length row → unsigned_abs (number_at row n) ≤ most
 
--- each number is below 2^31
-abbrev pub AreShort : List ℤ → Type 0
-AreShort row = (n : ℕ) → n < length row → unsigned_abs (number_at row n) < 2 ^ 31
-
--- the multiple of the pivot's row is taken away
-pub record IsSubtracted (by : ℤ) (pivot old new : List ℤ) : Type 0 where
-  pub same_length : length new ≡ length old
-  pub numbers : (n : ℕ) → n < length old → number_at new n ≡ number_at old n -ℤ (number_at pivot n *ℤ by)
-
 -- the row after an exchange: by the signed row of the pivot, divided by the denominator d; the new member comes to the index p
 pub record RowRenewed (pivot old new : List ℤ) (p : ℕ) (negative : Bool) (d : ℤ) (most : ℕ) : Type 0 where
   pub same_length : length new ≡ length old

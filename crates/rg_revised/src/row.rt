@@ -3,7 +3,7 @@
 ghost use Rattle.std.specs.Prelude.{if◌then◌else◌, ◌≡◌, ◌≢◌, ◌↔◌, ℕ, ◌<◌, ◌≤◌, ◌^◌, length, pos, neg_ℤ, ◌-ℤ◌, ◌*ℤ◌, ◌<ℤ◌, ◌≤ℤ◌, unsigned_abs, IsTrue, IfSome};
 ghost use Rattle.rg_integers.specs.Range.{InRange};
 ghost use Rattle.rg_integers.specs.Sum.{number_at};
-ghost use Rattle.rg_revised.specs.Rows.{RowWithin, AreShort, IsSubtracted, RowRenewed};
+ghost use Rattle.rg_revised.specs.Rows.{RowWithin, RowRenewed};
 
 use crate::divisor::Divisor;
 
@@ -114,6 +114,20 @@ fn divided_term(a: i64, b: i64, c: i64, d: i64, by: Divisor, most: i64) -> Optio
     }
 }
 
+// The same, where the size of `a` is at most `most` already: nothing is computed where it stays.
+fn renewed_number(a: i64, b: i64, c: i64, d: i64, by: Divisor, most: i64) -> Option<i64>
+    requires positive { pos 0 <ℤ by.value }
+    requires not_negative { pos 0 ≤ℤ most }
+    requires small { unsigned_abs a ≤ unsigned_abs most }
+    ensures value { IfSome result (λ q. by.value *ℤ q ≡ (a *ℤ b) -ℤ (c *ℤ d)) }
+    ensures within { IfSome result (λ q. unsigned_abs q ≤ unsigned_abs most) }
+{
+    if c == 0 && b == by.value {
+        return Some(a);
+    }
+    divided_term(a, b, c, d, by, most)
+}
+
 // The number, or its negative.
 fn signed(z: i64, negative: bool, most: i64) -> i64
     requires small { unsigned_abs z ≤ unsigned_abs most }
@@ -122,62 +136,6 @@ fn signed(z: i64, negative: bool, most: i64) -> i64
     ensures within { unsigned_abs result ≤ unsigned_abs most }
 {
     if negative { -z } else { z }
-}
-
-// Whether all numbers are short.
-pub(crate) fn are_short(numbers: &[i64]) -> bool
-    ensures { IsTrue result → AreShort numbers.now }
-{
-    for &number in numbers {
-        if !is_short(number) {
-            return false;
-        }
-    }
-    true
-}
-
-// Whether no number passes `most`.
-fn are_within(numbers: &[i64], most: i64) -> bool
-    requires not_negative { pos 0 ≤ℤ most }
-    ensures { IsTrue result → RowWithin (unsigned_abs most) numbers.now }
-{
-    for &number in numbers {
-        if number > most || number < -most {
-            return false;
-        }
-    }
-    true
-}
-
-// Takes the multiple of the pivot's row away from the row.
-fn subtract(row: &mut [i64], pivot: &[i64], by: i64)
-    requires same_length { length pivot.now ≡ length row.old }
-    requires short { AreShort row.old }
-    requires pivot { AreShort pivot.now }
-    requires by { unsigned_abs by < 2 ^ 31 }
-    ensures { IsSubtracted by pivot.now row.old row.new }
-{
-    for n in 0..row.len() {
-        row[n] = difference(row[n], 1, pivot[n], by);
-    }
-}
-
-// The row after an exchange at which the denominator stays 1. False where a number is larger than `most`; then nothing is
-// said of the row.
-fn renew_whole(row: &mut [i64], pivot: &[i64], p: usize, negative: bool, most: i64) -> bool
-    requires same_length { length pivot.now ≡ length row.old }
-    requires index { p < length row.old }
-    requires one { number_at pivot.now p ≡ pos 1 }
-    requires short { AreShort row.old }
-    requires pivot { AreShort pivot.now }
-    requires not_negative { pos 0 ≤ℤ most }
-    requires within { RowWithin (unsigned_abs most) row.old }
-    ensures renewed { IsTrue result → RowRenewed pivot.now row.old row.new p negative (pos 1) (unsigned_abs most) }
-{
-    let leaving = row[p];
-    subtract(row, pivot, leaving);
-    row[p] = signed(leaving, negative, most);
-    are_within(row, most)
 }
 
 // The row after an exchange, number by number.
@@ -199,7 +157,7 @@ fn renew_each(
     let size = pivot[p];
     let leaving = row[p];
     for n in 0..row.len() {
-        match divided_term(row[n], size, pivot[n], leaving, d, most) {
+        match renewed_number(row[n], size, pivot[n], leaving, d, most) {
             Some(q) => row[n] = q,
             None => return false,
         }
@@ -209,8 +167,8 @@ fn renew_each(
 }
 
 /// The row after the exchange of the pivot with the member at index `p`: `pivot` is the pivot's row with the sign at which its
-/// number at `p` is positive, and `negative` says that it was turned for that; where `short` is true its numbers are. False
-/// where a number is larger than `most` or isn't a multiple of `d`; then nothing is said of the row.
+/// number at `p` is positive, and `negative` says that it was turned for that. False where a number is larger than `most` or
+/// isn't a multiple of `d`; then nothing is said of the row.
 pub(crate) fn renew_row(
     row: &mut [i64],
     pivot: &[i64],
@@ -218,22 +176,17 @@ pub(crate) fn renew_row(
     negative: bool,
     d: Divisor,
     most: i64,
-    short: bool,
 ) -> bool
     requires same_length { length pivot.now ≡ length row.old }
     requires index { p < length row.old }
     requires positive { pos 0 <ℤ d.value }
     requires not_negative { pos 0 ≤ℤ most }
     requires within { RowWithin (unsigned_abs most) row.old }
-    requires short { IsTrue short → AreShort pivot.now }
     ensures renewed { IsTrue result → RowRenewed pivot.now row.old row.new p negative d.value (unsigned_abs most) }
 {
     let size = pivot[p];
     if row[p] == 0 && size == d.value {
         return true;
-    }
-    if short && size == 1 && d.value == 1 && are_short(row) {
-        return renew_whole(row, pivot, p, negative, most);
     }
     renew_each(row, pivot, p, negative, d, most)
 }

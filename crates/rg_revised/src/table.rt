@@ -4,7 +4,7 @@ ghost use Rattle.std.specs.Prelude.{◌≡◌, ◌<◌, ◌*◌, ◌≤ℤ◌, �
 ghost use Rattle.rg_revised.specs.Rows.{TableWithin, TableRenewed};
 
 use crate::divisor::Divisor;
-use crate::row::{are_short, renew_row};
+use crate::row::renew_row;
 
 /// The rows of all columns after an exchange; see `renew_row`. False where a number is larger than `most` or isn't a multiple
 /// of `d`; then nothing is said of the table.
@@ -25,7 +25,6 @@ pub(crate) fn renew_table(
     ensures renewed { IsTrue result → TableRenewed (length pivot.now) pivot.now table.old table.new p negative d.value (unsigned_abs most) columns }
 {
     let width = pivot.len();
-    let short = are_short(pivot);
     for t in 0..columns {
         let start = t * width;
         if !renew_row(
@@ -35,7 +34,6 @@ pub(crate) fn renew_table(
             negative,
             d,
             most,
-            short,
         ) {
             return false;
         }
