@@ -17,7 +17,10 @@ pub(crate) fn least_open(
 {
     let mut best = None;
     for s in 0..slots.len() {
-        if is_less(slots, best, s) && is_open(columns, slots, stack, numbers, s) {
+        if numbers[s] != 0
+            && is_less(slots, best, s)
+            && is_open(columns, slots, stack, numbers, s)
+        {
             best = Some(s);
         }
     }
