@@ -1,13 +1,24 @@
 -- Least common multiples of positive numbers.
-use Rattle.std.proofs.Common.{◌≡◌, ℕ, ◌+◌, ◌<◌, List, [], ◌∷◌, map, drop, length, Result, Ok, Err, ap, refl, subst, sym, ◌∙◌, inl, inr, add-one}
-use Rattle.std.specs.Prelude.{ℤ, slice_index_or}
+use Rattle.std.proofs.Common.{◌≡◌, ℕ, ◌+◌, ◌<◌, List, [], ◌∷◌, map, drop, length, Result, Ok, Err, ap, refl, subst, sym, ◌∙◌, inl, inr, add-one, arith}
+use Rattle.std.specs.Prelude.{ℤ, pos, ◌-ℤ◌, ◌*ℤ◌, int_div, slice_index_or}
+use Rattle.std.proofs.Math.Nat.{one-dvd}
 use Rattle.std.proofs.Math.Seq.{drop-cons}
+use Rattle.std.proofs.lemmas.Int.{ints}
+use Rattle.rg_integers.specs.Divisor.{int_gcd}
+use Rattle.rg_integers.specs.Range.{InRange}
+use Rattle.rg_integers.specs.Term.{FitsTerm}
 use Rattle.rg_integers.specs.declared.term.Wide.{Wide}
+use Rattle.rg_integers.proofs.Divisors.{gcd_of-only, exact}
+use Rattle.rg_integers.proofs.Order.{positive_differs}
+use Rattle.rg_integers.proofs.Ring.{mul-one}
 use Rattle.rg_fraction.specs.declared.fraction.Fraction.{Fraction}
 use Rattle.rg_fraction.specs.Fractions.{numerator_of, denominator_of}
-use Rattle.rg_order_of_work.specs.Fold.{gives, each, further, common_multiple, multiple_of_all, Ratio, ratio_of, whole, mul}
+use Rattle.rg_fraction.specs.Terms.{product_term, product_top, product_bottom}
+use Rattle.rg_fraction.proofs.Ones.{first_part, second_part}
+use Rattle.rg_order_of_work.specs.Fold.{gives, each, further, common_multiple, multiple_of_all, IsRatio, IsWithin, Ratio, ratio_of, whole, mul, term}
 use Rattle.rg_order_of_work.specs.Rewriting.{scaled_fold}
 use Rattle.rg_order_of_work.proofs.Folding.{further_next, further_unjoined}
+use Rattle.rg_order_of_work.proofs.Zeros.{fraction_within}
 
 -- the multiple so far, and the numbers from i on
 module _ (all : List ℤ) (i : ℕ) (d : ℤ) (lt : i < length all) (sum : ℤ) (target : Result ℤ Wide → Type 0) (so_far : (r : Result ℤ Wide) → further common_multiple gives sum (drop i all) r → target r) where
@@ -42,3 +53,53 @@ module _ (numbers : List Ratio) where
 
     pub scaled_made : (products : List Ratio) → each (λ r. mul r (whole m)) numbers (Ok products) → scaled_fold numbers (Ok (record { multiple = m; numbers = map (λ r. r.top) products }))
     scaled_made products h = (m, multiple, (products, h, refl))
+
+-- ---- by 1
+
+once_fits : (z : ℤ) → InRange z → FitsTerm (product_term z (pos 1))
+once_fits z h = record { left = once z h; right = omega arith; difference = less_none z h }
+  where
+    once : (z : ℤ) → InRange z → InRange (z *ℤ pos 1)
+    once z h = omega (arith, ints)
+
+    less_none : (z : ℤ) → InRange z → InRange ((z *ℤ pos 1) -ℤ (pos 0 *ℤ pos 0))
+    less_none z h = omega (arith, ints)
+
+-- the least common multiple with 1
+pub multiple_with_one : (x : ℤ) → InRange x → common_multiple x (pos 1) (Ok x)
+multiple_with_one x h = subst (λ z. term (product_term z (pos 1)) (Ok x)) (sym (first_part x)) (once_fits x h, value x)
+  where
+    value : (z : ℤ) → z ≡ (z *ℤ pos 1) -ℤ (pos 0 *ℤ pos 0)
+    value z = omega (arith, ints)
+
+one_divides : (d : ℤ) → int_gcd (pos 1) d ≡ pos 1
+one_divides d = ap pos (sym (gcd_of-only 1 _ 1 (one-dvd _, one-dvd _, λ k p q. p)))
+
+over_one : (z : ℤ) → int_div z (pos 1) ≡ z
+over_one z = sym (mul-one (int_div z (pos 1))) ∙ exact z (pos 1) (one-dvd _)
+
+-- a number times 1
+times_one : (f : Ratio) → IsWithin f → mul f (whole (pos 1)) (Ok f)
+times_one f h = (top, bottom, value)
+  where
+    top : FitsTerm (product_top f.top f.bottom (pos 1) (pos 1))
+    top = subst (λ x. FitsTerm (product_term x (int_div (pos 1) (int_gcd (pos 1) f.bottom)))) (sym (first_part f.top))
+        (subst (λ g. FitsTerm (product_term f.top (int_div (pos 1) g))) (sym (one_divides f.bottom)) (once_fits f.top h.top_in_range))
+
+    bottom : FitsTerm (product_bottom f.top f.bottom (pos 1) (pos 1))
+    bottom = subst (λ x. FitsTerm (product_term (int_div f.bottom (int_gcd (pos 1) f.bottom)) x)) (sym (second_part f.top))
+        (subst (λ g. FitsTerm (product_term (int_div f.bottom g) (pos 1))) (sym (one_divides f.bottom))
+        (subst (λ x. FitsTerm (product_term x (pos 1))) (sym (over_one f.bottom)) (once_fits f.bottom h.bottom_in_range)))
+
+    value : IsRatio f (f.top *ℤ pos 1) (f.bottom *ℤ pos 1)
+    value = record {
+      nonzero = rw (mul-one f.bottom) (positive_differs f.bottom h.positive);
+      positive = h.positive;
+      reduced = h.reduced;
+      value = rw (mul-one f.bottom, mul-one f.top) refl;
+    }
+
+-- fractions times 1
+pub all_times_one : (fs : List Fraction) → each (λ f. mul f (whole (pos 1))) (map ratio_of fs) (Ok (map ratio_of fs))
+all_times_one [] = refl
+all_times_one (f ∷ fs) = (ratio_of f, times_one (ratio_of f) (fraction_within f), (map ratio_of fs, all_times_one fs, refl))

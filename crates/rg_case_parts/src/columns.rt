@@ -65,7 +65,7 @@ impl Columns {
         requires one_each { length free.now ≡ length (free_labels (labels_of basis.now) (cycle_of basis.now)) }
         ensures { IfOk result (λ v. (lts : System) (class : Class) → labels lts ≡ labels_of basis.now → AreColumns lts class self.now → map ratio_of v.items ≡ columns_of lts (cycle_of basis.now) class start (map ratio_of free.now)) }
     {
-        let mut numbers = Vec::new(alloc);
+        let mut numbers = Vec::with_capacity(alloc, free.len() + 1)?;
         if self.start {
             numbers.push(Fraction::new(start, 1))?;
         }

@@ -9,7 +9,7 @@ ghost use Rattle.rg_case_parts.specs.WholeNumbers.{scaled_of};
 use crate::scaled::Scaled;
 use rg_fraction::{FoldStop, Fraction, gcd, whole_product};
 use rg_integers::Wide;
-use std::alloc::Global;
+use std::alloc::{AllocError, Global};
 
 /// The fractions, each multiplied by the least common multiple of all denominators: the usual way from rational
 /// to whole numbers (Schrijver, *Theory of Linear and Integer Programming*). `numbers` has one entry for each
@@ -23,12 +23,21 @@ pub fn without_denominators(alloc: Global, fractions: &[Fraction]) -> Result<Sca
     ensures one_each { IfOk result (λ s. length s.numbers.items ≡ length fractions.now) }
 {
     let multiple = common_denominator(fractions)?;
-    let products = products(alloc, fractions, multiple)?;
-    let mut numbers = Vec::new(alloc);
-    for product in &products {
-        numbers.push(product.numerator())?;
+    if multiple == 1 {
+        let numbers = numerators(alloc, fractions)?;
+        return Ok(Scaled { multiple, numbers });
     }
+    let products = products(alloc, fractions, multiple)?;
+    let numbers = numerators(alloc, &products)?;
     Ok(Scaled { multiple, numbers })
+}
+
+// The numerators of the fractions.
+fn numerators(alloc: Global, fractions: &[Fraction]) -> Result<Vec<i128>, AllocError>
+    ensures numerators { IfOk result (λ v. v.items ≡ map numerator_of fractions.now) }
+    ensures in_range { IfOk result (λ v. All InRange v.items) }
+{
+    fractions.iter().map(|f| f.numerator()).collect(alloc)
 }
 
 /// The least common multiple of all denominators, formed two at a time from the first on; 1 of none. `Wide` comes
@@ -57,6 +66,9 @@ fn common_multiple(x: i128, y: i128) -> Result<i128, Wide>
     ensures value { common_multiple x y result }
     ensures in_range { IfOk result InRange }
 {
+    if y == 1 {
+        return Ok(x);
+    }
     whole_product(x / gcd(x, y), y)
 }
 
@@ -72,8 +84,12 @@ pub fn products(
     requires { InRange number }
     ensures { Comes (each (λ f. mul f (whole number)) (map ratio_of fractions.now)) (λ v. map ratio_of v.items) result }
 {
+    if number == 1 {
+        let same = fractions.to_vec(alloc)?;
+        return Ok(same);
+    }
     let factor = Fraction::new(number, 1);
-    let mut products = Vec::new(alloc);
+    let mut products = Vec::with_capacity(alloc, fractions.len())?;
     for fraction in fractions {
         products.push(fraction.mul(factor)?)?;
     }

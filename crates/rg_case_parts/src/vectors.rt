@@ -24,8 +24,9 @@ pub fn chord_vectors(alloc: Global, lts: &Lts, tree: &Tree) -> Result<Vec<Vec<i6
     ensures in_range { IfOk result (λ v. AreVectors (labels lts.now) (numbers_in v.items)) }
 {
     let labels = lts.labels();
-    let mut vectors = Vec::new(alloc);
-    for a in tree.chords() {
+    let chords = tree.chords();
+    let mut vectors = Vec::with_capacity(alloc, chords.len())?;
+    for a in chords {
         vectors.push(chord_vector(alloc, tree, labels, *a)?)?;
     }
     Ok(vectors)
@@ -42,7 +43,7 @@ fn chord_vector(alloc: Global, tree: &Tree, labels: u32, a: Arc) -> Result<Vec<i
 {
     let source = tree.parikh(a.from);
     let target = tree.parikh(a.to);
-    let mut vector = Vec::new(alloc);
+    let mut vector = Vec::with_capacity(alloc, labels as usize)?;
     for t in 0..labels {
         let index = t as usize;
         vector.push(difference(source[index], t == a.label, target[index]))?;

@@ -1,4 +1,5 @@
 use Rattle.std.proofs.Common.{rules, ◌≡◌, Ok, Err, map, ap, subst, sym, ◌∙◌}
+use Rattle.std.specs.Prelude.{pos}
 use Rattle.std.specs.Int.{w128, cast_signed, cast_unsigned}
 use Rattle.std.proofs.lemmas.List.{length-map, get_or-map}
 use Rattle.rg_integers.proofs.Casts.{back}
@@ -8,11 +9,19 @@ use Rattle.rg_fraction.specs.declared.fold_stop.FoldStop.TheVariants as stop
 use Rattle.rg_order_of_work.proofs.Folding.{whole_is}
 use Rattle.rg_order_of_work.proofs.Items.{map_push}
 use Rattle.rg_order_of_work.proofs.Items.{item_next, item_fails, items_end}
+use Rattle.rg_fraction.proofs.Ones.{is_one}
+use Rattle.rg_case_parts.proofs.Multiples.{all_times_one}
 use Rattle.rg_case_parts.proofs.denominators.products.Goals as goal
+
+pub returns-then-number-eq1 : goal.returns-then-number-eq1
+returns-then-number-eq1 c =
+    let items : c.in_ok-same.same.items ≡ c.args.fractions.now = search rules in
+    subst (λ n. each (λ f. mul f (whole n)) (map ratio_of c.args.fractions.now) (Ok (map ratio_of c.in_ok-same.same.items))) (sym (is_one c.args.number c.requires c.if-number-eq1.true))
+    (subst (λ l. each (λ f. mul f (whole (pos 1))) (map ratio_of c.args.fractions.now) (Ok (map ratio_of l))) (sym items) (all_times_one c.args.fractions.now))
 
 pub returns-in_err-mul : goal.returns-in_err-mul
 returns-in_err-mul c =
-    let same : c.from_residual.result ≡ Err (stop.Wide c.in_err-mul.field-0.0) = search rules in
+    let same : c.from_residual-in_err-mul.result ≡ Err (stop.Wide c.in_err-mul.field-0.0) = search rules in
     let n = cast_signed w128 (cast_unsigned w128 c.args.number) in
     let item = c.fraction-item.result in
     let ratios = map ratio_of c.args.fractions.now in

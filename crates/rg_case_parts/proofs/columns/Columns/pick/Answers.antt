@@ -19,9 +19,9 @@ loop-index-init c = λ lts class same are.
     pick_starts lts class c.args.self.now are (cycle_of c.args.basis.now) (labels_of c.args.basis.now) same (map ratio_of c.if-self.numbers.items) _ (map ratio_of c.args.free.now)
     (elim c.if-self.branch [
       | then-self+in_ok-push w ↦ ap (λ v. map ratio_of v.items) w.numbers-is
-          ∙ ap (map ratio_of) (w.in_ok-push.ensures.items ∙ ap (λ l. l ++ w.new.result ∷ []) c.new-numbers.ensures.items)
+          ∙ ap (map ratio_of) (w.in_ok-push.ensures.items ∙ ap (λ l. l ++ w.new.result ∷ []) c.in_ok-numbers.ensures.items)
           ∙ ap (λ r. r ∷ []) (whole_is w.new.result _ w.new.ensures) ∙ ap (λ b. if b then (whole z ∷ []) else []) (sym w.if-self.true)
-      | else-self w ↦ ap (λ v. map ratio_of v.items) w.numbers-is ∙ ap (map ratio_of) c.new-numbers.ensures.items ∙ ap (λ b. if b then (whole z ∷ []) else []) (sym w.if-self.false)
+      | else-self w ↦ ap (λ v. map ratio_of v.items) w.numbers-is ∙ ap (map ratio_of) c.in_ok-numbers.ensures.items ∙ ap (λ b. if b then (whole z ∷ []) else []) (sym w.if-self.false)
     ])
 
 pub index-requires : goal.index-requires
