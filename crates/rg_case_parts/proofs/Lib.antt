@@ -3,3 +3,4 @@ pub mod Picking
 pub mod Marking
 pub mod Counting
 pub mod ChordVectors
+pub mod StatesWith

@@ -12,6 +12,7 @@ mod counts;
 mod denominators;
 mod scaled;
 mod setting;
+mod states;
 mod vectors;
 
 pub use columns::{Columns, has_start, used_labels};
@@ -19,4 +20,5 @@ pub use counts::{count, start};
 pub use denominators::{common_denominator, products, without_denominators};
 pub use scaled::Scaled;
 pub use setting::{CaseSetting, Setting};
+pub use states::states_with;
 pub use vectors::chord_vectors;
