@@ -6,6 +6,7 @@ pub mod Leaving
 pub mod AlongTree
 pub mod ColumnSteps
 pub mod ShareSteps
+pub mod LabelValues
 pub mod TakenSteps
 pub mod PlaceSteps
 pub mod PointPlaces

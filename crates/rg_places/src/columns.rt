@@ -33,7 +33,7 @@ pub(crate) fn columns_with(
     ensures columns { IfOk result (λ columns. AreFreeColumns lts.now (cycle_of basis.now) columns.items) }
     ensures values { IfOk result (λ columns. map (λ c. c.value) columns.items ≡ values.now) }
 {
-    let mut columns = Vec::new(alloc);
+    let mut columns = Vec::with_capacity(alloc, values.len())?;
     for (index, &label) in basis.free().iter().enumerate() {
         if used[label as usize] {
             let value = values[columns.len()];

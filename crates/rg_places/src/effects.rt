@@ -1,9 +1,9 @@
 //! The effects of all labels, from those of the columns.
-ghost use Rattle.std.specs.Prelude.{◌≡◌, ◌<◌, pos, length, All};
+ghost use Rattle.std.specs.Prelude.{◌≡◌, ℕ, ◌<◌, pos, length, All, IfOk};
 ghost use Rattle.rg_theory.specs.System.{System, labels};
 ghost use Rattle.rg_order_of_work.specs.Fold.{Comes, each, joined, add, whole, ratio_of, shown_result};
 ghost use Rattle.rg_order_of_work.specs.Rewriting.{all_numbers};
-ghost use Rattle.rg_order_of_work.specs.Placing.{effect_fold};
+ghost use Rattle.rg_order_of_work.specs.Placing.{effect_fold, ratio_at};
 ghost use Rattle.rg_cycles.specs.Basis.{IsRelationInRange};
 ghost use Rattle.rg_cycles.specs.View.{labels_of, cycle_of};
 ghost use Rattle.rg_places.specs.PointValues.{ratios_of};
@@ -15,9 +15,10 @@ use rg_cycles::{Basis, Relation};
 use rg_fraction::{FoldStop, Fraction};
 use rg_integers::Wide;
 use rg_lts::Lts;
-use std::alloc::Global;
+use std::alloc::{AllocError, Global};
 
-// The effects of the labels, in order. A label without an arc has the effect 0.
+// The effects of the labels, in order. A label without an arc has the effect 0. The list has room for one number more, that of the
+// initial state.
 pub(crate) fn effects(
     alloc: Global,
     lts: &Lts,
@@ -30,10 +31,11 @@ pub(crate) fn effects(
     requires columns { AreFreeColumns lts.now (cycle_of basis.now) columns.now }
     ensures { Comes (each (effect_fold lts.now (cycle_of basis.now) (value_by columns.now)) (all_numbers (labels lts.now))) (λ effects. ratios_of effects.items) result }
 {
-    let mut effects = Vec::new(alloc);
+    let values = values_by_label(alloc, lts, basis, columns)?;
+    let mut effects = Vec::with_capacity(alloc, used.len() + 1)?;
     for t in 0..lts.labels() {
         let effect = if used[t as usize] {
-            effect(basis, columns, t)?
+            effect(basis, columns, t, values[t as usize])?
         } else {
             Fraction::new(0, 1)
         };
@@ -42,28 +44,36 @@ pub(crate) fn effects(
     Ok(effects)
 }
 
-// The effect of label t, which has an arc.
-fn effect(basis: &Basis, columns: &[Column], t: u32) -> Result<Fraction, Wide>
+// The values of the labels, in order: those of the columns, and 0 of the other labels.
+fn values_by_label(
+    alloc: Global,
+    lts: &Lts,
+    basis: &Basis,
+    columns: &[Column],
+) -> Result<Vec<Fraction>, AllocError>
+    requires labels { labels_of basis.now ≡ labels lts.now }
+    requires columns { AreFreeColumns lts.now (cycle_of basis.now) columns.now }
+    ensures one_each { IfOk result (λ values. length values.items ≡ labels lts.now) }
+    ensures values { IfOk result (λ values. (t : ℕ) → t < labels lts.now → ratio_at (ratios_of values.items) t ≡ value_by columns.now t) }
+{
+    let mut values = vec![in alloc; Fraction::new(0, 1); lts.labels() as usize]?;
+    for column in columns {
+        values[column.label as usize] = column.value;
+    }
+    Ok(values)
+}
+
+// The effect of label t, which has an arc. The value is its own where it is free.
+fn effect(basis: &Basis, columns: &[Column], t: u32, value: Fraction) -> Result<Fraction, Wide>
     requires label { t < labels_of basis.now }
     requires columns { (lts : System) × (labels lts ≡ labels_of basis.now) × AreFreeColumns lts (cycle_of basis.now) columns.now }
+    requires value { ratio_of value ≡ value_by columns.now t }
     ensures { (lts : System) → labels lts ≡ labels_of basis.now → AreFreeColumns lts (cycle_of basis.now) columns.now → used_effect_fold lts (cycle_of basis.now) (value_by columns.now) t (shown_result ratio_of result) }
 {
     match basis.relation(t) {
         Some(relation) => sum_of_shares(relation, columns),
-        None => Ok(value_of(columns, t)),
+        None => Ok(value),
     }
-}
-
-// The value of a free label, 0 where it is no column.
-fn value_of(columns: &[Column], t: u32) -> Fraction
-    ensures { ratio_of result ≡ value_by columns.now t }
-{
-    for column in columns {
-        if column.label == t {
-            return column.value;
-        }
-    }
-    Fraction::new(0, 1)
 }
 
 // The effect of a label with this relation: what the free labels add to it.

@@ -126,7 +126,7 @@ fn is_shifted(class: Class) -> bool
 fn lowered(alloc: Global, numbers: &[Fraction], by: Fraction) -> Result<Vec<Fraction>, FoldStop>
     ensures { Comes (each (λ m. add m (negated (ratio_of by))) (ratios_of numbers.now)) (λ lowered. ratios_of lowered.items) result }
 {
-    let mut lowered = Vec::new(alloc);
+    let mut lowered = Vec::with_capacity(alloc, numbers.len())?;
     for number in numbers {
         let difference = number.sub(by)?;
         lowered.push(difference)?;
@@ -138,7 +138,7 @@ fn lowered(alloc: Global, numbers: &[Fraction], by: Fraction) -> Result<Vec<Frac
 fn raised(alloc: Global, numbers: &[Fraction], by: Fraction) -> Result<Vec<Fraction>, FoldStop>
     ensures { Comes (each (λ m. add m (ratio_of by)) (ratios_of numbers.now)) (λ raised. ratios_of raised.items) result }
 {
-    let mut raised = Vec::new(alloc);
+    let mut raised = Vec::with_capacity(alloc, numbers.len())?;
     for number in numbers {
         let sum = number.add(by)?;
         raised.push(sum)?;

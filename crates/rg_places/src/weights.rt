@@ -12,6 +12,7 @@ ghost use Rattle.rg_places.specs.PointValues.{ratios_of};
 ghost use Rattle.rg_places.specs.Steps.{taken_to_stop};
 
 use crate::numbers::least;
+use rg_case_parts::states_with;
 use rg_fraction::{FoldStop, Fraction, whole_sum};
 use rg_lts::Lts;
 use rg_theory::{Class, Problem};
@@ -91,11 +92,10 @@ fn numbers_left(
     requires numbers { length numbers.now ≡ states lts.now }
     ensures { IfOk result (λ left. ratios_of left.items ≡ map (ratio_at (ratios_of numbers.now)) (states_with lts.now t)) }
 {
-    let mut left = Vec::new(alloc);
-    for s in 0..lts.states() {
-        if lts.arc_at(s, t).is_some() {
-            left.push(numbers[s as usize])?;
-        }
+    let states = states_with(alloc, lts, t)?;
+    let mut left = Vec::with_capacity(alloc, states.len())?;
+    for &s in &states {
+        left.push(numbers[s as usize])?;
     }
     Ok(left)
 }
@@ -106,7 +106,7 @@ pub(crate) fn put(alloc: Global, taken: &[i128], found: &[Fraction]) -> Result<V
     requires in_range { All InRange taken.now }
     ensures { Comes (each (λ u. whole_sum (number_at taken.now u) (top_at (ratios_of found.now) u)) (all_numbers (length taken.now))) (λ post. post.items) result }
 {
-    let mut put = Vec::new(alloc);
+    let mut put = Vec::with_capacity(alloc, taken.len())?;
     for (u, &pre) in taken.iter().enumerate() {
         let post = whole_sum(pre, found[u].numerator())?;
         put.push(post)?;

@@ -9,7 +9,7 @@ use Rattle.rg_places.proofs.columns.columns_with.Goals as goal
 use Rattle.rg_places.proofs.columns.columns_with.Goals.{then-used-label+in_ok-push, else-used-label}
 
 pub loop-index-init : goal.loop-index-init
-loop-index-init c = rw c.new-columns.ensures.items (columns_start c.args.lts.now (cycle_of c.args.basis.now) c.args.values.now)
+loop-index-init c = rw c.in_ok-columns.ensures.items (columns_start c.args.lts.now (cycle_of c.args.basis.now) c.args.values.now)
 
 pub bounds-used-label : goal.bounds-used-label
 bounds-used-label c =

@@ -17,4 +17,4 @@ returns-in-Some c = λ lts same are. dependent_made lts (cycle_of c.args.basis.n
     (shown_result ratio_of c.sum_of_shares.result) c.sum_of_shares.ensures
 
 pub returns-in-None : goal.returns-in-None
-returns-in-None c = λ lts same are. free_made lts (cycle_of c.args.basis.now) (value_by c.args.columns.now) c.args.t (ratio_of c.value_of.result) c.in-None.ensures.exact c.value_of.ensures
+returns-in-None c = λ lts same are. free_made lts (cycle_of c.args.basis.now) (value_by c.args.columns.now) c.args.t (ratio_of c.args.value) c.in-None.ensures.exact c.requires.value

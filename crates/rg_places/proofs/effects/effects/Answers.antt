@@ -1,4 +1,4 @@
-use Rattle.std.proofs.Common.{rules, ◌≡◌, ◌<◌, ◌≤◌, Err, ap, subst, sym, ◌∙◌}
+use Rattle.std.proofs.Common.{rules, ◌≡◌, ◌<◌, ◌≤◌, Err, ap, subst, sym, ◌∙◌, arith}
 use Rattle.std.specs.Prelude.{pos}
 use Rattle.std.proofs.lemmas.List.{map-append}
 use Rattle.rg_theory.specs.System.{labels}
@@ -9,14 +9,27 @@ use Rattle.rg_cycles.specs.View.{cycle_of}
 use Rattle.rg_order_of_work.proofs.Folding.{whole_is}
 use Rattle.rg_places.specs.PointValues.{ratios_of}
 use Rattle.rg_places.specs.Steps.{value_by}
+use Rattle.rg_places.proofs.FractionSteps.{ratio_there}
 use Rattle.rg_places.proofs.Counting.{counted_next, counted_fails, counted_end}
 use Rattle.rg_places.proofs.ShareSteps.{unused_made, used_made}
 use Rattle.rg_places.proofs.effects.effects.Goals as goal
 use Rattle.rg_places.proofs.effects.effects.Goals.{then-used-t+in_ok-effect, else-used-t}
 
+pub index-requires : goal.index-requires
+index-requires c =
+    let lt = subst (λ n. c.loop-t.t < n) c.labels-t-end.ensures.value c.loop-t-test.true in
+    let e = c.in_ok-values.ensures.one_each in
+    omega (arith, lt, e, c.in_ok-values.values.ok.0)
+
+pub effect-requires-clause-value : goal.effect-requires-clause-value
+effect-requires-clause-value c =
+    let lt = subst (λ n. c.loop-t.t < n) c.labels-t-end.ensures.value c.loop-t-test.true in
+    ratio_there c.in_ok-values.values.items c.loop-t.t c.index.result.now (subst (λ n. c.loop-t.t < n) (sym c.in_ok-values.ensures.one_each) lt) c.index.ensures
+    ∙ c.in_ok-values.ensures.values c.loop-t.t lt
+
 pub returns-in_err-effect : goal.returns-in_err-effect
 returns-in_err-effect c =
-    let same : c.from_residual.result ≡ Err (stop.Wide c.in_err-effect.field-0.0) = search rules in
+    let same : c.from_residual-in_err-effect.result ≡ Err (stop.Wide c.in_err-effect.field-0.0) = search rules in
     let lt = subst (λ n. c.loop-t.t < n) c.labels-t-end.ensures.value c.loop-t-test.true in
     let used = sym (c.requires.used.each c.loop-t.t lt) ∙ c.if-used-t.true in
     let made = used_made c.args.lts.now (cycle_of c.args.basis.now) (value_by c.args.columns.now) c.loop-t.t (shown_result ratio_of c.effect.result) used (c.effect.ensures c.args.lts.now (sym c.requires.labels) c.requires.columns) in

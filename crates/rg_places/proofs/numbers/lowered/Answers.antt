@@ -10,7 +10,7 @@ use Rattle.rg_places.proofs.numbers.lowered.Goals as goal
 
 pub returns-in_err-difference : goal.returns-in_err-difference
 returns-in_err-difference c =
-    let same : c.from_residual.result ≡ Err (stop.Wide c.in_err-difference.field-0.0) = search rules in
+    let same : c.from_residual-in_err-difference.result ≡ Err (stop.Wide c.in_err-difference.field-0.0) = search rules in
     let step = sub_step c.number-item.result c.args.by c.sub.result c.sub.ensures in
     rw same (mapped_fails (λ m. add m (negated (ratio_of c.args.by))) ratio_of c.args.numbers.now c.loop-number.number-index
     (ratios_of c.loop-number.lowered.items) c.loop-number.invariant c.number-item.result c.loop-number-test.true c.number-item.is c.in_err-difference.field-0.0

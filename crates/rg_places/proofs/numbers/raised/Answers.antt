@@ -9,7 +9,7 @@ use Rattle.rg_places.proofs.numbers.raised.Goals as goal
 
 pub returns-in_err-sum : goal.returns-in_err-sum
 returns-in_err-sum c =
-    let same : c.from_residual.result ≡ Err (stop.Wide c.in_err-sum.field-0.0) = search rules in
+    let same : c.from_residual-in_err-sum.result ≡ Err (stop.Wide c.in_err-sum.field-0.0) = search rules in
     let step = add_step c.number-item.result c.args.by c.add.result c.add.ensures in
     rw same (mapped_fails (λ m. add m (ratio_of c.args.by)) ratio_of c.args.numbers.now c.loop-number.number-index (ratios_of c.loop-number.raised.items) c.loop-number.invariant c.number-item.result c.loop-number-test.true c.number-item.is c.in_err-sum.field-0.0 (rw c.in_err-sum.was at step))
 

@@ -12,7 +12,7 @@ use Rattle.rg_places.proofs.weights.put.Goals as goal
 
 pub returns-in_err-post : goal.returns-in_err-post
 returns-in_err-post c =
-    let same : c.from_residual.result ≡ Err (stop.Wide c.in_err-post.field-0.0) = search rules in
+    let same : c.from_residual-in_err-post.result ≡ Err (stop.Wide c.in_err-post.field-0.0) = search rules in
     let pre = back (number_at c.args.taken.now c.loop-u.u) (c.requires.in_range c.loop-u.u (pos 0) c.loop-u-test.true) in
     let lt : c.loop-u.u < length c.args.found.now = omega arith in
     let top = top_there c.args.found.now c.loop-u.u c.index-found-u.result lt c.index-found-u.is in
