@@ -88,7 +88,7 @@ pub record IsBadNumeral (digits : List ℕ) : Type 0 where
   pub all : list_all is_ascii_digit digits ≡ true
   pub none : (k : ℕ) → 0 < k → k ≤ 255 → digits ≢ decimal k
 
--- what stands behind the number of a word
+-- what stands after the number of a word
 abbrev pub IsTail : List ℕ → Type 0
 IsTail tail = (tail ≡ codes "-bounded") ⊎ (tail ≡ codes "-marking")
 
@@ -112,7 +112,7 @@ IsRefusedWord before word i (UnknownWord at) = (at ≡ i) × (¬ IsBadNumber wor
 IsRefusedWord before word i (BadNumber at) = (at ≡ i) × IsBadNumber word
 IsRefusedWord before word i (Repeated at) = (at ≡ i) × IsRepeated before word
 
--- the first word that is refused; `none` is refused beside another word
+-- the first word that is refused; `none` is refused with another word
 pub record FirstRefusedWord (text : List ℕ) (fault : ClassFault) : Type 0 where
   pub other : text ≢ codes "none"
   pub conditions : List Condition

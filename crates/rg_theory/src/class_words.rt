@@ -16,7 +16,7 @@ use rg_text::are_digits;
 /// Why a class isn't read: the first word that is refused, by its number from 0.
 #[derive(Clone, Copy, Debug, PartialEq, Eq)]
 pub enum ClassFault {
-    /// No word of a class; also an empty word, and `none` beside another word.
+    /// No word of a class; also an empty word, and `none` with another word.
     UnknownWord(u32),
     /// Digits and `-bounded` or `-marking`, whose number isn't 1 to 255 or begins with 0.
     BadNumber(u32),
@@ -139,7 +139,7 @@ fn numbered(word: &str, number: u32) -> Result<Condition, ClassFault>
     Err(ClassFault::UnknownWord(number))
 }
 
-// The number that stands before the tail of word number i.
+// The number before the tail of word number i.
 fn numeral(digits: &str, number: u32) -> Result<u8, ClassFault>
     ensures ok { IfOk result (λ k. (0 < k) × (k ≤ 255) × (digits.now ≡ decimal k)) }
     ensures fault { IfErr result (λ f. ((f ≡ fault.UnknownWord number) × (0 < length digits.now → list_all is_ascii_digit digits.now ≡ true → ⊥)) ⊎ ((f ≡ fault.BadNumber number) × IsBadNumeral digits.now)) }
@@ -156,7 +156,7 @@ fn numeral(digits: &str, number: u32) -> Result<u8, ClassFault>
     }
 }
 
-// What stands before the tail.
+// What precedes the tail.
 fn before<'a>(word: &'a str, tail: &str) -> Option<&'a str>
     ensures some { IfSome result (λ front. word.entry.now ≡ front.now ++ tail.now) }
     ensures none { IfNone result ((front : List ℕ) → word.entry.now ≢ front ++ tail.now) }
