@@ -1,6 +1,9 @@
 -- A fold over labels reads the counts of labels alone.
-use Rattle.std.proofs.Common.{◌≡◌, ℕ, suc, ◌<◌, not, Bool, List, [], ◌∷◌, Contains, Result, Ok, Err, subst, refl, inl, inr, arith}
-use Rattle.std.specs.Prelude.{ℤ}
+use Rattle.std.proofs.Common.{◌≡◌, ℕ, suc, ◌+◌, ◌<◌, not, Bool, List, [], ◌∷◌, ◌++◌, length, Contains, Result, Ok, Err, ap, subst, refl, sym, ◌∙◌, inl, inr, arith, below_more}
+use Rattle.std.specs.Prelude.{ℤ, pos}
+use Rattle.std.proofs.Math.Seq.{get_or-append_seam}
+use Rattle.std.proofs.lemmas.List.{get_or_append_left}
+use Rattle.rg_integers.specs.Sum.{number_at}
 use Rattle.rg_integers.specs.declared.term.Wide.{Wide}
 use Rattle.rg_linear.specs.Cycle.{CycleBasis}
 use Rattle.rg_order_of_work.specs.Fold.{and_then, each, further, Ratio, whole, quotient, add, mul}
@@ -37,3 +40,12 @@ module _ (labels : ℕ) (basis : CycleBasis) (f g : ℕ → ℤ) (equal : (t : �
 
   pub substitute_same : (r : Result (List Ratio) Wide) → substitute_fold labels basis f r → substitute_fold labels basis g r
   substitute_same r h = each_same (coefficient_fold labels basis f) (coefficient_fold labels basis g) (free_labels labels basis) (λ t has. coefficient_same t (among (λ u. is_in basis.members u) t has)) r h
+
+-- ---- the counts, label by label
+
+-- what holds of the numbers before, and of one more
+pub number_more : (P : ℕ → ℤ → Type 0) (numbers : List ℤ) (t : ℕ) (number : ℤ) → length numbers ≡ t → ((u : ℕ) → u < t → P u (number_at numbers u)) → P t number
+    → (u : ℕ) → u < t + 1 → P u (number_at (numbers ++ number ∷ []) u)
+number_more P numbers t number size so_far here = below_more (λ u. P u (number_at (numbers ++ number ∷ []) u)) t
+    (λ u lt. subst (P u) (sym (get_or_append_left numbers (number ∷ []) (pos 0) u (subst (λ n. u < n) (sym size) lt))) (so_far u lt))
+    (subst (P t) (sym (ap (λ n. number_at (numbers ++ number ∷ []) n) (sym size) ∙ get_or-append_seam numbers number [] (pos 0))) here)

@@ -1,16 +1,14 @@
 -- Lists of named rows, state by state and label by label.
-use Rattle.std.proofs.Common.{◌≡◌, ⊎_elim, ℕ, zero, suc, ◌+◌, ◌-◌, ◌<◌, ◌≤◌, ◌==◌, ◌&&◌, not, is_some, Bool, true, false, if◌then◌else◌, Option, Some, None, List, [], ◌∷◌, ◌++◌, map, Contains, ap, refl, sym, ◌∙◌, arith, append_assoc, eq-eqb}
-use Rattle.std.specs.Prelude.{slice_index_or, IfSome, IfNone}
-use Rattle.std.proofs.lemmas.List.{append-nil}
-use Rattle.std.proofs.lemmas.Bool.{and_from, and_parts, eqb-true}
-use Rattle.rg_theory.specs.declared.Arc.{Arc}
+use Rattle.std.proofs.Common.{◌≡◌, ℕ, zero, suc, ◌+◌, ◌-◌, ◌<◌, ◌≤◌, ◌==◌, ◌&&◌, not, is_some, Bool, true, false, if◌then◌else◌, List, [], ◌∷◌, ◌++◌, length, map, take, ap, refl, sym, ◌∙◌, arith, append_assoc, eq-eqb}
+use Rattle.std.specs.Prelude.{slice_index, slice_index_or}
+use Rattle.std.proofs.lemmas.List.{append-nil, map-append, take_more, take_all}
+use Rattle.std.proofs.lemmas.Bool.{and_from, eqb-true}
 use Rattle.rg_theory.specs.declared.Class.{Class}
 use Rattle.rg_theory.specs.declared.Problem.{Problem}
-use Rattle.rg_theory.specs.System.{System, states, labels, HasArc, arc}
-use Rattle.rg_theory.proofs.Lists.{Contains-cons_cases}
+use Rattle.rg_theory.specs.System.{System, states, labels}
 use Rattle.rg_refuting.specs.Row.{case_consumer}
 use Rattle.rg_refuting.specs.declared.RowName.{RowName}
-use Rattle.rg_order_of_work.specs.Rewriting.{numbers_where, has_label, has_label_at, used_labels, has_start, all_numbers, problem_rows, names_of}
+use Rattle.rg_order_of_work.specs.Rewriting.{numbers_where, has_label, used_labels, has_start, all_numbers, problem_rows, names_of}
 use Rattle.rg_order_of_work.proofs.Folding.{where_taken, where_left, where_ends}
 use Rattle.rg_case_parts.specs.declared.columns.Columns.{Columns}
 use Rattle.rg_case_parts.specs.ColumnViews.{TellsUsedLabels, AreColumns}
@@ -33,35 +31,6 @@ names_start make test n done = ap (λ k. done ++ map make (numbers_where test 0 
   where
     same : (k : ℕ) → k - 0 ≡ k
     same k = omega arith
-
--- ---- a label at a state
-
-later : (b : Bool) (x : Bool) → x ≡ true → (if b then true else x) ≡ true
-later true x e = refl
-later false x e = e
-
-pub finds_label_at : (q t q' : ℕ) (arcs : List Arc) → Contains arcs (arc q t q') → has_label_at q t arcs ≡ true
-finds_label_at q t q' [] (k, lt, e) = absurd (omega arith)
-finds_label_at q t q' (a ∷ arcs) has = ⊎_elim here (λ there. later ((a.from == q) && (a.label == t)) (has_label_at q t arcs) (finds_label_at q t q' arcs there)) (Contains-cons_cases a (arc q t q') arcs has)
-  where
-    here : a ≡ arc q t q' → has_label_at q t (a ∷ arcs) ≡ true
-    here is = ap (λ b. if b then true else has_label_at q t arcs) (and_from (a.from == q) (a.label == t) (eq-eqb a.from q (ap (λ (x : Arc). x.from) is)) (eq-eqb a.label t (ap (λ (x : Arc). x.label) is)))
-
-pub misses_label_at : (q t : ℕ) (arcs : List Arc) → ((q' : ℕ) → ¬ Contains arcs (arc q t q')) → has_label_at q t arcs ≡ false
-misses_label_at q t [] none = refl
-misses_label_at q t (a ∷ arcs) none = go ((a.from == q) && (a.label == t)) refl (misses_label_at q t arcs (λ q' (k, lt, e). none q' (suc k, omega arith, e)))
-  where
-    same : (a.from == q) ≡ true → (a.label == t) ≡ true → a ≡ arc q t a.to
-    same f l = λ i. record { from = eqb-true a.from q f i; label = eqb-true a.label t l i; to = a.to }
-
-    go : (b : Bool) → ((a.from == q) && (a.label == t)) ≡ b → has_label_at q t arcs ≡ false → (if b then true else has_label_at q t arcs) ≡ false
-    go true is e = absurd (none a.to (let (f, l) = and_parts (a.from == q) (a.label == t) is in (0, omega arith, same f l)))
-    go false is e = e
-
--- whether a search finds an arc
-pub label_at_is : (lts : System) (q t : ℕ) (o : Option ℕ) → IfSome o (λ to. HasArc lts q t to) → IfNone o ((to : ℕ) → ¬ HasArc lts q t to) → has_label_at q t lts.arcs ≡ is_some o
-label_at_is lts q t (Some to) found none = finds_label_at q t to lts.arcs found
-label_at_is lts q t None found none = misses_label_at q t lts.arcs none
 
 -- ---- a label that makes tokens
 
@@ -123,3 +92,15 @@ module _ (lts : System) (class : Class) (problem : Problem) (number : ℕ) (colu
 
       sides : List RowName
       sides = if class.plain then (map row_name.Up (used_labels lts) ++ map row_name.Down (used_labels lts)) else []
+
+-- ---- a list of states, one name for each
+
+pub each_named : (name : ℕ → RowName) (before names : List RowName) (numbers : List ℕ) (i : ℕ) → names ≡ before ++ map name (take i numbers) → i < length numbers
+    → names ++ name (slice_index numbers i) ∷ [] ≡ before ++ map name (take (i + 1) numbers)
+each_named name before names numbers i so_far lt =
+    ap (λ l. l ++ name (slice_index numbers i) ∷ []) so_far
+    ∙ append_assoc before (map name (take i numbers)) (name (slice_index numbers i) ∷ [])
+    ∙ ap (λ l. before ++ l) (sym (ap (map name) (take_more numbers i 0 lt) ∙ map-append name (take i numbers) (slice_index numbers i ∷ [])))
+
+pub all_named : (name : ℕ → RowName) (before names : List RowName) (numbers : List ℕ) (i : ℕ) → names ≡ before ++ map name (take i numbers) → length numbers ≤ i → names ≡ before ++ map name numbers
+all_named name before names numbers i so_far past = so_far ∙ ap (λ l. before ++ map name l) (take_all i numbers past)

@@ -24,7 +24,7 @@ pub(crate) fn counts(
     ensures counts { IfOk result (λ v. (t : ℕ) → t < labels → number_at v.items t ≡ count_of tree.now.arcs (expression_of expression.now).terms t) }
     ensures in_range { IfOk result (λ v. (t : ℕ) → t < labels → InRange (number_at v.items t)) }
 {
-    let mut counts = Vec::new(alloc);
+    let mut counts = Vec::with_capacity(alloc, labels as usize)?;
     for t in 0..labels {
         counts.push(count(tree, expression, t))?;
     }

@@ -149,7 +149,7 @@ fn forms(
     ensures forms { IfOk result (λ v. map split_of v.items ≡ forms_in c.entry.setting.class names.now) }
     ensures made { IfOk result (λ v. All (IsMade c.entry.setting.lts.now c.entry.setting.class (columns_in (shown_setting c.entry.setting)) (map kept_row (map row_in rows.now)) indices.now) v.items) }
 {
-    let mut forms = Vec::new(alloc);
+    let mut forms = Vec::with_capacity(alloc, names.len())?;
     for (i, &name) in names.iter().enumerate() {
         if let Some(form) = form_named(c.setting.class, name) {
             let terms = terms_in_case(alloc, common, c, name)?;

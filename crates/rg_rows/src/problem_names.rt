@@ -5,6 +5,7 @@ ghost use Rattle.rg_refuting.specs.Refutes.{IsSeparationProblem};
 ghost use Rattle.rg_order_of_work.specs.Rewriting.{states_with, problem_rows};
 ghost use Rattle.rg_refuting.specs.declared.RowName.TheVariants as row_name;
 
+use rg_case_parts::states_with;
 use rg_lts::Lts;
 use rg_refuting::RowName;
 use rg_theory::{Class, Problem};
@@ -34,21 +35,20 @@ fn plain_rows(alloc: Global, lts: &Lts, t: u32) -> Result<Vec<RowName>, AllocErr
     requires { t < labels lts.now }
     ensures { IfOk result (λ v. v.items ≡ row_name.Empty ∷ map row_name.Full (states_with lts.now t) ++ row_name.Keep ∷ []) }
 {
-    let mut names = [RowName::Empty].to_vec(alloc)?;
-    push_fulls(&mut names, lts, t)?;
+    let states = states_with(alloc, lts, t)?;
+    let mut names = Vec::with_capacity(alloc, states.len() + 2)?;
+    names.push(RowName::Empty)?;
+    push_fulls(&mut names, &states)?;
     names.push(RowName::Keep)?;
     Ok(names)
 }
 
-// `full` at each state with an arc of label t.
-fn push_fulls(names: &mut Vec<RowName>, lts: &Lts, t: u32) -> Result<(), AllocError>
-    requires { t < labels lts.now }
-    ensures { OnOk result (names.new.items ≡ names.old.items ++ map row_name.Full (states_with lts.now t)) }
+// `full` at each of the states.
+fn push_fulls(names: &mut Vec<RowName>, states: &[u32]) -> Result<(), AllocError>
+    ensures { OnOk result (names.new.items ≡ names.old.items ++ map row_name.Full states.now) }
 {
-    for q in 0..lts.states() {
-        if lts.arc_at(q, t).is_some() {
-            names.push(RowName::Full(q))?;
-        }
+    for &q in states {
+        names.push(RowName::Full(q))?;
     }
     Ok(())
 }
@@ -58,11 +58,6 @@ fn stops(alloc: Global, lts: &Lts, t: u32) -> Result<Vec<RowName>, AllocError>
     requires { t < labels lts.now }
     ensures { IfOk result (λ v. v.items ≡ map row_name.Stop (states_with lts.now t)) }
 {
-    let mut names = Vec::new(alloc);
-    for q in 0..lts.states() {
-        if lts.arc_at(q, t).is_some() {
-            names.push(RowName::Stop(q))?;
-        }
-    }
-    Ok(names)
+    let states = states_with(alloc, lts, t)?;
+    states.iter().map(|q| RowName::Stop(*q)).collect(alloc)
 }

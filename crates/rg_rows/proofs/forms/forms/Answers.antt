@@ -29,7 +29,7 @@ terms_in_case-requires-clause-within c = name_within (shown_case c.args.c) c.arg
 
 pub returns-in_err-terms-clause-comes : goal.returns-in_err-terms-clause-comes
 returns-in_err-terms-clause-comes c =
-    let result : c.from_residual.result ≡ Err c.in_err-terms.field-0.0 = search rules in
+    let result : c.from_residual-in_err-terms.result ≡ Err c.in_err-terms.field-0.0 = search rules in
     let s = shown_case c.args.c in
     rw result (comes_unless (each (form_fold s.setting) (forms_in s.class c.args.names.now)) (λ (v : Vec NamedForm Global). map linear_form v.items) c.in_err-terms.field-0.0
     (λ w is. step_fails s c.args.names.now c.loop-i.i _ c.loop-i-test.true c.in-Some.form c.in-Some.ensures _ refl (map linear_form c.loop-i.forms.items) c.loop-i.invariant.so_far w

@@ -1,8 +1,0 @@
-use Rattle.std.proofs.Common.{◌≡◌, ◌-◌, ◌++◌, map}
-use Rattle.rg_theory.specs.System.{states}
-use Rattle.rg_order_of_work.specs.Rewriting.{numbers_where, has_label_at, states_with}
-use Rattle.rg_rows.proofs.problem_names.stops.Given as goal
-use Rattle.rg_refuting.specs.declared.RowName.TheVariants as row_name
-
-abbrev pub invariant-loop-q : goal.invariant-loop-q
-invariant-loop-q l = l.names.items ++ map row_name.Stop (numbers_where (λ q. has_label_at q l.t l.lts.arcs) l.q (states l.lts - l.q)) ≡ map row_name.Stop (states_with l.lts l.t)
