@@ -39,18 +39,10 @@ fn form_of(word: Option<&str>) -> Option<Form>
     ensures { result ≡ form_in (option_map (λ s. s.now) word.entry) }
 {
     match word {
-        None => Some(Form::Apt),
-        Some(word) => {
-            if word == "apt" {
-                Some(Form::Apt)
-            } else if word == "graph" {
-                Some(Form::Graph)
-            } else if word == "words" {
-                Some(Form::Words)
-            } else {
-                None
-            }
-        }
+        None | Some("apt") => Some(Form::Apt),
+        Some("graph") => Some(Form::Graph),
+        Some("words") => Some(Form::Words),
+        Some(_) => None,
     }
 }
 
@@ -58,11 +50,9 @@ fn form_of(word: Option<&str>) -> Option<Form>
 pub(crate) fn target_of(word: &str) -> Option<Target>
     ensures { result ≡ target_in word.now }
 {
-    if word == "apt" {
-        Some(Target::Apt)
-    } else if word == "graph" {
-        Some(Target::Graph)
-    } else {
-        None
+    match word {
+        "apt" => Some(Target::Apt),
+        "graph" => Some(Target::Graph),
+        _ => None,
     }
 }

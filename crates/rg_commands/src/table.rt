@@ -26,28 +26,18 @@ impl Command {
     pub(crate) fn named(name: &str) -> Option<Command>
         ensures { result ≡ command_named name.now }
     {
-        if name == "synthesize" {
-            Some(Command::Synthesize)
-        } else if name == "verify" {
-            Some(Command::Verify)
-        } else if name == "check" {
-            Some(Command::Check)
-        } else if name == "convert" {
-            Some(Command::Convert)
-        } else if name == "generate" {
-            Some(Command::Generate)
-        } else if name == "selftest" {
-            Some(Command::SelfTest)
-        } else if name == "factor" {
-            Some(Command::Factor)
-        } else if name == "split" {
-            Some(Command::Split)
-        } else if name == "isomorphic" {
-            Some(Command::Isomorphic)
-        } else if name == "examine" {
-            Some(Command::Examine)
-        } else {
-            None
+        match name {
+            "synthesize" => Some(Command::Synthesize),
+            "verify" => Some(Command::Verify),
+            "check" => Some(Command::Check),
+            "convert" => Some(Command::Convert),
+            "generate" => Some(Command::Generate),
+            "selftest" => Some(Command::SelfTest),
+            "factor" => Some(Command::Factor),
+            "split" => Some(Command::Split),
+            "isomorphic" => Some(Command::Isomorphic),
+            "examine" => Some(Command::Examine),
+            _ => None,
         }
     }
 
