@@ -24,7 +24,7 @@ pub struct Columns {
 }
 
 impl Columns {
-    /// The columns in this class. An error where there is no memory.
+    /// The columns in this class. Returns an error if memory runs out.
     pub fn new(alloc: Global, lts: &Lts, class: Class) -> Result<Columns, AllocError>
         ensures columns { IfOk result (AreColumns lts.now class) }
         ensures well_formed { IfOk result (λ _. IsWellFormed lts.now) }
@@ -52,7 +52,7 @@ impl Columns {
     }
 
     /// The numbers of the columns: of Start, and of the free labels with an arc, out of those of all free labels.
-    /// An error where there is no memory.
+    /// Returns an error if memory runs out.
     pub fn pick(
         &self,
         alloc: Global,
@@ -85,7 +85,7 @@ pub fn has_start(class: Class) -> bool
     class.pure || class.plain || class.bound.is_some()
 }
 
-/// Of each label whether it has an arc: one entry for each label, in order. An error where there is no memory.
+/// Of each label whether it has an arc: one entry for each label, in order. Returns an error if memory runs out.
 pub fn used_labels(alloc: Global, lts: &Lts) -> Result<Vec<bool>, AllocError>
     ensures labels { IfOk result (λ used. TellsUsedLabels lts.now used.items) }
     ensures well_formed { IfOk result (λ _. IsWellFormed lts.now) }

@@ -11,13 +11,12 @@ use rg_fraction::{FoldStop, Fraction, gcd, whole_product};
 use rg_integers::Wide;
 use std::alloc::{AllocError, Global};
 
-/// The fractions, each multiplied by the least common multiple of all denominators: the usual way from rational
-/// to whole numbers (Schrijver, *Theory of Linear and Integer Programming*). `numbers` has one entry for each
-/// fraction, in order.
+/// Returns the fractions, each multiplied by the least common multiple of all denominators: the usual way from
+/// rational to whole numbers (Schrijver, *Theory of Linear and Integer Programming*). `numbers` has one entry for
+/// each fraction, in order.
 ///
-/// `FoldStop::Wide` comes exactly where a step of this is out of range, with the first such step: first the
-/// multiple, two denominators at a time, then the products in order. `FoldStop::NoMemory` comes where there is no
-/// memory.
+/// Returns `FoldStop::Wide` exactly if a step of this is out of range, with the first such step: first the multiple,
+/// two denominators at a time, then the products in order. Returns `FoldStop::NoMemory` if memory runs out.
 pub fn without_denominators(alloc: Global, fractions: &[Fraction]) -> Result<Scaled, FoldStop>
     ensures comes { Comes (scaled_fold (map ratio_of fractions.now)) scaled_of result }
     ensures one_each { IfOk result (λ s. length s.numbers.items ≡ length fractions.now) }
@@ -40,8 +39,8 @@ fn numerators(alloc: Global, fractions: &[Fraction]) -> Result<Vec<i128>, AllocE
     fractions.iter().map(|f| f.numerator()).collect(alloc)
 }
 
-/// The least common multiple of all denominators, formed two at a time from the first on; 1 of none. `Wide` comes
-/// exactly where a multiple on the way is out of range, with the first such step.
+/// Returns the least common multiple of all denominators, formed two at a time from the first on; 1 of none. Returns
+/// `Wide` exactly if a multiple on the way is out of range, with the first such step.
 pub fn common_denominator(fractions: &[Fraction]) -> Result<i128, Wide>
     ensures value { multiple_of_all (map denominator_of fractions.now) result }
     ensures in_range { IfOk result InRange }
@@ -72,10 +71,10 @@ fn common_multiple(x: i128, y: i128) -> Result<i128, Wide>
     whole_product(x / gcd(x, y), y)
 }
 
-/// The fractions times the number: one product for each, in order.
+/// Returns the fractions times the number: one product for each, in order.
 ///
-/// `FoldStop::Wide` comes exactly where a product is out of range, with the first such step; `FoldStop::NoMemory`
-/// where there is no memory.
+/// Returns `FoldStop::Wide` exactly if a product is out of range, with the first such step, and `FoldStop::NoMemory`
+/// if memory runs out.
 pub fn products(
     alloc: Global,
     fractions: &[Fraction],

@@ -1,10 +1,10 @@
-//! The parts of a case's system: what it is of, the vectors of the chords, its columns, how often they count in what the named rows of
-//! a certificate say, and rows of fractions brought to whole numbers.
+//! The parts of a case's system: its setting, the vectors of the chords, its columns, how often they count in what
+//! the named rows of a certificate say, and rows of fractions brought to whole numbers.
 //!
 //! The terms of a row are tokens of states and effects of labels; here they are counted over the tokens of the
 //! initial state and the effects of labels. A row of fractions says the same as its multiple by a common denominator,
-//! whose numbers are whole (Schrijver, *Theory of Linear and Integer Programming*): the multiple is the least one, and
-//! each step in which a number is out of range is told.
+//! whose numbers are whole (Schrijver, *Theory of Linear and Integer Programming*): the multiple is the least one,
+//! and the first step in which a number is out of range is returned.
 #![tactic(auto)]
 
 mod columns;

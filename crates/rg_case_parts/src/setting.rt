@@ -25,7 +25,7 @@ pub struct CaseSetting<'a> {
 }
 
 impl CaseSetting<'_> {
-    /// The case without system, tree and basis, as the rows of certificates are told by it.
+    /// Returns the case without system, tree and basis, as the rows of certificates need it.
     pub fn problem_case(self) -> ProblemCase
         ensures class { result.class ≡ self.entry.setting.class }
         ensures problem { result.problem ≡ self.entry.problem }

@@ -5,8 +5,8 @@ ghost use Rattle.rg_order_of_work.specs.Rewriting.{states_with};
 use rg_lts::Lts;
 use std::alloc::{AllocError, Global};
 
-/// The states with an arc of label `t`, in order: one pass over all arcs, which stand in the order of the states that they
-/// leave. An error where there is no memory.
+/// Returns the states with an arc of label `t`, in order, by one pass over all arcs, which are in the order of the
+/// states that they leave. Returns `AllocError` if memory runs out.
 pub fn states_with(alloc: Global, lts: &Lts, t: u32) -> Result<Vec<u32>, AllocError>
     ensures { IfOk result (λ found. found.items ≡ states_with lts.now t) }
 {

@@ -14,9 +14,10 @@ use rg_lts::{Arc, Lts};
 use rg_spanning::Tree;
 use std::alloc::{AllocError, Global};
 
-/// The vectors of all chords, in order, with one entry for each label: how often the label stands on the way to the
-/// chord's source and on the chord, less how often it stands on the way to its target. A region's effects, each times its
-/// entry, add up to 0 (Badouel, Bernardinello and Darondeau, *Petri Net Synthesis*). `AllocError` where there is no memory.
+/// Returns the vectors of all chords, in order, with one entry for each label: how often the label occurs on the way
+/// to the chord's source and on the chord, less how often it occurs on the way to its target. A region's effects,
+/// each times its entry, add up to 0 (Badouel, Bernardinello and Darondeau, *Petri Net Synthesis*). Returns
+/// `AllocError` if memory runs out.
 pub fn chord_vectors(alloc: Global, lts: &Lts, tree: &Tree) -> Result<Vec<Vec<i64>>, AllocError>
     requires { IsTreeOf lts.now tree.now }
     ensures vectors { IfOk result (λ v. numbers_in v.items ≡ chord_vectors lts.now tree.now.arcs) }

@@ -46,7 +46,7 @@ asked_by (Split words) = of_system (splitting words.output) words.file.now words
 asked_by (Isomorphic words) = of_system (comparison words.second.now words.second_form) words.file.now words.form
 asked_by (Examine words) = of_system (examination words.output) words.file.now words.form
 
--- the names of the files behind the system's
+-- the names of the files after the system's
 abbrev pub second_files : Work → List (List ℕ)
 second_files (net class) = []
 second_files (judgement cert) = cert ∷ []

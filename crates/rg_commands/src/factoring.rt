@@ -17,7 +17,7 @@ use rg_theory::Class;
 /// What the words of `factor` ask for.
 #[derive(Clone, Copy, Debug, PartialEq, Eq)]
 pub struct FactorWords<'a> {
-    /// The class of which nets are to be found for the factors; without one the factors are told.
+    /// The class of the nets that are asked for the factors; without one the factors themselves are asked for.
     pub class: Option<Class>,
     /// The name of the system's file.
     pub file: &'a str,

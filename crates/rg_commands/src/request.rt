@@ -50,7 +50,7 @@ pub enum Request<'a> {
 
 /// The request of the words, or why they are refused.
 ///
-/// Errors: `Refused` with the first reason in order, as `Usage` says; `NoMemory` where there is no memory left.
+/// Errors: `Refused` with the first reason in order, as `Usage` says; returns `NoMemory` if memory runs out.
 pub fn read_words<'a>(alloc: Global, words: &'a [String]) -> Result<Request<'a>, WordsStop>
     ensures asks { IfOk result (λ r. Ask (map string_bytes words.entry.now) (asked_by r)) }
     ensures bounds { IfOk result (λ r. HasBounds (asked_by r)) }

@@ -13,7 +13,7 @@ use clap::ArgMatches;
 /// What `split` writes.
 #[derive(Clone, Copy, Debug, PartialEq, Eq)]
 pub enum SplitOutput {
-    /// The net, each transition with the label for which it stands.
+    /// The net, each transition with the label that it replaces.
     Net,
     /// The system with its labels split.
     System,

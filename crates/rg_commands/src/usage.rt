@@ -12,8 +12,8 @@ pub enum Usage {
     NoCommand,
     /// The first word is no command.
     UnknownCommand,
-    /// `clap` refuses the words of the command: one is missing or there is one too many, an option is none of the command's or
-    /// stands twice, it has no value, or it is a flag and has one.
+    /// `clap` refuses the words of the command: one is missing or there is one too many, an option is none of the
+    /// command's or is repeated, it has no value, or it is a flag and has one.
     Words,
     /// The class word is refused.
     ClassWord(ClassFault),
@@ -34,7 +34,7 @@ pub enum Usage {
 pub enum WordsStop {
     /// They are refused.
     Refused(Usage),
-    /// There is no memory left.
+    /// Memory ran out.
     NoMemory,
 }
 

@@ -12,9 +12,9 @@ ghost use Rattle.rg_order_of_work.specs.Meaning.{IsCaseOver};
 ghost use Rattle.rg_reasons.specs.Certificates.{IsRowNameOf};
 ghost use Rattle.rg_farkas.specs.Refuting.{SharesRefute};
 
-/// Where multipliers refute a node's system, the case's with the rows of the splits' sides, its named rows stand below these
-/// sides, name states and labels of the system and sides, and refute: each row whose multiplier isn't 0, times
-/// multiplier and factor.
+/// Law: if multipliers refute a node's system, the case's with the rows of the splits' sides, its named rows apply
+/// below these sides, name states and labels of the system and sides, and refute: each row whose multiplier isn't 0,
+/// times multiplier and factor.
 pub fn node_multipliers_refute()
     ensures stand { (s : CaseSetting) (case : CaseSystem) (sides : List SplitSide) (multiplier : ℕ → ℤ) (shares : List Share) → IsCaseOver s case
         → All (λ side. side.form < length case.forms) sides

@@ -32,19 +32,18 @@ use rg_refuting::{RowName, Side};
 use rg_theory::Arc;
 use std::alloc::{AllocError, Global};
 
-/// The leaf of named rows, each with its multiplier, which refute in the case below the splits above it, given
-/// outermost first.
+/// Returns the leaf of named rows, each with its multiplier, which refute in the case below the splits above it,
+/// given outermost first.
 ///
 /// Each chord that the basis uses gets a multiplier: the named rows' multipliers times their counts of labels that
-/// aren't free, times the chord's numbers in the labels' relations, negated. All are multiplied by the
-/// least common multiple of their denominators. Then each arc of the tree, from the last to the first, gets the
-/// multiplier by which the tokens of its target cancel, and all are divided by their greatest common
-/// divisor. The leaf has the named rows in their order, then the arcs in the system's, without those whose
-/// multiplier is 0.
+/// aren't free, times the chord's numbers in the labels' relations, negated. All are multiplied by the least common
+/// multiple of their denominators. Then each arc of the tree, from the last to the first, gets the multiplier by
+/// which the tokens of its target cancel, and all are divided by their greatest common divisor. The leaf has the
+/// named rows in their order, then the arcs in the system's, without those whose multiplier is 0.
 ///
-/// `FoldStop::Wide` comes exactly where a step of this is out of range, with the first such step; the last steps are
-/// the sums of the absolute values for each state, each label and the constants. `FoldStop::NoMemory` comes where
-/// there is no memory.
+/// Returns `FoldStop::Wide` exactly if a step of this is out of range, with the first such step; the last steps are
+/// the sums of the absolute values for each state, each label and the constants. Returns `FoldStop::NoMemory` if
+/// memory runs out.
 pub fn spread_in(
     alloc: Global,
     c: CaseSetting<'_>,
@@ -97,7 +96,7 @@ pub(crate) fn leaf_rows(
     Ok(leaf)
 }
 
-// The multipliers of the named rows, and behind them these.
+// The multipliers of the named rows, and after them these.
 fn fractions(
     alloc: Global,
     named: &[(RowName, Fraction)],

@@ -23,8 +23,8 @@ use rg_spanning::Tree;
 use rg_theory::{Class, Problem};
 use std::alloc::{AllocError, Global};
 
-/// The leaf of named rows, as `spread_in` gives it, in a case of a problem. Each split above the leaf is a triple: its form,
-/// its number, and true on the high side. The outermost comes first.
+/// Returns the leaf of named rows, as `spread_in` does, in a case of a problem. Each split above the leaf is a
+/// triple: its form, its number, and true on the high side. The outermost is the first.
 pub fn spread(
     alloc: Global,
     lts: &Lts,

@@ -62,13 +62,13 @@ taken_to_stop lts class numbers effect t =
 
 -- ---- numbers of the states
 
--- the numbers of the states along the tree; `found` has the effects of the labels, and behind them the number of the initial state
+-- the numbers of the states along the tree; `found` has the effects of the labels, and after them the number of the initial state
 abbrev pub IsAlongTree : System → List Arc → List Ratio → List Ratio → Type 0
 IsAlongTree lts tree found numbers = (number : ℕ → Ratio) × along_tree (ratio_at found) (λ s. ratio_at found (labels lts)) tree (Ok number) × (numbers ≡ map number (all_numbers (states lts)))
 
 -- ---- the folds on the way
 
--- the effects by label, and Start behind them, made whole
+-- the effects by label, and Start after them, made whole
 abbrev pub found_fold : System → CycleBasis → Class → Ratio → (ℕ → Ratio) → Result (List Ratio) Wide → Type 0
 found_fold lts basis class start value = and_then (each (effect_fold lts basis value) (all_numbers (labels lts))) (λ effects. made_whole class (effects ++ start ∷ []))
 

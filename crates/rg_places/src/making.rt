@@ -28,22 +28,21 @@ use rg_net::Place;
 use rg_theory::{Class, Problem};
 use std::alloc::Global;
 
-/// The place that a point of a case's system makes, with its tokens at the states.
+/// Returns the place that a point of a case's system makes, with its tokens at the states.
 ///
-/// The point has one fraction for each column: Start, the tokens of the initial state, where the class is
-/// pure, plain or bounded, and then the effects of the free labels with an arc, in order. The effects of the
-/// other labels follow by the basis. In a class that is neither plain nor bounded, Start and all effects are
-/// multiplied by their least common denominator, and then by the class's marking, where it asks one. The tokens of the
-/// states follow along the tree; in a class that isn't bounded, and is plain or not pure, the least of them is taken from
-/// all. In a problem of two states of a plain class without bound the least number that makes the initial state's tokens
-/// a multiple of the marking is then added to all. Then each label takes
-/// as much as its effect takes away, and the event's label as much as stops it: its effect taken away in a
-/// pure class, else 1 in a plain one, and in others the least tokens of the states that it leaves.
+/// The point has one fraction for each column: Start, the tokens of the initial state, if the class is pure, plain or
+/// bounded, and then the effects of the free labels with an arc, in order. The effects of the other labels follow by
+/// the basis. In a class that is neither plain nor bounded, Start and all effects are multiplied by their least
+/// common denominator, and then by the class's marking, if it asks one. The tokens of the states follow along the
+/// tree; in a class that isn't bounded, and is plain or not pure, the least of them is taken from all. In a problem
+/// of two states of a plain class without bound the least number that makes the initial state's tokens a multiple of
+/// the marking is then added to all. Then each label takes as much as its effect takes away, and the event's label as
+/// much as stops it: its effect taken away in a pure class, else 1 in a plain one, and in others the least tokens of
+/// the states that it leaves.
 ///
-/// Where the point meets every row of the system of a case of the problem, and the forms of the case are
-/// whole at it, the place is a region of the class that separates the problem. `FoldStop::Wide` comes
-/// exactly where a step of the computation is out of range, with the first such step; `FoldStop::NoMemory`
-/// where there is no memory.
+/// If the point meets every row of the system of a case of the problem, and the forms of the case are whole at it,
+/// the place is a region of the class that separates the problem. Returns `FoldStop::Wide` exactly if a step of the
+/// computation is out of range, with the first such step, and `FoldStop::NoMemory` if memory runs out.
 pub fn make_place(
     alloc: Global,
     setting: Setting<'_>,
@@ -66,7 +65,7 @@ pub fn make_place(
     place_of(alloc, lts, class, problem, &found, &numbers)
 }
 
-// The effects of the labels at the point, and Start behind them, made whole where the class asks.
+// The effects of the labels at the point, and Start after them, made whole where the class asks.
 fn found_numbers(
     alloc: Global,
     setting: Setting<'_>,

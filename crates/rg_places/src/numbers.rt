@@ -17,7 +17,7 @@ use rg_theory::{Class, Problem};
 use std::alloc::Global;
 use std::cmp::Ordering;
 
-// The number of each state along the tree. `found` has the effects of the labels, and behind them the number of
+// The number of each state along the tree. `found` has the effects of the labels, and after them the number of
 // the initial state.
 pub(crate) fn along_tree(
     alloc: Global,

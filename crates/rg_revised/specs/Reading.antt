@@ -21,7 +21,7 @@ IsOwnRow slots d t row = slice_index slots t ≡ t → (s : ℕ) → s < length 
 abbrev pub column_sum : ℕ → List ℤ → List ℤ → ℕ → ℕ → ℤ
 column_sum width coeffs table n s = sum_below n (λ t. number_at coeffs t *ℤ number_at (row_at width table t) s)
 
--- the numbers of the relation: the sums of all columns, and behind them the constant with its share
+-- the numbers of the relation: the sums of all columns, and after them the constant with its share
 pub record IsRead (width : ℕ) (coeffs : List ℤ) (constant : ℤ) (table : List ℤ) (d : ℤ) (numbers : List ℤ) : Type 0 where
   pub same_length : length numbers ≡ width
   pub coefficients : (s : ℕ) → suc s < width → number_at numbers s ≡ column_sum width coeffs table (length coeffs) s

@@ -22,7 +22,7 @@ pub enum Descent {
     Large,
 }
 
-// Row `i` of the rows and those behind them.
+// Row `i` of the rows and those after them.
 fn row_of<'a>(own: &'a [Row], further: &'a [Row], i: usize) -> &'a Row
     requires { i < length (own.now ++ further.now) }
     ensures { result.now ≡ slice_index_or (own.now ++ further.now) i result.now }
@@ -74,7 +74,7 @@ fn take(
     take_row(basis, &row.coeffs, row.constant, columns, stack, i, most)
 }
 
-/// Takes all rows, the further ones behind the own ones, from the first one. A row that is exchanged is fixed while the
+/// Takes all rows, the further ones after the own ones, from the first one. A row that is exchanged is fixed while the
 /// rows before it are taken again. The stack has the fixed rows, the last one at its end.
 pub(crate) fn descend(
     basis: &mut Basis,

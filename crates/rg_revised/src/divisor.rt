@@ -18,8 +18,8 @@ fn inverse_of(odd: i64) -> i64 {
     refined(odd, forty_eight)
 }
 
-/// A divisor, with the number of its factors 2, and the inverse of the odd number that is left. No clause speaks of these two:
-/// each quotient that comes of them is checked.
+/// A divisor, with the number of its factors 2, and the inverse of the odd number that is left. No clause is about
+/// these two: each quotient that they give is checked.
 #[derive(Clone, Copy)]
 pub(crate) struct Divisor {
     pub(crate) value: i64,

@@ -45,14 +45,14 @@ pub fn columns_are_a_basis()
     ensures { (system : LinearSystem) → IsBasis system (column_set system) (pos 1) (itself (pos 1)) }
 {}
 
-/// The relations of the columns give those of the rows.
+/// Law: the relations of the columns give those of the rows.
 pub fn rows_follow()
     ensures relation { (system : LinearSystem) (members : List ℕ) (d : ℤ) (relation : ℕ → Relation) (i : ℕ) → IsBasis system members d relation → i < length system.rows → IsRelationOf system members (row_variable system i) (row_over system d relation i) }
     ensures member { (system : LinearSystem) (members : List ℕ) (w : ℕ) (k : Relation) → IsFree system members → Contains members w → IsRelationOf system members w k → k.constant ≡ pos 0 }
     ensures has { (system : LinearSystem) (members : List ℕ) (d : ℤ) (relation : ℕ → Relation) → IsBasis system members d relation → HasDictionary system members }
 {}
 
-/// What a row comes to is read off any relation of it.
+/// Law: any relation of a row shows whether the row holds, fails or refutes.
 pub fn rows_are_judged()
     ensures passed { (system : LinearSystem) (members : List ℕ) (i : ℕ) (k : Relation) → IsFree system members → i < length system.rows → IsRelationOf system members (row_variable system i) k → pos 0 ≤ℤ k.constant → IsPassed system members i }
     ensures outside { (system : LinearSystem) (members : List ℕ) (w : ℕ) (k : Relation) → IsFree system members → IsRelationOf system members w k → k.constant <ℤ pos 0 → ¬ Contains members w }
@@ -76,7 +76,7 @@ pub fn small_is_not_wide()
     ensures { (system : LinearSystem) (members : List ℕ) (d : ℤ) (relation : ℕ → Relation) (i j : ℕ) → IsBasis system members d relation → IsSmall system members d relation → AllFit system members i j }
 {}
 
-/// What a row of the cycle walk comes to is read off any relation of it.
+/// Law: any relation of a row of the cycle walk shows what the walk does with it.
 pub fn walk_is_judged()
     ensures skipped { (system : LinearSystem) (members : List ℕ) (i : ℕ) (k : Relation) → IsFree system members → i < length system.rows
         → ¬ Contains members (row_variable system i) → IsRelationOf system members (row_variable system i) k → ((t : ℕ) → t < system.columns → k.coefficient t ≡ pos 0)

@@ -36,7 +36,7 @@ fn primitive_number(
 }
 
 /// The numbers of the primitive relation: `d`, the constant, and those of the members in order, where the row has a number for
-/// the variable of each slot, and behind them the constant. The slot of each member is looked for first at that of `firsts`.
+/// the variable of each slot, and after them the constant. The slot of each member is looked for first at that of `firsts`.
 pub(crate) fn primitive_numbers(
     alloc: Global,
     members: &[u32],

@@ -127,9 +127,9 @@ impl Revised {
         })
     }
 
-    /// Makes the descent of the system with these rows behind its own, from the start. Rows are taken in order. One that
+    /// Makes the descent of the system with these rows after its own, from the start. Rows are taken in order. One that
     /// fails is exchanged with the least variable of the set that its relation names and that isn't fixed; it is fixed, and
-    /// the rows before it are taken again from the first one, before the rows behind it are taken. It takes no memory, and
+    /// the rows before it are taken again from the first one, before the rows after it are taken. It takes no memory, and
     /// it may be called again.
     ///
     /// `Descent::Point` and `Descent::Refuted` are the outcome of the order of work. `Descent::Large` says nothing of the

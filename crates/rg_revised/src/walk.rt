@@ -20,7 +20,7 @@ use crate::starting::number_slots;
 use std::alloc::{AllocError, Global};
 use std::marker::Model;
 
-/// What comes of a row on the walk.
+/// What the walk does with a row.
 #[derive(Clone, Copy, PartialEq, Eq, Debug)]
 pub enum Taken {
     /// Its relation names no column.
@@ -128,7 +128,7 @@ fn take_vector(
 }
 
 impl RevisedWalk {
-    /// One for systems of so many columns. It takes all memory that a walk needs. `AllocError` where there is none.
+    /// One for systems of so many columns. It takes all memory that a walk needs. Returns `AllocError` if memory runs out.
     pub fn new(alloc: Global, columns: u32) -> Result<RevisedWalk, AllocError>
         ensures { IfOk result (λ w. w.columns ≡ columns) }
     {

@@ -42,7 +42,7 @@ abbrev pub forms_in : Class → List RowName → List SplitForm
 forms_in class [] = []
 forms_in class (name ∷ names) = put_form (form_in class name) (forms_in class names)
 
--- and behind them the start, where the case splits on it
+-- and after them the start, where the case splits on it
 abbrev pub case_forms : Class → Problem → List RowName → List SplitForm
 case_forms class problem names = forms_in class names ++ (if splits_start class problem then (split_form.Start ∷ []) else [])
 

@@ -10,9 +10,9 @@ use rg_fraction::Fraction;
 use rg_refuting::RowName;
 use std::sync::ArcSlice;
 
-/// A row over the columns: it is the named row times the factor, which is positive. Its numbers are its coefficients, then its
-/// constant: by them rows are told apart. A case's system shares the coefficients, and takes over the norm.
-/// It is idle where it has no coefficients and always holds.
+/// A row over the columns: it is the named row times the factor, which is positive. Its numbers are its coefficients,
+/// then its constant: they distinguish rows. A case's system shares the coefficients, and takes over the norm. It is
+/// idle if it has no coefficients and always holds.
 #[derive(Drop)]
 pub(crate) struct CaseRow {
     pub(crate) name: RowName,

@@ -30,7 +30,7 @@ use rg_refuting::{Form, RowName};
 use rg_theory::{Class, Problem};
 use std::alloc::{AllocError, Global};
 
-// The forms in order: those of the named rows, and behind them the tokens at the start, where the case splits on it.
+// The forms in order: those of the named rows, and after them the tokens at the start, where the case splits on it.
 pub(crate) fn case_forms(
     alloc: Global,
     common: &Common,

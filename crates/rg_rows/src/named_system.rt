@@ -45,26 +45,27 @@ pub struct NamedSystem {
     pub forms: Vec<NamedForm>,
 }
 
-/// The system of a case of a problem.
+/// Returns the system of a case of a problem.
 ///
-/// The columns are Start, the tokens of the initial state, where the class is pure, plain or bounded, and the free labels
-/// with an arc, in order. The rows are those of the problem; `tokens` by state where Start is a column; in a bounded
-/// class `cap` by state; in a plain one `up` and then `down` by label with an arc; and in an output-nonbranching class
-/// `makes` by label with an arc, but the consumer. Each is written over the columns by the way in the tree to each state
-/// and the relations of the basis, multiplied by the least common multiple of its denominators, and divided by the
-/// greatest common divisor of its numbers. A row without coefficients whose constant isn't negative is left out, and of
-/// equal rows the first stays.
+/// The columns are Start, the tokens of the initial state, if the class is pure, plain or bounded, and the free
+/// labels with an arc, in order. The rows are those of the problem; `tokens` by state if Start is a column; in a
+/// bounded class `cap` by state; in a plain one `up` and then `down` by label with an arc; and in an
+/// output-nonbranching class `makes` by label with an arc, but the consumer. Each is written over the columns by the
+/// way in the tree to each state and the relations of the basis, multiplied by the least common multiple of its
+/// denominators, and divided by the greatest common divisor of its numbers. A row without coefficients whose constant
+/// isn't negative is left out, and of equal rows the first stays.
 ///
-/// The forms are in a bounded class the tokens of each state, from 0 to the bound, else in a plain class the effect of
-/// each label with an arc, from -1 to 1; in another class there are none. In a class that asks a marking the tokens at the
-/// start come behind these, in steps of the marking: in a bounded class from 0 to the bound, and in a plain class without
-/// bound, where an event is asked, from 0 to the number of states. They are written over the columns as the rows are, and
-/// not divided. The rows and forms are as a branching on the forms asks (Schrijver, *Theory of Linear and
-/// Integer Programming*): where all states can be reached and the basis is that of the chords, the rows bound each form.
+/// The forms are in a bounded class the tokens of each state, from 0 to the bound, else in a plain class the effect
+/// of each label with an arc, from -1 to 1; in another class there are none. In a class that asks a marking the
+/// tokens at the start come after these, in steps of the marking: in a bounded class from 0 to the bound, and in a
+/// plain class without bound, if an event is asked, from 0 to the number of states. They are written over the columns
+/// as the rows are, and not divided. The rows and forms are as a branching on the forms asks (Schrijver, *Theory of
+/// Linear and Integer Programming*): if all states can be reached and the basis is that of the chords, the rows bound
+/// each form.
 ///
-/// `FoldStop::Wide` comes exactly where a step of this, row by row and then form by form, is out of range, with the
-/// first such step; `FoldStop::NoMemory` where there is no memory. The steps have one result, so that a system that is
-/// given is the only one.
+/// Returns `FoldStop::Wide` exactly if a step of this, row by row and then form by form, is out of range, with the
+/// first such step, and `FoldStop::NoMemory` if memory runs out. The steps have one result, so that a system that is
+/// returned is the only one.
 pub fn system(
     alloc: Global,
     lts: &Lts,
@@ -103,8 +104,8 @@ pub fn system(
     system_with(alloc, &common, c)
 }
 
-/// The system of a case of a problem, as `system` gives it, with the rows and forms that all problems of the system and
-/// the class share.
+/// Returns the system of a case of a problem, as `system` does, with the rows and forms that all problems of the
+/// system and the class share.
 pub fn system_with(
     alloc: Global,
     common: &Common,
