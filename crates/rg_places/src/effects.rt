@@ -87,6 +87,9 @@ fn sum_of_shares(relation: &Relation, columns: &[Column]) -> Result<Fraction, Wi
     };
     let mut sum = share_of(relation, first)?;
     for column in rest {
+        if column.value.numerator() == 0 {
+            continue;
+        }
         let share = share_of(relation, column)?;
         if share.numerator() != 0 {
             sum = sum.add(share)?;

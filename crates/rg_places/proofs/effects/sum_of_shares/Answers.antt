@@ -3,7 +3,10 @@ use Rattle.std.specs.Prelude.{pos}
 use Rattle.rg_order_of_work.specs.Fold.{joined, add, whole, ratio_of}
 use Rattle.rg_order_of_work.proofs.FoldLemmas.{add_step}
 use Rattle.rg_order_of_work.proofs.Folding.{whole_is}
-use Rattle.rg_cycles.proofs.AddsNothing.{zero_of_bits, plus_none}
+use Rattle.rg_integers.specs.Sum.{number_at}
+use Rattle.rg_integers.proofs.Order.{positive_differs}
+use Rattle.rg_order_of_work.proofs.Zeros.{plus_zero, fraction_within}
+use Rattle.rg_cycles.proofs.AddsNothing.{zero_of_bits, plus_none, value_adds_nothing}
 use Rattle.rg_places.specs.Steps.{column_share}
 use Rattle.rg_places.proofs.FractionSteps.{joined_none}
 use Rattle.rg_places.proofs.FoldSteps.{sum_leads, first_fails, sum_ends, sum_next, item_fails, join_fails}
@@ -30,6 +33,17 @@ pub share_of-requires-in-loop-column-clause-index : goal.share_of-requires-in-lo
 share_of-requires-in-loop-column-clause-index c = rest_has (λ x. x.index < length c.args.relation.now.free.items) c.args.columns.now c.in-Some.first.now
     c.in-Some.rest.now c.loop-column.column-index c.column-item.result c.in-Some.ensures.cases.0 c.requires.indices c.loop-column-test.true c.column-item.is
 
+-- a column of value 0 adds nothing
+pub loop-column-preserved-then-numerator-eq0 : goal.loop-column-preserved-then-numerator-eq0
+loop-column-preserved-then-numerator-eq0 c =
+    let relation = c.args.relation.now in
+    let column = c.column-item.result in
+    let none = sym c.numerator.ensures.value ∙ zero_of_bits c.numerator.result c.numerator.ensures.in_range c.if-numerator-eq0.true in
+    sum_next add (column_share relation) (joined add (column_share relation) (whole (pos 0)) c.args.columns.now) c.in-Some.rest.now c.loop-column.column-index
+    (ratio_of c.loop-column.sum) c.loop-column.invariant column c.loop-column-test.true c.column-item.is (whole (pos 0)) (ratio_of c.loop-column.sum)
+    (value_adds_nothing (number_at relation.free.items column.index) relation.d column.value (positive_differs _ c.requires.in_range.positive) (c.requires.in_range.free column.index) c.requires.in_range.d none)
+    (plus_zero (ratio_of c.loop-column.sum) (fraction_within c.loop-column.sum))
+
 pub returns-in_err-share : goal.returns-in_err-share
 returns-in_err-share c =
     let same : c.from_residual-in_err-share.result ≡ Err c.in_err-share.field-0.0 = search rules in
@@ -55,7 +69,7 @@ loop-column-preserved c =
           c.in-Some.rest.now c.loop-column.column-index (ratio_of c.loop-column.sum) c.loop-column.invariant c.column-item.result c.loop-column-test.true
           c.column-item.is (ratio_of c.in_ok-share.share) (ratio_of w.in_ok-sum-2.sum) made (rw w.in_ok-sum-2.was at joins))
       | else-numerator-ne0 w ↦
-          let none = sym c.numerator.ensures.value ∙ zero_of_bits c.numerator.result c.numerator.ensures.in_range w.if-numerator-ne0.false in
+          let none = sym c.numerator-in-loop-column.ensures.value ∙ zero_of_bits c.numerator-in-loop-column.result c.numerator-in-loop-column.ensures.in_range w.if-numerator-ne0.false in
           rw w.sum-is (sum_next add (column_share c.args.relation.now) (joined add (column_share c.args.relation.now) (whole (pos 0)) c.args.columns.now)
           c.in-Some.rest.now c.loop-column.column-index (ratio_of c.loop-column.sum) c.loop-column.invariant c.column-item.result c.loop-column-test.true
           c.column-item.is (ratio_of c.in_ok-share.share) (ratio_of c.loop-column.sum) made (plus_none c.loop-column.sum c.in_ok-share.share none))
