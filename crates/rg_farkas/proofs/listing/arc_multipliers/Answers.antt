@@ -1,4 +1,4 @@
-use Rattle.std.proofs.Common.{◌≡◌, ◌-◌, rules, arith, refl, le_refl}
+use Rattle.std.proofs.Common.{◌-◌, rules, arith}
 use Rattle.std.specs.Prelude.{pos, slice_index_or, FitsSigned}
 use Rattle.std.specs.Int.{w128}
 use Rattle.std.proofs.lemmas.Int.{to_z-of_z}

@@ -1,5 +1,4 @@
-use Rattle.std.proofs.Common.{◌≡◌, ◌<◌, ◌≤◌, length, sym, subst, arith}
-use Rattle.std.specs.Prelude.{pos, slice_index_or}
+use Rattle.std.proofs.Common.{◌<◌, ◌≤◌, length, sym, subst, arith}
 use Rattle.rg_integers.proofs.Casts.{back}
 use Rattle.rg_farkas.proofs.AddendSums.{entry_added, no_entry, entries_end}
 use Rattle.rg_farkas.proofs.summed.add_row.Goals as goal

@@ -1,5 +1,4 @@
-use Rattle.std.proofs.Common.{◌≡◌, ◌<◌, length, arith}
-use Rattle.std.specs.Prelude.{pos, slice_index_or}
+use Rattle.std.proofs.Common.{◌<◌, length, arith}
 use Rattle.rg_farkas.proofs.AddendSums.{row_added}
 use Rattle.rg_farkas.proofs.summed.add_rows.Goals as goal
 
