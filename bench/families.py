@@ -8,6 +8,9 @@
     bench/families.py jobs crates/regions/out/regions [none pure ..]
     bench/families.py threads crates/regions/out/regions [none pure ..]
     bench/families.py blocks crates/solving_bench/out/solving_bench [none pure ..]
+    bench/families.py growth crates/regions/out/regions [none pure ..]
+    bench/families.py commands crates/regions/out/regions
+    bench/families.py pair EARLIER crates/regions/out/regions 15 ring:120 chain:120
 
 `run` prints for each system and class (`none`, `pure`, `safe` and `pure,plain,safe`, unless classes are named) the status, the
 seconds, the peak memory as GNU time tells it, the numbers of states and of separation problems, how many places the net has or how
@@ -19,12 +22,16 @@ seconds and the memory with 1, 2, 4 and 16 jobs, and says so where the bytes dif
 of five runs' seconds of the clock with 1, 2 and 4 jobs on the systems of docs/performance.md, by turns, and the seconds that four runs with one job
 each take beside each other, which tell what the machine's processors allow. `blocks` prints how many
 problems all blocks have, as a gate counts them, beside the places of the net: no kept place separated them when their block was
-formed, so no more are solved, and none of these twice but the one that is told. It is run by hand and is no test.
+formed, so no more are solved, and none of these twice but the one that is told. `growth` prints the least processor seconds of three
+runs for growing sizes, and the peak of memory. `commands` prints the least seconds and the peak of memory of `split`, `factor`, `check`,
+`verify`, `examine`, `isomorphic` and `convert` on some large systems. `pair` prints the middle seconds of the clock of so many runs by
+turns, of both programs with 1, 2 and 4 jobs. It is run by hand and is no test.
 
 The systems `grid`, `doubling` and `lock` come from `generate` of the program (the last one named); the others are written here.
 """
 import itertools
 import os
+import random
 import re
 import subprocess
 import sys
@@ -101,6 +108,31 @@ def rings(n):
     return [name(places) for places in states], [f't{k}_{i}' for k in range(n) for i in range(5)], arcs
 
 
+def torus(n):
+    """Two rings of so many labels, side by side."""
+    name = lambda i, j: f's{i}_{j}'
+    states = [name(i, j) for i in range(n) for j in range(n)]
+    arcs = [arc for i in range(n) for j in range(n)
+            for arc in ((name(i, j), f'a{i}', name((i + 1) % n, j)), (name(i, j), f'b{j}', name(i, (j + 1) % n)))]
+    return states, [f'a{i}' for i in range(n)] + [f'b{j}' for j in range(n)], arcs
+
+
+def runs(count, length, labels, seed):
+    """A log: so many random runs of so many labels, as the tree of their prefixes."""
+    rnd = random.Random(seed)
+    states, arcs, children = ['s0'], [], {}
+    for _ in range(count):
+        at = 's0'
+        for _ in range(length):
+            step = (at, f't{rnd.randrange(labels)}')
+            if step not in children:
+                children[step] = f's{len(states)}'
+                states.append(children[step])
+                arcs.append((*step, children[step]))
+            at = children[step]
+    return states, [f't{i}' for i in range(labels)], arcs
+
+
 def halves(n):
     """So many levels of two arcs beside one, a fresh label, and a third more levels of three arcs beside one: with 42, many problems
     show a number out of range, and a place that is kept separates each of them in the end."""
@@ -123,7 +155,7 @@ def halves(n):
 GENERATED = ('grid', 'doubling', 'lock')
 CLASSES = ('none', 'pure', 'safe', 'pure,plain,safe')
 FAMILIES = {'philosophers': philosophers, 'star': star, 'word': word, 'prefixes': prefixes, 'chain': chain, 'ring': ring,
-            'rings': rings, 'halves': halves}
+            'rings': rings, 'halves': halves, 'torus': torus}
 SIZES = {'grid': (10, 20, 40, 63), 'lock': (2, 3, 4, 5, 6), 'doubling': (20, 40, 100, 127), 'philosophers': (3, 4, 5, 6),
          'star': (40, 120), 'word': (60, 200), 'prefixes': (10, 30), 'chain': (60, 120), 'ring': (60, 120), 'rings': (3, 4),
          'halves': (42,)}
@@ -131,6 +163,8 @@ SIZES = {'grid': (10, 20, 40, 63), 'lock': (2, 3, 4, 5, 6), 'doubling': (20, 40,
 
 SPEED = (('grid', 63), ('lock', 7), ('philosophers', 8), ('ring', 60), ('ring', 120), ('chain', 60), ('chain', 120), ('star', 120),
          ('prefixes', 30), ('rings', 5), ('doubling', 100))
+GROWTH = (('ring', (30, 60, 120, 240)), ('chain', (30, 60, 120, 240)), ('star', (30, 60, 120, 240)), ('torus', (8, 16, 32, 64)),
+          ('philosophers', (5, 6, 7, 8)), ('rings', (3, 4, 5)), ('grid', (10, 20, 40, 63)))
 RUNS = 5
 
 
@@ -271,6 +305,84 @@ def threads(program, classes):
                 print(' | '.join([f'{family} {n}', class_word, *(f'{seconds:.2f}' for seconds in middle)]), flush=True)
 
 
+def least(words, times):
+    """The status, the least processor seconds, the peak of memory in MiB, and the bytes of so many runs."""
+    ran = []
+    for _ in range(times):
+        child = subprocess.run(['/usr/bin/time', '-q', '-f', '%U %S %M', *words], capture_output=True)
+        user, system, peak = child.stderr.decode().strip().split('\n')[-1].split()
+        ran.append((float(user) + float(system), int(peak) / 1024, child.returncode, child.stdout))
+    return min(ran)
+
+
+def growth(program, classes):
+    print(' | '.join(['family', 'size', 'states', 'labels', *classes, 'MiB']))
+    with tempfile.TemporaryDirectory() as folder:
+        for family, sizes in GROWTH:
+            for n in sizes:
+                system = written(program, family, n)
+                names, labels, _ = parsed(system)
+                path = os.path.join(folder, 'system.apt')
+                with open(path, 'w') as file:
+                    file.write(system)
+                ran = [least([program, 'synthesize', class_word, path], 3) for class_word in classes]
+                line = [family, str(n), f'{len(names):,}', str(len(labels)), *(f'{one[0]:.2f}' for one in ran)]
+                print(' | '.join([*line, f'{max(one[1] for one in ran):.0f}']), flush=True)
+
+
+def commands(program):
+    print(' | '.join(['command', 'status', 'seconds', 'MiB']))
+    with tempfile.TemporaryDirectory() as folder:
+        os.chdir(folder)
+
+        def put(name, content):
+            with open(name, 'wb') as file:
+                file.write(content if isinstance(content, bytes) else content.encode())
+
+        def show(what, *words):
+            seconds, peak, status, out = least([program, *words], 3)
+            print(' | '.join([what, str(status), f'{seconds:.2f}', f'{peak:.0f}']), flush=True)
+            return out
+
+        for family, n in (('star', 120), ('torus', 64)):
+            put(f'{family}{n}.apt', written(program, family, n))
+        put('log.apt', text(*runs(50, 20, 13, 1)))
+        put('random.apt', text(*runs(30, 12, 10, 2)))
+        for name in ('star120', 'torus64'):
+            put(f'{name}.net', subprocess.run([program, 'synthesize', 'none', f'{name}.apt'], capture_output=True).stdout)
+            show(f'check none {name}', 'check', 'none', f'{name}.apt', f'{name}.net')
+        show('factor torus64', 'factor', 'torus64.apt')
+        for class_word in ('none', 'pure', 'safe'):
+            show(f'factor --class {class_word} torus64', 'factor', 'torus64.apt', '--class', class_word)
+        show('split log of 50 runs of 20 out of 13 labels', 'split', 'log.apt')
+        show('split log of 30 runs of 12 out of 10 labels', 'split', 'random.apt')
+        states = [f's{i}' for i in range(1024)]
+        turns = [(f's{i}', f't{i % 64}', f's{(i + 1) % 1024}') for i in range(1024)]
+        put('turns.apt', text(states, [f't{i}' for i in range(64)], turns))
+        put('turns.cert', show('synthesize output-nonbranching, 16 turns of 64 labels', 'synthesize', 'output-nonbranching', 'turns.apt'))
+        show('verify its certificate', 'verify', 'turns.apt', 'turns.cert')
+        forked = [(f's{i}', f't{k}', f's{(i * 7 + k * 13 + j) % 4096}') for i in range(64) for k in range(32) for j in range(64)]
+        put('forked.apt', text([f's{i}' for i in range(4096)], [f't{i}' for i in range(32)], sorted(set(forked))))
+        show('examine 4,096 states, forks to 64 states', 'examine', 'forked.apt')
+        show('examine torus64', 'examine', 'torus64.apt')
+        show('isomorphic torus64 torus64', 'isomorphic', 'torus64.apt', 'torus64.apt')
+        show('convert graph torus64', 'convert', 'graph', 'torus64.apt')
+
+
+def pair(programs, times, families, classes):
+    print(' | '.join(['family', 'class', *(f'{which}, {jobs} jobs' for which in ('earlier', 'new') for jobs in (1, 2, 4))]))
+    with tempfile.TemporaryDirectory() as folder:
+        for family in families:
+            name, n = family.split(':')
+            path = os.path.join(folder, f'{name}{n}.apt')
+            with open(path, 'w') as file:
+                file.write(written(programs[-1], name, int(n)))
+            for class_word in classes:
+                ran = [[clock(program, class_word, path, jobs, 1) for program in programs for jobs in '124'] for _ in range(times)]
+                middle = [sorted(column)[times // 2] for column in zip(*ran)]
+                print(' | '.join([f'{name} {n}', class_word, *(f'{seconds:.2f}' for seconds in middle)]), flush=True)
+
+
 def blocks(program, classes):
     print(' | '.join(['family', 'class', 'status', 'problems', 'in blocks', 'places']))
     with tempfile.TemporaryDirectory() as folder:
@@ -294,6 +406,12 @@ def main():
         threads(words[1], words[2:] or CLASSES)
     elif len(words) >= 2 and words[0] == 'blocks':
         blocks(words[1], words[2:] or CLASSES)
+    elif len(words) >= 2 and words[0] == 'growth':
+        growth(os.path.abspath(words[1]), words[2:] or CLASSES)
+    elif len(words) == 2 and words[0] == 'commands':
+        commands(os.path.abspath(words[1]))
+    elif len(words) >= 5 and words[0] == 'pair':
+        pair([os.path.abspath(word) for word in words[1:3]], int(words[3]), words[4:], CLASSES)
     elif len(words) >= 3 and words[0] == 'beside':
         run(words[1:3], words[3:] or CLASSES)
     elif len(words) >= 3 and words[0] == 'speed':

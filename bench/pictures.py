@@ -114,7 +114,7 @@ def svg_of(width, height, body):
 
 
 def table_rows(heading):
-    """The rows of the first table below a heading of docs/performance.md."""
+    """The head and the rows of the first table below a heading of docs/performance.md."""
     text = open(os.path.join(TOP, 'docs', 'performance.md'), encoding='utf-8').read()
     text = text[text.index(heading):]
     rows = [[cell.strip() for cell in line.strip('|').split('|')] for line in text.split('\n') if line.startswith('|')]
@@ -122,32 +122,67 @@ def table_rows(heading):
     return rows[0], rows[2:last]
 
 
-def second_method():
-    """Seconds over the number of problems, of this program and of the second method, in class none; crosses are runs that were stopped."""
-    head, rows = table_rows('## Measured: a second method')
-    points = []
-    for row in rows:
-        if len(row) != len(head) or not re.match(r'[\d,]+$', row[2]):
-            continue
-        cell = re.sub(r'\(\d+\)|no:|status 4:', '', row[3])
-        ours, theirs = [part.strip() for part in cell.split('/')]
-        stopped = theirs.startswith('over')
-        points.append((int(row[2].replace(',', '')), max(float(ours), 0.005), 20.0 if stopped else float(theirs), stopped, 'status 4' in row[3]))
-    x = lambda n: 60 + 440 * (math.log10(n) - 2) / 5
-    y = lambda s: 300 - 260 * (math.log10(s) + 2.4) / 4
-    body = ['<rect x="60" y="40" width="440" height="260" fill="none" stroke="#999"/>']
-    for k in range(2, 8):
-        body.append(f'<text x="{x(10 ** k):.0f}" y="316" text-anchor="middle">10^{k}</text>')
+def panel(left, top, title, horizontal, exponents, points):
+    """A log-log plot: points are (size, seconds, color, mark), lines (x, y pairs, color) join the points of one color."""
+    width, height, (low, high) = 300, 200, exponents
+    x = lambda n: left + width * (math.log10(n) - low) / (high - low)
+    y = lambda s: top + height * (1 - (math.log10(max(s, 0.005)) + 2.4) / 4.2)
+    body = [f'<rect x="{left}" y="{top}" width="{width}" height="{height}" fill="none" stroke="#999"/>',
+            f'<text x="{left + width / 2:.0f}" y="{top - 6}" text-anchor="middle">{title}</text>',
+            f'<text x="{left + width / 2:.0f}" y="{top + height + 30}" text-anchor="middle">{horizontal}</text>']
+    for k in range(math.ceil(low), math.floor(high) + 1):
+        body.append(f'<text x="{x(10 ** k):.0f}" y="{top + height + 14}" text-anchor="middle">{10 ** k:,}</text>')
     for k in (0.01, 0.1, 1, 10):
-        body.append(f'<text x="54" y="{y(k) + 4:.0f}" text-anchor="end">{k} s</text><line x1="60" x2="500" y1="{y(k):.0f}" y2="{y(k):.0f}" stroke="#ddd"/>')
-    for n, ours, theirs, stopped, wide in points:
-        body.append(f'<line x1="{x(n) - 3:.1f}" x2="{x(n) + 3:.1f}" y1="{y(ours) - 3:.1f}" y2="{y(ours) + 3:.1f}" stroke="{COLORS[0]}"/><line x1="{x(n) - 3:.1f}" x2="{x(n) + 3:.1f}" y1="{y(ours) + 3:.1f}" y2="{y(ours) - 3:.1f}" stroke="{COLORS[0]}"/>'
-                    if wide else f'<circle cx="{x(n):.1f}" cy="{y(ours):.1f}" r="3" fill="{COLORS[0]}"/>')
-        mark = f'<path d="M{x(n) - 4:.1f} {y(theirs) - 4:.1f}l8 8m0 -8l-8 8" stroke="{COLORS[1]}" fill="none"/>' if stopped else f'<rect x="{x(n) - 3:.1f}" y="{y(theirs) - 3:.1f}" width="6" height="6" fill="{COLORS[1]}"/>'
-        body.append(mark)
-    body.append(f'<text x="280" y="334" text-anchor="middle">separation problems</text><text x="70" y="26" fill="{COLORS[0]}">regions, class none (a cross: status 4)</text>'
-                f'<text x="300" y="26" fill="{COLORS[1]}">second method (a cross: stopped at 20 s)</text>')
-    save('second-method', svg_of(520, 344, body))
+        body.append(f'<text x="{left - 4}" y="{y(k) + 4:.0f}" text-anchor="end">{k} s</text>'
+                    f'<line x1="{left}" x2="{left + width}" y1="{y(k):.0f}" y2="{y(k):.0f}" stroke="#ddd"/>')
+    for n, seconds, color, mark in points:
+        at, up = x(n), y(seconds)
+        body.append({'dot': f'<circle cx="{at:.1f}" cy="{up:.1f}" r="3" fill="{color}"/>',
+                     'square': f'<rect x="{at - 3:.1f}" y="{up - 3:.1f}" width="6" height="6" fill="{color}"/>',
+                     'cross': f'<path d="M{at - 4:.1f} {up - 4:.1f}l8 8m0 -8l-8 8" stroke="{color}" fill="none"/>'}[mark])
+    for color in dict.fromkeys(point[2] for point in points):
+        way = sorted((n, seconds) for n, seconds, other, mark in points if other == color and mark == 'dot')
+        body.append(f'<polyline points="{" ".join(f"{x(n):.1f},{y(s):.1f}" for n, s in way)}" stroke="{color}" fill="none"/>')
+    return body
+
+
+def second_method():
+    """Seconds over the number of problems, of this program and of the second method, a panel for each class."""
+    head, rows = table_rows('## Measured: a second method')
+    body = [f'<text x="60" y="16" fill="{COLORS[0]}">regions (a cross: status 4)</text>'
+            f'<text x="300" y="16" fill="{COLORS[1]}">second method (a cross: stopped at 20 s)</text>']
+    for k, class_word in enumerate(head[3:]):
+        points = []
+        for row in rows:
+            if len(row) != len(head) or not re.match(r'[\d,]+$', row[2]):
+                continue
+            ours, theirs = [part.strip() for part in re.sub(r'\(\d+\)|no:|status 4:', '', row[3 + k]).split('/')]
+            stopped, wide, n = theirs.startswith('over'), 'status 4' in row[3 + k], int(row[2].replace(',', ''))
+            points.append((n, float(ours), COLORS[0], 'cross' if wide else 'square'))
+            points.append((n, 20.0 if stopped else float(theirs), COLORS[1], 'cross' if stopped else 'square'))
+        body += panel(60 + 370 * (k % 2), 50 + 270 * (k // 2), class_word, 'separation problems', (2, 7), points)
+    save('second-method', svg_of(740, 570, body))
+
+
+def growth():
+    """Seconds over the number of labels or states of each family, a panel for each class."""
+    head, rows = table_rows('## Measured: growth')
+    families = list(dict.fromkeys(row[0] for row in rows))
+    body = [f'<text x="{60 + 100 * i}" y="16" fill="{COLORS[i]}">{family}</text>' for i, family in enumerate(families)]
+    for k, class_word in enumerate(head[4:8]):
+        points = [(int(row[2].replace(',', '')), float(row[4 + k]), COLORS[families.index(row[0])], 'dot') for row in rows]
+        body += panel(60 + 370 * (k % 2), 50 + 270 * (k // 2), class_word, 'states', (1.3, 3.7), points)
+    save('growth', svg_of(740, 570, body))
+
+
+def region():
+    """The region that docs/theory.md works out: the tokens of its place at each state of examples/aba.apt, and each arc's effect."""
+    tokens = {'s0': 1, 's1': 0, 's2': 1, 's3': 0}
+    system = open(os.path.join(TOP, 'examples', 'aba.apt'), encoding='ascii').read()
+    arcs = re.findall(r'\b(s\d) (\w+) (s\d)\b', system[system.index('.arcs'):])
+    nodes = [f'  {s} [label="{s}\\n{n}"];' for s, n in tokens.items()]
+    lines = [f'  {s} -> {to} [label="{label} ({tokens[to] - tokens[s]:+d})"];' for s, label, to in arcs]
+    draw('region', 'digraph region {\n  rankdir=LR; node [shape=circle, fontsize=11];\n' + '\n'.join(nodes + lines) + '\n}\n')
 
 
 def speed_up():
@@ -183,7 +218,9 @@ def main():
     certificate()
     chain()
     layers()
+    region()
     second_method()
+    growth()
     speed_up()
 
 
