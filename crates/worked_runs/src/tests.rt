@@ -3,3 +3,4 @@ mod gates;
 mod holding;
 mod laws;
 mod lines;
+mod twice;
