@@ -22,7 +22,7 @@ name_at names i = slice_index_or names i []
 abbrev pub arc_line : System → Arc → List ℕ
 arc_line lts a = name_at lts.state_names a.from ++ 32 ∷ (name_at lts.label_names a.label ++ 32 ∷ name_at lts.state_names a.to)
 
--- the lines of a file in which the arcs stand in this order
+-- the lines of a file that lists the arcs in this order
 abbrev pub plain_lines : System → List Arc → List (List ℕ)
 plain_lines lts listed =
     codes ".type LTS" ∷ codes ".states"
@@ -32,11 +32,11 @@ plain_lines lts listed =
     ++ codes ".arcs"
     ∷ map (arc_line lts) listed))
 
--- the plain text of the system, in which its arcs stand in order
+-- the plain text of the system, which lists its arcs in order
 abbrev pub lts_text : System → List ℕ
 lts_text lts = fed (plain_lines lts lts.arcs)
 
--- the bytes are a plain text of the system, in which its arcs stand in any order, each once or more often
+-- the bytes are a plain text of the system, which lists its arcs in any order, each once or more often
 pub record IsPlainText (bytes : List ℕ) (lts : System) : Type 0 where
   pub well_formed : IsWellFormed lts
   pub listed : List Arc

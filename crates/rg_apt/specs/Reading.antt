@@ -40,7 +40,7 @@ with_name states x d = record d { states = d.states ++ record { name = x; initia
 with_name labels x d = record d { labels = d.labels ++ x ∷ [] }
 with_name arcs x d = d
 
--- what is found with a token that stands at a position
+-- what is found after a token at a position
 abbrev pub adds_by : Position → Kind → Lexeme → Declared → Declared
 adds_by type_name Name x d = record d { typed = true }
 adds_by (in_section s) Name x d = with_name s x d

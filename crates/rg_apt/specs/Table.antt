@@ -1,4 +1,4 @@
--- The grammar of system files as a table: where a token may stand, where it leads, and what is wanted instead.
+-- The grammar of system files as a table: where each token is allowed, the position that follows it, and what is expected where it isn't allowed.
 use Rattle.std.specs.Prelude.{ℕ, Bool, true, false, ◌||◌, List, Option, None, Some, codes, if◌then◌else◌}
 use Rattle.std.specs.Str.{bytes_eq}
 use Rattle.std.specs.Option.{option_map}
@@ -16,7 +16,7 @@ pub data Section : Type 0 where
   labels : Section
   arcs : Section
 
--- where a token stands; the names that a position holds came before it and still count
+-- the position of a token; a position holds the names read before it that are still needed
 pub data Position : Type 0 where
   section : Position  -- start of the file, after `.type` Name, after a passed-over Text
   type_name : Position  -- after `.type`

@@ -27,8 +27,8 @@ EndsAll lts comes before after (Some q) = (trees : List Tree) × ComesFrom lts c
 pub record EachPlaceSeparates (lts : System) (comes : Problem → Solved → Type 0) : Type 0 where
   pub separate : PlacesSeparate lts comes
 
--- what all problems come to, as code tells it: places that separate all, the problem that is refuted, or the first that is left, which shows
--- its term
+-- the result for all problems, as the code returns it: places that separate all of them, the refuted problem, or the first problem left, with
+-- its term out of range
 abbrev pub ShowsSeparation : System → (Problem → Solved → Type 0) → List Place → SeparationOutcome → Separation → Type 0
 ShowsSeparation lts comes after outcome.Separated (places kept) = (kept ≡ after) × SeparateAll after lts
 ShowsSeparation lts comes after (outcome.Unsolvable q) (unsolvable problem trees) = (problem ≡ q) × IsProblem lts q × comes q (refuted trees)

@@ -37,14 +37,14 @@ IsHeadOf lts (of_fork s t s₁ s₂) = (s < states lts) × (t < labels lts) × (
 IsHeadOf lts (of_event s t) = (s < states lts) × (t < labels lts)
 IsHeadOf lts (of_states s s') = (s < states lts) × (s' < states lts)
 
--- where the line after it stands
+-- the position of the line after it
 abbrev pub after_head : Version → Head → Position
 after_head version (of_unreachable s) = at_last
 after_head version (of_fork s t s₁ s₂) = at_last
 after_head version (of_event s t) = at_one_case version
 after_head version (of_states s s') = at_cases version
 
--- how many nodes are due after a position
+-- how many nodes must still follow a position
 abbrev pub due_at : Position → ℕ
 due_at (at_node version count due) = due
 due_at (at_row version count due) = due

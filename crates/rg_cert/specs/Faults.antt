@@ -36,7 +36,7 @@ pub record BeginsWith (position : Position) (rest : List ℕ) (form : LineForm) 
   pub has : HasForm form line texts
   pub due : follows position form ≢ refused
 
--- what the text goes on with isn't due at the position: no line of a form that is allowed there, or something after the end
+-- the rest of the text isn't allowed at the position: it begins with no line of a form allowed there, or it follows the end
 abbrev pub BreaksAt : Position → List ℕ → Type 0
 BreaksAt at_end rest = rest ≢ []
 BreaksAt position rest = (form : LineForm) (texts : List (List ℕ)) → ¬ BeginsWith position rest form texts

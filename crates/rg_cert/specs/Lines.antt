@@ -29,7 +29,7 @@ pub data Field : Type 0 where
   label : Field
   number : Range → Field
 
--- the field has the form that is due: a word, one of some words, what names a class, a name, or a number
+-- the field has the required form: a word, one of some words, what names a class, a name, or a number
 abbrev pub HasFieldForm : Field → List ℕ → Type 0
 HasFieldForm (word w) text = text ≡ w
 HasFieldForm (one_of words) text = Contains words text
@@ -124,7 +124,7 @@ pub data Count : Type 0 where
   one : Count
   several : Count
 
--- where a line stands, in a text of a version
+-- the position of a line in a text of a version
 pub data Position : Type 0 where
   at_heading : Position
   at_class : Version → Position
@@ -148,7 +148,7 @@ abbrev pub if_two : Version → Next → Next
 if_two version_one next = refused
 if_two version_two next = next
 
--- a node, a case or the end, in a tree of which a node is due, and so many after it
+-- a node, a case or the end, in a tree that needs a node here, and so many after it
 abbrev pub in_tree : Version → Count → ℕ → LineForm → Next
 in_tree version count due split_tokens_line = to (at_node version count (suc due))
 in_tree version count due split_effect_line = to (at_node version count (suc due))

@@ -86,7 +86,7 @@ next_in next.Short = line.short
 next_in next.Long = line.long
 next_in next.Refused = line.refused
 
--- at most so many nodes are due at the position
+-- at most so many nodes must still follow the position
 abbrev pub HasFewDue : Position → ℕ → Type 0
 HasFewDue position n = draft.due_at (position_in position) ≤ n
 

@@ -38,7 +38,7 @@ abbrev pub row_number : List (ℕ × ℤ) → Option ℕ → ℤ
 row_number pairs None = pos 0
 row_number pairs (Some c) = number_with pairs c
 
--- the relation that r has the numbers of; None stands for that of a free label
+-- the relation that r has the numbers of; None is the relation of a free label
 abbrev pub relation_of : ℕ → List ℕ → List ℕ → Option Relation → LinearRelation
 relation_of labels kept free None = no_relation
 relation_of labels kept free (Some r) = record {

@@ -52,7 +52,7 @@ pub record FirstBetween (pivot row : List ℤ) (size leaving : ℤ) (from to n :
   pub passes : FitsTerm w → ⊥
   pub first : (m : ℕ) → from ≤ m → m < n → FitsTerm (index_term pivot row size leaving m)
 
--- the index of term e, where the member that leaves stands at index p: its own index comes last
+-- the index of term e, where the member that leaves is at index p: its own index is the last one
 abbrev pub index_of : ℕ → ℕ → ℕ
 index_of p e = if nat_lt e p then e else suc e
 

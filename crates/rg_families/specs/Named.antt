@@ -1,4 +1,4 @@
--- Systems that are told by the names of their states and labels.
+-- Systems given by the names of their states and labels.
 use Rattle.std.specs.Prelude.{◌≡◌, ◌↔◌, ℕ, ◌≤◌, List, length, map, Contains, String, string_bytes}
 use Rattle.std.specs.List.{flat_map, range_with_len}
 use Rattle.std.specs.Str.{bytes_eq}

@@ -33,7 +33,7 @@ abbrev pub said_in : CaseSetting → List Side → RowName → Expression
 said_in s above = row_expression s.lts s.class s.problem s.number above
 
 -- the named rows refute a case of a problem below the sides: all states can be reached, tree and basis are the system's,
--- and the rows stand there, name states and labels of the system, and refute wherever the arcs are kept
+-- and the rows are allowed there, name states and labels of the system, and refute wherever the arcs are kept
 pub record RefutesCase (c : HeldCase) (named : List (RowName × Fraction)) (above : List Side) : Type 0 where
   pub reachable : IsAllReachable c.setting.lts.now
   pub tree : IsTreeOf c.setting.lts.now c.setting.tree.now

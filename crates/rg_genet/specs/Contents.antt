@@ -31,7 +31,7 @@ heading bytes = before_first opens (numbered bytes)
 abbrev pub body : List ℕ → List Line
 body bytes = before_first closes (after_first opens (numbered bytes))
 
--- `.end` stands after `.state graph`
+-- `.end` comes after `.state graph`
 abbrev pub is_closed : List ℕ → Bool
 is_closed bytes = list_any closes (after_first opens (numbered bytes))
 
@@ -77,7 +77,7 @@ abbrev pub arc_of : List (List ℕ) → List (List ℕ) → Triple → Arc
 arc_of states labels t =
     record { from = number_of bytes_eq states t.from; label = number_of bytes_eq labels t.label; to = number_of bytes_eq states t.to }
 
--- the arcs, with the numbers of the names that stand on them
+-- the arcs, as the numbers of their names
 abbrev pub arcs_of : List Triple → List Arc
 arcs_of arcs = map (arc_of (state_names arcs) (label_names arcs)) arcs
 

@@ -9,7 +9,7 @@ use Rattle.rg_firsts.specs.Words.{words}
 abbrev pub uncommented : List ℕ → List ℕ
 uncommented line = before_first (λ b. b == 35) line
 
--- a brace stands as if there were blanks round it
+-- a brace is read as if there were blanks round it
 abbrev pub apart : ℕ → List ℕ
 apart b = if (b == 123) || (b == 125) then 32 ∷ b ∷ 32 ∷ [] else b ∷ []
 

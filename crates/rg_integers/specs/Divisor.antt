@@ -1,4 +1,4 @@
--- Greatest common divisors. That a number is one is told by divisibility: `IsGcd` of std for two numbers.
+-- Greatest common divisors. Divisibility defines them: `IsGcd` of std for two numbers.
 use Rattle.std.specs.Prelude.{ℕ, zero, suc, ◌%◌, ◌<◌, ◌==◌, cond, ℤ, pos, unsigned_abs}
 use Rattle.std.specs.Int.{◌∣◌}
 

@@ -1,4 +1,4 @@
--- What is told of two systems.
+-- The result of comparing two systems.
 use Rattle.std.specs.Prelude.{◌≡◌, ℕ, ◌<◌, List, Contains, Some, slice_get}
 use Rattle.rg_theory.specs.System.{System, IsAllReachable, IsForkFree}
 use Rattle.rg_lts.specs.WellFormed.{IsWellFormed}
@@ -30,7 +30,7 @@ pub record IsFirstAlone (a b : System) (t : ℕ) : Type 0 where
 abbrev pub HasLabelsOf : System → System → Type 0
 HasLabelsOf a b = (name : List ℕ) → Contains a.label_names name → Contains b.label_names name
 
--- what may be told: the state of the second system for each of the first; the number of the file, 1 or 2, that alone has its label;
+-- the result: the state of the second system for each of the first; the number of the file, 1 or 2, that alone has its label;
 -- or the first difference after a word
 pub data Told : Type 0 where
   map : List ℕ → Told
@@ -50,7 +50,7 @@ pub data Compares (a b : System) : Told → Type 0 where
   second_label : (t : ℕ) → HasLabelsOf a b → IsFirstAlone b a t → Compares a b (label 2 t)
   difference : (d : Difference) → HaveSameLabels a b → IsFirstDifference a b d → Compares a b (differs d)
 
--- a first difference is told
+-- the result is a first difference
 abbrev pub IsTold : System → System → Same → Type 0
 IsTold a b told = (d : Difference) × (told_of told ≡ differs d) × IsFirstDifference a b d
 

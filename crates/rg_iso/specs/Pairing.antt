@@ -27,7 +27,7 @@ pairs_of order partners taken = record { order = order; partners = partners; tak
 abbrev pub pairs_in : Pairing → Pairs
 pairs_in pairing = pairs_of pairing.order.items pairing.partners.items pairing.taken.items
 
--- the words that lead to the pairs rise, and no state stands in two pairs
+-- the words that lead to the pairs rise, and no state is in two pairs
 pub record ArePairs (a b : System) (p : Pairs) (ways : List (List ℕ)) : Type 0 where
   pub ways_long : length ways ≡ length p.order
   pub some : 0 < length p.order
@@ -61,7 +61,7 @@ pub record IsFollowedTo (a b : System) (p : Pairs) (k t : ℕ) : Type 0 where
   pub passed : (i u : ℕ) → i < length p.order → u < labels a → IsIndexBefore i u k t → IsPassed a b p ways i u
   pub entered : (j : ℕ) → 0 < j → j < length p.order → (i : ℕ) × (u : ℕ) × IsIndexBefore i u k t × (i < j) × (way_at ways j ≡ u ∷ way_at ways i)
 
--- what comes of two targets: they are a pair already; one of them stands in another pair; or they become one
+-- what two targets give: they are a pair already, one of them is in another pair, or they become a pair
 pub data BecomePair (p : Pairs) (s q : ℕ) : Bool → Pairs → Type 0 where
   already : slice_index_or p.partners s None ≡ Some q → BecomePair p s q true p
   elsewhere : (r : ℕ) → slice_index_or p.partners s None ≡ Some r → r ≢ q → BecomePair p s q false p

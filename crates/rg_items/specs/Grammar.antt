@@ -1,4 +1,4 @@
--- A grammar as a table: where a token may stand, where it leads, and what it adds to what is found.
+-- A grammar as a table: where each token is allowed, the position that follows it, and what it adds to what is found.
 use Rattle.std.specs.Prelude.{◌≡◌, ℕ, Bool, true, false, List, [], ◌∷◌, ◌++◌, Option, None, Some}
 use Rattle.std.specs.Option.{option_and_then}
 use Rattle.rg_lexer.specs.Lexeme.{Lexeme}
@@ -13,7 +13,7 @@ pub record Grammar (P D F : Type 0) : Type 0 where
   pub refuses : P → Lexeme → F  -- the fault of a token that may not stand at a position
   pub ends : P → ℕ → F  -- the fault of an end at a position where the text may not end
 
--- where the tokens lead, if each may stand where it does
+-- the position after the tokens, if each is allowed where it is
 abbrev pub leads_all : {P D F : Type 0} → Grammar P D F → P → List Lexeme → Option P
 leads_all g position [] = Some position
 leads_all g position (x ∷ xs) = option_and_then (λ next. leads_all g next xs) (g.leads position x)

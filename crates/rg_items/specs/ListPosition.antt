@@ -23,7 +23,7 @@ list_wanted (after_key key) = want.CloseList
 list_wanted (value key) = want.Value
 list_wanted after_value = want.CloseList
 
--- where a token leads that may stand in an option list
+-- the position after a token that is allowed in an option list
 pub data ListStep : Type 0 where
   on : ListPosition → ListStep
   closed : ListStep

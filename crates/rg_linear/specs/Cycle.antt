@@ -76,7 +76,7 @@ pub record CycleBasis : Type 0 where
   pub members : List ℕ
   pub relation : ℕ → Relation
 
--- what stands for the relation of what has none
+-- the relation used where there is none
 abbrev pub no_relation : Relation
 no_relation = record { d = pos 1; constant = pos 0; coefficient = λ j. pos 0 }
 

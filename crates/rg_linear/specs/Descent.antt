@@ -5,7 +5,7 @@ use Rattle.rg_linear.specs.Dictionary.{Relation, DictionaryRow, column_set}
 use Rattle.rg_integers.specs.declared.term.Wide.{Wide}
 use Rattle.rg_linear.specs.Exchange.{exchanged, AllFit, FirstWide}
 
--- where a term out of range stands: at the set, in the exchange of the variable pivot of a row with the member that leaves,
+-- the place of a term out of range: the set, in the exchange of the variable pivot of a row with the member that leaves,
 -- in the new relation of target, as term number entry
 pub record WideAt : Type 0 where
   pub members : List ℕ

@@ -7,7 +7,7 @@ use Rattle.rg_linear.specs.Dictionary.{Relation, DictionaryRow}
 abbrev pub numbers_of : List ℕ → Relation → List ℤ
 numbers_of members k = k.d ∷ k.constant ∷ map k.coefficient members
 
--- the number beside a member, 0 where it is none
+-- the number at the index of a member, 0 if it is no member
 abbrev pub number_beside : List ℕ → List ℤ → ℕ → ℤ
 number_beside [] numbers w = pos 0
 number_beside (m ∷ members) [] w = pos 0

@@ -21,7 +21,7 @@ pub record IsWellFormed (system : LinearSystem) : Type 0 where
   pub coeffs : (i j : ℕ) → i < length system.rows → j < system.columns → InRange (entry system i j)
   pub constants : (i : ℕ) → i < length system.rows → InRange (row_at system i).constant
 
--- a system that code keeps, beside the greatest norm of a row
+-- a system as the code keeps it, with the greatest norm of a row
 pub record IsStored (system : LinearSystem) (norm : ℕ) : Type 0 where
   pub well_formed : IsWellFormed system
   pub norm_is : norm ≡ kept_norm (greatest_norm system.rows)

@@ -44,11 +44,11 @@ pub record IsWellFormedDraft (d : Draft) : Type 0 where
 abbrev pub IsArcWithin : Draft → Arc → Type 0
 IsArcWithin d a = IsArcInRange (finished d 0) a
 
--- the state's name stands at its number
+-- the state's name is at the index of its number
 abbrev pub IsStateNamed : Draft → ℕ → List ℕ → Type 0
 IsStateNamed d s name = slice_get d.state_names s ≡ Some name
 
--- the label's name stands at its number
+-- the label's name is at the index of its number
 abbrev pub IsLabelNamed : Draft → ℕ → List ℕ → Type 0
 IsLabelNamed d t name = slice_get d.label_names t ≡ Some name
 
@@ -58,7 +58,7 @@ pub record IsArcNamed (d : Draft) (source step target : List ℕ) (a : Arc) : Ty
   pub label : IsLabelNamed d a.label step
   pub to : IsStateNamed d a.to target
 
--- the arc is there afterwards, beside those that were, and all else stays
+-- the arc is added to those that were there, and everything else stays
 pub record AddsArc (old new : Draft) (a : Arc) : Type 0 where
   pub rest : new ≡ record old { arcs = new.arcs }
   pub members : (b : Arc) → Contains new.arcs b ↔ (Contains old.arcs b ⊎ (b ≡ a))

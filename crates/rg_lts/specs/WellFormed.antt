@@ -10,7 +10,7 @@ pub record AreNames (names : List (List ℕ)) : Type 0 where
   pub each : All IsName names
   pub differ : AllPairs (λ a b. a ≢ b) names
 
--- the system's numbers are in range, its names differ, each arc stands once and in order, and no limit is passed
+-- the system's numbers are in range, its names differ, its arcs are in order, each once, and no limit is passed
 pub record IsWellFormed (lts : System) : Type 0 where
   pub in_range : IsInRange lts
   pub state_names : AreNames lts.state_names

@@ -35,7 +35,7 @@ abbrev pub member_text : List ℕ → ℕ → ℕ → List ℕ
 member_text prefix i weight =
     if weight == 1 then place_name prefix i else decimal weight ++ codes "*" ++ place_name prefix i
 
--- a comma and a space, where a member stands before
+-- a comma and a space, if there is a member before
 abbrev pub comma_if : Bool → List ℕ
 comma_if later = if later then codes ", " else []
 

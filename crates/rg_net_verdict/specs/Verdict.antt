@@ -72,7 +72,7 @@ pub record AreTold (lts : System) (net : Net) (tree : List Arc) (h : ℕ → Mar
   pub have : HaveMarkings lts net tree h
   pub differ : AllDiffer lts h
 
--- what is told of a net: the verdict, or where the judge stops
+-- the result for a net: the verdict, or where the judge stops
 abbrev pub Told : Type 0
 Told = Result NetVerdict CheckWide
 

@@ -36,7 +36,7 @@ AreNumbers label_names [] [] = Unit {0}
 AreNumbers label_names (t ∷ transitions) (n ∷ numbers) = (slice_get label_names n ≡ Some t.label) × AreNumbers label_names transitions numbers
 AreNumbers label_names _ _ = ⊥
 
--- how often each of so many numbers stands in the list
+-- how often each of so many numbers occurs in the list
 pub record AreCounts (labels : ℕ) (numbers counts : List ℕ) : Type 0 where
   pub many : length counts ≡ labels
   pub each : (k : ℕ) → k < labels → slice_index counts k ≡ count_by (λ n. n == k) numbers

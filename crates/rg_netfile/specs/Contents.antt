@@ -26,7 +26,7 @@ transition_names d = map (λ (t : Transition). t.name.text) d.transitions
 abbrev pub is_among : List (List ℕ) → List ℕ → Bool
 is_among names name = list_any (bytes_eq name) names
 
--- how many tokens a member stands for: as many as its number says, and one where it has none
+-- how many tokens a member means: its number, or one if it has none
 abbrev pub count_of : Option Lexeme → ℕ
 count_of None = 1
 count_of (Some number) = digits_value 10 number.text
@@ -36,7 +36,7 @@ abbrev pub first_token : Option Lexeme → Lexeme → Lexeme
 first_token None place = place
 first_token (Some number) place = number
 
--- where a member stands
+-- the place of a member in the text
 abbrev pub member_at : Member → ℕ
 member_at m = (first_token m.number m.place).at
 

@@ -7,7 +7,7 @@ use Rattle.rg_lexer.specs.Lexeme.{Lexeme}
 use Rattle.rg_items.specs.Entry.{Setting, alone, valued, Entry, value_text}
 use Rattle.rg_netitems.specs.Item.{Member, Flow, Item, type, places, transitions, flows, marking}
 
--- a transition, and the label that it stands for
+-- a transition and its label
 pub record Transition : Type 0 where
   pub name : Lexeme
   pub label : List ℕ

@@ -70,7 +70,7 @@ member_by (after_name name) RightBrace x = Some (record { number = None; place =
 member_by (after_star number) Name x = Some (record { number = Some number; place = x })
 member_by _ _ _ = None
 
--- what is found with a token that stands at a position
+-- what is found after a token at a position
 abbrev pub adds_by : Position → Kind → Lexeme → Progress → Progress
 adds_by type_name Name x d = record d { typed = true }
 adds_by (in_section s) Name x d = with_name s x d

@@ -1,4 +1,4 @@
--- The grammar of net files as a table: where a token may stand, where it leads, and what is wanted instead.
+-- The grammar of net files as a table: where each token is allowed, the position that follows it, and what is expected where it isn't allowed.
 use Rattle.std.specs.Prelude.{ℕ, Bool, true, false, ◌||◌, List, Option, None, Some, codes, if◌then◌else◌}
 use Rattle.std.specs.List.{list_all}
 use Rattle.std.specs.Char.{is_ascii_digit}

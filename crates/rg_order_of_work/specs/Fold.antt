@@ -1,4 +1,4 @@
--- Computations that stop at their first step out of range, told by the results that they have.
+-- Computations that stop at their first step out of range, given by their results.
 use Rattle.std.specs.Prelude.{◌≡◌, ◌≢◌, ◌⊎◌, Bool, true, false, List, [], ◌∷◌, ℤ, pos, ◌+ℤ◌, ◌*ℤ◌, ◌<ℤ◌, unsigned_abs, int_div, Result, Ok, Err}
 use Rattle.std.specs.Int.{IsGcd}
 use Rattle.rg_integers.specs.declared.term.Wide.{Wide}

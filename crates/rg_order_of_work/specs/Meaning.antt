@@ -22,7 +22,7 @@ use Rattle.rg_order_of_work.specs.Values.{column_values, UnusedAreZero, RowIsMet
 use Rattle.rg_refuting.specs.declared.RowName.TheVariants as row_name
 use Rattle.rg_refuting.specs.declared.Variable.TheVariants.{Tokens, Effect}
 
--- a row that stands in a case and is not among the names of its system: an arc's; the tokens of a state where Start is
+-- a row that is allowed in a case and is not among the names of its system: an arc's; the tokens of a state where Start is
 -- no column, or of a number that is no state; and rows of the effect of a label without an arc, which is 0
 abbrev pub IsLeftOut : System → Class → RowName → Type 0
 IsLeftOut lts class (row_name.Arc a) = Unit {0}
@@ -42,7 +42,7 @@ value_over scale x e = value_in x e.terms +ℤ (e.constant *ℤ scale)
 abbrev pub RowHolds : System → Class → Problem → ℕ → ℤ → (Variable → ℤ) → RowName → Type 0
 RowHolds lts class problem number scale x name = Says name (value_over scale x (row_expression lts class problem number [] name))
 
--- every row that stands in the case holds of the numbers over the scale
+-- every row that is allowed in the case holds of the numbers over the scale
 abbrev pub KeepsRowsOver : System → Class → Problem → ℕ → ℤ → (Variable → ℤ) → Type 0
 KeepsRowsOver lts class problem number scale x = (name : RowName) → RowStands lts class problem number [] name → RowHolds lts class problem number scale x name
 
@@ -50,7 +50,7 @@ abbrev pub IsTokensRow : RowName → Type 0
 IsTokensRow (row_name.Tokens q) = Unit {0}
 IsTokensRow name = ⊥
 
--- every row that stands in the case does, but those of tokens
+-- every row that is allowed in the case does, but those of tokens
 abbrev pub KeepsAllButTokens : System → Class → Problem → ℕ → ℤ → (Variable → ℤ) → Type 0
 KeepsAllButTokens lts class problem number scale x = (name : RowName) → RowStands lts class problem number [] name → ¬ IsTokensRow name → RowHolds lts class problem number scale x name
 

@@ -122,7 +122,7 @@ scaled_fold numbers = and_then (multiple_of_all (map (λ r. r.bottom) numbers)) 
 abbrev pub terms_fold : Setting → List Term → Result Scaled Wide → Type 0
 terms_fold s terms = and_then (substitute_fold (labels s.lts) s.basis (count_of s.tree terms)) (λ free. scaled_fold (columns_of s.lts s.basis s.class (start_of terms) free))
 
--- a row of the system: the named row that it stands for, and the factor from that to it
+-- a row of the system: the named row that it is a multiple of, and the factor
 pub record KeptRow : Type 0 where
   pub name : RowName
   pub row : LinearRow

@@ -30,7 +30,7 @@ pub data Stage : Type 0 where
   place : Stage
   spread : Stage
 
--- a term out of range and where it stands; what a stage does not use is 0, an empty list or None
+-- a term out of range and its place; a field that a stage does not use is 0, an empty list or None
 pub record Shown : Type 0 where
   pub stage : Stage
   pub problem : Option Problem
@@ -43,7 +43,7 @@ pub record Shown : Type 0 where
   pub entry : ℕ
   pub wide : Wide
 
--- it stands where the walk or the descent was stopped
+-- its place is where the walk or the descent stopped
 pub record StandsAt (w : Shown) (at : WideAt) : Type 0 where
   pub members : w.members ≡ at.members
   pub pivot : w.pivot_variable ≡ at.pivot
@@ -52,7 +52,7 @@ pub record StandsAt (w : Shown) (at : WideAt) : Type 0 where
   pub entry : w.entry ≡ at.entry
   pub wide : w.wide ≡ at.term
 
--- it stands at no exchange
+-- its place is at no exchange
 pub record StandsNowhere (w : Shown) : Type 0 where
   pub members : w.members ≡ []
   pub pivot : w.pivot_variable ≡ 0
@@ -65,7 +65,7 @@ abbrev pub IsLive : System → Problem → Type 0
 IsLive lts (Event s t) = ¬ IsDead lts t
 IsLive lts (States s s') = Unit {0}
 
--- it stands in this case of a problem of the system
+-- its place is in this case of a problem of the system
 pub record StandsIn (lts : System) (class : Class) (w : Shown) (problem : Problem) : Type 0 where
   pub problem_is : w.problem ≡ Some problem
   pub has : IsProblem lts problem

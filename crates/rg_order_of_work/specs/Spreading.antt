@@ -59,7 +59,7 @@ share_fold case form_sides above w = and_then (mul (whole w.multiplier) (factor_
 
 -- ---- chords
 
--- a named row beside a dependent label
+-- a named row with a dependent label
 pub record Pair : Type 0 where
   pub share : Share
   pub label : ℕ

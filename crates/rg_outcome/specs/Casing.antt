@@ -23,7 +23,7 @@ pub data CaseResult : Type 0 where
 
 -- ---- the leaves of a tree, in order
 
--- a step out of range, and the splits above the leaf in which it stands
+-- a step out of range, and the splits above its leaf
 pub record LeafWide : Type 0 where
   pub above : List SplitSide
   pub wide : Wide

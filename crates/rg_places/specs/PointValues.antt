@@ -18,7 +18,7 @@ use Rattle.rg_order_of_work.specs.Meaning.{IsCaseOver, first_column}
 abbrev pub ratios_of : List Fraction → List Ratio
 ratios_of point = map ratio_of point
 
--- the number beside a label, 0 where it has none
+-- the number at the index of a label, 0 if it has none
 abbrev pub ratio_beside : List ℕ → List Ratio → ℕ → Ratio
 ratio_beside [] ratios f = whole (pos 0)
 ratio_beside (x ∷ labels) [] f = whole (pos 0)

@@ -27,7 +27,7 @@ values_in columns = map (λ c. ratio_of c.value) columns
 abbrev pub value_by : List Column → ℕ → Ratio
 value_by columns = ratio_beside (labels_in columns) (values_in columns)
 
--- the label stands at the column's place among the free labels
+-- the label is the free label with the column's index
 pub record IsPlaced (free : List ℕ) (c : Column) : Type 0 where
   pub within : c.index < length free
   pub label_is : slice_index free c.index ≡ c.label

@@ -1,4 +1,4 @@
--- The trees of certificates, and the lists of nodes that stand for them.
+-- The trees of certificates, and the lists of nodes that write them down.
 use Rattle.std.specs.Prelude.{◌≡◌, List, [], ◌∷◌, ◌++◌, map, ℤ}
 use Rattle.rg_refuting.specs.declared.RowName.{RowName}
 use Rattle.rg_refuting.specs.declared.Form.{Form}
@@ -22,7 +22,7 @@ abbrev pub joined : Form → ℤ → List Tree → List Tree
 joined form at (low ∷ high ∷ more) = split form at low high ∷ more
 joined form at trees = trees
 
--- the trees whose nodes stand one after the other
+-- the trees whose nodes are listed one after the other
 abbrev pub trees_of : List TreeNode → List Tree
 trees_of [] = []
 trees_of (leaf_node rows ∷ more) = leaf rows ∷ trees_of more

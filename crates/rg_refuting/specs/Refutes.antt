@@ -40,7 +40,7 @@ pub record IsSmall (expression : RowName → Expression) (rows : List NamedRow) 
   pub coefficients : (v : Variable) → sum_by (λ r. nat_abs (r.multiplier *ℤ coefficient_in (expression r.name).terms v)) rows ≤ greatest
   pub constants : sum_by (λ r. nat_abs (r.multiplier *ℤ (expression r.name).constant)) rows ≤ greatest
 
--- the rows stand, and their sum says that a negative number is at least 0
+-- the rows are allowed there, and their sum says that a negative number is at least 0
 pub record LeafRefutes (stands : RowName → Type 0) (expression : RowName → Expression) (rows : List NamedRow) : Type 0 where
   pub stand : All (λ r. stands r.name) rows
   pub positive : All (λ r. IsMultiplier r.multiplier r.name) rows

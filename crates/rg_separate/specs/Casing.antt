@@ -67,7 +67,7 @@ abbrev pub NodeStands : LinearSystem → List Form → List SplitSide → TreeNo
 NodeStands system forms above (leaf_node weights) = AreRefuting (node_system system forms above) weights
 NodeStands system forms above (split_node f u) = (f < length forms) × ((form_at forms f).low ≤ℤ u)
 
--- and so few splits on the forms stand above it as the bounds allow
+-- and there are at most as many splits on the forms above it as the bounds allow
 pub record VisitStands (system : LinearSystem) (forms : List Form) (v : Visit) : Type 0 where
   pub sides : AreSidesOf forms v.above
   pub few : length v.above < 2 ^ 32

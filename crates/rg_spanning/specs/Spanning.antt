@@ -16,7 +16,7 @@ pub record Spanning : Type 0 where
 abbrev pub order_of : Spanning → List ℕ
 order_of t = t.initial ∷ map (λ a. a.to) t.arcs
 
--- the tree is that of the system, and the chords are the arcs beside it
+-- the tree is that of the system, and the chords are all other arcs
 pub record IsTreeOf (lts : System) (grown : Spanning) : Type 0 where
   pub states : grown.states ≡ states lts
   pub labels : grown.labels ≡ labels lts

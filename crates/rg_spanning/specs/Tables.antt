@@ -1,4 +1,4 @@
--- What is kept beside a spanning tree: by which arc each state is entered, and how often each label stands on the way to it.
+-- What is kept with a spanning tree: by which arc each state is entered, and how often each label occurs on the way to it.
 use Rattle.std.specs.Prelude.{◌≡◌, ◌≢◌, ℕ, ◌<◌, List, ◌∷◌, length, map, Option, None, Some, Contains, All, is_some, true, slice_index, slice_index_or}
 use Rattle.rg_theory.specs.declared.Arc.{Arc}
 use Rattle.rg_theory.specs.Tree.{parikh}

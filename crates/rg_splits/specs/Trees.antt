@@ -7,7 +7,7 @@ pub data Tree (L F : Type 0) : Type 0 where
   leaf : L → Tree L F
   split : F → ℤ → Tree L F → Tree L F → Tree L F
 
--- a node of a tree, without what stands below it
+-- a node of a tree, without what is below it
 pub data TreeNode (L F : Type 0) : Type 0 where
   leaf_node : L → TreeNode L F
   split_node : F → ℤ → TreeNode L F
@@ -28,7 +28,7 @@ pub record PlacedNode (L F : Type 0) : Type 0 where
   pub above : List (Side F)
   pub node : TreeNode L F
 
--- the nodes of a tree in preorder, where the tree stands below the sides
+-- the nodes in preorder of a tree below the sides
 abbrev pub placed_nodes : {L F : Type 0} → List (Side F) → Tree L F → List (PlacedNode L F)
 placed_nodes above (leaf l) = record { above = above; node = leaf_node l } ∷ []
 placed_nodes above (split form at low high) =

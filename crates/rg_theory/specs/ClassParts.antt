@@ -1,7 +1,7 @@
 -- Texts of classes, word by word.
 use Rattle.std.specs.Prelude.{◌≢◌, ℕ, List, [], ◌∷◌, ◌++◌, codes}
 
--- a text of words with one more; a comma stands between
+-- a text of words with one more, after a comma
 abbrev pub with_word : List ℕ → List ℕ → List ℕ
 with_word [] word = word
 with_word (b ∷ text) word = (b ∷ text) ++ 44 ∷ word

@@ -59,7 +59,7 @@ abbrev pub with_conditions : Class → List Condition → Class
 with_conditions class [] = class
 with_conditions class (c ∷ conditions) = with_conditions (with_condition class c) conditions
 
--- what stands between the commas
+-- the parts between the commas
 abbrev pub class_words : List ℕ → List (List ℕ)
 class_words text = slice_split (λ b. b == 44) text
 
@@ -88,7 +88,7 @@ pub record IsBadNumeral (digits : List ℕ) : Type 0 where
   pub all : list_all is_ascii_digit digits ≡ true
   pub none : (k : ℕ) → 0 < k → k ≤ 255 → digits ≢ decimal k
 
--- what stands after the number of a word
+-- what follows the number of a word
 abbrev pub IsTail : List ℕ → Type 0
 IsTail tail = (tail ≡ codes "-bounded") ⊎ (tail ≡ codes "-marking")
 

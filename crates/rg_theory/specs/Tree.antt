@@ -32,12 +32,12 @@ ways_from way (a ∷ tree) = ways_from (λ s. if s == a.to then (way a.from ++ a
 abbrev pub way_to : List Arc → ℕ → List ℕ
 way_to tree = ways_from (λ s. []) tree
 
--- how often the label stands in the list
+-- how often the label occurs in the list
 abbrev pub count : ℕ → List ℕ → ℕ
 count t [] = 0
 count t (u ∷ us) = (if t == u then 1 else 0) + count t us
 
--- how often label t stands on the way to s
+-- how often label t occurs on the way to s
 abbrev pub parikh : List Arc → ℕ → ℕ → ℕ
 parikh tree s t = count t (way_to tree s)
 

@@ -36,11 +36,11 @@ IsVariableBefore (Tokens q) (Effect t) = Unit {0}
 IsVariableBefore (Effect t) (Tokens q) = ⊥
 IsVariableBefore (Effect t) (Effect u) = t < u
 
--- the row stands, and has a positive multiplier where it owes one
+-- the row is allowed there, and has a positive multiplier where one is required
 abbrev pub IsRightRow : (RowName → Type 0) → NamedRow → Type 0
 IsRightRow stands r = stands r.name × IsMultiplier r.multiplier r.name
 
--- the rows stand with their multipliers, and no sum of absolute values passes
+-- the rows are allowed there with their multipliers, and no sum of absolute values is out of range
 pub record AreSummed (stands : RowName → Type 0) (expression : RowName → Expression) (rows : List NamedRow) : Type 0 where
   pub right : All (IsRightRow stands) rows
   pub small : IsSmall expression rows

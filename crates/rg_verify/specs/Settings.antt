@@ -6,7 +6,7 @@ use Rattle.rg_refuting.specs.Row.{RowStands, row_expression, Side}
 use Rattle.rg_refuting.specs.declared.RowName.{RowName}
 use Rattle.rg_reasons.specs.declared.problem_case.ProblemCase.{ProblemCase}
 
--- where a row stands
+-- the place of a row in a certificate
 abbrev pub StandsIn : System → ProblemCase → List Side → RowName → Type 0
 StandsIn lts case above = RowStands lts case.class case.problem case.number above
 

@@ -18,13 +18,13 @@ use Rattle.rg_words.specs.declared.fault.WordFault.TheVariants.{BadByte, TooMany
 abbrev pub Word : Type 0
 Word = List (List ℕ)
 
--- a label in a line, and the part of its word that stands before it
+-- a label in a line, and the part of its word before it
 pub record Use : Type 0 where
   pub line : ℕ
   pub before : Word
   pub label : List ℕ
 
--- the labels of a word, from one on, each with what stands before it
+-- the labels of a word, from one on, each with the part before it
 abbrev pub uses_from : ℕ → Word → Word → List Use
 uses_from n before [] = []
 uses_from n before (label ∷ labels) =

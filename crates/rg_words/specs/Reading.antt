@@ -30,7 +30,7 @@ pub record LeadsTo (prefixes_so_far : List Word) (names : List (List ℕ)) (step
   pub named : slice_get names step.1 ≡ Some label
   pub to : slice_get prefixes_so_far k ≡ Some (word ++ label ∷ [])
 
--- the arcs, with the numbers of what stands on them
+-- the arcs, as the numbers of their states and labels
 abbrev pub arcs_of : List Use → List Arc
 arcs_of all = map (arc_of (prefixes all) (label_names all)) all
 
@@ -70,7 +70,7 @@ pub record GoesTo (all before rest : List Use) : Type 0 where
   pub first : (f : WordFault) → IsFirst (faults_after use_fault before rest) f → IsFirst (faults_after use_fault [] all) f
   pub none : AreNone (faults_after use_fault before rest) → AreNone (faults_after use_fault [] all)
 
--- an index in a text: the uses before it are those of the tree, in which the word that it stands in has the state, and the rest is to come
+-- an index in a text: the uses before it are those of the tree, in which the word at the index has the state, and the rest follows
 pub record Stands (all rest : List Use) (word : Word) (names : List (List ℕ)) (steps : List (ℕ × ℕ)) (state : ℕ) : Type 0 where
   pub before : List Use
   pub goes : GoesTo all before rest
