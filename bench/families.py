@@ -2,30 +2,36 @@
 """Families of systems: writes one, or measures the program on all of them.
 
     bench/families.py write philosophers 6 > philosophers6.apt
-    bench/families.py run crates/regions/out/regions [none pure ..]
-    bench/families.py beside EARLIER crates/regions/out/regions [none pure ..]
-    bench/families.py speed EARLIER crates/regions/out/regions [none pure ..]
-    bench/families.py jobs crates/regions/out/regions [none pure ..]
-    bench/families.py threads crates/regions/out/regions [none pure ..]
+    bench/families.py write log 100 20 30 1 > log.apt
+    bench/families.py run PROGRAM [none pure ..]
+    bench/families.py compare EARLIER PROGRAM [none pure ..]
+    bench/families.py speed EARLIER PROGRAM [none pure ..]
+    bench/families.py jobs PROGRAM [none pure ..]
+    bench/families.py threads PROGRAM [none pure ..]
     bench/families.py blocks crates/solving_bench/out/solving_bench [none pure ..]
-    bench/families.py growth crates/regions/out/regions [none pure ..]
-    bench/families.py commands crates/regions/out/regions
-    bench/families.py pair EARLIER crates/regions/out/regions 15 ring:120 chain:120
+    bench/families.py growth PROGRAM [none pure ..]
+    bench/families.py commands PROGRAM
+    bench/families.py pair EARLIER PROGRAM 15 ring:120 chain:120
 
-`run` prints for each system and class (`none`, `pure`, `safe` and `pure,plain,safe`, unless classes are named) the status, the
-seconds, the peak memory as GNU time tells it, the numbers of states and of separation problems, how many places the net has or how
-many nodes (splits and leaves) the certificate's trees, and what err says. `beside` runs an earlier program first, and prints its
-seconds, memory and places in columns of their own: a program that prunes no places shows how many are found. `speed` runs both
-five times by turns on the systems of docs/performance.md, and prints the least and the middle processor seconds and the peak of memory of
-each, and says so where the bytes differ, which they never may. `jobs` prints the
-seconds and the memory with 1, 2, 4 and 16 jobs, and says so where the bytes differ, which they never may. `threads` prints the middle
-of five runs' seconds of the clock with 1, 2 and 4 jobs on the systems of docs/performance.md, by turns, and the seconds that four runs with one job
-each take beside each other, which tell what the machine's processors allow. `blocks` prints how many
-problems all blocks have, as a gate counts them, beside the places of the net: no kept place separated them when their block was
-formed, so no more are solved, and none of these twice but the one that is told. `growth` prints the least processor seconds of three
-runs for growing sizes, and the peak of memory. `commands` prints the least seconds and the peak of memory of `split`, `factor`, `check`,
-`verify`, `examine`, `isomorphic` and `convert` on some large systems. `pair` prints the middle seconds of the clock of so many runs by
-turns, of both programs with 1, 2 and 4 jobs. It is run by hand and is no test.
+PROGRAM is `regions`, as `rt run` makes it in crates/regions/out; EARLIER is that of an earlier commit. The classes are `none`, `pure`,
+`safe` and `pure,plain,safe`, unless some are named. It is run by hand and is no test.
+
+`write FAMILY NUMBER ..` prints a system as APT text. Most families take one number. `log RUNS LENGTH LABELS SEED` is the tree of the
+prefixes of random runs, `word LENGTH LABELS SEED` one random run.
+`run` prints the status, the seconds, the peak memory as GNU time gives it, the numbers of states and of separation problems, how many
+places the net has or how many nodes (splits and leaves) the certificate's trees have, and what is written to standard error.
+`compare` runs an earlier program first, and prints its seconds, memory and places in columns of their own.
+`speed` runs both programs five times by turns, and prints the least and the middle processor seconds and the peak of memory of each. It
+says so if the bytes differ, which they never may.
+`jobs` prints the seconds and the memory with 1, 2, 4 and 16 jobs, and says so if the bytes differ.
+`threads` prints the middle of five runs' seconds of the clock with 1, 2 and 4 jobs, by turns, and the seconds of four simultaneous runs
+with one job each, which show how much the machine's processors slow each other down.
+`blocks` prints how many problems all blocks have, as a gate counts them, and the places of the net: no kept place separated such a
+problem when its block was formed, so no more problems are solved.
+`growth` prints the least processor seconds of three runs for growing sizes, and the peak of memory.
+`commands` prints the least seconds and the peak of memory of `split`, `factor`, `check`, `verify`, `examine`, `isomorphic` and `convert` on
+some large systems.
+`pair` prints the middle seconds of the clock of so many runs by turns, of both programs with 1, 2 and 4 jobs.
 
 The systems `grid`, `doubling` and `lock` come from `generate` of the program (the last one named); the others are written here.
 """
@@ -69,7 +75,7 @@ def star(n):
     return [f's{i}' for i in range(n + 1)], [f't{i}' for i in steps], [('s0', f't{i}', f's{i}') for i in steps]
 
 
-def word(n):
+def turns(n):
     """Twelve labels in turn, one word of so many letters."""
     labels = [f'x{i}' for i in range(12)]
     return [f's{i}' for i in range(n + 1)], labels, [(f's{i}', labels[i % 12], f's{i+1}') for i in range(n)]
@@ -117,8 +123,8 @@ def torus(n):
     return states, [f'a{i}' for i in range(n)] + [f'b{j}' for j in range(n)], arcs
 
 
-def runs(count, length, labels, seed):
-    """A log: so many random runs of so many labels, as the tree of their prefixes."""
+def log(count, length, labels, seed):
+    """So many random runs of so many labels, as the tree of their prefixes."""
     rnd = random.Random(seed)
     states, arcs, children = ['s0'], [], {}
     for _ in range(count):
@@ -131,6 +137,11 @@ def runs(count, length, labels, seed):
                 arcs.append((*step, children[step]))
             at = children[step]
     return states, [f't{i}' for i in range(labels)], arcs
+
+
+def word(length, labels, seed):
+    """One random run."""
+    return log(1, length, labels, seed)
 
 
 def halves(n):
@@ -154,10 +165,10 @@ def halves(n):
 
 GENERATED = ('grid', 'doubling', 'lock')
 CLASSES = ('none', 'pure', 'safe', 'pure,plain,safe')
-FAMILIES = {'philosophers': philosophers, 'star': star, 'word': word, 'prefixes': prefixes, 'chain': chain, 'ring': ring,
-            'rings': rings, 'halves': halves, 'torus': torus}
+FAMILIES = {'philosophers': philosophers, 'star': star, 'turns': turns, 'prefixes': prefixes, 'chain': chain, 'ring': ring,
+            'rings': rings, 'halves': halves, 'torus': torus, 'log': log, 'word': word}
 SIZES = {'grid': (10, 20, 40, 63), 'lock': (2, 3, 4, 5, 6), 'doubling': (20, 40, 100, 127), 'philosophers': (3, 4, 5, 6),
-         'star': (40, 120), 'word': (60, 200), 'prefixes': (10, 30), 'chain': (60, 120), 'ring': (60, 120), 'rings': (3, 4),
+         'star': (40, 120), 'turns': (60, 200), 'prefixes': (10, 30), 'chain': (60, 120), 'ring': (60, 120), 'rings': (3, 4),
          'halves': (42,)}
 
 
@@ -346,8 +357,8 @@ def commands(program):
 
         for family, n in (('star', 120), ('torus', 64)):
             put(f'{family}{n}.apt', written(program, family, n))
-        put('log.apt', text(*runs(50, 20, 13, 1)))
-        put('random.apt', text(*runs(30, 12, 10, 2)))
+        put('log.apt', text(*log(50, 20, 13, 1)))
+        put('random.apt', text(*log(30, 12, 10, 2)))
         for name in ('star120', 'torus64'):
             put(f'{name}.net', subprocess.run([program, 'synthesize', 'none', f'{name}.apt'], capture_output=True).stdout)
             show(f'check none {name}', 'check', 'none', f'{name}.apt', f'{name}.net')
@@ -357,8 +368,8 @@ def commands(program):
         show('split log of 50 runs of 20 out of 13 labels', 'split', 'log.apt')
         show('split log of 30 runs of 12 out of 10 labels', 'split', 'random.apt')
         states = [f's{i}' for i in range(1024)]
-        turns = [(f's{i}', f't{i % 64}', f's{(i + 1) % 1024}') for i in range(1024)]
-        put('turns.apt', text(states, [f't{i}' for i in range(64)], turns))
+        around = [(f's{i}', f't{i % 64}', f's{(i + 1) % 1024}') for i in range(1024)]
+        put('turns.apt', text(states, [f't{i}' for i in range(64)], around))
         put('turns.cert', show('synthesize output-nonbranching, 16 turns of 64 labels', 'synthesize', 'output-nonbranching', 'turns.apt'))
         show('verify its certificate', 'verify', 'turns.apt', 'turns.cert')
         forked = [(f's{i}', f't{k}', f's{(i * 7 + k * 13 + j) % 4096}') for i in range(64) for k in range(32) for j in range(64)]
@@ -396,8 +407,8 @@ def blocks(program, classes):
 
 def main():
     words = sys.argv[1:]
-    if len(words) == 3 and words[0] == 'write' and words[1] in FAMILIES:
-        sys.stdout.write(text(*FAMILIES[words[1]](int(words[2]))))
+    if len(words) >= 3 and words[0] == 'write' and words[1] in FAMILIES:
+        sys.stdout.write(text(*FAMILIES[words[1]](*map(int, words[2:]))))
     elif len(words) >= 2 and words[0] == 'run':
         run(words[1:2], words[2:] or CLASSES)
     elif len(words) >= 2 and words[0] == 'jobs':
@@ -412,7 +423,7 @@ def main():
         commands(os.path.abspath(words[1]))
     elif len(words) >= 5 and words[0] == 'pair':
         pair([os.path.abspath(word) for word in words[1:3]], int(words[3]), words[4:], CLASSES)
-    elif len(words) >= 3 and words[0] == 'beside':
+    elif len(words) >= 3 and words[0] == 'compare':
         run(words[1:3], words[3:] or CLASSES)
     elif len(words) >= 3 and words[0] == 'speed':
         speed(words[1:3], words[3:] or CLASSES)

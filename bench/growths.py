@@ -7,7 +7,8 @@
 Each case below is run without a refusal first. Then its Nth growth is refused: the run has to end with status 7 and nothing
 written, or as without the refusal. `all` preloads a shim that counts the calls of `malloc` and `realloc` and lets the
 Nth give no memory; it takes every N up to the count, and of a case with more than 5,000 growths the first 2,000 and then every
-97th. A growth before `main` has its words counts too, and ends with 7. It needs a C compiler (`cc`). `try` has the toolchain
+97th. With more than one job the Nth growth may be another one in each run. A growth before `main` has its words counts too, and ends
+with 7. It needs a C compiler (`cc`). `try` has the toolchain
 refuse the growths (`rt try --fail-alloc N`, the numbers 1 to 20 unless some are named), which builds anew for each number: half a
 minute and more. Both print each N that is neither, and at last `N refusals, M failures`. It is run by hand and is no test.
 """
@@ -42,6 +43,44 @@ b: {p0} -> {}
 .initial_marking {p0}
 """
 
+# two arcs of one label leave s0
+FORK = """.type LTS
+.states
+s0[initial]
+s1
+s2
+.labels
+a
+b
+.arcs
+s0 a s1
+s0 a s2
+s2 b s0
+"""
+
+# two toggles that don't know of each other
+TOGGLES = """.type LTS
+.states
+s0[initial]
+s1
+s2
+s3
+.labels
+a
+b
+c
+d
+.arcs
+s0 a s1
+s1 b s0
+s0 c s2
+s2 d s0
+s1 c s3
+s3 d s1
+s2 a s3
+s3 b s2
+"""
+
 CERTIFICATE = """certificate 1
 class pure
 event s1 a
@@ -65,7 +104,7 @@ def doubling(n):
 
 
 FILES = {'side.apt': SIDE, 'side.net': NET, 'side.cert': CERTIFICATE, 'open.apt': '.type LTS /* x', 'aba.words': 'a b a',
-         'doubling.apt': doubling(127)}
+         'doubling.apt': doubling(127), 'fork.apt': FORK, 'toggles.apt': TOGGLES}
 
 CASES = [
     ['synthesize', 'none', 'side.apt'],
@@ -78,6 +117,20 @@ CASES = [
     ['selftest', '1'],
     [],
     ['synthesize', 'none', 'doubling.apt'],
+    ['synthesize', 'plain', 'toggles.apt'],
+    ['synthesize', '2-bounded', 'toggles.apt'],
+    ['synthesize', 'plain,output-nonbranching', 'side.apt'],
+    ['synthesize', '2-marking', 'side.apt'],
+    ['synthesize', 'pure', 'toggles.apt', '--jobs', '4'],
+    ['split', 'fork.apt'],
+    ['split', 'side.apt', '--jobs', '4'],
+    ['factor', 'toggles.apt'],
+    ['factor', 'toggles.apt', '--class', 'safe', '--jobs', '4'],
+    ['factor', 'side.apt'],
+    ['isomorphic', 'toggles.apt', 'side.apt'],
+    ['isomorphic', 'toggles.apt', 'toggles.apt'],
+    ['examine', 'fork.apt'],
+    ['examine', 'toggles.apt', '--json'],
 ]
 
 SHIM = r"""
@@ -89,7 +142,7 @@ SHIM = r"""
 #include <unistd.h>
 static long calls, fail = -1;
 static void *(*plain_malloc)(size_t), *(*plain_realloc)(void *, size_t);
-static int refused(void) { return ++calls == fail; }
+static int refused(void) { return __atomic_add_fetch(&calls, 1, __ATOMIC_RELAXED) == fail; }
 __attribute__((constructor)) static void begin(void) {
   plain_malloc = dlsym(RTLD_NEXT, "malloc"); plain_realloc = dlsym(RTLD_NEXT, "realloc");
   const char *number = getenv("FAIL_ALLOC"); calls = 0; if (number) fail = atol(number); }

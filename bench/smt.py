@@ -1,8 +1,8 @@
 #!/usr/bin/python3
-"""Synthesis by an SMT solver, a plain second way, and a table of the program beside it.
+"""Synthesis by an SMT solver, a plain second way, and a table that compares the program with it.
 
     bench/smt.py synthesize CLASS FILE [OUT]
-    bench/smt.py beside crates/regions/out/regions [SECONDS [FAMILY or CLASS ..]]
+    bench/smt.py compare crates/regions/out/regions [SECONDS [FAMILY or CLASS ..]]
     bench/smt.py agree crates/regions/out/regions [SYSTEMS [SEED]]
 
 It is written from docs/theory.md alone: unknown numbers for a place's start, for what each label takes and puts and for the tokens of
@@ -11,7 +11,7 @@ question for one that does. `synthesize` writes the net that they make, which `r
 first problem without a region (status 1); it prunes no place and gives no certificate. FILE is a system in the plain layout that the
 program writes. CLASS is as in docs/formats.md ("Classes").
 
-`beside` prints a table: for the families of bench/families.py, each in some sizes up to that of `families.py speed`, and each class
+`compare` prints a table: for the families of bench/families.py, each in some sizes up to that of `families.py speed`, and each class
 (none, pure, safe and pure,plain,safe; those that are named, if some are) the processor seconds, user and system, and behind them the MiB of memory
 at the peak, of the program and, after a stroke, of the solver. Where the solver takes more than SECONDS (100 unless a number is named)
 it isn't asked for larger sizes of that family and class. Each net of the solver is judged by `check`, and a no is compared with the
@@ -134,7 +134,7 @@ def net_text(labels, places):
     return '\n'.join([*lines, '.initial_marking ' + held([p.start for p in places])]) + '\n'
 
 
-# ---- beside the program
+# ---- compared with the program
 
 def spent(words, seconds=None):
     """The status, the processor seconds, the peak of memory in MiB and out of a run; it ends where it takes more than these seconds."""
@@ -172,7 +172,7 @@ def cell(program, word, path, seconds):
     return text + f'{mine[1]:.2f} ({mine[2]:.0f})', True, judged(program, word, path, net, mine, theirs)
 
 
-def beside(program, seconds, sizes_of, classes):
+def compare(program, seconds, sizes_of, classes):
     for line in (['system', 'states', 'problems', *classes], ['---'] * (3 + len(classes))):
         print('| ' + ' | '.join(line) + ' |', flush=True)
     notes = []
@@ -230,9 +230,9 @@ def main():
         with open(words[3], 'w') if words[3:] else sys.stdout as out:
             out.write(net_text(labels, places))
         return 0
-    if len(words) >= 2 and words[0] == 'beside':
+    if len(words) >= 2 and words[0] == 'compare':
         sizes_of = {family: SIZES[family] for family in words[3:] if family in SIZES} or SIZES
-        beside(os.path.abspath(words[1]), int(words[2]) if words[2:] else 100, sizes_of, [w for w in words[3:] if w not in SIZES] or CLASSES)
+        compare(os.path.abspath(words[1]), int(words[2]) if words[2:] else 100, sizes_of, [w for w in words[3:] if w not in SIZES] or CLASSES)
         return 0
     if 2 <= len(words) <= 4 and words[0] == 'agree':
         return not agree(os.path.abspath(words[1]), int(words[2]) if words[2:] else 300, int(words[3]) if words[3:] else 1)

@@ -8,6 +8,7 @@
 # that are printed. The manual page has no statuses and may leave output out: lines that follow a command are those of both outputs.
 # tools/check_certificate.py checks each system and certificate that a command line gives to `verify`, or that `synthesize` writes, and has
 # to answer the same yes or no as `verify`.
+# The script and the Makefile of docs/guide.md are run with a system that has a net, with one that has none, and with a broken file.
 # The last line is `N passed, M failed`. The status is 0 if nothing failed and at least `least` lines were tried.
 set -u
 top=$(cd "$(dirname "$0")/.." && pwd)
@@ -24,7 +25,7 @@ export PATH="$room/bin:$PATH"
 passed=0
 failed=0
 # how many lines the pages have at least; raise it when they get more
-least=178
+least=184
 
 # counts a result. Arguments: whether the result is right, the page, the command, what differs
 count() {
@@ -154,6 +155,19 @@ try "regions examine 2> /dev/null # status 2" '' docs/try.sh
 try "regions examine 2>&1 > /dev/null # status 2" 'usage: words refused' docs/try.sh
 try "regions generate doubling 127 > doubling; regions synthesize none doubling 2> /dev/null # status 4" '' docs/try.sh
 try "regions synthesize none doubling 2>&1 > /dev/null # status 4" 'too wide: cycle: 85070591730234615865843651857942052864 * 2 - 0 * 0' docs/try.sh
+
+# the block of a page that begins with a line, without its indent. Arguments: the page, the line
+block() { awk -v first="    $2" '$0 == first { on = 1 } on && $0 == "" { exit } on { print substr($0, 5) }' "$top/$1"; }
+block docs/guide.md 'status=0' > script
+try 'cp examples/lock2.apt system.apt; bash -e script; regions check pure system.apt system.net' yes docs/guide.md
+try 'cp examples/side.apt system.apt; bash -e script; regions verify system.apt system.cert' 'accepted: no net of class pure' docs/guide.md
+try "echo x > system.apt; bash -e script 2>&1 # status 2" "file 1: expected Section at 0
+status 3" docs/guide.md
+block docs/guide.md '.DELETE_ON_ERROR:' > Makefile
+try 'cp examples/lock2.apt good.apt; make -s good.net; regions check pure good.apt good.net' yes docs/guide.md
+try 'cp examples/side.apt bad.apt; make -s bad.net 2> /dev/null; ls bad.*' 'bad.apt
+bad.cert' docs/guide.md
+try 'echo x > broken.apt; make -s broken.net 2> /dev/null; ls broken.*' 'broken.apt' docs/guide.md
 echo "$passed passed, $failed failed"
 tried=$((passed + failed))
 [ "$tried" -ge "$least" ] || echo "tried $tried lines, expected $least at least"
