@@ -9,13 +9,12 @@ use Rattle.rg_integers.specs.declared.term.Wide.{Wide}
 use Rattle.rg_fraction.specs.declared.fraction.Fraction.{Fraction}
 use Rattle.rg_fraction.specs.Fractions.{numerator_of, denominator_of, IsValue, IsProduct}
 use Rattle.rg_order_of_work.specs.Fold.{and_then, each, further, Ratio, whole, ratio_of, shown_result, quotient, add, mul}
-use Rattle.rg_order_of_work.specs.Rewriting.{is_in, free_labels, dependent_labels, dependent_term, coefficient_fold}
+use Rattle.rg_order_of_work.specs.Rewriting.{is_in, free_labels, dependent_term, coefficient_fold}
 use Rattle.rg_integers.specs.Sum.{number_at}
 use Rattle.rg_linear.specs.Cycle.{CycleBasis}
 use Rattle.rg_cycles.specs.declared.relation.Relation.{Relation}
 use Rattle.rg_cycles.specs.Basis.{ShowsRelation}
-use Rattle.std.proofs.lemmas.Bool.{false≢true}
-use Rattle.rg_cycles.proofs.Labels.{in_set, not_in_set, FromWhere, where_from}
+use Rattle.rg_cycles.proofs.Labels.{in_set, not_in_set, where_from}
 use Rattle.rg_order_of_work.proofs.FoldLemmas.{new_step, mul_step}
 use Rattle.rg_order_of_work.proofs.Folding.{whole_is, further_next, further_unmade, further_unjoined, behind, each_next, each_fails, each_ends}
 
@@ -59,9 +58,6 @@ shows_length labels cycle t index r shows lt = subst (λ l. index < length l) (s
 abbrev pub AddsOn : ℕ → CycleBasis → List ℤ → ℕ → Ratio → List ℕ → Type 0
 AddsOn labels cycle counts f sum left = (r : Result Ratio Wide) → further add (dependent_term cycle (number_at counts) f) sum left r → coefficient_fold labels cycle (number_at counts) f r
 
-pub leads_start : (labels : ℕ) (cycle : CycleBasis) (counts : List ℤ) (f : ℕ) (sum : Ratio) (others : List ℕ) → others ≡ dependent_labels labels cycle → sum ≡ whole (number_at counts f) → AddsOn labels cycle counts f sum others
-leads_start labels cycle counts f sum others all e r h = subst (λ x. further add (dependent_term cycle (number_at counts) f) x (dependent_labels labels cycle) r) e (subst (λ l. further add (dependent_term cycle (number_at counts) f) sum l r) all h)
-
 module _ (labels : ℕ) (cycle : CycleBasis) (counts : List ℤ) (f : ℕ) (sum : Ratio) (others : List ℕ) (i : ℕ) (leads : AddsOn labels cycle counts f sum (drop i others)) where
   pub leads_end : length others ≤ i → coefficient_fold labels cycle (number_at counts) f (Ok sum)
   leads_end past = leads (Ok sum) (subst (λ l. further add (dependent_term cycle (number_at counts) f) sum l (Ok sum)) (sym (drop_all i others past)) refl)
@@ -77,17 +73,6 @@ module _ (labels : ℕ) (cycle : CycleBasis) (counts : List ℤ) (f : ℕ) (sum 
     pub passes_with : (w : Wide) → and_then (dependent_term cycle (number_at counts) f (slice_index others i)) (add sum) (Err w) → coefficient_fold labels cycle (number_at counts) f (Err w)
     passes_with w (inl made) = at (Err w) (further_unmade add (dependent_term cycle (number_at counts) f) (slice_index others i) (drop (i + 1) others) sum w made)
     passes_with w (inr (x, made, joins)) = at (Err w) (further_unjoined add (dependent_term cycle (number_at counts) f) (slice_index others i) (drop (i + 1) others) sum x w made joins)
-
--- a label that isn't free is a label, and no member
-module _ (labels : ℕ) (cycle : CycleBasis) (others : List ℕ) (i : ℕ) (all : others ≡ dependent_labels labels cycle) (lt : i < length others) where
-  among : FromWhere (λ t. not (is_in cycle.members t)) 0 labels (slice_index others i)
-  among = where_from (λ t. not (is_in cycle.members t)) 0 labels (slice_index others i) (subst (λ l. Contains l (slice_index others i)) all (Contains-get_or others i 0 lt))
-
-  pub other_below : slice_index others i < labels
-  other_below = let b = among.below in omega arith
-
-  pub other_outside : ¬ Contains cycle.members (slice_index others i)
-  other_outside has = false≢true (sym (is_free cycle (slice_index others i) has) ∙ among.passes)
 
 -- what a label adds to a sum, by the numbers that its relation shows
 pub stepped : (labels : ℕ) (cycle : CycleBasis) (counts : List ℤ) (t index : ℕ) (rel : Relation) (count : ℤ) (sum : Ratio) (r : Result Ratio Wide)

@@ -11,3 +11,4 @@ pub mod Equations
 pub mod Folding
 pub mod AddsNothing
 pub mod Entries
+pub mod Counted

@@ -5,7 +5,7 @@ ghost use Rattle.rg_integers.specs.Sum.{number_at};
 ghost use Rattle.rg_order_of_work.specs.Fold.{Comes, whole, ratio_of, shown_result, quotient, add, mul, and_then};
 ghost use Rattle.rg_order_of_work.specs.Rewriting.{is_in, free_labels, dependent_labels, coefficient_fold, substitute_fold};
 ghost use Rattle.rg_cycles.specs.Basis.{IsRelationInRange};
-ghost use Rattle.rg_cycles.specs.View.{labels_of, cycle_of};
+ghost use Rattle.rg_cycles.specs.View.{labels_of, cycle_of, counted_labels};
 
 use crate::basis::Basis;
 use crate::relation::Relation;
@@ -31,8 +31,8 @@ pub fn substitute(alloc: Global, basis: &Basis, counts: &[i128]) -> Result<FreeR
     requires in_range { (t : ℕ) → t < length counts.now → InRange (number_at counts.now t) }
     ensures { Comes (substitute_fold (labels_of basis.now) (cycle_of basis.now) (number_at counts.now)) (λ row. map ratio_of row.coeffs.items) result }
 {
-    let others = dependent(alloc, basis, counts.len() as u32)?;
-    let mut coeffs = Vec::new(alloc);
+    let others = counted(alloc, basis, counts)?;
+    let mut coeffs = Vec::with_capacity(alloc, basis.free().len())?;
     for index in 0..basis.free().len() {
         let sum = coefficient(basis, counts, &others, index)?;
         coeffs.push(sum)?;
@@ -54,6 +54,21 @@ pub fn dependent(alloc: Global, basis: &Basis, labels: u32) -> Result<Vec<u32>, 
     Ok(dependent)
 }
 
+// The labels that aren't free and whose count isn't 0, in order.
+fn counted(alloc: Global, basis: &Basis, counts: &[i128]) -> Result<Vec<u32>, AllocError>
+    requires counts { length counts.now ≡ labels_of basis.now }
+    requires in_range { (t : ℕ) → t < length counts.now → InRange (number_at counts.now t) }
+    ensures { IfOk result (λ v. v.items ≡ counted_labels basis.now (number_at counts.now)) }
+{
+    let mut counted = Vec::new(alloc);
+    for t in 0..counts.len() as u32 {
+        if counts[t as usize] != 0 && !is_free(basis, t) {
+            counted.push(t)?;
+        }
+    }
+    Ok(counted)
+}
+
 // Whether the label is free.
 fn is_free(basis: &Basis, t: u32) -> bool
     requires { t < labels_of basis.now }
@@ -65,7 +80,7 @@ fn is_free(basis: &Basis, t: u32) -> bool
     }
 }
 
-// The coefficient of the free label at this index; the others aren't free.
+// The coefficient of the free label at this index; the others are the labels that aren't free and whose count isn't 0.
 fn coefficient(
     basis: &Basis,
     counts: &[i128],
@@ -74,7 +89,7 @@ fn coefficient(
 ) -> Result<Fraction, Wide>
     requires counts { length counts.now ≡ labels_of basis.now }
     requires in_range { (t : ℕ) → t < length counts.now → InRange (number_at counts.now t) }
-    requires others { others.now ≡ dependent_labels (labels_of basis.now) (cycle_of basis.now) }
+    requires others { others.now ≡ counted_labels basis.now (number_at counts.now) }
     requires index { index < length (free_labels (labels_of basis.now) (cycle_of basis.now)) }
     ensures { coefficient_fold (labels_of basis.now) (cycle_of basis.now) (number_at counts.now) (slice_index (free_labels (labels_of basis.now) (cycle_of basis.now)) index) (shown_result ratio_of result) }
 {
@@ -89,7 +104,7 @@ fn coefficient(
 }
 
 // The sum with what a label with this relation and this count adds to the coefficient of the free label at this index. A
-// count of 0 and a number of 0 add nothing.
+// number of 0 adds nothing.
 fn with_term(
     sum: Fraction,
     relation: &Relation,
@@ -101,9 +116,6 @@ fn with_term(
     requires relation_in_range { IsRelationInRange relation.now }
     ensures { and_then (and_then (quotient (number_at relation.now.free.items index) relation.now.d) (mul (whole count))) (add (ratio_of sum)) (shown_result ratio_of result) }
 {
-    if count == 0 {
-        return Ok(sum);
-    }
     if relation.free[index] == 0 {
         return Ok(sum);
     }

@@ -26,7 +26,7 @@ smaller (negsuc a) n h = let l : suc a / n ≤ suc a = div-le_self (suc a) n in 
 
 -- ---- every quotient of numbers in range has a value, with numbers in range
 
-abbrev SomeQuotient : ℤ → ℤ → Type 0
+abbrev pub SomeQuotient : ℤ → ℤ → Type 0
 SomeQuotient n d = (k : Ratio) × IsRatio k n d × IsWithin k
 
 positive_quotient : (n d : ℤ) → pos 0 <ℤ d → InRange n → InRange d → SomeQuotient n d
@@ -64,7 +64,7 @@ turned_quotient n d ne (k, h, within) = (
     back : (p q : ℤ) → SameValue p q (neg_ℤ n) (neg_ℤ d) → SameValue p q n d
     back p q e = sym (rw (twice n, twice d) at (SameValue-neg p q (neg_ℤ n) (neg_ℤ d) (sym e)))
 
-some_quotient : (n d : ℤ) → d ≢ pos 0 → InRange n → InRange d → SomeQuotient n d
+pub some_quotient : (n d : ℤ) → d ≢ pos 0 → InRange n → InRange d → SomeQuotient n d
 some_quotient n (pos zero) ne hn hd = absurd (ne refl)
 some_quotient n (pos (suc d)) ne hn hd = positive_quotient n (pos (suc d)) (above d) hn hd
   where

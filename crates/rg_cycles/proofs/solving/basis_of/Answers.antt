@@ -1,4 +1,4 @@
-use Rattle.std.proofs.Common.{refl, subst}
+use Rattle.std.proofs.Common.{subst}
 use Rattle.std.proofs.lemmas.List.{length-map}
 use Rattle.rg_linear.specs.Cycle.{IsCycleBasis}
 use Rattle.rg_cycles.specs.Vectors.{vectors_by}

@@ -5,14 +5,8 @@ use Rattle.rg_integers.proofs.Order.{positive_differs}
 use Rattle.std.proofs.lemmas.List.{get_or_default}
 use Rattle.rg_order_of_work.specs.Fold.{and_then, whole, ratio_of, quotient, mul}
 use Rattle.rg_order_of_work.proofs.FoldLemmas.{add_step}
-use Rattle.rg_cycles.proofs.AddsNothing.{count_passed_over, entry_passed_over, term_added}
+use Rattle.rg_cycles.proofs.AddsNothing.{entry_passed_over, term_added}
 use Rattle.rg_cycles.proofs.substitution.with_term.Goals as goal
-
-pub returns-then-count-eq0 : goal.returns-then-count-eq0
-returns-then-count-eq0 c =
-    count_passed_over (number_at c.args.relation.now.free.items c.args.index) c.args.relation.now.d c.args.count c.args.sum
-    c.requires.count_in_range c.if-count-eq0.true (positive_differs _ c.requires.relation_in_range.positive)
-    (c.requires.relation_in_range.free c.args.index) c.requires.relation_in_range.d
 
 pub returns-then-index-eq0 : goal.returns-then-index-eq0
 returns-then-index-eq0 c =
