@@ -10,15 +10,12 @@ use Rattle.rg_net.specs.declared.class_break.ClassBreak.{ClassBreak}
 use Rattle.rg_net.specs.declared.class_break.ClassBreak.TheVariants.{NotPure, NotPlain, Over, Branching, NotMultiple}
 use Rattle.rg_net.specs.ClassBreaks.{AreInClass, IsBreak, IsBreakBefore, IsFirstBreak, place_of}
 use Rattle.rg_net.proofs.Placing.{placed_more}
+use Rattle.rg_net.proofs.Overs.{not_over}
 
 -- the places below i are of the class
 pub record InClassBefore (net : Net) (markings : List Marking) (class : Class) (i : ℕ) : Type 0 where
   pub weights : (j : ℕ) (p : Place) → j < i → IsPlaceAt net j p → IsPlaceInClass class net.labels p
   pub bounded : (j : ℕ) (p : Place) → j < i → IsPlaceAt net j p → (s : ℕ) (m : Marking) → slice_get markings s ≡ Some m → IfSome class.bound (λ k. tokens m j ≤ k)
-
-not_over : (bound : Option ℕ) (n : ℕ) → IsSomeAnd bound (λ k. k < n) → IfSome bound (λ k. n ≤ k) → ⊥
-not_over None n over most = over
-not_over (Some k) n over most = absurd (omega arith)
 
 not_multiple : (marking : Option ℕ) (start : ℕ) → IsSomeAnd marking (λ n. ¬ IsMultiple n start) → IfSome marking (λ n. IsMultiple n start) → ⊥
 not_multiple None start none all = none

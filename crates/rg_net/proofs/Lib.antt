@@ -7,4 +7,5 @@ mod Multiples
 pub mod Placing
 mod Moving
 pub mod Rows
+pub mod Overs
 pub mod Breaking

@@ -3,3 +3,4 @@ pub mod Range
 pub mod NetText
 pub mod Firing
 pub mod ClassBreaks
+pub mod Overs

@@ -1,10 +1,11 @@
 //! Where a net leaves a class.
-ghost use Rattle.std.specs.Prelude.{◌≡◌, ℕ, ◌<◌, ◌≤◌, length, All, Some, IfSome, IfNone, IfErr, OnOk, slice_get};
-ghost use Rattle.rg_theory.specs.Net.{Marking, IsPlaceAt, tokens};
+ghost use Rattle.std.specs.Prelude.{◌≡◌, ℕ, ◌<◌, ◌≤◌, List, length, All, IfSome, IfNone, IfErr, OnOk};
+ghost use Rattle.rg_theory.specs.Net.{Marking, IsPlaceAt};
 ghost use Rattle.rg_theory.specs.Class.{IsPlaceInClass};
 ghost use Rattle.rg_net.specs.Range.{IsNetInRange};
 ghost use Rattle.rg_net.specs.Shown.{shown_place};
 ghost use Rattle.rg_net.specs.ClassBreaks.{AreInClass, IsFirstBreak, IsBreak, IsBreakBefore, shown_markings, place_of};
+ghost use Rattle.rg_net.specs.Overs.{IsFirstOver};
 
 use crate::net::{Net, Place};
 use crate::weights::{first_heavy, first_impure, first_over, first_two_takers, is_multiple};
@@ -36,30 +37,32 @@ pub fn in_class(net: &Net, markings: &[Vec<u128>], class: Class) -> Result<(), C
     ensures first { IfErr result (IsFirstBreak net.now (shown_markings markings.now) class) }
 {
     let places = net.places();
+    let over = first_over(markings, places.len() as u32, class.bound);
     for (i, place) in places.iter().enumerate() {
-        if let Some(first) = first_at(net, markings, class, i as u32, place) {
+        if let Some(first) = first_at(net, class, over, i as u32, place) {
             return Err(first);
         }
     }
     Ok(())
 }
 
-// The first break at the place with this number.
+// The first break at the place with this number. Of the markings it is given the first place with more tokens than the bound,
+// which doesn't come before, and the first marking that shows it.
 fn first_at(
     net: &Net,
-    markings: &[Vec<u128>],
     class: Class,
+    over: Option<(u32, u32)>,
     i: u32,
     place: &Place,
 ) -> Option<ClassBreak>
     requires in_range { IsNetInRange net.now }
     requires at { IsPlaceAt net.now i (shown_place place.now) }
-    requires places { All (λ m. length m ≡ length net.now.places) (shown_markings markings.now) }
-    requires few { length markings.now < 4294967296 }
-    ensures breaks { IfSome result (IsBreak net.now (shown_markings markings.now) class) }
-    ensures first { IfSome result (λ b. (place_of b ≡ i) × ((a : ClassBreak) → place_of a ≡ i → IsBreakBefore a b → ¬ IsBreak net.now (shown_markings markings.now) class a)) }
+    requires ahead { IfSome over (λ f. i ≤ f.0) }
+    ensures breaks { IfSome result (λ b. (ms : List Marking) → IsFirstOver ms class.bound (length net.now.places) over → IsBreak net.now ms class b) }
+    ensures first { IfSome result (λ b. (place_of b ≡ i) × ((ms : List Marking) → IsFirstOver ms class.bound (length net.now.places) over
+        → (a : ClassBreak) → place_of a ≡ i → IsBreakBefore a b → ¬ IsBreak net.now ms class a)) }
     ensures weights { IfNone result (IsPlaceInClass class net.now.labels (shown_place place.now)) }
-    ensures bounded { IfNone result ((s : ℕ) (m : Marking) → slice_get (shown_markings markings.now) s ≡ Some m → IfSome class.bound (λ k. tokens m i ≤ k)) }
+    ensures passed { IfNone result (IfSome over (λ f. i < f.0)) }
 {
     if class.pure
         && let Some(t) = first_impure(net.labels(), place)
@@ -71,8 +74,8 @@ fn first_at(
     {
         return Some(ClassBreak::NotPlain(i, t));
     }
-    if let Some(bound) = class.bound
-        && let Some(s) = first_over(markings, i, bound)
+    if let Some((first, s)) = over
+        && first == i
     {
         return Some(ClassBreak::Over(i, s));
     }

@@ -4,6 +4,7 @@ ghost use Rattle.rg_theory.specs.Net.{Marking, pre_weight, post_weight, tokens};
 ghost use Rattle.rg_theory.specs.Class.{IsPure, IsPlain, IsNonbranching, IsMultiple};
 ghost use Rattle.rg_net.specs.Shown.{shown_place};
 ghost use Rattle.rg_net.specs.ClassBreaks.{shown_markings};
+ghost use Rattle.rg_net.specs.Overs.{IsFirstOver};
 
 use crate::net::Place;
 
@@ -39,17 +40,43 @@ pub(crate) fn first_heavy(labels: u32, place: &Place) -> Option<u32>
     None
 }
 
-// The first marking in which place number i has more tokens than the bound.
-pub(crate) fn first_over(markings: &[Vec<u128>], i: u32, bound: u8) -> Option<u32>
-    requires place { All (λ m. i < length m) (shown_markings markings.now) }
+// Of so many places the first that has more tokens than the bound in one of the markings, and the first such marking. It
+// goes over the markings once.
+pub(crate) fn first_over(
+    markings: &[Vec<u128>],
+    places: u32,
+    bound: Option<u8>,
+) -> Option<(u32, u32)>
+    requires places { All (λ m. length m ≡ places) (shown_markings markings.now) }
     requires few { length markings.now < 4294967296 }
-    ensures some { IfSome result (λ s. (m : Marking) × (slice_get (shown_markings markings.now) s ≡ Some m) × (bound < tokens m i)) }
-    ensures least { IfSome result (λ s. (r : ℕ) (m : Marking) → r < s → slice_get (shown_markings markings.now) r ≡ Some m → tokens m i ≤ bound) }
-    ensures none { IfNone result ((r : ℕ) (m : Marking) → slice_get (shown_markings markings.now) r ≡ Some m → tokens m i ≤ bound) }
+    ensures { IsFirstOver (shown_markings markings.now) bound places result }
 {
+    let most = bound?;
+    let mut end = places;
+    let mut first = 0;
     for (s, marking) in markings.iter().enumerate() {
+        if let Some(i) = first_above(marking, end, most) {
+            end = i;
+            first = s as u32;
+        }
+    }
+    if end < places {
+        Some((end, first))
+    } else {
+        None
+    }
+}
+
+// The first of the places below the end that has more tokens than the bound in the marking.
+fn first_above(marking: &[u128], end: u32, bound: u8) -> Option<u32>
+    requires { end ≤ length marking.now }
+    ensures some { IfSome result (λ i. (i < end) × (bound < tokens marking.now i)) }
+    ensures least { IfSome result (λ i. (j : ℕ) → j < i → tokens marking.now j ≤ bound) }
+    ensures none { IfNone result ((j : ℕ) → j < end → tokens marking.now j ≤ bound) }
+{
+    for i in 0..end {
         if marking[i as usize] > u128::from(bound) {
-            return Some(s as u32);
+            return Some(i);
         }
     }
     None
