@@ -94,7 +94,7 @@ fn bounded(alloc: Global, named: &NamedSystem) -> Result<Vec<Bounded>, AllocErro
     ensures forms { IfOk result (λ v. forms_of v.items ≡ forms_in named.now) }
     ensures can { IfOk result (λ v. CanBranch named.now.system v.items) }
 {
-    let mut forms = Vec::new(alloc);
+    let mut forms = Vec::with_capacity(alloc, named.forms.len())?;
     for form in &named.forms {
         forms.push(Bounded {
             scale: form.scale,
