@@ -14,7 +14,7 @@ pub(crate) struct Generator {
 }
 
 impl Generator {
-    // The next state. 0 has no other, so 1 stands in its place.
+    // The next state. 0 has no other, so 1 takes its place.
     fn next(&mut self) -> u64 {
         let mut z = if self.state == 0 { 1 } else { self.state };
         z ^= z << 13;

@@ -19,7 +19,7 @@ use rg_lexer::Token;
 use rg_lts::{Arc, BuildFault, Lts, LtsBuilder};
 use std::alloc::Global;
 
-// Adds a state of this name, which stands at a position.
+// Adds a state of this name, which is at a position.
 fn add_name(builder: &mut LtsBuilder, name: &str, at: u32) -> Result<(), TextFault>
     requires { IsName name.now }
     ensures added { OnOk result (builder.new ≡ record builder.old { state_names = builder.old.state_names ++ name.now ∷ [] }) }
@@ -38,7 +38,7 @@ fn add_name(builder: &mut LtsBuilder, name: &str, at: u32) -> Result<(), TextFau
     }
 }
 
-// Makes the state of this name, which stands at a position, the initial one. It takes no memory.
+// Makes the state of this name, which is at a position, the initial one. It takes no memory.
 fn mark(builder: &mut LtsBuilder, name: &str, at: u32) -> Result<(), TextFault>
     requires { Contains builder.old.state_names name.now }
     ensures marked { OnOk result ((s : ℕ) × IsStateNamed builder.old s name.now × (builder.new ≡ record builder.old { initial = Some s })) }

@@ -120,7 +120,7 @@ impl Found {
         Ok(())
     }
 
-    // A token stands after `.type`.
+    // A token comes after `.type`.
     fn at_type(&mut self, token: Token)
         ensures found { (bytes : List ℕ) → found_in bytes self.new ≡ adds type_name (lexeme bytes token) (found_in bytes self.old) }
         ensures names { (bytes : List ℕ) → HoldsNames bytes self.old → HoldsNames bytes self.new }
@@ -131,7 +131,7 @@ impl Found {
         }
     }
 
-    // A token stands where an entry or triple may begin.
+    // A token comes where an entry or triple may begin.
     fn at_entry(&mut self, section: Section, token: Token) -> Result<(), ItemFault>
         ensures ok { OnOk result ((bytes : List ℕ) → found_in bytes self.new ≡ adds (in_section (section_in section)) (lexeme bytes token) (found_in bytes self.old)) }
         ensures after { OnOk result ((bytes : List ℕ) → found_in bytes self.new ≡ adds (after_entry (section_in section)) (lexeme bytes token) (found_in bytes self.old)) }
@@ -145,7 +145,7 @@ impl Found {
         Ok(())
     }
 
-    // A token stands at the third name of a triple.
+    // A token comes at the third name of a triple.
     fn at_third(&mut self, from: Token, label: Token, token: Token) -> Result<(), ItemFault>
         ensures ok { OnOk result ((bytes : List ℕ) → found_in bytes self.new ≡ adds (third (lexeme bytes from) (lexeme bytes label)) (lexeme bytes token) (found_in bytes self.old)) }
         ensures names { OnOk result ((bytes : List ℕ) → IsTokenOf bytes token → IsNameOf bytes from → IsNameOf bytes label
@@ -163,7 +163,7 @@ impl Found {
         Ok(())
     }
 
-    // A token stands in an option list.
+    // A token comes in an option list.
     fn at_option(&mut self, bytes: &[u8], section: Section, position: ListPosition, token: Token)
         requires token { IsTokenOf bytes.now token }
         requires key { HoldsKey bytes.now position }

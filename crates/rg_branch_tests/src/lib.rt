@@ -1,4 +1,4 @@
-//! Calls of `solve_whole` on small systems that are worked by hand, and branching told a second time, plainly.
+//! Calls of `solve_whole` on small systems that are worked by hand, and branching written a second time, plainly.
 #![tactic(auto)]
 
 #[cfg(test)]

@@ -1,4 +1,4 @@
-//! Branching told plainly: a recursion that copies its rows, and forms computed from the columns, with numbers so small
+//! Branching written plainly: a recursion that copies its rows, and forms computed from the columns, with numbers so small
 //! that none passes.
 ghost use Rattle.std.specs.Prelude.{◌≡◌, ℕ, ◌+◌, ◌≤◌, length, IfOk};
 ghost use Rattle.rg_feasible.specs.Settling.{IsWhole, IsRefutation};

@@ -33,8 +33,8 @@ pub fn chord_vectors(alloc: Global, lts: &Lts, tree: &Tree) -> Result<Vec<Vec<i6
     Ok(vectors)
 }
 
-// The vector of one chord: how often each label stands on the way to its source and on it, less how often it
-// stands on the way to its target.
+// The vector of one chord: how often each label occurs on the way to its source and on it, less how often it
+// occurs on the way to its target.
 fn chord_vector(alloc: Global, tree: &Tree, labels: u32, a: Arc) -> Result<Vec<i64>, AllocError>
     requires labels { labels ≡ tree.now.labels }
     requires from { a.from < tree.now.states }

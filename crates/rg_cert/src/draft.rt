@@ -25,7 +25,7 @@ pub(crate) enum Head {
 }
 
 impl Head {
-    // Where the next line stands, in a text of the version.
+    // The position of the next line, in a text of the version.
     pub(crate) fn after(self, version: Version) -> Position
         ensures position { position_in result ≡ after_head (version_in version) (head_in self) }
         ensures small { HasFewDue result 0 }

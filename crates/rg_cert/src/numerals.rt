@@ -8,7 +8,7 @@ ghost use Rattle.rg_cert.specs.Lines.{IsFieldInRange, Field.number as number_fie
 use rg_text::are_digits;
 use std::str;
 
-// Whether a 0 stands before others.
+// Whether a 0 comes before other digits.
 fn begins_with_zero(digits: &[u8]) -> bool
     ensures { IsTrue result ↔ ((1 < length digits.now) × (slice_index digits.now 0 ≡ 48)) }
 {

@@ -83,7 +83,7 @@ fn if_two(version: Version, next: Next) -> Next
     }
 }
 
-// What comes of a line in a tree of which a node is due, and so many after it.
+// What a line leads to in a tree that needs a node here, and so many after it.
 fn in_tree(version: Version, count: Count, due: u32, form: LineForm) -> Next
     requires { due < 4294967295 }
     ensures { next_in result ≡ in_tree (version_in version) (count_in count) due (line_form_in form) }

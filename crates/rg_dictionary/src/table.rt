@@ -115,7 +115,7 @@ pub(crate) fn exchange_rows(
     Ok(())
 }
 
-/// The table over the set in which the pivot stands in place of the member at `index`, at index `to` of
+/// The table over the set in which the pivot takes the place of the member at `index`, at index `to` of
 /// the new members; else the first term that passes. `pivot_row` and `indices`, which has room for as many, are to work in.
 pub(crate) fn exchange_table(
     table: &mut [i128],

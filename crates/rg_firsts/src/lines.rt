@@ -55,7 +55,7 @@ fn blanks_before(line: &[u8]) -> usize
     line.iter().take_while(|b| is_blank_byte(**b)).count()
 }
 
-// How many bytes stand before the first blank one.
+// How many bytes come before the first blank one.
 fn word_len(line: &[u8]) -> usize
     ensures value { result ≡ position_or_len is_blank_byte line.now }
     ensures within { result ≤ length line.now }

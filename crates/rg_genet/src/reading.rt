@@ -130,7 +130,7 @@ fn read_body(alloc: Global, graph: &mut Graph, body: Rest<'_>) -> Result<(), Gra
     }
 }
 
-// Takes a line, and tells whether it is `.end`.
+// Takes a line, and returns whether it is `.end`.
 fn take_line(alloc: Global, graph: &mut Graph, line: &[u8], number: u32) -> Result<bool, GraphFault>
     requires { IsMarkNamed graph.old.marking }
     ensures named { OnOk result (IsMarkNamed graph.new.marking) }

@@ -1,4 +1,4 @@
-//! What is told of two systems, each worked by hand.
+//! Pairs of systems with the result of their comparison, each worked by hand.
 use crate::samples::STILL;
 use rg_checks::{first_fork, first_unreachable};
 use rg_iso::{Same, compare};
@@ -20,7 +20,7 @@ const BOTH: &str = ".type LTS .states x[initial] .labels b a .arcs x a x x b x";
 
 const MERGE: &str = ".type LTS .states t0[initial] t1 .labels a b .arcs t0 a t1 t0 b t1";
 
-// What is told of the systems of two texts, where both are judged.
+// The result of comparing the systems of two texts, where both are judged.
 fn told(alloc: Global, first: &str, second: &str) -> Option<Same> {
     let a = system(alloc, first)?;
     let b = system(alloc, second)?;

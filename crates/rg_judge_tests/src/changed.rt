@@ -1,4 +1,4 @@
-//! The judge beside the second judge, over small nets and nets that are changed in one number.
+//! The judge compared with a second judge, over small nets and nets that are changed in one number.
 ghost use Rattle.std.specs.Prelude.{◌<◌};
 
 use crate::second::{Told, second_verdict};
@@ -12,7 +12,7 @@ use std::alloc::{AllocError, Global};
 /// A place for two labels: its start, what each label takes from it, and what each puts on it.
 type Numbers = [usize; 5];
 
-/// What stands before each set of a net's text, and the set's column.
+/// The text before each set of a net's text, and the set's column.
 const SETS: [(&str, usize); 5] = [
     (".type PN .places p q .transitions a b .flows a: ", 1),
     (" -> ", 3),
@@ -58,7 +58,7 @@ fn member(place: &Numbers, members: &[&'static str; 4], column: usize) -> &'stat
     members.get(weight).copied().unwrap_or("")
 }
 
-// What stands before a member of a set.
+// The text before a member of a set.
 fn separator(later: bool) -> &'static str {
     if later { ", " } else { "" }
 }
@@ -98,7 +98,7 @@ fn told(alloc: Global, lts: &Lts, net: &Net, class: Class) -> Option<Told> {
     }
 }
 
-// What both judges tell of the net with these places, if it is the same; None where it isn't, or there is no memory left.
+// What both judges say of the net with these places, if it is the same; None where it isn't, or there is no memory left.
 fn agreed(alloc: Global, lts: &Lts, places: &[Numbers], class: Class) -> Option<Told> {
     let net = net_of(alloc, lts, places)?;
     let first = told(alloc, lts, &net, class)?;
@@ -106,7 +106,7 @@ fn agreed(alloc: Global, lts: &Lts, places: &[Numbers], class: Class) -> Option<
     if first == second { Some(first) } else { None }
 }
 
-// Whether both judges tell that the net with these places solves the system that a text spells.
+// Whether both judges say that the net with these places solves the system that a text spells.
 fn solves(alloc: Global, text: &str, places: &[Numbers]) -> bool {
     match system(alloc, text) {
         Some(lts) => {
@@ -124,7 +124,7 @@ fn nets_that_solve(rt: HostRuntime) {
     }
 }
 
-// Whether both judges tell the same of each net that is made of this one by another number in this column of a place.
+// Whether both judges say the same of each net that is made of this one by another number in this column of a place.
 fn agree_on_column(
     alloc: Global,
     lts: &Lts,
@@ -146,7 +146,7 @@ fn agree_on_column(
     true
 }
 
-// Whether both judges tell the same of each net that is made of this one by another number in one place.
+// Whether both judges say the same of each net that is made of this one by another number in one place.
 fn agree_on_changed(alloc: Global, lts: &Lts, places: [Numbers; 2], class: Class) -> bool {
     for column in 0..5 {
         if !agree_on_column(alloc, lts, places, class, 0, column)
@@ -189,7 +189,7 @@ fn digits(number: usize) -> Numbers {
     ]
 }
 
-// Whether both judges tell the same of each net of one place with numbers below 4, for the system that a text spells.
+// Whether both judges say the same of each net of one place with numbers below 4, for the system that a text spells.
 fn agree_on_places(alloc: Global, text: &str) -> bool {
     let Some(lts) = system(alloc, text) else {
         return false;

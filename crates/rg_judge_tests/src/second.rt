@@ -9,14 +9,14 @@ use rg_net::{Class, FireStop, Net, enabled, fire, in_class};
 use rg_net_verdict::{NetNo, NetVerdict};
 use std::alloc::{AllocError, AllocFailed, Global};
 
-/// What the second judge tells: a verdict, or the state that is entered and the place on which a firing passes.
+/// What the second judge says: a verdict, or the state that is entered and the place on which a firing passes.
 #[derive(Clone, Copy, Debug, PartialEq, Eq)]
 pub(crate) enum Told {
     Verdict(NetVerdict),
     Passes(u32, u32),
 }
 
-// Why the judge ends before the last test: it has something to tell, or it can't go on.
+// Why the judge ends before the last test: it has an answer, or it can't go on.
 #[derive(Clone, Copy, Debug, PartialEq, Eq)]
 enum Ended {
     Told(Told),

@@ -1,4 +1,4 @@
-//! Small systems worked by hand, and the descent told a second time, plainly.
+//! Small systems worked by hand, and the descent written a second time, plainly.
 ghost use Rattle.std.specs.Prelude.{◌≡◌, ℕ, ◌+◌, ◌<◌, ◌≤◌, IsTrue, length};
 ghost use Rattle.rg_linear.specs.View.{linear_system, IsWellFormed};
 ghost use Rattle.rg_feasible.specs.Settling.{IsWhole, IsRefutation};
@@ -43,7 +43,7 @@ pub(crate) struct Case {
     pub multipliers: &'static [i128],
 }
 
-/// The rows that are told.
+/// The rows of a case.
 pub(crate) fn listed(alloc: Global, told: &[Told]) -> Result<Vec<Row>, AllocError> {
     let mut rows = Vec::new(alloc);
     for (coeffs, constant) in told {
@@ -131,13 +131,13 @@ pub(crate) fn shown_of(alloc: Global, columns: u32, rows: Vec<Row>) -> Option<Sh
     show(alloc, &System::new(columns, rows))
 }
 
-/// What that of the rows that are told shows.
+/// What the descent over the rows of a case shows.
 pub(crate) fn outcome(alloc: Global, columns: u32, told: &[Told]) -> Option<Shown> {
     let rows = listed(alloc, told).ok()?;
     shown_of(alloc, columns, rows)
 }
 
-// Whether the descent of a case comes to what is told of it.
+// Whether the descent of a case has the result that the case names.
 fn is_settled(alloc: Global, case: &Case) -> bool {
     match outcome(alloc, case.columns, case.rows) {
         Some(shown) => {
@@ -150,7 +150,7 @@ fn is_settled(alloc: Global, case: &Case) -> bool {
     }
 }
 
-/// The descent of each case comes to what is told of it.
+/// The descent of each case has the result that the case names.
 pub(crate) fn are_settled(rt: &(impl Abort + AllocGlobal), cases: &[Case]) {
     for case in cases {
         assert!(rt;
@@ -226,7 +226,7 @@ fn first_row_is_taken_again(rt: HostRuntime) {
     are_settled(&rt, &TAKEN_AGAIN);
 }
 
-// The plain descent over the rows that are told.
+// The plain descent over the rows of a case.
 fn plainly(alloc: Global, told: &[Told]) -> Option<Plain> {
     let rows = listed(alloc, told).ok()?;
     plain::descent(alloc, 3, &rows).ok()

@@ -65,7 +65,7 @@ fn sums(rt: HostRuntime) {
     assert!(rt; is_difference());
 }
 
-// Products, told in the same way.
+// Products, written in the same way.
 const PRODUCTS: [Case; 6] = [
     ((1, 2), (-4, 3), Some((-2, 3)), NONE),
     ((HALF - 1, 1), (2, 1), Some((MOST - 1, 1)), NONE),
@@ -123,7 +123,7 @@ fn are_added() -> bool {
     whole_sum(HALF, HALF - 1) == Ok(MOST) && whole_sum(HALF, HALF) == Err(wide)
 }
 
-// Whether a product is told, and another passes.
+// Whether a product is returned, and another is out of range.
 fn are_multiplied() -> bool {
     let wide = Wide {
         a: HALF,
@@ -147,7 +147,7 @@ fn is_eliminated() -> bool {
     eliminate(&[2, 4], &mut row, 0).is_ok() && row == [0, -1]
 }
 
-// Whether a term out of range is told, and the row stays as it was.
+// Whether a term out of range is returned, and the row stays as it was.
 fn is_refused() -> bool {
     let mut row = [2i128, 0];
     let wide = Wide {

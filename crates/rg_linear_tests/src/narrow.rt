@@ -4,7 +4,7 @@ use crate::descents::{Case, are_settled};
 use rg_feasible::{PivotWide, Settled};
 use rg_integers::Wide;
 
-// The numbers that stand in the rows, by the number of columns.
+// The numbers of the rows, by the number of columns.
 const OF_NONE: i128 = 9223372036854775807;
 
 const OF_ONE: i128 = 2147483647;

@@ -1,4 +1,4 @@
-//! The descent told plainly, for tests: a recursion that copies its relations, with so few exchanges that
+//! The descent written plainly, for tests: a recursion that copies its relations, with so few exchanges that
 //! its numbers stay small.
 
 use rg_linear::Row;
@@ -21,7 +21,7 @@ pub(crate) struct Plain {
     pub(crate) refuted: Option<u32>,
 }
 
-// What is due at a row.
+// What has to be done at a row.
 enum Due {
     Nothing,
     Refutation,

@@ -8,7 +8,7 @@ use rg_netfile::NetFault;
 use rg_words::WordFault;
 use std::alloc::Global;
 
-// Faults that are never told of a file, and one of a file that no command has.
+// Faults that no file has, and one of a file that no command has.
 const FAULTS: [(u8, Fault, &str); 5] = [
     (1, Fault::Apt(TextFault::NoMemory), "file 1: no memory\n"),
     (1, Fault::Graph(GraphFault::NoMemory), "file 1: no memory\n"),
@@ -17,7 +17,7 @@ const FAULTS: [(u8, Fault, &str); 5] = [
     (255, Fault::Missing, "file 255: missing\n"),
 ];
 
-// Whether the fault of a file is told by this line.
+// Whether the fault of a file has this line.
 fn is_refused(alloc: Global, file: u8, fault: Fault, wanted: &str) -> bool {
     is_line(file_text(alloc, FileFault { file, fault }), wanted)
 }

@@ -1,4 +1,4 @@
-//! Tests of the lines of out and err that no whole run shows; the others stand in cases of whole runs.
+//! Tests of the lines of output that no whole run shows; the others are in cases of whole runs.
 #![tactic(auto)]
 
 #[cfg(test)]

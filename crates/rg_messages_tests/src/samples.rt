@@ -1,4 +1,4 @@
-//! A system to tell names of, and texts that are told.
+//! A system whose names are written, and texts that are expected.
 use std::alloc::AllocError;
 
 /// Three states and two labels.

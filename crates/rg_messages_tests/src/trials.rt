@@ -45,7 +45,7 @@ fn certificate(alloc: Global, bytes: &[u8], lts: &Lts) -> Option<Certificate>
     read(alloc, bytes, lts).ok()
 }
 
-// Whether the trial of a family whose system has no net, by this certificate, is told by this line.
+// Whether the trial of a family whose system has no net, by this certificate, has this line.
 fn is_unsolvable_told(
     alloc: Global,
     lts: &Lts,

@@ -199,7 +199,7 @@ impl Found {
         Ok(())
     }
 
-    // A token stands after `.type`.
+    // A token comes after `.type`.
     fn at_type(&mut self, token: Token)
         ensures found { (bytes : List ℕ) → progress_in bytes self.new ≡ adds table.type_name (lexeme bytes token) (progress_in bytes self.old) }
         ensures names { (bytes : List ℕ) → HoldsNames bytes self.old → HoldsNames bytes self.new }
@@ -210,7 +210,7 @@ impl Found {
         }
     }
 
-    // A token stands where an entry may begin.
+    // A token comes where an entry may begin.
     fn at_entry(&mut self, section: Section, token: Token) -> Result<(), ItemFault>
         ensures ok { OnOk result ((bytes : List ℕ) → progress_in bytes self.new ≡ adds (table.in_section (section_in section)) (lexeme bytes token) (progress_in bytes self.old)) }
         ensures after { OnOk result ((bytes : List ℕ) → progress_in bytes self.new ≡ adds (table.after_entry (section_in section)) (lexeme bytes token) (progress_in bytes self.old)) }
@@ -224,7 +224,7 @@ impl Found {
         Ok(())
     }
 
-    // A token stands in an option list.
+    // A token comes in an option list.
     fn at_option(&mut self, bytes: &[u8], section: Section, position: ListPosition, token: Token)
         requires token { IsTokenOf bytes.now token }
         requires key { HoldsKey bytes.now position }
@@ -238,7 +238,7 @@ impl Found {
         }
     }
 
-    // A token stands where a flow may begin.
+    // A token comes where a flow may begin.
     fn at_flow(&mut self, alloc: Global, token: Token) -> Result<(), ItemFault>
         ensures ok { OnOk result ((bytes : List ℕ) → progress_in bytes self.new ≡ adds table.in_flows (lexeme bytes token) (progress_in bytes self.old)) }
         ensures names { OnOk result ((bytes : List ℕ) → IsTokenOf bytes token → HoldsNames bytes self.old → HoldsNames bytes self.new) }
@@ -259,7 +259,7 @@ impl Found {
         Ok(())
     }
 
-    // A token stands in a set.
+    // A token comes in a set.
     fn at_set(&mut self, side: Side, position: SetPosition, token: Token) -> Result<(), ItemFault>
         ensures ok { OnOk result ((bytes : List ℕ) → progress_in bytes self.new
             ≡ adds (table.in_set (side_in side) (set_position_in bytes position)) (lexeme bytes token) (progress_in bytes self.old)) }

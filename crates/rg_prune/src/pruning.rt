@@ -99,7 +99,7 @@ fn dropped(
     Ok(left)
 }
 
-// Whether the place is needed, which is the first to separate these problems, beside those after that separate so much.
+// Whether the place, which is the first to separate these problems, is needed besides those after it that separate so much.
 fn is_needed(
     alloc: Global,
     lts: &Lts,

@@ -30,7 +30,7 @@ pub(crate) struct CaseRow {
 }
 
 impl CaseRow {
-    // The numbers, by which rows are told apart.
+    // The numbers, by which rows are compared.
     pub(crate) fn key(&self) -> &RowNumbers
         ensures { result.now ≡ self.now.numbers }
     {

@@ -20,8 +20,8 @@ pub(crate) struct CaseRows {
     pub(crate) factors: Vec<Fraction>,
 }
 
-// Leaves out the rows without coefficients that always hold, and of equal rows all but the first. Beside the rows
-// that are kept stands, for each row, the number of the kept row that it is, 0 where it is left out.
+// Leaves out the rows without coefficients that always hold, and of equal rows all but the first. Returns the rows
+// that are kept, and for each row the number of the kept row that it is, 0 where it is left out.
 pub(crate) fn firsts(alloc: Global, all: &[HeldRow<'_>]) -> Result<(CaseRows, Vec<u32>), AllocError>
     requires few { length all.now < 2 ^ 32 }
     ensures { IfOk result (λ r. (kept : List KeptRow) × ShowsRows r.0 kept × KeepsFirsts (λ k. k.row) IsIdle [] (map kept_row (map row_in all.now)) kept × AreIndices (map kept_row (map row_in all.now)) kept r.1.items) }

@@ -97,7 +97,7 @@ pub(crate) fn point(alloc: Global, numbers: &[(i128, i128)]) -> Result<Vec<Fract
 }
 
 // A problem of the system that a text spells, the numbers of a point, and its place: the start, what each label takes and gives, and
-// the tokens of the states, where they are told.
+// the tokens of the states, where they are given.
 #[derive(Clone, Copy)]
 struct Worked {
     text: &'static str,
@@ -110,7 +110,7 @@ struct Worked {
     tokens: Option<&'static [u128]>,
 }
 
-// Whether a place is the one that is told.
+// Whether a place is the expected one.
 fn is_told(made: &RegionPlace, worked: &Worked) -> bool {
     made.place.start == worked.start
         && made.place.pre.as_slice() == worked.pre
@@ -121,7 +121,7 @@ fn is_told(made: &RegionPlace, worked: &Worked) -> bool {
         }
 }
 
-// Whether the point becomes the place that is told.
+// Whether the point becomes the expected place.
 fn is_made(alloc: Global, worked: &Worked) -> bool {
     match placed(
         alloc,
@@ -135,7 +135,7 @@ fn is_made(alloc: Global, worked: &Worked) -> bool {
     }
 }
 
-// Each point becomes the place that is told.
+// Each point becomes the expected place.
 fn are_made(rt: &(impl Abort + AllocGlobal), points: &[Worked]) {
     for worked in points {
         assert!(rt;

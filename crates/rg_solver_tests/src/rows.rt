@@ -25,7 +25,7 @@ use rg_theory::{ALL_NETS, Class};
 use std::alloc::{AllocError, Global};
 use std::test::Fail;
 
-// Each of two users is idle, asks for the lock, gets it and puts it back. States and labels stand as the arcs name them.
+// Each of two users is idle, asks for the lock, gets it and puts it back. States and labels are in the order in which the arcs name them.
 const LOCK_BY_ARCS: &str =
     ".type LTS .states ii[initial] wi iw ww ic wc ci cw .labels ask1 ask2 get2 put2 get1 put1 .arcs ii ask1 wi ii ask2 iw iw ask1 ww iw get2 ic ic ask1 wc ic put2 ii wi get1 ci wi ask2 ww ww get1 cw ww get2 wc wc put2 wi ci put1 ii ci ask2 cw cw put1 iw";
 

@@ -26,7 +26,7 @@ use rg_theory::{ALL_NETS, Arc};
 use std::alloc::Global;
 use std::thread::Threads;
 
-// A system, and for each of its labels that of the file's system for which it stands.
+// A system, and for each of its labels the label of the file's system that it comes from.
 #[derive(Drop)]
 pub(crate) struct Labelling {
     pub(crate) system: Lts,
@@ -40,7 +40,7 @@ pub(crate) enum Round {
     GoesOn(Labelling),
 }
 
-// The file's system, each label of which stands for itself.
+// The file's system, each label of which comes from itself.
 pub(crate) fn first_labelling(alloc: Global, lts: &Lts) -> Result<Labelling, NoMemory>
     ensures { IfOk result (λ n. labelling_of n ≡ itself lts.now) }
 {

@@ -24,7 +24,7 @@ const SPANS: [(Kind, u32, u32); 15] = [
     (Kind::Colon, 42, 43),
 ];
 
-// Bytes, whether they may stand in a name, and whether they are blank.
+// Bytes, whether a name may have them, and whether they are blank.
 const BYTES: [(u8, bool, bool); 10] = [
     (b'a', true, false),
     (b'Z', true, false),

@@ -102,7 +102,7 @@ fn event_verdict(
     }
 }
 
-// The verdict on the cases that no region tells the two states apart.
+// The verdict on the cases of a problem of two states.
 fn states_verdict(
     alloc: Global,
     lts: &Lts,

@@ -45,7 +45,7 @@ pub(crate) fn leaf_defect(
     Ok(defect)
 }
 
-// What is wrong with the first row that doesn't stand or owes a positive multiplier.
+// What is wrong with the first row that isn't allowed there or needs a positive multiplier.
 fn row_defect(
     lts: &Lts,
     problem_case: ProblemCase,

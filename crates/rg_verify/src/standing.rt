@@ -32,7 +32,7 @@ pub(crate) fn stands(lts: &Lts, problem_case: ProblemCase, above: &[Side], name:
     }
 }
 
-// Whether the row stands in a problem of the label, at whatever state.
+// Whether the row is allowed in a problem of the label, at whatever state.
 fn event_stands(lts: &Lts, class: Class, t: u32, above: &[Side], name: RowName) -> bool
     requires label { t < labels lts.now }
     requires name { IsRowNameOf lts.now name }
@@ -47,7 +47,7 @@ fn event_stands(lts: &Lts, class: Class, t: u32, above: &[Side], name: RowName) 
     }
 }
 
-// Whether the row speaks of no problem and stands, where the consumer alone may take from the place.
+// Whether the row speaks of no problem and is allowed, where the consumer alone may take from the place.
 fn shared_stands(lts: &Lts, class: Class, consumer: u32, above: &[Side], name: RowName) -> bool
     requires name { IsRowNameOf lts.now name }
     ensures { IsTrue result ↔ SharedStands lts.now class consumer above.now name }

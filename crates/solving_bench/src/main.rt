@@ -1,4 +1,4 @@
-//! Counts the problems that stand in the blocks of a run.
+//! Counts the problems in the blocks of a run.
 //!
 //! The words are those of the program `regions`, which runs as it does by itself. How many numbers of blocks its gate saw goes to the
 //! standard error: no kept place separated such a problem when its block was formed. Those are among them that aren't solved, since a

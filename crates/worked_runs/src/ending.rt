@@ -4,7 +4,7 @@ use crate::outside::Outside;
 use crate::stop::Stop;
 use std::alloc::{AllocError, Global};
 
-// How many bytes of a text are told.
+// How many bytes of a text are shown.
 const TOLD: usize = 160;
 
 /// How a run has to end.
@@ -50,7 +50,7 @@ pub fn difference_from(
     Ok(None)
 }
 
-// What is told of two texts that differ.
+// The report on two texts that differ.
 fn texts_differ(alloc: Global, name: &str, due: &[u8], came: &[u8]) -> Result<String, Stop> {
     let at = common_length(due, came);
     let due = shown(alloc, behind(due, at))?;

@@ -92,7 +92,7 @@ pub fn each_write<R: Threads + Sync>(
     Ok(None)
 }
 
-// What is due at the sink that is written to.
+// What the case says is written to the sink.
 fn written(case: &Case) -> &[u8] {
     if case.err.is_empty() {
         &case.out
@@ -101,8 +101,8 @@ fn written(case: &Case) -> &[u8] {
     }
 }
 
-// Only the first k bytes of what is due are taken, since there is no more room, or since this call fails. In the second way the same run
-// again writes all that is due after them.
+// Only the first k bytes of the output are taken, since there is no more room, or since this call fails. In the second way the same run
+// again writes the whole output after them.
 fn write_fails<R: Threads + Sync>(
     rt: &R,
     alloc: Global,

@@ -23,7 +23,7 @@ pub struct Reader {
     place: Place,
 }
 
-// The first word of a line, and what stands after the space that ends it.
+// The first word of a line, and what follows the space that ends it.
 fn word_and_rest(line: &str) -> (&str, &str) {
     match line.split_once(' ') {
         Some(parts) => parts,

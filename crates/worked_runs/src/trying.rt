@@ -29,7 +29,7 @@ pub fn difference<R: Threads + Sync>(
     }
 }
 
-// What is told of the run with these words, as it stands and with each failure in turn that the case asks for.
+// The report on the run with these words, as it is and with each failure in turn that the case asks for.
 fn difference_with<R: Threads + Sync>(
     rt: &R,
     alloc: Global,

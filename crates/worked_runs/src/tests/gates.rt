@@ -14,7 +14,7 @@ const WORD: &str = "file f\n> a b a\nstatus 0\n";
 const RING: &str =
     "file f\n| .type LTS .states s0[initial]\ncount 1 8 s#\n| .labels\ncount 0 8 a#\n| .arcs\ncount 0 7 s# a# s%\n| s8 a8 s0\nstatus 0\n";
 
-// The same beside a label without arcs: two factors, of which the first is the ring.
+// The same with a label without arcs: two factors, of which the first is the ring.
 const RING_AND_LABEL: &str =
     "file f\n| .type LTS .states s0[initial]\ncount 1 8 s#\n| .labels\ncount 0 8 a#\n| x .arcs\ncount 0 7 s# a# s%\n| s8 a8 s0\nstatus 0\n";
 
