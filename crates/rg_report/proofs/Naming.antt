@@ -2,9 +2,12 @@
 use Rattle.std.proofs.Common.{ℕ, ◌<◌, List, [], ◌∷◌, All, Option, None, Some, IfSome, option_map}
 use Rattle.std.proofs.lemmas.List.Elements.{All-cons, All-nil, All-get_or}
 use Rattle.rg_text.specs.Byte.{IsName}
-use Rattle.rg_theory.specs.System.{System, states, labels, IsLeastUnreachable, IsLeastFork}
+use Rattle.rg_theory.specs.System.{System, states, labels, IsLeastUnreachable}
 use Rattle.rg_theory.proofs.Arcs.{arc_in_range}
 use Rattle.rg_lts.specs.WellFormed.{IsWellFormed}
+use Rattle.rg_checks.specs.declared.fork.Fork.{Fork}
+use Rattle.rg_checks.specs.declared.lost.Loss.{Loss}
+use Rattle.rg_checks.specs.Flaws.{IsFirstFork}
 use Rattle.rg_checks.specs.Persistent.{IsLeastLost}
 use Rattle.rg_checks.specs.Reversible.{IsLeastStranded}
 use Rattle.rg_checks.proofs.Returning.{reached_in_range}
@@ -45,18 +48,20 @@ module _ (lts : System) (fine : IsWellFormed lts) where
       of_stranded None h = tt
       of_stranded (Some s) h = one_name (state_name lts s) (state_named s h)
 
-      of_fork : (o : Option (ℕ × ℕ × ℕ × ℕ)) → IfSome o (λ f. IsLeastFork lts f.0 f.1 f.2 f.3)
-          → AreNamesOf (option_map (λ f. state_name lts f.0 ∷ label_name lts f.1 ∷ state_name lts f.2 ∷ state_name lts f.3 ∷ []) o)
+      of_fork : (o : Option Fork) → IfSome o (IsFirstFork lts)
+          → AreNamesOf (option_map (λ f. state_name lts f.from ∷ label_name lts f.label ∷ state_name lts f.to ∷ state_name lts f.other ∷ []) o)
       of_fork None h = tt
-      of_fork (Some (s, t, p, q)) h =
-          let r = arc_in_range lts fine.in_range s t p h.fork.0 in
-          let r' = arc_in_range lts fine.in_range s t q h.fork.1 in
-          four_names (state_name lts s) (label_name lts t) (state_name lts p) (state_name lts q) (state_named s r.0) (label_named t r.1) (state_named p r.2) (state_named q r'.2)
+      of_fork (Some f) h =
+          let r = arc_in_range lts fine.in_range f.from f.label f.to h.fork.0 in
+          let r' = arc_in_range lts fine.in_range f.from f.label f.other h.fork.1 in
+          four_names (state_name lts f.from) (label_name lts f.label) (state_name lts f.to) (state_name lts f.other)
+          (state_named f.from r.0) (label_named f.label r.1) (state_named f.to r.2) (state_named f.other r'.2)
 
-      of_lost : (o : Option (ℕ × ℕ × ℕ × ℕ)) → IfSome o (λ l. IsLeastLost lts l.0 l.1 l.2 l.3)
-          → AreNamesOf (option_map (λ l. state_name lts l.0 ∷ label_name lts l.1 ∷ label_name lts l.2 ∷ state_name lts l.3 ∷ []) o)
+      of_lost : (o : Option Loss) → IfSome o (λ l. IsLeastLost lts l.from l.label l.lost l.to)
+          → AreNamesOf (option_map (λ l. state_name lts l.from ∷ label_name lts l.label ∷ label_name lts l.lost ∷ state_name lts l.to ∷ []) o)
       of_lost None h = tt
-      of_lost (Some (s, t, u, p)) h =
-          let r = arc_in_range lts fine.in_range s t p h.lost.step in
-          let r' = arc_in_range lts fine.in_range s u h.lost.before.0 h.lost.before.1 in
-          four_names (state_name lts s) (label_name lts t) (label_name lts u) (state_name lts p) (state_named s r.0) (label_named t r.1) (label_named u r'.1) (state_named p r.2)
+      of_lost (Some l) h =
+          let r = arc_in_range lts fine.in_range l.from l.label l.to h.lost.step in
+          let r' = arc_in_range lts fine.in_range l.from l.lost h.lost.before.0 h.lost.before.1 in
+          four_names (state_name lts l.from) (label_name lts l.label) (label_name lts l.lost) (state_name lts l.to)
+          (state_named l.from r.0) (label_named l.label r.1) (label_named l.lost r'.1) (state_named l.to r.2)

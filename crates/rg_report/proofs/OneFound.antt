@@ -2,6 +2,7 @@
 use Rattle.std.proofs.Common.{◌≡◌, ◌⊎◌, inl, inr, ℕ, ◌<◌, Option, None, Some, IfSome, IfNone, refl, sym, ap}
 use Rattle.std.proofs.lemmas.Bool.{cases_order}
 use Rattle.rg_theory.specs.System.{System, IsAllReachable, IsLeastUnreachable, IsForkFree, IsLeastFork}
+use Rattle.rg_checks.specs.Flaws.{IsFirstFork}
 use Rattle.rg_checks.specs.Persistent.{IsPersistent, IsLostBefore, IsLeastLost}
 use Rattle.rg_checks.specs.Reversible.{IsReversible, IsLeastStranded}
 use Rattle.rg_checks.proofs.Losing.{lost_not_persistent}
@@ -64,15 +65,15 @@ one_found one lts e f x y = λ i. record { unreachable = same_unreachable i; for
 
     same_fork : e.fork ≡ f.fork
     same_fork =
-        one_option (λ k. IsLeastFork lts k.0 k.1 k.2 k.3) (IsForkFree lts)
-        (λ k l h h'. (let (a, b, c, d) = one lts k.0 k.1 k.2 k.3 l.0 l.1 l.2 l.3 h h' in λ i. (a i, b i, c i, d i)))
-        (λ k h free. h.fork.2 (free.one_target k.0 k.1 k.2 k.3 h.fork.0 h.fork.1)) e.fork f.fork x.fork x.deterministic y.fork y.deterministic
+        one_option (IsFirstFork lts) (IsForkFree lts)
+        (λ k l h h'. (let (a, b, c, d) = one lts k.from k.label k.to k.other l.from l.label l.to l.other h h' in λ i. record { from = a i; label = b i; to = c i; other = d i }))
+        (λ k h free. h.fork.2 (free.one_target k.from k.label k.to k.other h.fork.0 h.fork.1)) e.fork f.fork x.fork x.deterministic y.fork y.deterministic
 
     same_lost : e.lost ≡ f.lost
     same_lost =
-        one_option (λ k. IsLeastLost lts k.0 k.1 k.2 k.3) (IsPersistent lts)
-        (λ k l h h'. (let (a, b, c, d) = one_lost lts k.0 k.1 k.2 k.3 l.0 l.1 l.2 l.3 h h' in λ i. (a i, b i, c i, d i)))
-        (λ k h kept. lost_not_persistent lts k.0 k.1 k.2 k.3 h.lost kept) e.lost f.lost x.lost x.persistent y.lost y.persistent
+        one_option (λ k. IsLeastLost lts k.from k.label k.lost k.to) (IsPersistent lts)
+        (λ k l h h'. (let (a, b, c, d) = one_lost lts k.from k.label k.lost k.to l.from l.label l.lost l.to h h' in λ i. record { from = a i; label = b i; lost = c i; to = d i }))
+        (λ k h kept. lost_not_persistent lts k.from k.label k.lost k.to h.lost kept) e.lost f.lost x.lost x.persistent y.lost y.persistent
 
     same_stranded : e.stranded ≡ f.stranded
     same_stranded =

@@ -3,6 +3,9 @@ use Rattle.std.proofs.Common.{◌≡◌, ◌⊎◌, inl, inr, ℕ, ◌<◌, List
 use Rattle.std.proofs.lemmas.Bool.{cases_eq}
 use Rattle.rg_theory.specs.System.{System, states, labels, HasArc, Leads, IsInRange, IsReachable, IsAllReachable, IsLeastUnreachable, IsForkFree, IsLeastFork}
 use Rattle.rg_theory.proofs.Arcs.{arc_in_range, find_arc}
+use Rattle.rg_checks.specs.declared.fork.Fork.{Fork}
+use Rattle.rg_checks.specs.declared.lost.Loss.{Loss}
+use Rattle.rg_checks.specs.Flaws.{IsFirstFork}
 use Rattle.rg_checks.specs.Persistent.{HasStep, IsLost, IsPersistent, IsLostBefore, IsLeastLost}
 use Rattle.rg_checks.specs.Reversible.{LeadsBack, IsReversible, IsLeastStranded}
 use Rattle.rg_decided.proofs.Deciding.{Decided, both_decided, not_decided, holds, PairBefore, find_number, find_pair}
@@ -76,14 +79,14 @@ module _ (lts : System) (fine : IsInRange lts) where
         (λ lacks. none s t (u, s₁, record { other = differ; step = has; before = (s₂, has'); after = lacks }));
   }
 
-  some_lost : ((l : ℕ × ℕ × ℕ × ℕ) × IsLeastLost lts l.0 l.1 l.2 l.3) ⊎ IsPersistent lts
+  some_lost : ((l : Loss) × IsLeastLost lts l.from l.label l.lost l.to) ⊎ IsPersistent lts
   some_lost = by (find_pair LostBy lost_by (states lts) (labels lts) (λ s t (u, s', l). (let (a, b, _, _) = lost_in_range s t u s' l in (a, b))))
     where
-      least : (s t : ℕ) → LostBy s t → ((q v : ℕ) → PairBefore q v s t → ¬ LostBy q v) → FirstBy s t ⊎ ((u s' : ℕ) → ¬ IsLost lts s t u s') → (l : ℕ × ℕ × ℕ × ℕ) × IsLeastLost lts l.0 l.1 l.2 l.3
-      least s t _ before (inl (u, s', l, by_these)) = ((s, t, u, s'), least_lost s t u s' l by_these before)
+      least : (s t : ℕ) → LostBy s t → ((q v : ℕ) → PairBefore q v s t → ¬ LostBy q v) → FirstBy s t ⊎ ((u s' : ℕ) → ¬ IsLost lts s t u s') → (l : Loss) × IsLeastLost lts l.from l.label l.lost l.to
+      least s t _ before (inl (u, s', l, by_these)) = (record { from = s; label = t; lost = u; to = s' }, least_lost s t u s' l by_these before)
       least s t (u, s', l) before (inr none) = absurd (none u s' l)
 
-      by : ((s : ℕ) × (t : ℕ) × LostBy s t × ((q v : ℕ) → PairBefore q v s t → ¬ LostBy q v)) ⊎ ((s t : ℕ) → ¬ LostBy s t) → ((l : ℕ × ℕ × ℕ × ℕ) × IsLeastLost lts l.0 l.1 l.2 l.3) ⊎ IsPersistent lts
+      by : ((s : ℕ) × (t : ℕ) × LostBy s t × ((q v : ℕ) → PairBefore q v s t → ¬ LostBy q v)) ⊎ ((s t : ℕ) → ¬ LostBy s t) → ((l : Loss) × IsLeastLost lts l.from l.label l.lost l.to) ⊎ IsPersistent lts
       by (inl (s, t, lost, before)) = inl (least s t lost before (first_by s t))
       by (inr none) = inr (none_lost none)
 
@@ -122,15 +125,15 @@ module _ (lts : System) (fine : IsInRange lts) where
   turned (inl p) = inr p
   turned (inr q) = inl q
 
-  packed : IsForkFree lts ⊎ ((s t s₁ s₂ : ℕ) × IsLeastFork lts s t s₁ s₂) → ((f : ℕ × ℕ × ℕ × ℕ) × IsLeastFork lts f.0 f.1 f.2 f.3) ⊎ IsForkFree lts
+  packed : IsForkFree lts ⊎ ((s t s₁ s₂ : ℕ) × IsLeastFork lts s t s₁ s₂) → ((f : Fork) × IsFirstFork lts f) ⊎ IsForkFree lts
   packed (inl free) = inr free
-  packed (inr (s, t, s₁, s₂, is)) = inl ((s, t, s₁, s₂), is)
+  packed (inr (s, t, s₁, s₂, is)) = inl (record { from = s; label = t; to = s₁; other = s₂ }, is)
 
   pub some_found : (e : Examination) × IsExamined lts e
   some_found =
       let (a, a_some, a_none) = found (IsLeastUnreachable lts) (IsAllReachable lts) (turned (all_reached_or_not lts fine)) in
-      let (b, b_some, b_none) = found (λ f. IsLeastFork lts f.0 f.1 f.2 f.3) (IsForkFree lts) (packed (some_fork lts fine)) in
-      let (c, c_some, c_none) = found (λ l. IsLeastLost lts l.0 l.1 l.2 l.3) (IsPersistent lts) some_lost in
+      let (b, b_some, b_none) = found (IsFirstFork lts) (IsForkFree lts) (packed (some_fork lts fine)) in
+      let (c, c_some, c_none) = found (λ l. IsLeastLost lts l.from l.label l.lost l.to) (IsPersistent lts) some_lost in
       let (d, d_some, d_none) = found (IsLeastStranded lts) (IsReversible lts) some_stranded in (
         record { unreachable = a; fork = b; lost = c; stranded = d },
         record { unreachable = a_some; reachable = a_none; fork = b_some; deterministic = b_none; lost = c_some; persistent = c_none; stranded = d_some; reversible = d_none },

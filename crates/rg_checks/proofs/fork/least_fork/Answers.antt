@@ -1,7 +1,7 @@
 use Rattle.std.proofs.Common.{length, ap, subst, arith}
 use Rattle.rg_theory.specs.System.{arc}
 use Rattle.rg_checks.proofs.Forks.{NoneAdjacent, found, no_fork}
-use Rattle.rg_checks.proofs.fork.first_fork.Goals as goal
+use Rattle.rg_checks.proofs.fork.least_fork.Goals as goal
 
 pub returns-then-a-b-2-clause-least : goal.returns-then-a-b-2-clause-least
 returns-then-a-b-2-clause-least c =
