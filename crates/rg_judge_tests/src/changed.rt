@@ -86,7 +86,7 @@ fn net_of(alloc: Global, lts: &Lts, places: &[Numbers]) -> Option<Net> {
     }
 }
 
-// What the judge tells of a net; None where the net has other labels, or there is no memory left.
+// What the judge says of a net; None where the net has other labels, or there is no memory left.
 fn told(alloc: Global, lts: &Lts, net: &Net, class: Class) -> Option<Told> {
     if net.labels() != lts.labels() {
         return None;
