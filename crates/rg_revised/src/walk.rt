@@ -104,7 +104,8 @@ fn take_vector(
     requires each { length coeffs.now ≡ columns }
     requires few { columns + i < 2 ^ 32 }
     requires not_negative { pos 0 ≤ℤ most }
-    ensures told { (system : LinearSystem) → IsSmallHeld system members.old.variables.items basis.old.slots.items basis.old.d basis.old.table.items (unsigned_abs most) → HasRoom system (unsigned_abs most) → i < length system.rows → (row_of system i).coeffs ≡ coeffs.now → (row_of system i).constant ≡ pos 0
+    ensures told { (system : LinearSystem) → IsSmallHeld system members.old.variables.items basis.old.slots.items basis.old.d basis.old.table.items (unsigned_abs most)
+        → HasRoom system (unsigned_abs most) → i < length system.rows → (row_of system i).coeffs ≡ coeffs.now → (row_of system i).constant ≡ pos 0
         → TakenTells system members.old.variables.items i (unsigned_abs most) members.new.variables.items basis.new.slots.items basis.new.d basis.new.table.items result }
     ensures members { length members.new.variables.items ≡ length members.old.variables.items }
     ensures slots { length members.new.slots.items ≡ length members.old.slots.items }
