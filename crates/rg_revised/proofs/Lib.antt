@@ -25,3 +25,5 @@ pub mod Products
 pub mod Walking
 pub mod Primitives
 pub mod WalkStates
+pub mod FewIndices
+pub mod FewRenewed

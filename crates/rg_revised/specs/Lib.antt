@@ -1,5 +1,6 @@
 pub mod Basis
 pub mod Rows
+pub mod Few
 pub mod Held
 pub mod Reading
 pub mod State

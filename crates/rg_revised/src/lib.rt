@@ -8,6 +8,7 @@ mod choosing;
 mod descent;
 mod divisor;
 mod factor;
+mod few;
 mod members;
 mod naming;
 mod pivot;

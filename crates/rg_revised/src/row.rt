@@ -4,8 +4,11 @@ ghost use Rattle.std.specs.Prelude.{if◌then◌else◌, ◌≡◌, ◌≢◌, �
 ghost use Rattle.rg_integers.specs.Range.{InRange};
 ghost use Rattle.rg_integers.specs.Sum.{number_at};
 ghost use Rattle.rg_revised.specs.Rows.{RowWithin, RowRenewed};
+ghost use Rattle.rg_revised.specs.Few.{AreFew};
 
 use crate::divisor::Divisor;
+use crate::few::Few;
+use crate::pivot::Pivot;
 
 // A number is short where its size is below this one: 2^31. The product of two short ones fits 64 bits.
 const SHORT: i64 = 2_147_483_648;
@@ -189,4 +192,48 @@ pub(crate) fn renew_row(
         return true;
     }
     renew_each(row, pivot, p, negative, d, most)
+}
+
+// The numbers of the row at the listed indices after an exchange whose pivot has the denominator at its own index.
+fn renew_few(row: &mut [i64], few: &Few, pivot: &[i64], leaving: i64, d: Divisor, most: i64) -> bool
+    requires same_length { length pivot.now ≡ length row.old }
+    requires positive { pos 0 <ℤ d.value }
+    requires not_negative { pos 0 ≤ℤ most }
+    requires within { RowWithin (unsigned_abs most) row.old }
+    requires few { AreFew pivot.now few.now.indices few.now.count }
+    ensures same_length { length row.new ≡ length row.old }
+    ensures renewed { IsTrue result → (n : ℕ) → n < length row.old → d.value *ℤ number_at row.new n ≡ (number_at row.old n *ℤ d.value) -ℤ (number_at pivot.now n *ℤ leaving) }
+    ensures within { IsTrue result → RowWithin (unsigned_abs most) row.new }
+{
+    for k in 0..few.count {
+        let n = few.indices[k];
+        match divided_term(row[n], d.value, pivot[n], leaving, d, most) {
+            Some(q) => row[n] = q,
+            None => return false,
+        }
+    }
+    true
+}
+
+/// As `renew_row`, where the pivot's number at its index is the denominator and few of its numbers aren't 0: the others of the
+/// row stay.
+pub(crate) fn renew_row_at(row: &mut [i64], pivot: &Pivot, d: Divisor, most: i64) -> bool
+    requires same_length { length pivot.now.numbers.now ≡ length row.old }
+    requires index { pivot.now.p < length row.old }
+    requires size { number_at pivot.now.numbers.now pivot.now.p ≡ d.value }
+    requires positive { pos 0 <ℤ d.value }
+    requires not_negative { pos 0 ≤ℤ most }
+    requires within { RowWithin (unsigned_abs most) row.old }
+    requires few { AreFew pivot.now.numbers.now pivot.now.few.indices pivot.now.few.count }
+    ensures renewed { IsTrue result → RowRenewed pivot.now.numbers.now row.old row.new pivot.now.p pivot.now.negative d.value (unsigned_abs most) }
+{
+    let leaving = row[pivot.p];
+    if leaving == 0 {
+        return true;
+    }
+    if !renew_few(row, &pivot.few, pivot.numbers, leaving, d, most) {
+        return false;
+    }
+    row[pivot.p] = signed(leaving, pivot.negative, most);
+    true
 }

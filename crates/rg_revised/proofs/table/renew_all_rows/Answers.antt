@@ -5,7 +5,7 @@ use Rattle.std.proofs.lemmas.Int.{to_z-of_z}
 use Rattle.rg_dictionary.proofs.TableRows.{part_is, length-part, length-put-mid, row_other}
 use Rattle.rg_revised.specs.Rows.{RowRenewed, TableRenewed}
 use Rattle.rg_revised.proofs.Tables.{rows_more}
-use Rattle.rg_revised.proofs.table.renew_table.Goals as goal
+use Rattle.rg_revised.proofs.table.renew_all_rows.Goals as goal
 
 pub loop-t-preserved : goal.loop-t-preserved
 loop-t-preserved c =
