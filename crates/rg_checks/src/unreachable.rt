@@ -3,7 +3,8 @@ ghost use Rattle.std.specs.Prelude.{ℕ, Bool, IfOk, IfSome, IfNone};
 ghost use Rattle.rg_theory.specs.System.{IsLeastUnreachable, IsAllReachable, IsClosedWithout};
 ghost use Rattle.rg_checks.specs.Met.{AreSteps};
 
-use crate::walks::{Step, is_met, reach};
+use crate::graph::is_met;
+use crate::walks::{Step, reach};
 use rg_lts::Lts;
 use rg_memory::NoMemory;
 use std::alloc::Global;
@@ -27,7 +28,7 @@ fn first_unmet(lts: &Lts, steps: &[Option<Step>]) -> Option<u32>
     ensures none { IfNone result (IsAllReachable lts.now) }
 {
     for s in 0..lts.states() {
-        if !is_met(lts, steps, s) {
+        if !is_met(steps, lts.initial(), s) {
             return Some(s);
         }
     }

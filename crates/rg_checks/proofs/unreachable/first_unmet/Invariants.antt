@@ -1,7 +1,7 @@
 -- The states so far are met.
 use Rattle.std.proofs.Common.{◌≡◌, ℕ, ◌<◌, true}
-use Rattle.rg_checks.specs.Met.{is_met}
+use Rattle.rg_checks.specs.Closure.{is_met}
 use Rattle.rg_checks.proofs.unreachable.first_unmet.Given as goal
 
 abbrev pub invariant-loop-s : goal.invariant-loop-s
-invariant-loop-s l = (r : ℕ) → r < l.s → is_met l.lts l.steps r ≡ true
+invariant-loop-s l = (r : ℕ) → r < l.s → is_met l.lts.initial l.steps r ≡ true

@@ -1,6 +1,0 @@
--- The states of the arcs so far are met.
-use Rattle.rg_checks.proofs.Walking.{IsFollowing}
-use Rattle.rg_checks.proofs.walks.follow.Given as goal
-
-abbrev pub invariant-loop-arc : goal.invariant-loop-arc
-invariant-loop-arc l = IsFollowing l.lts l.initial.walk.steps.items l.initial.walk.waiting.items l.walk.steps.items l.walk.waiting.items l.arc-items l.arc-index
