@@ -3,7 +3,7 @@ pub mod Squaring
 pub mod Joinings
 pub mod Merging
 pub mod Blocking
-pub mod Walking
+pub mod Reaching
 pub mod Sizing
 pub mod FewInAll
 pub mod Splitting
