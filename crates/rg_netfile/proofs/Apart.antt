@@ -1,8 +1,12 @@
 -- Lists in which nothing stands twice.
-use Rattle.std.proofs.Common.{◌≡◌, ◌≢◌, ℕ, zero, suc, ◌+◌, ◌⊎◌, inl, inr, ⊎_elim, Bool, true, false, cond, List, [], ◌∷◌, ◌++◌, length, slice_get, Contains, count_by, AllPairs, Some, refl, sym, ap, subst, ◌∙◌, arith}
+use Rattle.std.proofs.Common.{◌≡◌, ◌≢◌, ℕ, zero, suc, ◌+◌, ◌⊎◌, inl, inr, ⊎_elim, Bool, true, false, cond, List, [], ◌∷◌, ◌++◌, length, take, slice_get, Contains, count_by, AllPairs, Some, refl, sym, ap, subst, ◌∙◌, ◌↔◌, ◌<◌, arith}
 use Rattle.std.proofs.lemmas.Bool.{cases_order}
+use Rattle.std.specs.Str.{bytes_eq}
+use Rattle.std.proofs.lemmas.List.{length-take, get_or-take}
+use Rattle.std.proofs.lemmas.List.Elements.{Contains-push, Contains-append_left}
 use Rattle.std.proofs.lemmas.List.Sums.{sum_by-cons}
-use Rattle.std.proofs.lemmas.Option.{slice_get_within, get_or_from_slice_get}
+use Rattle.std.proofs.lemmas.Option.{slice_get_read, slice_get_within, get_or_from_slice_get}
+use Rattle.std.proofs.lemmas.Slice.Eq.{bytes_eq-Decides}
 use Rattle.rg_netfile.specs.Built.{AreApart}
 use Rattle.rg_netfile.proofs.NameTests.{there}
 
@@ -26,6 +30,37 @@ apart_more xs x apart absent = record {
       (λ last. ⊎_elim (λ second. absurd (absent (there xs j x (second ∙ ap Some (sym last.1))))) (λ end. last.0 ∙ sym end.0) (pushed xs x y j at'))
       (pushed xs x y i at);
 }
+
+-- what is among the first i isn't at i too
+pub apart_absent : {X : Type 0} (xs : List X) (i : ℕ) (x : X) → AreApart xs → slice_get xs i ≡ Some x → Contains (take i xs) x → ⊥
+apart_absent xs i x apart at (k, lt, e) =
+    let long = length-take i xs in
+    let within = slice_get_within xs i x at in
+    let less : k < i = omega arith in
+    let there = slice_get_read xs (length xs) k x refl (omega arith) (sym e ∙ get_or-take i xs k x less) in
+    let same = apart.same k i x there at in
+    absurd (omega arith)
+
+-- what is there with one more is there or is that one
+contains_last : {X : Type 0} (xs : List X) (x y : X) → Contains (xs ++ x ∷ []) y → Contains xs y ⊎ (x ≡ y)
+contains_last xs x y (k, lt, e) =
+    ⊎_elim (λ before. inl (there xs k y before)) (λ last. inr last.1) (pushed xs x y k (slice_get_read (xs ++ x ∷ []) (length (xs ++ x ∷ [])) k y refl lt (sym e)))
+
+-- a test finds the names that were seen, and then the next one too
+pub seen_more : (names : List (List ℕ)) (name : List ℕ) (old new : List ℕ → Bool) → ((n : List ℕ) → (old n ≡ true) ↔ Contains names n)
+    → ((n : List ℕ) → new n ≡ cond (bytes_eq name n) true (old n)) → (n : List ℕ) → (new n ≡ true) ↔ Contains (names ++ name ∷ []) n
+seen_more names name old new finds is n = by (bytes_eq name n) refl
+  where
+    by : (b : Bool) → bytes_eq name n ≡ b → (new n ≡ true) ↔ Contains (names ++ name ∷ []) n
+    by true e = (
+      λ t. subst (Contains (names ++ name ∷ [])) ((bytes_eq-Decides name n).0 e) (Contains-push names name),
+      λ has. is n ∙ ap (λ b. cond b true (old n)) e,
+    )
+    by false e =
+        let same : new n ≡ old n = is n ∙ ap (λ b. cond b true (old n)) e in (
+          λ t. Contains-append_left names (name ∷ []) n ((finds n).0 (sym same ∙ t)),
+          λ has. ⊎_elim (λ before. same ∙ (finds n).1 before) (λ last. absurd (let yes = (bytes_eq-Decides name n).1 last in cc)) (contains_last names name n has),
+        )
 
 pub apart_pairs : {X : Type 0} (xs : List X) → AllPairs (λ a b. a ≢ b) xs → AreApart xs
 apart_pairs xs differ = record {

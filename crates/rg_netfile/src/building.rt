@@ -14,7 +14,7 @@ use crate::fault::NetFault;
 use crate::filling::fill;
 use crate::known::Known;
 use crate::labels::label_numbers;
-use crate::names::{add, number_of};
+use crate::names::{add, number_of, see};
 use crate::sums::Sums;
 use indexmap::IndexSet;
 use rg_items::name_of;
@@ -23,6 +23,7 @@ use rg_lts::Lts;
 use rg_net::Net;
 use rg_netitems::{Found, FoundTransition};
 use std::alloc::Global;
+use std::collections::BTreeSet;
 
 // The most places.
 const PLACE_LIMIT: usize = 16_384;
@@ -67,25 +68,41 @@ fn place_table(alloc: Global, bytes: &[u8], places: &[Token]) -> Result<IndexSet
     Ok(table)
 }
 
-// The names of the transitions.
+// Checks that no two transitions have the same name. There may be many, and of any names, so those that are seen are kept in order.
+fn check_transition_names(
+    alloc: Global,
+    bytes: &[u8],
+    transitions: &[FoundTransition],
+) -> Result<(), NetFault>
+    requires { All (IsTransitionOf bytes.now) transitions.now }
+    ensures apart { OnOk result (AreApart (map (λ (t : Transition). t.name.text) (transitions_in bytes.now transitions.now))) }
+    ensures none { OnOk result (AreNone (faults_after transition_fault [] (transitions_in bytes.now transitions.now))) }
+    ensures fault { IfErr result (λ f. f ≢ fault.NoMemory → IsFirst (faults_after transition_fault [] (transitions_in bytes.now transitions.now)) f) }
+{
+    let mut seen = BTreeSet::new(alloc);
+    for transition in transitions {
+        let new = see(alloc, &mut seen, name_of(bytes, transition.name))?;
+        if !new {
+            return Err(NetFault::TwiceTransition(transition.name.from));
+        }
+    }
+    Ok(())
+}
+
+// The names of the transitions, which differ.
 fn transition_table(
     alloc: Global,
     bytes: &[u8],
     transitions: &[FoundTransition],
 ) -> Result<IndexSet<String>, NetFault>
-    requires { All (IsTransitionOf bytes.now) transitions.now }
+    requires names { All (IsTransitionOf bytes.now) transitions.now }
+    requires apart { AreApart (map (λ (t : Transition). t.name.text) (transitions_in bytes.now transitions.now)) }
     ensures names { IfOk result (λ table. map string_bytes table.keys ≡ map (λ (t : Transition). t.name.text) (transitions_in bytes.now transitions.now)) }
-    ensures apart { IfOk result (λ table. AreApart (map string_bytes table.keys)) }
-    ensures none { OnOk result (AreNone (faults_after transition_fault [] (transitions_in bytes.now transitions.now))) }
-    ensures fault { IfErr result (λ f. f ≢ fault.NoMemory → IsFirst (faults_after transition_fault [] (transitions_in bytes.now transitions.now)) f) }
+    ensures cause { IfErr result (λ f. f ≡ fault.NoMemory) }
 {
     let mut table = IndexSet::new(alloc);
     for transition in transitions {
-        let name = name_of(bytes, transition.name);
-        if let Some(_) = number_of(&table, name) {
-            return Err(NetFault::TwiceTransition(transition.name.from));
-        }
-        add(alloc, &mut table, name)?;
+        add(alloc, &mut table, name_of(bytes, transition.name))?;
     }
     Ok(table)
 }
@@ -101,8 +118,9 @@ fn known_names(alloc: Global, bytes: &[u8], lts: &Lts, found: &Found) -> Result<
     ensures fault { IfErr result (λ f. f ≢ fault.NoMemory → IsFirst (name_faults lts.now (found_in bytes.now found.now)) f) }
 {
     let places = place_table(alloc, bytes, &found.places)?;
-    let transitions = transition_table(alloc, bytes, &found.transitions)?;
+    check_transition_names(alloc, bytes, &found.transitions)?;
     let labels = label_numbers(alloc, bytes, lts, &found.transitions)?;
+    let transitions = transition_table(alloc, bytes, &found.transitions)?;
     Ok(Known::new(places, transitions, labels))
 }
 
