@@ -2,6 +2,8 @@ mod Decimals
 mod Texts
 mod Prefixes
 mod Weights
+mod Listed
+mod FlowLists
 pub mod Going
 pub mod Steps
 pub mod Ranges

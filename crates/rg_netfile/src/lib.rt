@@ -4,6 +4,7 @@
 mod building;
 mod fault;
 mod filling;
+mod flows;
 mod known;
 mod labelled;
 mod labels;

@@ -1,12 +1,15 @@
 //! The text of a net.
-ghost use Rattle.std.specs.Prelude.{◌≡◌, ◌++◌, ◌∷◌, [], ◌<◌, map, IfOk, OnOk, codes};
+ghost use Rattle.std.specs.Prelude.{◌≡◌, ◌++◌, ◌∷◌, [], ℕ, map, IfOk, OnOk, codes};
 ghost use Rattle.std.specs.List.{range_with_len};
 ghost use Rattle.rg_text.specs.Line.{fed};
+ghost use Rattle.rg_theory.specs.Net.{Net};
 ghost use Rattle.rg_theory.specs.System.{labels};
 ghost use Rattle.rg_net.specs.NetText.{place_name, set_text, flow_line, flow_lines, starts, net_text};
+ghost use Rattle.rg_netfile.specs.ListedSets.{IsFlow};
 
+use crate::flows::{Flow, flows_of, starts};
 use crate::prefix::free_prefix;
-use crate::sets::{push_place, push_set, put_by, starts, taken_by};
+use crate::sets::{push_place, push_set};
 use rg_lts::Lts;
 use rg_memory::NoMemory;
 use rg_net::Net;
@@ -65,31 +68,27 @@ pub(crate) fn push_flows(
     requires { net.now.labels ≡ labels lts.now }
     ensures { OnOk result (text.new.items ≡ text.old.items ++ fed (flow_lines prefix.now net.now 0 lts.now.label_names)) }
 {
+    let flows = flows_of(alloc, net)?;
     for t in 0..lts.labels() {
-        push_flow(alloc, text, prefix, net, t, lts.label_name(t).as_bytes())?;
+        push_flow(
+            text,
+            prefix,
+            lts.label_name(t).as_bytes(),
+            &flows[t as usize],
+        )?;
     }
     Ok(())
 }
 
-// The line with the flow of label t.
-fn push_flow(
-    alloc: Global,
-    text: &mut Vec<u8>,
-    prefix: &[u8],
-    net: &Net,
-    t: u32,
-    name: &[u8],
-) -> Result<(), NoMemory>
-    requires { t < net.now.labels }
-    ensures { OnOk result (text.new.items ≡ text.old.items ++ (flow_line prefix.now net.now t name.now ++ 10 ∷ [])) }
+// The line with the flow of a label.
+fn push_flow(text: &mut Vec<u8>, prefix: &[u8], name: &[u8], flow: &Flow) -> Result<(), NoMemory>
+    ensures { OnOk result ((net : Net) (t : ℕ) → IsFlow net t flow.now → text.new.items ≡ text.old.items ++ (flow_line prefix.now net t name.now ++ 10 ∷ [])) }
 {
-    let taken = taken_by(alloc, net, t)?;
-    let put = put_by(alloc, net, t)?;
     text.extend_from_slice(name)?;
     text.extend_from_slice(b": ")?;
-    push_set(text, prefix, &taken)?;
+    push_set(text, prefix, &flow.taken)?;
     text.extend_from_slice(b" -> ")?;
-    push_set(text, prefix, &put)?;
+    push_set(text, prefix, &flow.put)?;
     text.push(b'\n')?;
     Ok(())
 }
@@ -103,9 +102,9 @@ pub(crate) fn push_marking(
 ) -> Result<(), NoMemory>
     ensures { OnOk result (text.new.items ≡ text.old.items ++ (codes ".initial_marking " ++ set_text prefix.now (starts net.now) ++ 10 ∷ [])) }
 {
-    let weights = starts(alloc, net)?;
+    let marked = starts(alloc, net)?;
     text.extend_from_slice(b".initial_marking ")?;
-    push_set(text, prefix, &weights)?;
+    push_set(text, prefix, &marked)?;
     text.push(b'\n')?;
     Ok(())
 }

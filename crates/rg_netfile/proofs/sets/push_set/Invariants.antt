@@ -1,8 +1,8 @@
-use Rattle.std.proofs.Common.{◌≡◌, ◌++◌, drop}
-use Rattle.rg_net.specs.NetText.{members_text, set_text}
+use Rattle.std.proofs.Common.{◌≡◌, ◌++◌, drop, codes, false}
+use Rattle.rg_netfile.proofs.Listed.{listed_text}
 use Rattle.rg_netfile.proofs.sets.push_set.Given as goal
 
 -- the text so far, and the members that are left
-abbrev pub invariant-loop-i : goal.invariant-loop-i
-invariant-loop-i l =
-    l.text.items ++ members_text l.prefix l.later l.i (drop l.i l.weights) ≡ l.fn.text.items ++ set_text l.prefix l.weights
+abbrev pub invariant-loop-member : goal.invariant-loop-member
+invariant-loop-member l =
+    l.text.items ++ listed_text l.prefix l.later (drop l.member-index l.members) ≡ l.fn.text.items ++ (codes "{" ++ listed_text l.prefix false l.members)
