@@ -5,14 +5,14 @@
 
 For each seed (1 unless some are named) it makes random systems until `synthesize` has written so many certificates (100 unless a
 number is named), for random classes of all words, with bounds and markings. Each is judged by both as it is written, and changed: of
-each eighth one by every change that is told below, of the others by some twenty of them. It prints each difference, and behind each
+each eighth one by every change that is listed below, of the others by some twenty of them. It prints each difference, and behind each
 seed a table of all so far: how many certificates both accept, both refuse, and where only the program refuses, by rule 4 of
 docs/certificates.md (`sum passes`), which the checker leaves out. Each other difference is an error, and status 1. One in a hundred is
 judged by the checker's command line too. It is run by hand and is no test.
 
 A changed line is: left out; doubled; swapped with the next; with a blank, a carriage return or a word more, or a word less; and for
 each word of it a number changed, a name by each other name, a row's word by each other word. A changed tree has a split more above a
-leaf, with both sides or with one; or the rows of a leaf multiplied, shuffled, left out, or told in parts whose sum is the same, of
+leaf, with both sides or with one; or the rows of a leaf multiplied, shuffled, left out, or written in parts whose sum is the same, of
 which one may be 0 or below. Another file is the system without each of its arcs, with an arc more or with another start, another
 random system, or a broken text.
 """

@@ -102,7 +102,7 @@ def check_paths(page, text):
 
 
 def counted():
-    """What is counted: a pattern of a page, and the numbers that should stand there."""
+    """What is counted: a pattern of a page, and the numbers that it should have."""
     edits = len(glob.glob(os.path.join(TOP, 'crates/*/must-fail/*.edit')))
     stdout = read('crates/worked_runs/stdout') if os.path.exists(os.path.join(TOP, 'crates/worked_runs/stdout')) else ''
     cases = re.search(r'(\d+) cases', stdout)

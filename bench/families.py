@@ -145,7 +145,7 @@ def word(length, labels, seed):
 
 
 def halves(n):
-    """So many levels of two arcs beside one, a fresh label, and a third more levels of three arcs beside one: with 42, many problems
+    """So many levels of two arcs and a shortcut by a fresh label, and a third more levels of three arcs and a shortcut: with 42, many problems
     show a number out of range, and a place that is kept separates each of them in the end."""
     states, labels, arcs, at = ['s0'], [], [], 's0'
     for k, (factor, levels) in enumerate(((2, n), (3, n + n // 3))):

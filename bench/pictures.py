@@ -186,7 +186,7 @@ def region():
 
 
 def speed_up():
-    """The time of two and four jobs beside one, of each row of the table of threads."""
+    """How many times as fast two and four jobs are as one, for each row of the table of threads."""
     head, rows = table_rows('The table below is of commit 5a53fbac')
     body, height = [], 30
     for row in rows:

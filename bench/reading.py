@@ -51,7 +51,7 @@ def word_list():
     yield whole * (MOST_BYTES // len(whole))
 
 
-# What is measured: the form, its lines, and what fills the file up to the last byte, before, in between and behind.
+# What is measured: the form, its lines, and what fills the file up to the last byte, before, in between and after.
 TEXTS = (('system', 'system file', system_file, ('/*', '-', '*/')),
          ('graph', 'state graph', state_graph, ('#', '-', '\n.end')),
          ('words', 'word list', word_list, ('#', '-', '')),

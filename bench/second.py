@@ -14,13 +14,13 @@
 It is written from docs/dev/algorithm.md, docs/theory.md and docs/formats.md alone: fractions of any size, a problem at a time, each kept place asked, each
 dictionary made anew. `compare` makes random systems (2,000 unless a number is named) of up to 6 states and 4 labels, runs the program with 1,
 2 and 7 jobs for a random class, and compares status and bytes; it prints each difference, and at last `N systems, M differences`. Where
-the second body forms a number out of 127 bits it can't tell the answer, and stops. It is run by hand and is no test. `cases SEED N`
+the second body forms a number out of 127 bits it has no answer, and stops. It is run by hand and is no test. `cases SEED N`
 prints N random cases of `synthesize`, `verify`, `check` and `convert`, in all three forms, for `worked_runs`, with what the second
-body says is due: nets and certificates of `synthesize`; what `verify` says of those certificates as they are, with a first multiplier
+body expects: nets and certificates of `synthesize`; what `verify` says of those certificates as they are, with a first multiplier
 below zero, and cut after a line; what `check` says of those nets as they are and with a number changed; systems in another form.
 A class of theirs asks no marking, or with the word `marking` each asks one; a third of those of `compare` do. With the word `further`
-the cases are of `factor` (random systems and random products), `split` (systems with forks and without), `isomorphic` (a system beside
-another, and beside itself with states and labels in another order, as it is or with an arc changed) and `examine`.
+the cases are of `factor` (random systems and random products), `split` (systems with forks and without), `isomorphic` (a system compared with
+another, and with itself with states and labels in another order, as it is or with an arc changed) and `examine`.
 """
 import itertools
 import json
@@ -740,7 +740,7 @@ def beside(system, blocks, factors, word):
     return 0, net_text(system, places)
 
 
-# ---- labels told apart
+# ---- labels split
 
 def moved_arcs(system):
     """The label that a round splits, and its arcs that get the new one; None where the system has a net, which is the second answer."""
@@ -783,7 +783,7 @@ def split(system, as_system):
     return 0, '\n'.join(lines)
 
 
-# ---- two systems beside each other, and what a system is like
+# ---- two systems compared, and what a system is like
 
 def isomorphic(a, b):
     """Status and text of `isomorphic`."""

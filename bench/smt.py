@@ -12,10 +12,10 @@ first problem without a region (status 1); it prunes no place and gives no certi
 program writes. CLASS is as in docs/formats.md ("Classes").
 
 `compare` prints a table: for the families of bench/families.py, each in some sizes up to that of `families.py speed`, and each class
-(none, pure, safe and pure,plain,safe; those that are named, if some are) the processor seconds, user and system, and behind them the MiB of memory
+(none, pure, safe and pure,plain,safe; those that are named, if some are) the processor seconds, user and system, and after them the MiB of memory
 at the peak, of the program and, after a stroke, of the solver. Where the solver takes more than SECONDS (100 unless a number is named)
 it isn't asked for larger sizes of that family and class. Each net of the solver is judged by `check`, and a no is compared with the
-program's; where the problems that are named differ it is told below the table. `agree` compares both on random systems of bench/second.py
+program's; if the problems that are named differ, a line below the table says so. `agree` compares both on random systems of bench/second.py
 for random classes. It is run by hand and is no test; it needs Debian's python3-z3.
 """
 import os
