@@ -6,6 +6,7 @@
 Systems and nets are drawn by tools/lts2dot.awk and tools/net2dot.awk from what PROGRAM writes; the layers come from crates.txt, the
 plots from the tables of docs/performance.md.
 """
+import itertools
 import math
 import os
 import re
@@ -116,10 +117,10 @@ def svg_of(width, height, body):
 def table_rows(heading):
     """The head and the rows of the first table below a heading of docs/performance.md."""
     text = open(os.path.join(TOP, 'docs', 'performance.md'), encoding='utf-8').read()
-    text = text[text.index(heading):]
-    rows = [[cell.strip() for cell in line.strip('|').split('|')] for line in text.split('\n') if line.startswith('|')]
-    last = next((i for i, row in enumerate(rows) if i > 1 and row[0] == rows[0][0]), len(rows))
-    return rows[0], rows[2:last]
+    lines = itertools.dropwhile(lambda line: not line.startswith('|'), text[text.index(heading):].split('\n'))
+    table = itertools.takewhile(lambda line: line.startswith('|'), lines)
+    rows = [[cell.strip() for cell in line.strip('|').split('|')] for line in table]
+    return rows[0], rows[2:]
 
 
 def panel(left, top, title, horizontal, exponents, points):
@@ -187,7 +188,7 @@ def region():
 
 def speed_up():
     """How many times as fast two and four jobs are as one, for each row of the table of threads."""
-    head, rows = table_rows('The table below is of commit 5a53fbac')
+    head, rows = table_rows('## Measured: threads')
     body, height = [], 30
     for row in rows:
         if len(row) != len(head):
