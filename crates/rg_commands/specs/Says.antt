@@ -41,7 +41,7 @@ values_asked command words = if_no_fault (fault_of (app_for command) words) (mat
 abbrev pub with_values : {A : Type 0} → List (List ℕ) → (Command → List Row → Result A Usage) → Result A Usage
 with_values words make = with_value (command_asked words) (λ command. with_value (values_asked command words) (λ rows. make command rows))
 
--- ---- what the values of each command ask for, where its class word tells `told`
+-- ---- what the values of each command ask for, where `told` is what its class word says
 
 abbrev pub synthesize_says : Result Class ClassFault → List Row → Result Asked Usage
 synthesize_says told rows =
@@ -109,7 +109,7 @@ class_word_in _ rows = []
 abbrev pub class_word : List (List ℕ) → List ℕ
 class_word words = result_unwrap_or (with_values words (λ command rows. Ok (class_word_in command rows))) []
 
--- what words ask for, or why they are refused, where their class word tells `told`
+-- what words ask for, or why they are refused, where `told` is what their class word says
 abbrev pub says : Result Class ClassFault → List (List ℕ) → Result Asked Usage
 says told words = with_values words (λ command rows. command_says command told rows)
 

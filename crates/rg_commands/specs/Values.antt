@@ -41,7 +41,7 @@ is_given id rows = bytes_eq (text_in id rows) (codes "true")
 
 -- ---- classes
 
--- what a text tells: the class that it names, or its first refused word
+-- what a text says: the class that it names, or its first refused word
 abbrev pub ClassSays : List ℕ → Result Class ClassFault → Type 0
 ClassSays text (Ok class) = NamesClass text class
 ClassSays text (Err fault) = FirstRefusedWord text fault

@@ -28,7 +28,7 @@ abbrev pub difference_text : System → System → Difference → List ℕ
 difference_text a b (by_step file s t) = codes "step file " ++ decimal file ++ codes " " ++ step_text (numbered a b file) s t
 difference_text a b (by_target s t) = codes "target " ++ step_text a s t
 
--- what is told of two systems
+-- what is written of two systems
 abbrev pub told_text : System → System → Told → List ℕ
 told_text a b (as_map map) = map_text a b map
 told_text a b (as_label file t) = codes "no: label file " ++ decimal file ++ codes " " ++ label_name (numbered a b file) t ++ codes "\n"
@@ -50,7 +50,7 @@ abbrev pub HasDifferenceNames : System → System → Difference → Type 0
 HasDifferenceNames a b (by_step file s t) = (s < states (numbered a b file)) × (t < labels (numbered a b file))
 HasDifferenceNames a b (by_target s t) = (s < states a) × (t < labels a)
 
--- the states and labels of what is told are those of the systems
+-- the states and labels of the result are those of the systems
 abbrev pub HasToldNames : System → System → Told → Type 0
 HasToldNames a b (as_map map) = HasPairNames a b map
 HasToldNames a b (as_label file t) = t < labels (numbered a b file)

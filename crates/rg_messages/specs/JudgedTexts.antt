@@ -44,7 +44,7 @@ leaf_text lts (LeftOver v) = codes "left over " ++ variable_text lts v
 leaf_text lts WrongForm = codes "wrong form"
 leaf_text lts defect = codes "no contradiction"
 
--- the certificate doesn't hold; a node's defect is told with its case and node
+-- the certificate doesn't hold; a node's defect is written with its case and node
 abbrev pub defect_text : System → ℕ → ℕ → Defect → List ℕ
 defect_text lts case node NotSo = codes "not so"
 defect_text lts case node CaseMissing = codes "case missing"

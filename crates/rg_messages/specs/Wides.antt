@@ -1,4 +1,4 @@
--- The lines that tell a number that is out of range, written to err.
+-- The lines for a number that is out of range, written to standard error.
 use Rattle.std.specs.Prelude.{ℕ, ℤ, List, ◌++◌, codes}
 use Rattle.std.specs.Fmt.{signed_decimal}
 use Rattle.rg_integers.specs.declared.term.Wide.{Wide}

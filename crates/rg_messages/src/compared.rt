@@ -128,7 +128,7 @@ fn single_step_text(
     Ok(text)
 }
 
-// A step of which a target stands in another pair.
+// A step of which a target is in another pair.
 fn target_text(alloc: Global, lts: &Lts, s: u32, t: u32) -> Result<Vec<u8>, AllocError>
     requires state { s < states lts.now }
     requires label { t < labels lts.now }

@@ -47,7 +47,7 @@ IsNoNet files name lts Missing = MayHold files name None
 IsNoNet files name lts TooLong = IsTooLong files name
 IsNoNet files name lts fault = IsFaultyNet files name lts fault
 
--- what is told of the net of the file, which is one
+-- the verdict on the net of the file, which is one
 pub record IsTold (files : Option Files) (class : Class) (name : List ℕ) (lts : System) (told : Told) : Type 0 where
   pub net : Net
   pub file : IsNetFile files name lts net
@@ -74,7 +74,7 @@ pub data CheckEnds (files : Option Files) (class : Class) (name : List ℕ) (lts
   no : (found : NetNo) → IsTold files class name lts (Ok (verdict.No found)) → IsWrongNet files class name lts → CheckEnds files class name lts No (no_line lts found) []
   passes : (w : CheckWide) → IsTold files class name lts (Err w) → CheckEnds files class name lts (TooWide (Check w)) [] (wide_line (Check w))
 
--- when each status is due
+-- when each status comes
 abbrev pub CheckIsDue : Option Files → Class → List ℕ → System → Status → Type 0
 CheckIsDue files class name lts Done = IsTold files class name lts (Ok verdict.Yes)
 CheckIsDue files class name lts No = (found : NetNo) × IsTold files class name lts (Ok (verdict.No found))

@@ -24,7 +24,7 @@ pub data ConvertEnds (lts : System) : Target → Status → List ℕ → List �
   label_lost : (t : ℕ) → IsFirstDead lts t → ConvertEnds lts Graph No (lost_label_line lts t) []
   state_lost : (s : ℕ) → IsFirstLost lts s → ConvertEnds lts Graph No (lost_state_line lts s) []
 
--- when each status is due
+-- when each status comes
 abbrev pub ConvertIsDue : System → Target → Status → Type 0
 ConvertIsDue lts Apt Done = Unit {0}
 ConvertIsDue lts Graph Done = IsLabelKept lts × IsStateKept lts

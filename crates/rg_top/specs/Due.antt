@@ -1,4 +1,4 @@
--- When a status is due to the words and the files. A fault or want of memory never is.
+-- Which status words and files ask for. That of a fault or of want of memory is never asked for.
 use Rattle.std.specs.Prelude.{ℕ, List, Option, Some}
 use Rattle.rg_ports.specs.Shelf.{Files}
 use Rattle.rg_theory.specs.System.{System}
@@ -30,7 +30,7 @@ use Rattle.rg_top.specs.SelfTest.{TrialsPass, SelfTestIsDue}
 use Rattle.rg_top.specs.declared.status.Status.{Status}
 use Rattle.rg_top.specs.declared.status.Status.TheVariants.{Usage as Refuses, File}
 
--- the status is due to work on a system where the file spells the system
+-- the status that work on a system asks for, where the file spells the system
 abbrev pub DueOn : Option Files → Work → System → Status → Type 0
 DueOn files (net class) lts = SynthesizeIsDue class lts
 DueOn files (judgement cert) lts = VerifyIsDue files cert lts
@@ -41,24 +41,24 @@ DueOn files (splitting output) lts = SplitIsDue lts
 DueOn files (comparison named form) lts = IsomorphicIsDue files named form lts
 DueOn files (examination output) lts = ExamineIsDue
 
--- the status is due to work on the system of a file
+-- the status that work on the system of a file asks for
 pub data FileDue (files : Option Files) (work : Work) (file : List ℕ) (form : Form) : Status → Type 0 where
   no_system : (fault : Fault) → IsNoSystem files form file fault → FileDue files work file form (File (first_fault fault))
   on_system : (lts : System) (status : Status) → IsSystemFile files form file lts → DueOn files work lts status → FileDue files work file form status
 
--- the status is due to a request
+-- the status that a request asks for
 abbrev pub DueOf : Option Files → Asked → Status → Type 0
 DueOf files (of_system work file form) = FileDue files work file form
 DueOf files (generation kind n) = GenerateIsDue kind n
 DueOf files (self_test n) = SelfTestIsDue n
 
--- the status is due to the words
+-- the status that the words ask for
 pub data IsDue (words : List (List ℕ)) (files : Option Files) : Status → Type 0 where
   refused : (usage : Usage) → AreRefused words usage → IsDue words files (Refuses usage)
   asked : (request : Asked) (status : Status) → Ask words request → DueOf files request status → IsDue words files status
 
 -- the term is out of range, and decides the work on the system: it is the answer for the system and the class where a net is asked for; that
--- for the first factor whose answer is no net where nets for factors are; that of the last round where labels are told apart
+-- for the first factor whose answer is no net where nets for factors are; that of the last round where labels are split
 pub data Decides (lts : System) : Work → Term → Type 0 where
   for_a_net : (class : Class) (w : Shown) → Out lts class (of_term w) → Decides lts (net class) (of_net w)
   for_factors : (class : Class) (fs : List Factor) (i : ℕ) (f : Factor) (w : Shown) → HasFactors lts fs → IsBehindNets class fs i f → Out f.lts class (of_term w)

@@ -18,6 +18,6 @@ report_text output.Json facts = json_of facts
 pub data ExamineEnds (how : ExamineOutput) (lts : System) : Status → List ℕ → List ℕ → Type 0 where
   reported : (e : Examination) → IsExamined lts e → ExamineEnds how lts Done (report_text how (facts_of lts e)) []
 
--- when each status is due: a report always is
+-- when each status comes: that of a report always
 pub data ExamineIsDue : Status → Type 0 where
   always : ExamineIsDue Done

@@ -50,7 +50,7 @@ pub record IsNetBeside (class : Class) (lts : System) (out : List ℕ) : Type 0 
   pub text : out ≡ net_text (net_beside lts fs nets) lts
   pub spelled : length (net_beside lts fs nets).places ≤ most_places → NetSpells out lts (net_beside lts fs nets)
 
--- the bytes tell the first factor whose answer is no net, and then its certificate; so no net of the class solves the system
+-- the bytes name the first factor whose answer is no net, and then its certificate; so no net of the class solves the system
 pub record IsFactorCertificate (class : Class) (lts : System) (out : List ℕ) : Type 0 where
   pub fs : List Factor
   pub tuples : List (List ℕ)
@@ -89,7 +89,7 @@ pub data FactorEnds (lts : System) : Option Class → Status → List ℕ → Li
 abbrev pub HasFactors : System → List Factor → Type 0
 HasFactors lts fs = (tuples : List (List ℕ)) × IsOpen lts × IsFactoring lts (factors fs tuples)
 
--- when each status is due: as the system has an unreachable state, a fork, one block of labels, or parts that don't make it; or factors,
+-- when each status comes: as the system has an unreachable state, a fork, one block of labels, or parts that don't make it; or factors,
 -- and where a class is asked, as the first one whose answer is no net says, or as each has a net
 pub data FactorIsDue (lts : System) : Option Class → Status → Type 0 where
   for_a_state : {class : Option Class} (s : ℕ) → IsLeastUnreachable lts s → FactorIsDue lts class No

@@ -13,7 +13,7 @@ use Rattle.rg_top.specs.declared.status.Status.TheVariants.{Done}
 pub data GenerateEnds (kind : Kind) (n : ℕ) : Status → List ℕ → List ℕ → Type 0 where
   a_system : (lts : System) → IsOfFamily kind n lts → IsWellFormed lts → Spells (lts_text lts) lts → GenerateEnds kind n Done (lts_text lts) []
 
--- when each status is due
+-- when each status comes
 abbrev pub GenerateIsDue : Kind → ℕ → Status → Type 0
 GenerateIsDue kind n Done = Unit {0}
 GenerateIsDue kind n _ = ⊥

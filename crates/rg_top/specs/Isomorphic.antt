@@ -52,7 +52,7 @@ pub record AreFoundOther (files : Option Files) (named : List ℕ) (form : Form)
   pub file : IsSystemFile files form named other
   pub why : (¬ IsJudged lts) ⊎ ((¬ IsJudged other) ⊎ (¬ AreIsomorphic lts other))
 
--- when each status is due
+-- when each status comes
 abbrev pub IsomorphicIsDue : Option Files → List ℕ → Form → System → Status → Type 0
 IsomorphicIsDue files named form lts Done = AreFoundSame files named form lts
 IsomorphicIsDue files named form lts No = AreFoundOther files named form lts

@@ -7,8 +7,8 @@ use Rattle.rg_top.specs.Run.{IsDecided, IsTheOne, AreOne}
 use Rattle.rg_top.specs.Terms.{Term, ShowsTerm}
 use Rattle.rg_top.specs.declared.status.Status.{Status}
 
--- where it is decided what is due two answers are one, and the status is the one that is due; and where the answer for the system and
--- the class is a term that is out of range, the status shows that term. Where the files are told, a status is due, or such a term decides
+-- where the answer is decided two answers are one, and the status is the one that is asked for; and where the answer for the system and
+-- the class is a term that is out of range, the status shows that term. Where the files are known, a status is asked for, or such a term decides
 pub record OneAnswer : Type 0 where
   pub once : (words : List (List ℕ)) (files : Option Files) (s s' : Status) (out err out' err' : List ℕ) → IsDecided words files → Answers words files s out err → Answers words files s' out' err' → AreOne s s' out out' err err'
   pub due : (words : List (List ℕ)) (files : Option Files) (s due : Status) (out err : List ℕ) → IsDecided words files → Answers words files s out err → IsDue words files due → IsTheOne due s

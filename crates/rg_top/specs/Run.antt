@@ -28,7 +28,7 @@ pub record Writes : Type 1 where
   pub faults : Change ℕ
   pub offers : List ℕ → Bool → Type 0
 
--- the words, what the shelf tells of its files, how often its calls failed, and what is seen of both sinks
+-- the words, what the shelf says of its files, how often its calls failed, and what is seen of both sinks
 pub record Run : Type 1 where
   pub words : List (List ℕ)
   pub files : Option Files
@@ -66,7 +66,7 @@ pub record Breaks (sink : Writes) (bytes : List ℕ) : Type 0 where
   pub risen : HasRisen sink.faults.before sink.faults.after
   pub offered : sink.offers bytes false
 
--- the status is due, and all that it writes was taken
+-- the words ask for the status, and all that it writes was taken
 pub record Says (run : Run) (status : Status) : Type 0 where
   pub out_bytes : List ℕ
   pub err_bytes : List ℕ
@@ -88,7 +88,7 @@ pub record FailsToRead (run : Run) : Type 0 where
   pub out : IsLeft run.out
   pub err : IsLeft run.err
 
--- a status was due, and the sink to which it writes failed after a proper prefix; the other sink took nothing
+-- the words ask for a status, and the sink to which it writes failed after a proper prefix; the other sink took nothing
 pub record FailsToWrite (run : Run) : Type 0 where
   pub status : Status
   pub out_bytes : List ℕ
@@ -144,16 +144,16 @@ IsMishap _ = ⊥
 pub record NameNoFile (words : List (List ℕ)) : Type 0 where
   pub none : (work : Work) (file : List ℕ) (form : Form) → Ask words (of_system work file form) → ⊥
 
--- what is due is decided: the shelf tells its files, or the words name none
+-- the answer is decided: the shelf says what its files are, or the words name none
 abbrev pub IsDecided : List (List ℕ) → Option Files → Type 0
 IsDecided words files = IsSome files ⊎ NameNoFile words
 
--- the status is the one that is due, or shows the term, where that shows one
+-- the status is the one that is asked for, or shows the term, where that shows one
 abbrev pub ShowsSame : Option Term → Status → Status → Type 0
 ShowsSame None due result = result ≡ due
 ShowsSame (Some t) due result = ShowsTerm t result
 
--- the status is the one that is due, or shows the same term
+-- the status is the one that is asked for, or shows the same term
 abbrev pub IsTheOne : Status → Status → Type 0
 IsTheOne (TooWide cause) result = ShowsSame (term_of cause) (TooWide cause) result
 IsTheOne due result = result ≡ due
@@ -162,12 +162,12 @@ IsTheOne due result = result ≡ due
 abbrev pub AreOne : Status → Status → List ℕ → List ℕ → List ℕ → List ℕ → Type 0
 AreOne s s' out out' err err' = IsTheOne s' s × (out ≡ out') × (err ≡ err')
 
--- where it is decided what is due, a status that is due to the words and the files comes, unless a fault or want of memory comes in
+-- where the answer is decided, the status that the words and the files ask for comes, unless a fault or want of memory comes in
 -- its place
 abbrev pub ComesIfDue : List (List ℕ) → Option Files → Status → Status → Type 0
 ComesIfDue words files due result = IsDecided words files → IsDue words files due → IsTheOne due result ⊎ IsMishap result
 
--- where nets are asked for, it is decided what is due, and what decides is a term that is out of range, the status shows that term,
+-- where nets are asked for, the answer is decided, and what decides is a term that is out of range, the status shows that term,
 -- unless a fault or want of memory comes in its place
 abbrev pub ComesIfPassed : List (List ℕ) → Option Files → Term → Status → Type 0
 ComesIfPassed words files w result = IsDecided words files → IsPassed words files w → ShowsTerm w result ⊎ IsMishap result

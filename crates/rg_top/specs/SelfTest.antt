@@ -94,7 +94,7 @@ TrialsPass n w =
     ⊎ (IsConclusive (grid_trial n) × IsTerm (doubling_trial n) w)
     ⊎ (IsConclusive (grid_trial n) × IsConclusive (doubling_trial n) × IsTerm (lock_trial n) w)
 
--- when each status is due: as the answers are nets and reasons, or the first that isn't is a term
+-- when each status comes: as the answers are nets and reasons, or the first that isn't is a term
 abbrev pub SelfTestIsDue : ℕ → Status → Type 0
 SelfTestIsDue n Done = IsConclusive (grid_trial n) × IsConclusive (doubling_trial n) × IsConclusive (lock_trial n)
 SelfTestIsDue n (TooWide (Synthesis at)) = TrialsPass n (shown_of at)

@@ -27,7 +27,7 @@ use Rattle.rg_top.specs.declared.status.Status.{Status}
 use Rattle.rg_top.specs.declared.status.Status.TheVariants.{Done, No, TooWide}
 
 -- splitting the labels of the file's system comes to this one, which the net solves: with each transition called by the label for which it
--- stands, the net's reachability graph is the file's system. Where some net solves the file's system, no label is split
+-- comes from, the net's reachability graph is the file's system. Where some net solves the file's system, no label is split
 pub record IsSolvedBy (lts : System) (now : Labelling) (net : Net) : Type 0 where
   pub comes : SplitsTo lts (done now net.places)
   pub apart : IsToldApart lts now
@@ -35,7 +35,7 @@ pub record IsSolvedBy (lts : System) (now : Labelling) (net : Net) : Type 0 wher
   pub labelled : SolvesLabelled net now.old lts
   pub at_once : (other : Net) → Solves other lts → now ≡ itself lts
 
--- the text of the net, each transition with the label of the file's system for which it stands
+-- the text of the net, each transition with the label of the file's system that it comes from
 abbrev pub labelled_net_text : System → Labelling → Net → List ℕ
 labelled_net_text lts now net = labelled_text net now.system (named_labels lts now.old)
 
@@ -46,7 +46,7 @@ pub record IsLabelledText (lts : System) (out : List ℕ) : Type 0 where
   pub solved : IsSolvedBy lts now net
   pub text : out ≡ labelled_net_text lts now net
 
--- the bytes are the text of the system with its labels told apart, and are read as it
+-- the bytes are the text of the system with its labels split, and are read as it
 pub record IsSplitText (lts : System) (out : List ℕ) : Type 0 where
   pub now : Labelling
   pub net : Net
@@ -54,7 +54,7 @@ pub record IsSplitText (lts : System) (out : List ℕ) : Type 0 where
   pub text : out ≡ lts_text now.system
   pub spelled : Spells out now.system
 
--- what is written where a net solves the system with its labels told apart
+-- what is written where a net solves the system with its labels split
 abbrev pub solved_text : System → Labelling → Net → SplitOutput → List ℕ
 solved_text lts now net output.Net = labelled_net_text lts now net
 solved_text lts now net output.System = lts_text now.system
@@ -68,7 +68,7 @@ pub record IsFull (lts : System) : Type 0 where
   pub all : labels now.system ≡ most_labels
   pub none : NoNet now.system no_condition
 
--- a number is out of range in the work on the system with its labels told apart
+-- a number is out of range in the work on the system with its labels split
 pub record IsWideFor (lts system : System) (at : WideAt) : Type 0 where
   pub old : List ℕ
   pub comes : SplitsTo lts (passes (labelling system old) (shown_of at))
@@ -84,7 +84,7 @@ pub data SplitEnds (lts : System) : SplitOutput → Status → List ℕ → List
   no_room : {wanted : SplitOutput} → IsFull lts → SplitEnds lts wanted No full_line []
   a_term : {wanted : SplitOutput} (system : System) (at : WideAt) → IsWideFor lts system at → SplitEnds lts wanted (TooWide (Split system at)) [] (wide_line (Split system at))
 
--- when each status is due: as the rounds come to a net, to a state or a full system, or to a term
+-- when each status comes: as the rounds end with a net, to a state or a full system, or to a term
 pub data SplitIsDue (lts : System) : Status → Type 0 where
   for_a_net : (now : Labelling) (places : List Place) → SplitsTo lts (done now places) → SplitIsDue lts Done
   for_a_state : (s : ℕ) → IsLeastUnreachable lts s → SplitIsDue lts No

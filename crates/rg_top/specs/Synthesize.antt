@@ -52,7 +52,7 @@ pub data SynthesizeEnds (class : Class) (lts : System) : Status → List ℕ →
   a_certificate : (out : List ℕ) → IsCertificateText class lts out → SynthesizeEnds class lts No out []
   a_term : (at : WideAt) → IsShownFor class lts (shown_of at) → SynthesizeEnds class lts (TooWide (Synthesis at)) [] (wide_line (Synthesis at))
 
--- when each status is due: as the one answer is a net, a reason or a term
+-- when each status comes: as the one answer is a net, a reason or a term
 abbrev pub SynthesizeIsDue : Class → System → Status → Type 0
 SynthesizeIsDue class lts Done = (places : List Place) × Out lts class (of_net places)
 SynthesizeIsDue class lts No = (reason : Reason) × Out lts class (of_reason reason)

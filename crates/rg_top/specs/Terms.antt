@@ -8,7 +8,7 @@ use Rattle.rg_messages.specs.declared.wide.WideCause.TheVariants.{Synthesis, Che
 use Rattle.rg_top.specs.declared.status.Status.{Status}
 use Rattle.rg_top.specs.declared.status.Status.TheVariants.{TooWide}
 
--- where a number is out of range: in the work on the file's system, on a factor of it, by its number, or on it with its labels told apart
+-- where a number is out of range: in the work on the file's system, on a factor of it, by its number, or on it with its labels split
 pub data Term : Type 0 where
   of_net : Shown → Term
   of_factor : ℕ → Shown → Term

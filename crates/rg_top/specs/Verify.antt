@@ -59,7 +59,7 @@ pub data VerifyEnds (files : Option Files) (cert : List ℕ) (lts : System) : St
   accepted : (class : Class) → IsAccepted files cert lts class → NoNet lts class → VerifyEnds files cert lts Done (accepted_line class) []
   refused : (out : List ℕ) → IsNotAccepted files cert lts → IsRefused files cert lts out → VerifyEnds files cert lts No out []
 
--- when each status is due
+-- when each status comes
 abbrev pub VerifyIsDue : Option Files → List ℕ → System → Status → Type 0
 VerifyIsDue files cert lts Done = (class : Class) × IsAccepted files cert lts class
 VerifyIsDue files cert lts No = IsNotAccepted files cert lts

@@ -62,7 +62,7 @@ impl From<AllocError> for Stop {
     }
 }
 
-// What is due to the words.
+// The answer that the words ask for.
 pub(crate) fn make_answer<R: Threads + Sync, H: Shelf, G: Gate + Sync>(
     rt: &R,
     alloc: Global,

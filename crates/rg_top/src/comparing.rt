@@ -58,7 +58,7 @@ fn pair_answer(alloc: Global, a: &Lts, b: &Lts) -> Result<Answer, NoMemory>
     judged_answer(alloc, a, b)
 }
 
-// What is told of two systems that are judged.
+// The answer for two systems that are judged.
 fn judged_answer(alloc: Global, a: &Lts, b: &Lts) -> Result<Answer, NoMemory>
     requires first { IsJudged a.now }
     requires second { IsJudged b.now }
@@ -73,7 +73,7 @@ fn judged_answer(alloc: Global, a: &Lts, b: &Lts) -> Result<Answer, NoMemory>
     Ok(said(alloc, status_of(&same), out))
 }
 
-// The status of what is told.
+// The status of the result.
 fn status_of(same: &Same) -> Status
     ensures { result ≡ told_status (told_of same.now) }
 {

@@ -18,7 +18,7 @@ use rg_split::{Splitting, split};
 use std::alloc::Global;
 use std::thread::Threads;
 
-// The net of the system with its labels told apart, or that system.
+// The net of the system with its labels split, or that system.
 pub(crate) fn split_answer<R: Threads + Sync, G: Gate + Sync>(
     rt: &R,
     alloc: Global,

@@ -20,7 +20,7 @@ pub(crate) enum Work<'a> {
     Conversion(Target),
     // The factors, or nets of the class for them side by side, by so many jobs.
     Factoring(Option<Class>, u8),
-    // The net of the system with its labels told apart, or that system, by so many jobs.
+    // The net of the system with its labels split, or that system, by so many jobs.
     Splitting(SplitOutput, u8),
     // Whether the system of the file, in its form, is isomorphic to it.
     Comparison(&'a str, Form),
