@@ -26,7 +26,7 @@ use Rattle.rg_messages.specs.declared.wide.WideCause.TheVariants.{Split}
 use Rattle.rg_top.specs.declared.status.Status.{Status}
 use Rattle.rg_top.specs.declared.status.Status.TheVariants.{Done, No, TooWide}
 
--- splitting the labels of the file's system comes to this one, which the net solves: with each transition called by the label for which it
+-- splitting the labels of the file's system comes to this one, which the net solves: with each transition called by the label that it
 -- comes from, the net's reachability graph is the file's system. Where some net solves the file's system, no label is split
 pub record IsSolvedBy (lts : System) (now : Labelling) (net : Net) : Type 0 where
   pub comes : SplitsTo lts (done now net.places)
