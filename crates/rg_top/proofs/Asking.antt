@@ -15,7 +15,8 @@ none_more : {A : Type 0} → (1 < 1 → A)
 none_more lt = absurd (omega (arith, lt))
 
 -- the first alone
-pub asks_first : (files : Option Files) (work : Work) (file : List ℕ) (form : Form) (before after : Option (List (List ℕ))) → after ≡ asked_with before file → AsksFiles files work file form before after
+pub asks_first : (files : Option Files) (work : Work) (file : List ℕ) (form : Form) (before after : Option (List (List ℕ)))
+    → after ≡ asked_with before file → AsksFiles files work file form before after
 asks_first files work file form before after is = (file ∷ [], second_files work, refl, is, none_more)
 
 more_names : (before : Option (List (List ℕ))) (file : List ℕ) (more : List (List ℕ)) → asked_more (asked_with before file) more ≡ option_map (λ all. all ++ (file ∷ more)) before
@@ -36,7 +37,8 @@ asks_all files work file form lts before between after system first second = (
 )
 
 -- the calls that read the first file, to its end, and those that read the others
-pub reads_all : {S : Type 0} (finds : S → List ℕ → Option Bool → S → Type 0) (hands : S → ℕ → Option ℕ → S → Type 0) (files : Option Files) (work : Work) (file : List ℕ) (form : Form) (s m t : S) (lts : System)
+pub reads_all : {S : Type 0} (finds : S → List ℕ → Option Bool → S → Type 0) (hands : S → ℕ → Option ℕ → S → Type 0) (files : Option Files)
+    (work : Work) (file : List ℕ) (form : Form) (s m t : S) (lts : System)
     → ReadsFile finds hands file s finds_end m → IsSystemFile files form file lts → ReadsMore finds hands (second_files work) m t → ReadsFiles finds hands files work file form s t
 reads_all finds hands files (net class) file form s m t lts first system more = first_alone s t finds_end (subst (λ x. ReadsFile finds hands file s finds_end x) (sym more) first)
 reads_all finds hands files (conversion target) file form s m t lts first system more = first_alone s t finds_end (subst (λ x. ReadsFile finds hands file s finds_end x) (sym more) first)
@@ -49,12 +51,14 @@ reads_all finds hands files (verdict class name) file form s m t lts first syste
 
 -- ---- the calls for what words ask
 
-pub asks_at_most : (words : List (List ℕ)) (files : Option Files) (asked : Asked) (before after : Option (List (List ℕ))) → Ask words asked → AsksOf files asked before after → AsksAtMost words files before after
+pub asks_at_most : (words : List (List ℕ)) (files : Option Files) (asked : Asked) (before after : Option (List (List ℕ)))
+    → Ask words asked → AsksOf files asked before after → AsksAtMost words files before after
 asks_at_most words files (of_system work file form) before after ask asks = inr (work, file, form, ask, asks)
 asks_at_most words files (generation kind n) before after ask same = inl same
 asks_at_most words files (self_test n) before after ask same = inl same
 
-pub reads_at_most : {S : Type 0} (finds : S → List ℕ → Option Bool → S → Type 0) (hands : S → ℕ → Option ℕ → S → Type 0) (words : List (List ℕ)) (files : Option Files) (asked : Asked) (s t : S) → Ask words asked → ReadsOf finds hands files asked s t → ReadsAtMost finds hands words files s t
+pub reads_at_most : {S : Type 0} (finds : S → List ℕ → Option Bool → S → Type 0) (hands : S → ℕ → Option ℕ → S → Type 0) (words : List (List ℕ))
+    (files : Option Files) (asked : Asked) (s t : S) → Ask words asked → ReadsOf finds hands files asked s t → ReadsAtMost finds hands words files s t
 reads_at_most finds hands words files (of_system work file form) s t ask reads = inr (work, file, form, ask, reads)
 reads_at_most finds hands words files (generation kind n) s t ask same = inl same
 reads_at_most finds hands words files (self_test n) s t ask same = inl same

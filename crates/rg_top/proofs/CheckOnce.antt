@@ -1,5 +1,5 @@
 -- `check` ends in one way for a system, a class and a file.
-use Rattle.std.proofs.Common.{◌≡◌, ◌⊎◌, inl, inr, ℕ, List, [], Some, Ok, Err, refl, ap, subst}
+use Rattle.std.proofs.Common.{◌≡◌, ◌⊎◌, inl, inr, ℕ, List, Some, Ok, Err, refl, ap, subst}
 use Rattle.rg_ports.specs.Shelf.{Files}
 use Rattle.rg_theory.specs.System.{System, IsInRange}
 use Rattle.rg_theory.specs.Net.{Net}
@@ -9,19 +9,17 @@ use Rattle.rg_netfile.specs.declared.fault.NetFault.{NetFault}
 use Rattle.rg_net_verdict.specs.declared.verdict.NetVerdict.TheVariants as verdict
 use Rattle.rg_net_verdict.specs.Verdict.{Told, IsVerdict}
 use Rattle.rg_messages.specs.CheckedTexts.{yes_line, no_line}
-use Rattle.rg_messages.specs.Files.{file_line}
-use Rattle.rg_messages.specs.Wides.{wide_line}
 use Rattle.rg_messages.specs.declared.fault.Fault.{Fault}
 use Rattle.rg_messages.specs.declared.fault.Fault.TheVariants.{Missing, TooLong, Apt, Graph, Words, Net as OfNet}
-use Rattle.rg_messages.specs.declared.wide.WideCause.TheVariants.{Synthesis, Check, Factor, Split}
 use Rattle.rg_top.specs.Given.{IsUnread}
 use Rattle.rg_top.specs.Second.{second_fault}
-use Rattle.rg_top.specs.Check.{IsNetFile, IsNetFault, IsFaultyNet, IsNoNet, IsTold, CheckEnds, unread, yes, no, passes, CheckIsDue}
-use Rattle.rg_top.specs.Run.{IsTheOne, AreOne}
+use Rattle.rg_top.specs.Check.{IsNetFile, IsNetFault, IsFaultyNet, IsNoNet, IsTold, CheckEnds, unread, yes, no, passes}
+use Rattle.rg_top.specs.Check.{CheckIsDue, by_no_net, by_yes, by_no, by_term}
+use Rattle.rg_top.specs.End.{End, says_yes, says_no, refuses_file, shows_term, HasStatus}
+use Rattle.rg_top.specs.Terms.{of_check}
 use Rattle.rg_top.specs.declared.status.Status.{Status}
-use Rattle.rg_top.specs.declared.status.Status.TheVariants.{Done, No, Usage, File, TooWide, ReadFault, WriteFault, NoMemory}
 use Rattle.rg_top.proofs.OneFile.{same_bytes, unread_or_there, one_unread}
-use Rattle.rg_top.proofs.VerifyOnce.{of_second}
+use Rattle.rg_top.proofs.Told.{TellsOne, IsEndOf, IsStatusOf, one_end, due_end}
 
 -- a text spells one net or has one first fault, and a net has one verdict
 pub record OneVerdict : Type 0 where
@@ -77,83 +75,54 @@ net_or_none one files name lts f net h k = by (unread_or_faulty files name lts f
         let first = subst (λ b. IsNetFault b lts f) (same_bytes files name x.bytes k.bytes x.file k.file) x.first in
         spelled_or_not one k.bytes lts net f k.spelled (which k.bytes lts f first)
 
-one_told : OneVerdict → (files : Files) (class : Class) (name : List ℕ) (lts : System) (v w : Told) → IsInRange lts → IsTold (Some files) class name lts v → IsTold (Some files) class name lts w → v ≡ w
+one_told : OneVerdict → (files : Files) (class : Class) (name : List ℕ) (lts : System) (v w : Told) → IsInRange lts
+    → IsTold (Some files) class name lts v → IsTold (Some files) class name lts w → v ≡ w
 one_told one files class name lts v w ranged h k =
     let same = same_bytes files name h.file.bytes k.file.bytes h.file.file k.file.file in
     let nets = one.one_net k.file.bytes lts h.net k.net (subst (λ b. Spells b lts h.net) same h.file.spelled) k.file.spelled in
     one.one_verdict lts k.net class v w ranged (subst (λ n. IsVerdict lts n class v) nets h.judged) k.judged
 
--- ---- the end of what is told
+-- ---- the end of what is found
 
-abbrev status_of : Told → Status
-status_of (Ok verdict.Yes) = Done
-status_of (Ok (verdict.No found)) = No
-status_of (Err w) = TooWide (Check w)
+-- no file of a net, or the verdict on its net
+data Found : Type 0 where
+  none : Fault → Found
+  told : Told → Found
 
-abbrev out_of : System → Told → List ℕ
-out_of lts (Ok verdict.Yes) = yes_line
-out_of lts (Ok (verdict.No found)) = no_line lts found
-out_of lts (Err w) = []
+abbrev Finds : Files → Class → List ℕ → System → Found → Type 0
+Finds files class name lts (none fault) = IsNoNet (Some files) name lts fault
+Finds files class name lts (told v) = IsTold (Some files) class name lts v
 
-abbrev err_of : Told → List ℕ
-err_of (Ok verdict.Yes) = []
-err_of (Ok (verdict.No found)) = []
-err_of (Err w) = wide_line (Check w)
+abbrev end_of : System → Found → End
+end_of lts (none fault) = refuses_file (second_fault fault)
+end_of lts (told (Ok verdict.Yes)) = says_yes yes_line
+end_of lts (told (Ok (verdict.No found))) = says_no (no_line lts found)
+end_of lts (told (Err w)) = shows_term (of_check w)
 
--- no file, or what is told of its net
-data Which (files : Files) (class : Class) (name : List ℕ) (lts : System) : Status → List ℕ → List ℕ → Type 0 where
-  none : (fault : Fault) → IsNoNet (Some files) name lts fault → Which files class name lts (File (second_fault fault)) [] (file_line (second_fault fault))
-  told : (v : Told) → IsTold (Some files) class name lts v → Which files class name lts (status_of v) (out_of lts v) (err_of v)
+one_found : OneVerdict → (files : Files) (class : Class) (name : List ℕ) (lts : System) → IsInRange lts → TellsOne (Finds files class name lts)
+one_found one files class name lts ranged (none f) (none g) h k = ap none (one_no_net one files name lts f g h k)
+one_found one files class name lts ranged (none f) (told w) h k = absurd (net_or_none one files name lts f k.net h k.file)
+one_found one files class name lts ranged (told v) (none g) h k = absurd (net_or_none one files name lts g h.net k h.file)
+one_found one files class name lts ranged (told v) (told w) h k = ap told (one_told one files class name lts v w ranged h k)
 
-which_end : (files : Files) (class : Class) (name : List ℕ) (lts : System) (s : Status) (out err : List ℕ) → CheckEnds (Some files) class name lts s out err → Which files class name lts s out err
-which_end files class name lts s out err (unread f h) = none f h
-which_end files class name lts s out err (yes is right) = told (Ok verdict.Yes) is
-which_end files class name lts s out err (no n is wrong) = told (Ok (verdict.No n)) is
-which_end files class name lts s out err (passes w is) = told (Err w) is
+found : (files : Files) (class : Class) (name : List ℕ) (lts : System) (e : End) → CheckEnds (Some files) class name lts e → IsEndOf (Finds files class name lts) (end_of lts) e
+found files class name lts _ (unread f h) = (none f, h, refl)
+found files class name lts _ (yes is right) = (told (Ok verdict.Yes), is, refl)
+found files class name lts _ (no n is wrong) = (told (Ok (verdict.No n)), is, refl)
+found files class name lts _ (passes w is) = (told (Err w), is, refl)
 
--- which status is due
-data WhichDue (files : Files) (class : Class) (name : List ℕ) (lts : System) : Status → Type 0 where
-  no_net : (fault : Fault) → IsNoNet (Some files) name lts fault → WhichDue files class name lts (File (second_fault fault))
-  is_told : (v : Told) → IsTold (Some files) class name lts v → WhichDue files class name lts (status_of v)
+due : (files : Files) (class : Class) (name : List ℕ) (lts : System) (s : Status) → CheckIsDue (Some files) class name lts s → IsStatusOf (Finds files class name lts) (end_of lts) s
+due files class name lts _ (by_no_net f h) = (none f, h, refl)
+due files class name lts _ (by_yes is) = (told (Ok verdict.Yes), is, refl)
+due files class name lts _ (by_no n is) = (told (Ok (verdict.No n)), is, refl)
+due files class name lts _ (by_term w is) = (told (Err w), is, refl)
 
-which_due : (files : Files) (class : Class) (name : List ℕ) (lts : System) (d : Status) → CheckIsDue (Some files) class name lts d → WhichDue files class name lts d
-which_due files class name lts Done is = is_told (Ok verdict.Yes) is
-which_due files class name lts No (n, is) = is_told (Ok (verdict.No n)) is
-which_due files class name lts (TooWide (Check w)) is = is_told (Err w) is
-which_due files class name lts (TooWide (Synthesis w)) is = absurd is
-which_due files class name lts (TooWide (Factor i w)) is = absurd is
-which_due files class name lts (TooWide (Split system w)) is = absurd is
-which_due files class name lts (File fault) (second, is) = of_second (WhichDue files class name lts) fault second (no_net fault.fault is)
-which_due files class name lts (Usage usage) is = absurd is
-which_due files class name lts ReadFault is = absurd is
-which_due files class name lts WriteFault is = absurd is
-which_due files class name lts NoMemory is = absurd is
+pub check_due : OneVerdict → (files : Files) (class : Class) (name : List ℕ) (lts : System) (e : End) (s : Status) → IsInRange lts
+    → CheckEnds (Some files) class name lts e → CheckIsDue (Some files) class name lts s → HasStatus e s
+check_due one files class name lts e s ranged x y =
+    due_end (Finds files class name lts) (end_of lts) (one_found one files class name lts ranged) e s (found files class name lts e x) (due files class name lts s y)
 
-told_one : (v w : Told) → v ≡ w → IsTheOne (status_of w) (status_of v)
-told_one v (Ok verdict.Yes) e = ap status_of e
-told_one v (Ok (verdict.No n)) e = ap status_of e
-told_one v (Err w) e = ap status_of e
-
-pub check_due : OneVerdict → (files : Files) (class : Class) (name : List ℕ) (lts : System) (s d : Status) (out err : List ℕ) → IsInRange lts
-    → CheckEnds (Some files) class name lts s out err → CheckIsDue (Some files) class name lts d → IsTheOne d s
-check_due one files class name lts s d out err ranged x y = by s d out err (which_end files class name lts s out err x) (which_due files class name lts d y)
-  where
-    by : (s d : Status) (out err : List ℕ) → Which files class name lts s out err → WhichDue files class name lts d → IsTheOne d s
-    by s d out err (none f h) (no_net g k) = ap (λ x. File (second_fault x)) (one_no_net one files name lts f g h k)
-    by s d out err (none f h) (is_told w k) = absurd (net_or_none one files name lts f k.net h k.file)
-    by s d out err (told v h) (no_net g k) = absurd (net_or_none one files name lts g h.net k h.file)
-    by s d out err (told v h) (is_told w k) = told_one v w (one_told one files class name lts v w ranged h k)
-
-pub check_once : OneVerdict → (files : Files) (class : Class) (name : List ℕ) (lts : System) (s s' : Status) (out err out' err' : List ℕ) → IsInRange lts
-    → CheckEnds (Some files) class name lts s out err → CheckEnds (Some files) class name lts s' out' err' → AreOne s s' out out' err err'
-check_once one files class name lts s s' out err out' err' ranged x y = by s s' out err out' err' (which_end files class name lts s out err x) (which_end files class name lts s' out' err' y)
-  where
-    by : (s s' : Status) (out err out' err' : List ℕ) → Which files class name lts s out err → Which files class name lts s' out' err' → AreOne s s' out out' err err'
-    by s s' out err out' err' (none f h) (none g k) =
-        let same = one_no_net one files name lts f g h k in
-        (ap (λ x. File (second_fault x)) same, refl, ap (λ x. file_line (second_fault x)) same)
-    by s s' out err out' err' (none f h) (told w k) = absurd (net_or_none one files name lts f k.net h k.file)
-    by s s' out err out' err' (told v h) (none g k) = absurd (net_or_none one files name lts g h.net k h.file)
-    by s s' out err out' err' (told v h) (told w k) =
-        let same = one_told one files class name lts v w ranged h k in
-        (told_one v w same, ap (out_of lts) same, ap err_of same)
+pub check_once : OneVerdict → (files : Files) (class : Class) (name : List ℕ) (lts : System) (e e' : End) → IsInRange lts
+    → CheckEnds (Some files) class name lts e → CheckEnds (Some files) class name lts e' → e ≡ e'
+check_once one files class name lts e e' ranged x y =
+    one_end (Finds files class name lts) (end_of lts) (one_found one files class name lts ranged) e e' (found files class name lts e x) (found files class name lts e' y)

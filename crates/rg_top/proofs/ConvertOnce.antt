@@ -6,10 +6,12 @@ use Rattle.rg_genet.specs.Loss.{has_label, is_on_arc, IsLabelKept, IsStateKept, 
 use Rattle.rg_commands.specs.declared.forms.Target.{Target}
 use Rattle.rg_commands.specs.declared.forms.Target.TheVariants.{Apt, Graph}
 use Rattle.rg_messages.specs.LostTexts.{lost_label_line, lost_state_line}
-use Rattle.rg_top.specs.Convert.{ConvertEnds, as_apt, as_graph, label_lost, state_lost, ConvertIsDue}
-use Rattle.rg_top.specs.Run.{IsTheOne, AreOne}
+use Rattle.rg_apt.specs.Plain.{lts_text}
+use Rattle.rg_genet.specs.Text.{graph_text}
+use Rattle.rg_top.specs.Convert.{ConvertEnds, as_apt, as_graph, label_lost, state_lost, ConvertIsDue, always, by_all, by_label, by_state}
+use Rattle.rg_top.specs.End.{End, says_yes, says_no, HasStatus}
 use Rattle.rg_top.specs.declared.status.Status.{Status}
-use Rattle.rg_top.specs.declared.status.Status.TheVariants.{Done, No, Usage, File, TooWide, ReadFault, WriteFault, NoMemory}
+use Rattle.rg_top.proofs.Told.{TellsOne, IsEndOf, IsStatusOf, one_end, due_end}
 
 clash : (b : Bool) → b ≡ true → b ≡ false → ⊥
 clash b p q = let e = sym p ∙ q in cc
@@ -30,57 +32,57 @@ kept_not_lost : (lts : System) (s : ℕ) → IsStateKept lts → IsFirstLost lts
 kept_not_lost lts s (inl few) lost = let several = lost.several in omega (arith, few, several)
 kept_not_lost lts s (inr kept) lost = clash (is_on_arc lts s) (kept s lost.within) lost.lost
 
--- which status is due
-data WhichDue (lts : System) : Target → Status → Type 0 where
-  apt : WhichDue lts Apt Done
-  graph : IsLabelKept lts → IsStateKept lts → WhichDue lts Graph Done
-  dead : (t : ℕ) → IsFirstDead lts t → WhichDue lts Graph No
-  lost : (s : ℕ) → IsFirstLost lts s → WhichDue lts Graph No
+-- ---- what the form holds
 
-which_due : (lts : System) (target : Target) (d : Status) → ConvertIsDue lts target d → WhichDue lts target d
-which_due lts Apt Done is = apt
-which_due lts Apt No is = absurd is
-which_due lts Apt (Usage usage) is = absurd is
-which_due lts Apt (File fault) is = absurd is
-which_due lts Apt (TooWide cause) is = absurd is
-which_due lts Apt ReadFault is = absurd is
-which_due lts Apt WriteFault is = absurd is
-which_due lts Apt NoMemory is = absurd is
-which_due lts Graph Done is = graph is.0 is.1
-which_due lts Graph No (inl is) = dead is.0 is.1
-which_due lts Graph No (inr is) = lost is.0 is.1
-which_due lts Graph (Usage usage) is = absurd is
-which_due lts Graph (File fault) is = absurd is
-which_due lts Graph (TooWide cause) is = absurd is
-which_due lts Graph ReadFault is = absurd is
-which_due lts Graph WriteFault is = absurd is
-which_due lts Graph NoMemory is = absurd is
+data Held : Type 0 where
+  all : Held
+  no_label : ℕ → Held
+  no_state : ℕ → Held
 
-due_one : (lts : System) (target : Target) (s d : Status) (out err : List ℕ) → ConvertEnds lts target s out err → WhichDue lts target d → IsTheOne d s
-due_one lts target s d out err (as_apt spelled) apt = refl
-due_one lts target s d out err (as_graph labels states again) (graph l r) = refl
-due_one lts target s d out err (as_graph labels states again) (dead t is) = absurd (kept_not_dead lts t labels is)
-due_one lts target s d out err (as_graph labels states again) (lost q is) = absurd (kept_not_lost lts q states is)
-due_one lts target s d out err (label_lost t is) (graph l r) = absurd (kept_not_dead lts t l is)
-due_one lts target s d out err (label_lost t is) (dead u also) = refl
-due_one lts target s d out err (label_lost t is) (lost q also) = refl
-due_one lts target s d out err (state_lost q is) (graph l r) = absurd (kept_not_lost lts q r is)
-due_one lts target s d out err (state_lost q is) (dead t also) = refl
-due_one lts target s d out err (state_lost q is) (lost r also) = refl
+data Holds (lts : System) : Target → Held → Type 0 where
+  apt : Holds lts Apt all
+  graph : IsLabelKept lts → IsStateKept lts → Holds lts Graph all
+  dead : (t : ℕ) → IsFirstDead lts t → Holds lts Graph (no_label t)
+  lost : (s : ℕ) → IsFirstLost lts s → Holds lts Graph (no_state s)
 
-pub convert_due : (lts : System) (target : Target) (s d : Status) (out err : List ℕ) → ConvertEnds lts target s out err → ConvertIsDue lts target d → IsTheOne d s
-convert_due lts target s d out err x y = due_one lts target s d out err x (which_due lts target d y)
+one_held : (lts : System) (target : Target) → TellsOne (Holds lts target)
+one_held lts target a b h k = by target a b h k
+  where
+    by : (target : Target) (a b : Held) → Holds lts target a → Holds lts target b → a ≡ b
+    by _ _ _ apt apt = refl
+    by _ _ _ (graph l r) (graph l' r') = refl
+    by _ _ _ (graph l r) (dead t is) = absurd (kept_not_dead lts t l is)
+    by _ _ _ (graph l r) (lost q is) = absurd (kept_not_lost lts q r is)
+    by _ _ _ (dead t is) (graph l r) = absurd (kept_not_dead lts t l is)
+    by _ _ _ (dead t is) (dead u also) = ap no_label (first_once (has_label lts) t u is.dead is.before also.dead also.before)
+    by _ _ _ (dead t is) (lost q also) = absurd (kept_not_dead lts t also.kept is)
+    by _ _ _ (lost q is) (graph l r) = absurd (kept_not_lost lts q r is)
+    by _ _ _ (lost q is) (dead t also) = absurd (kept_not_dead lts t is.kept also)
+    by _ _ _ (lost q is) (lost r also) = ap no_state (first_once (is_on_arc lts) q r is.lost is.before also.lost also.before)
 
-pub convert_once : (lts : System) (target : Target) (s s' : Status) (out err out' err' : List ℕ) → ConvertEnds lts target s out err → ConvertEnds lts target s' out' err' → AreOne s s' out out' err err'
-convert_once lts target s s' out err out' err' (as_apt spelled) (as_apt spelled') = (refl, refl, refl)
-convert_once lts target s s' out err out' err' (as_graph l r again) (as_graph l' r' again') = (refl, refl, refl)
-convert_once lts target s s' out err out' err' (as_graph l r again) (label_lost t is) = absurd (kept_not_dead lts t l is)
-convert_once lts target s s' out err out' err' (as_graph l r again) (state_lost q is) = absurd (kept_not_lost lts q r is)
-convert_once lts target s s' out err out' err' (label_lost t is) (as_graph l r again) = absurd (kept_not_dead lts t l is)
-convert_once lts target s s' out err out' err' (label_lost t is) (label_lost u also) =
-    (refl, ap (lost_label_line lts) (first_once (has_label lts) t u is.dead is.before also.dead also.before), refl)
-convert_once lts target s s' out err out' err' (label_lost t is) (state_lost q also) = absurd (kept_not_dead lts t also.kept is)
-convert_once lts target s s' out err out' err' (state_lost q is) (as_graph l r again) = absurd (kept_not_lost lts q r is)
-convert_once lts target s s' out err out' err' (state_lost q is) (label_lost t also) = absurd (kept_not_dead lts t is.kept also)
-convert_once lts target s s' out err out' err' (state_lost q is) (state_lost r also) =
-    (refl, ap (lost_state_line lts) (first_once (is_on_arc lts) q r is.lost is.before also.lost also.before), refl)
+abbrev text_as : System → Target → List ℕ
+text_as lts Apt = lts_text lts
+text_as lts Graph = graph_text lts
+
+abbrev end_of : System → Target → Held → End
+end_of lts target all = says_yes (text_as lts target)
+end_of lts target (no_label t) = says_no (lost_label_line lts t)
+end_of lts target (no_state s) = says_no (lost_state_line lts s)
+
+held : (lts : System) (target : Target) (e : End) → ConvertEnds lts target e → IsEndOf (Holds lts target) (end_of lts target) e
+held lts _ _ (as_apt spelled) = (all, apt, refl)
+held lts _ _ (as_graph l r again) = (all, graph l r, refl)
+held lts _ _ (label_lost t is) = (no_label t, dead t is, refl)
+held lts _ _ (state_lost q is) = (no_state q, lost q is, refl)
+
+due : (lts : System) (target : Target) (s : Status) → ConvertIsDue lts target s → IsStatusOf (Holds lts target) (end_of lts target) s
+due lts _ _ always = (all, apt, refl)
+due lts _ _ (by_all l r) = (all, graph l r, refl)
+due lts _ _ (by_label t is) = (no_label t, dead t is, refl)
+due lts _ _ (by_state q is) = (no_state q, lost q is, refl)
+
+pub convert_due : (lts : System) (target : Target) (e : End) (s : Status) → ConvertEnds lts target e → ConvertIsDue lts target s → HasStatus e s
+convert_due lts target e s x y = due_end (Holds lts target) (end_of lts target) (one_held lts target) e s (held lts target e x) (due lts target s y)
+
+pub convert_once : (lts : System) (target : Target) (e e' : End) → ConvertEnds lts target e → ConvertEnds lts target e' → e ≡ e'
+convert_once lts target e e' x y = one_end (Holds lts target) (end_of lts target) (one_held lts target) e e' (held lts target e x) (held lts target e' y)

@@ -29,20 +29,19 @@ use Rattle.rg_product.specs.Beside.{net_beside}
 use Rattle.rg_product.proofs.ProductSquares.{joined_is_one_block, one_block_no_product}
 use Rattle.rg_factor_nets.specs.Answer.{IsNetBeside as IsMadeOfNets, IsCertificateOfFactor, IsTermOfFactor}
 use Rattle.rg_reasons.specs.declared.wide_at.WideAt.{WideAt}
+use Rattle.rg_separate.specs.View.{shown_of}
 use Rattle.rg_synth.specs.Answer.{IsOpen}
 use Rattle.rg_messages.specs.FactorTexts.{one_block_text, factors_text, unsolvable_factor_line}
-use Rattle.rg_messages.specs.Wides.{wide_line}
-use Rattle.rg_messages.specs.declared.wide.WideCause.TheVariants.{Factor as OfFactor}
 use Rattle.rg_top.specs.Factor.{AreFactorsOf, FactorEnds, no_blocks, all_factors, a_net, a_certificate, a_term}
-use Rattle.rg_top.specs.declared.status.Status.TheVariants.{Done, No, TooWide}
+use Rattle.rg_top.specs.End.{says_yes, says_no, shows_term}
+use Rattle.rg_top.specs.Terms.{Term.of_factor as of_factor_term}
 
 -- a text of what is read, which is what is there
-pub text_of_same : {A : Type 0} (text : A → List ℕ) (out made : List ℕ) (read there : A) → out ≡ made → made ≡ text read → read ≡ there → out ≡ text there
-text_of_same text out made read there e f same = e ∙ f ∙ ap text same
+pub text_of_same : {A : Type 0} (text : A → List ℕ) (out : List ℕ) (read there : A) → out ≡ text read → read ≡ there → out ≡ text there
+text_of_same text out read there e same = e ∙ ap text same
 
-pub text_of_both : {A B : Type 0} (text : A → B → List ℕ) (out made : List ℕ) (read there : A) (read' there' : B) → out ≡ made → made ≡ text read read' → read ≡ there → read' ≡ there'
-    → out ≡ text there there'
-text_of_both text out made read there read' there' e f same same' = e ∙ f ∙ ap₂ text same same'
+pub text_of_both : {A B : Type 0} (text : A → B → List ℕ) (out : List ℕ) (read there : A) (read' there' : B) → out ≡ text read read' → read ≡ there → read' ≡ there' → out ≡ text there there'
+text_of_both text out read there read' there' e same same' = e ∙ ap₂ text same same'
 
 -- ---- one block
 
@@ -53,7 +52,7 @@ is_one_block : (lts : System) (squares : List Broken) → IsFactoring lts (one_b
 is_one_block lts squares (of_one_block _ joining all) = joined_is_one_block lts squares joining all
 
 pub blocks_end : (lts : System) (class : Option Class) (squares : List Broken) → IsInRange lts → IsOpen lts → IsFactoring lts (one_block squares)
-    → FactorEnds lts class No (one_block_text lts squares) []
+    → FactorEnds lts class (says_no (one_block_text lts squares))
 blocks_end lts class squares fine is_open found =
     let one = is_one_block lts squares found in
     no_blocks class squares is_open found (record { none = λ a b tuples fine_a fine_b some some'. one_block_no_product lts a b tuples fine fine_a fine_b one some some' })
@@ -68,8 +67,8 @@ are_factors lts fs tuples is_open found = record { is_open = is_open; factoring 
 
 -- what is written where no nets are asked for
 pub factors_end : (lts : System) (class : Option Class) (fs : List Factor) (tuples : List (List ℕ)) → class ≡ None → AreFactorsOf lts fs tuples
-    → FactorEnds lts class Done (factors_text lts fs tuples) []
-factors_end lts class fs tuples none are = subst (λ o. FactorEnds lts o Done (factors_text lts fs tuples) []) (sym none) (all_factors fs tuples are)
+    → FactorEnds lts class (says_yes (factors_text lts fs tuples))
+factors_end lts class fs tuples none are = subst (λ o. FactorEnds lts o (says_yes (factors_text lts fs tuples))) (sym none) (all_factors fs tuples are)
 
 -- there is a tuple for each state, where the tuples are seen as lists
 pub tuples_long : {V : Type 0} (view : V → List ℕ) (lts : System) (fs : List Factor) (tuples : List V) → AreFactorsOf lts fs (map view tuples) → length tuples ≡ states lts
@@ -88,7 +87,7 @@ factor_here view all i d f at = sym (get_or_from_slice_get (map view all) i f (v
 -- ---- nets of a class
 
 pub nets_end : (class : Class) (lts : System) (fs : List Factor) (tuples : List (List ℕ)) (net : Net) (out : List ℕ) → IsWellFormed lts → AreFactorsOf lts fs tuples → IsMadeOfNets class lts fs net
-    → out ≡ net_text net lts → FactorEnds lts (Some class) Done out []
+    → out ≡ net_text net lts → FactorEnds lts (Some class) (says_yes out)
 nets_end class lts fs tuples net out formed are made text =
     let beside : Net = net_beside lts fs made.nets in
     let in_range = subst IsNetInRange made.is made.in_range in
@@ -108,7 +107,7 @@ nets_end class lts fs tuples net out formed are made text =
     })
 
 pub certificate_end : (class : Class) (lts : System) (fs : List Factor) (tuples : List (List ℕ)) (i : ℕ) (cert : Certificate) (out : List ℕ) → AreFactorsOf lts fs tuples
-    → (found : IsCertificateOfFactor class lts fs i cert) → out ≡ unsolvable_factor_line i ++ cert_text (claim_of cert) found.f.lts → FactorEnds lts (Some class) No out []
+    → (found : IsCertificateOfFactor class lts fs i cert) → out ≡ unsolvable_factor_line i ++ cert_text (claim_of cert) found.f.lts → FactorEnds lts (Some class) (says_no out)
 certificate_end class lts fs tuples i cert out are found text =
     let factor : System = found.f.lts in
     let lines : List ℕ = cert_text (claim_of cert) factor in
@@ -135,8 +134,8 @@ certificate_end class lts fs tuples i cert out are found text =
     })
 
 pub term_end : (class : Class) (lts : System) (fs : List Factor) (tuples : List (List ℕ)) (i : ℕ) (at : WideAt) → AreFactorsOf lts fs tuples → IsTermOfFactor class fs i at
-    → FactorEnds lts (Some class) (TooWide (OfFactor i at)) [] (wide_line (OfFactor i at))
-term_end class lts fs tuples i at are found = a_term class i at (record {
+    → FactorEnds lts (Some class) (shows_term (of_factor_term i (shown_of at)))
+term_end class lts fs tuples i at are found = a_term class i (shown_of at) (record {
   fs = fs;
   tuples = tuples;
   are = are;

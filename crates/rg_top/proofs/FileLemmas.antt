@@ -1,4 +1,4 @@
--- What is told of files.
+-- What is known of files.
 use Rattle.std.proofs.Common.{◌≡◌, ℕ, ◌<◌, ◌+◌, List, length, Option, Some, None, IfSome, IsSomeAnd, replicate, refl, sym, subst, arith}
 use Rattle.std.proofs.lemmas.List.{length-replicate}
 use Rattle.rg_ports.specs.Shelf.{Files, file_of}
@@ -11,7 +11,7 @@ longer_than n =
     let less : n < n + 1 = omega arith in
     (replicate (n + 1) 0, subst (λ (k : ℕ). n < k) (sym (length-replicate (n + 1) 0)) less)
 
--- a file of which nothing is told may be too long
+-- a file of which nothing is known may be too long
 pub too_long : (files : Option Files) (name : List ℕ) → IfSome files (λ f. IsSomeAnd (file_of f name) (λ b. most_bytes < length b)) → IsTooLong files name
 too_long None name h =
     let (bytes, more) = longer_than most_bytes in
@@ -22,7 +22,7 @@ too_long (Some files) name h = by (file_of files name) refl h
     by None is h = absurd h
     by (Some bytes) is h = record { bytes = bytes; file = is; long = h }
 
--- what is told of the file
+-- what is known of the file
 pub held : (files : Option Files) (name bytes : List ℕ) → IfSome files (λ f. file_of f name ≡ Some bytes) → MayHold files name (Some bytes)
 held None name bytes h = tt
 held (Some files) name bytes h = h

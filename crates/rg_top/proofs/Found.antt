@@ -1,5 +1,5 @@
 -- How `synthesize` ends for an answer.
-use Rattle.std.proofs.Common.{◌≡◌, ℕ, List, [], sym, ap, subst, ◌∙◌}
+use Rattle.std.proofs.Common.{◌≡◌, ℕ, List, sym, ap, subst, ◌∙◌}
 use Rattle.rg_theory.specs.System.{System}
 use Rattle.rg_theory.specs.Net.{Net}
 use Rattle.rg_theory.specs.declared.Class.{Class}
@@ -14,9 +14,10 @@ use Rattle.rg_cert.specs.Text.{cert_text}
 use Rattle.rg_cert.specs.Spells.{Spells as CertificateSpells}
 use Rattle.rg_synth.specs.Answer.{IsSolvingNet, IsRightCertificate}
 use Rattle.rg_top.specs.Synthesize.{SynthesizeEnds, a_net, a_certificate}
-use Rattle.rg_top.specs.declared.status.Status.TheVariants.{Done, No}
+use Rattle.rg_top.specs.End.{says_yes, says_no}
 
-pub found_net : (class : Class) (lts : System) (net : Net) (out : List ℕ) → IsWellFormed lts → Out lts class (of_net net.places) → IsSolvingNet lts class net → out ≡ net_text net lts → SynthesizeEnds class lts Done out []
+pub found_net : (class : Class) (lts : System) (net : Net) (out : List ℕ) → IsWellFormed lts
+    → Out lts class (of_net net.places) → IsSolvingNet lts class net → out ≡ net_text net lts → SynthesizeEnds class lts (says_yes out)
 found_net class lts net out formed answer right text = a_net out (record {
   net = net;
   answer = answer;
@@ -26,7 +27,7 @@ found_net class lts net out formed answer right text = a_net out (record {
 })
 
 pub found_certificate : (class : Class) (lts : System) (cert : Certificate) (out : List ℕ) → Out lts class (of_reason (reason_of cert.reason)) → IsRightCertificate lts class cert
-    → out ≡ cert_text (claim_of cert) lts → CertificateSpells out lts (claim_of cert) → SynthesizeEnds class lts No out []
+    → out ≡ cert_text (claim_of cert) lts → CertificateSpells out lts (claim_of cert) → SynthesizeEnds class lts (says_no out)
 found_certificate class lts cert out answer right text spelled = a_certificate out (record {
   reason = reason_of cert.reason;
   answer = answer;

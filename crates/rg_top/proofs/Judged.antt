@@ -1,5 +1,5 @@
 -- How `verify` and `check` end for the bytes of the second file.
-use Rattle.std.proofs.Common.{◌≢◌, ℕ, List, [], Option, refl, subst}
+use Rattle.std.proofs.Common.{◌≢◌, ℕ, List, Option, refl, subst}
 use Rattle.rg_ports.specs.Shelf.{Files}
 use Rattle.rg_theory.specs.System.{System}
 use Rattle.rg_theory.specs.declared.Class.{Class}
@@ -22,8 +22,7 @@ use Rattle.rg_top.specs.Given.{IsFile, IsUnread}
 use Rattle.rg_top.specs.Verify.{no_text, no_proof, VerifyEnds, accepted as ends_accepted, refused as ends_refused}
 use Rattle.rg_top.specs.Check.{IsNetFile, IsNetFault, IsNoNet, CheckEnds, unread as ends_unread, yes as ends_yes, no as ends_no, passes as ends_passes}
 use Rattle.rg_top.specs.Requests.{JudgesBytes, accepted, refused, TellsNet, yes, no, passes, TellsBytes, faulty, spelled}
-use Rattle.rg_top.specs.declared.status.Status.{Status}
-use Rattle.rg_top.specs.declared.status.Status.TheVariants.{No}
+use Rattle.rg_top.specs.End.{End, says_no}
 use Rattle.rg_netfile.specs.Spells.{Spells as NetSpells}
 use Rattle.rg_theory.specs.Net.{Net}
 
@@ -41,21 +40,23 @@ has_name lts claim case node CaseMissing judged = tt
 has_name lts claim case node NotSo judged = tt
 
 -- bytes that spell no certificate
-pub no_certificate : (bytes : List ℕ) (lts : System) (fault : CertFault) → IsWellFormed lts → FirstFault bytes lts fault → fault ≢ LacksMemory → JudgesBytes bytes lts No (refused_line (cert_fault_text fault)) []
+pub no_certificate : (bytes : List ℕ) (lts : System) (fault : CertFault) → IsWellFormed lts → FirstFault bytes lts fault → fault ≢ LacksMemory
+    → JudgesBytes bytes lts (says_no (refused_line (cert_fault_text fault)))
 no_certificate bytes lts fault fine first real = refused (cert_fault_text fault) (λ claim spells holds. not_both bytes lts claim fault fine spells first) (no_text fault first real)
 
 -- bytes that spell a certificate that doesn't hold
-pub not_held : (bytes : List ℕ) (lts : System) (claim : Claim) (case node : ℕ) (defect : Defect) → IsWellFormed lts → Spells bytes lts claim → Judges lts claim (Refused case node defect) → JudgesBytes bytes lts No (refused_line (defect_text lts case node defect)) []
+pub not_held : (bytes : List ℕ) (lts : System) (claim : Claim) (case node : ℕ) (defect : Defect) → IsWellFormed lts → Spells bytes lts claim
+    → Judges lts claim (Refused case node defect) → JudgesBytes bytes lts (says_no (refused_line (defect_text lts case node defect)))
 not_held bytes lts claim case node defect fine spells judged =
     refused (defect_text lts case node defect)
     (λ other also holds. refused_fails lts claim case node defect judged (subst (Holds lts) (one_claim bytes lts other claim fine also spells) holds))
     (no_proof claim case node defect spells judged)
 
 -- what is answered to the bytes of the file is answered to the file
-pub judged_file : (files : Option Files) (cert : List ℕ) (lts : System) (bytes : List ℕ) (s : Status) (out err : List ℕ) → IsFile files cert bytes → JudgesBytes bytes lts s out err → VerifyEnds files cert lts s out err
-judged_file files cert lts bytes s out err file (accepted claim spells holds none) =
+pub judged_file : (files : Option Files) (cert : List ℕ) (lts : System) (bytes : List ℕ) (e : End) → IsFile files cert bytes → JudgesBytes bytes lts e → VerifyEnds files cert lts e
+judged_file files cert lts bytes _ file (accepted claim spells holds none) =
     ends_accepted claim.class (record { claim = claim; of_class = refl; given = record { bytes = bytes; file = file; spelled = spells }; holds = holds }) none
-judged_file files cert lts bytes s out err file (refused why none reason) =
+judged_file files cert lts bytes _ file (refused why none reason) =
     ends_refused (refused_line why) (record { bytes = bytes; file = file; none = none }) (record { bytes = bytes; file = file; why = why; reason = reason; line = refl })
 
 -- ---- nets
@@ -76,19 +77,20 @@ faulty_is_no_net files name lts bytes (Apt f) file h = absurd h
 faulty_is_no_net files name lts bytes (Graph f) file h = absurd h
 faulty_is_no_net files name lts bytes (Words f) file h = absurd h
 
-told_net : (files : Option Files) (class : Class) (name : List ℕ) (lts : System) (bytes : List ℕ) (told : Net) (s : Status) (out err : List ℕ)
-    → IsFile files name bytes → NetSpells bytes lts told → TellsNet told class lts s out err → CheckEnds files class name lts s out err
-told_net files class name lts bytes told s out err file spells (yes judged solves in_class narrow) =
+told_net : (files : Option Files) (class : Class) (name : List ℕ) (lts : System) (bytes : List ℕ) (told : Net) (e : End)
+    → IsFile files name bytes → NetSpells bytes lts told → TellsNet told class lts e → CheckEnds files class name lts e
+told_net files class name lts bytes told _ file spells (yes judged solves in_class narrow) =
     let at : IsNetFile files name lts told = record { bytes = bytes; file = file; spelled = spells } in
     ends_yes (record { net = told; file = at; judged = judged }) (record { net = told; file = at; solves = solves; in_class = in_class; narrow = narrow })
-told_net files class name lts bytes told s out err file spells (no found judged wrong) =
+told_net files class name lts bytes told _ file spells (no found judged wrong) =
     let at : IsNetFile files name lts told = record { bytes = bytes; file = file; spelled = spells } in
     ends_no found (record { net = told; file = at; judged = judged }) (record { net = told; file = at; wrong = wrong })
-told_net files class name lts bytes told s out err file spells (passes w judged) =
+told_net files class name lts bytes told _ file spells (passes w judged) =
     let at : IsNetFile files name lts told = record { bytes = bytes; file = file; spelled = spells } in
     ends_passes w (record { net = told; file = at; judged = judged })
 
--- what is told of the bytes of the file is told of the file
-pub told_file : (files : Option Files) (class : Class) (name : List ℕ) (lts : System) (bytes : List ℕ) (s : Status) (out err : List ℕ) → IsFile files name bytes → TellsBytes bytes class lts s out err → CheckEnds files class name lts s out err
-told_file files class name lts bytes s out err file (faulty fault h) = ends_unread fault (faulty_is_no_net files name lts bytes fault file h)
-told_file files class name lts bytes s out err file (spelled told _ _ _ spells x) = told_net files class name lts bytes told s out err file spells x
+-- the end for the bytes of the file is that for the file
+pub told_file : (files : Option Files) (class : Class) (name : List ℕ) (lts : System) (bytes : List ℕ) (e : End) → IsFile files name bytes
+    → TellsBytes bytes class lts e → CheckEnds files class name lts e
+told_file files class name lts bytes _ file (faulty fault h) = ends_unread fault (faulty_is_no_net files name lts bytes fault file h)
+told_file files class name lts bytes _ file (spelled told e spells x) = told_net files class name lts bytes told e file spells x

@@ -1,6 +1,7 @@
 pub mod FileLemmas
 pub mod Written
 pub mod OneFile
+pub mod Told
 pub mod Terms
 pub mod SynthesizeOnce
 pub mod VerifyOnce
@@ -18,7 +19,6 @@ pub mod Writing
 pub mod Asking
 pub mod Judged
 pub mod Found
-pub mod Compared
 pub mod ToldApart
 pub mod Trials
 pub mod Something

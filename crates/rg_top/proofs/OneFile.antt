@@ -1,4 +1,4 @@
--- What is told of a file is one.
+-- A file spells one system, or has one fault.
 use Rattle.std.proofs.Common.{◌≡◌, ◌⊎◌, inl, inr, ℕ, ◌<◌, List, length, Option, Some, None, refl, sym, ap, subst, ◌∙◌, arith}
 use Rattle.rg_ports.specs.Shelf.{Files, file_of}
 use Rattle.rg_text.specs.Limits.{most_bytes}
@@ -15,7 +15,7 @@ use Rattle.rg_messages.specs.declared.fault.Fault.{Fault}
 use Rattle.rg_messages.specs.declared.fault.Fault.TheVariants.{Missing, TooLong, Apt, Graph, Words, Net}
 use Rattle.rg_top.specs.Given.{IsFile, IsUnread, SpellsAs, IsFaultAs, IsFaulty, IsNoSystem, IsSystemFile}
 
--- ---- files that are told
+-- ---- files that are known
 
 pub same_bytes : (files : Files) (name b c : List ℕ) → IsFile (Some files) name b → IsFile (Some files) name c → b ≡ c
 same_bytes files name b c p q = let e = sym p.file ∙ q.file in cc

@@ -48,7 +48,7 @@ class_of : (told : Result Class ClassFault) (class : Class) → class_asked told
 class_of (Ok told) class e = let same : told ≡ class = cc in ap (λ c. Ok c) same
 class_of (Err fault) class e = let none : ⊥ = cc in absurd none
 
--- each class that is told has its numbers in range
+-- each class that is named has its numbers in range
 abbrev AreInRange : Result Class ClassFault → Type 0
 AreInRange told = (class : Class) → told ≡ Ok class → HasNumbersInRange class
 

@@ -1,4 +1,4 @@
--- Something comes of all words and files: a status is due, or a term out of range decides.
+-- All words and files determine a status, or a term out of range decides.
 use Rattle.std.proofs.Common.{◌⊎◌, inl, inr, ℕ, List, Some, Result, Ok, Err}
 use Rattle.rg_ports.specs.Shelf.{Files}
 use Rattle.rg_theory.specs.System.{System}
@@ -12,6 +12,7 @@ use Rattle.rg_top.specs.Given.{IsSystemFile}
 use Rattle.rg_top.specs.Second.{first_fault}
 use Rattle.rg_top.specs.Due.{DueOf, no_system as due_no_system, on_system as due_on_system, IsDue, refused as due_refused, asked as due_asked, DecidesAsked, IsPassed}
 use Rattle.rg_top.specs.Examine.{always}
+use Rattle.rg_top.specs.Generate.{always as generated}
 use Rattle.rg_top.specs.SelfTest.{TrialsPass, SelfTestIsDue}
 use Rattle.rg_top.specs.Terms.{Term, Term.of_net as of_net_term}
 use Rattle.rg_top.specs.declared.status.Status.{Status}
@@ -50,7 +51,7 @@ on_some one some files (splitting output) lts formed numbers = some_split some.s
 on_some one some files (comparison named form) lts formed numbers = inl (isomorphic_some some.reading some.comparison files named form lts formed)
 on_some one some files (examination output) lts formed numbers = inl (Done, always)
 
--- a status is due to the request, or a term decides
+-- a status is expected of the request, or a term decides
 abbrev SomethingOf : Files → Asked → Type 0
 SomethingOf files asked = ((s : Status) × DueOf (Some files) asked s) ⊎ ((w : Term) × DecidesAsked (Some files) asked w)
 
@@ -74,7 +75,7 @@ trials_some some files n number = by (some_self_test some.trials n number)
 
 of_some : OneJudgement → SomeOfAll → (files : Files) (asked : Asked) → HasBounds asked → SomethingOf files asked
 of_some one some files (of_system work file form) bounds = file_some one some files work file form bounds
-of_some one some files (generation kind n) bounds = inl (Done, tt)
+of_some one some files (generation kind n) bounds = inl (Done, generated)
 of_some one some files (self_test n) bounds = trials_some some files n bounds
 
 -- ---- words

@@ -21,7 +21,7 @@ use Rattle.rg_messages.specs.declared.fault.Fault.TheVariants.{Missing, TooLong,
 use Rattle.rg_top.specs.Given.{IsFile, IsUnread, SpellsAs, IsFaultAs, IsNoSystem, IsSystemFile}
 use Rattle.rg_top.proofs.OneFile.{unread_is_no_system, faulty_is_no_system}
 
--- ---- files that are told
+-- ---- files that are known
 
 -- a file isn't there or is too long, or it has bytes, and not too many
 pub data WhichFile (files : Files) (name : List ℕ) : Type 0 where

@@ -1,4 +1,4 @@
--- A status is due to `verify` and `check` for each second file.
+-- `verify` and `check` have an expected status for each second file.
 use Rattle.std.proofs.Common.{◌≡◌, ◌⊎◌, inl, inr, ℕ, List, Some, Ok, Err, refl, subst}
 use Rattle.rg_ports.specs.Shelf.{Files}
 use Rattle.rg_theory.specs.System.{System, IsInRange, labels}
@@ -23,8 +23,8 @@ use Rattle.rg_messages.specs.declared.fault.Fault.TheVariants.{Net as OfNet}
 use Rattle.rg_messages.specs.declared.wide.WideCause.TheVariants.{Check}
 use Rattle.rg_top.specs.Given.{IsFile, IsUnread}
 use Rattle.rg_top.specs.Second.{second_fault}
-use Rattle.rg_top.specs.Verify.{VerifyIsDue}
-use Rattle.rg_top.specs.Check.{IsNetFile, CheckIsDue}
+use Rattle.rg_top.specs.Verify.{VerifyIsDue, by_no_file, by_proof, by_no_proof}
+use Rattle.rg_top.specs.Check.{IsNetFile, CheckIsDue, by_no_net, by_yes, by_no, by_term}
 use Rattle.rg_top.specs.declared.status.Status.{Status}
 use Rattle.rg_top.specs.declared.status.Status.TheVariants.{Done, No, File, TooWide}
 use Rattle.rg_top.proofs.Judged.{unread_is_no_net}
@@ -45,14 +45,14 @@ verify_some one some files cert lts formed = by (which_file files cert)
     judged : (bytes : List ℕ) (claim : Claim) → IsFile (Some files) cert bytes → Spells bytes lts claim → (v : Verdict) → Judges lts claim v
         → (s : Status) × VerifyIsDue (Some files) cert lts s
     judged bytes claim file spelled Accepted holds =
-        (Done, (claim.class, record { claim = claim; of_class = refl; given = record { bytes = bytes; file = file; spelled = spelled }; holds = holds }))
+        (Done, by_proof claim.class (record { claim = claim; of_class = refl; given = record { bytes = bytes; file = file; spelled = spelled }; holds = holds }))
     judged bytes claim file spelled (Refused case node defect) fails = (
       No,
-      record {
+      by_no_proof (record {
         bytes = bytes;
         file = file;
         none = λ other also holds. refused_fails lts claim case node defect fails (subst (Holds lts) (one.one_claim bytes lts other claim formed also spelled) holds);
-      },
+      }),
     )
 
     with_claim : (bytes : List ℕ) (claim : Claim) → IsFile (Some files) cert bytes → Spells bytes lts claim → (s : Status) × VerifyIsDue (Some files) cert lts s
@@ -64,10 +64,10 @@ verify_some one some files cert lts formed = by (which_file files cert)
         → (s : Status) × VerifyIsDue (Some files) cert lts s
     with_bytes bytes file (inl (claim, spelled)) = with_claim bytes claim file spelled
     with_bytes bytes file (inr (fault, first)) =
-        (No, record { bytes = bytes; file = file; none = λ claim spelled holds. one.not_both bytes lts claim fault formed spelled first })
+        (No, by_no_proof (record { bytes = bytes; file = file; none = λ claim spelled holds. one.not_both bytes lts claim fault formed spelled first }))
 
     by : WhichFile files cert → (s : Status) × VerifyIsDue (Some files) cert lts s
-    by (not_read fault h) = (File (second_fault fault), (refl, h))
+    by (not_read fault h) = (File (second_fault fault), by_no_file fault h)
     by (has bytes file) = with_bytes bytes file (some.claim bytes lts)
 
 -- ---- nets
@@ -83,9 +83,9 @@ pub check_some : SomeVerdict → (files : Files) (class : Class) (name : List �
 check_some some files class name lts in_range = by (which_file files name)
   where
     judged : (net : Net) → IsNetFile (Some files) name lts net → (told : Told) → IsVerdict lts net class told → (s : Status) × CheckIsDue (Some files) class name lts s
-    judged net file (Ok verdict.Yes) judges = (Done, record { net = net; file = file; judged = judges })
-    judged net file (Ok (verdict.No found)) judges = (No, (found, record { net = net; file = file; judged = judges }))
-    judged net file (Err w) judges = (TooWide (Check w), record { net = net; file = file; judged = judges })
+    judged net file (Ok verdict.Yes) judges = (Done, by_yes (record { net = net; file = file; judged = judges }))
+    judged net file (Ok (verdict.No found)) judges = (No, by_no found (record { net = net; file = file; judged = judges }))
+    judged net file (Err w) judges = (TooWide (Check w), by_term w (record { net = net; file = file; judged = judges }))
 
     with_net : (bytes : List ℕ) (net : Net) → IsFile (Some files) name bytes → NetSpells bytes lts net → (s : Status) × CheckIsDue (Some files) class name lts s
     with_net bytes net file spelled =
@@ -97,8 +97,8 @@ check_some some files class name lts in_range = by (which_file files name)
     with_bytes bytes file (inl (net, spelled)) = with_net bytes net file spelled
     with_bytes bytes file (inr (f, first)) =
         let real = is_other (FirstNetFault bytes lts) LacksMemory f first (some.memory bytes lts) in
-        (File (second_fault (OfNet f)), (refl, record { bytes = bytes; file = file; first = (first, real) }))
+        (File (second_fault (OfNet f)), by_no_net (OfNet f) (record { bytes = bytes; file = file; first = (first, real) }))
 
     by : WhichFile files name → (s : Status) × CheckIsDue (Some files) class name lts s
-    by (not_read fault h) = (File (second_fault fault), (refl, unread_is_no_net (Some files) name lts fault h))
+    by (not_read fault h) = (File (second_fault fault), by_no_net fault (unread_is_no_net (Some files) name lts fault h))
     by (has bytes file) = with_bytes bytes file (some.net bytes lts)

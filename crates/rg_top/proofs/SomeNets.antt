@@ -10,6 +10,7 @@ use Rattle.rg_split.specs.Rounds.{Splitting, Splitting.done as done, Splitting.u
 use Rattle.rg_split.specs.Right.{IsRight}
 use Rattle.rg_commands.specs.Requests.{net, splitting}
 use Rattle.rg_commands.specs.declared.splitting.SplitOutput.{SplitOutput}
+use Rattle.rg_top.specs.Synthesize.{by_net, by_reason}
 use Rattle.rg_top.specs.Split.{for_a_net as due_for_a_net, for_a_state, for_room}
 use Rattle.rg_top.specs.Due.{for_a_net, for_labels}
 use Rattle.rg_top.specs.Terms.{Term.of_net as of_net_term, of_split}
@@ -24,11 +25,11 @@ pub some_net : SomeOut → (files : Files) (class : Class) (lts : System) → Is
 some_net some files class lts fine numbers = by (some lts class fine numbers)
   where
     by : (a : Answer) × Out lts class a → SomethingOn files (net class) lts
-    by (of_net places, out) = inl (Done, (places, out))
-    by (of_reason reason, out) = inl (No, (reason, out))
+    by (of_net places, out) = inl (Done, by_net places out)
+    by (of_reason reason, out) = inl (No, by_reason reason out)
     by (of_term w, out) = inr (of_net_term w, for_a_net class w out)
 
--- splitting comes to something, and a state to which it comes is the least that can't be reached
+-- splitting has a result, and a state in it is the least that can't be reached
 pub record SomeSplitting : Type 0 where
   pub some : (lts : System) → IsWellFormed lts → (r : Splitting) × SplitsTo lts r
   pub right : (lts : System) (r : Splitting) → IsWellFormed lts → SplitsTo lts r → IsRight lts r

@@ -1,4 +1,4 @@
--- A status is due to `convert`, and to `isomorphic` for each second file.
+-- `convert` has an expected status, and `isomorphic` has one for each second file.
 use Rattle.std.proofs.Common.{◌≡◌, ◌⊎◌, inl, inr, ℕ, ◌<◌, ◌≤◌, leb, Bool, true, false, List, Some, refl}
 use Rattle.std.proofs.lemmas.Bool.Decides.{leb_tells}
 use Rattle.rg_ports.specs.Shelf.{Files}
@@ -13,8 +13,8 @@ use Rattle.rg_commands.specs.declared.forms.Target.{Target}
 use Rattle.rg_commands.specs.declared.forms.Target.TheVariants.{Apt, Graph}
 use Rattle.rg_top.specs.Given.{IsSystemFile}
 use Rattle.rg_top.specs.Second.{second_fault}
-use Rattle.rg_top.specs.Convert.{ConvertIsDue}
-use Rattle.rg_top.specs.Isomorphic.{IsomorphicIsDue}
+use Rattle.rg_top.specs.Convert.{ConvertIsDue, always, by_all, by_label, by_state}
+use Rattle.rg_top.specs.Isomorphic.{IsomorphicIsDue, by_no_system, by_same, by_other}
 use Rattle.rg_top.specs.declared.status.Status.{Status}
 use Rattle.rg_top.specs.declared.status.Status.TheVariants.{Done, No, File}
 use Rattle.rg_top.proofs.SomeFile.{SomeReading, WhichSystem, of_none, of_one, which_system}
@@ -42,25 +42,25 @@ abbrev HasTwo : System → Type 0
 HasTwo lts = ((leb 2 (states lts) ≡ true) × (2 ≤ states lts)) ⊎ ((leb 2 (states lts) ≡ false) × (states lts < 2))
 
 pub convert_some : (lts : System) (target : Target) → (s : Status) × ConvertIsDue lts target s
-convert_some lts Apt = (Done, tt)
+convert_some lts Apt = (Done, always)
 convert_some lts Graph = by_labels (all_or_first (has_label lts) (labels lts))
   where
     by_states : IsLabelKept lts → 2 ≤ states lts → ((r : ℕ) → r < states lts → is_on_arc lts r ≡ true) ⊎ ((s : ℕ) × FailsFirst (is_on_arc lts) (states lts) s)
         → (s : Status) × ConvertIsDue lts Graph s
-    by_states kept several (inl all) = (Done, (kept, inr all))
-    by_states kept several (inr (s, (within, lost, before))) = (No, inr (s, record { kept = kept; several = several; within = within; lost = lost; before = before }))
+    by_states kept several (inl all) = (Done, by_all kept (inr all))
+    by_states kept several (inr (s, (within, lost, before))) = (No, by_state s (record { kept = kept; several = several; within = within; lost = lost; before = before }))
 
     by_number : IsLabelKept lts → HasTwo lts → (s : Status) × ConvertIsDue lts Graph s
     by_number kept (inl (e, several)) = by_states kept several (all_or_first (is_on_arc lts) (states lts))
-    by_number kept (inr (e, single)) = (Done, (kept, inl single))
+    by_number kept (inr (e, single)) = (Done, by_all kept (inl single))
 
     by_labels : ((u : ℕ) → u < labels lts → has_label lts u ≡ true) ⊎ ((t : ℕ) × FailsFirst (has_label lts) (labels lts) t) → (s : Status) × ConvertIsDue lts Graph s
     by_labels (inl kept) = by_number kept (leb_tells 2 (states lts))
-    by_labels (inr (t, (within, dead, before))) = (No, inl (t, record { within = within; dead = dead; before = before }))
+    by_labels (inr (t, (within, dead, before))) = (No, by_label t (record { within = within; dead = dead; before = before }))
 
 -- ---- two systems
 
--- whether all states can be reached and whether there is a fork is decided; something is told of two systems, and a difference shows that
+-- whether all states can be reached and whether there is a fork is decided; two systems have a result, and a difference shows that
 -- they aren't isomorphic
 pub record SomeComparison : Type 0 where
   pub reachable : (lts : System) → IsInRange lts → IsAllReachable lts ⊎ ((s : ℕ) × IsLeastUnreachable lts s)
@@ -90,15 +90,15 @@ isomorphic_some reading some files named form lts formed = by (which_system read
   where
     both : (other : System) → IsSystemFile (Some files) form named other → IsJudged lts → IsJudged other → AreIsomorphic lts other ⊎ (¬ AreIsomorphic lts other)
         → (s : Status) × IsomorphicIsDue (Some files) named form lts s
-    both other file j k (inl isomorphic) = (Done, record { other = other; file = file; first = j; second = k; isomorphic = isomorphic })
-    both other file j k (inr different) = (No, record { other = other; file = file; why = inr (inr different) })
+    both other file j k (inl isomorphic) = (Done, by_same (record { other = other; file = file; first = j; second = k; isomorphic = isomorphic }))
+    both other file j k (inr different) = (No, by_other (record { other = other; file = file; why = inr (inr different) }))
 
     judged : (other : System) → IsSystemFile (Some files) form named other → IsWellFormed other → IsJudged lts ⊎ (¬ IsJudged lts) → IsJudged other ⊎ (¬ IsJudged other)
         → (s : Status) × IsomorphicIsDue (Some files) named form lts s
     judged other file formed' (inl j) (inl k) = both other file j k (isomorphic_or_not some lts other formed formed' j k)
-    judged other file formed' (inl j) (inr k) = (No, record { other = other; file = file; why = inr (inl k) })
-    judged other file formed' (inr j) k = (No, record { other = other; file = file; why = inl j })
+    judged other file formed' (inl j) (inr k) = (No, by_other (record { other = other; file = file; why = inr (inl k) }))
+    judged other file formed' (inr j) k = (No, by_other (record { other = other; file = file; why = inl j }))
 
     by : WhichSystem files form named → (s : Status) × IsomorphicIsDue (Some files) named form lts s
-    by (of_none fault h) = (File (second_fault fault), (refl, h))
+    by (of_none fault h) = (File (second_fault fault), by_no_system fault h)
     by (of_one other file formed') = judged other file formed' (judged_or_not some lts formed.in_range) (judged_or_not some other formed'.in_range)

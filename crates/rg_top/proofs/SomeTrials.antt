@@ -17,7 +17,7 @@ use Rattle.rg_families.specs.Families.{IsFamilyNumber, IsOfFamily, drawn}
 use Rattle.rg_order_of_work.specs.Shown.{Shown}
 use Rattle.rg_outcome.specs.Outcome.{Out, Answer, Answer.net as of_net, Answer.unsolvable as of_reason, Answer.too_wide as of_term}
 use Rattle.rg_commands.specs.Requests.{IsTestNumber}
-use Rattle.rg_top.specs.SelfTest.{Trial, most_users, lock_class, grid_trial, doubling_trial, lock_trial, IsConclusive, IsTerm, TrialsPass, SelfTestIsDue}
+use Rattle.rg_top.specs.SelfTest.{Trial, most_users, lock_class, grid_trial, doubling_trial, lock_trial, IsConclusive, IsTerm, TrialsPass, SelfTestIsDue, by_answers}
 use Rattle.rg_top.specs.declared.status.Status.{Status}
 use Rattle.rg_top.specs.declared.status.Status.TheVariants.{Done}
 use Rattle.rg_top.proofs.SomeNets.{SomeOut}
@@ -84,4 +84,4 @@ some_self_test some n (least, most) =
     by (inr (w, is)) second third = inr (w, inl is)
     by (inl a) (inr (w, is)) third = inr (w, inr (inl (a, is)))
     by (inl a) (inl b) (inr (w, is)) = inr (w, inr (inr (a, b, is)))
-    by (inl a) (inl b) (inl c) = inl (Done, (a, b, c))
+    by (inl a) (inl b) (inl c) = inl (Done, by_answers (a, b, c))

@@ -1,5 +1,5 @@
--- How `split` ends for what the rounds come to.
-use Rattle.std.proofs.Common.{Vec, Global, ◌≡◌, ◌⊎◌, inl, inr, ℕ, List, [], sym, subst, ◌∙◌}
+-- How `split` ends for the result of the rounds.
+use Rattle.std.proofs.Common.{Vec, Global, ◌≡◌, ◌⊎◌, inl, inr, ℕ, List, sym, subst}
 use Rattle.rg_theory.specs.System.{System}
 use Rattle.rg_theory.specs.Net.{Place, Net}
 use Rattle.rg_lts.specs.WellFormed.{IsWellFormed}
@@ -9,6 +9,7 @@ use Rattle.rg_order_of_work.specs.Shown.{Shown}
 use Rattle.rg_reasons.specs.declared.certificate.Certificate.{Certificate}
 use Rattle.rg_reasons.specs.Certificates.{reason_of}
 use Rattle.rg_reasons.specs.declared.wide_at.WideAt.{WideAt}
+use Rattle.rg_separate.specs.View.{shown_of}
 use Rattle.rg_split.specs.Answer.{splitting_of, Says}
 use Rattle.rg_split.specs.Rounds.{labelling, itself, SplitsTo}
 use Rattle.rg_split.specs.Rounds as rounds
@@ -17,12 +18,11 @@ use Rattle.rg_split.specs.declared.splitting.Splitting.TheVariants.{Done as Solv
 use Rattle.rg_split.proofs.Labels.{solves_labelled}
 use Rattle.rg_split.proofs.Saying.{solved_at_once}
 use Rattle.rg_messages.specs.SplitTexts.{full_line}
-use Rattle.rg_messages.specs.Wides.{wide_line}
-use Rattle.rg_messages.specs.declared.wide.WideCause.TheVariants.{Split}
 use Rattle.rg_commands.specs.declared.splitting.SplitOutput.{SplitOutput}
 use Rattle.rg_commands.specs.declared.splitting.SplitOutput.TheVariants as output
 use Rattle.rg_top.specs.Split.{IsSolvedBy, solved_text, SplitEnds, a_net, a_system, no_room, a_term}
-use Rattle.rg_top.specs.declared.status.Status.TheVariants.{Done, No, TooWide}
+use Rattle.rg_top.specs.End.{says_yes, says_no, shows_term}
+use Rattle.rg_top.specs.Terms.{of_split}
 
 -- the result of a file's system, with what it says
 pub record IsResult (lts : System) (r : Splitting) : Type 0 where
@@ -55,25 +55,25 @@ solved_by lts system old numbers net formed same result =
     })
 
 -- the text that is asked for of what is solved
-pub solved_ends : (lts : System) (now : rounds.Labelling) (net : Net) (wanted : SplitOutput) (out text : List ℕ)
-    → IsSolvedBy lts now net → out ≡ text → text ≡ solved_text lts now net wanted → SplitEnds lts wanted Done out []
-solved_ends lts now net output.Net out text solved same is = a_net out (record { now = now; net = net; solved = solved; text = same ∙ is })
-solved_ends lts now net output.System out text solved same is = a_system out (record {
+pub solved_ends : (lts : System) (now : rounds.Labelling) (net : Net) (wanted : SplitOutput) (out : List ℕ)
+    → IsSolvedBy lts now net → out ≡ solved_text lts now net wanted → SplitEnds lts wanted (says_yes out)
+solved_ends lts now net output.Net out solved is = a_net out (record { now = now; net = net; solved = solved; text = is })
+solved_ends lts now net output.System out solved is = a_system out (record {
   now = now;
   net = net;
   solved = solved;
-  text = same ∙ is;
-  spelled = subst (λ bytes. Spells bytes now.system) (sym (same ∙ is)) (printed_spelled now.system solved.apart.formed);
+  text = is;
+  spelled = subst (λ bytes. Spells bytes now.system) (sym is) (printed_spelled now.system solved.apart.formed);
 })
 
 pub full_ends : (lts : System) (wanted : SplitOutput) (system : System) (old : Vec ℕ Global) (certificate : Certificate) → IsResult lts (Full system old certificate)
-    → SplitEnds lts wanted No full_line []
+    → SplitEnds lts wanted (says_no full_line)
 full_ends lts wanted system old certificate result =
     let (apart, all, right, has) = result.says in
     no_room (record { now = labelling system old.items; reason = reason_of certificate.reason; comes = result.comes; apart = apart; all = all; none = right.none })
 
 pub wide_ends : (lts : System) (wanted : SplitOutput) (system : System) (old : Vec ℕ Global) (at : WideAt) → IsResult lts (Passes system old at)
-    → SplitEnds lts wanted (TooWide (Split system at)) [] (wide_line (Split system at))
+    → SplitEnds lts wanted (shows_term (of_split system (shown_of at)))
 wide_ends lts wanted system old at result =
     let (apart, opened, shown) = result.says in
-    a_term system at (record { old = old.items; comes = result.comes; apart = apart; is_open = opened; shown = shown })
+    a_term system (shown_of at) (record { old = old.items; comes = result.comes; apart = apart; is_open = opened; shown = shown })

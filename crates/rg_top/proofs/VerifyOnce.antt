@@ -12,16 +12,15 @@ use Rattle.rg_verify.specs.declared.verdict.Defect.{Defect}
 use Rattle.rg_verify.specs.declared.verdict.Verdict.{Verdict}
 use Rattle.rg_verify.specs.declared.verdict.Verdict.TheVariants.{Accepted, Refused}
 use Rattle.rg_verify.specs.Judged.{Judges}
-use Rattle.rg_messages.specs.Files.{file_line}
 use Rattle.rg_messages.specs.JudgedTexts.{accepted_line, cert_fault_text, defect_text, refused_line}
 use Rattle.rg_messages.specs.declared.fault.Fault.{Fault}
-use Rattle.rg_messages.specs.declared.fault.FileFault.{FileFault}
 use Rattle.rg_top.specs.Given.{IsUnread}
 use Rattle.rg_top.specs.Second.{second_fault}
-use Rattle.rg_top.specs.Verify.{IsAccepted, IsNotAccepted, IsRefusedFor, no_text, no_proof, IsRefused, VerifyEnds, unread, accepted, refused, VerifyIsDue}
-use Rattle.rg_top.specs.Run.{IsTheOne, AreOne}
+use Rattle.rg_top.specs.Verify.{IsAccepted, IsNotAccepted, IsRefusedFor, no_text, no_proof, IsRefused, VerifyEnds, unread, accepted, refused}
+use Rattle.rg_top.specs.Verify.{VerifyIsDue, by_no_file, by_proof, by_no_proof}
+use Rattle.rg_top.specs.End.{End, says_yes, says_no, refuses_file, HasStatus}
 use Rattle.rg_top.specs.declared.status.Status.{Status}
-use Rattle.rg_top.specs.declared.status.Status.TheVariants.{Done, No, Usage, File, TooWide, ReadFault, WriteFault, NoMemory}
+use Rattle.rg_top.specs.declared.status.Status.TheVariants.{File}
 use Rattle.rg_top.proofs.OneFile.{same_bytes, unread_or_there, one_unread}
 
 -- a text spells one claim or has one first fault, and a claim has one verdict
@@ -58,39 +57,16 @@ unread_not_accepted files cert lts class fault h k = unread_or_there files cert 
 unread_not_refused : (files : Files) (cert : List ℕ) (lts : System) (fault : Fault) → IsUnread (Some files) cert fault → IsNotAccepted (Some files) cert lts → ⊥
 unread_not_refused files cert lts fault h k = unread_or_there files cert k.bytes fault h k.file
 
--- ---- which status is due
-
-data WhichDue (files : Files) (cert : List ℕ) (lts : System) : Status → Type 0 where
-  yes : (class : Class) → IsAccepted (Some files) cert lts class → WhichDue files cert lts Done
-  no : IsNotAccepted (Some files) cert lts → WhichDue files cert lts No
-  none : (fault : Fault) → IsUnread (Some files) cert fault → WhichDue files cert lts (File (second_fault fault))
-
-pub of_second : (P : Status → Type 0) (fault : FileFault) → fault.file ≡ 2 → P (File (second_fault fault.fault)) → P (File fault)
-of_second P fault e p = subst P (ap File (λ i. record { file = sym e i; fault = fault.fault })) p
-
-which_due : (files : Files) (cert : List ℕ) (lts : System) (d : Status) → VerifyIsDue (Some files) cert lts d → WhichDue files cert lts d
-which_due files cert lts Done (class, is) = yes class is
-which_due files cert lts No is = no is
-which_due files cert lts (File fault) (second, is) = of_second (WhichDue files cert lts) fault second (none fault.fault is)
-which_due files cert lts (TooWide cause) is = absurd is
-which_due files cert lts (Usage usage) is = absurd is
-which_due files cert lts ReadFault is = absurd is
-which_due files cert lts WriteFault is = absurd is
-which_due files cert lts NoMemory is = absurd is
-
-pub verify_due : (files : Files) (cert : List ℕ) (lts : System) (s d : Status) (out err : List ℕ) → VerifyEnds (Some files) cert lts s out err → VerifyIsDue (Some files) cert lts d → IsTheOne d s
-verify_due files cert lts s d out err x y = by s d out err x (which_due files cert lts d y)
-  where
-    by : (s d : Status) (out err : List ℕ) → VerifyEnds (Some files) cert lts s out err → WhichDue files cert lts d → IsTheOne d s
-    by s d out err (unread f h) (none g k) = ap (λ x. File (second_fault x)) (one_unread files cert f g h k)
-    by s d out err (unread f h) (yes class k) = absurd (unread_not_accepted files cert lts class f h k)
-    by s d out err (unread f h) (no k) = absurd (unread_not_refused files cert lts f h k)
-    by s d out err (accepted class h nets) (none g k) = absurd (unread_not_accepted files cert lts class g k h)
-    by s d out err (accepted class h nets) (yes other k) = refl
-    by s d out err (accepted class h nets) (no k) = absurd (there_not_accepted files cert lts class h k)
-    by s d out err (refused text h why) (none g k) = absurd (unread_not_refused files cert lts g k h)
-    by s d out err (refused text h why) (yes class k) = absurd (there_not_accepted files cert lts class k h)
-    by s d out err (refused text h why) (no k) = refl
+pub verify_due : (files : Files) (cert : List ℕ) (lts : System) (e : End) (s : Status) → VerifyEnds (Some files) cert lts e → VerifyIsDue (Some files) cert lts s → HasStatus e s
+verify_due files cert lts _ _ (unread f h) (by_no_file g k) = ap (λ x. File (second_fault x)) (one_unread files cert g f k h)
+verify_due files cert lts _ _ (unread f h) (by_proof class k) = absurd (unread_not_accepted files cert lts class f h k)
+verify_due files cert lts _ _ (unread f h) (by_no_proof k) = absurd (unread_not_refused files cert lts f h k)
+verify_due files cert lts _ _ (accepted class h nets) (by_no_file g k) = absurd (unread_not_accepted files cert lts class g k h)
+verify_due files cert lts _ _ (accepted class h nets) (by_proof other k) = refl
+verify_due files cert lts _ _ (accepted class h nets) (by_no_proof k) = absurd (there_not_accepted files cert lts class h k)
+verify_due files cert lts _ _ (refused text h why) (by_no_file g k) = absurd (unread_not_refused files cert lts g k h)
+verify_due files cert lts _ _ (refused text h why) (by_proof class k) = absurd (there_not_accepted files cert lts class k h)
+verify_due files cert lts _ _ (refused text h why) (by_no_proof k) = refl
 
 -- ---- the bytes
 
@@ -105,16 +81,13 @@ one_line one files cert lts a b formed h k =
     let same = same_bytes files cert h.bytes k.bytes h.file k.file in
     h.line ∙ ap refused_line (one_why one k.bytes lts h.why k.why formed (subst (λ x. IsRefusedFor x lts h.why) same h.reason) k.reason) ∙ sym k.line
 
-pub verify_once : OneJudgement → (files : Files) (cert : List ℕ) (lts : System) (s s' : Status) (out err out' err' : List ℕ) → IsWellFormed lts
-    → VerifyEnds (Some files) cert lts s out err → VerifyEnds (Some files) cert lts s' out' err' → AreOne s s' out out' err err'
-verify_once one files cert lts s s' out err out' err' formed (unread f h) (unread g k) =
-    let same = one_unread files cert f g h k in
-    (ap (λ x. File (second_fault x)) same, refl, ap (λ x. file_line (second_fault x)) same)
-verify_once one files cert lts s s' out err out' err' formed (unread f h) (accepted class k nets) = absurd (unread_not_accepted files cert lts class f h k)
-verify_once one files cert lts s s' out err out' err' formed (unread f h) (refused text k why) = absurd (unread_not_refused files cert lts f h k)
-verify_once one files cert lts s s' out err out' err' formed (accepted class h nets) (unread g k) = absurd (unread_not_accepted files cert lts class g k h)
-verify_once one files cert lts s s' out err out' err' formed (accepted class h nets) (accepted other k nets') = (refl, ap accepted_line (one_class one files cert lts class other formed h k), refl)
-verify_once one files cert lts s s' out err out' err' formed (accepted class h nets) (refused text k why) = absurd (there_not_accepted files cert lts class h k)
-verify_once one files cert lts s s' out err out' err' formed (refused text h why) (unread g k) = absurd (unread_not_refused files cert lts g k h)
-verify_once one files cert lts s s' out err out' err' formed (refused text h why) (accepted class k nets) = absurd (there_not_accepted files cert lts class k h)
-verify_once one files cert lts s s' out err out' err' formed (refused text h why) (refused text' k why') = (refl, one_line one files cert lts text text' formed why why', refl)
+pub verify_once : OneJudgement → (files : Files) (cert : List ℕ) (lts : System) (e e' : End) → IsWellFormed lts → VerifyEnds (Some files) cert lts e → VerifyEnds (Some files) cert lts e' → e ≡ e'
+verify_once one files cert lts _ _ formed (unread f h) (unread g k) = ap (λ x. refuses_file (second_fault x)) (one_unread files cert f g h k)
+verify_once one files cert lts _ _ formed (unread f h) (accepted class k nets) = absurd (unread_not_accepted files cert lts class f h k)
+verify_once one files cert lts _ _ formed (unread f h) (refused text k why) = absurd (unread_not_refused files cert lts f h k)
+verify_once one files cert lts _ _ formed (accepted class h nets) (unread g k) = absurd (unread_not_accepted files cert lts class g k h)
+verify_once one files cert lts _ _ formed (accepted class h nets) (accepted other k nets') = ap (λ c. says_yes (accepted_line c)) (one_class one files cert lts class other formed h k)
+verify_once one files cert lts _ _ formed (accepted class h nets) (refused text k why) = absurd (there_not_accepted files cert lts class h k)
+verify_once one files cert lts _ _ formed (refused text h why) (unread g k) = absurd (unread_not_refused files cert lts g k h)
+verify_once one files cert lts _ _ formed (refused text h why) (accepted class k nets) = absurd (there_not_accepted files cert lts class k h)
+verify_once one files cert lts _ _ formed (refused text h why) (refused text' k why') = ap says_no (one_line one files cert lts text text' formed why why')

@@ -1,10 +1,13 @@
--- A status with what it writes.
+-- Ends with a text, and answers that are there.
 use Rattle.std.proofs.Common.{◌≡◌, ℕ, List, Result, Ok, Err, IfOk, sym, subst}
-use Rattle.rg_top.specs.declared.status.Status.{Status}
+use Rattle.rg_top.specs.End.{End, says_yes, says_no}
 
--- what holds of a status and two texts holds of those that are equal to them
-pub written : (P : Status → List ℕ → List ℕ → Type 0) (s s' : Status) (out out' err err' : List ℕ) → s ≡ s' → out ≡ out' → err ≡ err' → P s' out' err' → P s out err
-written P s s' out out' err err' e f g p = subst (λ x. P x out err) (sym e) (subst (λ x. P s' x err) (sym f) (subst (λ x. P s' out' x) (sym g) p))
+-- what holds of the end with a text holds of that with an equal one
+pub yes_so : (P : End → Type 0) (out text : List ℕ) → out ≡ text → P (says_yes text) → P (says_yes out)
+yes_so P out text e p = subst (λ x. P (says_yes x)) (sym e) p
+
+pub no_so : (P : End → Type 0) (out text : List ℕ) → out ≡ text → P (says_no text) → P (says_no out)
+no_so P out text e p = subst (λ x. P (says_no x)) (sym e) p
 
 -- what holds of an answer that is there
 pub if_ok : {A E : Type 0} (P Q : A → Type 0) → ((a : A) → P a → Q a) → (r : Result A E) → IfOk r P → IfOk r Q

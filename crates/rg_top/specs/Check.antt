@@ -1,5 +1,5 @@
 -- How `check CLASS FILE NET` ends where FILE spells a system.
-use Rattle.std.specs.Prelude.{◌≡◌, ◌≢◌, ℕ, List, [], Option, None, Ok, Err}
+use Rattle.std.specs.Prelude.{◌≢◌, ℕ, List, Option, None, Ok, Err}
 use Rattle.rg_ports.specs.Shelf.{Files}
 use Rattle.rg_integers.specs.Range.{greatest}
 use Rattle.rg_theory.specs.System.{System}
@@ -14,13 +14,13 @@ use Rattle.rg_net_verdict.specs.declared.verdict.NetNo.{NetNo}
 use Rattle.rg_net_verdict.specs.declared.verdict.NetVerdict.TheVariants as verdict
 use Rattle.rg_net_verdict.specs.Verdict.{Told, IsVerdict}
 use Rattle.rg_messages.specs.CheckedTexts.{yes_line, no_line}
-use Rattle.rg_messages.specs.Files.{file_line}
-use Rattle.rg_messages.specs.Wides.{wide_line}
 use Rattle.rg_messages.specs.declared.fault.Fault.{Fault}
 use Rattle.rg_messages.specs.declared.fault.Fault.TheVariants.{Missing, TooLong, Net as OfNet}
 use Rattle.rg_messages.specs.declared.wide.WideCause.TheVariants.{Check}
 use Rattle.rg_top.specs.Given.{MayHold, IsFile, IsTooLong}
 use Rattle.rg_top.specs.Second.{second_fault}
+use Rattle.rg_top.specs.End.{End, says_yes, says_no, refuses_file, shows_term}
+use Rattle.rg_top.specs.Terms.{of_check}
 use Rattle.rg_top.specs.declared.status.Status.{Status}
 use Rattle.rg_top.specs.declared.status.Status.TheVariants.{Done, No, File, TooWide}
 
@@ -47,7 +47,7 @@ IsNoNet files name lts Missing = MayHold files name None
 IsNoNet files name lts TooLong = IsTooLong files name
 IsNoNet files name lts fault = IsFaultyNet files name lts fault
 
--- the verdict on the net of the file, which is one
+-- the file spells a net, and this is the verdict on it
 pub record IsTold (files : Option Files) (class : Class) (name : List ℕ) (lts : System) (told : Told) : Type 0 where
   pub net : Net
   pub file : IsNetFile files name lts net
@@ -67,17 +67,16 @@ pub record IsWrongNet (files : Option Files) (class : Class) (name : List ℕ) (
   pub file : IsNetFile files name lts net
   pub wrong : Solves net lts → ¬ InClass net class
 
--- the status, and what it writes to out and to err
-pub data CheckEnds (files : Option Files) (class : Class) (name : List ℕ) (lts : System) : Status → List ℕ → List ℕ → Type 0 where
-  unread : (fault : Fault) → IsNoNet files name lts fault → CheckEnds files class name lts (File (second_fault fault)) [] (file_line (second_fault fault))
-  yes : IsTold files class name lts (Ok verdict.Yes) → IsRightNet files class name lts → CheckEnds files class name lts Done yes_line []
-  no : (found : NetNo) → IsTold files class name lts (Ok (verdict.No found)) → IsWrongNet files class name lts → CheckEnds files class name lts No (no_line lts found) []
-  passes : (w : CheckWide) → IsTold files class name lts (Err w) → CheckEnds files class name lts (TooWide (Check w)) [] (wide_line (Check w))
+-- the end is that of the file: it is none of a net, or the judge says yes, no, or that a number is out of range
+pub data CheckEnds (files : Option Files) (class : Class) (name : List ℕ) (lts : System) : End → Type 0 where
+  unread : (fault : Fault) → IsNoNet files name lts fault → CheckEnds files class name lts (refuses_file (second_fault fault))
+  yes : IsTold files class name lts (Ok verdict.Yes) → IsRightNet files class name lts → CheckEnds files class name lts (says_yes yes_line)
+  no : (found : NetNo) → IsTold files class name lts (Ok (verdict.No found)) → IsWrongNet files class name lts → CheckEnds files class name lts (says_no (no_line lts found))
+  passes : (w : CheckWide) → IsTold files class name lts (Err w) → CheckEnds files class name lts (shows_term (of_check w))
 
--- when each status comes
-abbrev pub CheckIsDue : Option Files → Class → List ℕ → System → Status → Type 0
-CheckIsDue files class name lts Done = IsTold files class name lts (Ok verdict.Yes)
-CheckIsDue files class name lts No = (found : NetNo) × IsTold files class name lts (Ok (verdict.No found))
-CheckIsDue files class name lts (TooWide (Check w)) = IsTold files class name lts (Err w)
-CheckIsDue files class name lts (File fault) = (fault.file ≡ 2) × IsNoNet files name lts fault.fault
-CheckIsDue files class name lts _ = ⊥
+-- when each status is expected
+pub data CheckIsDue (files : Option Files) (class : Class) (name : List ℕ) (lts : System) : Status → Type 0 where
+  by_no_net : (fault : Fault) → IsNoNet files name lts fault → CheckIsDue files class name lts (File (second_fault fault))
+  by_yes : IsTold files class name lts (Ok verdict.Yes) → CheckIsDue files class name lts Done
+  by_no : (found : NetNo) → IsTold files class name lts (Ok (verdict.No found)) → CheckIsDue files class name lts No
+  by_term : (w : CheckWide) → IsTold files class name lts (Err w) → CheckIsDue files class name lts (TooWide (Check w))

@@ -1,4 +1,4 @@
--- Which status words and files ask for. That of a fault or of want of memory is never asked for.
+-- Which status the words and the files determine: never that of a fault or of want of memory.
 use Rattle.std.specs.Prelude.{ℕ, List, Option, Some}
 use Rattle.rg_ports.specs.Shelf.{Files}
 use Rattle.rg_theory.specs.System.{System}
@@ -30,7 +30,7 @@ use Rattle.rg_top.specs.SelfTest.{TrialsPass, SelfTestIsDue}
 use Rattle.rg_top.specs.declared.status.Status.{Status}
 use Rattle.rg_top.specs.declared.status.Status.TheVariants.{Usage as Refuses, File}
 
--- the status that work on a system asks for, where the file spells the system
+-- the expected status of work on a system, where the file spells the system
 abbrev pub DueOn : Option Files → Work → System → Status → Type 0
 DueOn files (net class) lts = SynthesizeIsDue class lts
 DueOn files (judgement cert) lts = VerifyIsDue files cert lts
@@ -41,18 +41,18 @@ DueOn files (splitting output) lts = SplitIsDue lts
 DueOn files (comparison named form) lts = IsomorphicIsDue files named form lts
 DueOn files (examination output) lts = ExamineIsDue
 
--- the status that work on the system of a file asks for
+-- the expected status of work on the system of a file
 pub data FileDue (files : Option Files) (work : Work) (file : List ℕ) (form : Form) : Status → Type 0 where
   no_system : (fault : Fault) → IsNoSystem files form file fault → FileDue files work file form (File (first_fault fault))
   on_system : (lts : System) (status : Status) → IsSystemFile files form file lts → DueOn files work lts status → FileDue files work file form status
 
--- the status that a request asks for
+-- the expected status of a request
 abbrev pub DueOf : Option Files → Asked → Status → Type 0
 DueOf files (of_system work file form) = FileDue files work file form
-DueOf files (generation kind n) = GenerateIsDue kind n
+DueOf files (generation kind n) = GenerateIsDue
 DueOf files (self_test n) = SelfTestIsDue n
 
--- the status that the words ask for
+-- the expected status of the words
 pub data IsDue (words : List (List ℕ)) (files : Option Files) : Status → Type 0 where
   refused : (usage : Usage) → AreRefused words usage → IsDue words files (Refuses usage)
   asked : (request : Asked) (status : Status) → Ask words request → DueOf files request status → IsDue words files status

@@ -1,5 +1,5 @@
--- How a command ends: each status, why it comes, and what it writes to out and to err.
-use Rattle.std.specs.Prelude.{ℕ, List, [], Option}
+-- How words and files end, and why.
+use Rattle.std.specs.Prelude.{ℕ, List, Option}
 use Rattle.rg_ports.specs.Shelf.{Files}
 use Rattle.rg_theory.specs.System.{System}
 use Rattle.rg_lts.specs.WellFormed.{IsWellFormed}
@@ -7,8 +7,6 @@ use Rattle.rg_commands.specs.Requests.{Work, net, judgement, verdict, conversion
 use Rattle.rg_commands.specs.Says.{Ask, AreRefused}
 use Rattle.rg_commands.specs.declared.usage.Usage.{Usage}
 use Rattle.rg_commands.specs.declared.forms.Form.{Form}
-use Rattle.rg_messages.specs.Usages.{usage_line}
-use Rattle.rg_messages.specs.Files.{file_line}
 use Rattle.rg_messages.specs.declared.fault.Fault.{Fault}
 use Rattle.rg_top.specs.Given.{IsNoSystem, IsSystemFile}
 use Rattle.rg_top.specs.Second.{first_fault}
@@ -22,11 +20,10 @@ use Rattle.rg_top.specs.Isomorphic.{IsomorphicEnds}
 use Rattle.rg_top.specs.Examine.{ExamineEnds}
 use Rattle.rg_top.specs.Generate.{GenerateEnds}
 use Rattle.rg_top.specs.SelfTest.{SelfTestEnds}
-use Rattle.rg_top.specs.declared.status.Status.{Status}
-use Rattle.rg_top.specs.declared.status.Status.TheVariants.{Usage as Refuses, File}
+use Rattle.rg_top.specs.End.{End, refuses_words, refuses_file}
 
 -- how work on a system ends where the file spells the system
-abbrev pub EndsOn : Option Files → Work → System → Status → List ℕ → List ℕ → Type 0
+abbrev pub EndsOn : Option Files → Work → System → End → Type 0
 EndsOn files (net class) lts = SynthesizeEnds class lts
 EndsOn files (judgement cert) lts = VerifyEnds files cert lts
 EndsOn files (verdict class named) lts = CheckEnds files class named lts
@@ -37,18 +34,17 @@ EndsOn files (comparison named form) lts = IsomorphicEnds files named form lts
 EndsOn files (examination output) lts = ExamineEnds output lts
 
 -- how work on the system of a file ends: the file is not that of a system, or it is
-pub data FileEnds (files : Option Files) (work : Work) (file : List ℕ) (form : Form) : Status → List ℕ → List ℕ → Type 0 where
-  no_system : (fault : Fault) → IsNoSystem files form file fault → FileEnds files work file form (File (first_fault fault)) [] (file_line (first_fault fault))
-  on_system : (lts : System) (status : Status) (out err : List ℕ) → IsSystemFile files form file lts → IsWellFormed lts → EndsOn files work lts status out err
-      → FileEnds files work file form status out err
+pub data FileEnds (files : Option Files) (work : Work) (file : List ℕ) (form : Form) : End → Type 0 where
+  no_system : (fault : Fault) → IsNoSystem files form file fault → FileEnds files work file form (refuses_file (first_fault fault))
+  on_system : (lts : System) (end : End) → IsSystemFile files form file lts → IsWellFormed lts → EndsOn files work lts end → FileEnds files work file form end
 
 -- how a request ends
-abbrev pub EndsOf : Option Files → Asked → Status → List ℕ → List ℕ → Type 0
+abbrev pub EndsOf : Option Files → Asked → End → Type 0
 EndsOf files (of_system work file form) = FileEnds files work file form
 EndsOf files (generation kind n) = GenerateEnds kind n
 EndsOf files (self_test n) = SelfTestEnds n
 
 -- how words end: they are refused, or they ask for something
-pub data Answers (words : List (List ℕ)) (files : Option Files) : Status → List ℕ → List ℕ → Type 0 where
-  refused : (usage : Usage) → AreRefused words usage → Answers words files (Refuses usage) [] (usage_line usage)
-  asked : (request : Asked) (status : Status) (out err : List ℕ) → Ask words request → EndsOf files request status out err → Answers words files status out err
+pub data Answers (words : List (List ℕ)) (files : Option Files) : End → Type 0 where
+  refused : (usage : Usage) → AreRefused words usage → Answers words files (refuses_words usage)
+  asked : (request : Asked) (end : End) → Ask words request → EndsOf files request end → Answers words files end

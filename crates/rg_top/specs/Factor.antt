@@ -1,5 +1,5 @@
 -- How `factor FILE [--class CLASS]` ends where FILE spells a system.
-use Rattle.std.specs.Prelude.{◌≡◌, ℕ, ◌<◌, ◌≤◌, List, [], ◌++◌, length, Option, None, Some}
+use Rattle.std.specs.Prelude.{◌≡◌, ℕ, ◌<◌, ◌≤◌, List, ◌++◌, length, Option, None, Some}
 use Rattle.std.specs.List.{AllZip}
 use Rattle.rg_integers.specs.Range.{greatest}
 use Rattle.rg_theory.specs.System.{System, IsAllReachable, IsLeastUnreachable, IsLeastFork}
@@ -23,9 +23,10 @@ use Rattle.rg_separate.specs.View.{shown_of}
 use Rattle.rg_reasons.specs.declared.wide_at.WideAt.{WideAt}
 use Rattle.rg_synth.specs.Answer.{IsOpen, IsSolvingNet}
 use Rattle.rg_messages.specs.FactorTexts.{unreachable_line, fork_line, one_block_text, sizes_line, factors_text, unsolvable_factor_line}
-use Rattle.rg_messages.specs.Wides.{wide_line}
 use Rattle.rg_messages.specs.declared.wide.WideCause.TheVariants as cause
 use Rattle.rg_top.specs.Synthesize.{IsCertificateText, IsShownFor}
+use Rattle.rg_top.specs.End.{End, says_yes, says_no, shows_term}
+use Rattle.rg_top.specs.Terms.{Term.of_factor as of_factor_term}
 use Rattle.rg_top.specs.declared.status.Status.{Status}
 use Rattle.rg_top.specs.declared.status.Status.TheVariants.{Done, No, TooWide}
 
@@ -50,7 +51,7 @@ pub record IsNetBeside (class : Class) (lts : System) (out : List ℕ) : Type 0 
   pub text : out ≡ net_text (net_beside lts fs nets) lts
   pub spelled : length (net_beside lts fs nets).places ≤ most_places → NetSpells out lts (net_beside lts fs nets)
 
--- the bytes name the first factor whose answer is no net, and then its certificate; so no net of the class solves the system
+-- the bytes name the first factor whose answer is no net, and end with its certificate; so no net of the class solves the system
 pub record IsFactorCertificate (class : Class) (lts : System) (out : List ℕ) : Type 0 where
   pub fs : List Factor
   pub tuples : List (List ℕ)
@@ -72,24 +73,23 @@ pub record IsFactorTerm (class : Class) (lts : System) (i : ℕ) (w : Shown) : T
   pub first : IsBehindNets class fs i f
   pub shown : IsShownFor class f.lts w
 
--- the status, and what it writes to out and to err
-pub data FactorEnds (lts : System) : Option Class → Status → List ℕ → List ℕ → Type 0 where
-  a_state : (class : Option Class) (s : ℕ) → IsLeastUnreachable lts s → FactorEnds lts class No (unreachable_line lts s) []
-  a_fork : (class : Option Class) (s t s₁ s₂ : ℕ) → IsAllReachable lts → IsLeastFork lts s t s₁ s₂ → FactorEnds lts class No (fork_line lts s t s₁ s₂) []
+-- the end is that of the system: a state or a fork, one block of labels, parts that don't make it, or its factors; or that of the nets for them
+pub data FactorEnds (lts : System) : Option Class → End → Type 0 where
+  a_state : (class : Option Class) (s : ℕ) → IsLeastUnreachable lts s → FactorEnds lts class (says_no (unreachable_line lts s))
+  a_fork : (class : Option Class) (s t s₁ s₂ : ℕ) → IsAllReachable lts → IsLeastFork lts s t s₁ s₂ → FactorEnds lts class (says_no (fork_line lts s t s₁ s₂))
   no_blocks : (class : Option Class) (squares : List Broken) → IsOpen lts → IsFactoring lts (one_block squares) → IsIndivisible lts
-      → FactorEnds lts class No (one_block_text lts squares) []
-  no_product : (class : Option Class) (sizes : List ℕ) → IsOpen lts → IsFactoring lts (fewer sizes) → FactorEnds lts class No (sizes_line lts sizes) []
-  all_factors : (fs : List Factor) (tuples : List (List ℕ)) → AreFactorsOf lts fs tuples → FactorEnds lts None Done (factors_text lts fs tuples) []
-  a_net : (class : Class) (out : List ℕ) → IsNetBeside class lts out → FactorEnds lts (Some class) Done out []
-  a_certificate : (class : Class) (out : List ℕ) → IsFactorCertificate class lts out → FactorEnds lts (Some class) No out []
-  a_term : (class : Class) (i : ℕ) (at : WideAt) → IsFactorTerm class lts i (shown_of at)
-      → FactorEnds lts (Some class) (TooWide (cause.Factor i at)) [] (wide_line (cause.Factor i at))
+      → FactorEnds lts class (says_no (one_block_text lts squares))
+  no_product : (class : Option Class) (sizes : List ℕ) → IsOpen lts → IsFactoring lts (fewer sizes) → FactorEnds lts class (says_no (sizes_line lts sizes))
+  all_factors : (fs : List Factor) (tuples : List (List ℕ)) → AreFactorsOf lts fs tuples → FactorEnds lts None (says_yes (factors_text lts fs tuples))
+  a_net : (class : Class) (out : List ℕ) → IsNetBeside class lts out → FactorEnds lts (Some class) (says_yes out)
+  a_certificate : (class : Class) (out : List ℕ) → IsFactorCertificate class lts out → FactorEnds lts (Some class) (says_no out)
+  a_term : (class : Class) (i : ℕ) (w : Shown) → IsFactorTerm class lts i w → FactorEnds lts (Some class) (shows_term (of_factor_term i w))
 
 -- it has these factors, with some tuples
 abbrev pub HasFactors : System → List Factor → Type 0
 HasFactors lts fs = (tuples : List (List ℕ)) × IsOpen lts × IsFactoring lts (factors fs tuples)
 
--- when each status comes: as the system has an unreachable state, a fork, one block of labels, or parts that don't make it; or factors,
+-- when each status is expected: as the system has an unreachable state, a fork, one block of labels, or parts that don't make it; or factors,
 -- and where a class is asked, as the first one whose answer is no net says, or as each has a net
 pub data FactorIsDue (lts : System) : Option Class → Status → Type 0 where
   for_a_state : {class : Option Class} (s : ℕ) → IsLeastUnreachable lts s → FactorIsDue lts class No

@@ -14,7 +14,7 @@ use Rattle.rg_commands.specs.declared.forms.Form.TheVariants as form
 use Rattle.rg_messages.specs.declared.fault.Fault.{Fault}
 use Rattle.rg_messages.specs.declared.fault.Fault.TheVariants.{Missing, TooLong, Apt, Graph, Words}
 
--- the shelf, as far as its files are known, has these bytes under the name, or no such file
+-- the shelf, as far as it shows its files, has these bytes under the name, or no such file
 abbrev pub MayHold : Option Files → List ℕ → Option (List ℕ) → Type 0
 MayHold None name content = Unit {0}
 MayHold (Some files) name content = file_of files name ≡ content

@@ -1,16 +1,16 @@
 -- How `isomorphic FILE FILE2` ends where FILE spells a system.
-use Rattle.std.specs.Prelude.{◌≡◌, ◌⊎◌, ℕ, List, [], Option}
+use Rattle.std.specs.Prelude.{◌⊎◌, ◌↔◌, ℕ, List, Option}
 use Rattle.rg_ports.specs.Shelf.{Files}
 use Rattle.rg_theory.specs.System.{System, IsAllReachable, IsLeastUnreachable, IsLeastFork}
 use Rattle.rg_lts.specs.WellFormed.{IsWellFormed}
-use Rattle.rg_iso.specs.Isomorphic.{HaveSameLabels, IsIsomorphismTo, AreIsomorphic}
+use Rattle.rg_iso.specs.Isomorphic.{AreIsomorphic}
 use Rattle.rg_iso.specs.Compared.{IsJudged, Told, Told.map as as_map, Compares, IsMap}
 use Rattle.rg_commands.specs.declared.forms.Form.{Form}
-use Rattle.rg_messages.specs.Files.{file_line}
-use Rattle.rg_messages.specs.ComparedTexts.{map_text, told_text, unreachable_line, fork_line}
+use Rattle.rg_messages.specs.ComparedTexts.{told_text, unreachable_line, fork_line}
 use Rattle.rg_messages.specs.declared.fault.Fault.{Fault}
 use Rattle.rg_top.specs.Given.{IsNoSystem, IsSystemFile}
 use Rattle.rg_top.specs.Second.{second_fault}
+use Rattle.rg_top.specs.End.{End, says_yes, says_no, refuses_file}
 use Rattle.rg_top.specs.declared.status.Status.{Status}
 use Rattle.rg_top.specs.declared.status.Status.TheVariants.{Done, No, File}
 
@@ -20,23 +20,21 @@ pub data IsUnjudged (file : ℕ) (lts : System) : List ℕ → Type 0 where
   unreachable : (s : ℕ) → IsLeastUnreachable lts s → IsUnjudged file lts (unreachable_line file lts s)
   fork : (s t s₁ s₂ : ℕ) → IsAllReachable lts → IsLeastFork lts s t s₁ s₂ → IsUnjudged file lts (fork_line file lts s t s₁ s₂)
 
--- the status for two systems, and what it writes to out; a difference shows that there is no isomorphism
-pub data PairEnds (a b : System) : Status → List ℕ → Type 0 where
-  first_unjudged : (out : List ℕ) → IsUnjudged 1 a out → PairEnds a b No out
-  second_unjudged : (out : List ℕ) → IsJudged a → IsUnjudged 2 b out → PairEnds a b No out
-  same : (map : List ℕ) → IsJudged a → IsJudged b → HaveSameLabels a b → IsIsomorphismTo a b map → PairEnds a b Done (map_text a b map)
-  different : (told : Told) → IsJudged a → IsJudged b → Compares a b told → ¬ IsMap told → ¬ AreIsomorphic a b → PairEnds a b No (told_text a b told)
+-- a map is the command's yes, and a difference its no
+abbrev pub told_end : Told → List ℕ → End
+told_end (as_map map) text = says_yes text
+told_end _ text = says_no text
 
--- a map is the command's yes
-abbrev pub told_status : Told → Status
-told_status (as_map map) = Done
-told_status _ = No
+-- the end for two systems: one isn't judged, or both are, and are isomorphic just where a map is found
+pub data PairEnds (a b : System) : End → Type 0 where
+  first_unjudged : (out : List ℕ) → IsUnjudged 1 a out → PairEnds a b (says_no out)
+  second_unjudged : (out : List ℕ) → IsJudged a → IsUnjudged 2 b out → PairEnds a b (says_no out)
+  compared : (told : Told) → IsJudged a → IsJudged b → Compares a b told → IsMap told ↔ AreIsomorphic a b → PairEnds a b (told_end told (told_text a b told))
 
--- the status, and what it writes to out and to err
-pub data IsomorphicEnds (files : Option Files) (named : List ℕ) (form : Form) (lts : System) : Status → List ℕ → List ℕ → Type 0 where
-  unread : (fault : Fault) → IsNoSystem files form named fault → IsomorphicEnds files named form lts (File (second_fault fault)) [] (file_line (second_fault fault))
-  read : (other : System) (status : Status) (out : List ℕ) → IsSystemFile files form named other → IsWellFormed other → PairEnds lts other status out
-      → IsomorphicEnds files named form lts status out []
+-- the end is that of the second file: it is none of a system, or it is one
+pub data IsomorphicEnds (files : Option Files) (named : List ℕ) (form : Form) (lts : System) : End → Type 0 where
+  unread : (fault : Fault) → IsNoSystem files form named fault → IsomorphicEnds files named form lts (refuses_file (second_fault fault))
+  read : (other : System) (end : End) → IsSystemFile files form named other → IsWellFormed other → PairEnds lts other end → IsomorphicEnds files named form lts end
 
 -- the two systems are judged, and isomorphic
 pub record AreFoundSame (files : Option Files) (named : List ℕ) (form : Form) (lts : System) : Type 0 where
@@ -52,9 +50,8 @@ pub record AreFoundOther (files : Option Files) (named : List ℕ) (form : Form)
   pub file : IsSystemFile files form named other
   pub why : (¬ IsJudged lts) ⊎ ((¬ IsJudged other) ⊎ (¬ AreIsomorphic lts other))
 
--- when each status comes
-abbrev pub IsomorphicIsDue : Option Files → List ℕ → Form → System → Status → Type 0
-IsomorphicIsDue files named form lts Done = AreFoundSame files named form lts
-IsomorphicIsDue files named form lts No = AreFoundOther files named form lts
-IsomorphicIsDue files named form lts (File fault) = (fault.file ≡ 2) × IsNoSystem files form named fault.fault
-IsomorphicIsDue files named form lts _ = ⊥
+-- when each status is expected
+pub data IsomorphicIsDue (files : Option Files) (named : List ℕ) (form : Form) (lts : System) : Status → Type 0 where
+  by_no_system : (fault : Fault) → IsNoSystem files form named fault → IsomorphicIsDue files named form lts (File (second_fault fault))
+  by_same : AreFoundSame files named form lts → IsomorphicIsDue files named form lts Done
+  by_other : AreFoundOther files named form lts → IsomorphicIsDue files named form lts No

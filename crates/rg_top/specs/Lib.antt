@@ -1,4 +1,6 @@
 pub mod Numbers
+pub mod Terms
+pub mod End
 pub mod Given
 pub mod Second
 pub mod Synthesize
@@ -11,7 +13,6 @@ pub mod Generate
 pub mod SelfTest
 pub mod Factor
 pub mod Split
-pub mod Terms
 pub mod Ends
 pub mod Due
 pub mod Run

@@ -1,5 +1,5 @@
 -- What the parts of the answer say. Contracts of the crate's private functions cite it.
-use Rattle.std.specs.Prelude.{◌≡◌, ◌≤◌, ◌++◌, ℕ, Bool, List, [], ◌∷◌, Option, None, Some, option_map, Ok, Err}
+use Rattle.std.specs.Prelude.{◌≡◌, ◌≤◌, ◌⊎◌, ◌++◌, ℕ, Bool, List, [], ◌∷◌, Option, None, Some, option_map, Ok, Err}
 use Rattle.rg_ports.specs.Calls.{LastCall, ReadsFile}
 use Rattle.rg_ports.specs.Shelf.{Files}
 use Rattle.rg_integers.specs.Range.{greatest}
@@ -21,21 +21,41 @@ use Rattle.rg_commands.specs.Requests.{Asked, of_system, generation, self_test, 
 use Rattle.rg_commands.specs.declared.request.Request.{Request}
 use Rattle.rg_commands.specs.declared.request.Request.TheVariants.{Synthesize, Verify, Check, Convert, Factor, Split, Isomorphic, Examine, Generate, SelfTest}
 use Rattle.rg_messages.specs.CheckedTexts.{yes_line, no_line}
-use Rattle.rg_messages.specs.Files.{file_line}
 use Rattle.rg_messages.specs.JudgedTexts.{accepted_line, refused_line}
-use Rattle.rg_messages.specs.Wides.{wide_line}
 use Rattle.rg_messages.specs.declared.fault.Fault.{Fault}
-use Rattle.rg_messages.specs.declared.wide.WideCause.TheVariants as wide
 use Rattle.rg_top.specs.Check.{IsNetFault}
 use Rattle.rg_top.specs.Second.{second_fault}
 use Rattle.rg_top.specs.Verify.{IsRefusedFor}
-use Rattle.rg_top.specs.Run.{AsksFiles, ReadsFiles}
+use Rattle.rg_top.specs.Run.{Writes, Takes, Breaks, AsksFiles, ReadsFiles}
+use Rattle.rg_top.specs.End.{End, says_yes, says_no, refuses_words, refuses_file, shows_term, to_out, to_err, output_of, HasStatus}
+use Rattle.rg_top.specs.Terms.{of_check, term_of}
 use Rattle.rg_top.specs.declared.status.Status.{Status}
-use Rattle.rg_top.specs.declared.status.Status.TheVariants.{Done, No, File, TooWide}
+use Rattle.rg_top.specs.declared.status.Status.TheVariants.{WriteFault}
+use Rattle.rg_top.specs.declared.answer.Answer.{Answer}
+use Rattle.rg_top.specs.declared.answer.Answer.TheVariants as answer
+use Rattle.rg_top.specs.declared.output.Output.{Output}
+use Rattle.rg_top.specs.declared.output.Output.TheVariants as output
 use Rattle.rg_top.specs.declared.task.Work.{Work}
 use Rattle.rg_top.specs.declared.task.Work.TheVariants as task
 use Rattle.rg_top.specs.declared.task.Task.{Task}
 use Rattle.rg_top.specs.declared.task.Task.TheVariants.{OfSystem, Generation, SelfTest as SelfTested}
+
+-- the end that an answer is
+abbrev pub end_of : Answer → End
+end_of (answer.Yes text) = says_yes text.items
+end_of (answer.No text) = says_no text.items
+end_of (answer.Usage usage) = refuses_words usage
+end_of (answer.File fault) = refuses_file fault
+end_of (answer.TooWide cause) = shows_term (term_of cause)
+
+-- the output has the status of the end, and the bytes for its sink
+abbrev pub IsOutputOf : End → Output → Type 0
+IsOutputOf end (output.Out status text) = HasStatus end status × (output_of end ≡ to_out text.items)
+IsOutputOf end (output.Err status line) = HasStatus end status × (output_of end ≡ to_err line.items)
+
+-- the sink took the bytes and this is the status, or it failed
+abbrev pub IsWritten : Writes → List ℕ → Status → Status → Type 0
+IsWritten sink bytes status result = ((result ≡ status) × Takes sink bytes) ⊎ ((result ≡ WriteFault) × Breaks sink bytes)
 
 -- some job does the work that is asked
 abbrev pub HasJobs : Request → Type 0
@@ -125,17 +145,17 @@ ReadsMore finds hands [] s t = t ≡ s
 ReadsMore finds hands (name ∷ names) s t = (last : LastCall) × ReadsFile finds hands name s last t
 
 -- how `verify` ends where the second file has these bytes
-pub data JudgesBytes (bytes : List ℕ) (lts : System) : Status → List ℕ → List ℕ → Type 0 where
-  accepted : (claim : Claim) → Spells bytes lts claim → Holds lts claim → NoNet lts claim.class → JudgesBytes bytes lts Done (accepted_line claim.class) []
-  refused : (why : List ℕ) → ((claim : Claim) → Spells bytes lts claim → ¬ Holds lts claim) → IsRefusedFor bytes lts why → JudgesBytes bytes lts No (refused_line why) []
+pub data JudgesBytes (bytes : List ℕ) (lts : System) : End → Type 0 where
+  accepted : (claim : Claim) → Spells bytes lts claim → Holds lts claim → NoNet lts claim.class → JudgesBytes bytes lts (says_yes (accepted_line claim.class))
+  refused : (why : List ℕ) → ((claim : Claim) → Spells bytes lts claim → ¬ Holds lts claim) → IsRefusedFor bytes lts why → JudgesBytes bytes lts (says_no (refused_line why))
 
 -- how `check` ends for a net
-pub data TellsNet (told : Net) (class : Class) (lts : System) : Status → List ℕ → List ℕ → Type 0 where
-  yes : IsVerdict lts told class (Ok verdict_of.Yes) → Solves told lts → InClass told class → IsBounded told greatest → TellsNet told class lts Done yes_line []
-  no : (found : NetNo) → IsVerdict lts told class (Ok (verdict_of.No found)) → (Solves told lts → ¬ InClass told class) → TellsNet told class lts No (no_line lts found) []
-  passes : (w : CheckWide) → IsVerdict lts told class (Err w) → TellsNet told class lts (TooWide (wide.Check w)) [] (wide_line (wide.Check w))
+pub data TellsNet (told : Net) (class : Class) (lts : System) : End → Type 0 where
+  yes : IsVerdict lts told class (Ok verdict_of.Yes) → Solves told lts → InClass told class → IsBounded told greatest → TellsNet told class lts (says_yes yes_line)
+  no : (found : NetNo) → IsVerdict lts told class (Ok (verdict_of.No found)) → (Solves told lts → ¬ InClass told class) → TellsNet told class lts (says_no (no_line lts found))
+  passes : (w : CheckWide) → IsVerdict lts told class (Err w) → TellsNet told class lts (shows_term (of_check w))
 
 -- how `check` ends where the second file has these bytes
-pub data TellsBytes (bytes : List ℕ) (class : Class) (lts : System) : Status → List ℕ → List ℕ → Type 0 where
-  faulty : (fault : Fault) → IsNetFault bytes lts fault → TellsBytes bytes class lts (File (second_fault fault)) [] (file_line (second_fault fault))
-  spelled : (told : Net) (status : Status) (out err : List ℕ) → NetSpells bytes lts told → TellsNet told class lts status out err → TellsBytes bytes class lts status out err
+pub data TellsBytes (bytes : List ℕ) (class : Class) (lts : System) : End → Type 0 where
+  faulty : (fault : Fault) → IsNetFault bytes lts fault → TellsBytes bytes class lts (refuses_file (second_fault fault))
+  spelled : (told : Net) (end : End) → NetSpells bytes lts told → TellsNet told class lts end → TellsBytes bytes class lts end

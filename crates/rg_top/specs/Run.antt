@@ -1,5 +1,5 @@
 -- What is seen of one run, and how it may end.
-use Rattle.std.specs.Prelude.{◌≡◌, ◌⊎◌, ℕ, ◌<◌, Bool, true, false, List, [], ◌∷◌, ◌++◌, length, Option, None, Some, option_map, IsSome}
+use Rattle.std.specs.Prelude.{◌≡◌, ◌⊎◌, ℕ, ◌<◌, Bool, true, false, List, [], ◌∷◌, ◌++◌, length, Option, option_map, IsSome}
 use Rattle.rg_ports.specs.Calls.{LastCall, finds_end, ReadsFile}
 use Rattle.rg_ports.specs.Count.{HasRisen}
 use Rattle.rg_ports.specs.Offer.{Offers}
@@ -12,6 +12,7 @@ use Rattle.rg_commands.specs.declared.forms.Form.{Form}
 use Rattle.rg_top.specs.Given.{IsSystemFile}
 use Rattle.rg_top.specs.Ends.{Answers}
 use Rattle.rg_top.specs.Due.{IsDue, IsPassed}
+use Rattle.rg_top.specs.End.{End, Output, to_out, to_err, output_of, HasStatus}
 use Rattle.rg_top.specs.Terms.{Term, term_of, ShowsTerm}
 use Rattle.rg_top.specs.declared.status.Status.{Status}
 use Rattle.rg_top.specs.declared.status.Status.TheVariants.{TooWide, ReadFault, WriteFault, NoMemory}
@@ -28,7 +29,7 @@ pub record Writes : Type 1 where
   pub faults : Change ℕ
   pub offers : List ℕ → Bool → Type 0
 
--- the words, what the shelf says of its files, how often its calls failed, and what is seen of both sinks
+-- the words, what the shelf shows of its files, how often its calls failed, and what is seen of both sinks
 pub record Run : Type 1 where
   pub words : List (List ℕ)
   pub files : Option Files
@@ -66,13 +67,22 @@ pub record Breaks (sink : Writes) (bytes : List ℕ) : Type 0 where
   pub risen : HasRisen sink.faults.before sink.faults.after
   pub offered : sink.offers bytes false
 
--- the words ask for the status, and all that it writes was taken
+-- the sink of the output was offered its bytes and took them, and the other was offered nothing
+abbrev pub TakesOutput : Run → Output → Type 0
+TakesOutput run (to_out bytes) = Takes run.out bytes × IsLeft run.err
+TakesOutput run (to_err bytes) = IsLeft run.out × Takes run.err bytes
+
+-- the sink of the output failed after a proper prefix of its bytes, and the other was offered nothing
+abbrev pub BreaksOutput : Run → Output → Type 0
+BreaksOutput run (to_out bytes) = Breaks run.out bytes × IsLeft run.err
+BreaksOutput run (to_err bytes) = IsLeft run.out × Breaks run.err bytes
+
+-- the words and the files end so, with this status, and all that the end writes was taken
 pub record Says (run : Run) (status : Status) : Type 0 where
-  pub out_bytes : List ℕ
-  pub err_bytes : List ℕ
-  pub due : Answers run.words run.files status out_bytes err_bytes
-  pub out : Takes run.out out_bytes
-  pub err : Takes run.err err_bytes
+  pub end : End
+  pub due : Answers run.words run.files end
+  pub has : HasStatus end status
+  pub taken : TakesOutput run (output_of end)
 
 -- a fault of the shelf: the words name files, and its count of faults has risen
 pub record IsReadFault (words : List (List ℕ)) (faults : Change ℕ) : Type 0 where
@@ -88,13 +98,14 @@ pub record FailsToRead (run : Run) : Type 0 where
   pub out : IsLeft run.out
   pub err : IsLeft run.err
 
--- the words ask for a status, and the sink to which it writes failed after a proper prefix; the other sink took nothing
+-- the words and the files end so, with this status, and the sink to which that end writes failed after a proper prefix; the other sink took
+-- nothing
 pub record FailsToWrite (run : Run) : Type 0 where
   pub status : Status
-  pub out_bytes : List ℕ
-  pub err_bytes : List ℕ
-  pub due : Answers run.words run.files status out_bytes err_bytes
-  pub broken : (Breaks run.out out_bytes × IsLeft run.err) ⊎ (IsLeft run.out × Breaks run.err err_bytes)
+  pub end : End
+  pub due : Answers run.words run.files end
+  pub has : HasStatus end status
+  pub broken : BreaksOutput run (output_of end)
 
 -- there was no memory; nothing was written
 pub record LacksMemory (run : Run) : Type 0 where
@@ -122,7 +133,8 @@ AsksAtMost words files before after =
 
 -- the calls that read the system's file, and after them, where its end was found and it spells a system, those that read the second
 -- one
-pub data ReadsFiles {S : Type 0} (finds : S → List ℕ → Option Bool → S → Type 0) (hands : S → ℕ → Option ℕ → S → Type 0) (files : Option Files) (work : Work) (file : List ℕ) (form : Form) : S → S → Type 0 where
+pub data ReadsFiles {S : Type 0} (finds : S → List ℕ → Option Bool → S → Type 0) (hands : S → ℕ → Option ℕ → S → Type 0)
+    (files : Option Files) (work : Work) (file : List ℕ) (form : Form) : S → S → Type 0 where
   first_alone : (s t : S) (last : LastCall) → ReadsFile finds hands file s last t → ReadsFiles finds hands files work file form s t
   both : (second : List ℕ) (s m t : S) (lts : System) (last : LastCall) → file_words (of_system work file form) ≡ file ∷ second ∷ []
       → ReadsFile finds hands file s finds_end m → IsSystemFile files form file lts
@@ -144,30 +156,21 @@ IsMishap _ = ⊥
 pub record NameNoFile (words : List (List ℕ)) : Type 0 where
   pub none : (work : Work) (file : List ℕ) (form : Form) → Ask words (of_system work file form) → ⊥
 
--- the answer is decided: the shelf says what its files are, or the words name none
+-- it is decided which status is expected: the shelf shows its files, or the words name none
 abbrev pub IsDecided : List (List ℕ) → Option Files → Type 0
 IsDecided words files = IsSome files ⊎ NameNoFile words
 
--- the status is the one that is asked for, or shows the term, where that shows one
-abbrev pub ShowsSame : Option Term → Status → Status → Type 0
-ShowsSame None due result = result ≡ due
-ShowsSame (Some t) due result = ShowsTerm t result
-
--- the status is the one that is asked for, or shows the same term
+-- the status is the expected one, or shows the same term
 abbrev pub IsTheOne : Status → Status → Type 0
-IsTheOne (TooWide cause) result = ShowsSame (term_of cause) (TooWide cause) result
+IsTheOne (TooWide cause) result = ShowsTerm (term_of cause) result
 IsTheOne due result = result ≡ due
 
--- two ends are one: the same status, or one that shows the same term, and the same bytes
-abbrev pub AreOne : Status → Status → List ℕ → List ℕ → List ℕ → List ℕ → Type 0
-AreOne s s' out out' err err' = IsTheOne s' s × (out ≡ out') × (err ≡ err')
-
--- where the answer is decided, the status that the words and the files ask for comes, unless a fault or want of memory comes in
--- its place
+-- where it is decided which status is expected, the status that the words and the files determine is returned, unless a fault or want
+-- of memory comes in its place
 abbrev pub ComesIfDue : List (List ℕ) → Option Files → Status → Status → Type 0
 ComesIfDue words files due result = IsDecided words files → IsDue words files due → IsTheOne due result ⊎ IsMishap result
 
--- where nets are asked for, the answer is decided, and what decides is a term that is out of range, the status shows that term,
--- unless a fault or want of memory comes in its place
+-- where nets are asked for, it is decided which status is expected, and what decides is a term that is out of range, the status shows
+-- that term, unless a fault or want of memory comes in its place
 abbrev pub ComesIfPassed : List (List ℕ) → Option Files → Term → Status → Type 0
 ComesIfPassed words files w result = IsDecided words files → IsPassed words files w → ShowsTerm w result ⊎ IsMishap result

@@ -17,9 +17,10 @@ use Rattle.rg_reasons.specs.declared.wide_at.WideAt.{WideAt}
 use Rattle.rg_synth.specs.Answer.{IsReason, IsSolvingNet}
 use Rattle.rg_messages.specs.CheckedTexts.{yes_line}
 use Rattle.rg_messages.specs.TrialTexts.{solved_line, unsolvable_line}
-use Rattle.rg_messages.specs.Wides.{wide_line}
 use Rattle.rg_messages.specs.declared.wide.WideCause.TheVariants.{Synthesis}
 use Rattle.rg_top.specs.Synthesize.{IsShownFor}
+use Rattle.rg_top.specs.End.{End, says_yes, shows_term}
+use Rattle.rg_top.specs.Terms.{Term.of_net as of_net_term}
 use Rattle.rg_top.specs.declared.status.Status.{Status}
 use Rattle.rg_top.specs.declared.status.Status.TheVariants.{Done, TooWide}
 
@@ -64,15 +65,14 @@ pub record Passes (t : Trial) (w : Shown) : Type 0 where
   pub of_family : IsOfFamily t.kind t.number lts
   pub shown : IsShownFor t.class lts w
 
--- the status, and what it writes to out and to err: three lines, or the number that passes in the first trial that has no line
-pub data SelfTestEnds (n : ℕ) : Status → List ℕ → List ℕ → Type 0 where
+-- the end is the three lines, or the number that passes in the first trial that has no line
+pub data SelfTestEnds (n : ℕ) : End → Type 0 where
   three_lines : (first second third : List ℕ) → HasLine (grid_trial n) first → HasLine (doubling_trial n) second → HasLine (lock_trial n) third
-      → SelfTestEnds n Done (first ++ (second ++ third)) []
-  first_passes : (at : WideAt) → Passes (grid_trial n) (shown_of at) → SelfTestEnds n (TooWide (Synthesis at)) [] (wide_line (Synthesis at))
-  second_passes : (first : List ℕ) (at : WideAt) → HasLine (grid_trial n) first → Passes (doubling_trial n) (shown_of at)
-      → SelfTestEnds n (TooWide (Synthesis at)) [] (wide_line (Synthesis at))
-  third_passes : (first second : List ℕ) (at : WideAt) → HasLine (grid_trial n) first → HasLine (doubling_trial n) second → Passes (lock_trial n) (shown_of at)
-      → SelfTestEnds n (TooWide (Synthesis at)) [] (wide_line (Synthesis at))
+      → SelfTestEnds n (says_yes (first ++ (second ++ third)))
+  first_passes : (w : Shown) → Passes (grid_trial n) w → SelfTestEnds n (shows_term (of_net_term w))
+  second_passes : (first : List ℕ) (w : Shown) → HasLine (grid_trial n) first → Passes (doubling_trial n) w → SelfTestEnds n (shows_term (of_net_term w))
+  third_passes : (first second : List ℕ) (w : Shown) → HasLine (grid_trial n) first → HasLine (doubling_trial n) second → Passes (lock_trial n) w
+      → SelfTestEnds n (shows_term (of_net_term w))
 
 -- the answer for the trial's system and its class
 pub record HasAnswer (t : Trial) (a : Answer) : Type 0 where
@@ -94,8 +94,11 @@ TrialsPass n w =
     ⊎ (IsConclusive (grid_trial n) × IsTerm (doubling_trial n) w)
     ⊎ (IsConclusive (grid_trial n) × IsConclusive (doubling_trial n) × IsTerm (lock_trial n) w)
 
--- when each status comes: as the answers are nets and reasons, or the first that isn't is a term
-abbrev pub SelfTestIsDue : ℕ → Status → Type 0
-SelfTestIsDue n Done = IsConclusive (grid_trial n) × IsConclusive (doubling_trial n) × IsConclusive (lock_trial n)
-SelfTestIsDue n (TooWide (Synthesis at)) = TrialsPass n (shown_of at)
-SelfTestIsDue n _ = ⊥
+-- all three answers are nets and reasons
+abbrev pub AreConclusive : ℕ → Type 0
+AreConclusive n = IsConclusive (grid_trial n) × IsConclusive (doubling_trial n) × IsConclusive (lock_trial n)
+
+-- when each status is expected: as the answers are nets and reasons, or the first that isn't is a term
+pub data SelfTestIsDue (n : ℕ) : Status → Type 0 where
+  by_answers : AreConclusive n → SelfTestIsDue n Done
+  by_term : (at : WideAt) → TrialsPass n (shown_of at) → SelfTestIsDue n (TooWide (Synthesis at))

@@ -1,5 +1,5 @@
 -- How `synthesize CLASS FILE` ends where FILE spells a system.
-use Rattle.std.specs.Prelude.{◌≡◌, ℕ, ◌≤◌, List, [], length}
+use Rattle.std.specs.Prelude.{◌≡◌, ℕ, ◌≤◌, List, length}
 use Rattle.rg_theory.specs.System.{System}
 use Rattle.rg_theory.specs.Net.{Place, Net}
 use Rattle.rg_theory.specs.declared.Class.{Class}
@@ -15,8 +15,9 @@ use Rattle.rg_reasons.specs.declared.wide_at.WideAt.{WideAt}
 use Rattle.rg_cert.specs.Text.{cert_text}
 use Rattle.rg_cert.specs.Spells.{Spells as CertificateSpells}
 use Rattle.rg_synth.specs.Answer.{IsOpen, IsReason, IsSolvingNet}
-use Rattle.rg_messages.specs.Wides.{wide_line}
 use Rattle.rg_messages.specs.declared.wide.WideCause.TheVariants.{Synthesis}
+use Rattle.rg_top.specs.End.{End, says_yes, says_no, shows_term}
+use Rattle.rg_top.specs.Terms.{Term.of_net as of_net_term}
 use Rattle.rg_top.specs.declared.status.Status.{Status}
 use Rattle.rg_top.specs.declared.status.Status.TheVariants.{Done, No, TooWide}
 
@@ -46,15 +47,14 @@ pub record IsShownFor (class : Class) (lts : System) (w : Shown) : Type 0 where
   pub passes : ShownWide lts class w
   pub answer : Out lts class (of_term w)
 
--- the status, and what it writes to out and to err
-pub data SynthesizeEnds (class : Class) (lts : System) : Status → List ℕ → List ℕ → Type 0 where
-  a_net : (out : List ℕ) → IsNetText class lts out → SynthesizeEnds class lts Done out []
-  a_certificate : (out : List ℕ) → IsCertificateText class lts out → SynthesizeEnds class lts No out []
-  a_term : (at : WideAt) → IsShownFor class lts (shown_of at) → SynthesizeEnds class lts (TooWide (Synthesis at)) [] (wide_line (Synthesis at))
+-- the end is that of the one answer: a net, a certificate or a term
+pub data SynthesizeEnds (class : Class) (lts : System) : End → Type 0 where
+  a_net : (out : List ℕ) → IsNetText class lts out → SynthesizeEnds class lts (says_yes out)
+  a_certificate : (out : List ℕ) → IsCertificateText class lts out → SynthesizeEnds class lts (says_no out)
+  a_term : (w : Shown) → IsShownFor class lts w → SynthesizeEnds class lts (shows_term (of_net_term w))
 
--- when each status comes: as the one answer is a net, a reason or a term
-abbrev pub SynthesizeIsDue : Class → System → Status → Type 0
-SynthesizeIsDue class lts Done = (places : List Place) × Out lts class (of_net places)
-SynthesizeIsDue class lts No = (reason : Reason) × Out lts class (of_reason reason)
-SynthesizeIsDue class lts (TooWide (Synthesis at)) = Out lts class (of_term (shown_of at))
-SynthesizeIsDue class lts _ = ⊥
+-- when each status is expected: as the one answer is a net, a reason or a term
+pub data SynthesizeIsDue (class : Class) (lts : System) : Status → Type 0 where
+  by_net : (places : List Place) → Out lts class (of_net places) → SynthesizeIsDue class lts Done
+  by_reason : (reason : Reason) → Out lts class (of_reason reason) → SynthesizeIsDue class lts No
+  by_term : (at : WideAt) → Out lts class (of_term (shown_of at)) → SynthesizeIsDue class lts (TooWide (Synthesis at))

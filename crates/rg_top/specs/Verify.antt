@@ -1,5 +1,5 @@
 -- How `verify FILE CERT` ends where FILE spells a system.
-use Rattle.std.specs.Prelude.{◌≡◌, ◌≢◌, ℕ, List, [], Option}
+use Rattle.std.specs.Prelude.{◌≡◌, ◌≢◌, ℕ, List, Option}
 use Rattle.rg_ports.specs.Shelf.{Files}
 use Rattle.rg_theory.specs.System.{System}
 use Rattle.rg_theory.specs.Class.{NoNet}
@@ -12,11 +12,11 @@ use Rattle.rg_cert.specs.Faults.{FirstFault}
 use Rattle.rg_verify.specs.declared.verdict.Defect.{Defect}
 use Rattle.rg_verify.specs.declared.verdict.Verdict.TheVariants.{Refused}
 use Rattle.rg_verify.specs.Judged.{Holds, Judges}
-use Rattle.rg_messages.specs.Files.{file_line}
 use Rattle.rg_messages.specs.JudgedTexts.{accepted_line, cert_fault_text, defect_text, refused_line}
 use Rattle.rg_messages.specs.declared.fault.Fault.{Fault}
 use Rattle.rg_top.specs.Given.{IsFile, IsUnread}
 use Rattle.rg_top.specs.Second.{second_fault}
+use Rattle.rg_top.specs.End.{End, says_yes, says_no, refuses_file}
 use Rattle.rg_top.specs.declared.status.Status.{Status}
 use Rattle.rg_top.specs.declared.status.Status.TheVariants.{Done, No, File}
 
@@ -53,15 +53,14 @@ pub record IsRefused (files : Option Files) (name : List ℕ) (lts : System) (ou
   pub reason : IsRefusedFor bytes lts why
   pub line : out ≡ refused_line why
 
--- the status, and what it writes to out and to err
-pub data VerifyEnds (files : Option Files) (cert : List ℕ) (lts : System) : Status → List ℕ → List ℕ → Type 0 where
-  unread : (fault : Fault) → IsUnread files cert fault → VerifyEnds files cert lts (File (second_fault fault)) [] (file_line (second_fault fault))
-  accepted : (class : Class) → IsAccepted files cert lts class → NoNet lts class → VerifyEnds files cert lts Done (accepted_line class) []
-  refused : (out : List ℕ) → IsNotAccepted files cert lts → IsRefused files cert lts out → VerifyEnds files cert lts No out []
+-- the end is that of the file: it isn't read, or its certificate holds or doesn't
+pub data VerifyEnds (files : Option Files) (cert : List ℕ) (lts : System) : End → Type 0 where
+  unread : (fault : Fault) → IsUnread files cert fault → VerifyEnds files cert lts (refuses_file (second_fault fault))
+  accepted : (class : Class) → IsAccepted files cert lts class → NoNet lts class → VerifyEnds files cert lts (says_yes (accepted_line class))
+  refused : (out : List ℕ) → IsNotAccepted files cert lts → IsRefused files cert lts out → VerifyEnds files cert lts (says_no out)
 
--- when each status comes
-abbrev pub VerifyIsDue : Option Files → List ℕ → System → Status → Type 0
-VerifyIsDue files cert lts Done = (class : Class) × IsAccepted files cert lts class
-VerifyIsDue files cert lts No = IsNotAccepted files cert lts
-VerifyIsDue files cert lts (File fault) = (fault.file ≡ 2) × IsUnread files cert fault.fault
-VerifyIsDue files cert lts _ = ⊥
+-- when each status is expected
+pub data VerifyIsDue (files : Option Files) (cert : List ℕ) (lts : System) : Status → Type 0 where
+  by_no_file : (fault : Fault) → IsUnread files cert fault → VerifyIsDue files cert lts (File (second_fault fault))
+  by_proof : (class : Class) → IsAccepted files cert lts class → VerifyIsDue files cert lts Done
+  by_no_proof : IsNotAccepted files cert lts → VerifyIsDue files cert lts No

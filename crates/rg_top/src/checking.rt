@@ -5,15 +5,14 @@ ghost use Rattle.rg_text.specs.Limits.{most_bytes};
 ghost use Rattle.rg_lts.specs.WellFormed.{IsWellFormed};
 ghost use Rattle.rg_theory.specs.System.{labels};
 ghost use Rattle.rg_top.specs.Check.{CheckEnds};
-ghost use Rattle.rg_top.specs.Requests.{asked_more, ReadsMore, TellsBytes, TellsNet};
+ghost use Rattle.rg_top.specs.Requests.{end_of, asked_more, ReadsMore, TellsBytes, TellsNet};
 ghost use Rattle.rg_top.specs.declared.answer.Stop.TheVariants as stop;
 
-use crate::answer::{Answer, Stop, file_refusal, said, too_wide};
+use crate::answer::{Answer, Stop};
 use crate::files::{FileStop, read_bytes};
-use crate::status::Status;
 use rg_lts::Lts;
 use rg_memory::NoMemory;
-use rg_messages::{Fault, WideCause, check_text, verdict_has_names, yes_text};
+use rg_messages::{Fault, FileFault, WideCause, check_text, verdict_has_names, yes_text};
 use rg_net::Net;
 use rg_net_verdict::{CheckStop, NetVerdict, check_net, verdict_is_sound};
 use rg_netfile::{NetFault, read_net};
@@ -32,13 +31,13 @@ pub(crate) fn verdict_answer<H: Shelf>(
     ensures files { H.files shelf.new ≡ H.files shelf.old }
     ensures asked { H.asked shelf.new ≡ asked_more (H.asked shelf.old) (name.now ∷ []) }
     ensures reads { ReadsMore H.finds H.hands (name.now ∷ []) shelf.old shelf.new }
-    ensures ok { IfOk result (λ a. CheckEnds (H.files shelf.old) class name.now lts.now a.status a.out.items a.err.items) }
+    ensures ok { IfOk result (λ a. CheckEnds (H.files shelf.old) class name.now lts.now (end_of a)) }
     ensures never_falls { H.faults shelf.old ≤ H.faults shelf.new }
     ensures fault { IsErrOf result stop.ReadFault → HasRisen (H.faults shelf.old) (H.faults shelf.new) }
 {
     match read_bytes(alloc, shelf, name) {
         Ok(bytes) => Ok(text_answer(alloc, lts, class, &bytes)?),
-        Err(FileStop::Refused(fault)) => Ok(file_refusal(alloc, 2, fault)?),
+        Err(FileStop::Refused(fault)) => Ok(Answer::File(FileFault { file: 2, fault })),
         Err(FileStop::Failed) => Err(Stop::ReadFault),
         Err(FileStop::NoMemory) => Err(Stop::NoMemory),
     }
@@ -47,13 +46,16 @@ pub(crate) fn verdict_answer<H: Shelf>(
 // The answer to the bytes of a net's file.
 fn text_answer(alloc: Global, lts: &Lts, class: Class, bytes: &[u8]) -> Result<Answer, NoMemory>
     requires short { length bytes.now ≤ most_bytes }
-    ensures { IfOk result (λ a. TellsBytes bytes.now class lts.now a.status a.out.items a.err.items) }
+    ensures { IfOk result (λ a. TellsBytes bytes.now class lts.now (end_of a)) }
 {
     match read_net(alloc, bytes, lts) {
         Ok(net) => read_answer(alloc, lts, class, &net),
         Err(fault) => match fault {
             NetFault::NoMemory => Err(NoMemory),
-            _ => Ok(file_refusal(alloc, 2, Fault::Net(fault))?),
+            _ => Ok(Answer::File(FileFault {
+                file: 2,
+                fault: Fault::Net(fault),
+            })),
         },
     }
 }
@@ -61,15 +63,15 @@ fn text_answer(alloc: Global, lts: &Lts, class: Class, bytes: &[u8]) -> Result<A
 // The answer to a net that the bytes spell.
 fn read_answer(alloc: Global, lts: &Lts, class: Class, net: &Net) -> Result<Answer, NoMemory>
     requires { net.now.labels ≡ labels lts.now }
-    ensures { IfOk result (λ a. TellsNet net.now class lts.now a.status a.out.items a.err.items) }
+    ensures { IfOk result (λ a. TellsNet net.now class lts.now (end_of a)) }
 {
     lts.is_well_formed();
     verdict_is_sound();
     verdict_has_names();
     match check_net(alloc, lts, net, class) {
-        Ok(NetVerdict::Yes) => Ok(said(alloc, Status::Done, yes_text(alloc)?)),
-        Ok(NetVerdict::No(no)) => Ok(said(alloc, Status::No, check_text(alloc, lts, no)?)),
-        Err(CheckStop::Wide(at)) => Ok(too_wide(alloc, WideCause::Check(at))?),
+        Ok(NetVerdict::Yes) => Ok(Answer::Yes(yes_text(alloc)?)),
+        Ok(NetVerdict::No(no)) => Ok(Answer::No(check_text(alloc, lts, no)?)),
+        Err(CheckStop::Wide(at)) => Ok(Answer::TooWide(WideCause::Check(at))),
         Err(CheckStop::NoMemory) => Err(NoMemory),
     }
 }

@@ -3,19 +3,18 @@ ghost use Rattle.std.specs.Prelude.{◌≡◌, ℕ, ◌∷◌, [], ◌≤◌, If
 ghost use Rattle.rg_ports.specs.Count.{HasRisen};
 ghost use Rattle.rg_lts.specs.WellFormed.{IsWellFormed};
 ghost use Rattle.rg_iso.specs.Compared.{IsJudged, told_of};
-ghost use Rattle.rg_top.specs.Isomorphic.{IsomorphicEnds, PairEnds, IsUnjudged, told_status};
-ghost use Rattle.rg_top.specs.Requests.{asked_more, ReadsMore};
+ghost use Rattle.rg_top.specs.Isomorphic.{IsomorphicEnds, PairEnds, IsUnjudged, told_end};
+ghost use Rattle.rg_top.specs.Requests.{end_of, asked_more, ReadsMore};
 ghost use Rattle.rg_top.specs.declared.answer.Stop.TheVariants as stop;
 
-use crate::answer::{Answer, Stop, file_refusal, said};
+use crate::answer::{Answer, Stop};
 use crate::files::{FileStop, read_system};
-use crate::status::Status;
 use rg_checks::{first_fork, first_unreachable};
 use rg_commands::Form;
 use rg_iso::{Same, compare};
 use rg_lts::Lts;
 use rg_memory::NoMemory;
-use rg_messages::{comparison_has_names, fork_text, same_text, unreachable_text};
+use rg_messages::{FileFault, comparison_has_names, fork_text, same_text, unreachable_text};
 use rg_ports::Shelf;
 use std::alloc::Global;
 
@@ -30,13 +29,13 @@ pub(crate) fn comparison_answer<H: Shelf>(
     ensures files { H.files shelf.new ≡ H.files shelf.old }
     ensures asked { H.asked shelf.new ≡ asked_more (H.asked shelf.old) (name.now ∷ []) }
     ensures reads { ReadsMore H.finds H.hands (name.now ∷ []) shelf.old shelf.new }
-    ensures ok { IfOk result (λ a. IsomorphicEnds (H.files shelf.old) name.now form lts.now a.status a.out.items a.err.items) }
+    ensures ok { IfOk result (λ a. IsomorphicEnds (H.files shelf.old) name.now form lts.now (end_of a)) }
     ensures never_falls { H.faults shelf.old ≤ H.faults shelf.new }
     ensures fault { IsErrOf result stop.ReadFault → HasRisen (H.faults shelf.old) (H.faults shelf.new) }
 {
     match read_system(alloc, shelf, name, form) {
         Ok(other) => Ok(pair_answer(alloc, lts, &other)?),
-        Err(FileStop::Refused(fault)) => Ok(file_refusal(alloc, 2, fault)?),
+        Err(FileStop::Refused(fault)) => Ok(Answer::File(FileFault { file: 2, fault })),
         Err(FileStop::Failed) => Err(Stop::ReadFault),
         Err(FileStop::NoMemory) => Err(Stop::NoMemory),
     }
@@ -45,41 +44,39 @@ pub(crate) fn comparison_answer<H: Shelf>(
 // What is said of two systems.
 fn pair_answer(alloc: Global, a: &Lts, b: &Lts) -> Result<Answer, NoMemory>
     ensures formed { IsWellFormed b.now }
-    ensures ends { IfOk result (λ made. PairEnds a.now b.now made.status made.out.items) }
-    ensures err { IfOk result (λ made. made.err.items ≡ []) }
+    ensures ends { IfOk result (λ made. PairEnds a.now b.now (end_of made)) }
 {
     b.is_well_formed();
     if let Some(out) = unjudged_text(alloc, 1, a)? {
-        return Ok(said(alloc, Status::No, out));
+        return Ok(Answer::No(out));
     }
     if let Some(out) = unjudged_text(alloc, 2, b)? {
-        return Ok(said(alloc, Status::No, out));
+        return Ok(Answer::No(out));
     }
     judged_answer(alloc, a, b)
 }
 
-// The answer for two systems that are judged.
+// The answer on two systems that are judged.
 fn judged_answer(alloc: Global, a: &Lts, b: &Lts) -> Result<Answer, NoMemory>
     requires first { IsJudged a.now }
     requires second { IsJudged b.now }
-    ensures ends { IfOk result (λ made. PairEnds a.now b.now made.status made.out.items) }
-    ensures err { IfOk result (λ made. made.err.items ≡ []) }
+    ensures { IfOk result (λ made. PairEnds a.now b.now (end_of made)) }
 {
     a.is_well_formed();
     b.is_well_formed();
     comparison_has_names();
     let same = compare(alloc, a, b)?;
-    let out = same_text(alloc, a, b, &same)?;
-    Ok(said(alloc, status_of(&same), out))
+    let text = same_text(alloc, a, b, &same)?;
+    Ok(told_answer(&same, text))
 }
 
-// The status of the result.
-fn status_of(same: &Same) -> Status
-    ensures { result ≡ told_status (told_of same.now) }
+// The answer with the text of a comparison: a map is the yes.
+fn told_answer(same: &Same, text: Vec<u8>) -> Answer
+    ensures { end_of result ≡ told_end (told_of same.now) text.items }
 {
     match same {
-        Same::Map(_) => Status::Done,
-        _ => Status::No,
+        Same::Map(_) => Answer::Yes(text),
+        _ => Answer::No(text),
     }
 }
 

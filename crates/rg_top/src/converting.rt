@@ -2,9 +2,9 @@
 ghost use Rattle.std.specs.Prelude.{IfOk};
 ghost use Rattle.rg_commands.specs.declared.forms.Target.TheVariants as target;
 ghost use Rattle.rg_top.specs.Convert.{ConvertEnds};
+ghost use Rattle.rg_top.specs.Requests.{end_of};
 
-use crate::answer::{Answer, said};
-use crate::status::Status;
+use crate::answer::Answer;
 use rg_apt::print_lts;
 use rg_commands::Target;
 use rg_genet::{GraphLoss, print_graph};
@@ -19,23 +19,23 @@ pub(crate) fn conversion_answer(
     lts: &Lts,
     target: Target,
 ) -> Result<Answer, NoMemory>
-    ensures { IfOk result (λ a. ConvertEnds lts.now target a.status a.out.items a.err.items) }
+    ensures { IfOk result (λ a. ConvertEnds lts.now target (end_of a)) }
 {
     match target {
-        Target::Apt => Ok(said(alloc, Status::Done, print_lts(alloc, lts)?)),
+        Target::Apt => Ok(Answer::Yes(print_lts(alloc, lts)?)),
         Target::Graph => graph_answer(alloc, lts),
     }
 }
 
 // The system as a state graph, or what is lost.
 fn graph_answer(alloc: Global, lts: &Lts) -> Result<Answer, NoMemory>
-    ensures { IfOk result (λ a. ConvertEnds lts.now target.Graph a.status a.out.items a.err.items) }
+    ensures { IfOk result (λ a. ConvertEnds lts.now target.Graph (end_of a)) }
 {
     loss_has_name();
     match print_graph(alloc, lts) {
-        Ok(text) => Ok(said(alloc, Status::Done, text)),
-        Err(GraphLoss::Label(t)) => Ok(said(alloc, Status::No, label_loss_text(alloc, lts, t)?)),
-        Err(GraphLoss::State(s)) => Ok(said(alloc, Status::No, state_loss_text(alloc, lts, s)?)),
+        Ok(text) => Ok(Answer::Yes(text)),
+        Err(GraphLoss::Label(t)) => Ok(Answer::No(label_loss_text(alloc, lts, t)?)),
+        Err(GraphLoss::State(s)) => Ok(Answer::No(state_loss_text(alloc, lts, s)?)),
         Err(GraphLoss::NoMemory) => Err(NoMemory),
     }
 }

@@ -2,9 +2,9 @@
 ghost use Rattle.std.specs.Prelude.{◌≡◌, IfOk};
 ghost use Rattle.rg_report.specs.Shown.{facts_in, HasNames};
 ghost use Rattle.rg_top.specs.Examine.{ExamineEnds, report_text};
+ghost use Rattle.rg_top.specs.Requests.{end_of};
 
-use crate::answer::{Answer, said};
-use crate::status::Status;
+use crate::answer::Answer;
 use rg_commands::ExamineOutput;
 use rg_lts::Lts;
 use rg_memory::NoMemory;
@@ -17,12 +17,12 @@ pub(crate) fn report_answer(
     lts: &Lts,
     output: ExamineOutput,
 ) -> Result<Answer, NoMemory>
-    ensures { IfOk result (λ a. ExamineEnds output lts.now a.status a.out.items a.err.items) }
+    ensures { IfOk result (λ a. ExamineEnds output lts.now (end_of a)) }
 {
     let found = examine(alloc, lts)?;
     let report = report_on(alloc, lts, &found)?;
     let text = report_text(alloc, &report, output)?;
-    Ok(said(alloc, Status::Done, text))
+    Ok(Answer::Yes(text))
 }
 
 // The text of the report, as lines or as a line of JSON.

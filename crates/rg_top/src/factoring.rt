@@ -8,9 +8,9 @@ ghost use Rattle.rg_messages.specs.FactorTexts.{unsolvable_factor_line};
 ghost use Rattle.rg_factor.specs.View.{shown_factor};
 ghost use Rattle.rg_synth.specs.Answer.{IsOpen};
 ghost use Rattle.rg_top.specs.Factor.{AreFactorsOf, FactorEnds};
+ghost use Rattle.rg_top.specs.Requests.{end_of};
 
-use crate::answer::{Answer, said, too_wide};
-use crate::status::Status;
+use crate::answer::Answer;
 use rg_cert::print;
 use rg_checks::{first_fork, first_unreachable};
 use rg_factor::{Factor, Factoring, factor};
@@ -39,17 +39,17 @@ pub(crate) fn factor_answer<R: Threads + Sync, G: Gate + Sync>(
 ) -> Result<Answer, NoMemory>
     requires numbers { IfSome class HasNumbersInRange }
     requires some { 1 ≤ jobs }
-    ensures { IfOk result (λ a. FactorEnds lts.now class a.status a.out.items a.err.items) }
+    ensures { IfOk result (λ a. FactorEnds lts.now class (end_of a)) }
 {
     lts.is_well_formed();
     if let Some(s) = first_unreachable(alloc, lts)? {
         let text = check_text(alloc, lts, NetNo::Unreachable(s))?;
-        return Ok(said(alloc, Status::No, text));
+        return Ok(Answer::No(text));
     }
     match first_fork(lts) {
         Some((s, t, to, other)) => {
             let text = check_text(alloc, lts, NetNo::Fork(s, t, to, other))?;
-            Ok(said(alloc, Status::No, text))
+            Ok(Answer::No(text))
         }
         None => open_answer(rt, alloc, class, lts, jobs, gate),
     }
@@ -68,21 +68,21 @@ fn open_answer<R: Threads + Sync, G: Gate + Sync>(
     requires is_open { IsOpen lts.now }
     requires numbers { IfSome class HasNumbersInRange }
     requires some { 1 ≤ jobs }
-    ensures { IfOk result (λ a. FactorEnds lts.now class a.status a.out.items a.err.items) }
+    ensures { IfOk result (λ a. FactorEnds lts.now class (end_of a)) }
 {
     match factor(alloc, lts)? {
         Factoring::OneBlock(squares) => {
             let text = one_block_text(alloc, lts, &squares)?;
-            Ok(said(alloc, Status::No, text))
+            Ok(Answer::No(text))
         }
         Factoring::Fewer(sizes) => {
             let text = sizes_text(alloc, lts, &sizes)?;
-            Ok(said(alloc, Status::No, text))
+            Ok(Answer::No(text))
         }
         Factoring::Factors { factors, map } => match class {
             None => {
                 let text = factors_text(alloc, lts, &factors, &map)?;
-                Ok(said(alloc, Status::Done, text))
+                Ok(Answer::Yes(text))
             }
             Some(class) => nets_answer(rt, alloc, class, lts, &factors, jobs, gate),
         },
@@ -103,18 +103,18 @@ fn nets_answer<R: Threads + Sync, G: Gate + Sync>(
     requires factors { (tuples : List (List ℕ)) × AreFactorsOf lts.now (map shown_factor factors.now) tuples }
     requires numbers { HasNumbersInRange class }
     requires some { 1 ≤ jobs }
-    ensures { IfOk result (λ a. FactorEnds lts.now (Some class) a.status a.out.items a.err.items) }
+    ensures { IfOk result (λ a. FactorEnds lts.now (Some class) (end_of a)) }
 {
     match synthesize_factors(rt, alloc, class, lts, factors, jobs, gate)? {
         FactorsAnswer::Net(net) => {
             let text = print_net(alloc, &net, lts)?;
-            Ok(said(alloc, Status::Done, text))
+            Ok(Answer::Yes(text))
         }
         FactorsAnswer::Unsolvable(i, certificate) => {
             let text = refusal_text(alloc, &factors[i as usize].lts, i, &certificate)?;
-            Ok(said(alloc, Status::No, text))
+            Ok(Answer::No(text))
         }
-        FactorsAnswer::TooWide(i, at) => Ok(too_wide(alloc, WideCause::Factor(i, at))?),
+        FactorsAnswer::TooWide(i, at) => Ok(Answer::TooWide(WideCause::Factor(i, at))),
     }
 }
 

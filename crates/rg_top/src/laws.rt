@@ -20,7 +20,7 @@ ghost use Rattle.rg_top.specs.Isomorphic.{IsomorphicEnds, IsomorphicIsDue};
 ghost use Rattle.rg_top.specs.Examine.{ExamineEnds, ExamineIsDue};
 ghost use Rattle.rg_top.specs.Generate.{GenerateEnds, GenerateIsDue};
 ghost use Rattle.rg_top.specs.SelfTest.{SelfTestEnds, SelfTestIsDue};
-ghost use Rattle.rg_top.specs.Run.{IsTheOne, AreOne};
+ghost use Rattle.rg_top.specs.End.{End, HasStatus};
 ghost use Rattle.rg_top.specs.One.{OneAnswer};
 ghost use Rattle.rg_top.specs.declared.status.Status.{Status};
 
@@ -41,19 +41,19 @@ pub fn written_is_accepted()
     ensures { (class : Class) (lts : System) (out : List ℕ) (files : Option Files) (name : List ℕ) → IsCertificateText class lts out → IsFile files name out → IsAccepted files name lts class }
 {}
 
-/// Law: `synthesize` ends in one way for a system and a class. Two ends have the same status, or show the same term,
-/// and the same bytes for `out` and for `err`; and that status is the one of `SynthesizeIsDue`.
+/// Law: `synthesize` ends in one way for a system and a class, with the status of `SynthesizeIsDue`. An end has one
+/// output, and one status or the term that a status shows.
 pub fn synthesize_ends_once()
-    ensures once { (class : Class) (lts : System) (s s' : Status) (out err out' err' : List ℕ) → SynthesizeEnds class lts s out err → SynthesizeEnds class lts s' out' err' → AreOne s s' out out' err err' }
-    ensures due { (class : Class) (lts : System) (s due : Status) (out err : List ℕ) → SynthesizeEnds class lts s out err → SynthesizeIsDue class lts due → IsTheOne due s }
+    ensures once { (class : Class) (lts : System) (e e' : End) → SynthesizeEnds class lts e → SynthesizeEnds class lts e' → e ≡ e' }
+    ensures due { (class : Class) (lts : System) (e : End) (due : Status) → SynthesizeEnds class lts e → SynthesizeIsDue class lts due → HasStatus e due }
 {
     outcome_is_one();
 }
 
 /// Law: `verify` ends in one way for a system and files that are known, with the expected status.
 pub fn verify_ends_once()
-    ensures once { (files : Files) (cert : List ℕ) (lts : System) (s s' : Status) (out err out' err' : List ℕ) → IsWellFormed lts → VerifyEnds (Some files) cert lts s out err → VerifyEnds (Some files) cert lts s' out' err' → AreOne s s' out out' err err' }
-    ensures due { (files : Files) (cert : List ℕ) (lts : System) (s due : Status) (out err : List ℕ) → VerifyEnds (Some files) cert lts s out err → VerifyIsDue (Some files) cert lts due → IsTheOne due s }
+    ensures once { (files : Files) (cert : List ℕ) (lts : System) (e e' : End) → IsWellFormed lts → VerifyEnds (Some files) cert lts e → VerifyEnds (Some files) cert lts e' → e ≡ e' }
+    ensures due { (files : Files) (cert : List ℕ) (lts : System) (e : End) (due : Status) → VerifyEnds (Some files) cert lts e → VerifyIsDue (Some files) cert lts due → HasStatus e due }
 {
     rg_cert::one_answer();
     one_verdict();
@@ -61,8 +61,10 @@ pub fn verify_ends_once()
 
 /// Law: `check` ends in one way for a system, a class and files that are known, with the expected status.
 pub fn check_ends_once()
-    ensures once { (files : Files) (class : Class) (name : List ℕ) (lts : System) (s s' : Status) (out err out' err' : List ℕ) → IsInRange lts → CheckEnds (Some files) class name lts s out err → CheckEnds (Some files) class name lts s' out' err' → AreOne s s' out out' err err' }
-    ensures due { (files : Files) (class : Class) (name : List ℕ) (lts : System) (s due : Status) (out err : List ℕ) → IsInRange lts → CheckEnds (Some files) class name lts s out err → CheckIsDue (Some files) class name lts due → IsTheOne due s }
+    ensures once { (files : Files) (class : Class) (name : List ℕ) (lts : System) (e e' : End)
+        → IsInRange lts → CheckEnds (Some files) class name lts e → CheckEnds (Some files) class name lts e' → e ≡ e' }
+    ensures due { (files : Files) (class : Class) (name : List ℕ) (lts : System) (e : End) (due : Status)
+        → IsInRange lts → CheckEnds (Some files) class name lts e → CheckIsDue (Some files) class name lts due → HasStatus e due }
 {
     rg_netfile::one_answer();
     verdict_is_one();
@@ -70,14 +72,14 @@ pub fn check_ends_once()
 
 /// Law: `convert` ends in one way for a system and a form, with the expected status.
 pub fn convert_ends_once()
-    ensures once { (lts : System) (target : Target) (s s' : Status) (out err out' err' : List ℕ) → ConvertEnds lts target s out err → ConvertEnds lts target s' out' err' → AreOne s s' out out' err err' }
-    ensures due { (lts : System) (target : Target) (s due : Status) (out err : List ℕ) → ConvertEnds lts target s out err → ConvertIsDue lts target due → IsTheOne due s }
+    ensures once { (lts : System) (target : Target) (e e' : End) → ConvertEnds lts target e → ConvertEnds lts target e' → e ≡ e' }
+    ensures due { (lts : System) (target : Target) (e : End) (due : Status) → ConvertEnds lts target e → ConvertIsDue lts target due → HasStatus e due }
 {}
 
 /// Law: `factor` ends in one way for a system and a class or none, with the expected status.
 pub fn factor_ends_once()
-    ensures once { (lts : System) (class : Option Class) (s s' : Status) (out err out' err' : List ℕ) → IsInRange lts → FactorEnds lts class s out err → FactorEnds lts class s' out' err' → AreOne s s' out out' err err' }
-    ensures due { (lts : System) (class : Option Class) (s due : Status) (out err : List ℕ) → IsInRange lts → FactorEnds lts class s out err → FactorIsDue lts class due → IsTheOne due s }
+    ensures once { (lts : System) (class : Option Class) (e e' : End) → IsInRange lts → FactorEnds lts class e → FactorEnds lts class e' → e ≡ e' }
+    ensures due { (lts : System) (class : Option Class) (e : End) (due : Status) → IsInRange lts → FactorEnds lts class e → FactorIsDue lts class due → HasStatus e due }
 {
     one_least_fork();
     factoring_is_one();
@@ -86,8 +88,8 @@ pub fn factor_ends_once()
 
 /// Law: `split` ends in one way for a system and what is to be written, with the expected status.
 pub fn split_ends_once()
-    ensures once { (lts : System) (output : SplitOutput) (s s' : Status) (out err out' err' : List ℕ) → SplitEnds lts output s out err → SplitEnds lts output s' out' err' → AreOne s s' out out' err err' }
-    ensures due { (lts : System) (output : SplitOutput) (s due : Status) (out err : List ℕ) → SplitEnds lts output s out err → SplitIsDue lts due → IsTheOne due s }
+    ensures once { (lts : System) (output : SplitOutput) (e e' : End) → SplitEnds lts output e → SplitEnds lts output e' → e ≡ e' }
+    ensures due { (lts : System) (output : SplitOutput) (e : End) (due : Status) → SplitEnds lts output e → SplitIsDue lts due → HasStatus e due }
 {
     splitting_is_one();
     splitting_says();
@@ -95,8 +97,10 @@ pub fn split_ends_once()
 
 /// Law: `isomorphic` ends in one way for a system, a form and files that are known, with the expected status.
 pub fn isomorphic_ends_once()
-    ensures once { (files : Files) (named : List ℕ) (form : Form) (lts : System) (s s' : Status) (out err out' err' : List ℕ) → IsWellFormed lts → IsomorphicEnds (Some files) named form lts s out err → IsomorphicEnds (Some files) named form lts s' out' err' → AreOne s s' out out' err err' }
-    ensures due { (files : Files) (named : List ℕ) (form : Form) (lts : System) (s due : Status) (out err : List ℕ) → IsomorphicEnds (Some files) named form lts s out err → IsomorphicIsDue (Some files) named form lts due → IsTheOne due s }
+    ensures once { (files : Files) (named : List ℕ) (form : Form) (lts : System) (e e' : End)
+        → IsWellFormed lts → IsomorphicEnds (Some files) named form lts e → IsomorphicEnds (Some files) named form lts e' → e ≡ e' }
+    ensures due { (files : Files) (named : List ℕ) (form : Form) (lts : System) (e : End) (due : Status)
+        → IsomorphicEnds (Some files) named form lts e → IsomorphicIsDue (Some files) named form lts due → HasStatus e due }
 {
     rg_apt::one_answer();
     rg_genet::one_answer();
@@ -107,34 +111,34 @@ pub fn isomorphic_ends_once()
 
 /// Law: `examine` ends in one way for a system and a form of the report, with the expected status.
 pub fn examine_ends_once()
-    ensures once { (output : ExamineOutput) (lts : System) (s s' : Status) (out err out' err' : List ℕ) → ExamineEnds output lts s out err → ExamineEnds output lts s' out' err' → AreOne s s' out out' err err' }
-    ensures due { (output : ExamineOutput) (lts : System) (s due : Status) (out err : List ℕ) → ExamineEnds output lts s out err → ExamineIsDue due → IsTheOne due s }
+    ensures once { (output : ExamineOutput) (lts : System) (e e' : End) → ExamineEnds output lts e → ExamineEnds output lts e' → e ≡ e' }
+    ensures due { (output : ExamineOutput) (lts : System) (e : End) (due : Status) → ExamineEnds output lts e → ExamineIsDue due → HasStatus e due }
 {
     one_examination();
 }
 
 /// Law: `generate` ends in one way for a family and a number, with the expected status.
 pub fn generate_ends_once()
-    ensures once { (kind : Kind) (n : ℕ) (s s' : Status) (out err out' err' : List ℕ) → GenerateEnds kind n s out err → GenerateEnds kind n s' out' err' → AreOne s s' out out' err err' }
-    ensures due { (kind : Kind) (n : ℕ) (s due : Status) (out err : List ℕ) → GenerateEnds kind n s out err → GenerateIsDue kind n due → IsTheOne due s }
+    ensures once { (kind : Kind) (n : ℕ) (e e' : End) → GenerateEnds kind n e → GenerateEnds kind n e' → e ≡ e' }
+    ensures due { (kind : Kind) (n : ℕ) (e : End) (due : Status) → GenerateEnds kind n e → GenerateIsDue due → HasStatus e due }
 {
     one_of_each();
 }
 
 /// Law: `selftest` ends in one way for a number, with the expected status.
 pub fn self_test_ends_once()
-    ensures once { (n : ℕ) (s s' : Status) (out err out' err' : List ℕ) → SelfTestEnds n s out err → SelfTestEnds n s' out' err' → AreOne s s' out out' err err' }
-    ensures due { (n : ℕ) (s due : Status) (out err : List ℕ) → SelfTestEnds n s out err → SelfTestIsDue n due → IsTheOne due s }
+    ensures once { (n : ℕ) (e e' : End) → SelfTestEnds n e → SelfTestEnds n e' → e ≡ e' }
+    ensures due { (n : ℕ) (e : End) (due : Status) → SelfTestEnds n e → SelfTestIsDue n due → HasStatus e due }
 {
     one_of_each();
     outcome_is_one();
 }
 
-/// Law: words and files have one answer. If the files are known, two answers have the same status, or show the same
-/// term, and the same bytes for `out` and for `err`. So two runs over them in which there is memory and no call fails
-/// end alike and write the same, with any numbers of jobs and any gates. The status is the expected one, and if the
-/// answer for the system and the class is a term that is out of range, it shows that term. If the files are known,
-/// all words have an expected status, or a term that is out of range decides.
+/// Law: words and files have one answer. If the files are known, there is one end: it has one status, or the term that
+/// a status shows, and writes the same bytes to the same sink. So two runs over them in which there is memory and no
+/// call fails end alike and write the same, with any numbers of jobs and any gates. The status is the expected one,
+/// and if the answer for the system and the class is a term that is out of range, the end shows that term. If the
+/// files are known, all words have an expected status, or a term that is out of range decides.
 pub fn answers_are_one()
     ensures { OneAnswer }
 {

@@ -11,6 +11,7 @@ mod files;
 mod generating;
 mod laws;
 mod net_laws;
+mod output;
 mod run_whole;
 mod splitting;
 mod status;

@@ -1,11 +1,13 @@
 //! The top call.
 ghost use Rattle.std.specs.Prelude.{◌≡◌, map, string_bytes};
+ghost use Rattle.rg_top.specs.Requests.{IsWritten};
 ghost use Rattle.rg_top.specs.Terms.{Term};
 ghost use Rattle.rg_top.specs.Run.{Ends, seen, change, writes, AsksAtMost, ReadsAtMost, ComesIfDue, ComesIfPassed};
 ghost use Rattle.rg_top.specs.declared.status.Status.{Status};
 
 use crate::answer::{Stop, make_answer};
 use crate::laws::answers_are_one;
+use crate::output::{Output, output_of};
 use crate::status::Status;
 use rg_ports::{Gate, Shelf, Sink, write_all};
 use std::alloc::Global;
@@ -53,11 +55,19 @@ pub fn run<R: Threads + Sync, H: Shelf, O: Sink, E: Sink, G: Gate + Sync>(
         Err(Stop::ReadFault) => return Status::ReadFault,
         Err(Stop::NoMemory) => return Status::NoMemory,
     };
-    let Ok(()) = write_all(out, &made.out) else {
-        return Status::WriteFault;
-    };
-    let Ok(()) = write_all(err, &made.err) else {
-        return Status::WriteFault;
-    };
-    made.status
+    match output_of(alloc, made) {
+        Ok(Output::Out(status, text)) => written(out, status, &text),
+        Ok(Output::Err(status, line)) => written(err, status, &line),
+        Err(_) => Status::NoMemory,
+    }
+}
+
+// Writes the bytes, and returns the status, or that a write failed.
+fn written<S: Sink>(sink: &mut S, status: Status, bytes: &[u8]) -> Status
+    ensures { IsWritten (writes S.taken S.faults S.gives sink.old sink.new) bytes.now status result }
+{
+    match write_all(sink, bytes) {
+        Ok(()) => status,
+        Err(_) => Status::WriteFault,
+    }
 }

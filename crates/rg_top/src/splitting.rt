@@ -1,10 +1,10 @@
 //! The answer to a request for a system with some labels split.
 ghost use Rattle.std.specs.Prelude.{◌≡◌, ◌≤◌, IfOk};
 ghost use Rattle.rg_top.specs.Split.{SplitEnds, IsSolvedBy, solved_text};
+ghost use Rattle.rg_top.specs.Requests.{end_of};
 ghost use Rattle.rg_split.specs.Rounds.{labelling};
 
-use crate::answer::{Answer, said, too_wide};
-use crate::status::Status;
+use crate::answer::Answer;
 use rg_apt::print_lts;
 use rg_commands::SplitOutput;
 use rg_lts::Lts;
@@ -28,21 +28,21 @@ pub(crate) fn split_answer<R: Threads + Sync, G: Gate + Sync>(
     gate: &G,
 ) -> Result<Answer, NoMemory>
     requires some { 1 ≤ jobs }
-    ensures { IfOk result (λ a. SplitEnds lts.now output a.status a.out.items a.err.items) }
+    ensures { IfOk result (λ a. SplitEnds lts.now output (end_of a)) }
 {
     lts.is_well_formed();
     match split(rt, alloc, lts, jobs, gate)? {
         Splitting::Done { system, old, net } => {
             let text = solved_text(alloc, output, lts, &system, &old, &net)?;
-            Ok(said(alloc, Status::Done, text))
+            Ok(Answer::Yes(text))
         }
         Splitting::Unreachable(s) => {
             let text = check_text(alloc, lts, NetNo::Unreachable(s))?;
-            Ok(said(alloc, Status::No, text))
+            Ok(Answer::No(text))
         }
-        Splitting::Full { .. } => Ok(said(alloc, Status::No, full_text(alloc)?)),
+        Splitting::Full { .. } => Ok(Answer::No(full_text(alloc)?)),
         Splitting::TooWide { system, old: _, at } => {
-            Ok(too_wide(alloc, WideCause::Split(system, at))?)
+            Ok(Answer::TooWide(WideCause::Split(system, at)))
         }
     }
 }

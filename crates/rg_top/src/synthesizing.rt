@@ -1,10 +1,10 @@
 //! The answer to a request for a net.
 ghost use Rattle.std.specs.Prelude.{◌≡◌, ◌≤◌, IfOk};
 ghost use Rattle.rg_theory.specs.ClassWords.{HasNumbersInRange};
+ghost use Rattle.rg_top.specs.Requests.{end_of};
 ghost use Rattle.rg_top.specs.Synthesize.{SynthesizeEnds};
 
-use crate::answer::{Answer, said, too_wide};
-use crate::status::Status;
+use crate::answer::Answer;
 use rg_cert::print;
 use rg_lts::Lts;
 use rg_memory::NoMemory;
@@ -27,12 +27,12 @@ pub(crate) fn net_answer<R: Threads + Sync, G: Gate + Sync>(
 ) -> Result<Answer, NoMemory>
     requires bound { HasNumbersInRange class }
     requires some { 1 ≤ jobs }
-    ensures { IfOk result (λ a. SynthesizeEnds class lts.now a.status a.out.items a.err.items) }
+    ensures { IfOk result (λ a. SynthesizeEnds class lts.now (end_of a)) }
 {
     lts.is_well_formed();
     match synthesize(rt, alloc, lts, class, jobs, gate)? {
-        Outcome::Net(net) => Ok(said(alloc, Status::Done, print_net(alloc, &net, lts)?)),
-        Outcome::Unsolvable(cert) => Ok(said(alloc, Status::No, print(alloc, &cert, lts)?)),
-        Outcome::TooWide(at) => Ok(too_wide(alloc, WideCause::Synthesis(at))?),
+        Outcome::Net(net) => Ok(Answer::Yes(print_net(alloc, &net, lts)?)),
+        Outcome::Unsolvable(cert) => Ok(Answer::No(print(alloc, &cert, lts)?)),
+        Outcome::TooWide(at) => Ok(Answer::TooWide(WideCause::Synthesis(at))),
     }
 }

@@ -1,5 +1,5 @@
 //! The answer to a request for a self test.
-ghost use Rattle.std.specs.Prelude.{◌≡◌, [], length, IfOk, IsErrOf};
+ghost use Rattle.std.specs.Prelude.{◌≡◌, length, IfOk, IsErrOf};
 ghost use Rattle.rg_theory.specs.ClassWords.{HasNumbersInRange};
 ghost use Rattle.rg_families.specs.Families.{IsFamilyNumber};
 ghost use Rattle.rg_refuting.specs.Refutes.{Accepts};
@@ -10,14 +10,13 @@ ghost use Rattle.rg_synth.specs.Answer.{IsSolvingNet};
 ghost use Rattle.rg_commands.specs.Requests.{IsTestNumber};
 ghost use Rattle.rg_messages.specs.CheckedTexts.{yes_line};
 ghost use Rattle.rg_messages.specs.TrialTexts.{solved_line, unsolvable_line};
-ghost use Rattle.rg_messages.specs.Wides.{wide_line};
-ghost use Rattle.rg_messages.specs.declared.wide.WideCause.TheVariants.{Synthesis};
 ghost use Rattle.rg_top.specs.SelfTest.{trial, HasLine, Passes, SelfTestEnds};
-ghost use Rattle.rg_top.specs.declared.status.Status.TheVariants.{Done, TooWide};
+ghost use Rattle.rg_top.specs.End.{says_yes, shows_term};
+ghost use Rattle.rg_top.specs.Requests.{end_of};
+ghost use Rattle.rg_top.specs.Terms.{of_net};
 ghost use Rattle.rg_top.specs.declared.testing.TrialStop.TheVariants as stop;
 
-use crate::answer::{Answer, said, too_wide};
-use crate::status::Status;
+use crate::answer::Answer;
 use rg_families::{Kind, generate};
 use rg_lts::Lts;
 use rg_memory::NoMemory;
@@ -76,11 +75,11 @@ pub(crate) fn self_test_answer<R: Threads + Sync, G: Gate + Sync>(
     gate: &G,
 ) -> Result<Answer, NoMemory>
     requires number { IsTestNumber n }
-    ensures { IfOk result (λ a. SelfTestEnds n a.status a.out.items a.err.items) }
+    ensures { IfOk result (λ a. SelfTestEnds n (end_of a)) }
 {
     match three_lines(rt, alloc, n, gate) {
-        Ok(lines) => Ok(said(alloc, Status::Done, lines)),
-        Err(TrialStop::TooWide(at)) => Ok(too_wide(alloc, WideCause::Synthesis(at))?),
+        Ok(lines) => Ok(Answer::Yes(lines)),
+        Err(TrialStop::TooWide(at)) => Ok(Answer::TooWide(WideCause::Synthesis(at))),
         Err(TrialStop::NoMemory) => Err(NoMemory),
     }
 }
@@ -93,8 +92,8 @@ fn three_lines<R: Threads + Sync, G: Gate + Sync>(
     gate: &G,
 ) -> Result<Vec<u8>, TrialStop>
     requires { IsTestNumber n }
-    ensures lines { IfOk result (λ text. SelfTestEnds n Done text.items []) }
-    ensures passes { (at : WideAt) → IsErrOf result (stop.TooWide at) → SelfTestEnds n (TooWide (Synthesis at)) [] (wide_line (Synthesis at)) }
+    ensures lines { IfOk result (λ text. SelfTestEnds n (says_yes text.items)) }
+    ensures passes { (at : WideAt) → IsErrOf result (stop.TooWide at) → SelfTestEnds n (shows_term (of_net (shown_of at))) }
 {
     let users = n.min(MOST_USERS);
     let mut text = trial_line(rt, alloc, Kind::Grid, n, ALL_NETS, gate)?;

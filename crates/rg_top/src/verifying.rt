@@ -6,16 +6,15 @@ ghost use Rattle.rg_reasons.specs.Certificates.{claim_of, IsCertificateOf};
 ghost use Rattle.rg_cert.specs.Spells.{Spells};
 ghost use Rattle.rg_text.specs.Limits.{most_bytes};
 ghost use Rattle.rg_top.specs.Verify.{VerifyEnds};
-ghost use Rattle.rg_top.specs.Requests.{asked_more, ReadsMore, JudgesBytes};
+ghost use Rattle.rg_top.specs.Requests.{end_of, asked_more, ReadsMore, JudgesBytes};
 ghost use Rattle.rg_top.specs.declared.answer.Stop.TheVariants as stop;
 
-use crate::answer::{Answer, Stop, file_refusal, said};
+use crate::answer::{Answer, Stop};
 use crate::files::{FileStop, read_bytes};
-use crate::status::Status;
 use rg_cert::{CertFault, read};
 use rg_lts::Lts;
 use rg_memory::NoMemory;
-use rg_messages::{accepted_text, defect_text, fault_text};
+use rg_messages::{FileFault, accepted_text, defect_text, fault_text};
 use rg_ports::Shelf;
 use rg_reasons::Certificate;
 use rg_verify::{Verdict, verify};
@@ -31,14 +30,14 @@ pub(crate) fn judgement_answer<H: Shelf>(
     ensures files { H.files shelf.new ≡ H.files shelf.old }
     ensures asked { H.asked shelf.new ≡ asked_more (H.asked shelf.old) (cert.now ∷ []) }
     ensures reads { ReadsMore H.finds H.hands (cert.now ∷ []) shelf.old shelf.new }
-    ensures ok { IfOk result (λ a. VerifyEnds (H.files shelf.old) cert.now lts.now a.status a.out.items a.err.items) }
+    ensures ok { IfOk result (λ a. VerifyEnds (H.files shelf.old) cert.now lts.now (end_of a)) }
     ensures never_falls { H.faults shelf.old ≤ H.faults shelf.new }
     ensures fault { IsErrOf result stop.ReadFault → HasRisen (H.faults shelf.old) (H.faults shelf.new) }
 {
     lts.is_well_formed();
     match read_bytes(alloc, shelf, cert) {
         Ok(bytes) => Ok(bytes_answer(alloc, lts, &bytes)?),
-        Err(FileStop::Refused(fault)) => Ok(file_refusal(alloc, 2, fault)?),
+        Err(FileStop::Refused(fault)) => Ok(Answer::File(FileFault { file: 2, fault })),
         Err(FileStop::Failed) => Err(Stop::ReadFault),
         Err(FileStop::NoMemory) => Err(Stop::NoMemory),
     }
@@ -48,13 +47,13 @@ pub(crate) fn judgement_answer<H: Shelf>(
 fn bytes_answer(alloc: Global, lts: &Lts, bytes: &[u8]) -> Result<Answer, NoMemory>
     requires system { IsWellFormed lts.now }
     requires short { length bytes.now ≤ most_bytes }
-    ensures { IfOk result (λ a. JudgesBytes bytes.now lts.now a.status a.out.items a.err.items) }
+    ensures { IfOk result (λ a. JudgesBytes bytes.now lts.now (end_of a)) }
 {
     match read(alloc, bytes, lts) {
         Ok(cert) => certificate_answer(alloc, lts, bytes, &cert),
         Err(fault) => match fault {
             CertFault::NoMemory => Err(NoMemory),
-            _ => Ok(said(alloc, Status::No, fault_text(alloc, fault)?)),
+            _ => Ok(Answer::No(fault_text(alloc, fault)?)),
         },
     }
 }
@@ -69,16 +68,12 @@ fn certificate_answer(
     requires system { IsWellFormed lts.now }
     requires in_range { IsCertificateOf lts.now cert.now }
     requires spelled { Spells bytes.now lts.now (claim_of cert.now) }
-    ensures { IfOk result (λ a. JudgesBytes bytes.now lts.now a.status a.out.items a.err.items) }
+    ensures { IfOk result (λ a. JudgesBytes bytes.now lts.now (end_of a)) }
 {
     match verify(alloc, lts, cert) {
-        Ok(Verdict::Accepted) => Ok(said(alloc, Status::Done, accepted_text(alloc, cert.class)?)),
+        Ok(Verdict::Accepted) => Ok(Answer::Yes(accepted_text(alloc, cert.class)?)),
         Ok(Verdict::Refused { case, node, defect }) => {
-            Ok(said(
-                alloc,
-                Status::No,
-                defect_text(alloc, lts, case, node, defect)?,
-            ))
+            Ok(Answer::No(defect_text(alloc, lts, case, node, defect)?))
         }
         Err(NoMemory) => Err(NoMemory),
     }

@@ -1,10 +1,12 @@
 -- Two runs over the same words and files end alike.
 use Rattle.std.proofs.Common.{◌≡◌, ◌⊎◌, inl, inr, subst}
+use Rattle.rg_top.specs.End.{HasStatus}
 use Rattle.rg_top.specs.Ends.{Answers}
 use Rattle.rg_top.specs.One.{OneAnswer}
 use Rattle.rg_top.specs.Run.{Run, Says, Ends, IsMishap, IsDecided, IsTheOne}
 use Rattle.rg_top.specs.declared.status.Status.{Status}
 use Rattle.rg_top.specs.declared.status.Status.TheVariants.{Done, No, Usage, File, TooWide, ReadFault, WriteFault, NoMemory}
+use Rattle.rg_top.proofs.Terms.{same_status}
 
 -- a run that ends without a mishap says what is due
 said : (run : Run) (s : Status) → Ends run s → IsMishap s ⊎ Says run s
@@ -25,6 +27,7 @@ alike one first second s s' words files decided ends ends' = go (said first s en
     go (inl mishap) _ = inl mishap
     go (inr _) (inl mishap) = inr (inl mishap)
     go (inr a) (inr b) =
-        let same_words = subst (λ w. Answers w second.files s' b.out_bytes b.err_bytes) words b.due in
-        let same_files = subst (λ f. Answers first.words f s' b.out_bytes b.err_bytes) files same_words in
-        inr (inr (one.once first.words first.files s' s b.out_bytes b.err_bytes a.out_bytes a.err_bytes decided same_files a.due).0)
+        let same_words = subst (λ w. Answers w second.files b.end) words b.due in
+        let same_files = subst (λ f. Answers first.words f b.end) files same_words in
+        let same = one.once first.words first.files b.end a.end decided same_files a.due in
+        inr (inr (same_status a.end s' s (subst (λ e. HasStatus e s') same b.has) a.has))

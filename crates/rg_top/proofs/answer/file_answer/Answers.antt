@@ -1,23 +1,14 @@
-use Rattle.std.proofs.Common.{◌≡◌, [], Err, IfOk, ap, subst}
-use Rattle.rg_messages.specs.Files.{file_line}
+use Rattle.std.proofs.Common.{Err, IfOk, ap, sym, subst}
+use Rattle.rg_messages.specs.declared.fault.Fault.{Fault}
+use Rattle.rg_top.specs.End.{refuses_file}
 use Rattle.rg_top.specs.Second.{first_fault}
 use Rattle.rg_top.specs.Ends.{EndsOn, FileEnds, no_system, on_system}
-use Rattle.rg_top.specs.Requests.{work_of}
+use Rattle.rg_top.specs.Requests.{end_of, work_of}
 use Rattle.rg_top.specs.Run.{first_alone}
 use Rattle.rg_top.specs.declared.answer.Answer.{Answer}
-use Rattle.rg_top.specs.declared.status.Status.TheVariants.{File}
 use Rattle.rg_top.proofs.Asking.{asks_first, asks_all, reads_all}
-use Rattle.rg_top.proofs.Written.{written, if_ok}
+use Rattle.rg_top.proofs.Written.{if_ok}
 use Rattle.rg_top.proofs.answer.file_answer.Goals as goal
-
-pub returns-in_err-file_refusal-in-Err-Refused-clause-asked : goal.returns-in_err-file_refusal-in-Err-Refused-clause-asked
-returns-in_err-file_refusal-in-Err-Refused-clause-asked g c =
-    asks_first (g.H.Shelf.files c.args.shelf.now) (work_of c.args.work) c.args.file.now c.args.form (g.H.Shelf.asked c.args.shelf.now) (g.H.Shelf.asked c.read_system.new.shelf) c.read_system.ensures.asked
-
-pub returns-in_err-file_refusal-in-Err-Refused-clause-reads : goal.returns-in_err-file_refusal-in-Err-Refused-clause-reads
-returns-in_err-file_refusal-in-Err-Refused-clause-reads g c =
-    let reads = c.read_system.ensures.reads in
-    first_alone c.args.shelf.now c.read_system.new.shelf reads.0 reads.1
 
 pub returns-in-Ok-clause-asked : goal.returns-in-Ok-clause-asked
 returns-in-Ok-clause-asked g c =
@@ -34,36 +25,30 @@ returns-in-Ok-clause-ok g c =
     let files = g.H.Shelf.files c.args.shelf.now in
     let work = work_of c.args.work in
     let lts = c.in-Ok.lts in
-    if_ok (λ (a : Answer). EndsOn files work lts a.status a.out.items a.err.items) (λ (a : Answer). FileEnds files work c.args.file.now c.args.form a.status a.out.items a.err.items)
-    (λ a x. on_system lts a.status a.out.items a.err.items c.in-Ok.ensures.ok c.system_answer.ensures.formed x) c.system_answer.result
-    (subst (λ fs. IfOk c.system_answer.result (λ (a : Answer). EndsOn fs work lts a.status a.out.items a.err.items)) c.read_system.ensures.files c.system_answer.ensures.ok)
+    if_ok (λ (a : Answer). EndsOn files work lts (end_of a)) (λ (a : Answer). FileEnds files work c.args.file.now c.args.form (end_of a))
+    (λ a x. on_system lts (end_of a) c.in-Ok.ensures.ok c.system_answer.ensures.formed x) c.system_answer.result
+    (subst (λ fs. IfOk c.system_answer.result (λ (a : Answer). EndsOn fs work lts (end_of a))) c.read_system.ensures.files c.system_answer.ensures.ok)
 
-pub returns-in_ok-file_refusal-in-Err-Refused-clause-asked : goal.returns-in_ok-file_refusal-in-Err-Refused-clause-asked
-returns-in_ok-file_refusal-in-Err-Refused-clause-asked g c =
-    asks_first (g.H.Shelf.files c.args.shelf.now) (work_of c.args.work) c.args.file.now c.args.form (g.H.Shelf.asked c.args.shelf.now) (g.H.Shelf.asked c.read_system.new.shelf) c.read_system.ensures.asked
+pub returns-in-Err-Refused-clause-asked : goal.returns-in-Err-Refused-clause-asked
+returns-in-Err-Refused-clause-asked g c =
+    asks_first (g.H.Shelf.files c.args.shelf.now) (work_of c.args.work) c.args.file.now c.args.form
+    (g.H.Shelf.asked c.args.shelf.now) (g.H.Shelf.asked c.read_system.new.shelf) c.read_system.ensures.asked
 
-pub returns-in_ok-file_refusal-in-Err-Refused-clause-reads : goal.returns-in_ok-file_refusal-in-Err-Refused-clause-reads
-returns-in_ok-file_refusal-in-Err-Refused-clause-reads g c =
+pub returns-in-Err-Refused-clause-reads : goal.returns-in-Err-Refused-clause-reads
+returns-in-Err-Refused-clause-reads g c =
     let reads = c.read_system.ensures.reads in
     first_alone c.args.shelf.now c.read_system.new.shelf reads.0 reads.1
 
-pub returns-in_ok-file_refusal-in-Err-Refused-clause-ok :
-    goal.returns-in_ok-file_refusal-in-Err-Refused-clause-ok
-returns-in_ok-file_refusal-in-Err-Refused-clause-ok g c =
+pub returns-in-Err-Refused-clause-ok : goal.returns-in-Err-Refused-clause-ok
+returns-in-Err-Refused-clause-ok g c =
     let fault = c.in-Err-Refused.fault in
-    let made = c.in_ok-file_refusal-in-Err-Refused in
-    let says = made.ensures.status in
-    let line = made.ensures.err in
-    let told = c.in-Err-Refused.fault-is in
-    let status : made.field-0.status ≡ File (first_fault fault) = cc in
-    let err : made.field-0.err.items ≡ file_line (first_fault fault) = cc in
-    let none = c.in-Err-Refused.ensures.refused fault (ap Err c.in-Err-Refused.field-0-is) in
-    written (FileEnds (g.H.Shelf.files c.args.shelf.now) (work_of c.args.work) c.args.file.now c.args.form) made.field-0.status (File (first_fault fault)) made.field-0.out.items []
-    made.field-0.err.items (file_line (first_fault fault)) status made.ensures.out err (no_system fault none)
+    subst (λ (f : Fault). FileEnds (g.H.Shelf.files c.args.shelf.now) (work_of c.args.work) c.args.file.now c.args.form (refuses_file (first_fault f))) (sym c.in-Err-Refused.fault-is)
+    (no_system fault (c.in-Err-Refused.ensures.refused fault (ap Err c.in-Err-Refused.field-0-is)))
 
 pub returns-in-Err-Failed-clause-asked : goal.returns-in-Err-Failed-clause-asked
 returns-in-Err-Failed-clause-asked g c =
-    asks_first (g.H.Shelf.files c.args.shelf.now) (work_of c.args.work) c.args.file.now c.args.form (g.H.Shelf.asked c.args.shelf.now) (g.H.Shelf.asked c.read_system.new.shelf) c.read_system.ensures.asked
+    asks_first (g.H.Shelf.files c.args.shelf.now) (work_of c.args.work) c.args.file.now c.args.form
+    (g.H.Shelf.asked c.args.shelf.now) (g.H.Shelf.asked c.read_system.new.shelf) c.read_system.ensures.asked
 
 pub returns-in-Err-Failed-clause-reads : goal.returns-in-Err-Failed-clause-reads
 returns-in-Err-Failed-clause-reads g c =
@@ -72,7 +57,8 @@ returns-in-Err-Failed-clause-reads g c =
 
 pub returns-in-Err-NoMemory-clause-asked : goal.returns-in-Err-NoMemory-clause-asked
 returns-in-Err-NoMemory-clause-asked g c =
-    asks_first (g.H.Shelf.files c.args.shelf.now) (work_of c.args.work) c.args.file.now c.args.form (g.H.Shelf.asked c.args.shelf.now) (g.H.Shelf.asked c.read_system.new.shelf) c.read_system.ensures.asked
+    asks_first (g.H.Shelf.files c.args.shelf.now) (work_of c.args.work) c.args.file.now c.args.form
+    (g.H.Shelf.asked c.args.shelf.now) (g.H.Shelf.asked c.read_system.new.shelf) c.read_system.ensures.asked
 
 pub returns-in-Err-NoMemory-clause-reads : goal.returns-in-Err-NoMemory-clause-reads
 returns-in-Err-NoMemory-clause-reads g c =

@@ -1,12 +1,11 @@
-use Rattle.std.proofs.Common.{[], map, string_bytes, subst}
+use Rattle.std.proofs.Common.{map, string_bytes, subst}
 use Rattle.rg_commands.specs.Requests.{asked_by}
 use Rattle.rg_commands.specs.Says.{AreRefused, IsStopOf}
-use Rattle.rg_messages.specs.Usages.{usage_line}
+use Rattle.rg_top.specs.Requests.{end_of}
 use Rattle.rg_top.specs.Ends.{EndsOf, Answers, refused, asked}
 use Rattle.rg_top.specs.declared.answer.Answer.{Answer}
-use Rattle.rg_top.specs.declared.status.Status.TheVariants.{Usage as Refuses}
 use Rattle.rg_top.proofs.Asking.{asks_at_most, reads_at_most, read_fault}
-use Rattle.rg_top.proofs.Written.{written, if_ok}
+use Rattle.rg_top.proofs.Written.{if_ok}
 use Rattle.rg_top.proofs.answer.make_answer.Goals as goal
 
 pub returns-in-Ok-clause-says : goal.returns-in-Ok-clause-says
@@ -14,8 +13,8 @@ returns-in-Ok-clause-says g c =
     let words = map string_bytes c.args.words.now in
     let files = g.H.Shelf.files c.args.shelf.now in
     let request = asked_by c.in-Ok.request in
-    if_ok (λ (a : Answer). EndsOf files request a.status a.out.items a.err.items) (λ (a : Answer). Answers words files a.status a.out.items a.err.items)
-    (λ a x. asked request a.status a.out.items a.err.items c.in-Ok.ensures.asks x) c.request_answer.result c.request_answer.ensures.ok
+    if_ok (λ (a : Answer). EndsOf files request (end_of a)) (λ (a : Answer). Answers words files (end_of a))
+    (λ a x. asked request (end_of a) c.in-Ok.ensures.asks x) c.request_answer.result c.request_answer.ensures.ok
 
 pub returns-in-Ok-clause-asked : goal.returns-in-Ok-clause-asked
 returns-in-Ok-clause-asked g c =
@@ -33,12 +32,6 @@ returns-in-Ok-clause-fault g c = λ failed.
     read_fault (map string_bytes c.args.words.now) (record { before = g.H.Shelf.faults c.args.shelf.now; after = g.H.Shelf.faults c.request_answer.new.shelf }) (asked_by c.in-Ok.request)
     c.in-Ok.ensures.asks fault.0 fault.1)
 
-pub returns-in_ok-usage_refusal-in-Err-Refused-clause-says :
-    goal.returns-in_ok-usage_refusal-in-Err-Refused-clause-says
-returns-in_ok-usage_refusal-in-Err-Refused-clause-says g c =
-    let words = map string_bytes c.args.words.now in
-    let usage = c.in-Err-Refused.usage in
-    let made = c.in_ok-usage_refusal-in-Err-Refused in
-    let are = subst (IsStopOf (AreRefused words)) c.in-Err-Refused.field-0-is c.in-Err-Refused.ensures.refused in
-    written (Answers words (g.H.Shelf.files c.args.shelf.now)) made.field-0.status (Refuses usage) made.field-0.out.items [] made.field-0.err.items (usage_line usage)
-    made.ensures.status made.ensures.out made.ensures.err (refused usage are)
+pub returns-in-Err-Refused-clause-says : goal.returns-in-Err-Refused-clause-says
+returns-in-Err-Refused-clause-says g c =
+    refused c.in-Err-Refused.usage (subst (IsStopOf (AreRefused (map string_bytes c.args.words.now))) c.in-Err-Refused.field-0-is c.in-Err-Refused.ensures.refused)

@@ -1,10 +1,9 @@
-use Rattle.std.proofs.Common.{◌≡◌, [], List, ℕ, Err, ap, subst}
-use Rattle.rg_messages.specs.Files.{file_line}
-use Rattle.rg_top.specs.Check.{CheckEnds, unread}
+use Rattle.std.proofs.Common.{List, ℕ, Err, ap, sym, subst}
+use Rattle.rg_messages.specs.declared.fault.Fault.{Fault}
+use Rattle.rg_top.specs.End.{refuses_file}
 use Rattle.rg_top.specs.Second.{second_fault}
-use Rattle.rg_top.specs.Requests.{TellsBytes}
-use Rattle.rg_top.specs.declared.status.Status.TheVariants.{File}
-use Rattle.rg_top.proofs.Written.{written}
+use Rattle.rg_top.specs.Check.{CheckEnds, unread}
+use Rattle.rg_top.specs.Requests.{end_of, TellsBytes}
 use Rattle.rg_top.proofs.Judged.{told_file, unread_is_no_net}
 use Rattle.rg_top.proofs.checking.verdict_answer.Goals as goal
 
@@ -12,20 +11,12 @@ pub returns-in_ok-text_answer-in-Ok-clause-ok : goal.returns-in_ok-text_answer-i
 returns-in_ok-text_answer-in-Ok-clause-ok g c =
     let r = c.in_ok-text_answer-in-Ok in
     let lts = c.args.lts.now in
-    told_file (g.H.Shelf.files c.args.shelf.now) c.args.class c.args.name.now lts c.in-Ok.bytes.items r.field-0.status r.field-0.out.items r.field-0.err.items c.in-Ok.ensures.ok
-    (subst (λ (bytes : List ℕ). TellsBytes bytes c.args.class lts r.field-0.status r.field-0.out.items r.field-0.err.items) c.deref.ensures.value r.ensures)
+    told_file (g.H.Shelf.files c.args.shelf.now) c.args.class c.args.name.now lts c.in-Ok.bytes.items (end_of r.field-0) c.in-Ok.ensures.ok
+    (subst (λ (bytes : List ℕ). TellsBytes bytes c.args.class lts (end_of r.field-0)) c.deref.ensures.value r.ensures)
 
-pub returns-in_ok-file_refusal-in-Err-Refused-clause-ok :
-    goal.returns-in_ok-file_refusal-in-Err-Refused-clause-ok
-returns-in_ok-file_refusal-in-Err-Refused-clause-ok g c =
+pub returns-in-Err-Refused-clause-ok : goal.returns-in-Err-Refused-clause-ok
+returns-in-Err-Refused-clause-ok g c =
     let files = g.H.Shelf.files c.args.shelf.now in
     let fault = c.in-Err-Refused.fault in
-    let made = c.in_ok-file_refusal-in-Err-Refused in
-    let says = made.ensures.status in
-    let line = made.ensures.err in
-    let told = c.in-Err-Refused.fault-is in
-    let status : made.field-0.status ≡ File (second_fault fault) = cc in
-    let err : made.field-0.err.items ≡ file_line (second_fault fault) = cc in
-    written (CheckEnds files c.args.class c.args.name.now c.args.lts.now) made.field-0.status (File (second_fault fault)) made.field-0.out.items [] made.field-0.err.items (file_line (second_fault fault))
-    status made.ensures.out err
+    subst (λ (f : Fault). CheckEnds files c.args.class c.args.name.now c.args.lts.now (refuses_file (second_fault f))) (sym c.in-Err-Refused.fault-is)
     (unread fault (unread_is_no_net files c.args.name.now c.args.lts.now fault (c.in-Err-Refused.ensures.refused fault (ap Err c.in-Err-Refused.field-0-is))))

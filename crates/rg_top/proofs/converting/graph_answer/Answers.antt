@@ -1,4 +1,4 @@
-use Rattle.std.proofs.Common.{[], List, ℕ, Err, ap, subst, ◌∙◌}
+use Rattle.std.proofs.Common.{List, ℕ, Err, ap, subst}
 use Rattle.rg_theory.specs.System.{System}
 use Rattle.rg_genet.specs.Same.{IsSameByNames}
 use Rattle.rg_genet.specs.Spells.{Spells}
@@ -6,8 +6,7 @@ use Rattle.rg_genet.specs.Text.{graph_text}
 use Rattle.rg_commands.specs.declared.forms.Target.TheVariants.{Graph}
 use Rattle.rg_messages.specs.LostTexts.{lost_label_line, lost_state_line}
 use Rattle.rg_top.specs.Convert.{ConvertEnds, as_graph, label_lost, state_lost}
-use Rattle.rg_top.specs.declared.status.Status.TheVariants.{Done, No}
-use Rattle.rg_top.proofs.Written.{written}
+use Rattle.rg_top.proofs.Written.{yes_so, no_so}
 use Rattle.rg_top.proofs.converting.graph_answer.Goals as goal
 
 pub label_loss_text-requires : goal.label_loss_text-requires
@@ -22,24 +21,20 @@ pub returns-in-Ok : goal.returns-in-Ok
 returns-in-Ok c =
     let lts = c.args.lts.now in
     let again = subst (λ (text : List ℕ). (read : System) × Spells text read × IsSameByNames lts read) c.in-Ok.ensures.text c.in-Ok.ensures.read_again in
-    written (ConvertEnds lts Graph) c.said.result.status Done c.said.result.out.items (graph_text lts) c.said.result.err.items []
-    c.said.ensures.status (c.said.ensures.out ∙ c.in-Ok.ensures.text) c.said.ensures.err
-    (as_graph c.in-Ok.ensures.kept.0 c.in-Ok.ensures.kept.1 again)
+    yes_so (ConvertEnds lts Graph) c.in-Ok.text.items (graph_text lts) c.in-Ok.ensures.text (as_graph c.in-Ok.ensures.kept.0 c.in-Ok.ensures.kept.1 again)
 
 pub returns-in_ok-label_loss_text-in-Err-Label : goal.returns-in_ok-label_loss_text-in-Err-Label
 returns-in_ok-label_loss_text-in-Err-Label c =
     let lts = c.args.lts.now in
     let t = c.in-Err-Label.t in
-    let said = c.said-in-Err-Label in
-    written (ConvertEnds lts Graph) said.result.status No said.result.out.items (lost_label_line lts t) said.result.err.items []
-    said.ensures.status (said.ensures.out ∙ c.in_ok-label_loss_text-in-Err-Label.ensures) said.ensures.err
+    let made = c.in_ok-label_loss_text-in-Err-Label in
+    no_so (ConvertEnds lts Graph) made.field-0.items (lost_label_line lts t) made.ensures
     (label_lost t ((c.in-Err-Label.ensures.label t).0 (ap Err c.in-Err-Label.field-0-is)))
 
 pub returns-in_ok-state_loss_text-in-Err-State : goal.returns-in_ok-state_loss_text-in-Err-State
 returns-in_ok-state_loss_text-in-Err-State c =
     let lts = c.args.lts.now in
     let s = c.in-Err-State.s in
-    let said = c.said-in-Err-State in
-    written (ConvertEnds lts Graph) said.result.status No said.result.out.items (lost_state_line lts s) said.result.err.items []
-    said.ensures.status (said.ensures.out ∙ c.in_ok-state_loss_text-in-Err-State.ensures) said.ensures.err
+    let made = c.in_ok-state_loss_text-in-Err-State in
+    no_so (ConvertEnds lts Graph) made.field-0.items (lost_state_line lts s) made.ensures
     (state_lost s ((c.in-Err-State.ensures.state s).0 (ap Err c.in-Err-State.field-0-is)))

@@ -1,4 +1,4 @@
-use Rattle.std.proofs.Common.{Vec, Global, ℕ, List, [], length, map, All, sym, ap, subst, ◌∙◌}
+use Rattle.std.proofs.Common.{Vec, Global, ℕ, List, length, map, All, sym, ap, subst, ◌∙◌}
 use Rattle.rg_product.specs.Squares.{IsBroken}
 use Rattle.rg_product.specs.Product.{IsTuple}
 use Rattle.rg_product.specs.Factoring.{IsFactoring}
@@ -7,9 +7,8 @@ use Rattle.rg_factor.specs.declared.answer.Factor.{Factor}
 use Rattle.rg_factor.specs.declared.answer.Factoring.{Factoring}
 use Rattle.rg_messages.specs.FactorTexts.{one_block_text, sizes_line, factors_text}
 use Rattle.rg_top.specs.Factor.{AreFactorsOf, FactorEnds, no_product}
-use Rattle.rg_top.specs.declared.status.Status.TheVariants.{Done, No}
 use Rattle.rg_top.proofs.Factored.{each_broken, blocks_end, are_factors, factors_end, tuples_long, text_of_same, text_of_both}
-use Rattle.rg_top.proofs.Written.{written}
+use Rattle.rg_top.proofs.Written.{yes_so, no_so}
 use Rattle.rg_top.proofs.factoring.open_answer.Goals as goal
 
 abbrev items_of : Vec ℕ Global → List ℕ
@@ -26,11 +25,9 @@ returns-in-OneBlock g c =
     let lts = c.args.lts.now in
     let squares = c.in-OneBlock.squares.items in
     let found = subst (λ (f : Factoring). IsFactoring lts (shown_factoring f)) c.in-OneBlock.is c.in_ok-squares.ensures in
-    let r = c.said.result in
-    written (FactorEnds lts c.args.class) r.status No r.out.items (one_block_text lts squares) r.err.items []
-    c.said.ensures.status
-    (text_of_same (one_block_text lts) r.out.items c.in_ok-text-in-OneBlock.text.items c.deref.result.now squares c.said.ensures.out c.in_ok-text-in-OneBlock.ensures c.deref.ensures.value)
-    c.said.ensures.err
+    let made = c.in_ok-text-in-OneBlock in
+    no_so (FactorEnds lts c.args.class) made.text.items (one_block_text lts squares)
+    (text_of_same (one_block_text lts) made.text.items c.deref.result.now squares made.ensures c.deref.ensures.value)
     (blocks_end lts c.args.class squares c.requires.formed.in_range c.requires.is_open found)
 
 pub returns-in-Fewer : goal.returns-in-Fewer
@@ -38,12 +35,9 @@ returns-in-Fewer g c =
     let lts = c.args.lts.now in
     let sizes = c.in-Fewer.sizes.items in
     let found = subst (λ (f : Factoring). IsFactoring lts (shown_factoring f)) c.in-Fewer.is c.in_ok-squares.ensures in
-    let said = c.said-in-Fewer in
-    let r = said.result in
-    written (FactorEnds lts c.args.class) r.status No r.out.items (sizes_line lts sizes) r.err.items []
-    said.ensures.status
-    (text_of_same (sizes_line lts) r.out.items c.in_ok-text-in-Fewer.text.items c.deref-in-Fewer.result.now sizes said.ensures.out c.in_ok-text-in-Fewer.ensures c.deref-in-Fewer.ensures.value)
-    said.ensures.err
+    let made = c.in_ok-text-in-Fewer in
+    no_so (FactorEnds lts c.args.class) made.text.items (sizes_line lts sizes)
+    (text_of_same (sizes_line lts) made.text.items c.deref-in-Fewer.result.now sizes made.ensures c.deref-in-Fewer.ensures.value)
     (no_product c.args.class sizes c.requires.is_open found)
 
 -- its tuples, seen as lists
@@ -74,14 +68,12 @@ returns-in-None g c =
     let fs = map shown_factor c.in-Factors.factors.items in
     let tuples = lists_of c.in-Factors.map.items in
     let found = subst (λ (f : Factoring). IsFactoring lts (shown_factoring f)) c.in-Factors.is c.in_ok-squares.ensures in
-    let said = c.said-in-None in
-    let r = said.result in
-    written (FactorEnds lts c.args.class) r.status Done r.out.items (factors_text lts fs tuples) r.err.items []
-    said.ensures.status
-    (text_of_both (λ (l : List Factor) (m : List (Vec ℕ Global)). factors_text lts (map shown_factor l) (lists_of m)) r.out.items c.in_ok-text-in-None.text.items
+    let made = c.in_ok-text-in-None in
+    yes_so (FactorEnds lts c.args.class) made.text.items (factors_text lts fs tuples)
+    (text_of_both (λ (l : List Factor) (m : List (Vec ℕ Global)). factors_text lts (map shown_factor l) (lists_of m)) made.text.items
     c.deref-in-None.result.now c.in-Factors.factors.items c.deref-in-None-2.result.now c.in-Factors.map.items
-    said.ensures.out c.in_ok-text-in-None.ensures c.deref-in-None.ensures.value c.deref-in-None-2.ensures.value)
-    said.ensures.err (factors_end lts c.args.class fs tuples c.in-None.is (are_factors lts fs tuples c.requires.is_open found))
+    made.ensures c.deref-in-None.ensures.value c.deref-in-None-2.ensures.value)
+    (factors_end lts c.args.class fs tuples c.in-None.is (are_factors lts fs tuples c.requires.is_open found))
 
 pub nets_answer-requires-clause-factors : goal.nets_answer-requires-clause-factors
 nets_answer-requires-clause-factors g c =

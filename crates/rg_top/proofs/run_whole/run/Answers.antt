@@ -1,37 +1,13 @@
-use Rattle.std.proofs.Common.{inl, ℕ, true, false, refl, Err, List, ap, subst, ◌∙◌, map, string_bytes}
-use Rattle.rg_ports.specs.Offer.{Offers, done}
-use Rattle.rg_ports.specs.Sink.{taken_with, TakesPart}
-use Rattle.rg_top.proofs.Writing.{second_fails, says_ends}
+use Rattle.std.proofs.Common.{refl, Err, inl, inr, ap, subst, List, ℕ, map, string_bytes}
+use Rattle.rg_ports.specs.Offer.{done}
+use Rattle.rg_top.specs.Run.{writes, IsTheOne}
+use Rattle.rg_top.specs.Requests.{end_of, IsOutputOf, IsWritten}
+use Rattle.rg_top.specs.End.{HasStatus}
+use Rattle.rg_top.specs.Terms.{ShowsTerm}
+use Rattle.rg_top.specs.declared.output.Output.{Output}
+use Rattle.rg_top.proofs.Terms.{same_status}
+use Rattle.rg_top.proofs.Writing.{out_ends, err_ends, or_mishap}
 use Rattle.rg_top.proofs.run_whole.run.Goals as goal
-
-pub returns-clause-ends : goal.returns-clause-ends
-returns-clause-ends g c =
-    says_ends _ c.in-Ok.made.status (record {
-      out_bytes = c.in-Ok.made.out.items;
-      err_bytes = c.in-Ok.made.err.items;
-      due = c.in-Ok.ensures.says;
-      out = record {
-        taken = c.in-Ok-write_all.ensures.ok ∙ ap (taken_with (g.O.Sink.taken c.args.out.now)) c.deref.ensures.value;
-        offered = subst (λ (b : List ℕ). Offers g.O.Sink.gives c.args.out.now b true c.write_all.new.sink) c.deref.ensures.value c.in-Ok-write_all.ensures.offers;
-      };
-      err = record {
-        taken = c.in-Ok-write_all-2.ensures.ok ∙ ap (taken_with (g.E.Sink.taken c.args.err.now)) c.deref-2.ensures.value;
-        offered = subst (λ (b : List ℕ). Offers g.E.Sink.gives c.args.err.now b true c.write_all-2.new.sink) c.deref-2.ensures.value c.in-Ok-write_all-2.ensures.offers;
-      };
-    })
-
-pub returns-in_default-write_all-clause-ends : goal.returns-in_default-write_all-clause-ends
-returns-in_default-write_all-clause-ends g c =
-    second_fails _ c.in-Ok.made.status c.in-Ok.made.out.items c.in-Ok.made.err.items c.in-Ok.ensures.says
-    (record {
-      taken = c.in-Ok-write_all.ensures.ok ∙ ap (taken_with (g.O.Sink.taken c.args.out.now)) c.deref.ensures.value;
-      offered = subst (λ (b : List ℕ). Offers g.O.Sink.gives c.args.out.now b true c.write_all.new.sink) c.deref.ensures.value c.in-Ok-write_all.ensures.offers;
-    })
-    (record {
-      part = subst (λ (b : List ℕ). TakesPart (g.E.Sink.taken c.args.err.now) b (g.E.Sink.taken c.write_all-2.new.sink)) c.deref-2.ensures.value c.in_default-write_all.ensures.part;
-      risen = c.in_default-write_all.ensures.rises;
-      offered = subst (λ (b : List ℕ). Offers g.E.Sink.gives c.args.err.now b false c.write_all-2.new.sink) c.deref-2.ensures.value c.in_default-write_all.ensures.offers;
-    })
 
 pub returns-in-Err-ReadFault-clause-ends : goal.returns-in-Err-ReadFault-clause-ends
 returns-in-Err-ReadFault-clause-ends g c = record {
@@ -46,26 +22,49 @@ returns-in-Err-NoMemory-clause-ends g c = record {
   err = record { taken = refl; offered = done c.args.err.now };
 }
 
-pub returns-in_default-clause-ends : goal.returns-in_default-clause-ends
-returns-in_default-clause-ends g c = record {
-  status = c.in-Ok.made.status;
-  out_bytes = c.in-Ok.made.out.items;
-  err_bytes = c.in-Ok.made.err.items;
-  due = c.in-Ok.ensures.says;
-  broken = inl (
-    record {
-      part = subst (λ (b : List ℕ). TakesPart (g.O.Sink.taken c.args.out.now) b (g.O.Sink.taken c.write_all.new.sink)) c.deref.ensures.value c.in_default.ensures.part;
-      risen = c.in_default.ensures.rises;
-      offered = subst (λ (b : List ℕ). Offers g.O.Sink.gives c.args.out.now b false c.write_all.new.sink) c.deref.ensures.value c.in_default.ensures.offers;
-    },
-    record { taken = refl; offered = done c.args.err.now },
-  );
-}
+pub returns-in-Ok-Out-clause-ends : goal.returns-in-Ok-Out-clause-ends
+returns-in-Ok-Out-clause-ends g c =
+    let end = end_of c.in-Ok.made in
+    let output = subst (IsOutputOf end) c.in-Ok-Out.field-0-is c.in-Ok-Out.ensures in
+    let status = c.in-Ok-Out.status in
+    let sink = writes g.O.Sink.taken g.O.Sink.faults g.O.Sink.gives c.args.out.now c.written.new.sink in
+    let wrote = subst (λ (b : List ℕ). IsWritten sink b status c.written.result) c.deref.ensures.value c.written.ensures in
+    out_ends _ end c.in-Ok-Out.text.items status c.written.result c.in-Ok.ensures.says output.0 output.1 wrote (record { taken = refl; offered = done c.args.err.now })
 
-pub returns-clause-exactly : goal.returns-clause-exactly
-returns-clause-exactly g c = λ due decided is.
-    inl (c.answers_are_one.ensures.due (map string_bytes c.args.words.now) (g.H.Shelf.files c.args.shelf.now) c.in-Ok.made.status due c.in-Ok.made.out.items c.in-Ok.made.err.items decided c.in-Ok.ensures.says is)
+pub returns-in-Ok-Out-clause-exactly : goal.returns-in-Ok-Out-clause-exactly
+returns-in-Ok-Out-clause-exactly g c = λ due decided is.
+    (let end = end_of c.in-Ok.made in
+    let output = subst (IsOutputOf end) c.in-Ok-Out.field-0-is c.in-Ok-Out.ensures in
+    let has = c.answers_are_one.ensures.due (map string_bytes c.args.words.now) (g.H.Shelf.files c.args.shelf.now) end due decided c.in-Ok.ensures.says is in
+    or_mishap (IsTheOne due) c.in-Ok-Out.status c.written.result c.written.ensures (same_status end c.in-Ok-Out.status due output.0 has))
 
-pub returns-clause-passed : goal.returns-clause-passed
-returns-clause-passed g c = λ w told is.
-    inl (c.answers_are_one.ensures.term (map string_bytes c.args.words.now) (g.H.Shelf.files c.args.shelf.now) w c.in-Ok.made.status c.in-Ok.made.out.items c.in-Ok.made.err.items told c.in-Ok.ensures.says is)
+pub returns-in-Ok-Out-clause-passed : goal.returns-in-Ok-Out-clause-passed
+returns-in-Ok-Out-clause-passed g c = λ w decided is.
+    (let end = end_of c.in-Ok.made in
+    let output = subst (IsOutputOf end) c.in-Ok-Out.field-0-is c.in-Ok-Out.ensures in
+    let same = c.answers_are_one.ensures.term (map string_bytes c.args.words.now) (g.H.Shelf.files c.args.shelf.now) w end decided c.in-Ok.ensures.says is in
+    or_mishap (ShowsTerm w) c.in-Ok-Out.status c.written.result c.written.ensures (subst (λ e. HasStatus e c.in-Ok-Out.status) same output.0))
+
+pub returns-in-Ok-Err-clause-ends : goal.returns-in-Ok-Err-clause-ends
+returns-in-Ok-Err-clause-ends g c =
+    let end = end_of c.in-Ok.made in
+    let output = subst (IsOutputOf end) c.in-Ok-Err.field-0-is c.in-Ok-Err.ensures in
+    let status = c.in-Ok-Err.status in
+    let made = c.written-in-Ok-Err in
+    let sink = writes g.E.Sink.taken g.E.Sink.faults g.E.Sink.gives c.args.err.now made.new.sink in
+    let wrote = subst (λ (b : List ℕ). IsWritten sink b status made.result) c.deref-in-Ok-Err.ensures.value made.ensures in
+    err_ends _ end c.in-Ok-Err.line.items status made.result c.in-Ok.ensures.says output.0 output.1 (record { taken = refl; offered = done c.args.out.now }) wrote
+
+pub returns-in-Ok-Err-clause-exactly : goal.returns-in-Ok-Err-clause-exactly
+returns-in-Ok-Err-clause-exactly g c = λ due decided is.
+    (let end = end_of c.in-Ok.made in
+    let output = subst (IsOutputOf end) c.in-Ok-Err.field-0-is c.in-Ok-Err.ensures in
+    let has = c.answers_are_one.ensures.due (map string_bytes c.args.words.now) (g.H.Shelf.files c.args.shelf.now) end due decided c.in-Ok.ensures.says is in
+    or_mishap (IsTheOne due) c.in-Ok-Err.status c.written-in-Ok-Err.result c.written-in-Ok-Err.ensures (same_status end c.in-Ok-Err.status due output.0 has))
+
+pub returns-in-Ok-Err-clause-passed : goal.returns-in-Ok-Err-clause-passed
+returns-in-Ok-Err-clause-passed g c = λ w decided is.
+    (let end = end_of c.in-Ok.made in
+    let output = subst (IsOutputOf end) c.in-Ok-Err.field-0-is c.in-Ok-Err.ensures in
+    let same = c.answers_are_one.ensures.term (map string_bytes c.args.words.now) (g.H.Shelf.files c.args.shelf.now) w end decided c.in-Ok.ensures.says is in
+    or_mishap (ShowsTerm w) c.in-Ok-Err.status c.written-in-Ok-Err.result c.written-in-Ok-Err.ensures (subst (λ e. HasStatus e c.in-Ok-Err.status) same output.0))
