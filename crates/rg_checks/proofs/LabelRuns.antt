@@ -1,5 +1,6 @@
 -- The arcs of one label at one state.
-use Rattle.std.proofs.Common.{◌≡◌, ◌⊎◌, ◌↔◌, ℕ, ◌+◌, ◌<◌, ◌≤◌, true, false, IsTrue, ltb, nat_eq, nat_lt, eqb-true, leb, List, length, get_or, slice_index_or, Contains, AllPairs, inl, inr, sym, ap, subst, ◌∙◌, arith}
+use Rattle.std.proofs.Common.{◌≡◌, ◌⊎◌, ◌↔◌, ℕ, ◌+◌, ◌<◌, ◌≤◌, true, false, IsTrue, ltb, nat_eq, nat_lt, eqb-true, leb}
+use Rattle.std.proofs.Common.{List, length, get_or, slice_index_or, Contains, AllPairs, inl, inr, sym, ap, subst, ◌∙◌, arith}
 use Rattle.std.specs.List.Sorted.{IsNonDecreasingBy}
 use Rattle.std.proofs.lemmas.Bool.{cases_lt, ltb-true, ltb-false, leb-true, leb-false, eq-eqb}
 use Rattle.std.proofs.lemmas.List.{get_or_default}

@@ -1,5 +1,6 @@
 -- The elements of one key are a run of a list in which the keys don't fall.
-use Rattle.std.proofs.Common.{◌≡◌, ◌⊎◌, ◌↔◌, ℕ, ◌+◌, ◌-◌, ◌<◌, ◌≤◌, true, false, ltb, leb, List, length, take, drop, get_or, slice_index_or, Contains, AllPairs, inl, inr, sym, subst, ap, ◌∙◌, arith, length-drop}
+use Rattle.std.proofs.Common.{◌≡◌, ◌⊎◌, ◌↔◌, ℕ, ◌+◌, ◌-◌, ◌<◌, ◌≤◌, true, false, ltb, leb}
+use Rattle.std.proofs.Common.{List, length, take, drop, get_or, slice_index_or, Contains, AllPairs, inl, inr, sym, subst, ap, ◌∙◌, arith, length-drop}
 use Rattle.std.specs.List.Sorted.{IsNonDecreasingBy}
 use Rattle.std.proofs.lemmas.Bool.{cases_lt, ltb-true, ltb-false, leb-true, leb-false}
 use Rattle.std.proofs.lemmas.List.{get_or-take, get_or-drop, length-take}

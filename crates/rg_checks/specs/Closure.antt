@@ -1,5 +1,6 @@
 -- The states that the arcs of a graph reach, and a walk that finds them.
-use Rattle.std.specs.Prelude.{◌≡◌, ◌≤◌, ◌⊎◌, ℕ, ◌<◌, ◌+◌, ◌==◌, ◌||◌, Bool, false, List, Option, None, Some, is_some, is_none, count_by, length, slice_get, slice_index_or, All, AllPairs, Contains, IsTrue}
+use Rattle.std.specs.Prelude.{◌≡◌, ◌≤◌, ◌⊎◌, ℕ, ◌<◌, ◌+◌, ◌==◌, ◌||◌, Bool, false, Option, None, Some, is_some, is_none}
+use Rattle.std.specs.Prelude.{List, count_by, length, slice_get, slice_index_or, All, AllPairs, Contains, IsTrue}
 use Rattle.rg_theory.specs.declared.Arc.{Arc}
 use Rattle.rg_theory.specs.System.{arc}
 use Rattle.rg_checks.specs.declared.graph.Graph.{Graph}

@@ -17,11 +17,12 @@ pub fn first_unreachable(alloc: Global, lts: &Lts) -> Result<Option<u32>, NoMemo
     ensures none { IfOk result (λ o. IfNone o (IsAllReachable lts.now)) }
 {
     let steps = reach(alloc, lts)?;
-    Ok(first_unmet(lts, &steps))
+    Ok(least_unreachable(lts, &steps))
 }
 
-// The first state that isn't met.
-fn first_unmet(lts: &Lts, steps: &[Option<Step>]) -> Option<u32>
+/// Returns the least state that can't be reached, from the entries of `reach`; some set of states without it shows
+/// that it can't. Returns None exactly if all states can be reached. It takes no memory.
+pub fn least_unreachable(lts: &Lts, steps: &[Option<Step>]) -> Option<u32>
     requires { AreSteps lts.now steps.now }
     ensures least { IfSome result (IsLeastUnreachable lts.now) }
     ensures shut_out { IfSome result (λ s. (inside : ℕ → Bool) × IsClosedWithout lts.now s inside) }

@@ -66,7 +66,8 @@ pub reached_pushed : (lts : System) (leasts : List ℕ) (t : ℕ) (all new : Lis
     → new ≡ all ++ reached ∷ [] → AllZip (AreReachedBy lts) (map (block_at leasts) (filter (λ t. slice_index leasts t == t) (range_with_len 0 t))) (map (λ r. r.items) all)
     → AllZip (AreReachedBy lts) (map (block_at leasts) (filter (λ t. slice_index leasts t == t) (range_with_len 0 (t + 1)))) (map (λ r. r.items) new)
 reached_pushed lts leasts t all new reached is are made so_far =
-    subst (λ v. AllZip (AreReachedBy lts) v (map (λ r. r.items) new)) (sym (ap (map (block_at leasts)) (own_more leasts t is) ∙ map-append (block_at leasts) (filter (λ t. slice_index leasts t == t) (range_with_len 0 t)) (t ∷ [])))
+    subst (λ v. AllZip (AreReachedBy lts) v (map (λ r. r.items) new))
+    (sym (ap (map (block_at leasts)) (own_more leasts t is) ∙ map-append (block_at leasts) (filter (λ t. slice_index leasts t == t) (range_with_len 0 t)) (t ∷ [])))
     (subst (AllZip (AreReachedBy lts) (map (block_at leasts) (filter (λ t. slice_index leasts t == t) (range_with_len 0 t)) ++ block_at leasts t ∷ []))
     (sym (ap (map (λ (r : Vec ℕ Global). r.items)) made ∙ map-append (λ (r : Vec ℕ Global). r.items) all (reached ∷ [])))
     (AllZip-push (AreReachedBy lts) (map (block_at leasts) (filter (λ t. slice_index leasts t == t) (range_with_len 0 t))) (map (λ r. r.items) all) (block_at leasts t) reached.items so_far are))

@@ -1,18 +1,14 @@
 -- The result of comparing two systems.
 use Rattle.std.specs.Prelude.{◌≡◌, ℕ, ◌<◌, List, Contains, Some, slice_get}
-use Rattle.rg_theory.specs.System.{System, IsAllReachable, IsForkFree}
+use Rattle.rg_theory.specs.System.{System, IsForkFree}
+pub use Rattle.rg_checks.specs.Flaws.{IsFlawless as IsJudged}
 use Rattle.rg_lts.specs.WellFormed.{IsWellFormed}
 use Rattle.rg_iso.specs.Isomorphic.{HaveSameLabels, IsIsomorphismTo}
 use Rattle.rg_iso.specs.Words.{Difference, Difference.step as by_step, Difference.target as by_target, IsFirstDifference}
 use Rattle.rg_iso.specs.declared.same.Same.{Same}
 use Rattle.rg_iso.specs.declared.same.Same.TheVariants.{Map, Label, Step, Target}
 
--- all states can be reached, and a label leads from a state to one at most
-pub record IsJudged (lts : System) : Type 0 where
-  pub reachable : IsAllReachable lts
-  pub fork_free : IsForkFree lts
-
--- what is known of two systems in memory that are judged
+-- what is known of two systems in memory without a fork
 pub record AreComparable (a b : System) : Type 0 where
   pub first : IsWellFormed a
   pub second : IsWellFormed b

@@ -1,8 +1,9 @@
 //! Comparing two systems.
 ghost use Rattle.std.specs.Prelude.{◌≡◌, ◌↔◌, ◌<◌, ◌+◌, ℕ, length, slice_index, IfOk, IfSome, IfNone, OnOk};
 ghost use Rattle.rg_theory.specs.System.{labels, IsAllReachable};
+ghost use Rattle.rg_checks.specs.Flaws.{IsFlawless};
 ghost use Rattle.rg_iso.specs.Isomorphic.{HaveSameLabels, HaveOneName, AreIsomorphic};
-ghost use Rattle.rg_iso.specs.Compared.{IsJudged, AreComparable, told_of, Compares, IsTold, IsMap};
+ghost use Rattle.rg_iso.specs.Compared.{AreComparable, told_of, Compares, IsTold, IsMap};
 ghost use Rattle.rg_iso.specs.Pairing.{pairs_in, IsFollowedTo};
 
 use crate::labels::{first_alone, namesakes};
@@ -17,8 +18,8 @@ use std::alloc::Global;
 /// over pairs of states meets, which begins with the initial states and takes the labels of a pair in the first system's order. Each
 /// difference shows that no map exists. `NoMemory` where the pairs that are met don't fit into memory.
 pub fn compare(alloc: Global, a: &Lts, b: &Lts) -> Result<Same, NoMemory>
-    requires first { IsJudged a.now }
-    requires second { IsJudged b.now }
+    requires first { IsFlawless a.now }
+    requires second { IsFlawless b.now }
     ensures told { IfOk result (λ same. Compares a.now b.now (told_of same)) }
     ensures map { IfOk result (λ same. IsMap (told_of same) ↔ AreIsomorphic a.now b.now) }
 {

@@ -1,8 +1,9 @@
 //! The judge.
 ghost use Rattle.std.specs.Prelude.{◌≡◌, IfOk, OnOk, IsErrOf, Ok, Err};
 ghost use Rattle.rg_integers.specs.Range.{greatest};
-ghost use Rattle.rg_theory.specs.System.{labels, IsAllReachable, IsForkFree};
+ghost use Rattle.rg_theory.specs.System.{labels};
 ghost use Rattle.rg_theory.specs.Class.{IsBounded};
+ghost use Rattle.rg_checks.specs.Flaws.{IsFlawless};
 ghost use Rattle.rg_lts.specs.WellFormed.{IsWellFormed};
 ghost use Rattle.rg_spanning.specs.Spanning.{IsTreeOf};
 ghost use Rattle.rg_net_verdict.specs.declared.check.Halt.TheVariants as halt;
@@ -75,8 +76,7 @@ fn judge(alloc: Global, lts: &Lts, tree: &Tree, net: &Net, class: Class) -> Resu
     requires system { IsWellFormed lts.now }
     requires labels { net.now.labels ≡ labels lts.now }
     requires tree { IsTreeOf lts.now tree.now }
-    requires reachable { IsAllReachable lts.now }
-    requires fork_free { IsForkFree lts.now }
+    requires flawless { IsFlawless lts.now }
     ensures yes { OnOk result (Tells lts.now net.now tree.now.arcs class (Ok verdict.Yes)) }
     ensures no { (n : NetNo) → IsErrOf result (halt.No n) → Tells lts.now net.now tree.now.arcs class (Ok (verdict.No n)) }
     ensures wide { (w : CheckWide) → IsErrOf result (halt.Stop (stop.Wide w)) → Tells lts.now net.now tree.now.arcs class (Err w) }

@@ -61,7 +61,8 @@ one_found one lts e f x y = λ i. record { unreachable = same_unreachable i; for
   where
     same_unreachable : e.unreachable ≡ f.unreachable
     same_unreachable =
-        one_option (IsLeastUnreachable lts) (IsAllReachable lts) (one_unreachable lts) (λ s h all. h.unreachable (all.each s h.state)) e.unreachable f.unreachable x.unreachable x.reachable y.unreachable y.reachable
+        one_option (IsLeastUnreachable lts) (IsAllReachable lts) (one_unreachable lts) (λ s h all. h.unreachable (all.each s h.state))
+        e.unreachable f.unreachable x.unreachable x.reachable y.unreachable y.reachable
 
     same_fork : e.fork ≡ f.fork
     same_fork =

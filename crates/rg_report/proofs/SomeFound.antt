@@ -86,7 +86,8 @@ module _ (lts : System) (fine : IsInRange lts) where
       least s t _ before (inl (u, s', l, by_these)) = (record { from = s; label = t; lost = u; to = s' }, least_lost s t u s' l by_these before)
       least s t (u, s', l) before (inr none) = absurd (none u s' l)
 
-      by : ((s : ℕ) × (t : ℕ) × LostBy s t × ((q v : ℕ) → PairBefore q v s t → ¬ LostBy q v)) ⊎ ((s t : ℕ) → ¬ LostBy s t) → ((l : Loss) × IsLeastLost lts l.from l.label l.lost l.to) ⊎ IsPersistent lts
+      by : ((s : ℕ) × (t : ℕ) × LostBy s t × ((q v : ℕ) → PairBefore q v s t → ¬ LostBy q v)) ⊎ ((s t : ℕ) → ¬ LostBy s t)
+          → ((l : Loss) × IsLeastLost lts l.from l.label l.lost l.to) ⊎ IsPersistent lts
       by (inl (s, t, lost, before)) = inl (least s t lost before (first_by s t))
       by (inr none) = inr (none_lost none)
 

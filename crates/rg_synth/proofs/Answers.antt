@@ -1,6 +1,8 @@
 -- What the search ends with is the answer, and a reason that is the answer is right.
-use Rattle.std.proofs.Common.{◌≡◌, ℕ, Bool, List, Vec, Global, map, refl, sym, subst}
-use Rattle.rg_theory.specs.System.{System, IsInRange, IsAllReachable, IsClosedWithout, IsLeastUnreachable, IsLeastFork}
+use Rattle.std.proofs.Common.{◌≡◌, ℕ, List, Vec, Global, map, refl, sym, subst}
+use Rattle.rg_theory.specs.System.{System, IsInRange, IsAllReachable, IsLeastUnreachable, IsLeastFork}
+use Rattle.rg_checks.specs.declared.flaw.Flaw.TheVariants as flaw
+use Rattle.rg_checks.specs.Flaws.{IsFlawless, IsShown}
 use Rattle.rg_theory.specs.Net.{Place}
 use Rattle.rg_theory.specs.declared.Class.{Class}
 use Rattle.rg_theory.specs.ClassWords.{HasNumbersInRange}
@@ -19,35 +21,44 @@ use Rattle.rg_separate.specs.View.{shown_of}
 use Rattle.rg_reasons.specs.declared.wide_at.WideAt.{WideAt}
 use Rattle.rg_separate.specs.declared.separation.Separation.TheVariants as separation
 use Rattle.rg_separate.specs.Answer.{IsSearched}
-use Rattle.rg_synth.specs.Answer.{IsOpen, IsReason, IsRightCertificate}
+use Rattle.rg_synth.specs.Answer.{IsReason, IsRightCertificate}
 
 -- ---- what the search ends with
 
-pub net_out : (lts : System) (class : Class) (places : Vec PlaceOfCode Global) (left : List Place) → IsOpen lts → IsSearched lts class (separation.Places places) → IsPruned lts (map shown_place places.items) left → Out lts class (of_net left)
-net_out lts class places left opened is pruned =
-    a_search (places_of (map shown_place places.items)) (of_net left) opened.reachable opened.fork_free (subst (Searched lts class) is.shows is.searched) pruned
+pub net_out : (lts : System) (class : Class) (places : Vec PlaceOfCode Global) (left : List Place)
+    → IsFlawless lts → IsSearched lts class (separation.Places places) → IsPruned lts (map shown_place places.items) left
+    → Out lts class (of_net left)
+net_out lts class places left flawless is pruned =
+    a_search (places_of (map shown_place places.items)) (of_net left) flawless.reachable flawless.fork_free
+    (subst (Searched lts class) is.shows is.searched) pruned
 
-pub reason_out : (lts : System) (class : Class) (cert : Certificate) → IsOpen lts → IsSearched lts class (separation.Unsolvable cert) → Out lts class (of_reason (reason_of cert.reason))
-reason_out lts class cert opened is =
+pub reason_out : (lts : System) (class : Class) (cert : Certificate)
+    → IsFlawless lts → IsSearched lts class (separation.Unsolvable cert) → Out lts class (of_reason (reason_of cert.reason))
+reason_out lts class cert flawless is =
     let (problem, trees, reason_is, o_is) = is.shows in
-    a_search is.o (of_reason (reason_of cert.reason)) opened.reachable opened.fork_free is.searched (subst (λ o. Gives lts o (of_reason (reason_of cert.reason))) (sym o_is) reason_is)
+    a_search is.o (of_reason (reason_of cert.reason)) flawless.reachable flawless.fork_free is.searched
+    (subst (λ o. Gives lts o (of_reason (reason_of cert.reason))) (sym o_is) reason_is)
 
-pub term_out : (lts : System) (class : Class) (at : WideAt) → IsOpen lts → IsSearched lts class (separation.TooWide at) → Out lts class (of_term (shown_of at))
-term_out lts class at opened is = a_search is.o (of_term (shown_of at)) opened.reachable opened.fork_free is.searched (subst (λ o. Gives lts o (of_term (shown_of at))) (sym is.shows) refl)
+pub term_out : (lts : System) (class : Class) (at : WideAt) → IsFlawless lts → IsSearched lts class (separation.TooWide at) → Out lts class (of_term (shown_of at))
+term_out lts class at flawless is =
+    a_search is.o (of_term (shown_of at)) flawless.reachable flawless.fork_free is.searched
+    (subst (λ o. Gives lts o (of_term (shown_of at))) (sym is.shows) refl)
 
 -- ---- a reason that is the answer
 
-refuted_is : (lts : System) (o : Separation) (reason : Reason) → IsOpen lts → Gives lts o (of_reason reason) → IsReason lts reason
-refuted_is lts (places_of kept) reason opened is = absurd is
-refuted_is lts (problem_of problem trees) reason opened is = subst (IsReason lts) (sym is) opened
-refuted_is lts (term_of w) reason opened is = absurd is
+refuted_is : (lts : System) (o : Separation) (reason : Reason) → IsFlawless lts → Gives lts o (of_reason reason) → IsReason lts reason
+refuted_is lts (places_of kept) reason flawless is = absurd is
+refuted_is lts (problem_of problem trees) reason flawless is = subst (IsReason lts) (sym is) flawless
+refuted_is lts (term_of w) reason flawless is = absurd is
 
 reason_is : (lts : System) (class : Class) (reason : Reason) → Out lts class (of_reason reason) → IsReason lts reason
 reason_is lts class _ (a_state s least) = least
 reason_is lts class _ (a_fork s t s₁ s₂ reachable least) = (reachable, least)
 reason_is lts class reason (a_search o _ reachable fork_free searched gives) = refuted_is lts o reason (record { reachable = reachable; fork_free = fork_free }) gives
 
-pub right : (lts : System) (class : Class) (cert : Certificate) → IsInRange lts → cert.class ≡ class → Out lts class (of_reason (reason_of cert.reason)) → Accepts lts class (reason_of cert.reason) → IsCertificateOf lts cert → IsRightCertificate lts class cert
+pub right : (lts : System) (class : Class) (cert : Certificate)
+    → IsInRange lts → cert.class ≡ class → Out lts class (of_reason (reason_of cert.reason))
+    → Accepts lts class (reason_of cert.reason) → IsCertificateOf lts cert → IsRightCertificate lts class cert
 right lts class cert fine of_class answer holds in_range = record {
   of_class = of_class;
   is = reason_is lts class (reason_of cert.reason) answer;
@@ -58,15 +69,16 @@ right lts class cert fine of_class answer holds in_range = record {
 
 -- ---- an unreachable state and a fork
 
--- some set of states that is closed under arcs has the initial state, and not this one
-abbrev pub IsShutOut : System → ℕ → Type 0
-IsShutOut lts s = (inside : ℕ → Bool) × IsClosedWithout lts s inside
+pub state_right : (lts : System) (class : Class) (s : ℕ)
+    → IsInRange lts → HasNumbersInRange class → IsLeastUnreachable lts s → IsShown lts (flaw.Unreachable s)
+    → IsRightCertificate lts class (record { class = class; reason = Unreachable s })
+state_right lts class s fine bound least shown =
+    right lts class (record { class = class; reason = Unreachable s }) fine refl (a_state s least) (least.state, shown)
+    (record { whole = tt; claim = record { reason = least.state; numbers = bound } })
 
-pub state_right : (lts : System) (class : Class) (s : ℕ) → IsInRange lts → HasNumbersInRange class → IsLeastUnreachable lts s → IsShutOut lts s → IsRightCertificate lts class (record { class = class; reason = Unreachable s })
-state_right lts class s fine bound least shut_out =
-    right lts class (record { class = class; reason = Unreachable s }) fine refl (a_state s least) (least.state, shut_out) (record { whole = tt; claim = record { reason = least.state; numbers = bound } })
-
-pub fork_right : (lts : System) (class : Class) (s t s₁ s₂ : ℕ) → IsInRange lts → HasNumbersInRange class → IsAllReachable lts → IsLeastFork lts s t s₁ s₂ → IsRightCertificate lts class (record { class = class; reason = Fork s t s₁ s₂ })
+pub fork_right : (lts : System) (class : Class) (s t s₁ s₂ : ℕ)
+    → IsInRange lts → HasNumbersInRange class → IsAllReachable lts → IsLeastFork lts s t s₁ s₂
+    → IsRightCertificate lts class (record { class = class; reason = Fork s t s₁ s₂ })
 fork_right lts class s t s₁ s₂ fine bound reachable least =
     let first = arc_in_range lts fine s t s₁ least.fork.0 in
     let other = arc_in_range lts fine s t s₂ least.fork.1 in

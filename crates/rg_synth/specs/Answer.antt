@@ -1,6 +1,8 @@
 -- What the answer for a system and a class is, and what each kind of answer says.
 use Rattle.std.specs.Prelude.{◌≡◌, ℕ, ◌<◌, length}
-use Rattle.rg_theory.specs.System.{System, IsAllReachable, IsForkFree, IsLeastUnreachable, IsLeastFork}
+use Rattle.rg_theory.specs.System.{System, IsAllReachable, IsLeastUnreachable, IsLeastFork}
+use Rattle.rg_checks.specs.Flaws.{IsFlawless}
+pub use Rattle.rg_checks.specs.Flaws.{IsFlawless as IsOpen}
 use Rattle.rg_theory.specs.Net.{Net}
 use Rattle.rg_theory.specs.Solves.{Solves}
 use Rattle.rg_theory.specs.declared.Class.{Class}
@@ -36,16 +38,11 @@ abbrev pub IfTooWide : Answer → (WideAt → Type 0) → Type 0
 IfTooWide (TooWide w) P = P w
 IfTooWide _ P = Unit {0}
 
--- all states can be reached, and there is no fork
-pub record IsOpen (lts : System) : Type 0 where
-  pub reachable : IsAllReachable lts
-  pub fork_free : IsForkFree lts
-
 -- why no net of the class solves the system: the least unreachable state, else the first fork, else a problem
 abbrev pub IsReason : System → Reason → Type 0
 IsReason lts (unreachable s) = IsLeastUnreachable lts s
 IsReason lts (fork s t s₁ s₂) = IsAllReachable lts × IsLeastFork lts s t s₁ s₂
-IsReason lts (refuted problem trees) = IsOpen lts
+IsReason lts (refuted problem trees) = IsFlawless lts
 
 -- the net, whose labels are those of the system, is of the class and solves the system, and without any one of its places doesn't;
 -- no number of the net or of a reachable marking is above 2^127 - 1

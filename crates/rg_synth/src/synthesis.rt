@@ -2,6 +2,7 @@
 ghost use Rattle.std.specs.Prelude.{◌≡◌, ◌≤◌, map, All, IfOk};
 ghost use Rattle.rg_theory.specs.System.{labels, IsAllReachable};
 ghost use Rattle.rg_theory.specs.ClassWords.{HasNumbersInRange};
+ghost use Rattle.rg_checks.specs.Flaws.{IsFlawless, IsFirstFlaw, IsShown};
 ghost use Rattle.rg_theory.specs.Problem.{SeparateAll};
 ghost use Rattle.rg_net.specs.Range.{IsNetInRange};
 ghost use Rattle.rg_net.specs.Shown.{shown_place};
@@ -9,12 +10,13 @@ ghost use Rattle.rg_theory.specs.Pruned.{IsPruned};
 ghost use Rattle.rg_marks.specs.Firsts.{AreAllFirsts};
 ghost use Rattle.rg_marks.specs.Tokens.{IsNarrow};
 ghost use Rattle.rg_order_of_work.specs.Shown.{ShownWide};
-ghost use Rattle.rg_outcome.specs.Outcome.{Out};
+ghost use Rattle.rg_reasons.specs.Certificates.{reason_of};
+ghost use Rattle.rg_outcome.specs.Outcome.{Out, Answer.unsolvable as of_reason};
 ghost use Rattle.rg_separate.specs.View.{shown_of};
-ghost use Rattle.rg_synth.specs.Answer.{answer_of, IsOpen, IsSolvingNet, IsRightCertificate, IfNet, IfUnsolvable, IfTooWide};
+ghost use Rattle.rg_synth.specs.Answer.{answer_of, IsSolvingNet, IsRightCertificate, IfNet, IfUnsolvable, IfTooWide};
 
 use crate::answer::Answer;
-use rg_checks::{first_fork, first_unreachable};
+use rg_checks::{Flaw, first_flaw};
 use rg_lts::Lts;
 use rg_marks::Firsts;
 use rg_memory::NoMemory;
@@ -51,26 +53,32 @@ pub fn synthesize<R: Threads + Sync, G: Gate + Sync>(
     ensures out { IfOk result (λ a. Out lts.now class (answer_of a)) }
     ensures net { IfOk result (λ a. IfNet a (IsSolvingNet lts.now class)) }
     ensures unsolvable { IfOk result (λ a. IfUnsolvable a (IsRightCertificate lts.now class)) }
-    ensures too_wide { IfOk result (λ a. IfTooWide a (λ w. IsOpen lts.now × ShownWide lts.now class (shown_of w))) }
+    ensures too_wide { IfOk result (λ a. IfTooWide a (λ w. IsFlawless lts.now × ShownWide lts.now class (shown_of w))) }
 {
-    lts.is_well_formed();
-    match first_unreachable(alloc, lts)? {
-        None => match first_fork(lts) {
-            None => open_answer(rt, alloc, lts, class, jobs, gate),
-            Some((s, t, to, other)) => {
-                let reason = Reason::Fork(s, t, to, other);
-                Ok(Answer::Unsolvable(Certificate { class, reason }))
-            }
-        },
-        Some(s) => {
-            let reason = Reason::Unreachable(s);
-            Ok(Answer::Unsolvable(Certificate { class, reason }))
-        }
+    match first_flaw(alloc, lts)? {
+        None => flawless_answer(rt, alloc, lts, class, jobs, gate),
+        Some(flaw) => Ok(Answer::Unsolvable(flaw_certificate(lts, class, flaw))),
     }
 }
 
+// The certificate that no net has the system with this flaw, the first.
+fn flaw_certificate(lts: &Lts, class: Class, flaw: Flaw) -> Certificate
+    requires first { IsFirstFlaw lts.now flaw }
+    requires shown { IsShown lts.now flaw }
+    requires bound { HasNumbersInRange class }
+    ensures out { Out lts.now class (of_reason (reason_of result.reason)) }
+    ensures right { IsRightCertificate lts.now class result }
+{
+    lts.is_well_formed();
+    let reason = match flaw {
+        Flaw::Unreachable(s) => Reason::Unreachable(s),
+        Flaw::Fork(fork) => Reason::Fork(fork.from, fork.label, fork.to, fork.other),
+    };
+    Certificate { class, reason }
+}
+
 // The answer for a system without an unreachable state or a fork.
-fn open_answer<R: Threads + Sync, G: Gate + Sync>(
+fn flawless_answer<R: Threads + Sync, G: Gate + Sync>(
     rt: &R,
     alloc: Global,
     lts: &Lts,
@@ -78,13 +86,13 @@ fn open_answer<R: Threads + Sync, G: Gate + Sync>(
     jobs: u8,
     gate: &G,
 ) -> Result<Answer, NoMemory>
-    requires is_open { IsOpen lts.now }
+    requires flawless { IsFlawless lts.now }
     requires bound { HasNumbersInRange class }
     requires some { 1 ≤ jobs }
     ensures out { IfOk result (λ a. Out lts.now class (answer_of a)) }
     ensures net { IfOk result (λ a. IfNet a (IsSolvingNet lts.now class)) }
     ensures unsolvable { IfOk result (λ a. IfUnsolvable a (IsRightCertificate lts.now class)) }
-    ensures too_wide { IfOk result (λ a. IfTooWide a (λ w. IsOpen lts.now × ShownWide lts.now class (shown_of w))) }
+    ensures too_wide { IfOk result (λ a. IfTooWide a (λ w. IsFlawless lts.now × ShownWide lts.now class (shown_of w))) }
 {
     lts.is_well_formed();
     match separate_with_firsts(rt, alloc, lts, class, jobs, gate)? {

@@ -31,7 +31,8 @@ returns-then-not-has_label-clause-least c =
     let entered = c.arcs_from-entered in
     first_lost lts c.args.s c.args.t c.args.to arcs.result.now arcs.ensures.members c.loop-i.i (arc 0 0 0) c.loop-i-test.true
     (leaving_rise (goal.at.returns-then-not-has_label-clause-least c).After-arcs_from-entered) c.loop-i.invariant.1 c.requires.step c.if-u-t.true
-    (λ has. true≢false (sym (c.has_label.ensures.1 (arc c.args.to (get_or arcs.result.now c.loop-i.i (arc 0 0 0)).label has.0, (entered.ensures.members _).1 (has.1, refl), refl)) ∙ c.if-not-has_label.true))
+    (λ has. true≢false (sym (c.has_label.ensures.1
+    (arc c.args.to (get_or arcs.result.now c.loop-i.i (arc 0 0 0)).label has.0, (entered.ensures.members _).1 (has.1, refl), refl)) ∙ c.if-not-has_label.true))
 
 pub loop-i-preserved : goal.loop-i-preserved
 loop-i-preserved c =

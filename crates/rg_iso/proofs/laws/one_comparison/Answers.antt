@@ -4,9 +4,9 @@ use Rattle.rg_iso.proofs.SomeTold.{some_told}
 use Rattle.rg_iso.proofs.laws.one_comparison.Goals as goal
 
 pub returns-clause-once : goal.returns-clause-once
-returns-clause-once c = λ a b x y formed formed' judged judged'.
-    one_told a b (record { first = formed; second = formed'; first_fork_free = judged.fork_free; second_fork_free = judged'.fork_free }) judged.reachable x y
+returns-clause-once c = λ a b x y formed formed' flawless flawless'.
+    one_told a b (record { first = formed; second = formed'; first_fork_free = flawless.fork_free; second_fork_free = flawless'.fork_free }) flawless.reachable x y
 
 pub returns-clause-some : goal.returns-clause-some
-returns-clause-some c = λ a b formed formed' judged judged'.
-    some_told a b (record { first = formed; second = formed'; first_fork_free = judged.fork_free; second_fork_free = judged'.fork_free }) judged.reachable judged'.reachable
+returns-clause-some c = λ a b formed formed' flawless flawless'.
+    some_told a b (record { first = formed; second = formed'; first_fork_free = flawless.fork_free; second_fork_free = flawless'.fork_free }) flawless.reachable flawless'.reachable

@@ -2,7 +2,7 @@
 use Rattle.std.proofs.Common.{◌≡◌, false, sym, subst, ◌∙◌, arith}
 use Rattle.rg_checks.specs.Closure.{is_met}
 use Rattle.rg_checks.proofs.Shutting.{least_unreachable, all_reachable, shut_out, told}
-use Rattle.rg_checks.proofs.unreachable.first_unmet.Goals as goal
+use Rattle.rg_checks.proofs.unreachable.least_unreachable.Goals as goal
 
 pub returns-then-not-is_met-clause-least : goal.returns-then-not-is_met-clause-least
 returns-then-not-is_met-clause-least c =
@@ -13,7 +13,8 @@ pub returns-then-not-is_met-clause-shut_out : goal.returns-then-not-is_met-claus
 returns-then-not-is_met-clause-shut_out c =
     let lts = c.args.lts.now in
     (shut_out lts (is_met lts.initial c.args.steps.now) c.loop-s.s c.states-s-end.ensures.well_formed.in_range (told lts c.args.steps.now c.requires)
-    (let n = c.states-s-end.ensures.value in omega (arith, c.loop-s-test.true))).0 (subst (λ i. is_met i c.args.steps.now c.loop-s.s ≡ false) c.initial.ensures.value (sym c.is_met.ensures ∙ c.if-not-is_met.true))
+    (let n = c.states-s-end.ensures.value in omega (arith, c.loop-s-test.true))).0
+    (subst (λ i. is_met i c.args.steps.now c.loop-s.s ≡ false) c.initial.ensures.value (sym c.is_met.ensures ∙ c.if-not-is_met.true))
 
 pub returns-clause-none : goal.returns-clause-none
 returns-clause-none c =
